@@ -1,0 +1,5 @@
+pub mod Padding
+pub mod Pieces
+pub mod Pulling
+pub mod Telling
+pub mod Writing

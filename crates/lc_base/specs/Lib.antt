@@ -1,0 +1,11 @@
+pub mod KeyBytes
+pub mod Key
+pub mod NameBytes
+pub mod Name
+pub mod TextBytes
+pub mod Text
+pub mod Outside
+pub mod Fakes
+pub mod Marks
+pub mod Streams
+pub mod History

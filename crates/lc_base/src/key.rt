@@ -1,0 +1,162 @@
+//! Keys, which name what the ledger keeps.
+
+ghost use Rattle.std.specs.Prelude.{◌≡◌, ◌==◌, ◌≤◌, length};
+ghost use Rattle.std.specs.Ordering.{nat_cmp, as_partial_cmp};
+ghost use Rattle.std.specs.Cmp.{partial_order_from_own_ties};
+ghost use Rattle.std.specs.Cmp.Lexicographic.{pointwise, slice_cmp};
+ghost use Rattle.std.specs.Cmp.Rules.{comparing, hashing};
+ghost use Rattle.std.specs.Hash as fed;
+ghost use Rattle.std.proofs.Common.{rules};
+ghost use Rattle.lc_base.specs.KeyBytes.{is_key_byte, bad_key_byte, IsKey, padded_key};
+ghost use Rattle.lc_base.specs.Key.{key_of};
+
+use std::cmp::Ordering;
+use std::hash::{Hash, Hasher};
+use std::marker::Model;
+use thiserror::Error;
+
+const MAX_LEN: usize = 64;
+
+/// A key: 1 to 64 bytes of `a-z 0-9 . / _ -`, ordered byte by byte.
+#[derive(Clone, Copy, Debug)]
+pub struct Key {
+    len: usize,
+    bytes: [u8; 64],
+}
+
+impl Model for Key {
+    ghost use Rattle.std.specs.Prelude.{◌≡◌, ◌≤◌, ℕ, List, take, length};
+    ghost use Rattle.std.proofs.Common.{refl};
+    ghost use Rattle.lc_base.specs.KeyBytes.{IsKey, padded_key, length_of_front};
+
+    ghost Value = { List ℕ };
+
+    ghost view = { λ k. take k.len k.bytes };
+
+    ghost invariant = { λ k. (k.len ≤ 64) × IsKey (take k.len k.bytes) × (k.bytes ≡ padded_key (take k.len k.bytes)) };
+
+    ghost inverse = { λ bytes. record { len = length bytes; bytes = padded_key bytes } };
+
+    ghost inverse_ok = { λ a h. let e = length_of_front a.len a.bytes h.0 h.2 in Prim.rw (← h.2, e) refl };
+}
+
+/// Why bytes are no key.
+#[derive(Clone, Copy, Debug, PartialEq, Eq, Error)]
+pub enum KeyError {
+    /// There are none.
+    #[error("empty")]
+    Empty,
+    /// There are more than 64.
+    #[error("too long")]
+    Long,
+    /// The first byte that a key may not have stands at this place, from 0.
+    #[error("bad byte at {0}")]
+    Byte(usize),
+}
+
+fn is_key_byte(byte: u8) -> bool
+    ensures { result ≡ is_key_byte byte }
+{
+    matches!(byte, b'a'..=b'z' | b'0'..=b'9' | b'.' | b'/' | b'_' | b'-')
+}
+
+fn bad_key_byte(bytes: &[u8]) -> Option<usize>
+    ensures { result ≡ bad_key_byte bytes.now }
+{
+    bytes.iter().position(|byte| !is_key_byte(*byte))
+}
+
+/// A key in 64 bytes: zeros stand behind it.
+fn padded(key: &[u8]) -> [u8; 64]
+    requires { length key.now ≤ 64 }
+    ensures { result ≡ padded_key key.now }
+{
+    let mut bytes = [0u8; MAX_LEN];
+    bytes[..key.len()].copy_from_slice(key);
+    bytes
+}
+
+impl Key {
+    /// The key that the bytes are. The number of bytes is tested before the bytes.
+    pub fn new(bytes: &[u8]) -> Result<Key, KeyError>
+        ensures { result ≡ key_of bytes.now }
+    {
+        if bytes.is_empty() {
+            return Err(KeyError::Empty);
+        }
+        if bytes.len() > MAX_LEN {
+            return Err(KeyError::Long);
+        }
+        match bad_key_byte(bytes) {
+            Some(place) => Err(KeyError::Byte(place)),
+            None => Ok(Key::kept(bytes)),
+        }
+    }
+
+    #[tactic(auto, using(crate::proofs::Padding::key_front_is))]
+    fn kept(key: &[u8]) -> Key
+        requires { IsKey key.now }
+        ensures { result ≡ key.now }
+    {
+        Key {
+            len: key.len(),
+            bytes: padded(key),
+        }
+    }
+
+    /// Its bytes, 1 to 64 of them.
+    pub fn as_bytes(&self) -> &[u8]
+        ensures bytes { result.now ≡ self.now }
+        ensures is_key { IsKey self.now }
+    {
+        &self.bytes[..self.len]
+    }
+}
+
+impl PartialEq for Key {
+    ghost eq = { pointwise ◌==◌ };
+
+    ghost laws = { Prim.search (comparing, rules) };
+
+    fn eq(&self, other: &Key) -> bool {
+        self.as_bytes() == other.as_bytes()
+    }
+}
+
+impl Eq for Key {
+    ghost laws = { Prim.search (comparing, rules) };
+}
+
+impl Ord for Key {
+    ghost cmp = { slice_cmp nat_cmp };
+
+    ghost total = { Prim.search (comparing, rules) };
+
+    ghost matches_partial_cmp = { Prim.search (comparing, rules) };
+
+    ghost matches_eq = { Prim.search (comparing, rules) };
+
+    fn cmp(&self, other: &Key) -> Ordering {
+        self.as_bytes().cmp(other.as_bytes())
+    }
+}
+
+impl PartialOrd for Key {
+    ghost partial_cmp = { as_partial_cmp (slice_cmp nat_cmp) };
+
+    ghost laws = { partial_order_from_own_ties (Prim.search (comparing, rules)) (Prim.search (comparing, rules)) };
+
+    fn partial_cmp(&self, other: &Key) -> Option<Ordering> {
+        Some(self.cmp(other))
+    }
+}
+
+impl Hash for Key {
+    ghost hash_input = { λ k. fed.slice fed.u8 k };
+
+    ghost respects_eq = { Prim.search (hashing, rules) };
+
+    fn hash<H: Hasher>(&self, state: &mut H) {
+        self.as_bytes().hash(state)
+    }
+}

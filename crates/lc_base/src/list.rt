@@ -1,0 +1,157 @@
+//! Lists, as every crate of the ledger keeps them.
+
+ghost use Rattle.std.specs.Prelude.{◌≡◌, ◌==◌, [], ◌∷◌, ◌++◌, length, slice_get, Ok, OnOk, OnErr, IfOk};
+ghost use Rattle.std.specs.Option.{option_copied};
+
+use crate::key::Key;
+use crate::memory::Memory;
+use crate::row::{Dep, Row};
+use std::alloc::Global;
+use std::marker::Model;
+
+/// A value of which a second one can be made, where there is memory.
+pub trait Duplicate: Drop {
+    /// The same value again.
+    fn copy(&self, alloc: Global) -> Result<Self, Memory>
+        ensures { IfOk result (λ copy. copy ≡ self.now) };
+}
+
+/// A list that grows at its end, and keeps the allocator that it was made with.
+#[derive(Debug, Drop)]
+pub struct Seq<T> {
+    items: Vec<T>,
+}
+
+impl<T> Model for Seq<T> {
+    ghost use Rattle.std.specs.Prelude.{List as Items};
+
+    ghost Value = { Items T };
+
+    ghost view = { λ list. list.items.items };
+}
+
+/// Bytes.
+pub type Bytes = Seq<u8>;
+/// Keys.
+pub type KeyList = Seq<Key>;
+/// Dependencies.
+pub type DepList = Seq<Dep>;
+/// Rows.
+pub type RowList = Seq<Row>;
+
+impl<T> Seq<T> {
+    /// The empty list. It takes no memory.
+    pub fn new(alloc: Global) -> Self
+        ensures { result ≡ [] }
+    {
+        Seq {
+            items: Vec::new(alloc),
+        }
+    }
+
+    /// The list of these items. It takes no memory.
+    pub fn from_vec(items: Vec<T>) -> Self
+        ensures { result ≡ items.items }
+    {
+        Seq { items }
+    }
+
+    /// Its items as a vector, which keeps the allocator. It takes no memory.
+    pub fn into_vec(self) -> Vec<T>
+        ensures { result.items ≡ self }
+    {
+        self.items
+    }
+
+    /// The number of its items.
+    pub fn len(&self) -> usize
+        ensures { result ≡ length self.now }
+    {
+        self.items.len()
+    }
+
+    /// Whether it has no item.
+    pub fn is_empty(&self) -> bool
+        ensures { result ≡ (length self.now == 0) }
+    {
+        self.items.is_empty()
+    }
+
+    /// The item at a place, from 0; `None` exactly past the end.
+    pub fn get(&self, i: usize) -> Option<&T>
+        ensures { option_copied result ≡ slice_get self.now i }
+    {
+        self.items.get(i)
+    }
+
+    /// The allocator that it keeps.
+    pub fn allocator(&self) -> Global {
+        *self.items.allocator()
+    }
+
+    /// All its items, in order.
+    pub fn as_slice(&self) -> &[T]
+        ensures { result.now ≡ self.now }
+    {
+        self.items.as_slice()
+    }
+}
+
+impl<T: Drop> Seq<T> {
+    /// Puts an item behind the others. Where there is no memory, the list stays as it was.
+    pub fn push(&mut self, item: T) -> Result<(), Memory>
+        ensures ok { OnOk result (self.new ≡ self.old ++ item ∷ []) }
+        ensures err { OnErr result (self.new ≡ self.old) }
+    {
+        self.items.push(item)?;
+        Ok(())
+    }
+
+    /// Puts all items of another list behind these, in order. Where there is no memory, the list stays as it was.
+    pub fn append(&mut self, other: Seq<T>) -> Result<(), Memory>
+        ensures ok { OnOk result (self.new ≡ self.old ++ other) }
+        ensures err { OnErr result (self.new ≡ self.old) }
+    {
+        let mut items = other.items;
+        self.items.append(&mut items)?;
+        Ok(())
+    }
+}
+
+impl<T: Duplicate> Seq<T> {
+    /// The same list again, on the allocator that this one keeps.
+    pub fn copy(&self) -> Result<Self, Memory>
+        ensures { IfOk result (λ copy. copy ≡ self.now) }
+    {
+        Ok(Seq {
+            items: copied(self.allocator(), self.items.as_slice())?,
+        })
+    }
+}
+
+impl Bytes {
+    /// The bytes.
+    pub fn as_bytes(&self) -> &[u8]
+        ensures { result.now ≡ self.now }
+    {
+        self.items.as_slice()
+    }
+}
+
+fn copied<T: Duplicate>(alloc: Global, all: &[T]) -> Result<Vec<T>, Memory>
+    ensures { IfOk result (λ copy. copy.items ≡ all.now) }
+{
+    let mut copy = Vec::with_capacity(alloc, all.len())?;
+    for item in all {
+        copy.push(item.copy(alloc)?)?;
+    }
+    Ok(copy)
+}
+
+impl Duplicate for u8 {
+    fn copy(&self, _alloc: Global) -> Result<u8, Memory>
+        ensures { result ≡ Ok self.now }
+    {
+        Ok(*self)
+    }
+}
