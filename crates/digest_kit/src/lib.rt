@@ -1,0 +1,9 @@
+//! Digests of tagged bytes.
+#![tactic(auto)]
+
+mod hasher;
+
+pub use hasher::TagHasher;
+
+#[cfg(test)]
+mod tests;
