@@ -1,0 +1,7 @@
+pub mod Laws
+pub mod Items
+pub mod Pieces
+pub mod Fields
+pub mod Loops
+pub mod LongestFronts
+pub mod WrittenItems

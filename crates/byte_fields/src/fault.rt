@@ -1,0 +1,55 @@
+//! Why a field could not be read.
+
+ghost use Rattle.std.specs.Prelude.{◌≡◌};
+ghost use Rattle.byte_fields.specs.declared.fault.FieldError.TheVariants.{Fault as AtFault, Memory as NoMemory};
+
+use lc_base::Memory;
+use std::alloc::{AllocError, AllocFailed};
+
+/// A field is cut short or breaks its rule.
+#[derive(Clone, Copy, Debug, PartialEq, Eq)]
+pub struct Fault {
+    /// The number of bytes from the beginning of the field at fault to the end.
+    pub left: usize,
+}
+
+/// Why a field was not read into memory.
+#[derive(Clone, Copy, Debug, PartialEq, Eq)]
+pub enum FieldError {
+    /// It is at fault.
+    Fault(Fault),
+    /// No memory was to be had.
+    Memory,
+}
+
+impl From<Fault> for FieldError {
+    ghost from_gives = { λ fault error. error ≡ AtFault fault };
+
+    fn from(fault: Fault) -> FieldError {
+        FieldError::Fault(fault)
+    }
+}
+
+impl From<Memory> for FieldError {
+    ghost from_gives = { λ _ error. error ≡ NoMemory };
+
+    fn from(_memory: Memory) -> FieldError {
+        FieldError::Memory
+    }
+}
+
+impl From<AllocError> for FieldError {
+    ghost from_gives = { λ _ error. error ≡ NoMemory };
+
+    fn from(_error: AllocError) -> FieldError {
+        FieldError::Memory
+    }
+}
+
+impl<T: Drop> From<AllocFailed<T>> for FieldError {
+    ghost from_gives = { λ _ error. error ≡ NoMemory };
+
+    fn from(_error: AllocFailed<T>) -> FieldError {
+        FieldError::Memory
+    }
+}
