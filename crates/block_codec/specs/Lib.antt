@@ -1,0 +1,6 @@
+pub mod Spelling
+pub mod Reading
+pub mod Frames
+pub mod Decoding
+pub mod Placement
+pub mod Encoding

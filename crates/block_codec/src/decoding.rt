@@ -1,0 +1,146 @@
+//! Reading blocks from their bytes.
+
+ghost use Rattle.std.specs.Prelude.{◌≡◌, IfOk, length};
+ghost use Rattle.byte_fields.specs.Reading.{items_at, key_at};
+ghost use Rattle.byte_fields.specs.Reader.{ReadsKept};
+ghost use Rattle.block_codec.specs.Spelling.{Spells, IsDecoder};
+ghost use Rattle.block_codec.specs.Reading.{dep_keys_at, set_at, tx_at, txs_at, block_at, whole_block, block_in};
+ghost use Rattle.block_codec.specs.Decoding.{HasPlace, IsBlockOr, ReadsAll, TellsSpelled};
+
+use crate::block::{Block, MAX_BLOCK, MAX_DEPS, MAX_TXS, SET, Tx, TxList, VERSION};
+use byte_fields::{Fault, FieldError, Reader};
+use lc_base::{Digest, KeyList};
+use std::alloc::Global;
+
+/// Why bytes were not read as a block.
+#[derive(Clone, Copy, Debug, PartialEq, Eq)]
+pub enum DecodeError {
+    /// They spell no block.
+    Malformed {
+        /// Where the first field begins that is cut short or breaks its rule, or the first byte behind
+        /// the last field stands; at most 1,048,576.
+        at: usize,
+    },
+    /// No memory was to be had.
+    Memory,
+}
+
+fn keys(alloc: Global, reader: &mut Reader, count: u8) -> Result<KeyList, FieldError>
+    ensures { ReadsKept result (items_at key_at count reader.old) reader.new }
+{
+    let mut keys = KeyList::new(alloc);
+    for _ in 0..count {
+        let key = reader.key()?;
+        keys.push(key)?;
+    }
+    Ok(keys)
+}
+
+#[tactic(auto, unfolding(crate::specs::Reading::dep_keys_at))]
+fn dep_keys(alloc: Global, reader: &mut Reader) -> Result<KeyList, FieldError>
+    ensures { ReadsKept result (dep_keys_at reader.old) reader.new }
+{
+    let count = reader.byte_at_most(MAX_DEPS)?;
+    keys(alloc, reader, count)
+}
+
+#[tactic(auto, unfolding(crate::specs::Reading::set_at))]
+fn set(alloc: Global, reader: &mut Reader) -> Result<Tx, FieldError>
+    ensures { ReadsKept result (set_at reader.old) reader.new }
+{
+    let sender = reader.key()?;
+    let key = reader.key()?;
+    let value = reader.value(alloc)?;
+    let deps = dep_keys(alloc, reader)?;
+    Ok(Tx::Set {
+        sender,
+        key,
+        value,
+        deps,
+    })
+}
+
+#[tactic(auto, unfolding(crate::specs::Reading::tx_at))]
+fn tx(alloc: Global, reader: &mut Reader) -> Result<Tx, FieldError>
+    ensures { ReadsKept result (tx_at reader.old) reader.new }
+{
+    reader.byte_that_is(SET)?;
+    set(alloc, reader)
+}
+
+fn counted_txs(alloc: Global, reader: &mut Reader, count: u16) -> Result<TxList, FieldError>
+    ensures { ReadsKept result (items_at tx_at count reader.old) reader.new }
+{
+    let mut txs = TxList::new(alloc);
+    for _ in 0..count {
+        let tx = tx(alloc, reader)?;
+        txs.push(tx)?;
+    }
+    Ok(txs)
+}
+
+#[tactic(auto, unfolding(crate::specs::Reading::txs_at))]
+fn txs(alloc: Global, reader: &mut Reader) -> Result<TxList, FieldError>
+    ensures { ReadsKept result (txs_at reader.old) reader.new }
+{
+    let count = reader.u16_at_most(MAX_TXS)?;
+    counted_txs(alloc, reader, count)
+}
+
+#[tactic(auto, unfolding(crate::specs::Reading::block_at))]
+fn block(alloc: Global, reader: &mut Reader) -> Result<Block, FieldError>
+    ensures { ReadsKept result (block_at reader.old) reader.new }
+{
+    reader.byte_that_is(VERSION)?;
+    let number = reader.u32()?;
+    let parent = Digest(reader.digest_bytes()?);
+    let txs = txs(alloc, reader)?;
+    Ok(Block {
+        number,
+        parent,
+        txs,
+    })
+}
+
+#[tactic(auto, unfolding(crate::specs::Reading::whole_block))]
+fn whole(alloc: Global, bytes: &[u8]) -> Result<Block, FieldError>
+    ensures { ReadsAll result (whole_block bytes.now) }
+{
+    let mut reader = Reader::new(bytes);
+    let block = block(alloc, &mut reader)?;
+    let left = reader.left();
+    if left > 0 {
+        return Err(FieldError::Fault(Fault { left }));
+    }
+    Ok(block)
+}
+
+/// The block that the bytes spell, at most 1,048,576 of them.
+#[tactic(auto, unfolding(crate::specs::Reading::block_in))]
+fn spelled(alloc: Global, bytes: &[u8]) -> Result<Block, DecodeError>
+    ensures { TellsSpelled result (block_in bytes.now) }
+{
+    match whole(alloc, bytes) {
+        Ok(_) if bytes.len() > MAX_BLOCK => Err(DecodeError::Malformed { at: MAX_BLOCK }),
+        Ok(block) => Ok(block),
+        Err(FieldError::Fault(fault)) => Err(DecodeError::Malformed {
+            at: (bytes.len() - fault.left).min(MAX_BLOCK),
+        }),
+        Err(FieldError::Memory) => Err(DecodeError::Memory),
+    }
+}
+
+/// The block that the bytes spell, at most 1,048,576 of them. Malformed exactly where they spell none.
+pub fn decode(alloc: Global, bytes: &[u8]) -> Result<Block, DecodeError>
+    // What is read is spelled so.
+    ensures found { IfOk result (Spells bytes.now) }
+    // What is spelled so is read, unless memory runs out.
+    ensures only { (block : Block) → Spells bytes.now block → IsBlockOr result block }
+    // A fault is told at its place.
+    ensures place { HasPlace bytes.now result }
+    // What bytes spell is told by a function, and that is answered.
+    ensures decided { IsDecoder block_in }
+    ensures exact { TellsSpelled result (block_in bytes.now) }
+{
+    spelled(alloc, bytes)
+}

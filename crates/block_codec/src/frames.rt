@@ -1,0 +1,146 @@
+//! The frames of a block file.
+
+ghost use Rattle.std.specs.Prelude.{◌≡◌, ◌≤◌, length, IfOk, IfSome};
+ghost use Rattle.lc_base.specs.Outside.{HasCause};
+ghost use Rattle.block_codec.specs.Frames.{Fills, frame_of, IsBody, IsFrameAnswer, Counts, HasFaultCause};
+
+use lc_base::{Bytes, Failed, Source};
+use std::alloc::{AllocError, Global};
+use std::marker::Model;
+
+const MAX_FRAME: u32 = 1_048_576;
+
+const MAX_FRAMES: u32 = 2_097_152;
+
+/// Why no further frame could be taken.
+#[derive(Clone, Copy, Debug, PartialEq, Eq)]
+pub enum FrameError {
+    /// The input ends within the frame.
+    Truncated,
+    /// A frame has 1 to 1,048,576 bytes, and this says so many.
+    Length(u32),
+    /// An input has at most 2,097,152 frames.
+    Many,
+    /// The source failed.
+    Fault,
+    /// No memory was to be had.
+    Memory,
+}
+
+impl From<AllocError> for FrameError {
+    ghost use Rattle.block_codec.specs.declared.frames.FrameError.TheVariants.{Memory};
+
+    ghost from_gives = { λ _ error. error ≡ Memory };
+
+    fn from(_error: AllocError) -> FrameError {
+        FrameError::Memory
+    }
+}
+
+impl From<Failed> for FrameError {
+    ghost use Rattle.block_codec.specs.declared.frames.FrameError.TheVariants.{Fault};
+
+    ghost from_gives = { λ _ error. error ≡ Fault };
+
+    fn from(_failed: Failed) -> FrameError {
+        FrameError::Fault
+    }
+}
+
+/// Takes the frames of one input, in order.
+#[derive(Debug, Drop)]
+pub struct Frames {
+    taken: u32,
+}
+
+impl Model for Frames {
+    ghost use Rattle.std.specs.Prelude.{ℕ, ◌≤◌};
+
+    ghost Value = { ℕ };
+
+    ghost view = { λ frames. frames.taken };
+
+    ghost invariant = { λ frames. frames.taken ≤ 2097152 };
+}
+
+/// Fills the buffer as far as the source goes, and answers how many bytes came.
+fn fill<I: Source>(source: &mut I, buffer: &mut [u8]) -> Result<usize, Failed>
+    ensures bound { IfOk result (λ n. n ≤ length buffer.new) }
+    ensures bytes { Fills (I.left source.old) (I.left source.new) result buffer.new }
+    ensures cause { HasCause (I.source_faults source.old) (I.source_faults source.new) result }
+{
+    let mut start = 0;
+    while start < buffer.len() {
+        let count = source.pull(&mut buffer[start..])?;
+        if count == 0 {
+            return Ok(start);
+        }
+        start += count;
+    }
+    Ok(start)
+}
+
+/// The next `count` bytes of the source, or `Truncated` where it has fewer.
+fn body<I: Source>(alloc: Global, source: &mut I, count: u32) -> Result<Bytes, FrameError>
+    ensures bytes { IfSome (I.left source.old) (λ input. IsBody (frame_of count input) result (I.left source.new)) }
+    ensures cause { HasFaultCause (I.source_faults source.old) (I.source_faults source.new) result }
+{
+    let mut bytes = vec![in alloc; 0u8; count as usize]?;
+    let filled = fill(source, &mut bytes)?;
+    if filled < bytes.len() {
+        return Err(FrameError::Truncated);
+    }
+    Ok(Bytes::from_vec(bytes))
+}
+
+impl Frames {
+    /// No frame was taken yet.
+    pub fn new() -> Frames
+        ensures { result ≡ 0 }
+    {
+        Frames { taken: 0 }
+    }
+
+    /// How many frames were taken, at most 2,097,152.
+    pub fn taken(&self) -> u32
+        ensures count { result ≡ self.now }
+        ensures bound { result ≤ 2097152 }
+    {
+        self.taken
+    }
+
+    /// The bytes of the next frame, 1 to 1,048,576 of them, and the frames after it; `None` at the end of the input between frames.
+    #[tactic(auto, unfolding(crate::specs::Frames::frame_step))]
+    pub fn next<I: Source>(
+        self,
+        alloc: Global,
+        source: &mut I,
+    ) -> Result<Option<(Bytes, Frames)>, FrameError>
+        ensures answer { IfSome (I.left source.old) (λ input. IsFrameAnswer self input result (I.left source.new)) }
+        ensures count { Counts self result }
+        ensures cause { HasFaultCause (I.source_faults source.old) (I.source_faults source.new) result }
+    {
+        let mut header = [0u8; 4];
+        let filled = fill(source, &mut header)?;
+        if filled == 0 {
+            return Ok(None);
+        }
+        if filled < header.len() {
+            return Err(FrameError::Truncated);
+        }
+        let count = u32::from_be_bytes(header);
+        if count == 0 || count > MAX_FRAME {
+            return Err(FrameError::Length(count));
+        }
+        if self.taken == MAX_FRAMES {
+            return Err(FrameError::Many);
+        }
+        let bytes = body(alloc, source, count)?;
+        Ok(Some((
+            bytes,
+            Frames {
+                taken: self.taken + 1,
+            },
+        )))
+    }
+}

@@ -1,0 +1,85 @@
+//! Where a block stands to a chain.
+
+ghost use Rattle.std.specs.Prelude.{◌≡◌, ◌<◌, ◌↔◌, IsSome};
+ghost use Rattle.block_codec.specs.Placement.{bytes_digest, of_held, of_new, placement};
+
+use crate::block::Block;
+use digest_kit::TagHasher;
+use lc_base::Digest;
+
+/// The tag of a block among the texts that are hashed.
+const BLOCK_TAG: u8 = 0x07;
+
+const MAX_BLOCKS: u32 = 1_048_576;
+
+const MAX_ROWS: u64 = 4_293_918_718;
+
+/// Where a block stands to a chain.
+#[derive(Clone, Copy, Debug, PartialEq, Eq)]
+pub enum Placement {
+    /// It is the block that the chain holds at its number.
+    Known,
+    /// It is the next block of the chain.
+    Next,
+    /// The chain holds another block at its number.
+    Fork { have: Digest },
+    /// The chain takes no further block.
+    Full,
+    /// The next block has another number.
+    Number { want: u32 },
+    /// The next block has another parent.
+    Parent { want: Digest },
+}
+
+/// The digest of the bytes of a block: SHA-256 (FIPS 180-4) of the byte 7 and these.
+pub fn block_digest(bytes: &[u8]) -> Digest
+    ensures { result ≡ bytes_digest bytes.now }
+{
+    let mut hasher = TagHasher::new(BLOCK_TAG);
+    hasher.add(bytes);
+    hasher.finish()
+}
+
+fn of_held(have: Digest, digest: Digest) -> Placement
+    ensures { result ≡ of_held have digest }
+{
+    if have == digest {
+        Placement::Known
+    } else {
+        Placement::Fork { have }
+    }
+}
+
+fn of_new(held: u32, rows: u64, parent: Digest, block: &Block) -> Placement
+    ensures { result ≡ of_new held rows parent block.now }
+{
+    if held == MAX_BLOCKS || rows > MAX_ROWS {
+        return Placement::Full;
+    }
+    if block.number != held {
+        return Placement::Number { want: held };
+    }
+    if block.parent != parent {
+        return Placement::Parent { want: parent };
+    }
+    Placement::Next
+}
+
+/// Where a block with this digest stands to a chain of `held` blocks and so many rows. `have` is the digest of the held block of
+/// its number, `parent` that of the last block, or 32 zero bytes where there is none.
+pub fn place(
+    held: u32,
+    rows: u64,
+    have: Option<Digest>,
+    parent: Digest,
+    block: &Block,
+    digest: Digest,
+) -> Placement
+    requires { IsSome have ↔ (block.now.number < held) }
+    ensures { result ≡ placement held rows have parent block.now digest }
+{
+    match have {
+        Some(have) => of_held(have, digest),
+        None => of_new(held, rows, parent, block),
+    }
+}
