@@ -1,0 +1,9 @@
+//! A history kept as a plain list, and questions answered by going over it.
+#![tactic(auto)]
+
+mod rows;
+
+pub use rows::PlainRows;
+
+#[cfg(test)]
+mod tests;
