@@ -1,0 +1,9 @@
+pub mod Marks
+pub mod Runs
+pub mod Shapes
+pub mod Words
+pub mod Literals
+pub mod Pieces
+pub mod Once
+pub mod Cuts
+pub mod Printed

@@ -1,0 +1,88 @@
+-- The tokens of the contract language, by the bytes that spell them.
+use Rattle.std.specs.Prelude.{◌≡◌, ◌≢◌, ℕ, ◌^◌, ◌<◌, ◌≤◌, Bool, true, false, ◌&&◌, ◌||◌, not, ◌==◌, nat_le, List, [], ◌∷◌, ◌++◌, length, pos, decimal}
+use Rattle.std.specs.List.{list_all}
+use Rattle.lc_base.specs.NameBytes.{is_letter, is_name_byte, IsName}
+use Rattle.lc_base.specs.TextBytes.{is_text_byte}
+use Rattle.contract_tokens.specs.declared.token.Mark.{Mark}
+use Rattle.contract_tokens.specs.declared.token.Word.{Word}
+use Rattle.contract_tokens.specs.declared.token.Word.TheVariants as words
+use Rattle.contract_tokens.specs.declared.token.TokenKind.{TokenKind}
+use Rattle.contract_tokens.specs.declared.token.TokenKind.TheVariants as kinds
+use Rattle.contract_tokens.specs.Spelling.{spelling}
+
+-- ---- bytes
+
+-- space, tab, CR, LF
+abbrev pub is_blank : ℕ → Bool
+is_blank byte = byte == 32 || byte == 9 || byte == 13 || byte == 10
+
+abbrev pub is_digit : ℕ → Bool
+is_digit byte = nat_le 48 byte && nat_le byte 57
+
+abbrev pub newline : ℕ
+newline = 10
+
+abbrev pub quote : ℕ
+quote = 34
+
+abbrev pub hash : ℕ
+hash = 35
+
+abbrev pub backslash : ℕ
+backslash = 92
+
+-- ---- what stands between tokens
+
+-- nothing, or a line that ends here
+abbrev pub IsLineEnd : List ℕ → Type 0
+IsLineEnd [] = Unit {0}
+IsLineEnd (byte ∷ _) = byte ≡ newline
+
+-- A gap before the rest of the source: a blank, or a comment up to the end of its line.
+pub data IsGap : List ℕ → List ℕ → Type 0 where
+  Blank : (byte : ℕ) (rest : List ℕ) → is_blank byte ≡ true → IsGap (byte ∷ []) rest
+  Comment : (text rest : List ℕ) → list_all (λ byte. not (byte == newline)) text ≡ true → IsLineEnd rest → IsGap (hash ∷ text) rest
+
+-- ---- tokens
+
+-- The bytes between the quotes of a text literal, and the bytes that they mean.
+pub data IsLiteralBody : List ℕ → List ℕ → Type 0 where
+  Nothing : IsLiteralBody [] []
+  Plain : (byte : ℕ) (body text : List ℕ) → is_text_byte byte ≡ true → byte ≢ quote → byte ≢ backslash → IsLiteralBody body text → IsLiteralBody (byte ∷ body) (byte ∷ text)
+  EscapedQuote : (body text : List ℕ) → IsLiteralBody body text → IsLiteralBody (backslash ∷ quote ∷ body) (quote ∷ text)
+  EscapedBackslash : (body text : List ℕ) → IsLiteralBody body text → IsLiteralBody (backslash ∷ backslash ∷ body) (backslash ∷ text)
+
+-- a text literal with its quotes
+abbrev pub quoted : List ℕ → List ℕ
+quoted body = quote ∷ (body ++ quote ∷ [])
+
+-- The bytes spell this word.
+pub data IsSpelled : List ℕ → Word → Type 0 where
+  MarkSpelled : (mark : Mark) → IsSpelled (spelling mark) (words.Mark mark)
+  NameSpelled : (name : List ℕ) → IsName name → ((mark : Mark) → spelling mark ≢ name) → IsSpelled name (words.Name name)
+  IntSpelled : (n : ℕ) → n < 2 ^ 63 → IsSpelled (decimal n) (words.Int (pos n))
+  TextSpelled : (body text : List ℕ) → IsLiteralBody body text → length text ≤ 1024 → IsSpelled (quoted body) (words.Text text)
+
+-- The bytes have the shape of a token. Rules of size, and that a number begins with no 0 too many, are left out.
+pub data IsLexeme : List ℕ → Type 0 where
+  MarkShape : (mark : Mark) → IsLexeme (spelling mark)
+  NameShape : (byte : ℕ) (more : List ℕ) → is_letter byte ≡ true → list_all is_name_byte more ≡ true → IsLexeme (byte ∷ more)
+  IntShape : (byte : ℕ) (more : List ℕ) → is_digit byte ≡ true → list_all is_digit more ≡ true → IsLexeme (byte ∷ more)
+  TextShape : (body text : List ℕ) → IsLiteralBody body text → IsLexeme (quoted body)
+
+-- The longest lexeme at the front, before the rest.
+pub record IsLongest (front rest : List ℕ) : Type 0 where
+  pub lexeme : IsLexeme front
+  pub longest : (more behind : List ℕ) → rest ≡ more ++ behind → IsLexeme (front ++ more) → more ≡ []
+
+-- No lexeme stands at the front.
+abbrev pub HasNoLexeme : List ℕ → Type 0
+HasNoLexeme bytes = (front rest : List ℕ) → bytes ≡ front ++ rest → IsLexeme front → ⊥
+
+-- What stands at the front is no token, and why.
+pub data IsRefused : List ℕ → TokenKind → Type 0 where
+  -- the longest lexeme spells no word: a name too long, a number too large or with a leading 0, a text too long
+  Breaks : (front rest : List ℕ) → IsLongest front rest → ((word : Word) → IsSpelled front word → ⊥) → IsRefused (front ++ rest) kinds.Literal
+  -- a quote begins no text literal
+  NoText : (rest : List ℕ) → ((front behind : List ℕ) (word : Word) → quote ∷ rest ≡ front ++ behind → IsSpelled front word → ⊥) → IsRefused (quote ∷ rest) kinds.Literal
+  NoToken : (byte : ℕ) (rest : List ℕ) → is_blank byte ≡ false → byte ≢ hash → byte ≢ quote → HasNoLexeme (byte ∷ rest) → IsRefused (byte ∷ rest) kinds.Byte

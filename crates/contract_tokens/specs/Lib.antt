@@ -1,0 +1,6 @@
+pub mod Spelling
+pub mod Lexemes
+pub mod Tokens
+pub mod Answers
+pub mod Steps
+pub mod Printing

@@ -1,0 +1,42 @@
+//! Names and keywords.
+
+ghost use Rattle.std.specs.Prelude.{◌≡◌};
+ghost use Rattle.contract_tokens.specs.Steps.{keyword_of, name_step};
+
+use crate::piece::Piece;
+use crate::token::{Mark, TokenKind, Word};
+use lc_base::Name;
+
+#[tactic(auto, unfolding(crate::specs::Steps::keyword_of))]
+fn keyword_of(run: &[u8]) -> Option<Mark>
+    ensures { result ≡ keyword_of run.now }
+{
+    match run {
+        b"fn" => Some(Mark::Fn),
+        b"let" => Some(Mark::Let),
+        b"if" => Some(Mark::If),
+        b"else" => Some(Mark::Else),
+        b"while" => Some(Mark::While),
+        b"put" => Some(Mark::Put),
+        b"from" => Some(Mark::From),
+        b"fail" => Some(Mark::Fail),
+        b"return" => Some(Mark::Return),
+        b"int" => Some(Mark::Int),
+        b"text" => Some(Mark::Text),
+        _ => None,
+    }
+}
+
+/// The keyword or the name that the bytes are.
+#[tactic(auto, unfolding(crate::specs::Steps::name_step))]
+pub fn name_piece(run: &[u8]) -> Piece
+    ensures { result ≡ name_step run.now }
+{
+    if let Some(mark) = keyword_of(run) {
+        return Piece::Take(run.len(), Word::Mark(mark));
+    }
+    match Name::new(run) {
+        Ok(name) => Piece::Take(run.len(), Word::Name(name)),
+        Err(_) => Piece::Bad(TokenKind::Literal),
+    }
+}

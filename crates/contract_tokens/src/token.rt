@@ -1,0 +1,143 @@
+//! Tokens, and why a source has none.
+
+ghost use Rattle.std.specs.Prelude.{◌≡◌};
+ghost use Rattle.contract_tokens.specs.declared.token.TokenError.TheVariants as TokenErrors;
+
+use lc_base::{Memory, Name, Text};
+use std::alloc::AllocFailed;
+
+/// A word of a source, with its place.
+#[derive(Debug, Drop)]
+pub struct Token {
+    /// The place of its first byte, counted from 0.
+    pub at: u32,
+    /// What stands there.
+    pub word: Word,
+}
+
+/// What a token says.
+#[derive(Debug, Drop)]
+pub enum Word {
+    /// A number, 0 to 9223372036854775807.
+    Int(i64),
+    /// A text literal, seen as the bytes that it means: its escapes are resolved.
+    Text(Text),
+    /// A name that is no keyword.
+    Name(Name),
+    /// A keyword or a sign.
+    Mark(Mark),
+    /// The end of the source. It closes each list of tokens.
+    End,
+}
+
+/// A token that is always spelled the same.
+#[derive(Clone, Copy, Debug, PartialEq, Eq)]
+pub enum Mark {
+    /// The keyword `fn`.
+    Fn,
+    /// The keyword `let`.
+    Let,
+    /// The keyword `if`.
+    If,
+    /// The keyword `else`.
+    Else,
+    /// The keyword `while`.
+    While,
+    /// The keyword `put`.
+    Put,
+    /// The keyword `from`.
+    From,
+    /// The keyword `fail`.
+    Fail,
+    /// The keyword `return`.
+    Return,
+    /// The keyword `int`.
+    Int,
+    /// The keyword `text`.
+    Text,
+    /// The sign `(`.
+    ParenOpen,
+    /// The sign `)`.
+    ParenClose,
+    /// The sign `{`.
+    BraceOpen,
+    /// The sign `}`.
+    BraceClose,
+    /// The sign `,`.
+    Comma,
+    /// The sign `;`.
+    Semicolon,
+    /// The sign `:`.
+    Colon,
+    /// The sign `=`.
+    Assign,
+    /// The sign `==`.
+    Equal,
+    /// The sign `!=`.
+    NotEqual,
+    /// The sign `<`.
+    Less,
+    /// The sign `<=`.
+    LessEqual,
+    /// The sign `>`.
+    Greater,
+    /// The sign `>=`.
+    GreaterEqual,
+    /// The sign `+`.
+    Plus,
+    /// The sign `-`.
+    Minus,
+    /// The sign `*`.
+    Star,
+    /// The sign `/`.
+    Slash,
+    /// The sign `%`.
+    Percent,
+    /// The sign `++`.
+    Concat,
+    /// The sign `!`.
+    Not,
+    /// The sign `&&`.
+    And,
+    /// The sign `||`.
+    Or,
+}
+
+/// How a source fails to be a list of tokens.
+#[derive(Clone, Copy, Debug, PartialEq, Eq)]
+pub enum TokenKind {
+    /// A byte that begins no token.
+    Byte,
+    /// A number, text literal or name that breaks its rule.
+    Literal,
+}
+
+/// Why there are no tokens.
+#[derive(Clone, Copy, Debug)]
+pub enum TokenError {
+    /// The first fault of the source.
+    Refused {
+        /// The place of the byte, or of the first byte of the number, text literal or name.
+        at: u32,
+        /// What is at fault.
+        kind: TokenKind,
+    },
+    /// There was no memory for the tokens.
+    Memory,
+}
+
+impl From<Memory> for TokenError {
+    ghost from_gives = { λ _ error. error ≡ TokenErrors.Memory };
+
+    fn from(_error: Memory) -> TokenError {
+        TokenError::Memory
+    }
+}
+
+impl<T: Drop> From<AllocFailed<T>> for TokenError {
+    ghost from_gives = { λ _ error. error ≡ TokenErrors.Memory };
+
+    fn from(_error: AllocFailed<T>) -> TokenError {
+        TokenError::Memory
+    }
+}
