@@ -1,0 +1,4 @@
+pub mod Arguments
+pub mod Scopes
+pub mod KindLaws
+pub mod StatementLaws

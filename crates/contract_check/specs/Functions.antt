@@ -1,0 +1,7 @@
+-- Functions by their names.
+use Rattle.std.specs.Prelude.{ℕ, Bool, ◌==◌, List}
+use Rattle.std.specs.Cmp.Lexicographic.{pointwise}
+use Rattle.contract_tree.specs.declared.tree.Function.{Function}
+
+abbrev pub is_called : List ℕ → Function → Bool
+is_called name function = pointwise ◌==◌ function.name name

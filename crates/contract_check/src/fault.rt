@@ -1,0 +1,70 @@
+//! How a contract fails to be well kinded.
+
+ghost use Rattle.std.specs.Prelude.{◌≡◌};
+ghost use Rattle.contract_check.specs.declared.fault.CheckError.TheVariants as CheckErrors;
+
+use lc_base::Memory;
+use std::alloc::AllocFailed;
+
+/// What is wrong with a contract.
+#[derive(Clone, Copy, Debug, PartialEq, Eq)]
+pub enum CheckKind {
+    /// A name that is not visible where it is used or assigned, or a called name that is no builtin.
+    Unknown,
+    /// A function's name used before, or a parameter or a `let` whose name is visible.
+    Again,
+    /// A builtin with another number of arguments than it takes.
+    Count,
+    /// An operand, argument, condition, key or assigned value of the wrong kind.
+    Kind,
+}
+
+/// The first fault of a contract in the order of checking.
+#[derive(Clone, Copy, Debug, PartialEq, Eq)]
+pub struct Fault {
+    /// The place of the name, operand or call that is at fault.
+    pub at: u32,
+    /// What is wrong with it.
+    pub kind: CheckKind,
+}
+
+/// Why a contract was not checked to the end.
+#[derive(Clone, Copy, Debug, PartialEq, Eq)]
+pub enum CheckError {
+    /// The contract has a fault.
+    Refused {
+        /// The place of the name, operand or call that is at fault.
+        at: u32,
+        /// What is wrong with it.
+        kind: CheckKind,
+    },
+    /// No memory was to be had.
+    Memory,
+}
+
+impl From<Fault> for CheckError {
+    ghost from_gives = { λ fault error. error ≡ CheckErrors.Refused fault.at fault.kind };
+
+    fn from(fault: Fault) -> CheckError {
+        CheckError::Refused {
+            at: fault.at,
+            kind: fault.kind,
+        }
+    }
+}
+
+impl From<Memory> for CheckError {
+    ghost from_gives = { λ _ error. error ≡ CheckErrors.Memory };
+
+    fn from(_error: Memory) -> CheckError {
+        CheckError::Memory
+    }
+}
+
+impl<T: Drop> From<AllocFailed<T>> for CheckError {
+    ghost from_gives = { λ _ error. error ≡ CheckErrors.Memory };
+
+    fn from(_error: AllocFailed<T>) -> CheckError {
+        CheckError::Memory
+    }
+}

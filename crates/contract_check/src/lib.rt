@@ -1,0 +1,18 @@
+//! Which contracts are well kinded: names are declared once and before use, builtins get what they take, and operators too.
+#![tactic(auto)]
+
+mod builtin;
+mod contract;
+mod expression;
+mod fault;
+mod scope;
+mod statement;
+mod used;
+
+pub use builtin::Builtin;
+pub use contract::{Checked, check};
+pub use fault::{CheckError, CheckKind};
+pub use scope::Scope;
+
+#[cfg(test)]
+mod tests;
