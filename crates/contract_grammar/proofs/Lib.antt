@@ -1,0 +1,13 @@
+pub mod Laws
+pub mod Sequence
+pub mod Choice
+pub mod MarkFacts
+pub mod Parts
+pub mod Levels
+pub mod Operands
+pub mod Expressions
+pub mod Statements
+pub mod StatementRules
+pub mod ContractRules
+pub mod Answers
+pub mod Turns

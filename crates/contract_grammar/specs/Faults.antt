@@ -1,0 +1,30 @@
+-- The first token at which tokens stop being those of a contract.
+use Rattle.std.specs.Prelude.{◌≡◌, Bool, true, false, List, [], ◌∷◌, ◌++◌}
+use Rattle.contract_tokens.specs.declared.token.Token.{Token}
+use Rattle.contract_tokens.specs.declared.token.Mark.TheVariants.{BraceOpen}
+use Rattle.contract_tree.specs.Tree.{FunctionTree}
+use Rattle.contract_grammar.specs.declared.Obstacle.{Obstacle}
+use Rattle.contract_grammar.specs.declared.Obstacle.TheVariants.{Unfit, Surplus, Pending, Nesting, Height, Turns}
+use Rattle.contract_grammar.specs.Grammar.{Limits, limits_of, no_limits, IsContract}
+use Rattle.contract_grammar.specs.Marks.{is, has, is_end, name_of, opens}
+
+-- A contract begins with the tokens.
+abbrev pub Fits : Limits → List Token → Type 0
+Fits l before = (more : List Token) × (all : List FunctionTree) × IsContract l (before ++ more) all
+
+abbrev pub Allows_by : Bool → Limits → List Token → Token → Type 0
+Allows_by true l before t = (all : List FunctionTree) × IsContract l before all
+Allows_by false l before t = Fits l (before ++ t ∷ [])
+
+-- Behind these tokens the token fits: a contract begins with them and it, or it is the end of the source, and they are a contract.
+abbrev pub Allows : Limits → List Token → Token → Type 0
+Allows l before t = Allows_by (is_end t) l before t
+
+-- What is wrong at a token behind others. Each limit is looked at alone: the other three are left out.
+abbrev pub IsFault : Obstacle → List Token → Token → Type 0
+IsFault Unfit before t = Fits no_limits before × (Allows no_limits before t → ⊥)
+IsFault Surplus before t = (has name_of t ≡ true) × Allows no_limits before t × (Allows (limits_of false false false true) before t → ⊥)
+IsFault Pending before t = (opens t ≡ true) × Allows no_limits before t × (Allows (limits_of true false false false) before t → ⊥)
+IsFault Nesting before t = (is BraceOpen t ≡ true) × Allows no_limits before t × (Allows (limits_of false true false false) before t → ⊥)
+IsFault (Height at) before t = Fits no_limits before × (Allows (limits_of false false true false) before t → ⊥)
+IsFault Turns before t = ⊥
