@@ -1,0 +1,4 @@
+pub mod Heights
+pub mod Loops
+pub mod Sources
+pub mod Parsed

@@ -1,0 +1,17 @@
+//! Sources of the contract language as trees, and trees as their canonical text.
+#![tactic(auto)]
+
+mod build;
+mod expression;
+mod function;
+mod source;
+mod statement;
+
+pub use contract_tree::{
+    Contract, Expr, ExprList, ExprNode, Form, Function, FunctionList, Param, ParamList, Sign,
+    Statement, StatementList, ValueKind,
+};
+pub use source::{SyntaxError, SyntaxKind, parse};
+
+#[cfg(test)]
+mod tests;
