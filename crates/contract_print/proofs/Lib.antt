@@ -1,0 +1,6 @@
+pub mod Lists
+pub mod Respelled
+pub mod Printed
+pub mod Reread
+pub mod RereadStatements
+pub mod RereadContracts

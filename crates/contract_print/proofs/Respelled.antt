@@ -1,0 +1,194 @@
+-- Words in canonical text are cut from it again.
+use Rattle.std.proofs.Common.{◌≡◌, ℕ, ℤ, ◌+◌, ◌==◌, ◌||◌, Bool, true, false, List, [], ◌∷◌, ◌++◌, length, drop, Some, Ok, refl, sym, ap, ◌∙◌, subst, append_assoc, arith}
+use Rattle.std.specs.Fmt.{signed_decimal}
+use Rattle.std.specs.List.{list_all}
+use Rattle.std.proofs.lemmas.Bool.{and_parts}
+use Rattle.std.proofs.lemmas.Bool.Decides.{nat_tests}
+use Rattle.lc_base.specs.NameBytes.{is_letter, is_name_byte, IsName}
+use Rattle.contract_tokens.specs.declared.token.Token.{Token}
+use Rattle.contract_tokens.specs.declared.token.Word.{Word}
+use Rattle.contract_tokens.specs.declared.token.Word.TheVariants as w
+use Rattle.contract_tokens.specs.declared.token.Mark.{Mark}
+use Rattle.contract_tokens.specs.Lexemes.{is_digit, quote, backslash, quoted, Blank, IsLiteralBody, Nothing, Plain, EscapedQuote, EscapedBackslash, IsSpelled, MarkSpelled, NameSpelled, IntSpelled, TextSpelled, IsLexeme, MarkShape, IntShape, TextShape, IsLongest, is_blank}
+use Rattle.contract_tokens.specs.Spelling.{spelling}
+use Rattle.contract_tokens.specs.Steps.{short_sign, long_sign}
+use Rattle.contract_tokens.specs.Tokens.{behind, Skips, Takes, IsTokens}
+use Rattle.contract_tokens.proofs.Marks.{first_is, is_other, IsWritten, Keyword, Short, Long, written}
+use Rattle.contract_tokens.proofs.Runs.{Stops, nothing_more, list_all-append}
+use Rattle.contract_tokens.proofs.Shapes.{name_begins, decimal_passes, decimal_begins, body_unique}
+use Rattle.contract_tokens.proofs.Words.{is_signs, letter_lexeme, digit_lexeme, quote_lexeme, sign_lexeme}
+use Rattle.contract_grammar.proofs.Laws.{no_false}
+use Rattle.contract_print.specs.Canonical.{escaped, escaped_by, is_escaped}
+
+-- how a word is written
+abbrev pub word_text : Word → List ℕ
+word_text (w.Int value) = signed_decimal value
+word_text (w.Text text) = quoted (escaped text)
+word_text (w.Name name) = name
+word_text (w.Mark mark) = spelling mark
+word_text w.End = []
+
+abbrev pub sign_goes_on : ℕ → Bool
+sign_goes_on byte = byte == 61 || byte == 43
+
+abbrev pub mark_goes_on : Bool → ℕ → Bool
+mark_goes_on true byte = is_name_byte byte
+mark_goes_on false byte = sign_goes_on byte
+
+-- whether the byte behind a word would make it longer
+abbrev pub goes_on : Word → ℕ → Bool
+goes_on (w.Int value) byte = is_digit byte
+goes_on (w.Text text) byte = false
+goes_on (w.Name name) byte = is_name_byte byte
+goes_on (w.Mark mark) byte = mark_goes_on (first_is is_letter (spelling mark)) byte
+goes_on w.End byte = false
+
+-- ---- what a token says is written so
+
+plain_byte : (byte : ℕ) → (byte ≡ quote → ⊥) → (byte ≡ backslash → ⊥) → is_escaped byte ≡ false
+plain_byte byte q b = grind (arith, nat_tests)
+
+body_of : (body text : List ℕ) → IsLiteralBody body text → IsLiteralBody (escaped text) text
+body_of _ _ Nothing = Nothing
+body_of _ _ (Plain byte body text i q b h) =
+    let same : escaped_by (is_escaped byte) byte ++ escaped text ≡ byte ∷ escaped text = ap (λ v. escaped_by v byte ++ escaped text) (plain_byte byte q b) in
+    subst (λ l. IsLiteralBody l (byte ∷ text)) (sym same) (Plain byte (escaped text) text i q b (body_of body text h))
+body_of _ _ (EscapedQuote body text h) = EscapedQuote (escaped text) text (body_of body text h)
+body_of _ _ (EscapedBackslash body text h) = EscapedBackslash (escaped text) text (body_of body text h)
+
+pub respelled : (front : List ℕ) (word : Word) → IsSpelled front word → IsSpelled (word_text word) word
+respelled _ _ (MarkSpelled mark) = MarkSpelled mark
+respelled _ _ (NameSpelled name is free) = NameSpelled name is free
+respelled _ _ (IntSpelled n low) = IntSpelled n low
+respelled _ _ (TextSpelled body text h few) = TextSpelled (escaped text) text (body_of body text h) few
+
+-- ---- nothing longer stands there
+
+first_more : (p : ℕ → Bool) (front more : List ℕ) → first_is p front ≡ true → first_is p (front ++ more) ≡ true
+first_more p [] more h = absurd (no_false refl h)
+first_more p (byte ∷ front) more h = h
+
+pass_after : (p : ℕ → Bool) (rest more behind : List ℕ) → Stops p rest → rest ≡ more ++ behind → (front : List ℕ) → list_all p (front ++ more) ≡ true → more ≡ []
+pass_after p rest more behind s e front h = nothing_more p rest more behind s e (list_all-append p front more h).1
+
+stops_at : (p : ℕ → Bool) (rest more behind : List ℕ) (byte : ℕ) → Stops p rest → rest ≡ (byte ∷ more) ++ behind → p byte ≡ true → ⊥
+stops_at p rest more behind byte s e h = let k : p byte ≡ false = subst (Stops p) e s in no_false k h
+
+letters : (a : ℕ) → is_other a ≡ true → is_letter a ≡ true → ⊥
+letters a o l = grind arith
+
+signs : (a : ℕ) → is_other a ≡ true → is_signs a ≡ true
+signs a o = grind arith
+
+second : (a b : ℕ) (long short : Mark) → long_sign a b ≡ Some long → short_sign a ≡ Some short → sign_goes_on b ≡ true
+unfolding long_sign short_sign
+second a b long short e h = grind (arith, nat_tests)
+
+-- a sign that begins another is followed by what makes it longer
+longer_short : (a byte : ℕ) (more : List ℕ) (mark other : Mark) → short_sign a ≡ Some mark → is_other a ≡ true → spelling other ≡ a ∷ byte ∷ more → sign_goes_on byte ≡ true
+longer_short a byte more mark other h o e =
+    elim (written other) [
+      | Keyword l k ↦ absurd (letters a o (ap (first_is is_letter) (sym e) ∙ l))
+      | Short b s k p ↦ absurd (omega (arith, ap length (sym s ∙ e)))
+      | Long b c s k p ↦ (
+          let both : b ∷ c ∷ [] ≡ a ∷ byte ∷ more = sym s ∙ e in
+          let one : b ≡ a = cc in
+          let two : c ≡ byte = cc in
+          subst (λ v. sign_goes_on v ≡ true) two (second b c other mark k (ap short_sign one ∙ h)))
+    ]
+
+longer_long : (a b byte : ℕ) (more : List ℕ) (other : Mark) → is_other a ≡ true → spelling other ≡ a ∷ b ∷ byte ∷ more → ⊥
+longer_long a b byte more other o e =
+    elim (written other) [
+      | Keyword l k ↦ letters a o (ap (first_is is_letter) (sym e) ∙ l)
+      | Short c s k p ↦ omega (arith, ap length (sym s ∙ e))
+      | Long c d s k p ↦ omega (arith, ap length (sym s ∙ e))
+    ]
+
+no_letter : (a : ℕ) → is_other a ≡ true → is_letter a ≡ false
+no_letter a o = grind arith
+
+short_more : (mark : Mark) (a : ℕ) → spelling mark ≡ a ∷ [] → short_sign a ≡ Some mark → is_other a ≡ true → (rest more behind : List ℕ) → Stops sign_goes_on rest → rest ≡ more ++ behind → IsLexeme (spelling mark ++ more) → more ≡ []
+short_more mark a s h o rest [] behind stop e lex = refl
+short_more mark a s h o rest (byte ∷ more) behind stop e lex =
+    let begins : first_is is_signs (spelling mark ++ byte ∷ more) ≡ true = ap (λ l. first_is is_signs (l ++ byte ∷ more)) s ∙ signs a o in
+    let k = sign_lexeme (spelling mark ++ byte ∷ more) lex begins in
+    absurd (stops_at sign_goes_on rest more behind byte stop e (longer_short a byte more mark k.0 h o (k.1 ∙ ap (λ l. l ++ byte ∷ more) s)))
+
+long_more : (mark : Mark) (a b : ℕ) → spelling mark ≡ a ∷ b ∷ [] → is_other a ≡ true → (more : List ℕ) → IsLexeme (spelling mark ++ more) → more ≡ []
+long_more mark a b s o [] lex = refl
+long_more mark a b s o (byte ∷ more) lex =
+    let begins : first_is is_signs (spelling mark ++ byte ∷ more) ≡ true = ap (λ l. first_is is_signs (l ++ byte ∷ more)) s ∙ signs a o in
+    let k = sign_lexeme (spelling mark ++ byte ∷ more) lex begins in
+    absurd (longer_long a b byte more k.0 o (k.1 ∙ ap (λ l. l ++ byte ∷ more) s))
+
+mark_more : (mark : Mark) → IsWritten mark → (rest more behind : List ℕ) → Stops (mark_goes_on (first_is is_letter (spelling mark))) rest → rest ≡ more ++ behind → IsLexeme (spelling mark ++ more) → more ≡ []
+mark_more mark (Keyword l k) rest more behind stop e lex =
+    let test : Stops is_name_byte rest = subst (λ b. Stops (mark_goes_on b) rest) l stop in
+    pass_after is_name_byte rest more behind test e (spelling mark) (letter_lexeme (spelling mark ++ more) lex (first_more is_letter (spelling mark) more l))
+mark_more mark (Short a s h o) rest more behind stop e lex =
+    let no : first_is is_letter (spelling mark) ≡ false = ap (first_is is_letter) s ∙ no_letter a o in
+    short_more mark a s h o rest more behind (subst (λ b. Stops (mark_goes_on b) rest) no stop) e lex
+mark_more mark (Long a b s h o) rest more behind stop e lex = long_more mark a b s o more lex
+
+text_more : (body text : List ℕ) → IsLiteralBody body text → (more : List ℕ) → IsLexeme (quoted body ++ more) → more ≡ []
+text_more body text h more lex =
+    let k = quote_lexeme (quoted body ++ more) lex refl in
+    let inner : (body ++ quote ∷ []) ++ more ≡ k.0 ++ quote ∷ [] = ap (drop 1) k.2.is in
+    (body_unique body text more k.0 k.1 [] h k.2.means (sym (append_assoc body (quote ∷ []) more) ∙ inner)).2
+
+int_shape : (digits : List ℕ) → first_is is_digit digits ≡ true → list_all is_digit digits ≡ true → IsLexeme digits
+int_shape [] f h = absurd (no_false refl f)
+int_shape (byte ∷ more) f h = IntShape byte more f (and_parts (is_digit byte) (list_all is_digit more) h).1
+
+-- a word of a source
+pub record IsWord (word : Word) : Type 0 where
+  pub spelled : IsSpelled (word_text word) word
+  pub lexeme : IsLexeme (word_text word)
+
+name_in : (front name : List ℕ) → IsSpelled front (w.Name name) → IsName name
+name_in _ _ (NameSpelled name is free) = is
+
+text_in : (front text : List ℕ) → IsSpelled front (w.Text text) → IsLiteralBody (escaped text) text
+text_in _ _ (TextSpelled body text h few) = body_of body text h
+
+pub int_in : (front : List ℕ) (value : ℤ) → IsSpelled front (w.Int value) → (first_is is_digit (signed_decimal value) ≡ true) × (list_all is_digit (signed_decimal value) ≡ true)
+int_in _ _ (IntSpelled n low) = (decimal_begins n low, decimal_passes n low)
+
+no_end : (front : List ℕ) → IsSpelled front w.End → ⊥
+no_end front h = elim h [ ]
+
+pub longest_word : (word : Word) (rest : List ℕ) → IsWord word → Stops (goes_on word) rest → IsLongest (word_text word) rest
+longest_word (w.Mark mark) rest i stop = record { lexeme = i.lexeme; longest = λ more behind e lex. mark_more mark (written mark) rest more behind stop e lex }
+longest_word (w.Name name) rest i stop = record { lexeme = i.lexeme; longest = λ more behind e lex. pass_after is_name_byte rest more behind stop e name (letter_lexeme (name ++ more) lex (first_more is_letter name more (name_begins name (name_in name name i.spelled)))) }
+longest_word (w.Int value) rest i stop =
+    let k = int_in (signed_decimal value) value i.spelled in
+    record { lexeme = i.lexeme; longest = λ more behind e lex. pass_after is_digit rest more behind stop e (signed_decimal value) (digit_lexeme (signed_decimal value ++ more) lex (first_more is_digit (signed_decimal value) more k.0)) }
+longest_word (w.Text text) rest i stop = record { lexeme = i.lexeme; longest = λ more behind e lex. text_more (escaped text) text (text_in (quoted (escaped text)) text i.spelled) more lex }
+longest_word w.End rest i stop = absurd (no_end [] i.spelled)
+
+lexeme_of : (front : List ℕ) (word : Word) → IsSpelled front word → IsLexeme front → IsLexeme (word_text word)
+lexeme_of _ _ (MarkSpelled mark) lex = lex
+lexeme_of _ _ (NameSpelled name is free) lex = lex
+lexeme_of _ _ (IntSpelled n low) lex = lex
+lexeme_of _ _ (TextSpelled body text h few) lex = TextShape (escaped text) text (body_of body text h)
+
+pub word_of : (front : List ℕ) (word : Word) → IsSpelled front word → IsLexeme front → IsWord word
+word_of front word spelled lex = record { spelled = respelled front word spelled; lexeme = lexeme_of front word spelled lex }
+
+pub mark_word : (mark : Mark) → IsWord (w.Mark mark)
+mark_word mark = record { spelled = MarkSpelled mark; lexeme = MarkShape mark }
+
+-- a word that is followed by what can't make it longer is cut off
+pub take_word : (word : Word) (rest : List ℕ) (at : ℕ) (more : List Token) → IsWord word → Stops (goes_on word) rest → IsTokens (at + length (word_text word)) rest more → IsTokens at (word_text word ++ rest) (record { at = at; word = word } ∷ more)
+take_word word rest at more i stop h = Takes at (word_text word) rest word (Ok more) (longest_word word rest i stop) i.spelled h
+
+pub skip_blanks : (gap rest : List ℕ) (at : ℕ) (more : List Token) → list_all is_blank gap ≡ true → IsTokens (at + length gap) rest more → IsTokens at (gap ++ rest) more
+skip_blanks [] rest at more h i = let same : at + length {A = ℕ} [] ≡ at = omega arith in subst (λ n. IsTokens n rest more) same i
+skip_blanks (byte ∷ gap) rest at more h i =
+    let parts = and_parts (is_blank byte) (list_all is_blank gap) h in
+    let further : at + length (byte ∷ gap) ≡ (at + length (byte ∷ [])) + length gap = omega arith in
+    Skips at (byte ∷ []) (gap ++ rest) (Ok more) (Blank byte (gap ++ rest) parts.0) (skip_blanks gap rest (at + length (byte ∷ [])) more parts.1 (subst (λ n. IsTokens n rest more) further i))
+
+pub name_first : (name : List ℕ) → IsWord (w.Name name) → first_is is_letter name ≡ true
+name_first name i = name_begins name (name_in name name i.spelled)

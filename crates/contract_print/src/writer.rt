@@ -1,0 +1,79 @@
+//! Bytes that are written one behind another.
+
+ghost use Rattle.std.specs.Prelude.{◌≡◌, ◌++◌, OnOk};
+ghost use Rattle.std.specs.Fmt.{signed_decimal};
+ghost use Rattle.contract_print.specs.Canonical.{sign_text, kind_text, escaped, escaped_by, is_escaped};
+
+use contract_tree::{Sign, ValueKind};
+use lc_base::Memory;
+use std::alloc::Global;
+
+pub fn put(out: &mut Vec<u8>, bytes: &[u8]) -> Result<(), Memory>
+    ensures { OnOk result (out.new.items ≡ out.old.items ++ bytes.now) }
+{
+    out.extend_from_slice(bytes)?;
+    Ok(())
+}
+
+pub fn put_int(alloc: Global, out: &mut Vec<u8>, value: i64) -> Result<(), Memory>
+    ensures { OnOk result (out.new.items ≡ out.old.items ++ signed_decimal value) }
+{
+    let digits = value.to_string(alloc)?;
+    put(out, digits.as_bytes())
+}
+
+fn put_escaped(out: &mut Vec<u8>, byte: u8) -> Result<(), Memory>
+    ensures { OnOk result (out.new.items ≡ out.old.items ++ escaped_by (is_escaped byte) byte) }
+{
+    if byte == b'"' || byte == b'\\' {
+        out.push(b'\\')?;
+    }
+    out.push(byte)?;
+    Ok(())
+}
+
+pub fn put_text(out: &mut Vec<u8>, text: &[u8]) -> Result<(), Memory>
+    ensures { OnOk result (out.new.items ≡ out.old.items ++ escaped text.now) }
+{
+    for byte in text {
+        put_escaped(out, *byte)?;
+    }
+    Ok(())
+}
+
+fn sign_bytes(sign: Sign) -> &'static [u8]
+    ensures { result.now ≡ sign_text sign }
+{
+    match sign {
+        Sign::Or => b"||",
+        Sign::And => b"&&",
+        Sign::Equal => b"==",
+        Sign::NotEqual => b"!=",
+        Sign::Less => b"<",
+        Sign::LessEqual => b"<=",
+        Sign::Greater => b">",
+        Sign::GreaterEqual => b">=",
+        Sign::Concat => b"++",
+        Sign::Plus => b"+",
+        Sign::Minus => b"-",
+        Sign::Star => b"*",
+        Sign::Slash => b"/",
+        Sign::Percent => b"%",
+        Sign::Not => b"!",
+    }
+}
+
+pub fn put_sign(out: &mut Vec<u8>, sign: Sign) -> Result<(), Memory>
+    ensures { OnOk result (out.new.items ≡ out.old.items ++ sign_text sign) }
+{
+    put(out, sign_bytes(sign))
+}
+
+pub fn put_kind(out: &mut Vec<u8>, kind: ValueKind) -> Result<(), Memory>
+    ensures { OnOk result (out.new.items ≡ out.old.items ++ kind_text kind) }
+{
+    match kind {
+        ValueKind::Int => put(out, b"int"),
+        ValueKind::Text => put(out, b"text"),
+    }
+}
