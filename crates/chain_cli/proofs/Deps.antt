@@ -1,0 +1,88 @@
+-- One more dependency key.
+use Rattle.std.proofs.Common.{◌≡◌, ℕ, ◌+◌, ◌<◌, Bool, true, false, cond, not, ◌||◌, List, [], ◌∷◌, ◌++◌, length, get_or, take, filter, Option, Some, None, refl, sym, ap, ◌∙◌, inl, inr}
+use Rattle.std.specs.List.{filter_map, cons_option}
+use Rattle.std.specs.Cmp.Lexicographic.{bytes_decides}
+use Rattle.std.proofs.lemmas.Bool.{and_parts, and_from, eqb-true, eq-eqb, cases_Bool, both_ways}
+use Rattle.std.proofs.lemmas.List.{take_more, append-nil, get_or_read}
+use Rattle.std.proofs.lemmas.List.Elements.{filter-append, filter_map-append}
+use Rattle.lc_base.specs.declared.row.Dep.{Dep}
+use Rattle.lc_base.specs.declared.row.Row.{Row}
+use Rattle.chain_cli.specs.Effect.{is_same_dep, without_repeats, is_among, with_once, with_version, version_to_depend_on, deps_on}
+
+-- ---- the test tells dependencies apart
+
+pub same_is : (a b : Dep) → is_same_dep a b ≡ true → a ≡ b
+same_is a b same =
+    let parts = and_parts _ _ same in
+    let keys = (bytes_decides a.key b.key).0 parts.0 in
+    let blocks = eqb-true a.block b.block parts.1 in
+    ap (λ (k : List ℕ). record { key = k; block = a.block }) keys ∙ ap (λ (n : ℕ). record { key = b.key; block = n }) blocks
+
+pub is_same : (a b : Dep) → a ≡ b → is_same_dep a b ≡ true
+is_same a b e = and_from _ _ ((bytes_decides a.key b.key).1 (ap (λ (d : Dep). d.key) e)) (eq-eqb a.block b.block (ap (λ (d : Dep). d.block) e))
+
+-- ---- repeats
+
+abbrev others_than : Dep → List Dep → List Dep
+others_than dep deps = filter (λ other. not (is_same_dep dep other)) deps
+
+-- what is taken out is not the one looked for, if the two differ
+kept : (y x o : Dep) → is_same_dep y x ≡ false → is_same_dep o x ≡ true → not (is_same_dep y o) ≡ true
+kept y x o apart same =
+    elim (cases_Bool (is_same_dep y o)) [
+      | inl also ↦ absurd (both_ways (is_same_dep y x) apart (is_same y x (same_is y o also ∙ same_is o x same)))
+      | inr not_also ↦ ap not not_also
+    ]
+
+is_there-others : (y x : Dep) (deps : List Dep) → is_same_dep y x ≡ false → is_among (others_than y deps) x ≡ is_among deps x
+is_there-others y x [] apart = refl
+is_there-others y x (o ∷ deps) apart =
+    elim (cases_Bool (is_same_dep o x)) [
+      | inl same ↦ ap (λ (b : Bool). is_among (cond b (o ∷ others_than y deps) (others_than y deps)) x) (kept y x o apart same) ∙ ap (λ (b : Bool). b || is_among (others_than y deps) x) same ∙ sym (ap (λ (b : Bool). b || is_among deps x) same)
+      | inr differ ↦
+          elim (cases_Bool (not (is_same_dep y o))) [
+            | inl stays ↦ ap (λ (b : Bool). is_among (cond b (o ∷ others_than y deps) (others_than y deps)) x) stays ∙ ap (λ (b : Bool). is_same_dep o x || b) (is_there-others y x deps apart)
+            | inr goes ↦ ap (λ (b : Bool). is_among (cond b (o ∷ others_than y deps) (others_than y deps)) x) goes ∙ is_there-others y x deps apart ∙ sym (ap (λ (b : Bool). b || is_among deps x) differ)
+          ]
+    ]
+
+-- one more dependency behind a list without repeats
+pub without_repeats-push : (deps : List Dep) (x : Dep) → without_repeats (deps ++ x ∷ []) ≡ with_once (without_repeats deps) x
+without_repeats-push [] x = refl
+without_repeats-push (y ∷ deps) x =
+    let w : List Dep = without_repeats deps in
+    let by_rest : without_repeats (y ∷ (deps ++ x ∷ [])) ≡ y ∷ others_than y (with_once w x) = ap (λ (ds : List Dep). y ∷ others_than y ds) (without_repeats-push deps x) in
+    let pushed : others_than y (w ++ x ∷ []) ≡ others_than y w ++ others_than y (x ∷ []) = filter-append (λ other. not (is_same_dep y other)) w (x ∷ []) in
+    by_rest ∙ elim (cases_Bool (is_same_dep y x)) [
+      | inl same ↦
+          let alone : others_than y (x ∷ []) ≡ [] = ap (λ (b : Bool). cond (not b) (x ∷ []) []) same in
+          let gone : others_than y (w ++ x ∷ []) ≡ others_than y w = pushed ∙ ap (λ (ds : List Dep). others_than y w ++ ds) alone ∙ append-nil (others_than y w) in
+          let left : others_than y (with_once w x) ≡ others_than y w =
+          elim (cases_Bool (is_among w x)) [
+            | inl there ↦ ap (λ (b : Bool). others_than y (cond b w (w ++ x ∷ []))) there
+            | inr absent ↦ ap (λ (b : Bool). others_than y (cond b w (w ++ x ∷ []))) absent ∙ gone
+          ] in
+          ap (λ (ds : List Dep). y ∷ ds) left ∙ sym (ap (λ (b : Bool). cond (b || is_among (others_than y w) x) (y ∷ others_than y w) (y ∷ (others_than y w ++ x ∷ []))) same)
+      | inr apart ↦
+          let alone : others_than y (x ∷ []) ≡ x ∷ [] = ap (λ (b : Bool). cond (not b) (x ∷ []) []) apart in
+          let right : with_once (y ∷ others_than y w) x ≡ cond (is_among w x) (y ∷ others_than y w) (y ∷ (others_than y w ++ x ∷ [])) =
+          ap (λ (b : Bool). cond (b || is_among (others_than y w) x) (y ∷ others_than y w) (y ∷ (others_than y w ++ x ∷ []))) apart
+          ∙ ap (λ (b : Bool). cond b (y ∷ others_than y w) (y ∷ (others_than y w ++ x ∷ []))) (is_there-others y x w apart) in
+          elim (cases_Bool (is_among w x)) [
+            | inl there ↦ ap (λ (b : Bool). y ∷ others_than y (cond b w (w ++ x ∷ []))) there ∙ sym (right ∙ ap (λ (b : Bool). cond b (y ∷ others_than y w) (y ∷ (others_than y w ++ x ∷ []))) there)
+            | inr absent ↦ ap (λ (b : Bool). y ∷ others_than y (cond b w (w ++ x ∷ []))) absent ∙ ap (λ (ds : List Dep). y ∷ ds) (pushed ∙ ap (λ (ds : List Dep). others_than y w ++ ds) alone)
+                ∙ sym (right ∙ ap (λ (b : Bool). cond b (y ∷ others_than y w) (y ∷ (others_than y w ++ x ∷ []))) absent)
+          ]
+    ]
+
+-- ---- one more key
+
+with_found : (deps : List Dep) (found : Option Dep) → without_repeats (deps ++ cons_option found []) ≡ with_version (without_repeats deps) found
+with_found deps None = ap without_repeats (append-nil deps)
+with_found deps (Some dep) = without_repeats-push deps dep
+
+pub deps_on_more : (rows : List Row) (keys : List (List ℕ)) (i : ℕ) (key : List ℕ) → i < length keys → key ≡ get_or keys i key → deps_on rows (take (i + 1) keys) ≡ with_version (deps_on rows (take i keys)) (version_to_depend_on rows key)
+deps_on_more rows keys i key within is =
+    let f : List ℕ → Option Dep = version_to_depend_on rows in
+    ap (λ (ks : List (List ℕ)). without_repeats (filter_map f ks)) (take_more keys i [] within ∙ ap (λ (k : List ℕ). take i keys ++ k ∷ []) (sym (get_or_read keys i key within is [])))
+    ∙ ap without_repeats (filter_map-append f (take i keys) (key ∷ [])) ∙ with_found (filter_map f (take i keys)) (f key)

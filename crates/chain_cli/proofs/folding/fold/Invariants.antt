@@ -1,0 +1,9 @@
+use Rattle.std.proofs.Common.{◌-◌}
+use Rattle.chain_cli.proofs.Turns.{IsFolding}
+use Rattle.chain_cli.proofs.folding.fold.Given as goal
+
+abbrev pub invariant-turns : goal.invariant-turns
+invariant-turns g l = IsFolding (g.I.Source.left l.initial.source) (g.I.Source.left l.source) (g.I.Source.source_faults l.initial.source) (g.I.Source.source_faults l.source) l.frames l.chain
+
+abbrev pub decreases-turns : goal.decreases-turns
+decreases-turns g l = 2097153 - l.frames

@@ -1,0 +1,9 @@
+pub mod Words
+pub mod Texts
+pub mod Whole
+pub mod Lines
+pub mod Effect
+pub mod Chain
+pub mod Output
+pub mod Scanning
+pub mod Telling

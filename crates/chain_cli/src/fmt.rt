@@ -1,0 +1,156 @@
+//! The command `fmt`: the canonical text of a contract, or its first fault.
+
+ghost use Rattle.std.specs.Prelude.{◌≡◌, ◌≤◌, ℕ, List, [], ◌∷◌, ◌++◌, length, string_bytes, IfOk, IfSome, OnOk};
+ghost use Rattle.contract_tree.specs.Tree.{contract_of};
+ghost use Rattle.contract_check.specs.Faults.{check_fault};
+ghost use Rattle.chain_cli.specs.Lines.{syntax_word, syntax_cause, check_word, check_cause};
+ghost use Rattle.chain_cli.specs.Output.{bad_input, of_judged, IsFmt, output_of};
+ghost use Rattle.chain_cli.specs.Scanning.{HasStopCause, IsFmtOutcome};
+ghost use Rattle.chain_cli.specs.Texts.{last_line, lines_behind, lines_of};
+
+use crate::lines::bad_input_line;
+use crate::outcome::{Ending, Outcome};
+use crate::stop::Stop;
+use crate::whole::read_whole;
+use contract_check::{CheckError, CheckKind, check};
+use contract_parse::{Contract, SyntaxError, SyntaxKind, parse};
+use contract_print::print;
+use lc_base::{Bytes, Memory, Seq, Source};
+use std::alloc::{AllocError, Global};
+use std::mem;
+
+/// One byte more of a text that is cut into lines: `line` has the bytes behind the last line end.
+fn put_byte(
+    alloc: Global,
+    lines: &mut Seq<Bytes>,
+    line: &mut Vec<u8>,
+    byte: u8,
+) -> Result<(), Memory>
+    ensures { OnOk result ((bytes : List ℕ) → lines.new ++ lines_behind line.new.items bytes ≡ lines.old ++ lines_behind line.old.items (byte ∷ bytes)) }
+{
+    line.push(byte)?;
+    if byte == b'\n' {
+        let whole = mem::replace(line, Vec::new(alloc));
+        lines.push(Bytes::from_vec(whole))?;
+    }
+    Ok(())
+}
+
+/// Puts what stands behind the last line end behind the lines, where something does.
+fn put_rest(lines: &mut Seq<Bytes>, line: Vec<u8>) -> Result<(), Memory>
+    ensures { OnOk result (lines.new ≡ lines.old ++ last_line line.items) }
+{
+    if line.is_empty() {
+        return Ok(());
+    }
+    lines.push(Bytes::from_vec(line))
+}
+
+/// A text, cut behind each line end.
+fn lines_of(alloc: Global, text: &[u8]) -> Result<Seq<Bytes>, Memory>
+    ensures { IfOk result (λ lines. lines ≡ lines_of text.now) }
+{
+    let mut lines = Seq::new(alloc);
+    let mut line = Vec::new(alloc);
+    for byte in text {
+        put_byte(alloc, &mut lines, &mut line, *byte)?;
+    }
+    put_rest(&mut lines, line)?;
+    Ok(lines)
+}
+
+/// An input that is not of its grammar, or too long.
+fn bad_input(alloc: Global, cause: &str) -> Result<Outcome, Memory>
+    ensures { IfOk result (λ outcome. outcome ≡ bad_input cause.now) }
+{
+    Outcome::of_line(alloc, bad_input_line(alloc, cause)?, Ending::BadInput)
+}
+
+fn syntax_word(kind: SyntaxKind) -> &'static str
+    ensures { result.now ≡ syntax_word kind }
+{
+    match kind {
+        SyntaxKind::Byte => "byte",
+        SyntaxKind::Literal => "literal",
+        SyntaxKind::Expected => "expected",
+        SyntaxKind::End => "end",
+        SyntaxKind::Deep => "deep",
+    }
+}
+
+fn check_word(kind: CheckKind) -> &'static str
+    ensures { result.now ≡ check_word kind }
+{
+    match kind {
+        CheckKind::Unknown => "unknown",
+        CheckKind::Again => "again",
+        CheckKind::Count => "count",
+        CheckKind::Kind => "kind",
+    }
+}
+
+fn syntax_cause(alloc: Global, at: u32, kind: SyntaxKind) -> Result<String, AllocError>
+    ensures { IfOk result (λ text. string_bytes text ≡ syntax_cause at kind) }
+{
+    let word = syntax_word(kind);
+    let text = format!(in alloc; "syntax {at} {word}")?;
+    Ok(text)
+}
+
+fn check_cause(alloc: Global, at: u32, kind: CheckKind) -> Result<String, AllocError>
+    ensures { IfOk result (λ text. string_bytes text ≡ check_cause (record { at = at; kind = kind })) }
+{
+    let word = check_word(kind);
+    let text = format!(in alloc; "check {at} {word}")?;
+    Ok(text)
+}
+
+/// What is told of a contract: its canonical text, unless a name or a kind is at fault.
+fn of_contract(alloc: Global, contract: Contract) -> Result<Outcome, Memory>
+    ensures { IfOk result (λ outcome. outcome ≡ of_judged (contract_of contract) (check_fault (contract_of contract))) }
+{
+    match check(alloc, contract) {
+        Ok(checked) => {
+            let text = print(alloc, checked.contract())?;
+            Ok(Outcome {
+                lines: lines_of(alloc, text.as_bytes())?,
+                ending: Ending::Done,
+            })
+        }
+        Err(CheckError::Refused { at, kind }) => {
+            let cause = check_cause(alloc, at, kind)?;
+            bad_input(alloc, cause.as_str())
+        }
+        Err(CheckError::Memory) => Err(Memory),
+    }
+}
+
+/// What is told of a source that was read whole.
+fn of_source(alloc: Global, source: &[u8]) -> Result<Outcome, Memory>
+    requires { length source.now ≤ 67108864 }
+    ensures { IfOk result (λ outcome. IsFmt source.now (output_of outcome [])) }
+{
+    match parse(alloc, source) {
+        Ok(contract) => {
+            let outcome = of_contract(alloc, contract)?;
+            Ok(outcome)
+        }
+        Err(SyntaxError::Refused { at, kind }) => {
+            let cause = syntax_cause(alloc, at, kind)?;
+            let outcome = bad_input(alloc, cause.as_str())?;
+            Ok(outcome)
+        }
+        Err(SyntaxError::Memory) => Err(Memory),
+    }
+}
+
+/// The canonical text of the contract that the input is, or its first fault.
+pub fn fmt<I: Source>(alloc: Global, source: &mut I) -> Result<Outcome, Stop>
+    ensures outcome { IfSome (I.left source.old) (λ input. IfOk result (λ outcome. IsFmtOutcome outcome (I.left source.new) input)) }
+    ensures cause { HasStopCause (I.source_faults source.old) (I.source_faults source.new) result }
+{
+    match read_whole(alloc, source)? {
+        None => Ok(bad_input(alloc, "long")?),
+        Some(bytes) => Ok(of_source(alloc, bytes.as_bytes())?),
+    }
+}

@@ -1,0 +1,51 @@
+//! The program: a ledger at the command line.
+#![tactic(auto)]
+
+mod cause;
+mod chain;
+mod effect;
+mod fmt;
+mod folding;
+mod lines;
+mod outcome;
+mod run;
+mod scan;
+mod status;
+mod stop;
+mod whole;
+mod words;
+
+use crate::run::run;
+use crate::status::Status;
+use lc_base::{HostSource, HostWire};
+use std::io::ErrorKind;
+use std::process::ExitCode;
+use std::{env, io};
+
+#[cfg(test)]
+mod tests;
+
+/// The words after the program's name.
+fn words_of(rt: &HostRuntime) -> io::Result<Vec<String>> {
+    let mut words = Vec::new(rt.alloc());
+    for word in env::args(rt)?.skip(1) {
+        words.push(word)?;
+    }
+    Ok(words)
+}
+
+fn run_over_host(rt: &HostRuntime, words: &[String]) -> Status {
+    let mut source = HostSource::new(rt.stdin());
+    let mut machine = HostWire::new(rt.stdout());
+    run(rt.alloc(), words, &mut source, &mut machine)
+}
+
+fn main(rt: HostRuntime) -> ExitCode {
+    let status = match words_of(&rt) {
+        Ok(words) => run_over_host(&rt, &words),
+        Err(error) if error.kind() == ErrorKind::OutOfMemory => Status::Memory,
+        // A word that is no text is part of no command.
+        Err(_) => run_over_host(&rt, &[]),
+    };
+    ExitCode::from(status as u8)
+}
