@@ -7,7 +7,7 @@ use Rattle.contract_tokens.specs.declared.token.Word.TheVariants as w
 use Rattle.contract_tree.specs.Tree.{FunctionTree}
 use Rattle.contract_grammar.specs.declared.Obstacle.{Obstacle}
 use Rattle.contract_grammar.specs.declared.Obstacle.TheVariants.{Unfit, Surplus, Pending, Nesting, Height, Turns}
-use Rattle.contract_grammar.specs.Faults.{Fits, Allows, Allows_by, IsFault}
+use Rattle.contract_grammar.specs.Faults.{Fits, Allows, Allows_by, IsTooHigh, IsFault}
 use Rattle.contract_grammar.specs.Grammar.{Within, limit_if, limits_of, limits, no_limits, IsContract}
 use Rattle.contract_grammar.specs.Marks.{is, has, is_end, is_no_end, name_of, opens}
 use Rattle.contract_grammar.specs.Reading.{function, contract}
@@ -16,6 +16,7 @@ use Rattle.contract_grammar.proofs.Laws.{Agrees, IsRule, has_end, err_is, no_ok,
 use Rattle.contract_grammar.proofs.Choice.{turns_end}
 use Rattle.contract_grammar.proofs.Parts.{IsFair, token}
 use Rattle.contract_grammar.proofs.ContractRules.{contract_rule}
+use Rattle.contract_grammar.proofs.SeenContracts.{contract_high}
 
 -- what is excused where a limit is not looked at
 abbrev Unlimited : Bool → Type 0
@@ -124,13 +125,18 @@ module _ (u y : List Token) (t : Token) (why : Obstacle) (e : contract (u ++ t �
   not_allowed : (p n h q : Bool) → (Excused p n h q why → ⊥) → Allows (limits_of p n h q) u t → ⊥
   not_allowed p n h q not = not_allowed_by p n h q (is_end t) not refl
 
+too_high : (u y : List Token) (t : Token) (at : ℕ) → contract (u ++ t ∷ y) ≡ (Err (Height at), t ∷ y) → IsTooHigh u at
+too_high u y t at e =
+    let k = contract_high (fair_of false false false false) (refl, refl, refl, refl) (fair_of false false true false) (u ++ t ∷ y) (t ∷ y) at e in
+    record { front = k.front; tokens = k.tokens; more = k.more; before_is = append_cancel_right u (k.front ++ k.tokens) (t ∷ y) (k.path ∙ sym (append_assoc k.front k.tokens (t ∷ y))); pending = k.pending; level = k.level; tree = k.tree; is_expression = k.is_expression; place_is = k.place_is; height_is = k.height_is; all = k.made; stands = k.stands }
+
 -- where the reader is stopped, the first fault is told
 pub refused : (why : Obstacle) (u y : List Token) (t : Token) → length (u ++ t ∷ y) < many → contract (u ++ t ∷ y) ≡ (Err why, t ∷ y) → IsFault why u t
 refused Unfit u y t few e = (before_fits u y t Unfit e, not_allowed u y t Unfit e false false false false (λ x. x))
 refused Surplus u y t few e = let k = limit_told u y t Surplus e refl in (k.0, k.1, not_allowed u y t Surplus e false false false true (λ x. x))
 refused Pending u y t few e = let k = limit_told u y t Pending e refl in (k.0, k.1, not_allowed u y t Pending e true false false false (λ x. x))
 refused Nesting u y t few e = let k = limit_told u y t Nesting e refl in (k.0, k.1, not_allowed u y t Nesting e false true false false (λ x. x))
-refused (Height at) u y t few e = (before_fits u y t (Height at) e, not_allowed u y t (Height at) e false false true false (λ x. x))
+refused (Height at) u y t few e = (too_high u y t at e, not_allowed u y t (Height at) e false false true false (λ x. x))
 refused Turns u y t few e = (rule true true true true).enough (u ++ t ∷ y) (t ∷ y) few e
 
 -- the end of a source comes last, and no other token is it

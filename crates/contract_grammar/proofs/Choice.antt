@@ -236,7 +236,7 @@ put_is IsItem had y b (Seq y1 z a _ i r) =
     (a, k.1, subst (λ m. IsItem (length had) m a) (sym (ap (λ m. y1 ++ m) k.0 ∙ append-nil y1)) i)
 
 module _ {A : Type 0} (IsItem : ℕ → List Token → A → Type 0) where
-  to_each : (had : List A) (front : List Token) (all : List A) → IsTurns (λ all. IsSeq (IsItem (length all)) (λ a. IsRet (all ++ a ∷ []))) had front all → IsMoreOf IsItem had front all
+  pub to_each : (had : List A) (front : List Token) (all : List A) → IsTurns (λ all. IsSeq (IsItem (length all)) (λ a. IsRet (all ++ a ∷ []))) had front all → IsMoreOf IsItem had front all
   to_each had front all (Over _) = ([], sym (append-nil had), Nothing (length had))
   to_each had front all (Turn _ b _ y z i j) =
       let k = put_is IsItem had y b i in

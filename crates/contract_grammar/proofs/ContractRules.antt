@@ -81,7 +81,7 @@ open_statements d n f ss (Then _ y s z more i j) =
     let r = open_statements d (suc n) z more j in
     record { y = y ++ r.y; c = r.c; end = r.end; items = s ∷ r.items; path = ap (λ v. y ++ v) r.path ∙ sym (append_assoc y r.y (r.c ∷ [])); tree_is = ap (λ v. statements s v) r.tree_is; all = Each n s r.items y r.y i r.all; closes = r.closes }
 
-block_to : {l : Limits} (d : ℕ) (f : List Token) (ss : StatementTrees) → IsAllowed (Within l.nesting d) (IsBlockBy l d) f ss → IsBlock l d f ss
+pub block_to : {l : Limits} (d : ℕ) (f : List Token) (ss : StatementTrees) → IsAllowed (Within l.nesting d) (IsBlockBy l d) f ss → IsBlock l d f ss
 block_to {l} d f ss (may, Seq _ _ at _ (One o _ e) (Seq y _ had _ i (Seq _ z end _ (One c _ h) r))) =
     let q = ret_is r in
     let listed : IsStatements l d (y ++ c ∷ []) (statement_list i.0) = close_statements d 0 y i.0 i.2 c end h in
@@ -94,10 +94,10 @@ block_from {l} d f ss (Block _ o at z _ e may i) =
     let made : IsBlockBy l d (o ∷ (r.y ++ r.c ∷ [])) (statement_list r.items) = Seq (o ∷ []) (r.y ++ r.c ∷ []) at (statement_list r.items) (One o at e) (Seq r.y (r.c ∷ []) r.items (statement_list r.items) (r.items, refl, r.all) closed) in
     (may, subst (λ v. IsBlockBy l d (o ∷ v) ss) (sym r.path) (subst (λ v. IsBlockBy l d (o ∷ (r.y ++ r.c ∷ [])) v) (sym r.tree_is) made))
 
-brace_token : Token
+pub brace_token : Token
 brace_token = token (w.Mark m.BraceClose)
 
-brace_is : the m.BraceClose brace_token ≡ Some 0
+pub brace_is : the m.BraceClose brace_token ≡ Some 0
 unfolding brace_token
 brace_is = refl
 
@@ -144,7 +144,7 @@ module _ {l : Limits} {E : Obstacle → Type 0} {U : Type 0} (fair : IsFair l E 
 abbrev pub IsParamBy : Limits → ℕ → List Token → Param → Type 0
 IsParamBy l n = IsSeq (IsAllowed (Within l.parameters (suc n)) (IsOne declared_of)) (λ name. IsSeq (IsOne (the m.Colon)) (λ p. IsSeq (IsOne kind_of) (λ kind. IsRet (a_param name kind))))
 
-param_to : {l : Limits} (n : ℕ) (f : List Token) (x : Param) → IsParamBy l n f x → IsParam l n f x
+pub param_to : {l : Limits} (n : ℕ) (f : List Token) (x : Param) → IsParamBy l n f x → IsParam l n f x
 param_to {l} n f x (Seq _ _ name _ (may, One t _ e) (Seq _ _ p _ (One c _ g) (Seq _ z kind _ (One o _ h) r))) =
     let q = ret_is r in
     subst (λ v. IsParam l n (t ∷ c ∷ o ∷ v) x) (sym q.0) (subst (λ v. IsParam l n (t ∷ c ∷ o ∷ []) v) (sym q.1) (IsOneParam n t name c p o kind e may g h))
@@ -213,7 +213,7 @@ end_leaves t h = grind arith
 abbrev pub IsFunctionBy : Limits → List Token → FunctionTree → Type 0
 IsFunctionBy l = IsSeq (IsOne (the m.Fn)) (λ at. IsSeq (IsOne declared_of) (λ name. IsSeq (IsParams l) (λ ps. IsSeq (IsBlock l 1) (λ body. IsRet (a_function name ps body)))))
 
-function_to : {l : Limits} (f : List Token) (x : FunctionTree) → IsFunctionBy l f x → IsFunction l f x
+pub function_to : {l : Limits} (f : List Token) (x : FunctionTree) → IsFunctionBy l f x → IsFunction l f x
 function_to {l} f x (Seq _ _ at _ (One t _ e) (Seq _ _ name _ (One n _ g) (Seq y z ps _ i j))) =
     let q = nothing_behind j in
     subst (λ v. IsFunction l (t ∷ n ∷ (y ++ z)) v) (sym q.1) (IsOneFunction t at n name y ps z q.0 e g i q.2)

@@ -37,15 +37,15 @@ expression_is {l} {d} {y} {x} i = Tighter d 5 y x (Tighter d 4 y x (Tighter d 3 
 pending_not_turns : ◌≡◌ {A = Obstacle} Pending Turns → ⊥
 pending_not_turns e = cc
 
-close_token : Token
+pub close_token : Token
 close_token = token (w.Mark m.ParenClose)
 
-close_is : the m.ParenClose close_token ≡ Some 0
+pub close_is : the m.ParenClose close_token ≡ Some 0
 unfolding close_token
 close_is = refl
 
 module _ {l : Limits} {E : Obstacle → Type 0} {U : Type 0} (fair : IsFair l E U) (d : ℕ) where
-  args_rule : {expression : Rule Tree} → IsRule E U many expression (IsExpr l d 6) (stops 6) → IsRule E U many (after m.ParenOpen (args expression)) (IsArgs l d) (stops 0)
+  pub args_rule : {expression : Rule Tree} → IsRule E U many expression (IsExpr l d 6) (stops 6) → IsRule E U many (after m.ParenOpen (args expression)) (IsArgs l d) (stops 0)
   args_rule h =
       let more = more_rule fair {T = stops 0} m.ParenClose h comma_stops close_stops close_no_comma in
       let more_leads = leads_start (stops 6) (stops 6) (stops 0) (IsMoreOfThem (IsExpr l d 6) m.ParenClose) (more_stops (stops 6) m.ParenClose comma_stops close_stops) (λ t e. e) in

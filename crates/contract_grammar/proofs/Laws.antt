@@ -143,7 +143,7 @@ one_leaves : {A : Type 0} (o : Option A) (t : Token) (ts rest : List Token) (why
 one_leaves None t ts rest why e = let k = err_is e in (sym k.0, k.1)
 one_leaves (Some b) t ts rest why e = absurd (no_err e)
 
-one_stops : {A : Type 0} (f : Token → Option A) (ts rest : List Token) (why : Obstacle) → one f ts ≡ (Err why, rest) → (why ≡ Unfit) × (ts ≡ rest)
+pub one_stops : {A : Type 0} (f : Token → Option A) (ts rest : List Token) (why : Obstacle) → one f ts ≡ (Err why, rest) → (why ≡ Unfit) × (ts ≡ rest)
 one_stops f [] rest why e = let k = err_is e in (sym k.0, k.1)
 one_stops f (t ∷ ts) rest why e = one_leaves (f t) t ts rest why e
 
@@ -163,7 +163,7 @@ one_same_all : {A : Type 0} (f : Token → Option A) (u v y z : List Token) (t :
 one_same_all f [] v y z t r e = one_first (f t) r v y z t e
 one_same_all f (s ∷ u) v y z t r e = one_same (f s) r s u v y z t e
 
-one_takes_all : {A : Type 0} (f : Token → Option A) (ts rest : List Token) (a : A) → one f ts ≡ (Ok a, rest) → (front : List Token) × (ts ≡ front ++ rest) × IsOne f front a
+pub one_takes_all : {A : Type 0} (f : Token → Option A) (ts rest : List Token) (a : A) → one f ts ≡ (Ok a, rest) → (front : List Token) × (ts ≡ front ++ rest) × IsOne f front a
 one_takes_all f [] rest a e = absurd (no_ok e)
 one_takes_all f (t ∷ ts) rest a e = one_takes f (f t) t ts rest a refl e
 

@@ -32,7 +32,7 @@ sign_no_end : (n : ℕ) (t : Token) (s : ℕ × Sign) → sign_of n t ≡ Some s
 sign_no_end n t s h = grind arith
 
 -- an operator of each level
-sample : ℕ → Word
+pub sample : ℕ → Word
 sample zero = w.Mark m.Star
 sample (suc zero) = w.Mark m.Plus
 sample (suc (suc zero)) = w.Mark m.Concat
@@ -40,7 +40,7 @@ sample (suc (suc (suc zero))) = w.Mark m.Equal
 sample (suc (suc (suc (suc zero)))) = w.Mark m.And
 sample _ = w.Mark m.Or
 
-sample_sign : ℕ → Sign
+pub sample_sign : ℕ → Sign
 sample_sign zero = s.Star
 sample_sign (suc zero) = s.Plus
 sample_sign (suc (suc zero)) = s.Concat
@@ -48,7 +48,7 @@ sample_sign (suc (suc (suc zero))) = s.Equal
 sample_sign (suc (suc (suc (suc zero)))) = s.And
 sample_sign _ = s.Or
 
-sample_is : (k : ℕ) → k < 6 → sign_of (suc k) (token (sample k)) ≡ Some (0, sample_sign k)
+pub sample_is : (k : ℕ) → k < 6 → sign_of (suc k) (token (sample k)) ≡ Some (0, sample_sign k)
 unfolding sample sample_sign
 sample_is zero h = refl
 sample_is (suc zero) h = refl
@@ -63,23 +63,23 @@ abbrev pub IsBinary : Limits → ℕ → ℕ → Tree → List Token → Tree �
 IsBinary l d k x = IsSeq (IsOne (sign_of (suc k))) (λ s. IsSeq (IsExpr l d k) (λ w. IsGuarded (Within l.height (height (tree.Binary s.0 s.1 x w))) (tree.Binary s.0 s.1 x w)))
 
 -- the same with its parts by name
-record IsBinaryOf (l : Limits) (d k : ℕ) (x : Tree) (front : List Token) (b : Tree) : Type 0 where
-  t : Token
-  s : ℕ × Sign
-  z : List Token
-  right : Tree
-  front_is : front ≡ t ∷ z
-  tree_is : b ≡ tree.Binary s.0 s.1 x right
-  sign_is : sign_of (suc k) t ≡ Some s
-  right_is : IsExpr l d k z right
-  low : Within l.height (height (tree.Binary s.0 s.1 x right))
+pub record IsBinaryOf (l : Limits) (d k : ℕ) (x : Tree) (front : List Token) (b : Tree) : Type 0 where
+  pub t : Token
+  pub s : ℕ × Sign
+  pub z : List Token
+  pub right : Tree
+  pub front_is : front ≡ t ∷ z
+  pub tree_is : b ≡ tree.Binary s.0 s.1 x right
+  pub sign_is : sign_of (suc k) t ≡ Some s
+  pub right_is : IsExpr l d k z right
+  pub low : Within l.height (height (tree.Binary s.0 s.1 x right))
 
 binary_is_in : {l : Limits} {d k : ℕ} {x : Tree} (t : Token) (s : ℕ × Sign) (e : sign_of (suc k) t ≡ Some s) (y : List Token) (b : Tree) → IsSeq (IsExpr l d k) (λ w. IsGuarded (Within l.height (height (tree.Binary s.0 s.1 x w))) (tree.Binary s.0 s.1 x w)) y b → IsBinaryOf l d k x (t ∷ y) b
 binary_is_in t s e y b (Seq z n w _ j g) =
     let q = guarded_is g in
     record { t = t; s = s; z = z; right = w; front_is = ap (λ v. t ∷ v) (ap (λ v. z ++ v) q.0 ∙ append-nil z); tree_is = q.1; sign_is = e; right_is = j; low = q.2 }
 
-binary_is : {l : Limits} {d k : ℕ} {x : Tree} {front : List Token} {b : Tree} → IsBinary l d k x front b → IsBinaryOf l d k x front b
+pub binary_is : {l : Limits} {d k : ℕ} {x : Tree} {front : List Token} {b : Tree} → IsBinary l d k x front b → IsBinaryOf l d k x front b
 binary_is (Seq y z s b (One t _ e) i) = binary_is_in t s e z b i
 
 module _ {l : Limits} {d k : ℕ} where
@@ -145,7 +145,7 @@ abbrev pub IsRest : Limits → ℕ → ℕ → Bool → Tree → List Token → 
 IsRest l d k true x = IsTurns (IsBinary l d k) x
 IsRest l d k false x = IsEither (IsBinary l d k x) (IsRet x)
 
-level_to : {l : Limits} {d k : ℕ} (b : Bool) → is_chained (suc k) ≡ b → (front : List Token) (x : Tree) → IsSeq (IsExpr l d k) (IsRest l d k b) front x → IsExpr l d (suc k) front x
+pub level_to : {l : Limits} {d k : ℕ} (b : Bool) → is_chained (suc k) ≡ b → (front : List Token) (x : Tree) → IsSeq (IsExpr l d k) (IsRest l d k b) front x → IsExpr l d (suc k) front x
 level_to {l} {d} {k} true c front x (Seq y z a _ i j) = chain_to c y a (Tighter d k y a i) z x j
 level_to {l} {d} {k} false c front x (Seq y z a _ i (inl j)) =
     let q = binary_is j in
@@ -160,7 +160,7 @@ level_from {l} {d} {k} true c front x i = split (suc k) front x i k refl c
 level_from {l} {d} {k} false c front x i = split_once (suc k) front x i k refl c
 
 module _ {l : Limits} {E : Obstacle → Type 0} {U : Type 0} (fair : IsFair l E U) (d : ℕ) where
-  binary_rule : (k : ℕ) → k < 6 → {tighter : Rule Tree} → IsRule E U many tighter (IsExpr l d k) (stops k) → (x : Tree) → IsRule E U many (binary (suc k) tighter x) (IsBinary l d k x) (stops k)
+  pub binary_rule : (k : ℕ) → k < 6 → {tighter : Rule Tree} → IsRule E U many tighter (IsExpr l d k) (stops k) → (x : Tree) → IsRule E U many (binary (suc k) tighter x) (IsBinary l d k x) (stops k)
   binary_rule k low h x =
       let made = λ (s : ℕ × Sign). seq_rule h (λ w. node_rule fair {S = stops k} s.0 (tree.Binary s.0 s.1 x w)) (leads_guarded (stops k) (stops k) (λ w. Within l.height (height (tree.Binary s.0 s.1 x w))) (λ w. tree.Binary s.0 s.1 x w) (λ t e. e)) in
       seq_rule (one_rule {S = any} (sign_of (suc k)) (token (sample k)) (0, sample_sign k) (sample_is k low) (sign_no_end (suc k))) made (leads_any (λ s. IsSeq (IsExpr l d k) (λ w. IsGuarded (Within l.height (height (tree.Binary s.0 s.1 x w))) (tree.Binary s.0 s.1 x w))) (stops k))

@@ -9,5 +9,8 @@ pub mod Expressions
 pub mod Statements
 pub mod StatementRules
 pub mod ContractRules
+pub mod Seen
+pub mod SeenExpressions
+pub mod SeenContracts
 pub mod Answers
 pub mod Turns

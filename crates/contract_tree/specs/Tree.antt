@@ -24,6 +24,15 @@ mutual
     none : Trees
     more : Tree → Trees → Trees
 
+-- the place of an expression
+abbrev pub place : Tree → ℕ
+place (Int at value) = at
+place (Text at text) = at
+place (Name at name) = at
+place (Call at name args) = at
+place (Prefix at sign operand) = at
+place (Binary at sign left right) = at
+
 -- a list of expressions
 abbrev pub trees : List Tree → Trees
 trees [] = none
