@@ -1,7 +1,8 @@
-//! A list of tokens that is read from its front.
+//! The tokens of a source, read one by one.
 
-ghost use Rattle.std.specs.Prelude.{◌≡◌, List};
-ghost use Rattle.contract_grammar.specs.Marks.{the, is, is_not, has, is_no_end, int_of, text_of, name_of, declared_of, builtin_of, kind_of, sign_of, prefix_of, is_builtin};
+ghost use Rattle.std.specs.Prelude.{◌≡◌, slice_get, drop, IfOk};
+ghost use Rattle.std.specs.Option.{option_copied};
+ghost use Rattle.contract_grammar.specs.Marks.{the, is, is_not, has, is_no_end, int_of, text_of, name_of, declared_of, builtin_of, kind_of, sign_of, prefix_of, placed, is_builtin};
 ghost use Rattle.contract_grammar.specs.Rules.{head_is, one, refusal};
 ghost use Rattle.contract_cursor.specs.declared.stop.Stop.TheVariants as stops;
 ghost use Rattle.contract_cursor.specs.Reads.{Reads};
@@ -12,92 +13,149 @@ use crate::word::{
     sign_at, text_in,
 };
 use contract_grammar::Obstacle;
-use contract_tokens::{Mark, Token};
+use contract_tokens::{Mark, Token, Tokens};
 use contract_tree::{Sign, ValueKind};
-use lc_base::{Duplicate, Name, Text};
+use lc_base::{Duplicate, Memory, Name, Text};
 use std::alloc::Global;
 use std::marker::Model;
 
-/// The tokens that are left to read.
+/// The tokens that are left to read, of which the next one is seen.
 #[derive(Drop)]
 pub struct Cursor<'a> {
-    rest: &'a [Token],
+    next: Option<Token>,
+    behind: Tokens<'a>,
 }
 
 impl<'a> Model for Cursor<'a> {
     ghost use Rattle.std.specs.Prelude.{List};
     ghost use Rattle.contract_tokens.specs.declared.token.Token.{Token};
+    ghost use Rattle.contract_tokens.specs.Listing.{ahead};
 
     ghost Value = { List Token };
 
-    ghost view = { λ cursor. cursor.rest.now };
+    ghost view = { λ cursor. ahead cursor.next cursor.behind };
 }
 
 impl<'a> Cursor<'a> {
-    pub fn new(tokens: &'a [Token]) -> Self
-        ensures { result ≡ tokens.now }
+    /// Stands before all of these tokens.
+    ///
+    /// # Errors
+    ///
+    /// `Memory`, for the bytes of a text literal that is the first.
+    pub fn new(tokens: Tokens<'a>) -> Result<Self, Memory>
+        ensures { IfOk result (λ cursor. cursor ≡ tokens.entry) }
     {
-        Cursor { rest: tokens }
+        let mut behind = tokens;
+        let next = behind.next()?;
+        Ok(Cursor { next, behind })
     }
 
-    pub fn rest(&self) -> &[Token]
-        ensures { result.now ≡ self.now }
+    /// The next token, unless there is none.
+    pub fn next(&self) -> Option<&Token>
+        ensures { option_copied result ≡ slice_get self.now 0 }
     {
-        self.rest
+        self.next.as_ref()
     }
 
+    // Goes behind the next token.
+    fn advance(&mut self) -> Result<(), Memory>
+        ensures { IfOk result (λ _. self.new ≡ drop 1 self.old) }
+    {
+        if self.next.is_some() {
+            self.next = self.behind.next()?;
+        }
+        Ok(())
+    }
+
+    // Takes the next token, of which this was found.
+    fn taken<A: Drop>(&mut self, found: Option<A>) -> Result<(u32, A), Stop>
+        ensures { Reads result (one (λ token. placed token.at found) self.old) self.new }
+    {
+        let (Some(token), Some(a)) = (&self.next, found) else {
+            return Err(Stop::At(Obstacle::Unfit));
+        };
+        let at = token.at;
+        self.advance()?;
+        Ok((at, a))
+    }
+
+    /// Whether the next token is this keyword or sign.
     pub fn next_is(&self, mark: Mark) -> bool
         ensures { result ≡ head_is (is mark) self.now }
     {
-        match self.rest {
-            [] => false,
-            [token, ..] => is_mark(&token.word, mark),
-        }
+        self.next
+            .as_ref()
+            .is_some_and(|token| is_mark(&token.word, mark))
     }
 
+    /// Whether there is a next token, and it is another than this keyword or sign.
     pub fn next_is_other(&self, mark: Mark) -> bool
         ensures { result ≡ head_is (is_not mark) self.now }
     {
-        match self.rest {
-            [] => false,
-            [token, ..] => !is_mark(&token.word, mark),
-        }
+        self.next
+            .as_ref()
+            .is_some_and(|token| !is_mark(&token.word, mark))
     }
 
+    /// Whether there is a next token before the end of the source.
     pub fn goes_on(&self) -> bool
         ensures { result ≡ head_is is_no_end self.now }
     {
-        match self.rest {
-            [] => false,
-            [token, ..] => !is_end(&token.word),
-        }
+        self.next.as_ref().is_some_and(|token| !is_end(&token.word))
     }
 
+    /// Whether the next token is a name.
     pub fn next_is_name(&self) -> bool
         ensures { result ≡ head_is (has name_of) self.now }
     {
-        match self.rest {
-            [] => false,
-            [token, ..] => name_in(&token.word).is_some(),
-        }
+        self.next
+            .as_ref()
+            .is_some_and(|token| name_in(&token.word).is_some())
     }
 
+    /// Whether the next token is a text literal.
     pub fn next_is_text(&self) -> bool
         ensures { result ≡ head_is (has text_of) self.now }
     {
-        match self.rest {
-            [] => false,
-            [token, ..] => text_in(&token.word).is_some(),
-        }
+        self.next
+            .as_ref()
+            .is_some_and(|token| text_in(&token.word).is_some())
     }
 
+    /// Whether the next token is a prefix.
     pub fn next_is_prefix(&self) -> bool
         ensures { result ≡ head_is (has prefix_of) self.now }
     {
-        match self.rest {
-            [] => false,
-            [token, ..] => prefix_in(&token.word).is_some(),
-        }
+        self.next
+            .as_ref()
+            .is_some_and(|token| prefix_in(&token.word).is_some())
+    }
+
+    /// Whether the next token is a keyword that is the name of a builtin too.
+    pub fn next_is_builtin(&self) -> bool
+        ensures { result ≡ head_is (has builtin_of) self.now }
+    {
+        self.next
+            .as_ref()
+            .is_some_and(|token| builtin_in(&token.word).is_some())
+    }
+
+    /// Whether the next token is a name that may be declared.
+    pub fn next_is_declared(&self) -> bool
+        ensures { result ≡ head_is (has declared_of) self.now }
+    {
+        self.next
+            .as_ref()
+            .is_some_and(|token| declared_in(&token.word).is_some())
+    }
+
+    /// Whether the next token is an operator of this level, 1 to 6 from the tightest to the loosest.
+    pub fn next_is_sign(&self, level: u8) -> bool
+        ensures { result ≡ head_is (has (sign_of level)) self.now }
+    {
+        self.next
+            .as_ref()
+            .is_some_and(|token| sign_at(&token.word, level).is_some())
     }
 
     /// Why a token is refused that would be one too many, or another one in its place.
@@ -111,166 +169,90 @@ impl<'a> Cursor<'a> {
         }
     }
 
+    /// Takes this keyword or sign, and gives its place.
+    ///
+    /// # Errors
+    ///
+    /// Here and below, `Unfit` where the next token is another one: it is not taken then. `Memory`, for the token behind it.
     pub fn take(&mut self, mark: Mark) -> Result<u32, Stop>
         ensures { Reads result (one (the mark) self.old) self.new }
     {
-        match self.rest {
-            [] => Err(Stop::At(Obstacle::Unfit)),
-            [token, rest @ ..] => {
-                if !is_mark(&token.word, mark) {
-                    return Err(Stop::At(Obstacle::Unfit));
-                }
-                self.rest = rest;
-                Ok(token.at)
-            }
-        }
+        let found = self.next_is(mark).then_some(());
+        let (at, ()) = self.taken(found)?;
+        Ok(at)
     }
 
+    /// Takes a number, and gives it with its place.
     pub fn int(&mut self) -> Result<(u32, i64), Stop>
         ensures { Reads result (one int_of self.old) self.new }
     {
-        match self.rest {
-            [] => Err(Stop::At(Obstacle::Unfit)),
-            [token, rest @ ..] => match int_in(&token.word) {
-                None => Err(Stop::At(Obstacle::Unfit)),
-                Some(value) => {
-                    self.rest = rest;
-                    Ok((token.at, value))
-                }
-            },
-        }
+        let found = self.next.as_ref().and_then(|token| int_in(&token.word));
+        self.taken(found)
     }
 
-    pub fn name(&mut self) -> Result<(u32, Name), Stop>
-        ensures { Reads result (one name_of self.old) self.new }
-    {
-        match self.rest {
-            [] => Err(Stop::At(Obstacle::Unfit)),
-            [token, rest @ ..] => match name_in(&token.word) {
-                None => Err(Stop::At(Obstacle::Unfit)),
-                Some(name) => {
-                    self.rest = rest;
-                    Ok((token.at, name))
-                }
-            },
-        }
-    }
-
-    pub fn next_is_builtin(&self) -> bool
-        ensures { result ≡ head_is (has builtin_of) self.now }
-    {
-        match self.rest {
-            [] => false,
-            [token, ..] => builtin_in(&token.word).is_some(),
-        }
-    }
-
-    pub fn next_is_declared(&self) -> bool
-        ensures { result ≡ head_is (has declared_of) self.now }
-    {
-        match self.rest {
-            [] => false,
-            [token, ..] => declared_in(&token.word).is_some(),
-        }
-    }
-
-    pub fn next_is_sign(&self, level: u8) -> bool
-        ensures { result ≡ head_is (has (sign_of level)) self.now }
-    {
-        match self.rest {
-            [] => false,
-            [token, ..] => sign_at(&token.word, level).is_some(),
-        }
-    }
-
-    pub fn declared(&mut self) -> Result<(u32, Name), Stop>
-        ensures { Reads result (one declared_of self.old) self.new }
-    {
-        match self.rest {
-            [] => Err(Stop::At(Obstacle::Unfit)),
-            [token, rest @ ..] => match declared_in(&token.word) {
-                None => Err(Stop::At(Obstacle::Unfit)),
-                Some(name) => {
-                    self.rest = rest;
-                    Ok((token.at, name))
-                }
-            },
-        }
-    }
-
-    pub fn builtin(&mut self) -> Result<(u32, Name), Stop>
-        ensures { Reads result (one builtin_of self.old) self.new }
-    {
-        match self.rest {
-            [] => Err(Stop::At(Obstacle::Unfit)),
-            [token, rest @ ..] => match builtin_in(&token.word) {
-                None => Err(Stop::At(Obstacle::Unfit)),
-                Some(name) => {
-                    self.rest = rest;
-                    Ok((token.at, name))
-                }
-            },
-        }
-    }
-
-    pub fn sign(&mut self, level: u8) -> Result<(u32, Sign), Stop>
-        ensures { Reads result (one (sign_of level) self.old) self.new }
-    {
-        match self.rest {
-            [] => Err(Stop::At(Obstacle::Unfit)),
-            [token, rest @ ..] => match sign_at(&token.word, level) {
-                None => Err(Stop::At(Obstacle::Unfit)),
-                Some(sign) => {
-                    self.rest = rest;
-                    Ok((token.at, sign))
-                }
-            },
-        }
-    }
-
+    /// Takes a text literal, and gives what it means with its place.
     pub fn text(&mut self, alloc: Global) -> Result<(u32, Text), Stop>
         ensures { Reads result (one text_of self.old) self.new }
     {
-        match self.rest {
-            [] => Err(Stop::At(Obstacle::Unfit)),
-            [token, rest @ ..] => match text_in(&token.word) {
-                None => Err(Stop::At(Obstacle::Unfit)),
-                Some(text) => {
-                    let copy = text.copy(alloc)?;
-                    self.rest = rest;
-                    Ok((token.at, copy))
-                }
-            },
-        }
+        let found = match self.next.as_ref().and_then(|token| text_in(&token.word)) {
+            Some(text) => Some(text.copy(alloc)?),
+            None => None,
+        };
+        self.taken(found)
     }
 
+    /// Takes a name, and gives it with its place.
+    pub fn name(&mut self) -> Result<(u32, Name), Stop>
+        ensures { Reads result (one name_of self.old) self.new }
+    {
+        let found = self.next.as_ref().and_then(|token| name_in(&token.word));
+        self.taken(found)
+    }
+
+    /// Takes a name that may be declared, that of no builtin, and gives it with its place.
+    pub fn declared(&mut self) -> Result<(u32, Name), Stop>
+        ensures { Reads result (one declared_of self.old) self.new }
+    {
+        let found = self
+            .next
+            .as_ref()
+            .and_then(|token| declared_in(&token.word));
+        self.taken(found)
+    }
+
+    /// Takes a keyword that is the name of a builtin too, and gives that name with its place.
+    pub fn builtin(&mut self) -> Result<(u32, Name), Stop>
+        ensures { Reads result (one builtin_of self.old) self.new }
+    {
+        let found = self.next.as_ref().and_then(|token| builtin_in(&token.word));
+        self.taken(found)
+    }
+
+    /// Takes an operator of this level, and gives it with its place.
+    pub fn sign(&mut self, level: u8) -> Result<(u32, Sign), Stop>
+        ensures { Reads result (one (sign_of level) self.old) self.new }
+    {
+        let found = self
+            .next
+            .as_ref()
+            .and_then(|token| sign_at(&token.word, level));
+        self.taken(found)
+    }
+
+    /// Takes a prefix, and gives it with its place.
     pub fn prefix(&mut self) -> Result<(u32, Sign), Stop>
         ensures { Reads result (one prefix_of self.old) self.new }
     {
-        match self.rest {
-            [] => Err(Stop::At(Obstacle::Unfit)),
-            [token, rest @ ..] => match prefix_in(&token.word) {
-                None => Err(Stop::At(Obstacle::Unfit)),
-                Some(sign) => {
-                    self.rest = rest;
-                    Ok((token.at, sign))
-                }
-            },
-        }
+        let found = self.next.as_ref().and_then(|token| prefix_in(&token.word));
+        self.taken(found)
     }
 
+    /// Takes the keyword for a kind of values, and gives that kind.
     pub fn kind(&mut self) -> Result<ValueKind, Stop>
         ensures { Reads result (one kind_of self.old) self.new }
     {
-        match self.rest {
-            [] => Err(Stop::At(Obstacle::Unfit)),
-            [token, rest @ ..] => match kind_in(&token.word) {
-                None => Err(Stop::At(Obstacle::Unfit)),
-                Some(kind) => {
-                    self.rest = rest;
-                    Ok(kind)
-                }
-            },
-        }
+        let found = self.next.as_ref().and_then(|token| kind_in(&token.word));
+        let (_, kind) = self.taken(found)?;
+        Ok(kind)
     }
 }

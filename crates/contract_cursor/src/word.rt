@@ -53,6 +53,7 @@ pub fn name_in(word: &Word) -> Option<Name>
     }
 }
 
+/// Whether this is the end of the source.
 pub fn is_end(word: &Word) -> bool
     ensures { result ≡ end_in word.now }
 {

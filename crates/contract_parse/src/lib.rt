@@ -12,6 +12,3 @@ pub use contract_tree::{
     Statement, StatementList, ValueKind,
 };
 pub use source::{SyntaxError, SyntaxKind, parse};
-
-#[cfg(test)]
-mod tests;

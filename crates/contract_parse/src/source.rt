@@ -12,7 +12,7 @@ ghost use Rattle.contract_parse.specs.declared.source.SyntaxKind.{SyntaxKind as 
 use crate::function::contract;
 use contract_cursor::{Cursor, Stop, is_end};
 use contract_grammar::Obstacle;
-use contract_tokens::{Token, TokenError, TokenKind, tokens};
+use contract_tokens::{Token, TokenError, TokenKind, Tokens};
 use contract_tree::Contract;
 use std::alloc::Global;
 
@@ -75,12 +75,12 @@ fn unfit_kind(token: &Token) -> SyntaxKind
     }
 }
 
-fn told(why: Obstacle, rest: &[Token]) -> (u32, SyntaxKind)
-    ensures { result ≡ told why rest.now }
+fn told(why: Obstacle, cursor: &Cursor<'_>) -> (u32, SyntaxKind)
+    ensures { result ≡ told why cursor.now }
 {
-    match rest {
-        [] => (0, SyntaxKind::End),
-        [token, ..] => told_at(why, token),
+    match cursor.next() {
+        None => (0, SyntaxKind::End),
+        Some(token) => told_at(why, token),
     }
 }
 
@@ -96,15 +96,17 @@ fn refusal(error: TokenError) -> SyntaxError
     }
 }
 
-fn read(alloc: Global, list: &[Token]) -> Result<Contract, SyntaxError>
-    ensures { Answers result (contract list.now) }
+fn read(alloc: Global, tokens: Tokens<'_>) -> Result<Contract, SyntaxError>
+    ensures { Answers result (contract tokens.entry) }
 {
-    let mut cursor = Cursor::new(list);
+    let Ok(mut cursor) = Cursor::new(tokens) else {
+        return Err(SyntaxError::Memory);
+    };
     match contract(alloc, &mut cursor) {
         Ok(contract) => Ok(contract),
         Err(Stop::Memory) => Err(SyntaxError::Memory),
         Err(Stop::At(why)) => {
-            let (at, kind) = told(why, cursor.rest());
+            let (at, kind) = told(why, &cursor);
             Err(SyntaxError::Refused { at, kind })
         }
     }
@@ -122,8 +124,8 @@ pub fn parse(alloc: Global, source: &[u8]) -> Result<Contract, SyntaxError>
     ensures refused { IfErr result (IsFaultOf source.now) }
     ensures fault { (at : ℕ) (kind : KindOf) → SyntaxFault source.now at kind → IsRefusedOr at kind result }
 {
-    match tokens(alloc, source) {
-        Ok(list) => read(alloc, list.as_slice()),
+    match Tokens::new(alloc, source) {
+        Ok(tokens) => read(alloc, tokens),
         Err(error) => Err(refusal(error)),
     }
 }

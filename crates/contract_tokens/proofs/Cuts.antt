@@ -21,14 +21,14 @@ CutBy at bytes outcome (pieces.Skip n) = IsCut (at + n) (drop n bytes) outcome
 CutBy at bytes outcome (pieces.Take n word) = (rest : Outcome) × IsCut (at + n) (drop n bytes) rest × (outcome ≡ behind (record { at = at; word = word }) rest)
 CutBy at bytes outcome (pieces.Bad kind) = outcome ≡ Err (at, kind)
 
-skip_step : (gap rest : List ℕ) → IsGap gap rest → step (gap ++ rest) ≡ pieces.Skip (length gap)
+pub skip_step : (gap rest : List ℕ) → IsGap gap rest → step (gap ++ rest) ≡ pieces.Skip (length gap)
 skip_step gap rest g = step_only (gap ++ rest) (pieces.Skip (length gap)) (gap, rest, refl, refl, g)
 
-take_step : (front rest : List ℕ) (word : Word) → IsLongest front rest → IsSpelled front word → step (front ++ rest) ≡ pieces.Take (length front) word
+pub take_step : (front rest : List ℕ) (word : Word) → IsLongest front rest → IsSpelled front word → step (front ++ rest) ≡ pieces.Take (length front) word
 take_step front rest word l s = step_only (front ++ rest) (pieces.Take (length front) word) (front, rest, refl, refl, l, s)
 
 -- what stands behind the front
-past : (front rest : List ℕ) → rest ≡ drop (length front) (front ++ rest)
+pub past : (front rest : List ℕ) → rest ≡ drop (length front) (front ++ rest)
 past front rest = sym (drop_at front rest (length front) refl)
 
 cut_by : (at : ℕ) (bytes : List ℕ) (outcome : Outcome) → IsCut at bytes outcome → CutBy at bytes outcome (step bytes)

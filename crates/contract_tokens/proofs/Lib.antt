@@ -6,4 +6,5 @@ pub mod Literals
 pub mod Pieces
 pub mod Once
 pub mod Cuts
+pub mod Listings
 pub mod Printed

@@ -3,4 +3,5 @@ pub mod Lexemes
 pub mod Tokens
 pub mod Answers
 pub mod Steps
+pub mod Listing
 pub mod Printing

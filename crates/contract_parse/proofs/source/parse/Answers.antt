@@ -1,21 +1,20 @@
 -- Each clause, where there are tokens and where there are none.
 use Rattle.std.proofs.Common.{Err, sym, subst}
-use Rattle.contract_grammar.specs.Reading.{contract}
-use Rattle.contract_parse.specs.Syntax.{IsFaultOf, IsContractOr, IsRefusedOr, Answers}
+use Rattle.contract_parse.specs.Syntax.{IsFaultOf, IsContractOr, IsRefusedOr}
 use Rattle.contract_parse.proofs.Parsed.{found_by, only_by, refused_by, fault_by, refused_tokens, only_tokens, fault_tokens}
 use Rattle.contract_parse.proofs.source.parse.Goals as goal
 
 pub returns-in-Ok-clause-found : goal.returns-in-Ok-clause-found
-returns-in-Ok-clause-found c = found_by c.args.source.now c.in-Ok.list.items c.requires c.in-Ok.ensures.found c.read.result (subst (λ l. Answers c.read.result (contract l)) c.as_slice.ensures.value c.read.ensures)
+returns-in-Ok-clause-found c = found_by c.args.source.now c.in-Ok.tokens c.requires c.in-Ok.ensures.found c.read.result c.read.ensures
 
 pub returns-in-Ok-clause-only : goal.returns-in-Ok-clause-only
-returns-in-Ok-clause-only c = only_by c.args.source.now c.in-Ok.list.items c.requires c.in-Ok.ensures.found c.read.result (subst (λ l. Answers c.read.result (contract l)) c.as_slice.ensures.value c.read.ensures)
+returns-in-Ok-clause-only c = only_by c.args.source.now c.in-Ok.tokens c.requires c.in-Ok.ensures.found c.read.result c.read.ensures
 
 pub returns-in-Ok-clause-refused : goal.returns-in-Ok-clause-refused
-returns-in-Ok-clause-refused c = refused_by c.args.source.now c.in-Ok.list.items c.requires c.in-Ok.ensures.found c.read.result (subst (λ l. Answers c.read.result (contract l)) c.as_slice.ensures.value c.read.ensures)
+returns-in-Ok-clause-refused c = refused_by c.args.source.now c.in-Ok.tokens c.requires c.in-Ok.ensures.found c.read.result c.read.ensures
 
 pub returns-in-Ok-clause-fault : goal.returns-in-Ok-clause-fault
-returns-in-Ok-clause-fault c = fault_by c.args.source.now c.in-Ok.list.items c.requires c.in-Ok.ensures.found c.read.result (subst (λ l. Answers c.read.result (contract l)) c.as_slice.ensures.value c.read.ensures)
+returns-in-Ok-clause-fault c = fault_by c.args.source.now c.in-Ok.tokens c.requires c.in-Ok.ensures.found c.read.result c.read.ensures
 
 pub returns-in-Err-clause-only : goal.returns-in-Err-clause-only
 returns-in-Err-clause-only c all i = subst (λ e. IsContractOr all (Err e)) (sym c.refusal.ensures) (only_tokens c.args.source.now c.in-Err.error c.in-Err.ensures.only all i)
