@@ -3,15 +3,17 @@ use lc_base::{Digest, Key, KeyList, MemSource, Value};
 use std::alloc::Global;
 use std::test::*;
 
-// Two Sets, without dependencies, of the keys raw/a and raw/b to the ints 8 and 9, by the sender u.
+// Two Sets by the sender u: raw/a to the int 8, and raw/b to the text `hi`, which depends on raw/a.
 const HEAD: [u8; 37] = [
     1, 0, 0, 0, 0, 0, 0, 0, 0, 0, 0, 0, 0, 0, 0, 0, 0, 0, 0, 0, 0, 0, 0, 0, 0, 0, 0, 0, 0, 0, 0, 0,
     0, 0, 0, 0, 0,
 ];
 
-const SETS: [u8; 44] = [
-    0, 2, 1, 0, 1, b'u', 0, 5, b'r', b'a', b'w', b'/', b'a', 0, 0, 0, 0, 0, 0, 0, 0, 8, 0, 1, 0, 1,
-    b'u', 0, 5, b'r', b'a', b'w', b'/', b'b', 0, 0, 0, 0, 0, 0, 0, 0, 9, 0,
+const SETS: [u8; 47] = [
+    0, 2, // transactions
+    1, 0, 1, b'u', 0, 5, b'r', b'a', b'w', b'/', b'a', 0, 0, 0, 0, 0, 0, 0, 0, 8, 0, // the first
+    1, 0, 1, b'u', 0, 5, b'r', b'a', b'w', b'/', b'b', 1, 0, 2, b'h', b'i', // the second,
+    1, 0, 5, b'r', b'a', b'w', b'/', b'a', // and its dependency
 ];
 
 #[test]
@@ -22,19 +24,22 @@ fn two_sets(rt: HostRuntime) -> Result<(), Fail> {
         .ok_or("the bytes are a block")?;
     assert_eq!(rt; block.number, 0);
     assert_eq!(rt; block.parent.0, [0; 32]);
-    assert_eq!(rt; block.txs.len(), 2);
-    for tx in block.txs.as_slice() {
-        let Tx::Set {
-            sender,
-            key,
-            value,
-            deps,
-        } = tx;
-        assert_eq!(rt; sender.as_bytes(), b"u".as_slice());
-        assert_eq!(rt; key.as_bytes().len(), 5);
-        assert!(rt; matches!(value, Value::Int(8 | 9)));
-        assert_eq!(rt; deps.len(), 0);
-    }
+    let [first, second] = block.txs.as_slice() else {
+        return Err(Fail::from("two transactions"));
+    };
+    let Tx::Set { value, deps, .. } = first;
+    assert!(rt; matches!(value, Value::Int(8)));
+    assert_eq!(rt; deps.len(), 0);
+    let Tx::Set {
+        sender,
+        key,
+        value,
+        deps,
+    } = second;
+    assert_eq!(rt; sender.as_bytes(), b"u".as_slice());
+    assert_eq!(rt; key.as_bytes(), b"raw/b".as_slice());
+    assert!(rt; matches!(value, Value::Text(text) if text.as_bytes() == b"hi".as_slice()));
+    assert_eq!(rt; deps.as_slice(), [Key::new(b"raw/a")?].as_slice());
     let copy = Block {
         number: block.number,
         parent: block.parent,
@@ -60,7 +65,7 @@ fn places(rt: HostRuntime) -> Result<(), Fail> {
     let sets = [HEAD.as_slice(), &SETS[..16]].concat(rt.alloc())?;
     assert!(rt; is_fault_at(rt.alloc(), &sets, 51));
     let behind = [HEAD.as_slice(), SETS.as_slice(), &[0]].concat(rt.alloc())?;
-    assert!(rt; is_fault_at(rt.alloc(), &behind, 81));
+    assert!(rt; is_fault_at(rt.alloc(), &behind, 84));
     Ok(())
 }
 

@@ -8,6 +8,3 @@ mod writing;
 pub use fault::{Fault, FieldError};
 pub use reader::Reader;
 pub use writing::{put_key, put_text, put_value};
-
-#[cfg(test)]
-mod tests;

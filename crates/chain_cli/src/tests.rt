@@ -1,7 +1,10 @@
 mod cases;
+mod forms;
+mod syntax;
 
 use self::cases::{
-    BEYOND, CONTRACTS, Case, HISTORY, LINEAGE, MALFORMED, NO_COMMAND, ONE_SET, REFUSED,
+    BEYOND, CONTRACTS, Case, HISTORY, LINEAGE, LONGEST, MALFORMED, NO_COMMAND, ONE_SET, REFUSED,
+    SHORT_SOURCES, SOURCES, Written,
 };
 use crate::run::run;
 use crate::status::Status;
@@ -66,27 +69,47 @@ fn run_over(
 }
 
 /// Each line is one piece.
-fn lines_of(told: &str) -> usize {
-    told.bytes().filter(|byte| *byte == b'\n').count()
+fn lines_of(told: &[u8]) -> usize {
+    told.iter().filter(|byte| **byte == b'\n').count()
 }
 
-/// Whether a case's run tells what it must, line by line, where the source gives so many bytes per pull.
-fn is_told(alloc: Global, case: &Case, piece: usize) -> Result<bool, Fail> {
-    let input = hex::decode(alloc, case.input)?;
-    let done = run_over(alloc, case.words, &input, piece, &[], &[])?;
-    let told = done.told.as_slice() == case.told.as_bytes();
-    let ended = done.status == case.status;
-    let parted = done.pieces == lines_of(case.told);
-    Ok(told && ended && parted)
+/// Whether a run ends so and tells just this, line by line, however the source cuts the input.
+fn is_told(
+    alloc: Global,
+    words: &str,
+    input: &[u8],
+    told: &str,
+    status: Status,
+) -> Result<bool, Fail> {
+    for piece in [1, 7, 256] {
+        let done = run_over(alloc, words, input, piece, &[], &[])?;
+        let same = done.told.as_slice() == told.as_bytes();
+        let ended = done.status == status;
+        let parted = done.pieces == lines_of(told.as_bytes());
+        if !(same && ended && parted) {
+            return Ok(false);
+        }
+    }
+    Ok(true)
 }
 
 /// The words and the input of the first case whose run goes wrong.
 fn first_wrong(alloc: Global, cases: &[Case]) -> Result<Option<(&str, &str)>, Fail> {
     for case in cases {
-        for piece in [1, 7, 256] {
-            if !is_told(alloc, case, piece)? {
-                return Ok(Some((case.words, case.input)));
-            }
+        let input = hex::decode(alloc, case.input)?;
+        if !is_told(alloc, case.words, &input, case.told, case.status)? {
+            return Ok(Some((case.words, case.input)));
+        }
+    }
+    Ok(None)
+}
+
+/// The source of the first case of `fmt` whose run goes wrong.
+fn first_wrong_source(alloc: Global, cases: &[Written]) -> Result<Option<&str>, Fail> {
+    for case in cases {
+        let input = case.source.as_bytes();
+        if !is_told(alloc, "fmt", input, case.told, case.status)? {
+            return Ok(Some(case.source));
         }
     }
     Ok(None)
@@ -135,6 +158,24 @@ fn contracts(rt: HostRuntime) -> Result<(), Fail> {
 }
 
 #[test]
+fn sources(rt: HostRuntime) -> Result<(), Fail> {
+    assert_eq!(rt; first_wrong_source(rt.alloc(), &SOURCES)?, None);
+    Ok(())
+}
+
+#[test]
+fn short_sources(rt: HostRuntime) -> Result<(), Fail> {
+    assert_eq!(rt; first_wrong_source(rt.alloc(), &SHORT_SOURCES)?, None);
+    Ok(())
+}
+
+#[test]
+fn longest(rt: HostRuntime) -> Result<(), Fail> {
+    assert_eq!(rt; first_wrong_source(rt.alloc(), &LONGEST)?, None);
+    Ok(())
+}
+
+#[test]
 fn cut_at_every_length(rt: HostRuntime) -> Result<(), Fail> {
     let input = hex::decode(rt.alloc(), THREE)?;
     let lines = [
@@ -160,24 +201,90 @@ fn cut_at_every_length(rt: HostRuntime) -> Result<(), Fail> {
     Ok(())
 }
 
-#[test]
-fn failing_calls(rt: HostRuntime) -> Result<(), Fail> {
-    let one = hex::decode(rt.alloc(), ONE_SET)?;
-    // The length, the block, and the end of the input take a pull each.
-    for pull in 0..3u64 {
-        let done = run_over(rt.alloc(), "scan hist raw/a 0", &one, 4096, &[pull], &[])?;
-        assert_eq!(rt; done.status, Status::Unreadable, "pull {pull}");
-        assert_eq!(rt; done.pieces, 0, "pull {pull}");
+/// How a frame is refused for its own bytes, and the frame behind it for a parent that is another.
+const REFUSALS: [(&str, &str); 3] = [
+    ("refused frame 0 ", "refused frame 1 parent "),
+    ("refused frame 1 ", "refused frame 2 parent "),
+    ("refused frame 2 ", "refused frame 2 "),
+];
+
+/// Whether a run over the three blocks, a byte of this frame changed, may end so. The last block has none behind it
+/// that shows its change, and the answer about the first doesn't depend on it.
+fn is_of_changed(done: &Run, frame: usize) -> bool {
+    let told = done.told.as_slice();
+    let Some((own, next)) = REFUSALS.get(frame) else {
+        return false;
+    };
+    match done.status {
+        Status::Done => frame == 2 && told == b"block 0 tx 0 int 1\n".as_slice(),
+        Status::Refused => {
+            let refused = told.starts_with(own.as_bytes()) || told.starts_with(next.as_bytes());
+            refused && done.pieces == 1 && lines_of(told) == 1
+        }
+        _ => false,
     }
-    let three = hex::decode(rt.alloc(), THREE)?;
-    let lines = ["block 1 deps 1\n", "raw/a 0\n"];
-    let mut front = Vec::new(rt.alloc());
+}
+
+#[test]
+fn each_byte_changed(rt: HostRuntime) -> Result<(), Fail> {
+    let input = hex::decode(rt.alloc(), THREE)?;
+    for (at, byte) in input.iter().enumerate() {
+        let frame = ENDS.iter().filter(|end| **end <= at).count();
+        for bits in [0x01, 0x80, 0xff] {
+            let mut changed = Vec::from_slice(rt.alloc(), &input)?;
+            let place = changed.get_mut(at).ok_or("a place")?;
+            *place = byte ^ bits;
+            let done = run_over(rt.alloc(), "scan hist raw/a 0", &changed, 4096, &[], &[])?;
+            assert!(rt; is_of_changed(&done, frame), "byte {at} by {bits}");
+        }
+    }
+    Ok(())
+}
+
+/// How many pulls, from the first, leave nothing told and the source blamed where one of them fails.
+fn failing_pulls(alloc: Global, words: &str, input: &[u8], piece: usize) -> Result<u64, Fail> {
+    for pull in 0..100u64 {
+        let done = run_over(alloc, words, input, piece, &[pull], &[])?;
+        if done.status != Status::Unreadable || done.pieces != 0 {
+            return Ok(pull);
+        }
+    }
+    Err(Fail::from("no more pulls than that"))
+}
+
+/// Whether just these lines are told, and the lines before it alone where the tell of one of them fails.
+fn is_cut_by_tells(alloc: Global, words: &str, input: &[u8], lines: &[&str]) -> Result<bool, Fail> {
+    let mut front = Vec::new(alloc);
     for (tell, line) in (0u64..).zip(lines) {
-        let done = run_over(rt.alloc(), "scan back raw/b 1", &three, 4096, &[], &[tell])?;
-        assert_eq!(rt; done.status, Status::Untold, "tell {tell}");
-        assert_eq!(rt; done.told.as_slice(), front.as_slice(), "tell {tell}");
+        let done = run_over(alloc, words, input, 4096, &[], &[tell])?;
+        if done.status != Status::Untold || done.told.as_slice() != front.as_slice() {
+            return Ok(false);
+        }
         front.extend_from_slice(line.as_bytes())?;
     }
+    let done = run_over(alloc, words, input, 4096, &[], &[])?;
+    Ok(done.told.as_slice() == front.as_slice())
+}
+
+#[test]
+fn failing_calls_of_scan(rt: HostRuntime) -> Result<(), Fail> {
+    // The length, the block, and the end of the input take a pull each.
+    let one = hex::decode(rt.alloc(), ONE_SET)?;
+    let pulls = failing_pulls(rt.alloc(), "scan hist raw/a 0", &one, 4096)?;
+    assert_eq!(rt; pulls, 3);
+    let three = hex::decode(rt.alloc(), THREE)?;
+    let lines = ["block 1 deps 1\n", "raw/a 0\n"];
+    assert!(rt; is_cut_by_tells(rt.alloc(), "scan back raw/b 1", &three, &lines)?);
+    Ok(())
+}
+
+#[test]
+fn failing_calls_of_fmt(rt: HostRuntime) -> Result<(), Fail> {
+    // Sixteen bytes in pieces of five take four pulls, and the end of the input one.
+    let source = b"fn f() { fail; }";
+    assert_eq!(rt; failing_pulls(rt.alloc(), "fmt", source, 5)?, 5);
+    let lines = ["fn f() {\n", "  fail;\n", "}\n"];
+    assert!(rt; is_cut_by_tells(rt.alloc(), "fmt", source, &lines)?);
     Ok(())
 }
 

@@ -13,6 +13,3 @@ pub use builtin::Builtin;
 pub use contract::{Checked, check};
 pub use fault::{CheckError, CheckKind};
 pub use scope::Scope;
-
-#[cfg(test)]
-mod tests;

@@ -7,6 +7,3 @@ mod statement;
 mod writer;
 
 pub use contract::print;
-
-#[cfg(test)]
-mod tests;

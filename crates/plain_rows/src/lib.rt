@@ -4,6 +4,3 @@
 mod rows;
 
 pub use rows::PlainRows;
-
-#[cfg(test)]
-mod tests;

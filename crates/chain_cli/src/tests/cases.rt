@@ -10,6 +10,13 @@ pub struct Case {
     pub status: Status,
 }
 
+/// A run of `fmt`: its source, the lines that it tells, and its status.
+pub struct Written {
+    pub source: &'static str,
+    pub told: &'static str,
+    pub status: Status,
+}
+
 /// One block, numbered 0, with one Set of raw/a to 5.
 pub const ONE_SET: &str =
     "0000003c0100000000000000000000000000000000000000000000000000000000000000000000000000010100017500057261772f6100000000000000000500";
@@ -408,14 +415,8 @@ pub const REFUSED: [Case; 15] = [
     },
 ];
 
-/// Contracts, and sources that are none.
-pub const CONTRACTS: [Case; 11] = [
-    Case {
-        words: "fmt",
-        input: "666e2066302829207b20207d",
-        told: "fn f0() {\n}\n",
-        status: Status::Done,
-    },
+/// A contract and a source that is none, with bytes that no text has.
+pub const CONTRACTS: [Case; 2] = [
     Case {
         words: "fmt",
         input: "2020666e20673020237b2209230a28290d7b20207768696c652032202b0a23200d237f230a393232333337323033363835343737353830370a7b0d69660d686173092820227261772f6e220d29207b207d097075740a22632f61220923090d0a3d202809230000090d0a393232333337323033363835343737353830370d0a3d3d0d237f787b09ff0a31202029202023092220ff0a2a0d28232200780a31303234092b0d626c6f636b2028202909230000090a290d0a66726f6d227261772f6e220a3b0d0a6c65742062313d230d0a2d2020280d0a23ff200d78000a337c7c36320d290d0a3b0d7d206966206677645f626c6f636b09280d282022632f6c6f672209230a29092c0a23092300780d0a34363131363836303138343237333837393034092c092d092323200a310a2923666e7820ff7b0a7b0d7075740922632f6e2220203d20300d3b0d0a6c65742063320a3d096861730d0a282020227261772f74220d293b0a7d207768696c650a33093e09300a7b20206c65742079333d0d686173202822632f6e222920203b096c657423ff09200a7a3420230d23000a3d20225c5c22203b206966280d79330923ff666e0a3c3d2079330d29203e0d322a207933207b7d0a656c7365097b092300090a7d23227b7b0a7d207d20",
@@ -428,52 +429,161 @@ pub const CONTRACTS: [Case; 11] = [
         told: "badinput syntax 8 byte\n",
         status: Status::BadInput,
     },
-    Case {
-        words: "fmt",
-        input: "666e2067302870303a746578740a290a7b2070757422632f61223d20225c22",
+];
+
+/// Contracts, and sources that are none.
+pub const SOURCES: [Written; 9] = [
+    Written {
+        source: "fn f0() {  }",
+        told: "fn f0() {\n}\n",
+        status: Status::Done,
+    },
+    Written {
+        source: "fn g0(p0:text\n)\n{ put\"c/a\"= \"\\\"",
         told: "badinput syntax 28 literal\n",
         status: Status::BadInput,
     },
-    Case {
-        words: "fmt",
-        input: "66",
+    Written {
+        source: "f",
         told: "badinput syntax 0 expected\n",
         status: Status::BadInput,
     },
-    Case {
-        words: "fmt",
-        input: "666e206628297b7d20666e",
+    Written {
+        source: "fn f(){} fn",
         told: "badinput syntax 11 end\n",
         status: Status::BadInput,
     },
-    Case {
-        words: "fmt",
-        input: "666e206628613a20696e742c20733a207465787429207b206c65742078203d20212d20212d202d202d2021212d2d2d212d202d2d20212d20212d202d2d2d202d2d202121212d20212d20212d2d2d212d20212d202d202d202d2021212d212d21212d212d2d2d202d2d2d20212d202d202d212d212d21613b207d",
+    Written {
+        source: "fn f(a: int, s: text) { let x = !- !- - - !!---!- -- !- !- --- -- !!!- !- !---!- !- - - - !!-!-!!-!--- --- !- - -!-!-!a; }",
         told: "badinput syntax 33 deep\n",
         status: Status::BadInput,
     },
-    Case {
-        words: "fmt",
-        input: "666e206628613a20696e742c20733a207465787429207b207075742073203d20663b207d",
+    Written {
+        source: "fn f(a: int, s: text) { put s = f; }",
         told: "badinput check 32 unknown\n",
         status: Status::BadInput,
     },
-    Case {
-        words: "fmt",
-        input: "666e206628613a20696e742c20733a20746578742c20613a207465787429207b206c65742078203d2021613b207d",
+    Written {
+        source: "fn f(a: int, s: text, a: text) { let x = !a; }",
         told: "badinput check 22 again\n",
         status: Status::BadInput,
     },
-    Case {
-        words: "fmt",
-        input: "666e206628733a20696e742c20613a207465787429207b207768696c65206765745f696e7428612c207329207b2061203d20733b207d207d",
+    Written {
+        source: "fn f(s: int, a: text) { while get_int(a, s) { a = s; } }",
         told: "badinput check 30 count\n",
         status: Status::BadInput,
     },
-    Case {
-        words: "fmt",
-        input: "666e20673028613a20696e742c20733a207465787429207b2061203d202873202b2b2073293b207d",
+    Written {
+        source: "fn g0(a: int, s: text) { a = (s ++ s); }",
         told: "badinput check 32 kind\n",
+        status: Status::BadInput,
+    },
+];
+
+/// Sources whose tokens are the longest, and such whose names or kinds are at fault.
+pub const LONGEST: [Written; 9] = [
+    Written {
+        source: "fn fnx(){let iff=1<=2;}",
+        told: "fn fnx() {\n  let iff = 1 <= 2;\n}\n",
+        status: Status::Done,
+    },
+    Written {
+        source: "fn f(){let x=1--1;}",
+        told: "fn f() {\n  let x = 1 - (-1);\n}\n",
+        status: Status::Done,
+    },
+    Written {
+        source: "fn f(a:int){a=!a!=1==!1;}",
+        told: "badinput syntax 19 expected\n",
+        status: Status::BadInput,
+    },
+    Written {
+        source: "fn f(){let x=12#3\n;}",
+        told: "fn f() {\n  let x = 12;\n}\n",
+        status: Status::Done,
+    },
+    Written {
+        source: "fn f() { let x = \"a\" + y; }",
+        told: "badinput check 23 unknown\n",
+        status: Status::BadInput,
+    },
+    Written {
+        source: "fn f() { let x = caller(1); }",
+        told: "badinput check 17 count\n",
+        status: Status::BadInput,
+    },
+    Written {
+        source: "fn f() { if 1 { let x = 1; } x = 1; }",
+        told: "badinput check 29 unknown\n",
+        status: Status::BadInput,
+    },
+    Written {
+        source: "fn f() { let x = get_text(\"lot/\"); put \"lot/\" ++ x = x; }",
+        told: "fn f() {\n  let x = get_text(\"lot/\");\n  put \"lot/\" ++ x = x;\n}\n",
+        status: Status::Done,
+    },
+    Written {
+        source: "fn f() { let x = get_text(1, y); }",
+        told: "badinput check 29 unknown\n",
+        status: Status::BadInput,
+    },
+];
+
+/// Short sources, whose answers are plain to see.
+pub const SHORT_SOURCES: [Written; 11] = [
+    Written {
+        source: "fn f(a:int){let x=a*(a+1)-2;}",
+        told: "fn f(a: int) {\n  let x = (a * (a + 1)) - 2;\n}\n",
+        status: Status::Done,
+    },
+    Written {
+        source: "fn f() { let x = 1 }",
+        told: "badinput syntax 19 expected\n",
+        status: Status::BadInput,
+    },
+    Written {
+        source: "fn f() { fail",
+        told: "badinput syntax 13 end\n",
+        status: Status::BadInput,
+    },
+    Written {
+        source: "fn f() { let x = 9223372036854775808; }",
+        told: "badinput syntax 17 literal\n",
+        status: Status::BadInput,
+    },
+    Written {
+        source: "fn f() { let x = 1 == 2 == 3; }",
+        told: "badinput syntax 24 expected\n",
+        status: Status::BadInput,
+    },
+    Written {
+        source: "fn f(a: int) { let a = 1; }",
+        told: "badinput check 19 again\n",
+        status: Status::BadInput,
+    },
+    Written {
+        source: "fn f() { let x = 1 ++ 2; }",
+        told: "badinput check 17 kind\n",
+        status: Status::BadInput,
+    },
+    Written {
+        source: "fn f() { fail; } fn f() { fail; }",
+        told: "badinput check 20 again\n",
+        status: Status::BadInput,
+    },
+    Written {
+        source: "fn f(){put \"c/a\"=1;}",
+        told: "fn f() {\n  put \"c/a\" = 1;\n}\n",
+        status: Status::Done,
+    },
+    Written {
+        source: "fn f( {",
+        told: "badinput syntax 6 expected\n",
+        status: Status::BadInput,
+    },
+    Written {
+        source: "fn f() { put \"c/a\" = x; }",
+        told: "badinput check 21 unknown\n",
         status: Status::BadInput,
     },
 ];
