@@ -14,3 +14,4 @@ pub mod SeenExpressions
 pub mod SeenContracts
 pub mod Answers
 pub mod Turns
+pub mod Examples
