@@ -3,8 +3,8 @@ mod forms;
 mod syntax;
 
 use self::cases::{
-    BEYOND, CONTRACTS, Case, HISTORY, LINEAGE, LONGEST, MALFORMED, NO_COMMAND, ONE_SET, REFUSED,
-    SHORT_SOURCES, SOURCES, Written,
+    BEYOND, CONTRACTS, Case, HISTORY, LINEAGE, MALFORMED, MORE_SOURCES, NO_COMMAND, ONE_SET,
+    REFUSED, SHORT_SOURCES, SOURCES, Written,
 };
 use crate::run::run;
 use crate::status::Status;
@@ -170,8 +170,8 @@ fn short_sources(rt: HostRuntime) -> Result<(), Fail> {
 }
 
 #[test]
-fn longest(rt: HostRuntime) -> Result<(), Fail> {
-    assert_eq!(rt; first_wrong_source(rt.alloc(), &LONGEST)?, None);
+fn more_sources(rt: HostRuntime) -> Result<(), Fail> {
+    assert_eq!(rt; first_wrong_source(rt.alloc(), &MORE_SOURCES)?, None);
     Ok(())
 }
 
@@ -264,6 +264,22 @@ fn is_cut_by_tells(alloc: Global, words: &str, input: &[u8], lines: &[&str]) -> 
     }
     let done = run_over(alloc, words, input, 4096, &[], &[])?;
     Ok(done.told.as_slice() == front.as_slice())
+}
+
+#[test]
+fn longest_source(rt: HostRuntime) -> Result<(), Fail> {
+    let mut blanks = Vec::from_elem(rt.alloc(), b' ', 67_108_864)?;
+    let longest = run_over(rt.alloc(), "fmt", &blanks, 65_536, &[], &[])?;
+    assert_eq!(rt; longest.status, Status::BadInput);
+    assert_eq!(rt;
+        longest.told.as_slice(),
+        b"badinput syntax 67108864 end\n".as_slice()
+    );
+    blanks.extend_from_slice(b"  ")?;
+    let longer = run_over(rt.alloc(), "fmt", &blanks, 65_536, &[], &[])?;
+    assert_eq!(rt; longer.status, Status::BadInput);
+    assert_eq!(rt; longer.told.as_slice(), b"badinput long\n".as_slice());
+    Ok(())
 }
 
 #[test]

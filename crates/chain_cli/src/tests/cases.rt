@@ -480,8 +480,8 @@ pub const SOURCES: [Written; 9] = [
     },
 ];
 
-/// Sources whose tokens are the longest, and such whose names or kinds are at fault.
-pub const LONGEST: [Written; 9] = [
+/// Sources that show which tokens are the longest, and which names and kinds are at fault.
+pub const MORE_SOURCES: [Written; 9] = [
     Written {
         source: "fn fnx(){let iff=1<=2;}",
         told: "fn fnx() {\n  let iff = 1 <= 2;\n}\n",
