@@ -11,6 +11,8 @@ use Rattle.byte_fields.proofs.Laws.{IsField, renamed, bind_field, then_field, ma
 use Rattle.byte_fields.proofs.Items.{counted_field}
 use Rattle.byte_fields.proofs.Pieces.{piece_field, ruled_piece, number_piece, byte_piece, bytes_piece, wide16, wide32}
 use Rattle.byte_fields.proofs.Fields.{key_field, value_field}
+use Rattle.lc_base.specs.declared.limits.TheConstants.{MAX_DEPS}
+use Rattle.block_codec.specs.declared.limits.TheConstants.{MAX_TXS}
 use Rattle.block_codec.specs.declared.block.Tx.{Tx}
 use Rattle.block_codec.specs.declared.block.Tx.TheVariants.{Set}
 use Rattle.block_codec.specs.declared.block.Block.{Block}
@@ -19,9 +21,9 @@ use Rattle.block_codec.specs.Reading.{dep_keys_at, set_of, set_at, tx_at, txs_at
 
 -- ---- transactions
 
--- at most 64 keys
+-- at most MAX_DEPS keys
 AreDeps : List (List ℕ) → Type 0
-AreDeps keys = (length keys ≤ 64) × AllByRecursion IsKey keys
+AreDeps keys = (length keys ≤ MAX_DEPS) × AllByRecursion IsKey keys
 
 dep_fields : List (List ℕ) → List (List ℕ)
 dep_fields keys = (length keys ∷ []) ∷ flat_map string_fields keys
@@ -29,7 +31,7 @@ dep_fields keys = (length keys ∷ []) ∷ flat_map string_fields keys
 deps_field : IsField dep_keys_at dep_fields AreDeps
 unfolding dep_keys_at dep_fields AreDeps
 deps_field =
-    let count = piece_field (ruled_piece byte_piece (λ n. nat_le n 64) (record { value = 0; is = (omega arith, refl) })) in
+    let count = piece_field (ruled_piece byte_piece (λ n. nat_le n MAX_DEPS) (record { value = 0; is = (omega arith, refl) })) in
     renamed (counted_field count key_field)
     (λ keys is. (leb-true _ _ is.0.1, is.1)) (λ keys is. ((omega (arith, is.0), le-leb _ _ is.0), is.1)) (λ keys is. refl)
 
@@ -78,9 +80,9 @@ tx_field =
 
 -- ---- blocks
 
--- at most 4,096 transactions
+-- at most MAX_TXS transactions
 AreTxs : List Tx → Type 0
-AreTxs txs = (length txs ≤ 4096) × AllByRecursion IsTx txs
+AreTxs txs = (length txs ≤ MAX_TXS) × AllByRecursion IsTx txs
 
 txs_fields : List Tx → List (List ℕ)
 txs_fields txs = to_be_bytes w16 (length txs) ∷ flat_map tx_fields txs
@@ -88,7 +90,7 @@ txs_fields txs = to_be_bytes w16 (length txs) ∷ flat_map tx_fields txs
 txs_field : IsField txs_at txs_fields AreTxs
 unfolding txs_at txs_fields AreTxs
 txs_field =
-    let count = piece_field (ruled_piece (number_piece wide16) (λ n. nat_le n 4096) (record { value = 0; is = (omega arith, refl) })) in
+    let count = piece_field (ruled_piece (number_piece wide16) (λ n. nat_le n MAX_TXS) (record { value = 0; is = (omega arith, refl) })) in
     renamed (counted_field count tx_field)
     (λ txs is. (leb-true _ _ is.0.1, is.1)) (λ txs is. ((omega (arith, is.0), le-leb _ _ is.0), is.1)) (λ txs is. refl)
 

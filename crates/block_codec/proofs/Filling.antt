@@ -14,7 +14,7 @@ prepend-prepend : (a b : List ℕ) (left : Option (List ℕ)) → prepend a (pre
 prepend-prepend a b None = refl
 prepend-prepend a b (Some left) = ap Some (sym (append_assoc a b left))
 
--- the front of a buffer after a piece was written behind its first `start` bytes
+-- the prefix of a buffer after a piece was written after its first `start` bytes
 take_of_written : (start n : ℕ) (buffer piece after : List ℕ) → start ≤ length buffer → n ≤ length piece → take (start + n) (take start buffer ++ (piece ++ after)) ≡ take start buffer ++ take n piece
 take_of_written start n buffer piece after within there =
     let split : take start buffer ++ (piece ++ after) ≡ (take start buffer ++ take n piece) ++ (drop n piece ++ after) =
@@ -31,6 +31,6 @@ pub fills_more : (first before now : Option (List ℕ)) (faults_first faults_bef
 fills_more first before now faults_first faults_before faults_now start n buffer piece after so_far pulled there later = record {
   within = omega (arith, so_far.within, length-append (take start buffer) (piece ++ after), length-append piece after, length-take-le start buffer so_far.within);
   taken = so_far.taken ∙ ap (prepend (take start buffer)) pulled ∙ prepend-prepend (take start buffer) (take n piece) now
-      ∙ ap (λ (front : List ℕ). prepend front now) (sym (take_of_written start n buffer piece after so_far.within there));
+      ∙ ap (λ (prefix : List ℕ). prepend prefix now) (sym (take_of_written start n buffer piece after so_far.within there));
   later = omega (arith, so_far.later, later);
 }

@@ -1,3 +1,4 @@
 pub mod Filling
 pub mod Blocks
 pub mod WholeBlocks
+pub mod Decoders

@@ -1,19 +1,21 @@
 -- All of the bytes read as a block, and all the bytes of a block.
 use Rattle.std.proofs.Common.{◌≡◌, ℕ, ◌-◌, min, ◌<◌, ◌≤◌, Bool, true, false, cond, eqb, ltb, List, [], ◌++◌, length, Result, Ok, Err, refl, sym, ap, subst, ◌∙◌, inl, inr, arith}
-use Rattle.std.specs.Prelude.{IfOk}
+use Rattle.std.specs.Prelude.{IfOk, IfErr, IfSome}
 use Rattle.std.specs.List.{concat}
 use Rattle.std.proofs.lemmas.Bool.{eqb-true, ltb-true, cases_lt, lt-ltb, le-ltb}
 use Rattle.std.proofs.lemmas.List.{append-nil, nil_from_length}
 use Rattle.byte_fields.specs.Reading.{Field, all_read}
 use Rattle.byte_fields.specs.Spelling.{IsBytes}
+use Rattle.lc_base.specs.Answers.{Answers}
+use Rattle.block_codec.specs.declared.limits.TheConstants.{MAX_BLOCK_BYTES}
 use Rattle.block_codec.specs.declared.block.Block.{Block}
-use Rattle.block_codec.specs.Spelling.{IsBlock, Spells, IsPlace, IsDecoder, block_fields}
-use Rattle.block_codec.specs.Reading.{block_at, whole_block, with_place, block_in}
-use Rattle.block_codec.specs.Decoding.{HasPlace, IsBlockOr, TellsSpelled}
+use Rattle.block_codec.specs.Spelling.{IsBlock, Spells, IsFaultOffset, IsDecoder, block_fields}
+use Rattle.block_codec.specs.Reading.{block_at, whole_block, with_offset, block_in}
+use Rattle.block_codec.specs.Decoding.{fault_offset}
 use Rattle.block_codec.specs.declared.decoding.DecodeError.{DecodeError}
 use Rattle.block_codec.specs.declared.decoding.DecodeError.TheVariants.{Malformed, Memory}
 use Rattle.byte_fields.proofs.Laws.{left_of}
-use Rattle.byte_fields.proofs.LongestFronts.{longest_front, left_within}
+use Rattle.byte_fields.proofs.LongestPrefixes.{longest_prefix, left_within}
 use Rattle.block_codec.proofs.Blocks.{block_field}
 
 -- what was read to the end
@@ -41,11 +43,11 @@ whole_again bytes block is e =
 
 -- ---- with the greatest length
 
-in_length : (total : ℕ) (r : Result Block ℕ) (block : Block) → with_place total r ≡ Ok block → (total ≤ 1048576) × (r ≡ Ok block)
+in_length : (total : ℕ) (r : Result Block ℕ) (block : Block) → with_offset total r ≡ Ok block → (total ≤ MAX_BLOCK_BYTES) × (r ≡ Ok block)
 in_length total (Ok found) block e =
-    elim (cases_lt 1048576 total) [
-      | inl long ↦ absurd (cc (lt-ltb 1048576 total long))
-      | inr short ↦ (short, sym (ap (λ (b : Bool). cond b (Err 1048576) (Ok found)) (le-ltb 1048576 total short)) ∙ e)
+    elim (cases_lt MAX_BLOCK_BYTES total) [
+      | inl long ↦ absurd (cc (lt-ltb MAX_BLOCK_BYTES total long))
+      | inr short ↦ (short, sym (ap (λ (b : Bool). cond b (Err MAX_BLOCK_BYTES) (Ok found)) (le-ltb MAX_BLOCK_BYTES total short)) ∙ e)
     ]
 in_length total (Err left) block e = absurd cc
 
@@ -61,10 +63,10 @@ is_spelled bytes block fits e =
 pub is_read : (bytes : List ℕ) (block : Block) → Spells bytes block → block_in bytes ≡ Ok block
 unfolding block_in
 is_read bytes block is =
-    ap (with_place (length bytes)) (whole_again bytes block is.lawful is.spelled)
-    ∙ ap (λ (b : Bool). cond b (Err 1048576) (Ok block)) (le-ltb 1048576 (length bytes) is.short)
+    ap (with_offset (length bytes)) (whole_again bytes block is.lawful is.spelled)
+    ∙ ap (λ (b : Bool). cond b (Err MAX_BLOCK_BYTES) (Ok block)) (le-ltb MAX_BLOCK_BYTES (length bytes) is.short)
 
--- ---- the place of a fault
+-- ---- the offset of a fault
 
 ended : (read : Block × List ℕ) (b : Bool) (left : ℕ) → cond b (Ok read.0) (Err (length read.1)) ≡ Err left → length read.1 ≡ left
 ended read true left e = absurd cc
@@ -83,48 +85,48 @@ pub left_is : (bytes : List ℕ) (left : ℕ) → IsBytes bytes → whole_block 
 unfolding whole_block
 left_is bytes left fits e = let same = fault_left (block_at bytes) left e in let within = left_within block_field bytes fits in omega (arith, same, within)
 
-too_long : (total : ℕ) (b : Bool) (block : Block) (fault : ℕ) → ltb 1048576 total ≡ b → cond b (Err 1048576) (Ok block) ≡ Err fault → (1048576 < total) × (1048576 ≡ fault)
+too_long : (total : ℕ) (b : Bool) (block : Block) (fault : ℕ) → ltb MAX_BLOCK_BYTES total ≡ b → cond b (Err MAX_BLOCK_BYTES) (Ok block) ≡ Err fault → (MAX_BLOCK_BYTES < total) × (MAX_BLOCK_BYTES ≡ fault)
 too_long total true block fault is e = (ltb-true _ _ is, cc)
 too_long total false block fault is e = absurd cc
 
-placed_at : (bytes : List ℕ) (fault : ℕ) → IsBytes bytes → (r : Result Block ℕ) → all_read (block_at bytes) ≡ r → with_place (length bytes) r ≡ Err fault → fault ≡ min (length bytes - left_of (block_at bytes)) 1048576
-placed_at bytes fault fits (Ok block) e got =
-    let long = too_long (length bytes) (ltb 1048576 (length bytes)) block fault refl got in
+offset_at : (bytes : List ℕ) (fault : ℕ) → IsBytes bytes → (r : Result Block ℕ) → all_read (block_at bytes) ≡ r → with_offset (length bytes) r ≡ Err fault → fault ≡ min (length bytes - left_of (block_at bytes)) MAX_BLOCK_BYTES
+offset_at bytes fault fits (Ok block) e got =
+    let long = too_long (length bytes) (ltb MAX_BLOCK_BYTES (length bytes)) block fault refl got in
     let none = none_left (block_at bytes) block e in
     omega (arith, long.0, long.1, none)
-placed_at bytes fault fits (Err left) e got =
+offset_at bytes fault fits (Err left) e got =
     let same = fault_left (block_at bytes) left e in
-    let told : min (length bytes - left) 1048576 ≡ fault = cc in
+    let told : min (length bytes - left) MAX_BLOCK_BYTES ≡ fault = cc in
     omega (arith, same, told)
 
--- a fault is told where the longest front ends that is whole fields of some block
-pub is_placed : (bytes : List ℕ) (fault : ℕ) → IsBytes bytes → block_in bytes ≡ Err fault → IsPlace bytes fault
+-- a fault is told where the longest prefix ends that is whole fields of some block
+pub is_invalid : (bytes : List ℕ) (fault : ℕ) → IsBytes bytes → block_in bytes ≡ Err fault → IsFaultOffset bytes fault
 unfolding block_in whole_block
-is_placed bytes fault fits e = record {
+is_invalid bytes fault fits e = record {
   reach = length bytes - left_of (block_at bytes);
-  longest = longest_front block_field bytes fits (length bytes - left_of (block_at bytes)) refl;
-  place_is = placed_at bytes fault fits (all_read (block_at bytes)) refl e;
+  longest = longest_prefix block_field bytes fits (length bytes - left_of (block_at bytes)) refl;
+  offset_is = offset_at bytes fault fits (all_read (block_at bytes)) refl e;
 }
 
 -- so what bytes spell is told by reading them
 pub decided : IsDecoder block_in
 decided = record {
   found = λ bytes block fits e. is_spelled bytes block fits e;
-  none = λ bytes fault block fits e is. let f = is_read bytes block is in absurd cc;
-  placed = is_placed;
+  again = λ bytes block fits is. is_read bytes block is;
+  invalid = is_invalid;
 }
 
 -- the answer about a spelled block
-pub only_this : (bytes : List ℕ) (result : Result Block DecodeError) (block : Block) → TellsSpelled result (block_in bytes) → Spells bytes block → IsBlockOr result block
-only_this bytes (Ok found) block told is = let f = is_read bytes block is in cc
-only_this bytes (Err (Malformed place)) block told is = let f = is_read bytes block is in absurd cc
+pub only_this : (bytes : List ℕ) (result : Result Block DecodeError) (block : Block) → Answers (λ b. b) fault_offset result (block_in bytes) → Spells bytes block → Answers (λ b. b) fault_offset result (Ok block)
+only_this bytes (Ok found) block told is = let f = is_read bytes block is in sym f ∙ told
+only_this bytes (Err (Malformed offset)) block told is = let f = is_read bytes block is in absurd cc
 only_this bytes (Err Memory) block told is = tt
 
-pub found_this : (bytes : List ℕ) (result : Result Block DecodeError) → IsBytes bytes → TellsSpelled result (block_in bytes) → IfOk result (Spells bytes)
+pub found_this : (bytes : List ℕ) (result : Result Block DecodeError) → IsBytes bytes → Answers (λ b. b) fault_offset result (block_in bytes) → IfOk result (Spells bytes)
 found_this bytes (Ok block) fits told = is_spelled bytes block fits told
 found_this bytes (Err error) fits told = tt
 
-pub place_this : (bytes : List ℕ) (result : Result Block DecodeError) → IsBytes bytes → TellsSpelled result (block_in bytes) → HasPlace bytes result
-place_this bytes (Ok block) fits told = tt
-place_this bytes (Err (Malformed place)) fits told = is_placed bytes place fits told
-place_this bytes (Err Memory) fits told = tt
+pub offset_this : (bytes : List ℕ) (result : Result Block DecodeError) → IsBytes bytes → Answers (λ b. b) fault_offset result (block_in bytes) → IfErr result (λ error. IfSome (fault_offset error) (IsFaultOffset bytes))
+offset_this bytes (Ok block) fits told = tt
+offset_this bytes (Err (Malformed offset)) fits told = is_invalid bytes offset fits told
+offset_this bytes (Err Memory) fits told = tt

@@ -1,11 +1,12 @@
--- Frames: how a block file is cut into the bytes of its blocks.
-use Rattle.std.specs.Prelude.{◌≡◌, ℕ, ◌+◌, ◌<◌, ◌≤◌, ◌==◌, nat_lt, ◌||◌, if◌then◌else◌, List, [], length, take, drop, Option, Some, None, Result, Ok, Err, IsErrOf}
+-- Frames: how a block file is split into the bytes of its blocks.
+use Rattle.std.specs.Prelude.{◌≡◌, ℕ, ◌+◌, ◌<◌, ◌≤◌, ◌==◌, nat_lt, ◌||◌, if◌then◌else◌, List, [], length, take, drop, Option, Some, None, Result, Ok, Err}
 use Rattle.std.specs.Int.{w32, from_be_bytes}
-use Rattle.lc_base.specs.Outside.{Rose, prepend, IsAtEnd}
+use Rattle.lc_base.specs.Outside.{prepend, IsAtEnd}
+use Rattle.block_codec.specs.declared.limits.TheConstants.{MAX_BLOCK_BYTES, MAX_FRAMES}
 use Rattle.block_codec.specs.declared.frames.FrameError.{FrameError}
 use Rattle.block_codec.specs.declared.frames.FrameError.TheVariants as errors
 
--- what stands at the front of an input
+-- What stands at the start of an input.
 pub data FrameStep : Type 0 where
   -- nothing
   End : FrameStep
@@ -18,19 +19,26 @@ pub data FrameStep : Type 0 where
   -- a frame's bytes, and what follows them
   Frame : List ℕ → List ℕ → FrameStep
 
--- so many bytes, where they are there
+-- So many bytes, where they are there.
 abbrev pub frame_of : ℕ → List ℕ → FrameStep
 frame_of count input = if nat_lt (length input) count then Truncated else Frame (take count input) (drop count input)
 
--- a frame of this length, where it may have it and fewer than 2,097,152 were taken before
-abbrev pub sized : ℕ → ℕ → List ℕ → FrameStep
-sized taken count input = if count == 0 || nat_lt 1048576 count then Length count else (if taken == 2097152 then Many else frame_of count input)
+-- A frame of this length, where a frame may have it and fewer than `MAX_FRAMES` were taken before.
+abbrev pub sized_frame : ℕ → ℕ → List ℕ → FrameStep
+sized_frame taken count input =
+    if count == 0 || nat_lt MAX_BLOCK_BYTES count then Length count
+    else (if taken == MAX_FRAMES then Many else frame_of count input)
 
--- what stands at the front of an input of which so many frames were taken: four bytes of length, the greatest first, and that many bytes
+-- What stands at the start of an input of which so many frames were taken: four bytes of length,
+-- the most significant first, and that many bytes.
 unfoldable pub frame_step : ℕ → List ℕ → FrameStep
-frame_step taken input = if length input == 0 then End else (if nat_lt (length input) 4 then Truncated else sized taken (from_be_bytes w32 (take 4 input)) (drop 4 input))
+frame_step taken input =
+    if length input == 0 then End
+    else (if nat_lt (length input) 4 then Truncated
+    else sized_frame taken (from_be_bytes w32 (take 4 input)) (drop 4 input))
 
--- What a reader of frames answers on an input, and what it leaves. A fault and want of memory say nothing of the input.
+-- What a reader of frames answers on an input, and what it leaves. A fault of the source and being
+-- out of memory say nothing of the input.
 abbrev pub IsFrameAnswer : ℕ → List ℕ → Result (Option (List ℕ × ℕ)) FrameError → Option (List ℕ) → Type 0
 IsFrameAnswer taken input (Ok None) left = (frame_step taken input ≡ End) × (left ≡ Some [])
 IsFrameAnswer taken input (Ok (Some frame)) left = (rest : List ℕ) × (frame_step taken input ≡ Frame frame.0 rest) × (left ≡ Some rest)
@@ -40,13 +48,13 @@ IsFrameAnswer taken input (Err errors.Many) left = (frame_step taken input ≡ M
 IsFrameAnswer taken input (Err errors.Fault) left = Unit {0}
 IsFrameAnswer taken input (Err errors.Memory) left = Unit {0}
 
--- a frame that is taken counts, and there are at most 2,097,152
-abbrev pub Counts : ℕ → Result (Option (List ℕ × ℕ)) FrameError → Type 0
-Counts taken (Ok (Some frame)) = (frame.1 ≡ taken + 1) × (frame.1 ≤ 2097152)
-Counts taken (Ok None) = Unit {0}
-Counts taken (Err error) = Unit {0}
+-- A frame that is taken is counted, and at most `MAX_FRAMES` are.
+abbrev pub CountsFrame : ℕ → Result (Option (List ℕ × ℕ)) FrameError → Type 0
+CountsFrame taken (Ok (Some frame)) = (frame.1 ≡ taken + 1) × (frame.1 ≤ MAX_FRAMES)
+CountsFrame taken (Ok None) = Unit {0}
+CountsFrame taken (Err error) = Unit {0}
 
--- the bytes of a frame, or that the input ends within it
+-- The bytes of a frame, or that the input ends within it.
 abbrev pub IsBody : FrameStep → Result (List ℕ) FrameError → Option (List ℕ) → Type 0
 IsBody step (Ok bytes) left = (rest : List ℕ) × (step ≡ Frame bytes rest) × (left ≡ Some rest)
 IsBody step (Err errors.Truncated) left = (step ≡ Truncated) × (left ≡ Some [])
@@ -54,14 +62,10 @@ IsBody step (Err errors.Fault) left = Unit {0}
 IsBody step (Err errors.Memory) left = Unit {0}
 IsBody step (Err error) left = ⊥
 
--- The count of faults did not fall, and rose where a fault is answered.
-pub record HasFaultCause {T : Type 0} (before now : ℕ) (result : Result T FrameError) : Type 0 where
-  pub later : before ≤ now
-  pub fault : IsErrOf result errors.Fault → Rose before now
-
 -- ---- filling a buffer from a source
 
--- A buffer filled as far as the source goes: it has fewer bytes than it has room for only at the end. A failure leaves what was not taken.
+-- A buffer filled as far as the source goes: it has fewer bytes than it has room for only at the
+-- end. A failure leaves what was not taken.
 abbrev pub Fills : {E : Type 0} → Option (List ℕ) → Option (List ℕ) → Result ℕ E → List ℕ → Type 0
 Fills old new (Ok n) buffer = (old ≡ prepend (take n buffer) new) × (n < length buffer → IsAtEnd new)
 Fills old new (Err e) buffer = (taken : List ℕ) × (old ≡ prepend taken new)

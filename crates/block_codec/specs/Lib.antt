@@ -3,4 +3,3 @@ pub mod Reading
 pub mod Frames
 pub mod Decoding
 pub mod Placement
-pub mod Encoding

@@ -5,33 +5,38 @@ use Rattle.std.specs.Cmp.Lexicographic.{pointwise}
 use Rattle.sha2.specs.Sha256.{sha256}
 use Rattle.lc_base.specs.declared.digest.Digest.{Digest}
 use Rattle.block_codec.specs.Spelling.{block_fields}
+use Rattle.block_codec.specs.declared.limits.TheConstants.{MAX_BLOCKS, MAX_ROWS_BEFORE_BLOCK}
+use Rattle.block_codec.specs.declared.placement.TheConstants.{BLOCK_TAG}
 use Rattle.block_codec.specs.declared.block.Block.{Block}
 use Rattle.block_codec.specs.declared.placement.Placement.{Placement}
 use Rattle.block_codec.specs.declared.placement.Placement.TheVariants.{Known, Next, Fork, Full, Number, Parent}
 
--- the digest of the bytes of a block: SHA-256 of the byte 7 and these (FIPS 180-4)
+-- The digest of the bytes of a block: SHA-256 of the byte 7 and these (FIPS 180-4).
 abbrev pub bytes_digest : List ℕ → Digest
-bytes_digest bytes = record { 0 = sha256 (7 ∷ bytes) }
+bytes_digest bytes = record { 0 = sha256 (BLOCK_TAG ∷ bytes) }
 
--- the digest of a block: that of its spelling
+-- The digest of a block: that of its spelling.
 abbrev pub digest_of : Block → Digest
 digest_of block = bytes_digest (concat (block_fields block))
 
+-- Whether two digests are the same.
 abbrev pub is_same_digest : Digest → Digest → Bool
 is_same_digest a b = pointwise ◌==◌ a.0 b.0
 
--- a block of a held number: the held block itself, or another
-abbrev pub of_held : Digest → Digest → Placement
-of_held have digest = if is_same_digest have digest then Known else Fork have
+-- A block of a held number: the held block itself, or another.
+abbrev pub held_placement : Digest → Digest → Placement
+held_placement have digest = if is_same_digest have digest then Known else Fork have
 
--- A block of a number that is not held: next, where the chain has room, this is its number, and its parent is the last block.
-abbrev pub of_new : ℕ → ℕ → Digest → Block → Placement
-of_new held rows parent block =
-    if held == 1048576 || nat_lt 4293918718 rows then Full
+-- A block of a number that is not held: next, where the chain has room, this is its number, and its
+-- parent is the last block.
+abbrev pub new_placement : ℕ → ℕ → Digest → Block → Placement
+new_placement held rows parent block =
+    if held == MAX_BLOCKS || nat_lt MAX_ROWS_BEFORE_BLOCK rows then Full
     else (if not (block.number == held) then Number held
     else (if not (is_same_digest block.parent parent) then Parent parent else Next))
 
--- where a block stands to a chain of `held` blocks and so many rows: `have` is the digest of the held block of its number, `parent` that of the last block
+-- Where a block stands to a chain of `held` blocks and so many rows: `have` is the digest of the
+-- held block of its number, `parent` that of the last block.
 abbrev pub placement : ℕ → ℕ → Option Digest → Digest → Block → Digest → Placement
-placement held rows (Some have) parent block digest = of_held have digest
-placement held rows None parent block digest = of_new held rows parent block
+placement held rows (Some have) parent block digest = held_placement have digest
+placement held rows None parent block digest = new_placement held rows parent block

@@ -3,16 +3,7 @@
 use lc_base::{Digest, Duplicate, Key, KeyList, Memory, Seq, Value};
 use std::alloc::Global;
 
-/// The greatest number of bytes of a block.
-pub const MAX_BLOCK: usize = 1_048_576;
-
-/// The greatest number of transactions of a block.
-pub const MAX_TXS: u16 = 4096;
-
-/// The greatest number of dependency keys of a transaction.
-pub const MAX_DEPS: u8 = 64;
-
-/// The first byte of a block.
+/// The first byte of a block: the version of its format.
 pub const VERSION: u8 = 1;
 
 /// The first byte of a transaction that writes a value.
@@ -26,7 +17,7 @@ pub enum Tx {
         sender: Key,
         key: Key,
         value: Value,
-        /// At most 64.
+        /// At most `MAX_DEPS`.
         deps: KeyList,
     },
 }
@@ -40,7 +31,7 @@ pub struct Block {
     pub number: u32,
     /// The digest of the block before.
     pub parent: Digest,
-    /// At most 4,096.
+    /// At most `MAX_TXS`.
     pub txs: TxList,
 }
 

@@ -1,15 +1,17 @@
 //! Reading blocks from their bytes.
 
-ghost use Rattle.std.specs.Prelude.{◌≡◌, IfOk, length};
+ghost use Rattle.std.specs.Prelude.{◌≡◌, Ok, IfOk, IfErr, IfSome, length};
+ghost use Rattle.lc_base.specs.Answers.{Answers};
 ghost use Rattle.byte_fields.specs.Reading.{items_at, key_at};
-ghost use Rattle.byte_fields.specs.Reader.{ReadsKept};
-ghost use Rattle.block_codec.specs.Spelling.{Spells, IsDecoder};
+ghost use Rattle.byte_fields.specs.Reader.{error_left, Reads};
+ghost use Rattle.block_codec.specs.Spelling.{Spells, IsFaultOffset, IsDecoder};
 ghost use Rattle.block_codec.specs.Reading.{dep_keys_at, set_at, tx_at, txs_at, block_at, whole_block, block_in};
-ghost use Rattle.block_codec.specs.Decoding.{HasPlace, IsBlockOr, ReadsAll, TellsSpelled};
+ghost use Rattle.block_codec.specs.Decoding.{fault_offset};
 
-use crate::block::{Block, MAX_BLOCK, MAX_DEPS, MAX_TXS, SET, Tx, TxList, VERSION};
+use crate::block::{Block, SET, Tx, TxList, VERSION};
+use crate::limits::{MAX_BLOCK_BYTES, MAX_TXS};
 use byte_fields::{Fault, FieldError, Reader};
-use lc_base::{Digest, KeyList};
+use lc_base::{Digest, KeyList, MAX_DEPS};
 use std::alloc::Global;
 
 /// Why bytes were not read as a block.
@@ -17,16 +19,16 @@ use std::alloc::Global;
 pub enum DecodeError {
     /// They spell no block.
     Malformed {
-        /// Where the first field begins that is cut short or breaks its rule, or the first byte behind
-        /// the last field stands; at most 1,048,576.
+        /// The offset of the first field that is cut short or breaks its rule, or of the first
+        /// trailing byte; at most `MAX_BLOCK_BYTES`.
         at: usize,
     },
-    /// No memory was to be had.
+    /// Out of memory.
     Memory,
 }
 
 fn keys(alloc: Global, reader: &mut Reader, count: u8) -> Result<KeyList, FieldError>
-    ensures { ReadsKept result (items_at key_at count reader.old) reader.new }
+    ensures { Reads error_left result (items_at key_at count reader.old) reader.new }
 {
     let mut keys = KeyList::new(alloc);
     for _ in 0..count {
@@ -38,15 +40,15 @@ fn keys(alloc: Global, reader: &mut Reader, count: u8) -> Result<KeyList, FieldE
 
 #[tactic(auto, unfolding(crate::specs::Reading::dep_keys_at))]
 fn dep_keys(alloc: Global, reader: &mut Reader) -> Result<KeyList, FieldError>
-    ensures { ReadsKept result (dep_keys_at reader.old) reader.new }
+    ensures { Reads error_left result (dep_keys_at reader.old) reader.new }
 {
-    let count = reader.byte_at_most(MAX_DEPS)?;
+    let count = reader.byte_at_most(MAX_DEPS as u8)?;
     keys(alloc, reader, count)
 }
 
 #[tactic(auto, unfolding(crate::specs::Reading::set_at))]
 fn set(alloc: Global, reader: &mut Reader) -> Result<Tx, FieldError>
-    ensures { ReadsKept result (set_at reader.old) reader.new }
+    ensures { Reads error_left result (set_at reader.old) reader.new }
 {
     let sender = reader.key()?;
     let key = reader.key()?;
@@ -62,14 +64,14 @@ fn set(alloc: Global, reader: &mut Reader) -> Result<Tx, FieldError>
 
 #[tactic(auto, unfolding(crate::specs::Reading::tx_at))]
 fn tx(alloc: Global, reader: &mut Reader) -> Result<Tx, FieldError>
-    ensures { ReadsKept result (tx_at reader.old) reader.new }
+    ensures { Reads error_left result (tx_at reader.old) reader.new }
 {
     reader.byte_that_is(SET)?;
     set(alloc, reader)
 }
 
 fn counted_txs(alloc: Global, reader: &mut Reader, count: u16) -> Result<TxList, FieldError>
-    ensures { ReadsKept result (items_at tx_at count reader.old) reader.new }
+    ensures { Reads error_left result (items_at tx_at count reader.old) reader.new }
 {
     let mut txs = TxList::new(alloc);
     for _ in 0..count {
@@ -81,7 +83,7 @@ fn counted_txs(alloc: Global, reader: &mut Reader, count: u16) -> Result<TxList,
 
 #[tactic(auto, unfolding(crate::specs::Reading::txs_at))]
 fn txs(alloc: Global, reader: &mut Reader) -> Result<TxList, FieldError>
-    ensures { ReadsKept result (txs_at reader.old) reader.new }
+    ensures { Reads error_left result (txs_at reader.old) reader.new }
 {
     let count = reader.u16_at_most(MAX_TXS)?;
     counted_txs(alloc, reader, count)
@@ -89,7 +91,7 @@ fn txs(alloc: Global, reader: &mut Reader) -> Result<TxList, FieldError>
 
 #[tactic(auto, unfolding(crate::specs::Reading::block_at))]
 fn block(alloc: Global, reader: &mut Reader) -> Result<Block, FieldError>
-    ensures { ReadsKept result (block_at reader.old) reader.new }
+    ensures { Reads error_left result (block_at reader.old) reader.new }
 {
     reader.byte_that_is(VERSION)?;
     let number = reader.u32()?;
@@ -103,8 +105,8 @@ fn block(alloc: Global, reader: &mut Reader) -> Result<Block, FieldError>
 }
 
 #[tactic(auto, unfolding(crate::specs::Reading::whole_block))]
-fn whole(alloc: Global, bytes: &[u8]) -> Result<Block, FieldError>
-    ensures { ReadsAll result (whole_block bytes.now) }
+fn whole_block(alloc: Global, bytes: &[u8]) -> Result<Block, FieldError>
+    ensures { Answers (λ block. block) error_left result (whole_block bytes.now) }
 {
     let mut reader = Reader::new(bytes);
     let block = block(alloc, &mut reader)?;
@@ -115,32 +117,35 @@ fn whole(alloc: Global, bytes: &[u8]) -> Result<Block, FieldError>
     Ok(block)
 }
 
-/// The block that the bytes spell, at most 1,048,576 of them.
+/// The block that the bytes spell, at most `MAX_BLOCK_BYTES` of them.
 #[tactic(auto, unfolding(crate::specs::Reading::block_in))]
-fn spelled(alloc: Global, bytes: &[u8]) -> Result<Block, DecodeError>
-    ensures { TellsSpelled result (block_in bytes.now) }
+fn block_in(alloc: Global, bytes: &[u8]) -> Result<Block, DecodeError>
+    ensures { Answers (λ block. block) fault_offset result (block_in bytes.now) }
 {
-    match whole(alloc, bytes) {
-        Ok(_) if bytes.len() > MAX_BLOCK => Err(DecodeError::Malformed { at: MAX_BLOCK }),
+    match whole_block(alloc, bytes) {
+        Ok(_) if bytes.len() > MAX_BLOCK_BYTES => Err(DecodeError::Malformed {
+            at: MAX_BLOCK_BYTES,
+        }),
         Ok(block) => Ok(block),
         Err(FieldError::Fault(fault)) => Err(DecodeError::Malformed {
-            at: (bytes.len() - fault.left).min(MAX_BLOCK),
+            at: (bytes.len() - fault.left).min(MAX_BLOCK_BYTES),
         }),
         Err(FieldError::Memory) => Err(DecodeError::Memory),
     }
 }
 
-/// The block that the bytes spell, at most 1,048,576 of them. Malformed exactly where they spell none.
+/// The block that the bytes spell, at most `MAX_BLOCK_BYTES` of them. Malformed exactly where they
+/// spell none.
 pub fn decode(alloc: Global, bytes: &[u8]) -> Result<Block, DecodeError>
     // What is read is spelled so.
     ensures found { IfOk result (Spells bytes.now) }
     // What is spelled so is read, unless memory runs out.
-    ensures only { (block : Block) → Spells bytes.now block → IsBlockOr result block }
-    // A fault is told at its place.
-    ensures place { HasPlace bytes.now result }
-    // What bytes spell is told by a function, and that is answered.
+    ensures only { (block : Block) → Spells bytes.now block → Answers (λ block. block) fault_offset result (Ok block) }
+    // A fault is told at its offset.
+    ensures offset { IfErr result (λ error. IfSome (fault_offset error) (IsFaultOffset bytes.now)) }
+    // What bytes spell is said by a function, and that is the answer.
     ensures decided { IsDecoder block_in }
-    ensures exact { TellsSpelled result (block_in bytes.now) }
+    ensures exact { Answers (λ block. block) fault_offset result (block_in bytes.now) }
 {
-    spelled(alloc, bytes)
+    block_in(alloc, bytes)
 }

@@ -1,24 +1,24 @@
 //! Writing blocks as their bytes.
 
-ghost use Rattle.std.specs.Prelude.{◌≡◌, ◌<◌, ◌≤◌, ◌∷◌, ◌++◌, [], List, ℕ, length, OnOk, IfOk};
+ghost use Rattle.std.specs.Prelude.{◌≡◌, ◌<◌, ◌≤◌, ◌∷◌, ◌++◌, [], List, ℕ, length, OnOk, IfOk, IsErrOf};
 ghost use Rattle.std.specs.List.{concat, flat_map, AllByRecursion};
 ghost use Rattle.lc_base.specs.KeyBytes.{IsKey};
 ghost use Rattle.byte_fields.specs.Spelling.{string_fields};
 ghost use Rattle.block_codec.specs.Spelling.{IsTx, IsBlock, Spells, tx_fields, block_fields};
-ghost use Rattle.block_codec.specs.Encoding.{OnLimit};
 
-use crate::block::{Block, MAX_BLOCK, MAX_DEPS, MAX_TXS, SET, Tx, VERSION};
+use crate::block::{Block, SET, Tx, VERSION};
+use crate::limits::{MAX_BLOCK_BYTES, MAX_TXS};
 use byte_fields::{put_key, put_value};
-use lc_base::{Bytes, Key, Memory};
+use lc_base::{Bytes, Key, MAX_DEPS, Memory};
 use std::alloc::{AllocError, AllocFailed, Global};
 
 /// Why a block was not written.
 #[derive(Clone, Copy, Debug, PartialEq, Eq)]
 pub enum EncodeError {
-    /// It has no spelling: more than 4,096 transactions, more than 64 dependency keys in one of them, or
-    /// more than 1,048,576 bytes.
+    /// It has no spelling: it has more than `MAX_TXS` transactions, more than `MAX_DEPS` dependency
+    /// keys in one of them, or more than `MAX_BLOCK_BYTES` bytes.
     Limit,
-    /// No memory was to be had.
+    /// Out of memory.
     Memory,
 }
 
@@ -65,7 +65,7 @@ fn put_keys(out: &mut Vec<u8>, keys: &[Key]) -> Result<(), Memory>
 fn put_tx(out: &mut Vec<u8>, tx: &Tx) -> Result<(), EncodeError>
     ensures written { OnOk result (out.new.items ≡ out.old.items ++ concat (tx_fields tx.now)) }
     ensures lawful { OnOk result (IsTx tx.now) }
-    ensures limit { OnLimit result (IsTx tx.now → ⊥) }
+    ensures limit { IsErrOf result EncodeError.Limit → IsTx tx.now → ⊥ }
 {
     match tx {
         Tx::Set {
@@ -74,7 +74,7 @@ fn put_tx(out: &mut Vec<u8>, tx: &Tx) -> Result<(), EncodeError>
             value,
             deps,
         } => {
-            if deps.len() > MAX_DEPS as usize {
+            if deps.len() > MAX_DEPS {
                 return Err(EncodeError::Limit);
             }
             out.push(SET)?;
@@ -91,7 +91,7 @@ fn put_tx(out: &mut Vec<u8>, tx: &Tx) -> Result<(), EncodeError>
 fn put_txs(out: &mut Vec<u8>, txs: &[Tx]) -> Result<(), EncodeError>
     ensures written { OnOk result (out.new.items ≡ out.old.items ++ concat (flat_map tx_fields txs.now)) }
     ensures lawful { OnOk result (AllByRecursion IsTx txs.now) }
-    ensures limit { OnLimit result (AllByRecursion IsTx txs.now → ⊥) }
+    ensures limit { IsErrOf result EncodeError.Limit → AllByRecursion IsTx txs.now → ⊥ }
 {
     for tx in txs {
         put_tx(out, tx)?;
@@ -102,7 +102,7 @@ fn put_txs(out: &mut Vec<u8>, txs: &[Tx]) -> Result<(), EncodeError>
 fn put_block(out: &mut Vec<u8>, block: &Block) -> Result<(), EncodeError>
     ensures written { OnOk result (out.new.items ≡ out.old.items ++ concat (block_fields block.now)) }
     ensures lawful { OnOk result (IsBlock block.now) }
-    ensures limit { OnLimit result (IsBlock block.now → ⊥) }
+    ensures limit { IsErrOf result EncodeError.Limit → IsBlock block.now → ⊥ }
 {
     if block.txs.len() > MAX_TXS as usize {
         return Err(EncodeError::Limit);
@@ -117,11 +117,11 @@ fn put_block(out: &mut Vec<u8>, block: &Block) -> Result<(), EncodeError>
 /// The bytes that spell the block. Limit exactly where no bytes do.
 pub fn encode(alloc: Global, block: &Block) -> Result<Bytes, EncodeError>
     ensures spelled { IfOk result (λ bytes. Spells bytes block.now) }
-    ensures limit { OnLimit result ((bytes : List ℕ) → Spells bytes block.now → ⊥) }
+    ensures limit { IsErrOf result EncodeError.Limit → (bytes : List ℕ) → Spells bytes block.now → ⊥ }
 {
     let mut out = Vec::new(alloc);
     put_block(&mut out, block)?;
-    if out.len() > MAX_BLOCK {
+    if out.len() > MAX_BLOCK_BYTES {
         return Err(EncodeError::Limit);
     }
     Ok(Bytes::from_vec(out))

@@ -1,29 +1,27 @@
 //! The frames of a block file.
 
-ghost use Rattle.std.specs.Prelude.{◌≡◌, ◌≤◌, length, IfOk, IfSome};
+ghost use Rattle.std.specs.Prelude.{◌≡◌, ◌≤◌, length, IfOk, IfSome, IsErr, IsErrOf};
 ghost use Rattle.lc_base.specs.Outside.{HasCause};
-ghost use Rattle.block_codec.specs.Frames.{Fills, frame_of, IsBody, IsFrameAnswer, Counts, HasFaultCause};
+ghost use Rattle.block_codec.specs.Frames.{Fills, frame_of, IsBody, IsFrameAnswer, CountsFrame};
+ghost use Rattle.block_codec.specs.declared.limits.TheConstants.{MAX_FRAMES};
 
+use crate::limits::{MAX_BLOCK_BYTES, MAX_FRAMES};
 use lc_base::{Bytes, Failed, Source};
 use std::alloc::{AllocError, Global};
 use std::marker::Model;
-
-const MAX_FRAME: u32 = 1_048_576;
-
-const MAX_FRAMES: u32 = 2_097_152;
 
 /// Why no further frame could be taken.
 #[derive(Clone, Copy, Debug, PartialEq, Eq)]
 pub enum FrameError {
     /// The input ends within the frame.
     Truncated,
-    /// A frame has 1 to 1,048,576 bytes, and this says so many.
+    /// A frame has 1 to `MAX_BLOCK_BYTES` bytes, and this says that it has so many.
     Length(u32),
-    /// An input has at most 2,097,152 frames.
+    /// An input has at most `MAX_FRAMES` frames.
     Many,
     /// The source failed.
     Fault,
-    /// No memory was to be had.
+    /// Out of memory.
     Memory,
 }
 
@@ -55,19 +53,20 @@ pub struct Frames {
 
 impl Model for Frames {
     ghost use Rattle.std.specs.Prelude.{ℕ, ◌≤◌};
+    ghost use Rattle.block_codec.specs.declared.limits.TheConstants.{MAX_FRAMES};
 
     ghost Value = { ℕ };
 
     ghost view = { λ frames. frames.taken };
 
-    ghost invariant = { λ frames. frames.taken ≤ 2097152 };
+    ghost invariant = { λ frames. frames.taken ≤ MAX_FRAMES };
 }
 
 /// Fills the buffer as far as the source goes, and answers how many bytes came.
 fn fill<I: Source>(source: &mut I, buffer: &mut [u8]) -> Result<usize, Failed>
     ensures bound { IfOk result (λ n. n ≤ length buffer.new) }
     ensures bytes { Fills (I.left source.old) (I.left source.new) result buffer.new }
-    ensures cause { HasCause (I.source_faults source.old) (I.source_faults source.new) result }
+    ensures cause { HasCause (I.source_faults source.old) (I.source_faults source.new) (IsErr result) }
 {
     let mut start = 0;
     while start < buffer.len() {
@@ -83,7 +82,7 @@ fn fill<I: Source>(source: &mut I, buffer: &mut [u8]) -> Result<usize, Failed>
 /// The next `count` bytes of the source, or `Truncated` where it has fewer.
 fn body<I: Source>(alloc: Global, source: &mut I, count: u32) -> Result<Bytes, FrameError>
     ensures bytes { IfSome (I.left source.old) (λ input. IsBody (frame_of count input) result (I.left source.new)) }
-    ensures cause { HasFaultCause (I.source_faults source.old) (I.source_faults source.new) result }
+    ensures cause { HasCause (I.source_faults source.old) (I.source_faults source.new) (IsErrOf result FrameError.Fault) }
 {
     let mut bytes = vec![in alloc; 0u8; count as usize]?;
     let filled = fill(source, &mut bytes)?;
@@ -101,15 +100,16 @@ impl Frames {
         Frames { taken: 0 }
     }
 
-    /// How many frames were taken, at most 2,097,152.
+    /// How many frames were taken, at most `MAX_FRAMES`.
     pub fn taken(&self) -> u32
         ensures count { result ≡ self.now }
-        ensures bound { result ≤ 2097152 }
+        ensures bound { result ≤ MAX_FRAMES }
     {
         self.taken
     }
 
-    /// The bytes of the next frame, 1 to 1,048,576 of them, and the frames after it; `None` at the end of the input between frames.
+    /// The bytes of the next frame, 1 to `MAX_BLOCK_BYTES` of them, and the frames after it; `None`
+    /// at the end of the input between frames.
     #[tactic(auto, unfolding(crate::specs::Frames::frame_step))]
     pub fn next<I: Source>(
         self,
@@ -117,8 +117,8 @@ impl Frames {
         source: &mut I,
     ) -> Result<Option<(Bytes, Frames)>, FrameError>
         ensures answer { IfSome (I.left source.old) (λ input. IsFrameAnswer self input result (I.left source.new)) }
-        ensures count { Counts self result }
-        ensures cause { HasFaultCause (I.source_faults source.old) (I.source_faults source.new) result }
+        ensures count { CountsFrame self result }
+        ensures cause { HasCause (I.source_faults source.old) (I.source_faults source.new) (IsErrOf result FrameError.Fault) }
     {
         let mut header = [0u8; 4];
         let filled = fill(source, &mut header)?;
@@ -129,7 +129,7 @@ impl Frames {
             return Err(FrameError::Truncated);
         }
         let count = u32::from_be_bytes(header);
-        if count == 0 || count > MAX_FRAME {
+        if count == 0 || count > MAX_BLOCK_BYTES as u32 {
             return Err(FrameError::Length(count));
         }
         if self.taken == MAX_FRAMES {

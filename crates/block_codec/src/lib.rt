@@ -5,13 +5,12 @@ mod block;
 mod decoding;
 mod encoding;
 mod frames;
+mod limits;
 mod placement;
 
-pub use block::{Block, Tx, TxList};
+pub use block::{Block, SET, Tx, TxList, VERSION};
 pub use decoding::{DecodeError, decode};
 pub use encoding::{EncodeError, encode};
 pub use frames::{FrameError, Frames};
+pub use limits::{MAX_BLOCK_BYTES, MAX_BLOCKS, MAX_FRAMES, MAX_ROWS_BEFORE_BLOCK, MAX_TXS};
 pub use placement::{Placement, block_digest, place};
-
-#[cfg(test)]
-mod tests;

@@ -1,18 +1,15 @@
 //! Where a block stands to a chain.
 
 ghost use Rattle.std.specs.Prelude.{◌≡◌, ◌<◌, ◌↔◌, IsSome};
-ghost use Rattle.block_codec.specs.Placement.{bytes_digest, of_held, of_new, placement};
+ghost use Rattle.block_codec.specs.Placement.{bytes_digest, held_placement, new_placement, placement};
 
 use crate::block::Block;
+use crate::limits::{MAX_BLOCKS, MAX_ROWS_BEFORE_BLOCK};
 use digest_kit::TagHasher;
 use lc_base::Digest;
 
 /// The tag of a block among the texts that are hashed.
-const BLOCK_TAG: u8 = 0x07;
-
-const MAX_BLOCKS: u32 = 1_048_576;
-
-const MAX_ROWS: u64 = 4_293_918_718;
+pub const BLOCK_TAG: u8 = 0x07;
 
 /// Where a block stands to a chain.
 #[derive(Clone, Copy, Debug, PartialEq, Eq)]
@@ -40,8 +37,8 @@ pub fn block_digest(bytes: &[u8]) -> Digest
     hasher.finish()
 }
 
-fn of_held(have: Digest, digest: Digest) -> Placement
-    ensures { result ≡ of_held have digest }
+fn held_placement(have: Digest, digest: Digest) -> Placement
+    ensures { result ≡ held_placement have digest }
 {
     if have == digest {
         Placement::Known
@@ -50,10 +47,10 @@ fn of_held(have: Digest, digest: Digest) -> Placement
     }
 }
 
-fn of_new(held: u32, rows: u64, parent: Digest, block: &Block) -> Placement
-    ensures { result ≡ of_new held rows parent block.now }
+fn new_placement(held: u32, rows: u64, parent: Digest, block: &Block) -> Placement
+    ensures { result ≡ new_placement held rows parent block.now }
 {
-    if held == MAX_BLOCKS || rows > MAX_ROWS {
+    if held == MAX_BLOCKS || rows > MAX_ROWS_BEFORE_BLOCK {
         return Placement::Full;
     }
     if block.number != held {
@@ -65,8 +62,10 @@ fn of_new(held: u32, rows: u64, parent: Digest, block: &Block) -> Placement
     Placement::Next
 }
 
-/// Where a block with this digest stands to a chain of `held` blocks and so many rows. `have` is the digest of the held block of
-/// its number, `parent` that of the last block, or 32 zero bytes where there is none.
+/// Where a block with this digest stands to a chain of `held` blocks and so many rows. `have` is
+/// the
+/// digest of the held block of its number, `parent` that of the last block, or 32 zero bytes where
+/// there is none.
 pub fn place(
     held: u32,
     rows: u64,
@@ -79,7 +78,7 @@ pub fn place(
     ensures { result ≡ placement held rows have parent block.now digest }
 {
     match have {
-        Some(have) => of_held(have, digest),
-        None => of_new(held, rows, parent, block),
+        Some(have) => held_placement(have, digest),
+        None => new_placement(held, rows, parent, block),
     }
 }

@@ -10,6 +10,7 @@ use Rattle.std.proofs.lemmas.List.Sums.{position_or_len_is}
 use borrow.Author.Gap.{read_sfits}
 use Rattle.std.proofs.lemmas.Int.{of_z-to_z, to_z-of_z}
 use Rattle.std.proofs.Math.Facts.{Fits-of_z}
+use Rattle.lc_base.specs.declared.limits.TheConstants.{MAX_KEY_BYTES, MAX_TEXT_BYTES}
 use Rattle.lc_base.specs.KeyBytes.{IsKey, is_key_byte, bad_key_byte}
 use Rattle.lc_base.specs.TextBytes.{IsText, is_text_byte, bad_text_byte}
 use Rattle.lc_base.specs.declared.value.Value.{Value}
@@ -56,12 +57,12 @@ letters_good p good n =
 
 pub key_field : IsField key_at string_fields IsKey
 unfolding key_at
-key_field = renamed (string_field 1 64 bad_key_byte (omega arith) (omega arith) (letters_good (λ byte. not (is_key_byte byte)) refl))
+key_field = renamed (string_field 1 MAX_KEY_BYTES bad_key_byte (omega arith) (omega arith) (letters_good (λ byte. not (is_key_byte byte)) refl))
     (λ bytes is. record { some = is.long; short = is.short; good = is.good }) (λ bytes is. record { long = is.some; short = is.short; good = is.good }) (λ bytes is. refl)
 
 pub text_field : IsField text_at string_fields IsText
 unfolding text_at
-text_field = renamed (string_field 0 1024 bad_text_byte (omega arith) (omega arith) (letters_good (λ byte. not (is_text_byte byte)) refl))
+text_field = renamed (string_field 0 MAX_TEXT_BYTES bad_text_byte (omega arith) (omega arith) (letters_good (λ byte. not (is_text_byte byte)) refl))
     (λ bytes is. record { short = is.short; good = is.good }) (λ bytes is. record { long = omega arith; short = is.short; good = is.good }) (λ bytes is. refl)
 
 -- ---- values
@@ -82,10 +83,10 @@ abbrev tag_of : Value → ℕ
 tag_of (Int n) = 0
 tag_of (Text t) = 1
 
--- what stands behind its tag
-abbrev behind_tag : Value → List (List ℕ)
-behind_tag (Int n) = int_bytes n ∷ []
-behind_tag (Text t) = string_fields t
+-- what stands after its tag
+abbrev after_tag : Value → List (List ℕ)
+after_tag (Int n) = int_bytes n ∷ []
+after_tag (Text t) = string_fields t
 
 abbrev int_part : Value → ℤ
 int_part (Int n) = n
@@ -95,7 +96,7 @@ abbrev text_part : Value → List ℕ
 text_part (Int n) = []
 text_part (Text t) = t
 
-tagged_field : (tag : ℕ) → (tag < 256) × (nat_lt tag 2 ≡ true) → IsField (tagged_at tag) behind_tag (HasTag tag)
+tagged_field : (tag : ℕ) → (tag < 256) × (nat_lt tag 2 ≡ true) → IsField (tagged_at tag) after_tag (HasTag tag)
 tagged_field zero is = renamed (made_field Int int_part int_field (λ n fits. refl)) is_int int_is same_int
   where
     is_int : (v : Value) → FitsSigned w64 (int_part v) × (v ≡ Int (int_part v)) → HasTag 0 v
@@ -106,7 +107,7 @@ tagged_field zero is = renamed (made_field Int int_part int_field (λ n fits. re
     int_is (Int n) is = (is, refl)
     int_is (Text t) is = absurd is
 
-    same_int : (v : Value) → FitsSigned w64 (int_part v) × (v ≡ Int (int_part v)) → int_bytes (int_part v) ∷ [] ≡ behind_tag v
+    same_int : (v : Value) → FitsSigned w64 (int_part v) × (v ≡ Int (int_part v)) → int_bytes (int_part v) ∷ [] ≡ after_tag v
     same_int (Int n) is = refl
     same_int (Text t) is = absurd cc
 tagged_field (suc tag) is = renamed (made_field Text text_part text_field (λ t is_t. refl)) is_text text_is same_text
@@ -119,7 +120,7 @@ tagged_field (suc tag) is = renamed (made_field Text text_part text_field (λ t 
     text_is (Int n) is = absurd is
     text_is (Text t) is = (is, refl)
 
-    same_text : (v : Value) → IsText (text_part v) × (v ≡ Text (text_part v)) → string_fields (text_part v) ≡ behind_tag v
+    same_text : (v : Value) → IsText (text_part v) × (v ≡ Text (text_part v)) → string_fields (text_part v) ≡ after_tag v
     same_text (Int n) is = absurd cc
     same_text (Text t) is = refl
 
@@ -137,7 +138,7 @@ values_are : (v : Value) → IsValue v → ((tag_of v < 256) × (nat_lt (tag_of 
 values_are (Int n) is = ((omega arith, refl), is)
 values_are (Text t) is = ((omega arith, refl), is)
 
-same_values : (v : Value) → ((tag_of v < 256) × (nat_lt (tag_of v) 2 ≡ true)) × HasTag (tag_of v) v → (tag_of v ∷ []) ∷ behind_tag v ≡ value_fields v
+same_values : (v : Value) → ((tag_of v < 256) × (nat_lt (tag_of v) 2 ≡ true)) × HasTag (tag_of v) v → (tag_of v ∷ []) ∷ after_tag v ≡ value_fields v
 same_values (Int n) is = refl
 same_values (Text t) is = refl
 

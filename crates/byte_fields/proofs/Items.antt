@@ -37,8 +37,8 @@ items_field {A} {item} {fields} {Is} field zero = renamed (ret_field []) (λ xs 
 items_field {A} {item} {fields} {Is} field (suc n) =
     let other : A = field.some.value in
     let others = items_field field n in
-    let behind = λ (x : A) (is_x : Is x). bind_field {Is_b = λ ys xs. xs ≡ x ∷ ys} (λ (xs : List A). drop 1 xs) others (λ ys is_ys. ret_field (x ∷ ys)) (λ ys xs is_ys is_xs. ap (λ (zs : List A). drop 1 zs) is_xs) in
-    renamed (bind_field {Is_b = λ x xs. Items Is n (drop 1 xs) × (xs ≡ x ∷ drop 1 xs)} (first_or other) field behind (λ x xs is_x is_xs. ap (first_or other) is_xs.1))
+    let after = λ (x : A) (is_x : Is x). bind_field {Is_b = λ ys xs. xs ≡ x ∷ ys} (λ (xs : List A). drop 1 xs) others (λ ys is_ys. ret_field (x ∷ ys)) (λ ys xs is_ys is_xs. ap (λ (zs : List A). drop 1 zs) is_xs) in
+    renamed (bind_field {Is_b = λ x xs. Items Is n (drop 1 xs) × (xs ≡ x ∷ drop 1 xs)} (first_or other) field after (λ x xs is_x is_xs. ap (first_or other) is_xs.1))
     (parts_are Is other n) (are_parts Is other n) (λ xs is. same_fields fields other xs is.1.1)
 
 -- as many as are counted before them

@@ -1,4 +1,4 @@
--- What is read at the front of bytes is spelled so, and what is spelled so is read. Before a fault stand whole fields, and no spelling goes further.
+-- What is read at the start of bytes is spelled so, and what is spelled so is read. Before a fault stand whole fields, and no spelling goes further.
 use Rattle.std.proofs.Common.{◌≡◌, ℕ, zero, suc, ◌+◌, ◌-◌, ◌<◌, ◌≤◌, List, [], ◌∷◌, ◌++◌, length, take, min, Result, Ok, Err, refl, sym, ap, subst, ◌∙◌, append_assoc, arith, inl, inr}
 use Rattle.std.specs.List.{concat}
 use Rattle.std.proofs.lemmas.Bool.{cases_lt}
@@ -6,8 +6,8 @@ use Rattle.std.proofs.lemmas.List.{append-nil, length-append, take-append-le, ta
 use Rattle.byte_fields.specs.Spelling.{IsBytes}
 use Rattle.byte_fields.specs.Reading.{Field, ◌>>=◌, bind_at, ret_at, then_at, made_at}
 
-pub IsBytes-behind : (front rest : List ℕ) → IsBytes (front ++ rest) → IsBytes rest
-IsBytes-behind front rest h i = subst (λ (n : ℕ). n < 256) (get_or-append-add front rest i 0) (h (length front + i))
+pub IsBytes-after : (prefix rest : List ℕ) → IsBytes (prefix ++ rest) → IsBytes rest
+IsBytes-after prefix rest h i = subst (λ (n : ℕ). n < 256) (get_or-append-add prefix rest i 0) (h (length prefix + i))
 
 -- the value of a step that did not fail
 abbrev done : {A : Type 0} → A → Result A ℕ
@@ -16,7 +16,7 @@ done x = Ok x
 pub ok_is : {A : Type 0} (x y : A) → done x ≡ Ok y → x ≡ y
 ok_is x y e = cc
 
--- how many bytes are left behind what was read, or where the field at fault begins
+-- how many bytes are left after what was read, or where the invalid field begins
 abbrev pub left_of : {A : Type 0} → Field A → ℕ
 left_of (Ok x) = length x.1
 left_of (Err left) = left
@@ -46,7 +46,7 @@ pub record Sample {A : Type 0} (Is : A → Type 0) : Type 0 where
   pub value : A
   pub is : Is value
 
--- what was read is spelled so, in front of the rest
+-- what was read is spelled so, before the rest
 pub record Takes {A : Type 0} (fields : A → List (List ℕ)) (Is : A → Type 0) (bytes : List ℕ) (x : A) (rest : List ℕ) : Type 0 where
   pub parts : bytes ≡ concat (fields x) ++ rest
   pub is : Is x
@@ -125,8 +125,8 @@ module _ {A B : Type 0} {read_a : List ℕ → Field A} {read_b : A → List ℕ
   bind_takes : (bytes : List ℕ) (b : B) (rest : List ℕ) → IsBytes bytes → (r : Field A) → read_a bytes ≡ r → (r >>= then_b) ≡ Ok (b, rest) → Takes both Both bytes b rest
   bind_takes bytes b rest fits (Ok a) e got =
       let one = first.takes bytes a.0 a.1 fits e in
-      let behind : IsBytes a.1 = IsBytes-behind (concat (fields_a a.0)) a.1 (subst IsBytes one.parts fits) in
-      let two = (second a.0 one.is).takes a.1 b rest behind got in
+      let after : IsBytes a.1 = IsBytes-after (concat (fields_a a.0)) a.1 (subst IsBytes one.parts fits) in
+      let two = (second a.0 one.is).takes a.1 b rest after got in
       let same : head b ≡ a.0 = heads a.0 b one.is two.is in
       let parts : bytes ≡ concat (fields_a a.0 ++ fields_b b) ++ rest =
       one.parts ∙ ap (λ (t : List ℕ). concat (fields_a a.0) ++ t) two.parts ∙ sym (append_assoc (concat (fields_a a.0)) (concat (fields_b b)) rest) ∙ ap (λ (t : List ℕ). t ++ rest) (sym (concat-append (fields_a a.0) (fields_b b))) in
@@ -142,8 +142,8 @@ module _ {A B : Type 0} {read_a : List ℕ → Field A} {read_b : A → List ℕ
   bind_stops : (bytes : List ℕ) (left : ℕ) → IsBytes bytes → (r : Field A) → read_a bytes ≡ r → (r >>= then_b) ≡ Err left → Stops both Both bytes left
   bind_stops bytes left fits (Ok a) e got =
       let one = first.takes bytes a.0 a.1 fits e in
-      let behind : IsBytes a.1 = IsBytes-behind (concat (fields_a a.0)) a.1 (subst IsBytes one.parts fits) in
-      let two = (second a.0 one.is).stops a.1 left behind got in
+      let after : IsBytes a.1 = IsBytes-after (concat (fields_a a.0)) a.1 (subst IsBytes one.parts fits) in
+      let two = (second a.0 one.is).stops a.1 left after got in
       let b = two.value in
       let same : head b ≡ a.0 = heads a.0 b one.is two.is in
       let n : ℕ = length (fields_a a.0) + two.whole in
@@ -167,7 +167,7 @@ module _ {A B : Type 0} {read_a : List ℕ → Field A} {read_b : A → List ℕ
   bind_falls : (bytes : List ℕ) → IsBytes bytes → (r : Field A) → read_a bytes ≡ r → left_of (r >>= then_b) ≤ left_of r
   bind_falls bytes fits (Ok a) e =
       let one = first.takes bytes a.0 a.1 fits e in
-      falls (second a.0 one.is) a.1 (IsBytes-behind (concat (fields_a a.0)) a.1 (subst IsBytes one.parts fits))
+      falls (second a.0 one.is) a.1 (IsBytes-after (concat (fields_a a.0)) a.1 (subst IsBytes one.parts fits))
   bind_falls bytes fits (Err left) e = omega arith
 
   bind_most : (bytes : List ℕ) (b : B) (whole : ℕ) (rest : List ℕ) → IsBytes bytes → Both b → bytes ≡ concat (take whole (both b)) ++ rest → left_of (bind_at read_a read_b bytes) ≤ length rest
@@ -181,12 +181,12 @@ module _ {A B : Type 0} {read_a : List ℕ → Field A} {read_b : A → List ℕ
             omega (arith, far, on)
         | inr le ↦
             let n : ℕ = whole - length (fields_a (head b)) in
-            let behind : List ℕ = concat (take n (fields_b b)) ++ rest in
+            let after : List ℕ = concat (take n (fields_b b)) ++ rest in
             let taken : take whole (both b) ≡ fields_a (head b) ++ take n (fields_b b) = take_past (fields_a (head b)) (fields_b b) whole n (omega arith) in
-            let parts : bytes ≡ concat (fields_a (head b)) ++ behind =
+            let parts : bytes ≡ concat (fields_a (head b)) ++ after =
             e ∙ ap (λ (t : List (List ℕ)). concat t ++ rest) taken ∙ ap (λ (t : List ℕ). t ++ rest) (concat-append (fields_a (head b)) (take n (fields_b b))) ∙ append_assoc (concat (fields_a (head b))) (concat (take n (fields_b b))) rest in
-            let got : read_a bytes ≡ Ok (head b, behind) = ap read_a parts ∙ first.again (head b) behind is.0 in
-            let far : left_of (read_b (head b) behind) ≤ length rest = (second (head b) is.0).most behind b n rest (IsBytes-behind (concat (fields_a (head b))) behind (subst IsBytes parts fits)) is.1 refl in
+            let got : read_a bytes ≡ Ok (head b, after) = ap read_a parts ∙ first.again (head b) after is.0 in
+            let far : left_of (read_b (head b) after) ≤ length rest = (second (head b) is.0).most after b n rest (IsBytes-after (concat (fields_a (head b))) after (subst IsBytes parts fits)) is.1 refl in
             subst (λ (r : Field A). left_of (r >>= then_b) ≤ length rest) (sym got) far
       ]
 

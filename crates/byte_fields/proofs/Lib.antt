@@ -3,5 +3,5 @@ pub mod Items
 pub mod Pieces
 pub mod Fields
 pub mod Loops
-pub mod LongestFronts
+pub mod LongestPrefixes
 pub mod WrittenItems

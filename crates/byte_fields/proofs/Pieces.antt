@@ -1,4 +1,4 @@
--- Fields of one piece: what is at fault there is at fault where it begins.
+-- Fields of one piece: what is invalid is invalid where it begins.
 use Rattle.std.proofs.Common.{◌≡◌, ℕ, zero, suc, ◌+◌, ◌^◌, ◌<◌, ◌≤◌, Bool, true, false, cond, ltb, List, [], ◌∷◌, ◌++◌, length, take, drop, replicate, Ok, Err, refl, sym, ap, subst, ◌∙◌, arith, inl, inr}
 use Rattle.std.specs.List.{concat}
 use Rattle.std.specs.Int.{Width, w16, w32, w64, byte_len, from_be_bytes, to_be_bytes}
@@ -9,7 +9,7 @@ use Rattle.byte_fields.specs.Reading.{Field, ◌>>=◌, ruled_at, number_at, byt
 use Rattle.byte_fields.specs.Spelling.{IsBytes}
 use Rattle.byte_fields.proofs.Laws.{IsField, Sample, left_of, ok_is, take_nil}
 
--- what was read is the piece, in front of the rest
+-- what was read is the piece, before the rest
 pub record TakesPiece {A : Type 0} (piece : A → List ℕ) (Is : A → Type 0) (bytes : List ℕ) (x : A) (rest : List ℕ) : Type 0 where
   pub parts : bytes ≡ piece x ++ rest
   pub is : Is x
@@ -81,10 +81,10 @@ module _ {A : Type 0} {read : List ℕ → Field A} {piece : A → List ℕ} {Is
 
 -- ---- numbers
 
-IsBytes-drop : (n : ℕ) (bytes : List ℕ) → IsBytes bytes → IsBytes (drop n bytes)
+pub IsBytes-drop : (n : ℕ) (bytes : List ℕ) → IsBytes bytes → IsBytes (drop n bytes)
 IsBytes-drop n bytes h i = rw get_or-drop (h (n + i))
 
-IsBytes-take : (n : ℕ) (bytes : List ℕ) → IsBytes bytes → IsBytes (take n bytes)
+pub IsBytes-take : (n : ℕ) (bytes : List ℕ) → IsBytes bytes → IsBytes (take n bytes)
 IsBytes-take n bytes h i =
     elim (cases_lt i n) [
       | inl lt ↦ rw (get_or-take n bytes i 0 lt) (h i)
@@ -143,9 +143,9 @@ number_piece {w} {limit} wide =
       takes = λ bytes n rest fits e.
           let long = long_enough bytes (ltb (length bytes) len) (from_be_bytes w (take len bytes), drop len bytes) (n, rest) e in
           let enough : len ≤ length bytes = ltb-false _ _ long.0 in
-          let front : to_be_bytes w (from_be_bytes w (take len bytes)) ≡ take len bytes = wide.back (take len bytes) (omega (arith, length-take len bytes)) (IsBytes-take len bytes fits) in
+          let prefix : to_be_bytes w (from_be_bytes w (take len bytes)) ≡ take len bytes = wide.back (take len bytes) (omega (arith, length-take len bytes)) (IsBytes-take len bytes fits) in
           subst (λ (p : ℕ × List ℕ). TakesPiece (to_be_bytes w) (λ n. n < limit) bytes p.0 p.1) long.1
-          (record { parts = sym (ap (λ (t : List ℕ). t ++ drop len bytes) front ∙ take-append-drop len bytes); is = wide.below (take len bytes) (IsBytes-take len bytes fits) });
+          (record { parts = sym (ap (λ (t : List ℕ). t ++ drop len bytes) prefix ∙ take-append-drop len bytes); is = wide.below (take len bytes) (IsBytes-take len bytes fits) });
       again = λ n rest lt.
           let enough : ltb (length (to_be_bytes w n ++ rest)) len ≡ false = le-ltb _ _ (omega (arith, length-append (to_be_bytes w n) rest, wide.len n)) in
           rw (enough, take_at (to_be_bytes w n) rest len (wide.len n), drop_at (to_be_bytes w n) rest len (wide.len n), wide.again n lt) refl;

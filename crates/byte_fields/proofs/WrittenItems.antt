@@ -5,7 +5,7 @@ use Rattle.std.proofs.lemmas.List.{append-nil, take_more, take_all}
 use Rattle.std.proofs.lemmas.List.Concat.{flat_map-append}
 use Rattle.byte_fields.proofs.Laws.{concat-append}
 
--- These items were written behind what stood there, and each is lawful.
+-- These items were written after what stood there, and each is lawful.
 pub record Written {A : Type 0} (fields : A → List (List ℕ)) (Is : A → Type 0) (old new : List ℕ) (items : List A) : Type 0 where
   pub bytes : new ≡ old ++ concat (flat_map fields items)
   pub lawful : AllByRecursion Is items

@@ -1,4 +1,4 @@
 pub mod Spelling
 pub mod Reading
 pub mod Reader
-pub mod Fronts
+pub mod Prefixes

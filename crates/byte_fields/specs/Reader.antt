@@ -1,17 +1,21 @@
--- What a reader answers, against what reading its bytes gives.
-use Rattle.std.specs.Prelude.{◌≡◌, List, ℕ, Result, Ok, Err}
+-- What a reader answers, by what reading its bytes gives.
+use Rattle.std.specs.Prelude.{List, ℕ, Option, Some, None, Result}
+use Rattle.lc_base.specs.Answers.{Answers}
 use Rattle.byte_fields.specs.Reading.{Field}
 use Rattle.byte_fields.specs.declared.fault.Fault.{Fault}
 use Rattle.byte_fields.specs.declared.fault.FieldError.{FieldError}
 use Rattle.byte_fields.specs.declared.fault.FieldError.TheVariants as errors
 
--- The answer is what is read at the front, and the rest is what is left; or it is the fault.
-abbrev pub Reads : {A : Type 0} → Result A Fault → Field A → List ℕ → Type 0
-Reads (Ok x) read rest = read ≡ Ok (x, rest)
-Reads (Err fault) read rest = read ≡ Err fault.left
+-- How many bytes are left where the invalid field begins.
+abbrev pub fault_left : Fault → Option ℕ
+fault_left fault = Some fault.left
 
--- The same, unless memory runs out.
-abbrev pub ReadsKept : {A : Type 0} → Result A FieldError → Field A → List ℕ → Type 0
-ReadsKept (Ok x) read rest = read ≡ Ok (x, rest)
-ReadsKept (Err (errors.Fault fault)) read rest = read ≡ Err fault.left
-ReadsKept (Err errors.Memory) read rest = Unit {0}
+-- The same of an error that may say nothing, since the reader is out of memory.
+abbrev pub error_left : FieldError → Option ℕ
+error_left (errors.Fault fault) = fault_left fault
+error_left errors.Memory = None
+
+-- The answer is what is read at the start, and the rest is what is left; or it is the fault, where
+-- `left_of` says how many bytes are left where the invalid field begins; or it is out of memory.
+abbrev pub Reads : {A E : Type 0} → (E → Option ℕ) → Result A E → Field A → List ℕ → Type 0
+Reads left_of result read rest = Answers (λ value. (value, rest)) left_of result read

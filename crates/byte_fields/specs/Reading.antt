@@ -3,45 +3,48 @@ use Rattle.std.specs.Prelude.{ℕ, zero, suc, ℤ, Bool, nat_lt, nat_le, ◌==�
 use Rattle.std.specs.Int.{Width, w16, w64, byte_len, from_be_bytes, cast_signed}
 use Rattle.lc_base.specs.KeyBytes.{bad_key_byte}
 use Rattle.lc_base.specs.TextBytes.{bad_text_byte}
+use Rattle.lc_base.specs.declared.limits.TheConstants.{MAX_KEY_BYTES, MAX_TEXT_BYTES}
 use Rattle.lc_base.specs.declared.value.Value.{Value}
 use Rattle.lc_base.specs.declared.value.Value.TheVariants.{Int, Text}
 
--- What is read at the front of some bytes: a value and the bytes after it, or how many bytes are left where the field at fault begins.
+-- What is read at the start of some bytes: a value and the bytes after it, or how many bytes are
+-- left where the invalid field begins.
 abbrev pub Field : Type 0 → Type 0
 Field A = Result (A × List ℕ) ℕ
 
 infixl 10 ◌>>=◌
+-- What is read, and then what the function reads after it.
 abbrev pub ◌>>=◌ : {A B : Type 0} → Field A → (A × List ℕ → Field B) → Field B
 (Ok x) >>= f = f x
 (Err left) >>= f = Err left
 
 -- ---- how fields are put together
 
--- one field, and then what it says of the next
+-- One field, and then what it says of the next.
 abbrev pub bind_at : {A B : Type 0} → (List ℕ → Field A) → (A → List ℕ → Field B) → List ℕ → Field B
 bind_at first second bytes = do
   a ← first bytes
   second a.0 a.1
 
--- nothing is read
+-- Nothing is read, and this is the value.
 abbrev pub ret_at : {A : Type 0} → A → List ℕ → Field A
 ret_at x bytes = Ok (x, bytes)
 
--- one field after another
+-- One field after another.
 abbrev pub then_at : {A B : Type 0} → (List ℕ → Field A) → (List ℕ → Field B) → List ℕ → Field (A × B)
 then_at first second = bind_at first (λ a. bind_at second (λ b. ret_at (a, b)))
 
--- fields as one value
+-- Fields as one value.
 abbrev pub made_at : {A B : Type 0} → (A → B) → (List ℕ → Field A) → List ℕ → Field B
 made_at make read = bind_at read (λ a. ret_at (make a))
 
--- a field with a rule
+-- A field with a rule: where its value breaks it, the field is invalid.
 abbrev pub ruled_at : {A : Type 0} → (A → Bool) → (List ℕ → Field A) → List ℕ → Field A
 ruled_at rule read bytes = do
   a ← read bytes
   if rule a.0 then Ok a else Err (length bytes)
 
--- so many items, one after another
+-- So many items, one after another.
 unfoldable pub items_at : {A : Type 0} → (List ℕ → Field A) → ℕ → List ℕ → Field (List A)
 items_at item zero bytes = Ok ([], bytes)
 items_at item (suc n) bytes = do
@@ -49,45 +52,47 @@ items_at item (suc n) bytes = do
   others ← items_at item n first.1
   Ok (first.0 ∷ others.0, others.1)
 
--- all of the bytes: what is read, unless bytes are left behind it
+-- All of the bytes: what is read, unless trailing bytes follow it.
 abbrev pub all_read : {A : Type 0} → Field A → Result A ℕ
 all_read (Ok read) = if length read.1 == 0 then Ok read.0 else Err (length read.1)
 all_read (Err left) = Err left
 
 -- ---- the fields themselves
 
--- a number, the greatest byte first
+-- A number, the most significant byte first.
 unfoldable pub number_at : Width → List ℕ → Field ℕ
 number_at w bytes = if nat_lt (length bytes) (byte_len w) then Err (length bytes) else Ok (from_be_bytes w (take (byte_len w) bytes), drop (byte_len w) bytes)
 
--- one byte
+-- One byte.
 unfoldable pub byte_at : List ℕ → Field ℕ
 byte_at [] = Err 0
 byte_at (byte ∷ rest) = Ok (byte, rest)
 
--- so many bytes
+-- So many bytes.
 unfoldable pub bytes_at : ℕ → List ℕ → Field (List ℕ)
 bytes_at n bytes = if nat_lt (length bytes) n then Err (length bytes) else Ok (take n bytes, drop n bytes)
 
--- a string with so few or so many bytes, none of them bad
+-- A string of `low` to `high` bytes, none of them bad: its length in two bytes, and its bytes.
 unfoldable pub string_at : ℕ → ℕ → (List ℕ → Option ℕ) → List ℕ → Field (List ℕ)
 string_at low high bad = bind_at (ruled_at (λ n. nat_le low n && nat_le n high) (number_at w16)) (λ n. ruled_at (λ bytes. is_none (bad bytes)) (bytes_at n))
 
+-- A key.
 unfoldable pub key_at : List ℕ → Field (List ℕ)
-key_at = string_at 1 64 bad_key_byte
+key_at = string_at 1 MAX_KEY_BYTES bad_key_byte
 
+-- A text.
 unfoldable pub text_at : List ℕ → Field (List ℕ)
-text_at = string_at 0 1024 bad_text_byte
+text_at = string_at 0 MAX_TEXT_BYTES bad_text_byte
 
--- an int in two's complement
+-- An int in two's complement.
 unfoldable pub int_at : List ℕ → Field ℤ
 int_at = made_at (cast_signed w64) (number_at w64)
 
--- what stands behind the tag of a value
+-- What follows the tag of a value.
 abbrev pub tagged_at : ℕ → List ℕ → Field Value
 tagged_at zero = made_at Int int_at
 tagged_at (suc tag) = made_at Text text_at
 
--- a value: its tag, and what the tag says
+-- A value: its tag, and what the tag says.
 unfoldable pub value_at : List ℕ → Field Value
 value_at = bind_at (ruled_at (λ tag. nat_lt tag 2) byte_at) tagged_at

@@ -1,4 +1,5 @@
--- How texts, keys and values are spelled, each as its list of fields: a field is read whole or is at fault.
+-- How texts, keys and values are spelled, each as its list of fields: a field is read whole or is
+-- invalid.
 use Rattle.std.specs.Prelude.{ℕ, ℤ, ◌<◌, List, [], ◌∷◌, length, slice_index}
 use Rattle.std.specs.Int.{w16, w64, to_be_bytes, cast_unsigned}
 use Rattle.std.specs.Int.RustNames.{FitsSigned}
@@ -6,24 +7,24 @@ use Rattle.lc_base.specs.TextBytes.{IsText}
 use Rattle.lc_base.specs.declared.value.Value.{Value}
 use Rattle.lc_base.specs.declared.value.Value.TheVariants.{Int, Text}
 
--- bytes: each below 256
+-- Bytes: each is below 256.
 abbrev pub IsBytes : List ℕ → Type 0
 IsBytes bytes = (i : ℕ) → slice_index bytes i < 256
 
--- a string: its length in two bytes, the greater first, and its bytes
+-- A string: its length in two bytes, the more significant first, and its bytes.
 abbrev pub string_fields : List ℕ → List (List ℕ)
 string_fields bytes = to_be_bytes w16 (length bytes) ∷ bytes ∷ []
 
--- an int in two's complement: eight bytes, the greatest first
+-- An int in two's complement: eight bytes, the most significant first.
 abbrev pub int_bytes : ℤ → List ℕ
 int_bytes number = to_be_bytes w64 (cast_unsigned w64 number)
 
--- a value: the byte 0 and an int, or the byte 1 and a text
+-- A value: the byte 0 and an int, or the byte 1 and a text.
 abbrev pub value_fields : Value → List (List ℕ)
 value_fields (Int number) = (0 ∷ []) ∷ int_bytes number ∷ []
 value_fields (Text text) = (1 ∷ []) ∷ string_fields text
 
--- what a value may be: an int of 64 bits, or a text
+-- What a value may be: an int of 64 bits, or a text.
 abbrev pub IsValue : Value → Type 0
 IsValue (Int number) = FitsSigned w64 number
 IsValue (Text text) = IsText text

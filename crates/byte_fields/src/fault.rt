@@ -9,16 +9,16 @@ use std::alloc::{AllocError, AllocFailed};
 /// A field is cut short or breaks its rule.
 #[derive(Clone, Copy, Debug, PartialEq, Eq)]
 pub struct Fault {
-    /// The number of bytes from the beginning of the field at fault to the end.
+    /// The number of bytes from the beginning of the invalid field to the end.
     pub left: usize,
 }
 
 /// Why a field was not read into memory.
 #[derive(Clone, Copy, Debug, PartialEq, Eq)]
 pub enum FieldError {
-    /// It is at fault.
+    /// It is invalid.
     Fault(Fault),
-    /// No memory was to be had.
+    /// Out of memory.
     Memory,
 }
 

@@ -3,12 +3,13 @@
 ghost use Rattle.std.specs.Prelude.{◌≡◌, ◌≤◌, ◌==◌, ◌&&◌, nat_le, is_none, length};
 ghost use Rattle.lc_base.specs.KeyBytes.{bad_key_byte};
 ghost use Rattle.lc_base.specs.TextBytes.{bad_text_byte};
+ghost use Rattle.lc_base.specs.declared.limits.TheConstants.{MAX_KEY_BYTES, MAX_TEXT_BYTES};
 ghost use Rattle.std.specs.Int.{w16, w32, w64};
 ghost use Rattle.byte_fields.specs.Reading.{ruled_at, number_at, byte_at, bytes_at, key_at, text_at, int_at, value_at};
-ghost use Rattle.byte_fields.specs.Reader.{Reads, ReadsKept};
+ghost use Rattle.byte_fields.specs.Reader.{fault_left, error_left, Reads};
 
 use crate::fault::{Fault, FieldError};
-use lc_base::{Key, Text, TextError, Value};
+use lc_base::{Key, MAX_KEY_BYTES, MAX_TEXT_BYTES, Text, TextError, Value};
 use std::alloc::Global;
 use std::marker::Model;
 
@@ -53,7 +54,7 @@ impl<'a> Reader<'a> {
     /// One byte.
     #[tactic(auto, unfolding(crate::specs::Reading::byte_at))]
     pub fn byte(&mut self) -> Result<u8, Fault>
-        ensures { Reads result (byte_at self.old) self.new }
+        ensures { Reads fault_left result (byte_at self.old) self.new }
     {
         match self.rest {
             [] => Err(self.fault()),
@@ -64,50 +65,50 @@ impl<'a> Reader<'a> {
         }
     }
 
-    /// A number of two bytes, the greater first.
+    /// A number of two bytes, the more significant first.
     #[tactic(auto, unfolding(crate::specs::Reading::number_at))]
     pub fn u16(&mut self) -> Result<u16, Fault>
-        ensures { Reads result (number_at w16 self.old) self.new }
+        ensures { Reads fault_left result (number_at w16 self.old) self.new }
     {
         if self.rest.len() < 2 {
             return Err(self.fault());
         }
-        let (front, rest) = self.rest.split_at(2);
+        let (prefix, rest) = self.rest.split_at(2);
         self.rest = rest;
-        Ok(u16::from_be_bytes([front[0], front[1]]))
+        Ok(u16::from_be_bytes([prefix[0], prefix[1]]))
     }
 
-    /// A number of four bytes, the greatest first.
+    /// A number of four bytes, the most significant first.
     #[tactic(auto, unfolding(crate::specs::Reading::number_at))]
     pub fn u32(&mut self) -> Result<u32, Fault>
-        ensures { Reads result (number_at w32 self.old) self.new }
+        ensures { Reads fault_left result (number_at w32 self.old) self.new }
     {
         if self.rest.len() < 4 {
             return Err(self.fault());
         }
-        let (front, rest) = self.rest.split_at(4);
+        let (prefix, rest) = self.rest.split_at(4);
         self.rest = rest;
-        Ok(u32::from_be_bytes([front[0], front[1], front[2], front[3]]))
+        Ok(u32::from_be_bytes([prefix[0], prefix[1], prefix[2], prefix[3]]))
     }
 
-    /// A number of eight bytes, the greatest first.
+    /// A number of eight bytes, the most significant first.
     #[tactic(auto, unfolding(crate::specs::Reading::number_at))]
     pub fn u64(&mut self) -> Result<u64, Fault>
-        ensures { Reads result (number_at w64 self.old) self.new }
+        ensures { Reads fault_left result (number_at w64 self.old) self.new }
     {
         if self.rest.len() < 8 {
             return Err(self.fault());
         }
-        let (front, rest) = self.rest.split_at(8);
+        let (prefix, rest) = self.rest.split_at(8);
         self.rest = rest;
         Ok(u64::from_be_bytes([
-            front[0], front[1], front[2], front[3], front[4], front[5], front[6], front[7],
+            prefix[0], prefix[1], prefix[2], prefix[3], prefix[4], prefix[5], prefix[6], prefix[7],
         ]))
     }
 
-    /// A byte that is at most so great.
+    /// A byte that is at most this one.
     pub fn byte_at_most(&mut self, greatest: u8) -> Result<u8, Fault>
-        ensures { Reads result (ruled_at (λ n. nat_le n greatest) byte_at self.old) self.new }
+        ensures { Reads fault_left result (ruled_at (λ n. nat_le n greatest) byte_at self.old) self.new }
     {
         let fault = self.fault();
         let byte = self.byte()?;
@@ -119,7 +120,7 @@ impl<'a> Reader<'a> {
 
     /// A byte that can only be this one.
     pub fn byte_that_is(&mut self, wanted: u8) -> Result<u8, Fault>
-        ensures { Reads result (ruled_at (λ n. n == wanted) byte_at self.old) self.new }
+        ensures { Reads fault_left result (ruled_at (λ n. n == wanted) byte_at self.old) self.new }
     {
         let fault = self.fault();
         let byte = self.byte()?;
@@ -129,9 +130,9 @@ impl<'a> Reader<'a> {
         Ok(byte)
     }
 
-    /// A number of two bytes that is at most so great.
+    /// A number of two bytes that is at most this one.
     pub fn u16_at_most(&mut self, greatest: u16) -> Result<u16, Fault>
-        ensures { Reads result (ruled_at (λ n. nat_le n greatest) (number_at w16) self.old) self.new }
+        ensures { Reads fault_left result (ruled_at (λ n. nat_le n greatest) (number_at w16) self.old) self.new }
     {
         let fault = self.fault();
         let number = self.u16()?;
@@ -144,20 +145,20 @@ impl<'a> Reader<'a> {
     /// The bytes of a digest.
     #[tactic(auto, unfolding(crate::specs::Reading::bytes_at))]
     pub fn digest_bytes(&mut self) -> Result<[u8; 32], Fault>
-        ensures { Reads result (bytes_at 32 self.old) self.new }
+        ensures { Reads fault_left result (bytes_at 32 self.old) self.new }
     {
         match self.rest.split_first_chunk::<32>() {
             None => Err(self.fault()),
-            Some((front, rest)) => {
+            Some((prefix, rest)) => {
                 self.rest = rest;
-                Ok(*front)
+                Ok(*prefix)
             }
         }
     }
 
-    /// The length of a string with so few or so many bytes.
+    /// The length of a string, which is in this range.
     fn length_between(&mut self, fewest: u16, greatest: u16) -> Result<usize, Fault>
-        ensures { Reads result (ruled_at (λ n. nat_le fewest n && nat_le n greatest) (number_at w16) self.old) self.new }
+        ensures { Reads fault_left result (ruled_at (λ n. nat_le fewest n && nat_le n greatest) (number_at w16) self.old) self.new }
     {
         let fault = self.fault();
         let length = self.u16()?;
@@ -169,12 +170,12 @@ impl<'a> Reader<'a> {
 
     #[tactic(auto, unfolding(crate::specs::Reading::bytes_at))]
     fn key_of(&mut self, length: usize) -> Result<Key, Fault>
-        requires { (1 ≤ length) × (length ≤ 64) }
-        ensures { Reads result (ruled_at (λ bytes. is_none (bad_key_byte bytes)) (bytes_at length) self.old) self.new }
+        requires { (1 ≤ length) × (length ≤ MAX_KEY_BYTES) }
+        ensures { Reads fault_left result (ruled_at (λ bytes. is_none (bad_key_byte bytes)) (bytes_at length) self.old) self.new }
     {
         match self.rest.split_at_checked(length) {
             None => Err(self.fault()),
-            Some((front, rest)) => match Key::new(front) {
+            Some((prefix, rest)) => match Key::new(prefix) {
                 Err(_) => Err(self.fault()),
                 Ok(key) => {
                     self.rest = rest;
@@ -187,20 +188,20 @@ impl<'a> Reader<'a> {
     /// A key: its length in two bytes, and its bytes.
     #[tactic(auto, unfolding(crate::specs::Reading::key_at, crate::specs::Reading::string_at))]
     pub fn key(&mut self) -> Result<Key, Fault>
-        ensures { Reads result (key_at self.old) self.new }
+        ensures { Reads fault_left result (key_at self.old) self.new }
     {
-        let length = self.length_between(1, 64)?;
+        let length = self.length_between(1, MAX_KEY_BYTES as u16)?;
         self.key_of(length)
     }
 
     #[tactic(auto, unfolding(crate::specs::Reading::bytes_at))]
     fn text_of(&mut self, alloc: Global, length: usize) -> Result<Text, FieldError>
-        requires { length ≤ 1024 }
-        ensures { ReadsKept result (ruled_at (λ bytes. is_none (bad_text_byte bytes)) (bytes_at length) self.old) self.new }
+        requires { length ≤ MAX_TEXT_BYTES }
+        ensures { Reads error_left result (ruled_at (λ bytes. is_none (bad_text_byte bytes)) (bytes_at length) self.old) self.new }
     {
         match self.rest.split_at_checked(length) {
             None => Err(FieldError::Fault(self.fault())),
-            Some((front, rest)) => match Text::new(alloc, front) {
+            Some((prefix, rest)) => match Text::new(alloc, prefix) {
                 Err(TextError::Memory) => Err(FieldError::Memory),
                 Err(_) => Err(FieldError::Fault(self.fault())),
                 Ok(text) => {
@@ -214,16 +215,16 @@ impl<'a> Reader<'a> {
     /// A text: its length in two bytes, and its bytes.
     #[tactic(auto, unfolding(crate::specs::Reading::text_at, crate::specs::Reading::string_at))]
     pub fn text(&mut self, alloc: Global) -> Result<Text, FieldError>
-        ensures { ReadsKept result (text_at self.old) self.new }
+        ensures { Reads error_left result (text_at self.old) self.new }
     {
-        let length = self.length_between(0, 1024)?;
+        let length = self.length_between(0, MAX_TEXT_BYTES as u16)?;
         self.text_of(alloc, length)
     }
 
-    /// An int: eight bytes in two's complement, the greatest first.
+    /// An int: eight bytes in two's complement, the most significant first.
     #[tactic(auto, unfolding(crate::specs::Reading::int_at))]
     fn int(&mut self) -> Result<i64, Fault>
-        ensures { Reads result (int_at self.old) self.new }
+        ensures { Reads fault_left result (int_at self.old) self.new }
     {
         let bits = self.u64()?;
         Ok(bits.cast_signed())
@@ -232,7 +233,7 @@ impl<'a> Reader<'a> {
     /// A value: the byte 0 and an int, or the byte 1 and a text.
     #[tactic(auto, unfolding(crate::specs::Reading::value_at))]
     pub fn value(&mut self, alloc: Global) -> Result<Value, FieldError>
-        ensures { ReadsKept result (value_at self.old) self.new }
+        ensures { Reads error_left result (value_at self.old) self.new }
     {
         let fault = self.fault();
         match self.byte()? {

@@ -1,5 +1,6 @@
-//! Writing the fields that blocks, entries and proofs are spelled with. Where memory runs out, a part
-//! of a field may stand behind what was written before.
+//! Writing the fields that blocks, entries and proofs are spelled with. Where memory runs out, a
+//! part
+//! of a field may stand after what was written before.
 
 ghost use Rattle.std.specs.Prelude.{◌≡◌, ◌++◌, ◌^◌, ◌<◌, length, OnOk};
 ghost use Rattle.std.specs.List.{concat};

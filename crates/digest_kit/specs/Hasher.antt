@@ -3,6 +3,6 @@ use Rattle.std.specs.Prelude.{ℕ, List}
 use Rattle.sha2.specs.Hashers.{Holds256}
 use Rattle.digest_kit.specs.declared.hasher.TagHasher.{TagHasher}
 
--- these bytes were added to the hasher, its tag first
+-- These bytes were added to the hasher, its tag first.
 abbrev pub HasAdded : TagHasher → List ℕ → Type 0
 HasAdded hasher message = Holds256 hasher.hasher message

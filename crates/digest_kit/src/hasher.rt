@@ -5,7 +5,8 @@ ghost use Rattle.digest_kit.specs.Hasher.{HasAdded};
 use lc_base::Digest;
 use sha2::{Digest as _, Sha256};
 
-/// A hasher of a tag, one byte that says what is digested, and of the bytes that are added behind it, piece by piece.
+/// A hasher of a tag, one byte that says what is digested, and of the bytes that are added after
+/// it, piece by piece.
 /// None of its calls takes memory.
 #[derive(Drop)]
 pub struct TagHasher {
@@ -24,7 +25,7 @@ impl TagHasher {
         hasher
     }
 
-    /// Adds these bytes behind the tag and what was added before.
+    /// Adds these bytes after the tag and what was added before.
     pub fn add(&mut self, bytes: &[u8])
         ensures { (message : List ℕ) → HasAdded self.old message → HasAdded self.new (message ++ bytes.now) }
     {

@@ -4,6 +4,3 @@
 mod hasher;
 
 pub use hasher::TagHasher;
-
-#[cfg(test)]
-mod tests;

@@ -1,13 +1,8 @@
--- Keys in their 64 bytes, names in their 16.
+-- Bytes in an array that is longer than they are.
 use Rattle.std.proofs.Common.{◌≡◌, ◌-◌, ℕ, List, length, take, replicate, refl}
 use Rattle.std.proofs.lemmas.List.{take_at}
-use Rattle.lc_base.specs.KeyBytes.{padded_key}
-use Rattle.lc_base.specs.NameBytes.{padded_name}
+use Rattle.lc_base.specs.Padding.{padded}
 
--- the front of a padded key is the key
-pub key_front_is : (key : List ℕ) → take (length key) (padded_key key) ≡ key
-key_front_is key = take_at key (replicate (64 - length key) 0) (length key) refl
-
--- the front of a padded name is the name
-pub name_front_is : (name : List ℕ) → take (length name) (padded_name name) ≡ name
-name_front_is name = take_at name (replicate (16 - length name) 0) (length name) refl
+-- The first bytes of the array, as many as there were, are the bytes.
+pub padded_prefix_is : (width : ℕ) (bytes : List ℕ) → take (length bytes) (padded width bytes) ≡ bytes
+padded_prefix_is width bytes = take_at bytes (replicate (width - length bytes) 0) (length bytes) refl

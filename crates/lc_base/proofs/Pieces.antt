@@ -6,7 +6,7 @@ use Rattle.lc_base.specs.Outside.{Tell}
 use Rattle.lc_base.specs.Marks.{piece_at, pieces, IsWithin}
 use Rattle.lc_base.specs.declared.mem_wire.Mark.{Mark}
 
--- bytes behind a piece do not change it
+-- bytes after a piece do not change it
 piece_stays : (bytes more : List ℕ) (m : Mark) → IsWithin (length bytes) m → piece_at (bytes ++ more) m ≡ piece_at bytes m
 piece_stays bytes more m within =
     let start_in : m.start ≤ length bytes = omega arith in
@@ -22,15 +22,15 @@ pieces_stay bytes more (m ∷ marks) within =
     let others = pieces_stay bytes more marks within.1 in
     cc
 
--- the piece behind all others
+-- the piece after all others
 last_piece : (bytes piece : List ℕ) (at : ℕ) → piece_at (bytes ++ piece) (record { at = at; start = length bytes; end = length bytes + length piece }) ≡ record { at = at; bytes = piece }
 last_piece bytes piece at =
     let len : length bytes + length piece - length bytes ≡ length piece = omega arith in
-    let behind : drop (length bytes) (bytes ++ piece) ≡ piece = drop_at bytes piece (length bytes) refl in
+    let after : drop (length bytes) (bytes ++ piece) ≡ piece = drop_at bytes piece (length bytes) refl in
     let whole : take (length piece) piece ≡ piece = take_all (length piece) piece (omega arith) in
-    ap (λ (read : List ℕ). record { at = at; bytes = read }) (ap (λ (n : ℕ). take n (drop (length bytes) (bytes ++ piece))) len ∙ ap (take (length piece)) behind ∙ whole)
+    ap (λ (read : List ℕ). record { at = at; bytes = read }) (ap (λ (n : ℕ). take n (drop (length bytes) (bytes ++ piece))) len ∙ ap (take (length piece)) after ∙ whole)
 
--- what is recorded behind the others is one more piece
+-- what is recorded after the others is one more piece
 pub more_pieces : (bytes piece : List ℕ) (marks : List Mark) (at : ℕ) → AllByRecursion (IsWithin (length bytes)) marks → pieces (bytes ++ piece) (marks ++ record { at = at; start = length bytes; end = length bytes + length piece } ∷ []) ≡ pieces bytes marks ++ record { at = at; bytes = piece } ∷ []
 more_pieces bytes piece marks at within =
     let new : Mark = record { at = at; start = length bytes; end = length bytes + length piece } in

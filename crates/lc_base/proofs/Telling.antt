@@ -3,9 +3,9 @@ use Rattle.std.proofs.Common.{◌≡◌, ℕ, ◌+◌, ◌<◌, List, [], ◌∷
 use Rattle.std.specs.List.{concat}
 use Rattle.std.proofs.lemmas.List.{append_assoc, append-nil, take-append-drop, drop_more, map_push}
 use Rattle.std.proofs.lemmas.List.Folds.{concat-append}
-use Rattle.lc_base.specs.Outside.{Tell, with_tells, joined, Tells, Told, ToldFront}
+use Rattle.lc_base.specs.Outside.{Tell, with_tells, joined, Tells, Told, ToldPrefix}
 
--- pieces behind pieces
+-- pieces after pieces
 with_tells-with_tells : (old : Option (List Tell)) (a b : List Tell) → with_tells (with_tells old a) b ≡ with_tells old (a ++ b)
 with_tells-with_tells None a b = refl
 with_tells-with_tells (Some told) a b = ap Some (append_assoc told a b)
@@ -29,22 +29,22 @@ told_more first before now at pieces piece so_far tells =
       whole = map_push (λ (t : Tell). t.bytes) so_far.tells tell ∙ ap (λ (bytes : List (List ℕ)). bytes ++ piece ∷ []) so_far.whole;
     }
 
--- the bytes of the first pieces stand at the front of those of all
+-- the bytes of the first pieces stand at the start of those of all
 concat_split : (pieces : List (List ℕ)) (i : ℕ) → concat pieces ≡ concat (take i pieces) ++ concat (drop i pieces)
 concat_split pieces i = ap concat (sym (take-append-drop i pieces)) ∙ concat-append (take i pieces) (drop i pieces)
 
--- what was told of some first pieces is a front of all of them
-pub told_front : (first now : Option (List Tell)) (pieces : List (List ℕ)) (i : ℕ) → Told first now (take i pieces) → ToldFront first now pieces
-told_front first now pieces i so_far = record {
+-- what was told of some first pieces is a prefix of all of them
+pub told_prefix : (first now : Option (List Tell)) (pieces : List (List ℕ)) (i : ℕ) → Told first now (take i pieces) → ToldPrefix first now pieces
+told_prefix first now pieces i so_far = record {
   tells = so_far.tells;
   added = so_far.added;
-  front = (concat (drop i pieces), concat_split pieces i ∙ ap (λ (bytes : List (List ℕ)). concat bytes ++ concat (drop i pieces)) (sym so_far.whole));
+  prefix = (concat (drop i pieces), concat_split pieces i ∙ ap (λ (bytes : List (List ℕ)). concat bytes ++ concat (drop i pieces)) (sym so_far.whole));
 }
 
--- a tell that failed leaves a front of all pieces told
+-- a tell that failed leaves a prefix of all pieces told
 pub told_less : (T : Type 0) {E : Type 0} (first before now : Option (List Tell)) (at : ℕ) (pieces : List (List ℕ)) (i : ℕ) (e : E)
-    → i < length pieces → Told first before (take i pieces) → Tells {T = T} at (get_or pieces i []) before now (Err e) → ToldFront first now pieces
-told_less T first before now at pieces i e within so_far (inl same) = told_front first now pieces i (record { tells = so_far.tells; added = same ∙ so_far.added; whole = so_far.whole })
+    → i < length pieces → Told first before (take i pieces) → Tells {T = T} at (get_or pieces i []) before now (Err e) → ToldPrefix first now pieces
+told_less T first before now at pieces i e within so_far (inl same) = told_prefix first now pieces i (record { tells = so_far.tells; added = same ∙ so_far.added; whole = so_far.whole })
 told_less T first before now at pieces i e within so_far (inr cut) =
     let piece : List ℕ = get_or pieces i [] in
     let tell : Tell = record { at = at; bytes = take cut.0 piece } in
@@ -59,7 +59,7 @@ told_less T first before now at pieces i e within so_far (inr cut) =
     record {
       tells = part.tells;
       added = part.added;
-      front = (
+      prefix = (
         rest,
         concat_split pieces i ∙ ap (λ (bytes : List ℕ). concat (take i pieces) ++ bytes) here
             ∙ sym (append_assoc (concat (take i pieces)) (take cut.0 piece) rest) ∙ ap (λ (bytes : List ℕ). bytes ++ rest) (sym told_bytes),

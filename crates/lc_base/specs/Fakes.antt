@@ -3,15 +3,16 @@ use Rattle.std.specs.Prelude.{◌≡◌, ℕ, ◌+◌, ◌-◌, ◌^◌, Bool, t
 use Rattle.std.specs.List.{list_any}
 use Rattle.lc_base.specs.Outside.{Tell}
 
--- one more, up to the last value of a u64
+-- One more, up to the last value of a u64.
 abbrev pub one_more : ℕ → ℕ
 one_more n = min (n + 1) (2 ^ 64 - 1)
 
--- whether the call of this number is to fail
+-- Whether the call of this number is to fail.
 abbrev pub is_failing : List ℕ → ℕ → Bool
 is_failing failing number = list_any (λ n. n == number) failing
 
--- a source in memory: the bytes left, the greatest number of bytes per pull, the numbers of the calls that fail, the calls so far and those that failed
+-- A source in memory: the bytes left, the greatest number of bytes per pull, the numbers of the
+-- calls that fail, the calls so far and those that failed.
 pub record SourceState : Type 0 where
   pub left : List ℕ
   pub piece : ℕ
@@ -19,11 +20,12 @@ pub record SourceState : Type 0 where
   pub calls : ℕ
   pub faults : ℕ
 
--- how many bytes a pull into so long a buffer gives
+-- How many bytes a pull into so long a buffer gives.
 abbrev pub pulled_count : SourceState → ℕ → ℕ
 pulled_count s room = min (min s.piece room) (length s.left)
 
--- A pull fails exactly where its number is among the failing ones, and takes nothing then. Otherwise it gives as many of the bytes left as the piece and the buffer allow.
+-- A pull fails exactly where its number is among the failing ones, and takes nothing then.
+-- Otherwise it gives as many of the bytes left as the piece and the buffer allow.
 abbrev pub PullsPiece : {E : Type 0} → SourceState → SourceState → Result ℕ E → List ℕ → List ℕ → Type 0
 PullsPiece old new (Ok n) before after =
     (is_failing old.failing old.calls ≡ false) × (n ≡ pulled_count old (length before)) × (after ≡ take n old.left ++ drop n before)
@@ -31,7 +33,8 @@ PullsPiece old new (Ok n) before after =
 PullsPiece old new (Err e) before after =
     (is_failing old.failing old.calls ≡ true) × (after ≡ before) × (new ≡ record old { calls = one_more old.calls; faults = one_more old.faults })
 
--- a wire in memory: what it was told, the calls that it took and the bytes told so far, the room for both, the numbers of the calls that fail, and how many failed
+-- A wire in memory: what it was told, the calls that it took and the bytes told so far, the room
+-- for both, the numbers of the calls that fail, and how many failed.
 pub record WireState : Type 0 where
   pub told : List Tell
   pub calls : ℕ
@@ -41,11 +44,12 @@ pub record WireState : Type 0 where
   pub failing : List ℕ
   pub faults : ℕ
 
--- whether the record of a call with so many bytes fits the room
+-- Whether the record of a call with so many bytes fits the room.
 abbrev pub fits_room : WireState → ℕ → Bool
 fits_room w count = nat_lt w.calls w.room_calls && nat_le (w.bytes + count) w.room_bytes
 
--- A tell that does not fit the room changes nothing but the count of faults. One that fits takes a number; it fails exactly where that number is among the failing ones, and tells no byte then.
+-- A tell that does not fit the room changes nothing but the count of faults. One that fits takes a
+-- number; it fails exactly where that number is among the failing ones, and tells no byte then.
 abbrev pub TellsPiece : {T E : Type 0} → List ℕ → WireState → WireState → Result T E → Type 0
 TellsPiece piece old new (Ok x) =
     (fits_room old (length piece) ≡ true) × (is_failing old.failing old.calls ≡ false)

@@ -2,6 +2,7 @@
 use Rattle.std.specs.Prelude.{◌≡◌, ℕ, ◌<◌, ◌≤◌, ◌≢◌, ◌⊎◌, Bool, ◌&&◌, ◌==◌, nat_lt, nat_le, List, length, filter, map, reverse, Option, None, Some, IsSomeAnd}
 use Rattle.std.specs.List.{find, list_any, All, AllPairs}
 use Rattle.std.specs.Cmp.Lexicographic.{pointwise}
+use Rattle.lc_base.specs.declared.limits.TheConstants.{MAX_DEPS, MAX_ROWS}
 use Rattle.lc_base.specs.declared.row.Dep.{Dep}
 use Rattle.lc_base.specs.declared.row.Row.{Row}
 use Rattle.lc_base.specs.declared.answer.Query.{Query}
@@ -10,73 +11,77 @@ use Rattle.lc_base.specs.declared.answer.Answer.TheVariants as answers
 use Rattle.lc_base.specs.declared.answer.Kind.{Kind}
 use Rattle.lc_base.specs.declared.answer.Kind.TheVariants as kinds
 
--- the rows of blocks before this one
+-- The rows of blocks before this one.
 abbrev pub below : List Row → ℕ → List Row
 below rows block = filter (λ row. nat_lt row.block block) rows
 
--- the rows of blocks up to this one
+-- The rows of blocks up to this one.
 abbrev pub up_to : List Row → ℕ → List Row
 up_to rows block = filter (λ row. nat_le row.block block) rows
 
--- the last row of a key
+-- The last row of a key.
 abbrev pub newest : List Row → List ℕ → Option Row
 newest rows key = find (λ row. pointwise ◌==◌ row.key key) (reverse rows)
 
--- whether a row is a version of the key in a block up to this one
+-- Whether a row is a version of the key in a block up to this one.
 abbrev pub is_version : List ℕ → ℕ → Row → Bool
 is_version key at row = pointwise ◌==◌ row.key key && nat_le row.block at
 
--- the last row of the key with a block up to this one
+-- The last row of the key with a block up to this one.
 abbrev pub latest : List Row → List ℕ → ℕ → Option Row
 latest rows key at = find (is_version key at) (reverse rows)
 
 -- ---- lawful histories
 
--- A row stands before another: in an earlier block, or in the same block, of a transaction no later, and of another key.
+-- A row stands before another: in an earlier block, or in the same block, of a transaction no
+-- later, and of another key.
 abbrev pub StandsBefore : Row → Row → Type 0
 StandsBefore a b = (a.block < b.block) ⊎ ((a.block ≡ b.block) × (a.tx ≤ b.tx) × (a.key ≢ b.key))
 
--- a dependency of a row: the newest version of its key before the row's block
-abbrev pub IsDrawnFrom : List Row → Row → Dep → Type 0
-IsDrawnFrom rows row dep = IsSomeAnd (newest (below rows row.block) dep.key) (λ version. version.block ≡ dep.block)
+-- A dependency of a row: the newest version of its key before the row's block.
+abbrev pub IsRecordedFrom : List Row → Row → Dep → Type 0
+IsRecordedFrom rows row dep = IsSomeAnd (newest (below rows row.block) dep.key) (λ version. version.block ≡ dep.block)
 
--- at most 64 dependencies, none twice, each the newest version of its key before the row's block
+-- At most MAX_DEPS dependencies, none twice, each the newest version of its key before the row's
+-- block.
 pub record HasLawfulDeps (rows : List Row) (row : Row) : Type 0 where
-  pub few : length row.deps ≤ 64
+  pub few : length row.deps ≤ MAX_DEPS
   pub once : AllPairs ◌≢◌ row.deps
-  pub newest : All (IsDrawnFrom rows row) row.deps
+  pub newest : All (IsRecordedFrom rows row) row.deps
 
--- A lawful history: rows in order of block and transaction, no key twice in one block, each with lawful dependencies.
+-- A lawful history: rows in order of block and transaction, no key twice in one block, each with
+-- lawful dependencies.
 pub record IsLawful (rows : List Row) : Type 0 where
-  pub few : length rows ≤ 4294967294
+  pub few : length rows ≤ MAX_ROWS
   pub ordered : AllPairs StandsBefore rows
-  pub drawn : All (HasLawfulDeps rows) rows
+  pub lawful_deps : All (HasLawfulDeps rows) rows
 
 -- ---- answers
 
--- whether a row was derived from the version of this key in this block
+-- Whether a row was derived from the version of this key in this block.
 abbrev pub depends_on : List ℕ → ℕ → Row → Bool
 depends_on key block row = list_any (λ dep. pointwise ◌==◌ dep.key key && dep.block == block) row.deps
 
--- a version, as others depend on it
+-- A version, as others depend on it.
 abbrev pub version_of : Row → Dep
 version_of row = record { key = row.key; block = row.block }
 
--- the versions that were derived from the version of this key in this block, in the order of their rows
+-- The versions that were derived from the version of this key in this block, in the order of their
+-- rows.
 abbrev pub uses : List Row → List ℕ → ℕ → List Dep
 uses rows key block = map version_of (filter (depends_on key block) rows)
 
--- what is asked of a version
+-- What is asked of a version.
 abbrev pub answer_about : List Row → Kind → List ℕ → Row → Answer
 answer_about rows kinds.Hist key row = answers.Hist row.block row.tx row.value
 answer_about rows kinds.Back key row = answers.Back row.block row.deps
 answer_about rows kinds.Fwd key row = answers.Fwd row.block (uses rows key row.block)
 
--- the answer about a version, where there is one
+-- The answer about a version, where there is one.
 abbrev pub answer_of : List Row → Query → Option Row → Answer
 answer_of rows query None = answers.Nothing
 answer_of rows query (Some row) = answer_about rows query.kind query.key row
 
--- the answer to a question, by scanning the rows
+-- The answer to a question, by scanning the rows.
 abbrev pub scan : List Row → Query → Answer
 scan rows query = answer_of rows query (latest rows query.key query.at)

@@ -1,3 +1,5 @@
+pub mod Answers
+pub mod Padding
 pub mod KeyBytes
 pub mod Key
 pub mod NameBytes

@@ -6,18 +6,19 @@ use Rattle.std.specs.Vec.{vec_len, vec_capacity}
 use Rattle.lc_base.specs.Outside.{Tell}
 use Rattle.lc_base.specs.declared.mem_wire.Mark.{Mark}
 
--- the piece that a mark names
+-- The piece that a mark names.
 abbrev pub piece_at : List ℕ → Mark → Tell
 piece_at bytes mark = record { at = mark.at; bytes = slice_range bytes mark.start mark.end }
 
 abbrev pub pieces : List ℕ → List Mark → List Tell
 pieces bytes marks = map (piece_at bytes) marks
 
--- a mark names bytes that are there
+-- A mark names bytes that are there.
 abbrev pub IsWithin : ℕ → Mark → Type 0
 IsWithin len mark = (mark.start ≤ mark.end) × (mark.end ≤ len)
 
--- a record that has room for so many marks and bytes, of which each mark names bytes that are there
+-- A record that has room for so many marks and bytes, of which each mark names bytes that are
+-- there.
 pub record IsRecord (room_calls room_bytes calls : ℕ) (marks : Vec Mark) (bytes : Vec ℕ) : Type 0 where
   pub few : vec_len marks ≤ calls
   pub mark_room : room_calls ≤ vec_capacity marks

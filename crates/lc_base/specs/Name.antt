@@ -4,7 +4,10 @@ use Rattle.lc_base.specs.NameBytes.{bad_name_byte}
 use Rattle.lc_base.specs.Key.{all_good}
 use Rattle.lc_base.specs.declared.key.KeyError.{KeyError}
 use Rattle.lc_base.specs.declared.key.KeyError.TheVariants.{Empty, Long, Byte}
+use Rattle.lc_base.specs.declared.limits.TheConstants.{MAX_NAME_BYTES}
 
--- the name that the bytes are, or why they are none: the length is tested first
+-- The name that the bytes are, or why they are none: the length is tested first.
 abbrev pub name_of : List ℕ → Result (List ℕ) KeyError
-name_of bytes = if length bytes == 0 then Err Empty else (if nat_lt 16 (length bytes) then Err Long else all_good Byte bytes (bad_name_byte bytes))
+name_of bytes =
+    if length bytes == 0 then Err Empty
+    else (if nat_lt MAX_NAME_BYTES (length bytes) then Err Long else all_good Byte bytes (bad_name_byte bytes))

@@ -1,68 +1,70 @@
 -- What the outside gives and takes, and when it may fail.
-use Rattle.std.specs.Prelude.{◌≡◌, ℕ, ◌+◌, ◌-◌, ◌^◌, ◌≤◌, List, [], ◌∷◌, ◌++◌, take, map, min, Option, Some, None, Result, Ok, Err, OnErr, ◌⊎◌}
+use Rattle.std.specs.Prelude.{◌≡◌, ℕ, ◌+◌, ◌-◌, ◌^◌, ◌≤◌, List, [], ◌∷◌, ◌++◌, take, map, min, Option, Some, None, Result, Ok, Err, ◌⊎◌}
 use Rattle.std.specs.List.{concat}
 
 -- A count of faults rose: it is greater than before, or stands at the last value of a u64.
 abbrev pub Rose : ℕ → ℕ → Type 0
 Rose before now = min (before + 1) (2 ^ 64 - 1) ≤ now
 
--- A count of faults never falls, and rose where the call failed.
-pub record HasCause {T E : Type 0} (before now : ℕ) (result : Result T E) : Type 0 where
+-- A count of faults never falls, and rose where a call blames its object.
+pub record HasCause (before now : ℕ) (Blames : Type 0) : Type 0 where
   pub later : before ≤ now
-  pub failed : OnErr result (Rose before now)
+  pub failed : Blames → Rose before now
 
 -- ---- what a source has left, where that is told
 
--- these bytes, then what is told to be left
+-- These bytes, then what is told to be left.
 abbrev pub prepend : List ℕ → Option (List ℕ) → Option (List ℕ)
 prepend bytes None = None
 prepend bytes (Some left) = Some (bytes ++ left)
 
--- where it is told what is left, that is nothing
+-- Where it is told what is left, that is nothing.
 abbrev pub IsAtEnd : Option (List ℕ) → Type 0
 IsAtEnd None = Unit {0}
 IsAtEnd (Some left) = left ≡ []
 
--- A pull that answers n took the first n bytes of the buffer from what was left, and answers 0 only at the end. A pull that fails takes nothing.
+-- A pull that answers n took the first n bytes of the buffer from what was left, and answers 0 only
+-- at the end. A pull that fails takes nothing.
 abbrev pub Pulls : {E : Type 0} → Option (List ℕ) → Option (List ℕ) → Result ℕ E → List ℕ → Type 0
 Pulls old new (Ok n) buffer = (old ≡ prepend (take n buffer) new) × (n ≡ 0 → IsAtEnd old)
 Pulls old new (Err e) buffer = new ≡ old
 
 -- ---- what a wire was told, where that is told
 
--- one piece that was told: the moment at which telling it began, and its bytes
+-- One piece that was told: the moment at which telling it began, and its bytes.
 pub record Tell : Type 0 where
   pub at : ℕ
   pub bytes : List ℕ
 
--- what was told, and these pieces behind it
+-- What was told, and these pieces after it.
 abbrev pub with_tells : Option (List Tell) → List Tell → Option (List Tell)
 with_tells None tells = None
 with_tells (Some told) tells = Some (told ++ tells)
 
--- the bytes of pieces, one piece after another
+-- The bytes of pieces, one piece after another.
 abbrev pub joined : List Tell → List ℕ
 joined tells = concat (map (λ tell. tell.bytes) tells)
 
--- A tell that answers Ok adds one pair, the moment of entry and the bytes. One that fails adds none, or the moment and some first bytes.
+-- A tell that answers Ok adds one pair, the moment of entry and the bytes. One that fails adds
+-- none, or the moment and some first bytes.
 abbrev pub Tells : {T E : Type 0} → ℕ → List ℕ → Option (List Tell) → Option (List Tell) → Result T E → Type 0
 Tells at bytes old new (Ok x) = new ≡ with_tells old (record { at = at; bytes = bytes } ∷ [])
 Tells at bytes old new (Err e) = (new ≡ old) ⊎ ((n : ℕ) × (new ≡ with_tells old (record { at = at; bytes = take n bytes } ∷ [])))
 
 -- ---- what was told over several calls
 
--- some bytes stand at the front of others
-abbrev pub IsFront : List ℕ → List ℕ → Type 0
-IsFront front bytes = (rest : List ℕ) × (bytes ≡ front ++ rest)
+-- Some bytes stand at the start of others.
+abbrev pub IsPrefix : List ℕ → List ℕ → Type 0
+IsPrefix prefix bytes = (rest : List ℕ) × (bytes ≡ prefix ++ rest)
 
--- between two states a wire was told these pieces, each by a tell of its own, and nothing else
+-- Between two states a wire was told these pieces, each by a tell of its own, and nothing else.
 pub record Told (old new : Option (List Tell)) (pieces : List (List ℕ)) : Type 0 where
   pub tells : List Tell
   pub added : new ≡ with_tells old tells
   pub whole : map (λ tell. tell.bytes) tells ≡ pieces
 
--- between two states a wire was told some first bytes of these pieces, and nothing else
-pub record ToldFront (old new : Option (List Tell)) (pieces : List (List ℕ)) : Type 0 where
+-- Between two states a wire was told some first bytes of these pieces, and nothing else.
+pub record ToldPrefix (old new : Option (List Tell)) (pieces : List (List ℕ)) : Type 0 where
   pub tells : List Tell
   pub added : new ≡ with_tells old tells
-  pub front : IsFront (joined tells) (concat pieces)
+  pub prefix : IsPrefix (joined tells) (concat pieces)

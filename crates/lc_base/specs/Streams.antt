@@ -3,12 +3,13 @@ use Rattle.std.specs.Prelude.{◌≡◌, ℕ, List, take, Option, Result, Ok, Er
 use Rattle.std.specs.Io.KnownBytes.{Appends}
 use Rattle.lc_base.specs.Fakes.{one_more}
 
--- a count of faults rises by one where the call failed, and stays where it did not
+-- A count of faults rises by one where the call failed, and stays where it did not.
 abbrev pub CountsFaults : {T E : Type 0} → ℕ → ℕ → Result T E → Type 0
 CountsFaults before now (Ok x) = now ≡ before
 CountsFaults before now (Err e) = now ≡ one_more before
 
--- Where it is known what a writer holds: a tell that answers Ok put all the bytes behind that, and one that fails put some first bytes there.
+-- Where it is known what a writer holds: a tell that answers Ok put all the bytes after that, and
+-- one that fails put some first bytes there.
 abbrev pub Writes : {T E : Type 0} → Option (List ℕ) → Option (List ℕ) → List ℕ → Result T E → Type 0
 Writes old new bytes (Ok x) = Appends old new bytes
 Writes old new bytes (Err e) = (n : ℕ) × Appends old new (take n bytes)

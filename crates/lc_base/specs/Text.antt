@@ -1,12 +1,14 @@
 -- What `Text::new` answers.
 use Rattle.std.specs.Prelude.{◌≡◌, ℕ, ◌<◌, ◌≤◌, List, length, Some, Result, Ok, Err}
 use Rattle.lc_base.specs.TextBytes.{bad_text_byte, IsText}
+use Rattle.lc_base.specs.declared.limits.TheConstants.{MAX_TEXT_BYTES}
 use Rattle.lc_base.specs.declared.text.TextError.{TextError}
 use Rattle.lc_base.specs.declared.text.TextError.TheVariants.{Long, Byte, Memory}
 
--- The text that the bytes are, or why they are none: the length is tested first. Memory comes only where they are a text.
+-- The text that the bytes are, or why they are none: the length is tested first. It is out of
+-- memory only where they are a text.
 abbrev pub IsTextOf : List ℕ → Result (List ℕ) TextError → Type 0
 IsTextOf bytes (Ok text) = IsText bytes × (text ≡ bytes)
-IsTextOf bytes (Err Long) = 1024 < length bytes
-IsTextOf bytes (Err (Byte place)) = (length bytes ≤ 1024) × (bad_text_byte bytes ≡ Some place)
+IsTextOf bytes (Err Long) = MAX_TEXT_BYTES < length bytes
+IsTextOf bytes (Err (Byte offset)) = (length bytes ≤ MAX_TEXT_BYTES) × (bad_text_byte bytes ≡ Some offset)
 IsTextOf bytes (Err Memory) = IsText bytes

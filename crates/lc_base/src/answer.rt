@@ -29,9 +29,10 @@ pub struct Query {
 pub enum Answer {
     /// There is no such version.
     Nothing,
-    /// The version's block, the place of its transaction there, and its value.
+    /// The version's block, the index of its transaction there, and its value.
     Hist { block: u32, tx: u16, value: Value },
-    /// The version's block, and the versions that it was derived from, in the order in which they were recorded.
+    /// The version's block, and the versions that it was derived from, in the order in which they
+    /// were recorded.
     Back { block: u32, deps: DepList },
     /// The version's block, and the versions that were derived from it, in the order of their rows.
     Fwd { block: u32, uses: DepList },

@@ -1,7 +1,9 @@
-//! The edges over real streams, whose bytes no contract can name: what they are told and what is left stay untold.
-//! Of a stream whose bytes std knows, such as a slice or a vector in memory, the clauses `reader` and `writer` say what becomes of them.
+//! The edges over real streams, whose bytes no contract can name: what they are told and what is
+//! left stay untold.
+//! Of a stream whose bytes std knows, such as a slice or a vector in memory, the clauses `reader`
+//! and `writer` say what becomes of them.
 
-ghost use Rattle.std.specs.Prelude.{◌≡◌, ◌<◌, ◌≤◌, length, take, None, IfOk};
+ghost use Rattle.std.specs.Prelude.{◌≡◌, ◌<◌, ◌≤◌, length, take, None, IfOk, IsErr};
 ghost use Rattle.std.specs.Io.KnownBytes.{ReadConsumes, Appends};
 ghost use Rattle.lc_base.specs.Outside.{HasCause, Pulls, Tells};
 ghost use Rattle.lc_base.specs.Streams.{CountsFaults, Writes};
@@ -36,7 +38,7 @@ impl<R: Read> Source for HostSource<R> {
         requires { 0 < length buffer.old }
         ensures bound { IfOk result (λ n. n ≤ length buffer.new) }
         ensures bytes { Pulls None None result buffer.new }
-        ensures cause { HasCause self.old.faults self.new.faults result }
+        ensures cause { HasCause self.old.faults self.new.faults (IsErr result) }
         ensures reader { ReadConsumes (R.remaining self.old.reader) (R.remaining self.new.reader) result buffer.new }
         ensures faults { CountsFaults self.old.faults self.new.faults result }
     {
@@ -90,7 +92,7 @@ impl<W: Write> Wire for HostWire<W> {
     /// Writes until all bytes are taken. A write that takes nothing is a fault.
     fn tell(&mut self, bytes: &[u8]) -> Result<(), Failed>
         ensures told { Tells 0 bytes.now None None result }
-        ensures cause { HasCause self.old.faults self.new.faults result }
+        ensures cause { HasCause self.old.faults self.new.faults (IsErr result) }
         ensures writer { Writes (W.contents self.old.writer) (W.contents self.new.writer) bytes.now result }
         ensures faults { CountsFaults self.old.faults self.new.faults result }
     {

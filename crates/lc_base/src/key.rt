@@ -7,37 +7,40 @@ ghost use Rattle.std.specs.Cmp.Lexicographic.{pointwise, slice_cmp};
 ghost use Rattle.std.specs.Cmp.Rules.{comparing, hashing};
 ghost use Rattle.std.specs.Hash as fed;
 ghost use Rattle.std.proofs.Common.{rules};
-ghost use Rattle.lc_base.specs.KeyBytes.{is_key_byte, bad_key_byte, IsKey, padded_key};
+ghost use Rattle.lc_base.specs.KeyBytes.{is_key_byte, bad_key_byte, IsKey};
+ghost use Rattle.lc_base.specs.Padding.{padded};
+ghost use Rattle.lc_base.specs.declared.limits.TheConstants.{MAX_KEY_BYTES};
 ghost use Rattle.lc_base.specs.Key.{key_of};
 
+use crate::limits::MAX_KEY_BYTES;
 use std::cmp::Ordering;
 use std::hash::{Hash, Hasher};
 use std::marker::Model;
 use thiserror::Error;
 
-const MAX_LEN: usize = 64;
-
 /// A key: 1 to 64 bytes of `a-z 0-9 . / _ -`, ordered byte by byte.
 #[derive(Clone, Copy, Debug)]
 pub struct Key {
     len: usize,
-    bytes: [u8; 64],
+    bytes: [u8; MAX_KEY_BYTES],
 }
 
 impl Model for Key {
     ghost use Rattle.std.specs.Prelude.{◌≡◌, ◌≤◌, ℕ, List, take, length};
     ghost use Rattle.std.proofs.Common.{refl};
-    ghost use Rattle.lc_base.specs.KeyBytes.{IsKey, padded_key, length_of_front};
+    ghost use Rattle.lc_base.specs.KeyBytes.{IsKey};
+    ghost use Rattle.lc_base.specs.Padding.{padded, length_of_prefix};
+    ghost use Rattle.lc_base.specs.declared.limits.TheConstants.{MAX_KEY_BYTES};
 
     ghost Value = { List ℕ };
 
     ghost view = { λ k. take k.len k.bytes };
 
-    ghost invariant = { λ k. (k.len ≤ 64) × IsKey (take k.len k.bytes) × (k.bytes ≡ padded_key (take k.len k.bytes)) };
+    ghost invariant = { λ k. (k.len ≤ MAX_KEY_BYTES) × IsKey (take k.len k.bytes) × (k.bytes ≡ padded MAX_KEY_BYTES (take k.len k.bytes)) };
 
-    ghost inverse = { λ bytes. record { len = length bytes; bytes = padded_key bytes } };
+    ghost inverse = { λ bytes. record { len = length bytes; bytes = padded MAX_KEY_BYTES bytes } };
 
-    ghost inverse_ok = { λ a h. let e = length_of_front a.len a.bytes h.0 h.2 in Prim.rw (← h.2, e) refl };
+    ghost inverse_ok = { λ a h. let e = length_of_prefix MAX_KEY_BYTES a.len a.bytes h.0 h.2 in Prim.rw (← h.2, e) refl };
 }
 
 /// Why bytes are no key.
@@ -46,10 +49,10 @@ pub enum KeyError {
     /// There are none.
     #[error("empty")]
     Empty,
-    /// There are more than 64.
+    /// There are more than `MAX_KEY_BYTES`; of a name, `MAX_NAME_BYTES`.
     #[error("too long")]
     Long,
-    /// The first byte that a key may not have stands at this place, from 0.
+    /// The offset of the first byte that a key may not have.
     #[error("bad byte at {0}")]
     Byte(usize),
 }
@@ -66,12 +69,12 @@ fn bad_key_byte(bytes: &[u8]) -> Option<usize>
     bytes.iter().position(|byte| !is_key_byte(*byte))
 }
 
-/// A key in 64 bytes: zeros stand behind it.
-fn padded(key: &[u8]) -> [u8; 64]
-    requires { length key.now ≤ 64 }
-    ensures { result ≡ padded_key key.now }
+/// The array of a key: zeros follow its bytes.
+fn padded(key: &[u8]) -> [u8; MAX_KEY_BYTES]
+    requires { length key.now ≤ MAX_KEY_BYTES }
+    ensures { result ≡ padded MAX_KEY_BYTES key.now }
 {
-    let mut bytes = [0u8; MAX_LEN];
+    let mut bytes = [0u8; MAX_KEY_BYTES];
     bytes[..key.len()].copy_from_slice(key);
     bytes
 }
@@ -84,17 +87,17 @@ impl Key {
         if bytes.is_empty() {
             return Err(KeyError::Empty);
         }
-        if bytes.len() > MAX_LEN {
+        if bytes.len() > MAX_KEY_BYTES {
             return Err(KeyError::Long);
         }
         match bad_key_byte(bytes) {
-            Some(place) => Err(KeyError::Byte(place)),
-            None => Ok(Key::kept(bytes)),
+            Some(offset) => Err(KeyError::Byte(offset)),
+            None => Ok(Key::from_checked(bytes)),
         }
     }
 
-    #[tactic(auto, using(crate::proofs::Padding::key_front_is))]
-    fn kept(key: &[u8]) -> Key
+    #[tactic(auto, using(crate::proofs::Padding::padded_prefix_is))]
+    fn from_checked(key: &[u8]) -> Key
         requires { IsKey key.now }
         ensures { result ≡ key.now }
     {

@@ -5,6 +5,7 @@ mod answer;
 mod digest;
 mod edge;
 mod key;
+mod limits;
 mod list;
 mod mem_source;
 mod mem_wire;
@@ -19,15 +20,13 @@ pub use answer::{Answer, Kind, Query};
 pub use digest::Digest;
 pub use edge::{HostSource, HostWire};
 pub use key::{Key, KeyError};
+pub use limits::{MAX_DEPS, MAX_KEY_BYTES, MAX_NAME_BYTES, MAX_ROWS, MAX_TEXT_BYTES};
 pub use list::{Bytes, DepList, Duplicate, KeyList, RowList, Seq};
 pub use mem_source::MemSource;
 pub use mem_wire::{MemWire, Room};
 pub use memory::Memory;
-pub use name::Name;
+pub use name::{Name, is_name_byte};
 pub use outside::{Clock, Failed, Source, Wire};
 pub use row::{Dep, Row, Version};
-pub use text::{Text, TextError};
+pub use text::{Text, TextError, is_text_byte};
 pub use value::Value;
-
-#[cfg(test)]
-mod tests;

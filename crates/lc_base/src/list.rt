@@ -77,7 +77,7 @@ impl<T> Seq<T> {
         self.items.is_empty()
     }
 
-    /// The item at a place, from 0; `None` exactly past the end.
+    /// The item at an index, from 0; `None` exactly past the end.
     pub fn get(&self, i: usize) -> Option<&T>
         ensures { option_copied result ≡ slice_get self.now i }
     {
@@ -98,7 +98,7 @@ impl<T> Seq<T> {
 }
 
 impl<T: Drop> Seq<T> {
-    /// Puts an item behind the others. Where there is no memory, the list stays as it was.
+    /// Appends an item. Out of memory, the list stays as it was.
     pub fn push(&mut self, item: T) -> Result<(), Memory>
         ensures ok { OnOk result (self.new ≡ self.old ++ item ∷ []) }
         ensures err { OnErr result (self.new ≡ self.old) }
@@ -107,7 +107,7 @@ impl<T: Drop> Seq<T> {
         Ok(())
     }
 
-    /// Puts all items of another list behind these, in order. Where there is no memory, the list stays as it was.
+    /// Appends all items of another list, in order. Out of memory, the list stays as it was.
     pub fn append(&mut self, other: Seq<T>) -> Result<(), Memory>
         ensures ok { OnOk result (self.new ≡ self.old ++ other) }
         ensures err { OnErr result (self.new ≡ self.old) }

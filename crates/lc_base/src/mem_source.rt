@@ -1,6 +1,6 @@
 //! A source in memory.
 
-ghost use Rattle.std.specs.Prelude.{◌≡◌, ◌++◌, ◌<◌, ◌≤◌, Some, length, take, drop, IfOk};
+ghost use Rattle.std.specs.Prelude.{◌≡◌, ◌++◌, ◌<◌, ◌≤◌, Some, length, take, drop, IfOk, IsErr};
 ghost use Rattle.lc_base.specs.Outside.{HasCause, Pulls};
 ghost use Rattle.lc_base.specs.Fakes.{SourceState, PullsPiece, is_failing, pulled_count, one_more};
 
@@ -9,7 +9,8 @@ use crate::outside::{Failed, Source};
 use std::alloc::Global;
 use std::marker::Model;
 
-/// A source over bytes in memory, which gives them in pieces and fails at the calls that it is told to fail at.
+/// A source over bytes in memory, which gives them in pieces and fails at the calls that it is told
+/// to fail at.
 #[derive(Debug, Drop)]
 pub struct MemSource {
     bytes: Vec<u8>,
@@ -46,7 +47,8 @@ pub(crate) fn one_more(count: u64) -> u64
 }
 
 impl MemSource {
-    /// A source of these bytes: at most `piece` of them per pull. The pulls whose numbers, from 0, are in `failing` fail.
+    /// A source of these bytes: at most `piece` of them per pull. The pulls whose numbers, from 0,
+    /// are in `failing` fail.
     pub fn new(
         alloc: Global,
         bytes: &[u8],
@@ -83,8 +85,8 @@ impl MemSource {
     }
 }
 
-/// Copies the first `count` bytes into the front of the buffer.
-fn put_front(buffer: &mut [u8], bytes: &[u8], count: usize)
+/// Copies the first `count` bytes into the prefix of the buffer.
+fn put_prefix(buffer: &mut [u8], bytes: &[u8], count: usize)
     requires room { count ≤ length buffer.old }
     requires there { count ≤ length bytes.now }
     ensures { buffer.new ≡ take count bytes.now ++ drop count buffer.old }
@@ -102,7 +104,7 @@ impl Source for MemSource {
         requires { 0 < length buffer.old }
         ensures bound { IfOk result (λ n. n ≤ length buffer.new) }
         ensures bytes { Pulls (Some self.old.left) (Some self.new.left) result buffer.new }
-        ensures cause { HasCause self.old.faults self.new.faults result }
+        ensures cause { HasCause self.old.faults self.new.faults (IsErr result) }
         ensures exact { PullsPiece self.old self.new result buffer.old buffer.new }
     {
         let number = self.calls;
@@ -112,7 +114,7 @@ impl Source for MemSource {
             return Err(Failed);
         }
         let count = self.pulled_count(buffer.len());
-        put_front(buffer, self.rest(), count);
+        put_prefix(buffer, self.rest(), count);
         self.start += count;
         Ok(count)
     }

@@ -1,6 +1,6 @@
 //! A wire in memory.
 
-ghost use Rattle.std.specs.Prelude.{◌≡◌, ◌+◌, ◌^◌, ◌<◌, ◌≤◌, Some, [], ◌∷◌, ◌++◌, length, IfOk, MatchOption};
+ghost use Rattle.std.specs.Prelude.{◌≡◌, ◌+◌, ◌^◌, ◌<◌, ◌≤◌, Some, [], ◌∷◌, ◌++◌, length, IfOk, IsErr, MatchOption};
 ghost use Rattle.std.specs.Vec.{vec_len, vec_capacity};
 ghost use Rattle.std.specs.List.{slice_get};
 ghost use Rattle.lc_base.specs.Outside.{HasCause, Tells};
@@ -29,7 +29,8 @@ struct Mark {
     end: usize,
 }
 
-/// A wire that records what it is told, in memory that it takes when it is made, and fails at the calls that it is told to fail at.
+/// A wire that records what it is told, in memory that it takes when it is made, and fails at the
+/// calls that it is told to fail at.
 #[derive(Debug, Drop)]
 pub struct MemWire {
     marks: Vec<Mark>,
@@ -53,7 +54,8 @@ impl Model for MemWire {
 }
 
 impl MemWire {
-    /// A wire that was told nothing. The tells whose numbers, from 0, are in `failing` fail, and so do those that do not fit the room.
+    /// A wire that was told nothing. The tells whose numbers, from 0, are in `failing` fail, and so
+    /// do those that do not fit the room.
     pub fn new(alloc: Global, room: Room, failing: &[u64]) -> Result<MemWire, Memory>
         ensures { IfOk result (λ wire. wire ≡ record { told = []; calls = 0; bytes = 0; room_calls = room.calls; room_bytes = room.bytes; failing = failing.now; faults = 0 }) }
     {
@@ -77,7 +79,8 @@ impl MemWire {
         self.marks.len()
     }
 
-    /// The piece at a place, from 0, and the moment at which telling it began; `None` exactly past the end.
+    /// The piece at an index, from 0, and the moment at which telling it began; `None` exactly past
+    /// the end.
     pub fn told_at(&self, index: usize) -> Option<(u64, &[u8])>
         ensures { MatchOption result (length self.now.told ≤ index) (λ tell. slice_get self.now.told index ≡ Some (record { at = tell.0; bytes = tell.1.now })) }
     {
@@ -125,11 +128,12 @@ impl Clock for MemWire {
 }
 
 impl Wire for MemWire {
-    /// Fails exactly at the calls whose numbers are among the failing ones, and at those that do not fit the room.
+    /// Fails exactly at the calls whose numbers are among the failing ones, and at those that do
+    /// not fit the room.
     fn tell(&mut self, bytes: &[u8]) -> Result<(), Failed>
         ensures time { self.old.calls ≤ self.new.calls }
         ensures told { Tells self.old.calls bytes.now (Some self.old.told) (Some self.new.told) result }
-        ensures cause { HasCause self.old.faults self.new.faults result }
+        ensures cause { HasCause self.old.faults self.new.faults (IsErr result) }
         ensures exact { TellsPiece bytes.now self.old self.new result }
     {
         if !self.fits_room(bytes.len()) {

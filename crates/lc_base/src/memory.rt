@@ -1,6 +1,6 @@
 use std::alloc::{AllocError, AllocFailed};
 
-/// No memory was to be had.
+/// Out of memory.
 #[derive(Clone, Copy, Debug, PartialEq, Eq)]
 pub struct Memory;
 

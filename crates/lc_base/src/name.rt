@@ -7,47 +7,51 @@ ghost use Rattle.std.specs.Cmp.Lexicographic.{pointwise, slice_cmp};
 ghost use Rattle.std.specs.Cmp.Rules.{comparing, hashing};
 ghost use Rattle.std.specs.Hash as fed;
 ghost use Rattle.std.proofs.Common.{rules};
-ghost use Rattle.lc_base.specs.NameBytes.{is_name_byte, starts_well, foreign_byte, bad_name_byte, IsName, padded_name};
+ghost use Rattle.lc_base.specs.NameBytes.{is_name_byte, starts_with_letter, foreign_byte, bad_name_byte, IsName};
+ghost use Rattle.lc_base.specs.Padding.{padded};
+ghost use Rattle.lc_base.specs.declared.limits.TheConstants.{MAX_NAME_BYTES};
 ghost use Rattle.lc_base.specs.Name.{name_of};
 
 use crate::key::KeyError;
+use crate::limits::MAX_NAME_BYTES;
 use std::cmp::Ordering;
 use std::hash::{Hash, Hasher};
 use std::marker::Model;
-
-const MAX_LEN: usize = 16;
 
 /// A name: 1 to 16 bytes of `a-z 0-9 _`, the first a letter, ordered byte by byte.
 #[derive(Clone, Copy, Debug)]
 pub struct Name {
     len: usize,
-    bytes: [u8; 16],
+    bytes: [u8; MAX_NAME_BYTES],
 }
 
 impl Model for Name {
     ghost use Rattle.std.specs.Prelude.{◌≡◌, ◌≤◌, ℕ, List, take, length};
     ghost use Rattle.std.proofs.Common.{refl};
-    ghost use Rattle.lc_base.specs.NameBytes.{IsName, padded_name, length_of_front};
+    ghost use Rattle.lc_base.specs.NameBytes.{IsName};
+    ghost use Rattle.lc_base.specs.Padding.{padded, length_of_prefix};
+    ghost use Rattle.lc_base.specs.declared.limits.TheConstants.{MAX_NAME_BYTES};
 
     ghost Value = { List ℕ };
 
     ghost view = { λ k. take k.len k.bytes };
 
-    ghost invariant = { λ k. (k.len ≤ 16) × IsName (take k.len k.bytes) × (k.bytes ≡ padded_name (take k.len k.bytes)) };
+    ghost invariant = { λ k. (k.len ≤ MAX_NAME_BYTES) × IsName (take k.len k.bytes) × (k.bytes ≡ padded MAX_NAME_BYTES (take k.len k.bytes)) };
 
-    ghost inverse = { λ bytes. record { len = length bytes; bytes = padded_name bytes } };
+    ghost inverse = { λ bytes. record { len = length bytes; bytes = padded MAX_NAME_BYTES bytes } };
 
-    ghost inverse_ok = { λ a h. let e = length_of_front a.len a.bytes h.0 h.2 in Prim.rw (← h.2, e) refl };
+    ghost inverse_ok = { λ a h. let e = length_of_prefix MAX_NAME_BYTES a.len a.bytes h.0 h.2 in Prim.rw (← h.2, e) refl };
 }
 
-fn is_name_byte(byte: u8) -> bool
+/// Whether a name may have this byte after its first.
+pub fn is_name_byte(byte: u8) -> bool
     ensures { result ≡ is_name_byte byte }
 {
     matches!(byte, b'a'..=b'z' | b'0'..=b'9' | b'_')
 }
 
-fn starts_well(bytes: &[u8]) -> bool
-    ensures { result ≡ starts_well bytes.now }
+fn starts_with_letter(bytes: &[u8]) -> bool
+    ensures { result ≡ starts_with_letter bytes.now }
 {
     match bytes {
         [] => true,
@@ -64,19 +68,19 @@ fn foreign_byte(bytes: &[u8]) -> Option<usize>
 fn bad_name_byte(bytes: &[u8]) -> Option<usize>
     ensures { result ≡ bad_name_byte bytes.now }
 {
-    if starts_well(bytes) {
+    if starts_with_letter(bytes) {
         foreign_byte(bytes)
     } else {
         Some(0)
     }
 }
 
-/// A name in 16 bytes: zeros stand behind it.
-fn padded(name: &[u8]) -> [u8; 16]
-    requires { length name.now ≤ 16 }
-    ensures { result ≡ padded_name name.now }
+/// The array of a name: zeros follow its bytes.
+fn padded(name: &[u8]) -> [u8; MAX_NAME_BYTES]
+    requires { length name.now ≤ MAX_NAME_BYTES }
+    ensures { result ≡ padded MAX_NAME_BYTES name.now }
 {
-    let mut bytes = [0u8; MAX_LEN];
+    let mut bytes = [0u8; MAX_NAME_BYTES];
     bytes[..name.len()].copy_from_slice(name);
     bytes
 }
@@ -89,17 +93,17 @@ impl Name {
         if bytes.is_empty() {
             return Err(KeyError::Empty);
         }
-        if bytes.len() > MAX_LEN {
+        if bytes.len() > MAX_NAME_BYTES {
             return Err(KeyError::Long);
         }
         match bad_name_byte(bytes) {
-            Some(place) => Err(KeyError::Byte(place)),
-            None => Ok(Name::kept(bytes)),
+            Some(offset) => Err(KeyError::Byte(offset)),
+            None => Ok(Name::from_checked(bytes)),
         }
     }
 
-    #[tactic(auto, using(crate::proofs::Padding::name_front_is))]
-    fn kept(name: &[u8]) -> Name
+    #[tactic(auto, using(crate::proofs::Padding::padded_prefix_is))]
+    fn from_checked(name: &[u8]) -> Name
         requires { IsName name.now }
         ensures { result ≡ name.now }
     {

@@ -1,7 +1,9 @@
-//! The traits of the outside. A meaning of an object is named by contracts alone; the program knows of it what calls answer.
-//! An optional meaning is `None` where the object does not tell it, and a clause on it then says only that it stays untold.
+//! The traits of the outside. A meaning of an object is named by contracts alone; the program knows
+//! of it what calls answer.
+//! An optional meaning is `None` where the object does not tell it, and a clause on it then says
+//! only that it stays untold.
 
-ghost use Rattle.std.specs.Prelude.{ℕ, ◌<◌, ◌≤◌, List, length, Option, IfOk};
+ghost use Rattle.std.specs.Prelude.{ℕ, ◌<◌, ◌≤◌, List, length, Option, IfOk, IsErr};
 ghost use Rattle.lc_base.specs.Outside.{HasCause, Pulls, Tell, Tells};
 
 /// A call of the outside failed.
@@ -25,13 +27,14 @@ pub trait Source {
     /// How many pulls failed, up to the last value of a `u64`.
     ghost source_faults: { Self → ℕ };
 
-    /// Takes the next bytes into the front of the buffer and answers how many; 0 only where nothing is left.
+    /// Takes the next bytes into the prefix of the buffer and answers how many; 0 only where
+    /// nothing is left.
     /// After `Failed` nothing was taken.
     fn pull(&mut self, buffer: &mut [u8]) -> Result<usize, Failed>
         requires { 0 < length buffer.old }
         ensures bound { IfOk result (λ n. n ≤ length buffer.new) }
         ensures bytes { Pulls (left self.old) (left self.new) result buffer.new }
-        ensures cause { HasCause (source_faults self.old) (source_faults self.new) result };
+        ensures cause { HasCause (source_faults self.old) (source_faults self.new) (IsErr result) };
 }
 
 /// Bytes that go out.
@@ -40,5 +43,5 @@ pub trait Wire: Clock {
     fn tell(&mut self, bytes: &[u8]) -> Result<(), Failed>
         ensures time { Self.now self.old ≤ Self.now self.new }
         ensures told { Tells (Self.now self.old) bytes.now (Self.told self.old) (Self.told self.new) result }
-        ensures cause { HasCause (Self.wire_faults self.old) (Self.wire_faults self.new) result };
+        ensures cause { HasCause (Self.wire_faults self.old) (Self.wire_faults self.new) (IsErr result) };
 }

@@ -20,10 +20,10 @@ pub struct Row {
     pub key: Key,
     /// The number of its block.
     pub block: u32,
-    /// The place of its transaction in the block, from 0.
+    /// The index of its transaction in the block, from 0.
     pub tx: u16,
     pub value: Value,
-    /// In a lawful history at most 64, none twice, each of an earlier block.
+    /// In a lawful history at most `MAX_DEPS`, none twice, each of an earlier block.
     pub deps: DepList,
 }
 
@@ -32,7 +32,7 @@ pub struct Row {
 pub struct Version {
     /// The number of its block.
     pub block: u32,
-    /// The place of its transaction in the block, from 0.
+    /// The index of its transaction in the block, from 0.
     pub tx: u16,
     pub value: Value,
 }

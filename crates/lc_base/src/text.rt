@@ -5,12 +5,11 @@ ghost use Rattle.lc_base.specs.TextBytes.{is_text_byte, bad_text_byte, IsText};
 ghost use Rattle.lc_base.specs.Text.{IsTextOf};
 ghost use Rattle.lc_base.specs.declared.text.TextError.TheVariants.{Memory};
 
+use crate::limits::MAX_TEXT_BYTES;
 use crate::list::Duplicate;
 use std::alloc::{AllocError, Global};
 use std::marker::Model;
 use thiserror::Error;
-
-const MAX_LEN: usize = 1024;
 
 /// A text: at most 1,024 bytes, each from 0x20 to 0x7E.
 #[derive(Debug, Drop)]
@@ -32,13 +31,13 @@ impl Model for Text {
 /// Why bytes are no text, or were not kept.
 #[derive(Clone, Copy, Debug, PartialEq, Eq, Error)]
 pub enum TextError {
-    /// There are more than 1,024.
+    /// There are more than `MAX_TEXT_BYTES`.
     #[error("too long")]
     Long,
-    /// The first byte that a text may not have stands at this place, from 0.
+    /// The offset of the first byte that a text may not have.
     #[error("bad byte at {0}")]
     Byte(usize),
-    /// No memory was to be had.
+    /// Out of memory.
     #[error("no memory")]
     Memory,
 }
@@ -51,7 +50,8 @@ impl From<AllocError> for TextError {
     }
 }
 
-fn is_text_byte(byte: u8) -> bool
+/// Whether a text may have this byte.
+pub fn is_text_byte(byte: u8) -> bool
     ensures { result ≡ is_text_byte byte }
 {
     matches!(byte, 0x20..=0x7E)
@@ -68,11 +68,11 @@ impl Text {
     pub fn new(alloc: Global, bytes: &[u8]) -> Result<Text, TextError>
         ensures { IsTextOf bytes.now result }
     {
-        if bytes.len() > MAX_LEN {
+        if bytes.len() > MAX_TEXT_BYTES {
             return Err(TextError::Long);
         }
-        if let Some(place) = bad_text_byte(bytes) {
-            return Err(TextError::Byte(place));
+        if let Some(offset) = bad_text_byte(bytes) {
+            return Err(TextError::Byte(offset));
         }
         let bytes = Vec::from_slice(alloc, bytes)?;
         Ok(Text { bytes })

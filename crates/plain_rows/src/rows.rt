@@ -49,7 +49,7 @@ impl PlainRows {
         }
     }
 
-    /// Puts these rows behind the others. Where there is no memory, the rows stay as they were.
+    /// Appends these rows. Out of memory, the rows stay as they were.
     pub fn add(&mut self, rows: &RowList) -> Result<(), Memory>
         requires { IsLawful (self.old ++ rows.now) }
         ensures ok { OnOk result (self.new ≡ self.old ++ rows.now) }
@@ -130,7 +130,8 @@ fn version_of(row: &Row) -> Dep
     }
 }
 
-/// The versions that were derived from the version of this key in this block, in the order of their rows.
+/// The versions that were derived from the version of this key in this block, in the order of their
+/// rows.
 fn uses(alloc: Global, rows: &[Row], key: &Key, block: u32) -> Result<DepList, Memory>
     ensures { IfOk result (λ list. list ≡ uses rows.now key.now block) }
 {

@@ -11,7 +11,7 @@ returns-clause-bytes c =
     let count : n ≡ pulled_count s (length c.args.buffer.now) = c.pulled_count-count.ensures in
     let left_is : s.left ≡ c.args.self.now.left = ap (λ (t : SourceState). t.left) c.self.view_is in (
       ap Some (sym left_is ∙ left_is_pulled s (length c.args.buffer.now) n c.args.buffer.now count
-          ∙ ap (λ (front : List ℕ). take n front ++ drop n s.left) (ap (λ (rest : List ℕ). take n rest ++ drop n c.args.buffer.now) (sym c.rest.ensures) ∙ sym c.put_front.ensures)
-          ∙ ap (λ (rest : List ℕ). take n c.put_front.new.buffer ++ rest) (drop-drop n c.self.inside.start c.self.inside.bytes.items)),
+          ∙ ap (λ (prefix : List ℕ). take n prefix ++ drop n s.left) (ap (λ (rest : List ℕ). take n rest ++ drop n c.args.buffer.now) (sym c.rest.ensures) ∙ sym c.put_prefix.ensures)
+          ∙ ap (λ (rest : List ℕ). take n c.put_prefix.new.buffer ++ rest) (drop-drop n c.self.inside.start c.self.inside.bytes.items)),
       λ none. sym left_is ∙ none_is_left s (length c.args.buffer.now) n c.self.invariant.1 c.requires count none,
     )

@@ -1,9 +1,9 @@
--- Where reading stops, the longest good front ends.
+-- Where reading stops, the longest good prefix ends.
 use Rattle.std.proofs.Common.{◌≡◌, ℕ, ◌-◌, ◌≤◌, List, ◌++◌, length, take, drop, Ok, Err, refl, sym, ap, subst, ◌∙◌, arith}
 use Rattle.std.specs.List.{concat}
 use Rattle.std.proofs.lemmas.List.{length-append, length-drop, take-append-drop, take_at, take_all}
 use Rattle.byte_fields.specs.Reading.{Field}
-use Rattle.byte_fields.specs.Fronts.{IsGoodFront, IsLongestFront}
+use Rattle.byte_fields.specs.Prefixes.{IsGoodPrefix, IsLongestPrefix}
 use Rattle.byte_fields.specs.Spelling.{IsBytes}
 use Rattle.byte_fields.proofs.Laws.{IsField, Stops, left_of}
 
@@ -16,21 +16,21 @@ module _ {A : Type 0} {read : List ℕ → Field A} {fields : A → List (List �
       record { value = x.0; is = t.is; whole = length (fields x.0); rest = x.1; parts = t.parts ∙ ap (λ (f : List (List ℕ)). concat f ++ x.1) (sym all); left_is = refl }
   stopped (Err left) e = field.stops bytes left fits e
 
-  good_front : (n : ℕ) → n ≡ length bytes - left_of (read bytes) → IsGoodFront fields Is bytes n
-  good_front n e =
+  good_prefix : (n : ℕ) → n ≡ length bytes - left_of (read bytes) → IsGoodPrefix fields Is bytes n
+  good_prefix n e =
       let s = stopped (read bytes) refl in
-      let front : List ℕ = concat (take s.whole (fields s.value)) in
-      let long : length front ≡ n = omega (arith, s.left_is, ap length s.parts, length-append front s.rest) in
-      record { within = omega arith; value = s.value; lawful = s.is; whole = s.whole; front = ap (take n) s.parts ∙ take_at front s.rest n long }
+      let prefix : List ℕ = concat (take s.whole (fields s.value)) in
+      let long : length prefix ≡ n = omega (arith, s.left_is, ap length s.parts, length-append prefix s.rest) in
+      record { within = omega arith; value = s.value; lawful = s.is; whole = s.whole; prefix = ap (take n) s.parts ∙ take_at prefix s.rest n long }
 
-  no_longer : (m : ℕ) → IsGoodFront fields Is bytes m → m ≤ length bytes - left_of (read bytes)
-  no_longer m front =
-      let parts : bytes ≡ concat (take front.whole (fields front.value)) ++ drop m bytes = sym (take-append-drop m bytes) ∙ ap (λ (t : List ℕ). t ++ drop m bytes) front.front in
-      let far = field.most bytes front.value front.whole (drop m bytes) fits front.lawful parts in
-      omega (arith, far, front.within, length-drop m bytes)
+  no_longer : (m : ℕ) → IsGoodPrefix fields Is bytes m → m ≤ length bytes - left_of (read bytes)
+  no_longer m prefix =
+      let parts : bytes ≡ concat (take prefix.whole (fields prefix.value)) ++ drop m bytes = sym (take-append-drop m bytes) ∙ ap (λ (t : List ℕ). t ++ drop m bytes) prefix.prefix in
+      let far = field.most bytes prefix.value prefix.whole (drop m bytes) fits prefix.lawful parts in
+      omega (arith, far, prefix.within, length-drop m bytes)
 
-  pub longest_front : (n : ℕ) → n ≡ length bytes - left_of (read bytes) → IsLongestFront fields Is bytes n
-  longest_front n e = record { good = good_front n e; longest = λ m front. subst (λ (k : ℕ). m ≤ k) (sym e) (no_longer m front) }
+  pub longest_prefix : (n : ℕ) → n ≡ length bytes - left_of (read bytes) → IsLongestPrefix fields Is bytes n
+  longest_prefix n e = record { good = good_prefix n e; longest = λ m prefix. subst (λ (k : ℕ). m ≤ k) (sym e) (no_longer m prefix) }
 
   -- no more is left than there was
   pub left_within : left_of (read bytes) ≤ length bytes

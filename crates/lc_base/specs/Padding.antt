@@ -1,0 +1,20 @@
+-- Bytes in an array that is longer than they are.
+use Rattle.std.specs.Prelude.{◌≡◌, ℕ, ◌-◌, ◌≤◌, List, ◌++◌, length, take, replicate}
+use Rattle.std.proofs.Common.{ap, arith}
+use Rattle.std.proofs.lemmas.List.{length-take, length-append, length-replicate}
+
+-- The bytes in an array of this width: zeros follow them.
+abbrev pub padded : ℕ → List ℕ → List ℕ
+padded width bytes = bytes ++ replicate (width - length bytes) 0
+
+-- The first bytes of an array, which is these with zeros after them, are as many as were taken.
+pub length_of_prefix : (width len : ℕ) (bytes : List ℕ) → len ≤ width → bytes ≡ padded width (take len bytes) →
+    length (take len bytes) ≡ len
+length_of_prefix width len bytes short is_padded =
+    omega (
+      arith,
+      length-take len bytes,
+      ap length is_padded,
+      length-append (take len bytes) (replicate (width - length (take len bytes)) 0),
+      length-replicate {A = ℕ} (width - length (take len bytes)) 0,
+    )

@@ -1,0 +1,16 @@
+//! The limits of keys, names, texts and histories.
+
+/// The greatest number of bytes of a key.
+pub const MAX_KEY_BYTES: usize = 64;
+
+/// The greatest number of bytes of a name.
+pub const MAX_NAME_BYTES: usize = 16;
+
+/// The greatest number of bytes of a text.
+pub const MAX_TEXT_BYTES: usize = 1024;
+
+/// The greatest number of dependencies of a row, and of dependency keys of a transaction.
+pub const MAX_DEPS: usize = 64;
+
+/// The greatest number of rows of a history.
+pub const MAX_ROWS: u32 = 4_294_967_294;
