@@ -1,176 +1,250 @@
--- The first fault of a contract, in the order of checking: function by function, statement by statement, operands from left to right before what they belong to, an expression before the name that it declares or assigns.
-use Rattle.std.specs.Prelude.{ℕ, Bool, true, false, ◌==◌, if◌then◌else◌, List, [], ◌∷◌, ◌++◌, length, Option, None, Some, Result, Ok, Err}
+-- The first fault of a contract, in the order of checking: function by function, statement by
+-- statement, operands from left to right before what they belong to, an expression before the name
+-- that it declares or assigns.
+use Rattle.std.specs.Prelude.{ℕ, Bool, ◌==◌, if◌then◌else◌, List, [], ◌∷◌, ◌++◌, length, Option, None, Some, Result, Ok, Err}
 use Rattle.std.specs.List.{list_any}
+use Rattle.std.specs.Option.{option_or}
 use Rattle.std.specs.Cmp.Lexicographic.{pointwise}
+use denote.Enum.Bare.{sameb}
+use Rattle.contract_tree.specs.contracts.tree.ValueKind.{the_type}
 use Rattle.contract_tree.specs.declared.tree.ValueKind.{ValueKind}
 use Rattle.contract_tree.specs.declared.tree.ValueKind.TheVariants.{Int, Text}
 use Rattle.contract_tree.specs.declared.tree.Param.{Param}
 use Rattle.contract_tree.specs.Tree.{Tree, Trees, none, more, StatementTree, StatementTrees, no_statement, statements, FunctionTree}
 use Rattle.contract_tree.specs.Tree as tree
-use Rattle.contract_check.specs.declared.builtin.Builtin.{Builtin}
+use Rattle.contract_tree.specs.declared.builtin.Builtin.{Builtin}
 use Rattle.contract_check.specs.declared.fault.Fault.{Fault}
 use Rattle.contract_check.specs.declared.fault.CheckKind.{CheckKind}
 use Rattle.contract_check.specs.declared.fault.CheckKind.TheVariants.{Unknown, Again, Count, Kind}
-use Rattle.contract_check.specs.declared.expression.Found.{Found}
-use Rattle.contract_check.specs.Builtins.{params_of, kind_given, builtin_of}
+use Rattle.contract_check.specs.declared.fault.CheckError.{CheckError}
+use Rattle.contract_check.specs.declared.fault.CheckError.TheVariants as errors
+use Rattle.contract_check.specs.declared.expression.KindAt.{KindAt}
+use Rattle.contract_tree.specs.Builtins.{params_of, kind_given, builtin_of}
 use Rattle.contract_check.specs.Names.{Names, kind_in}
-use Rattle.contract_check.specs.WellKinded.{Takes, Numbers, Texts, Alike, takes, with_name}
+use Rattle.contract_check.specs.WellKinded.{Operands, Numbers, Texts, Alike, operands_of, with_name}
 
+-- The fault that an error tells: none where it is out of memory.
+abbrev pub fault_of : CheckError → Option Fault
+fault_of (errors.Refused at kind) = Some (record { at = at; kind = kind })
+fault_of errors.Memory = None
+
+-- A check that finds a fault of this kind at this offset.
 abbrev pub fault_at : {A : Type 0} → ℕ → CheckKind → Result A Fault
 fault_at at kind = Err (record { at = at; kind = kind })
 
--- the second check, with what the first gave, where that found no fault
-abbrev pub after : {A B : Type 0} → Result A Fault → (A → Result B Fault) → Result B Fault
-after (Ok a) next = next a
-after (Err fault) next = Err fault
+-- The second check, with what the first gave, where that found no fault.
+abbrev pub and_then : {A B : Type 0} → Result A Fault → (A → Result B Fault) → Result B Fault
+and_then (Ok a) next = next a
+and_then (Err fault) next = Err fault
 
--- ---- expressions
-
-abbrev pub found_at : ℕ → ValueKind → Found
-found_at at kind = record { at = at; kind = kind }
-
-abbrev pub same_kind : ValueKind → ValueKind → Bool
-same_kind Int Int = true
-same_kind Int Text = false
-same_kind Text Int = false
-same_kind Text Text = true
-
--- what was found must be of this kind
-abbrev pub fits : ValueKind → Found → Result Found Fault
-fits wanted found = if same_kind found.kind wanted then Ok found else fault_at found.at Kind
-
--- a name, by the kind that it has where it is visible
-abbrev pub name_found : ℕ → Option ValueKind → Result Found Fault
-name_found at None = fault_at at Unknown
-name_found at (Some kind) = Ok (found_at at kind)
-
--- the first argument that is not of its parameter's kind
-abbrev pub wrong_place : List Found → List ValueKind → Option ℕ
-wrong_place [] params = None
-wrong_place (arg ∷ args) [] = None
-wrong_place (arg ∷ args) (kind ∷ kinds) = if same_kind arg.kind kind then wrong_place args kinds else Some arg.at
-
-abbrev pub unless_wrong : Option ℕ → Found → Result Found Fault
-unless_wrong None found = Ok found
-unless_wrong (Some place) found = fault_at place Kind
-
-abbrev pub params_taken : Option Builtin → List ValueKind
-params_taken None = []
-params_taken (Some builtin) = params_of builtin
-
-abbrev pub call_judged : ℕ → Option Builtin → ℕ → Option ℕ → Result Found Fault
-call_judged at None count wrong = fault_at at Unknown
-call_judged at (Some builtin) count wrong = if count == length (params_of builtin) then unless_wrong wrong (found_at at (kind_given builtin)) else fault_at at Count
-
--- a call, once its arguments are checked: the name, then the number of arguments, then their kinds
-abbrev pub call_found : ℕ → Option Builtin → List Found → Result Found Fault
-call_found at builtin args = call_judged at builtin (length args) (wrong_place args (params_taken builtin))
-
--- an operand of a prefix, once it is checked
-abbrev pub prefix_found : ℕ → Found → Result Found Fault
-prefix_found at operand = after (fits Int operand) (λ _. Ok (found_at at Int))
-
--- two operands of one kind, where the operator gives that kind too
-abbrev pub both_found : ValueKind → ℕ → Found → Found → Result Found Fault
-both_found wanted at left right = after (fits wanted left) (λ _. after (fits wanted right) (λ _. Ok (found_at at wanted)))
-
--- two operands of any one kind
-abbrev pub alike_found : ℕ → Found → Found → Result Found Fault
-alike_found at left right = after (fits left.kind right) (λ _. Ok (found_at at Int))
-
--- two operands, once they are checked
-abbrev pub pair_found : ℕ → Takes → Found → Found → Result Found Fault
-pair_found at Numbers left right = both_found Int at left right
-pair_found at Texts left right = both_found Text at left right
-pair_found at Alike left right = alike_found at left right
-
--- the kind of an expression and its place, or its first fault
-abbrev mutual
-  pub found : Names → Tree → Result Found Fault
-  found names (tree.Int at value) = Ok (found_at at Int)
-  found names (tree.Text at text) = Ok (found_at at Text)
-  found names (tree.Name at name) = name_found at (kind_in names name)
-  found names (tree.Call at name args) = after (all_found names args) (call_found at (builtin_of name))
-  found names (tree.Prefix at sign operand) = after (found names operand) (prefix_found at)
-  found names (tree.Binary at sign left right) = after (found names left) (λ left. after (found names right) (λ right. pair_found at (takes sign) left right))
-
-  pub all_found : Names → Trees → Result (List Found) Fault
-  all_found names none = Ok []
-  all_found names (more x xs) = after (found names x) (λ kind. after (all_found names xs) (λ kinds. Ok (kind ∷ kinds)))
-
--- an expression that must be of this kind
-abbrev pub must_be : ValueKind → Names → Tree → Result Found Fault
-must_be wanted names x = after (found names x) (fits wanted)
-
-abbrev pub must_be_texts : Names → Trees → Result Names Fault
-must_be_texts names none = Ok names
-must_be_texts names (more x xs) = after (must_be Text names x) (λ _. must_be_texts names xs)
-
-abbrev pub must_be_sources : Names → Option Trees → Result Names Fault
-must_be_sources names None = Ok names
-must_be_sources names (Some parts) = must_be_texts names parts
-
--- what is put: the key, the value and the keys that it is said to come from
-abbrev pub put_left : Names → Tree → Tree → Option Trees → Result Names Fault
-put_left names key value parts = after (must_be Text names key) (λ _. after (found names value) (λ _. must_be_sources names parts))
-
--- ---- statements
-
-abbrev pub unless_visible : Option ValueKind → Names → ℕ → List ℕ → ValueKind → Result Names Fault
-unless_visible None names at name kind = Ok (with_name names name kind)
-unless_visible (Some _) names at name kind = fault_at at Again
-
--- the names behind a declaration
-abbrev pub declared : Names → ℕ → List ℕ → ValueKind → Result Names Fault
-declared names at name kind = unless_visible (kind_in names name) names at name kind
-
--- an assignment, once its value is checked
-abbrev pub assigned : Option ValueKind → Names → ℕ → Found → Result Names Fault
-assigned None names at value = fault_at at Unknown
-assigned (Some kind) names at value = after (fits kind value) (λ _. Ok names)
-
--- the names of before, behind a block
-abbrev pub left_behind : Names → Result Names Fault → Result Names Fault
-left_behind names (Ok _) = Ok names
-left_behind names (Err fault) = Err fault
-
--- the names that are visible behind statements, or their first fault
-abbrev mutual
-  pub behind : Names → StatementTree → Result Names Fault
-  behind names (tree.Let at name_at name value) = after (found names value) (λ value. declared names name_at name value.kind)
-  behind names (tree.Assign at name value) = after (found names value) (λ value. assigned (kind_in names name) names at value)
-  behind names (tree.If at test first) = after (must_be Int names test) (λ _. left_behind names (behind_all names first))
-  behind names (tree.IfElse at test first second) = after (must_be Int names test) (λ _. after (left_behind names (behind_all names first)) (λ _. left_behind names (behind_all names second)))
-  behind names (tree.While at test body) = after (must_be Int names test) (λ _. left_behind names (behind_all names body))
-  behind names (tree.Put at key value parts) = put_left names key value parts
-  behind names (tree.Fail at) = Ok names
-  behind names (tree.Return at) = Ok names
-
-  pub behind_all : Names → StatementTrees → Result Names Fault
-  behind_all names no_statement = Ok names
-  behind_all names (statements x xs) = after (behind names x) (λ names. behind_all names xs)
-
--- ---- functions
-
-abbrev pub behind_params : Names → List Param → Result Names Fault
-behind_params names [] = Ok names
-behind_params names (param ∷ params) = after (declared names param.at param.name param.kind) (λ names. behind_params names params)
-
-abbrev pub behind_function : FunctionTree → Result Names Fault
-behind_function function = after (behind_params [] function.params) (λ names. behind_all names function.body)
-
--- the function names used, behind a function's name
-abbrev pub behind_name : List (List ℕ) → FunctionTree → Result (List (List ℕ)) Fault
-behind_name used function = if list_any (pointwise ◌==◌ function.name) used then fault_at function.at Again else Ok (used ++ function.name ∷ [])
-
-abbrev pub behind_functions : List (List ℕ) → List FunctionTree → Result (List (List ℕ)) Fault
-behind_functions used [] = Ok used
-behind_functions used (function ∷ functions) = after (behind_name used function) (λ used. after (behind_function function) (λ _. behind_functions used functions))
-
+-- The fault of a check, where it found one.
 abbrev pub fault_in : {A : Type 0} → Result A Fault → Option Fault
 fault_in (Ok _) = None
 fault_in (Err fault) = Some fault
 
--- the first fault of a contract's functions
+-- A value, unless there is a fault.
+abbrev pub unless_fault : {A : Type 0} → A → Option Fault → Result A Fault
+unless_fault a None = Ok a
+unless_fault a (Some fault) = Err fault
+
+-- ---- expressions
+
+-- Whether two kinds are the same, as `==` of the program says.
+abbrev pub same_kind : ValueKind → ValueKind → Bool
+same_kind = sameb the_type
+
+-- A kind, and the offset of the expression that has it.
+abbrev pub kind_at : ℕ → ValueKind → KindAt
+kind_at at kind = record { at = at; kind = kind }
+
+-- What has this kind, unchanged; else the fault is at its offset.
+abbrev pub require_kind : ValueKind → KindAt → Result KindAt Fault
+require_kind kind value = if same_kind value.kind kind then Ok value else fault_at value.at Kind
+
+-- The kind of a name where it is visible, at the offset of the name.
+abbrev pub name_kind : ℕ → Option ValueKind → Result KindAt Fault
+name_kind at None = fault_at at Unknown
+name_kind at (Some kind) = Ok (kind_at at kind)
+
+-- The offset of an argument that is not of its parameter's kind; it has none where there is no such
+-- parameter.
+abbrev pub wrong_argument : Option ValueKind → KindAt → Option ℕ
+wrong_argument None arg = None
+wrong_argument (Some kind) arg = if same_kind arg.kind kind then None else Some arg.at
+
+-- The offset of the first argument that is not of its parameter's kind.
+abbrev pub first_wrong_argument : List KindAt → List ValueKind → Option ℕ
+first_wrong_argument [] kinds = None
+first_wrong_argument (arg ∷ args) [] = None
+first_wrong_argument (arg ∷ args) (kind ∷ kinds) =
+    option_or (wrong_argument (Some kind) arg) (first_wrong_argument args kinds)
+
+-- What a call gives, unless one of its arguments is wrong.
+abbrev pub unless_wrong_argument : Option ℕ → KindAt → Result KindAt Fault
+unless_wrong_argument None value = Ok value
+unless_wrong_argument (Some offset) value = fault_at offset Kind
+
+-- The kinds of a builtin's parameters; none where a name is not that of a builtin.
+abbrev pub parameter_kinds : Option Builtin → List ValueKind
+parameter_kinds None = []
+parameter_kinds (Some builtin) = params_of builtin
+
+-- What a call gives, by the number of its arguments and the first wrong one.
+abbrev pub call_kind_by : ℕ → Option Builtin → ℕ → Option ℕ → Result KindAt Fault
+call_kind_by at None count wrong = fault_at at Unknown
+call_kind_by at (Some builtin) count wrong =
+    if count == length (params_of builtin)
+    then unless_wrong_argument wrong (kind_at at (kind_given builtin)) else fault_at at Count
+
+-- What a call gives, once its arguments are checked: the name is looked at, then the number of
+-- arguments, then their kinds.
+abbrev pub call_kind : ℕ → Option Builtin → List KindAt → Result KindAt Fault
+call_kind at builtin args =
+    call_kind_by at builtin (length args) (first_wrong_argument args (parameter_kinds builtin))
+
+-- What a prefix gives: its operand is a number.
+abbrev pub prefix_kind : ℕ → KindAt → Result KindAt Fault
+prefix_kind at operand = and_then (require_kind Int operand) (λ _. Ok (kind_at at Int))
+
+-- What an operator gives whose operands and value are of one given kind.
+abbrev pub operation_kind : ValueKind → ℕ → KindAt → KindAt → Result KindAt Fault
+operation_kind kind at left right =
+    and_then (require_kind kind left)
+    (λ _. and_then (require_kind kind right) (λ _. Ok (kind_at at kind)))
+
+-- What an operator gives that compares two operands of any one kind.
+abbrev pub equality_kind : ℕ → KindAt → KindAt → Result KindAt Fault
+equality_kind at left right = and_then (require_kind left.kind right) (λ _. Ok (kind_at at Int))
+
+-- What an operator gives, by the operands that it takes.
+abbrev pub binary_kind : ℕ → Operands → KindAt → KindAt → Result KindAt Fault
+binary_kind at Numbers left right = operation_kind Int at left right
+binary_kind at Texts left right = operation_kind Text at left right
+binary_kind at Alike left right = equality_kind at left right
+
+-- The kind of an expression with its offset, or the first fault of the expression; and the same of
+-- each of a list of expressions.
+abbrev mutual
+  pub expression_kind : Names → Tree → Result KindAt Fault
+  expression_kind names (tree.Int at value) = Ok (kind_at at Int)
+  expression_kind names (tree.Text at text) = Ok (kind_at at Text)
+  expression_kind names (tree.Name at name) = name_kind at (kind_in names name)
+  expression_kind names (tree.Call at name args) =
+      and_then (expression_kinds names args) (call_kind at (builtin_of name))
+  expression_kind names (tree.Prefix at sign operand) =
+      and_then (expression_kind names operand) (prefix_kind at)
+  expression_kind names (tree.Binary at sign left right) =
+      and_then (expression_kind names left)
+      (λ left. and_then (expression_kind names right)
+      (λ right. binary_kind at (operands_of sign) left right))
+
+  -- The kinds of expressions and their offsets, in order, or the first fault of them.
+  pub expression_kinds : Names → Trees → Result (List KindAt) Fault
+  expression_kinds names none = Ok []
+  expression_kinds names (more x xs) =
+      and_then (expression_kind names x)
+      (λ kind. and_then (expression_kinds names xs) (λ kinds. Ok (kind ∷ kinds)))
+
+-- The kind of an expression, which is required to be this one.
+abbrev pub expression_of_kind : ValueKind → Names → Tree → Result KindAt Fault
+expression_of_kind kind names x = and_then (expression_kind names x) (require_kind kind)
+
+-- The same names, where each of the expressions is a text.
+abbrev pub text_expressions : Names → Trees → Result Names Fault
+text_expressions names none = Ok names
+text_expressions names (more x xs) =
+    and_then (expression_of_kind Text names x) (λ _. text_expressions names xs)
+
+-- The same names, where the keys that a value is said to come from are texts.
+abbrev pub source_expressions : Names → Option Trees → Result Names Fault
+source_expressions names None = Ok names
+source_expressions names (Some parts) = text_expressions names parts
+
+-- The same names after a `put` of a key, a value and the keys that it is said to come from.
+abbrev pub names_after_put : Names → Tree → Tree → Option Trees → Result Names Fault
+names_after_put names key value parts =
+    and_then (expression_of_kind Text names key)
+    (λ _. and_then (expression_kind names value) (λ _. source_expressions names parts))
+
+-- ---- statements
+
+-- The names with a new one, unless it is visible with some kind.
+abbrev pub with_new_name : Option ValueKind → Names → ℕ → List ℕ → ValueKind → Result Names Fault
+with_new_name None names at name kind = Ok (with_name names name kind)
+with_new_name (Some _) names at name kind = fault_at at Again
+
+-- The names after a declaration.
+abbrev pub names_after_declaration : Names → ℕ → List ℕ → ValueKind → Result Names Fault
+names_after_declaration names at name kind = with_new_name (kind_in names name) names at name kind
+
+-- The same names after an assignment, by the kind of its name and once its value is checked.
+abbrev pub names_after_assignment : Option ValueKind → Names → ℕ → KindAt → Result Names Fault
+names_after_assignment None names at value = fault_at at Unknown
+names_after_assignment (Some kind) names at value =
+    and_then (require_kind kind value) (λ _. Ok names)
+
+-- The names before a block are those after it.
+abbrev pub names_after_block : Names → Result Names Fault → Result Names Fault
+names_after_block names (Ok _) = Ok names
+names_after_block names (Err fault) = Err fault
+
+-- The names that are visible after a statement, or after several, or their first fault.
+abbrev mutual
+  pub names_after_statement : Names → StatementTree → Result Names Fault
+  names_after_statement names (tree.Let at name_at name value) =
+      and_then (expression_kind names value)
+      (λ value. names_after_declaration names name_at name value.kind)
+  names_after_statement names (tree.Assign at name value) =
+      and_then (expression_kind names value)
+      (λ value. names_after_assignment (kind_in names name) names at value)
+  names_after_statement names (tree.If at test first) =
+      and_then (expression_of_kind Int names test)
+      (λ _. names_after_block names (names_after_statements names first))
+  names_after_statement names (tree.IfElse at test first second) =
+      and_then (expression_of_kind Int names test)
+      (λ _. and_then (names_after_block names (names_after_statements names first))
+      (λ _. names_after_block names (names_after_statements names second)))
+  names_after_statement names (tree.While at test body) =
+      and_then (expression_of_kind Int names test)
+      (λ _. names_after_block names (names_after_statements names body))
+  names_after_statement names (tree.Put at key value parts) = names_after_put names key value parts
+  names_after_statement names (tree.Fail at) = Ok names
+  names_after_statement names (tree.Return at) = Ok names
+
+  -- The names that are visible after statements, one after another.
+  pub names_after_statements : Names → StatementTrees → Result Names Fault
+  names_after_statements names no_statement = Ok names
+  names_after_statements names (statements x xs) =
+      and_then (names_after_statement names x) (λ names. names_after_statements names xs)
+
+-- ---- functions
+
+-- The names after parameters, each of which declares one.
+abbrev pub names_after_params : Names → List Param → Result Names Fault
+names_after_params names [] = Ok names
+names_after_params names (param ∷ params) =
+    and_then (names_after_declaration names param.at param.name param.kind)
+    (λ names. names_after_params names params)
+
+-- The names that are visible at the end of a function.
+abbrev pub names_after_function : FunctionTree → Result Names Fault
+names_after_function function =
+    and_then (names_after_params [] function.params)
+    (λ names. names_after_statements names function.body)
+
+-- The function names that are used, with that of one more function.
+abbrev pub used_after_name : List (List ℕ) → FunctionTree → Result (List (List ℕ)) Fault
+used_after_name used function =
+    if list_any (pointwise ◌==◌ function.name) used then fault_at function.at Again
+    else Ok (used ++ function.name ∷ [])
+
+-- The function names that are used after functions, or their first fault.
+abbrev pub used_after_functions : List (List ℕ) → List FunctionTree → Result (List (List ℕ)) Fault
+used_after_functions used [] = Ok used
+used_after_functions used (function ∷ functions) =
+    and_then (used_after_name used function)
+    (λ used. and_then (names_after_function function) (λ _. used_after_functions used functions))
+
+-- The first fault of a contract's functions.
 unfoldable pub check_fault : List FunctionTree → Option Fault
-check_fault functions = fault_in (behind_functions [] functions)
+check_fault functions = fault_in (used_after_functions [] functions)

@@ -4,13 +4,14 @@ use Rattle.std.specs.Cmp.Lexicographic.{pointwise}
 use Rattle.std.specs.Map.{lookup, keys_of}
 use Rattle.contract_tree.specs.declared.tree.ValueKind.{ValueKind}
 
+-- Names with the kinds of their values.
 abbrev pub Names : Type 0
 Names = List (List ℕ × ValueKind)
 
--- the kind of a name, where it is visible
+-- The kind of a name, where it is visible.
 abbrev pub kind_in : Names → List ℕ → Option ValueKind
 kind_in names name = lookup (pointwise ◌==◌ name) names
 
--- the slot of a name, where it is visible: the number of names that are older
+-- The slot of a name, where it is visible: the number of names that are older.
 abbrev pub slot_in : Names → List ℕ → Option ℕ
 slot_in names name = position (pointwise ◌==◌ name) (keys_of names)

@@ -1,12 +1,12 @@
 //! A whole contract.
 
-ghost use Rattle.std.specs.Prelude.{◌≡◌, ◌++◌, ◌∷◌, [], ℕ, List, None, Some, map, find, OnOk, IfOk, IfErr};
+ghost use Rattle.std.specs.Prelude.{◌≡◌, ◌++◌, ◌∷◌, [], ℕ, List, None, Some, map, find, IfSome, OnOk, IfErr};
 ghost use Rattle.std.specs.Option.{option_copied};
+ghost use Rattle.lc_base.specs.Answers.{Answers};
 ghost use Rattle.contract_check.specs.Functions.{is_called};
 ghost use Rattle.contract_tree.specs.Tree.{function_of, contract_of};
-ghost use Rattle.contract_check.specs.Checks.{Checks, Judges};
-ghost use Rattle.contract_check.specs.Faults.{fault_in, behind_params, behind_function, behind_name, behind_functions, check_fault};
-ghost use Rattle.contract_check.specs.WellKinded.{WellKinded};
+ghost use Rattle.contract_check.specs.Faults.{fault_of, fault_in, unless_fault, names_after_params, names_after_function, used_after_name, used_after_functions, check_fault};
+ghost use Rattle.contract_check.specs.WellKinded.{IsGoodFunction, WellKinded, IsKindedAnywhere};
 
 use crate::fault::{CheckError, CheckKind};
 use crate::scope::Scope;
@@ -18,7 +18,7 @@ use std::alloc::Global;
 use std::marker::Model;
 
 fn params(scope: &mut Scope, params: &[Param]) -> Result<(), CheckError>
-    ensures { Checks result (behind_params scope.old params.now) scope.new }
+    ensures { Answers (λ _. scope.new) fault_of result (names_after_params scope.old params.now) }
 {
     for param in params {
         declare(scope, param.at, &param.name, param.kind)?;
@@ -27,7 +27,7 @@ fn params(scope: &mut Scope, params: &[Param]) -> Result<(), CheckError>
 }
 
 fn name_once(used: &mut Used, function: &Function) -> Result<(), CheckError>
-    ensures { Checks result (behind_name used.old (function_of function.now)) used.new }
+    ensures { Answers (λ _. used.new) fault_of result (used_after_name used.old (function_of function.now)) }
 {
     if used.add(&function.name)? {
         return Ok(());
@@ -39,7 +39,7 @@ fn name_once(used: &mut Used, function: &Function) -> Result<(), CheckError>
 }
 
 fn function(alloc: Global, function: &Function) -> Result<(), CheckError>
-    ensures { Judges result (fault_in (behind_function (function_of function.now))) }
+    ensures { Answers (λ done. done) fault_of result (unless_fault tt (fault_in (names_after_function (function_of function.now)))) }
 {
     let mut scope = Scope::new(alloc);
     params(&mut scope, &function.params)?;
@@ -48,7 +48,7 @@ fn function(alloc: Global, function: &Function) -> Result<(), CheckError>
 
 #[tactic(auto, unfolding(crate::specs::Faults::check_fault))]
 fn functions(alloc: Global, functions: &[Function]) -> Result<(), CheckError>
-    ensures { Judges result (check_fault (map function_of functions.now)) }
+    ensures { Answers (λ done. done) fault_of result (unless_fault tt (check_fault (map function_of functions.now))) }
 {
     let mut used = Used::new(alloc);
     for next in functions {
@@ -59,7 +59,7 @@ fn functions(alloc: Global, functions: &[Function]) -> Result<(), CheckError>
 }
 
 fn first_fault(alloc: Global, contract: &Contract) -> Result<(), CheckError>
-    ensures { Judges result (check_fault (contract_of contract.now)) }
+    ensures { Answers (λ done. done) fault_of result (unless_fault tt (check_fault (contract_of contract.now))) }
 {
     functions(alloc, &contract.functions)
 }
@@ -97,9 +97,10 @@ impl Checked {
 
     /// The function of a name, where the contract has one.
     pub fn function(&self, name: &Name) -> Option<&Function>
-        ensures { option_copied result ≡ find (is_called name.now) self.now.functions.items }
+        ensures named { option_copied result ≡ find (is_called name.now) self.now.functions.items }
+        ensures good { IfSome (option_copied result) (λ function. IsGoodFunction (function_of function)) }
     {
-        called(&self.contract.functions, name)
+        function_named(&self.contract.functions, name)
     }
 }
 
@@ -109,21 +110,22 @@ fn is_called(function: &Function, name: &Name) -> bool
     function.name == *name
 }
 
-fn called<'a>(functions: &'a [Function], name: &Name) -> Option<&'a Function>
+fn function_named<'a>(functions: &'a [Function], name: &Name) -> Option<&'a Function>
     ensures { option_copied result ≡ find (is_called name.now) functions.now }
 {
     functions.iter().find(|function| is_called(function, name))
 }
 
-/// Checks the names and the kinds of a contract.
+/// Checks the names and the kinds of a contract. It is given back where it has no fault. Contracts
+/// that are equal but for the offsets in them are well kinded together.
 ///
 /// # Errors
 ///
 /// The first fault in the order of checking, or `Memory`.
 pub fn check(alloc: Global, contract: Contract) -> Result<Checked, CheckError>
-    ensures same { IfOk result (λ checked. checked ≡ contract) }
-    ensures fault { Judges result (check_fault (contract_of contract)) }
+    ensures answer { Answers (λ checked. checked) fault_of result (unless_fault contract (check_fault (contract_of contract))) }
     ensures well_kinded { OnOk result (WellKinded (contract_of contract)) }
+    ensures offsets { IsKindedAnywhere (contract_of contract) }
     ensures only { WellKinded (contract_of contract) → IfErr result (λ error. error ≡ CheckError.Memory) }
 {
     match first_fault(alloc, &contract) {

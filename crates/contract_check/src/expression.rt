@@ -2,93 +2,82 @@
 
 ghost use Rattle.std.specs.Prelude.{◌≡◌, ℕ, length, slice_get, map};
 ghost use Rattle.contract_tree.specs.Tree.{tree_of, trees};
-ghost use Rattle.contract_check.specs.Builtins.{builtin_of, params_of};
-ghost use Rattle.contract_check.specs.Faults.{after, found, all_found, same_kind, fits, name_found, params_taken, call_judged, call_found, prefix_found, unless_wrong, both_found, alike_found, pair_found};
-ghost use Rattle.contract_check.specs.Calls.{first_wrong};
+ghost use Rattle.contract_tree.specs.Builtins.{builtin_of, params_of};
+ghost use Rattle.contract_check.specs.Faults.{and_then, expression_kind, expression_kinds, require_kind, name_kind, parameter_kinds, call_kind_by, call_kind, prefix_kind, wrong_argument, unless_wrong_argument, operation_kind, equality_kind, binary_kind};
 ghost use Rattle.contract_check.specs.Names.{kind_in};
-ghost use Rattle.contract_check.specs.WellKinded.{takes};
+ghost use Rattle.contract_check.specs.WellKinded.{operands_of};
 
-use crate::builtin::Builtin;
 use crate::fault::{CheckKind, Fault};
 use crate::scope::Scope;
-use contract_tree::{Expr, ExprNode, Sign, ValueKind};
+use contract_tree::{Builtin, Expr, ExprNode, Sign, ValueKind};
 use lc_base::Name;
 
-/// An expression's kind, and its place.
+/// A kind, and the offset of the expression that has it.
 #[derive(Clone, Copy, Debug)]
-pub struct Found {
-    /// The place.
+pub struct KindAt {
+    /// The offset.
     pub at: u32,
     /// The kind of its value.
     pub kind: ValueKind,
 }
 
-fn same_kind(a: ValueKind, b: ValueKind) -> bool
-    ensures { result ≡ same_kind a b }
+/// What has this kind, unchanged; else the fault is at its offset.
+pub fn require_kind(kind: ValueKind, value: KindAt) -> Result<KindAt, Fault>
+    ensures { result ≡ require_kind kind value }
 {
-    match a {
-        ValueKind::Int => matches!(b, ValueKind::Int),
-        ValueKind::Text => matches!(b, ValueKind::Text),
-    }
-}
-
-/// What was found, if it is of the kind that is wanted.
-pub fn fits(wanted: ValueKind, found: Found) -> Result<Found, Fault>
-    ensures { result ≡ fits wanted found }
-{
-    if same_kind(found.kind, wanted) {
-        Ok(found)
+    if value.kind == kind {
+        Ok(value)
     } else {
         Err(Fault {
-            at: found.at,
+            at: value.at,
             kind: CheckKind::Kind,
         })
     }
 }
 
-fn both(wanted: ValueKind, at: u32, left: Found, right: Found) -> Result<Found, Fault>
-    ensures { result ≡ both_found wanted at left right }
+fn operation_kind(kind: ValueKind, at: u32, left: KindAt, right: KindAt) -> Result<KindAt, Fault>
+    ensures { result ≡ operation_kind kind at left right }
 {
-    fits(wanted, left)?;
-    fits(wanted, right)?;
-    Ok(Found { at, kind: wanted })
+    require_kind(kind, left)?;
+    require_kind(kind, right)?;
+    Ok(KindAt { at, kind })
 }
 
-fn alike(at: u32, left: Found, right: Found) -> Result<Found, Fault>
-    ensures { result ≡ alike_found at left right }
+fn equality_kind(at: u32, left: KindAt, right: KindAt) -> Result<KindAt, Fault>
+    ensures { result ≡ equality_kind at left right }
 {
-    fits(left.kind, right)?;
-    Ok(Found {
+    require_kind(left.kind, right)?;
+    Ok(KindAt {
         at,
         kind: ValueKind::Int,
     })
 }
 
-fn pair(at: u32, sign: Sign, left: Found, right: Found) -> Result<Found, Fault>
-    ensures { result ≡ pair_found at (takes sign) left right }
+fn binary_kind(at: u32, sign: Sign, left: KindAt, right: KindAt) -> Result<KindAt, Fault>
+    ensures { result ≡ binary_kind at (operands_of sign) left right }
 {
     match sign {
-        Sign::Equal | Sign::NotEqual => alike(at, left, right),
-        Sign::Concat => both(ValueKind::Text, at, left, right),
-        _ => both(ValueKind::Int, at, left, right),
+        Sign::Equal | Sign::NotEqual => equality_kind(at, left, right),
+        Sign::Concat => operation_kind(ValueKind::Text, at, left, right),
+        _ => operation_kind(ValueKind::Int, at, left, right),
     }
 }
 
-fn prefix(at: u32, operand: Found) -> Result<Found, Fault>
-    ensures { result ≡ prefix_found at operand }
+fn prefix_kind(at: u32, operand: KindAt) -> Result<KindAt, Fault>
+    ensures { result ≡ prefix_kind at operand }
 {
-    fits(ValueKind::Int, operand)?;
-    Ok(Found {
+    require_kind(ValueKind::Int, operand)?;
+    Ok(KindAt {
         at,
         kind: ValueKind::Int,
     })
 }
 
-fn named(scope: &Scope, at: u32, name: &Name) -> Result<Found, Fault>
-    ensures { result ≡ name_found at (kind_in scope.now name.now) }
+fn name_kind(scope: &Scope, at: u32, name: &Name) -> Result<KindAt, Fault>
+    ensures { result ≡ name_kind at (kind_in scope.now name.now) }
 {
     match scope.kind_of(name) {
-        Some(kind) => Ok(Found { at, kind }),
+        Some(kind) => Ok(KindAt { at, kind }),
         None => Err(Fault {
             at,
             kind: CheckKind::Unknown,
@@ -96,8 +85,8 @@ fn named(scope: &Scope, at: u32, name: &Name) -> Result<Found, Fault>
     }
 }
 
-fn params_taken(builtin: Option<Builtin>) -> &'static [ValueKind]
-    ensures { result.now ≡ params_taken builtin }
+fn parameter_kinds(builtin: Option<Builtin>) -> &'static [ValueKind]
+    ensures { result.now ≡ parameter_kinds builtin }
 {
     match builtin {
         Some(builtin) => builtin.params(),
@@ -105,25 +94,18 @@ fn params_taken(builtin: Option<Builtin>) -> &'static [ValueKind]
     }
 }
 
-fn first_wrong(wrong: Option<u32>, param: Option<ValueKind>, arg: Found) -> Option<u32>
-    ensures { result ≡ first_wrong wrong param arg }
+fn wrong_argument(param: Option<ValueKind>, arg: KindAt) -> Option<u32>
+    ensures { result ≡ wrong_argument param arg }
 {
-    if wrong.is_some() {
-        return wrong;
-    }
     let kind = param?;
-    if same_kind(arg.kind, kind) {
-        None
-    } else {
-        Some(arg.at)
-    }
+    if arg.kind == kind { None } else { Some(arg.at) }
 }
 
-fn unless_wrong(wrong: Option<u32>, found: Found) -> Result<Found, Fault>
-    ensures { result ≡ unless_wrong wrong found }
+fn unless_wrong_argument(wrong: Option<u32>, value: KindAt) -> Result<KindAt, Fault>
+    ensures { result ≡ unless_wrong_argument wrong value }
 {
     match wrong {
-        None => Ok(found),
+        None => Ok(value),
         Some(at) => Err(Fault {
             at,
             kind: CheckKind::Kind,
@@ -131,13 +113,13 @@ fn unless_wrong(wrong: Option<u32>, found: Found) -> Result<Found, Fault>
     }
 }
 
-fn judged(
+fn call_kind_by(
     at: u32,
     builtin: Option<Builtin>,
     count: usize,
     wrong: Option<u32>,
-) -> Result<Found, Fault>
-    ensures { result ≡ call_judged at builtin count wrong }
+) -> Result<KindAt, Fault>
+    ensures { result ≡ call_kind_by at builtin count wrong }
 {
     let Some(builtin) = builtin else {
         return Err(Fault {
@@ -151,56 +133,56 @@ fn judged(
             kind: CheckKind::Count,
         });
     }
-    unless_wrong(
+    unless_wrong_argument(
         wrong,
-        Found {
+        KindAt {
             at,
             kind: builtin.gives(),
         },
     )
 }
 
-fn kind_at(kinds: &[ValueKind], i: usize) -> Option<ValueKind>
+fn nth_kind(kinds: &[ValueKind], i: usize) -> Option<ValueKind>
     ensures { result ≡ slice_get kinds.now i }
 {
     kinds.get(i).copied()
 }
 
 #[cycle(expression)]
-fn call(scope: &Scope, at: u32, name: &Name, args: &[Expr]) -> Result<Found, Fault>
-    ensures { result ≡ after (all_found scope.now (trees (map tree_of args.now))) (call_found at (builtin_of name.now)) }
+fn call(scope: &Scope, at: u32, name: &Name, args: &[Expr]) -> Result<KindAt, Fault>
+    ensures { result ≡ and_then (expression_kinds scope.now (trees (map tree_of args.now))) (call_kind at (builtin_of name.now)) }
 {
     let builtin = Builtin::of_name(name);
-    let params = params_taken(builtin);
+    let params = parameter_kinds(builtin);
     let mut wrong = None;
     for (i, arg) in args.iter().enumerate() {
-        let arg = kind_found(scope, arg)?;
-        wrong = first_wrong(wrong, kind_at(params, i), arg);
+        let arg = expression_kind(scope, arg)?;
+        wrong = wrong.or(wrong_argument(nth_kind(params, i), arg));
     }
-    judged(at, builtin, args.len(), wrong)
+    call_kind_by(at, builtin, args.len(), wrong)
 }
 
-/// The kind and the place of an expression, or its first fault.
+/// The kind of an expression with its offset, or its first fault.
 #[cycle(expression)]
-pub fn kind_found(scope: &Scope, x: &Expr) -> Result<Found, Fault>
-    ensures { result ≡ found scope.now (tree_of x.now) }
+pub fn expression_kind(scope: &Scope, x: &Expr) -> Result<KindAt, Fault>
+    ensures { result ≡ expression_kind scope.now (tree_of x.now) }
 {
     match &x.node {
-        ExprNode::Int(_) => Ok(Found {
+        ExprNode::Int(_) => Ok(KindAt {
             at: x.at,
             kind: ValueKind::Int,
         }),
-        ExprNode::Text(_) => Ok(Found {
+        ExprNode::Text(_) => Ok(KindAt {
             at: x.at,
             kind: ValueKind::Text,
         }),
-        ExprNode::Name(name) => named(scope, x.at, name),
+        ExprNode::Name(name) => name_kind(scope, x.at, name),
         ExprNode::Call { name, args } => call(scope, x.at, name, args),
-        ExprNode::Prefix { operand, .. } => prefix(x.at, kind_found(scope, operand)?),
+        ExprNode::Prefix { operand, .. } => prefix_kind(x.at, expression_kind(scope, operand)?),
         ExprNode::Binary { sign, left, right } => {
-            let left = kind_found(scope, left)?;
-            let right = kind_found(scope, right)?;
-            pair(x.at, *sign, left, right)
+            let left = expression_kind(scope, left)?;
+            let right = expression_kind(scope, right)?;
+            binary_kind(x.at, *sign, left, right)
         }
     }
 }

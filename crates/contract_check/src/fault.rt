@@ -9,7 +9,8 @@ use std::alloc::AllocFailed;
 /// What is wrong with a contract.
 #[derive(Clone, Copy, Debug, PartialEq, Eq)]
 pub enum CheckKind {
-    /// A name that is not visible where it is used or assigned, or a called name that is no builtin.
+    /// A name that is not visible where it is used or assigned, or a called name that is no
+    /// builtin.
     Unknown,
     /// A function's name used before, or a parameter or a `let` whose name is visible.
     Again,
@@ -22,7 +23,7 @@ pub enum CheckKind {
 /// The first fault of a contract in the order of checking.
 #[derive(Clone, Copy, Debug, PartialEq, Eq)]
 pub struct Fault {
-    /// The place of the name, operand or call that is at fault.
+    /// The offset of the name, operand or call that is invalid.
     pub at: u32,
     /// What is wrong with it.
     pub kind: CheckKind,
@@ -33,12 +34,12 @@ pub struct Fault {
 pub enum CheckError {
     /// The contract has a fault.
     Refused {
-        /// The place of the name, operand or call that is at fault.
+        /// The offset of the name, operand or call that is invalid.
         at: u32,
         /// What is wrong with it.
         kind: CheckKind,
     },
-    /// No memory was to be had.
+    /// Out of memory.
     Memory,
 }
 

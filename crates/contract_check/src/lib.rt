@@ -1,7 +1,7 @@
-//! Which contracts are well kinded: names are declared once and before use, builtins get what they take, and operators too.
+//! Which contracts are well kinded: names are declared once and before use, builtins get what they
+//! take, and operators too.
 #![tactic(auto)]
 
-mod builtin;
 mod contract;
 mod expression;
 mod fault;
@@ -9,7 +9,7 @@ mod scope;
 mod statement;
 mod used;
 
-pub use builtin::Builtin;
 pub use contract::{Checked, check};
+pub use contract_tree::Builtin;
 pub use fault::{CheckError, CheckKind};
 pub use scope::Scope;

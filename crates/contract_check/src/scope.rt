@@ -1,6 +1,6 @@
 //! The names that are visible, oldest first.
 
-ghost use Rattle.std.specs.Prelude.{◌≡◌, ◌==◌, ℕ, [], ◌∷◌, ◌++◌, length, take, None, IfOk, OnOk, OnErr};
+ghost use Rattle.std.specs.Prelude.{◌≡◌, ◌==◌, ℕ, [], ◌∷◌, ◌++◌, length, take, None, is_some, IfOk, OnOk, OnErr};
 ghost use Rattle.contract_check.specs.Names.{kind_in, slot_in};
 
 use contract_tree::ValueKind;
@@ -41,9 +41,11 @@ impl Scope {
         self.names.len()
     }
 
-    /// The slot of a name, where it is visible: the number of names that are older.
+    /// The slot of a name, where it is visible: the number of names that are older. A name has a
+    /// slot exactly where it has a kind.
     pub fn slot_of(&self, name: &Name) -> Option<usize>
-        ensures { result ≡ slot_in self.now name.now }
+        ensures slot { result ≡ slot_in self.now name.now }
+        ensures visible { is_some result ≡ is_some (kind_in self.now name.now) }
     {
         self.names.get_index_of(name)
     }
@@ -55,7 +57,7 @@ impl Scope {
         self.names.get(name).copied()
     }
 
-    /// Makes a name visible that is not yet. Where there is no memory, nothing changes.
+    /// Makes a name visible that is not yet. Out of memory, nothing changes.
     pub fn declare(&mut self, name: &Name, kind: ValueKind) -> Result<(), Memory>
         requires { kind_in self.old name.now ≡ None }
         ensures ok { OnOk result (self.new ≡ self.old ++ (name.now, kind) ∷ []) }

@@ -1,26 +1,26 @@
-//! Statements, and the names that are visible behind them.
+//! Statements, and the names that are visible after them.
 
 ghost use Rattle.std.specs.Prelude.{◌≡◌, ℕ, Ok, map};
+ghost use Rattle.lc_base.specs.Answers.{Answers};
 ghost use Rattle.contract_tree.specs.Tree.{tree_of, trees, parts_of, statement_of, statement_list};
-ghost use Rattle.contract_check.specs.Checks.{Checks};
-ghost use Rattle.contract_check.specs.Faults.{must_be, must_be_texts, put_left, declared, assigned, left_behind, behind, behind_all};
+ghost use Rattle.contract_check.specs.Faults.{fault_of, expression_of_kind, text_expressions, names_after_put, names_after_declaration, names_after_assignment, names_after_block, names_after_statement, names_after_statements};
 ghost use Rattle.contract_check.specs.Names.{kind_in};
 
-use crate::expression::{Found, fits, kind_found};
+use crate::expression::{KindAt, expression_kind, require_kind};
 use crate::fault::{CheckError, CheckKind, Fault};
 use crate::scope::Scope;
 use contract_tree::{Expr, ExprList, Form, Statement, ValueKind};
 use lc_base::Name;
 
-fn must_be(wanted: ValueKind, scope: &Scope, x: &Expr) -> Result<Found, Fault>
-    ensures { result ≡ must_be wanted scope.now (tree_of x.now) }
+fn expression_of_kind(kind: ValueKind, scope: &Scope, x: &Expr) -> Result<KindAt, Fault>
+    ensures { result ≡ expression_of_kind kind scope.now (tree_of x.now) }
 {
-    fits(wanted, kind_found(scope, x)?)
+    require_kind(kind, expression_kind(scope, x)?)
 }
 
 /// Makes a name visible, where it is not yet.
 pub fn declare(scope: &mut Scope, at: u32, name: &Name, kind: ValueKind) -> Result<(), CheckError>
-    ensures { Checks result (declared scope.old at name.now kind) scope.new }
+    ensures { Answers (λ _. scope.new) fault_of result (names_after_declaration scope.old at name.now kind) }
 {
     if scope.kind_of(name).is_some() {
         return Err(CheckError::Refused {
@@ -32,8 +32,8 @@ pub fn declare(scope: &mut Scope, at: u32, name: &Name, kind: ValueKind) -> Resu
     Ok(())
 }
 
-fn assign(scope: &Scope, at: u32, name: &Name, value: Found) -> Result<(), CheckError>
-    ensures { Checks result (assigned (kind_in scope.now name.now) scope.now at value) scope.now }
+fn assign(scope: &Scope, at: u32, name: &Name, value: KindAt) -> Result<(), CheckError>
+    ensures { Answers (λ _. scope.now) fault_of result (names_after_assignment (kind_in scope.now name.now) scope.now at value) }
 {
     let Some(kind) = scope.kind_of(name) else {
         return Err(CheckError::Refused {
@@ -41,24 +41,24 @@ fn assign(scope: &Scope, at: u32, name: &Name, value: Found) -> Result<(), Check
             kind: CheckKind::Unknown,
         });
     };
-    fits(kind, value)?;
+    require_kind(kind, value)?;
     Ok(())
 }
 
 fn sources(scope: &Scope, parts: &[Expr]) -> Result<(), CheckError>
-    ensures { Checks result (must_be_texts scope.now (trees (map tree_of parts.now))) scope.now }
+    ensures { Answers (λ _. scope.now) fault_of result (text_expressions scope.now (trees (map tree_of parts.now))) }
 {
     for part in parts {
-        must_be(ValueKind::Text, scope, part)?;
+        expression_of_kind(ValueKind::Text, scope, part)?;
     }
     Ok(())
 }
 
 fn put(scope: &Scope, key: &Expr, value: &Expr, from: &Option<ExprList>) -> Result<(), CheckError>
-    ensures { Checks result (put_left scope.now (tree_of key.now) (tree_of value.now) (parts_of from.now)) scope.now }
+    ensures { Answers (λ _. scope.now) fault_of result (names_after_put scope.now (tree_of key.now) (tree_of value.now) (parts_of from.now)) }
 {
-    must_be(ValueKind::Text, scope, key)?;
-    kind_found(scope, value)?;
+    expression_of_kind(ValueKind::Text, scope, key)?;
+    expression_kind(scope, value)?;
     match from {
         Some(parts) => sources(scope, parts),
         None => Ok(()),
@@ -67,7 +67,7 @@ fn put(scope: &Scope, key: &Expr, value: &Expr, from: &Option<ExprList>) -> Resu
 
 #[cycle(statement)]
 fn statement(scope: &mut Scope, x: &Statement) -> Result<(), CheckError>
-    ensures { Checks result (behind scope.old (statement_of x.now)) scope.new }
+    ensures { Answers (λ _. scope.new) fault_of result (names_after_statement scope.old (statement_of x.now)) }
 {
     match &x.form {
         Form::Let {
@@ -75,11 +75,11 @@ fn statement(scope: &mut Scope, x: &Statement) -> Result<(), CheckError>
             name,
             value,
         } => {
-            let value = kind_found(scope, value)?;
+            let value = expression_kind(scope, value)?;
             declare(scope, *name_at, name, value.kind)
         }
         Form::Assign { name, value } => {
-            let value = kind_found(scope, value)?;
+            let value = expression_kind(scope, value)?;
             assign(scope, x.at, name, value)
         }
         Form::If {
@@ -87,7 +87,7 @@ fn statement(scope: &mut Scope, x: &Statement) -> Result<(), CheckError>
             first,
             second,
         } => {
-            must_be(ValueKind::Int, scope, test)?;
+            expression_of_kind(ValueKind::Int, scope, test)?;
             block(scope, first)?;
             match second {
                 Some(second) => block(scope, second),
@@ -95,7 +95,7 @@ fn statement(scope: &mut Scope, x: &Statement) -> Result<(), CheckError>
             }
         }
         Form::While { test, body } => {
-            must_be(ValueKind::Int, scope, test)?;
+            expression_of_kind(ValueKind::Int, scope, test)?;
             block(scope, body)
         }
         Form::Put { key, value, from } => put(scope, key, value, from),
@@ -105,7 +105,7 @@ fn statement(scope: &mut Scope, x: &Statement) -> Result<(), CheckError>
 
 #[cycle(statement)]
 fn block(scope: &mut Scope, body: &[Statement]) -> Result<(), CheckError>
-    ensures { Checks result (left_behind scope.old (behind_all scope.old (statement_list (map statement_of body.now)))) scope.new }
+    ensures { Answers (λ _. scope.new) fault_of result (names_after_block scope.old (names_after_statements scope.old (statement_list (map statement_of body.now)))) }
 {
     let count = scope.len();
     statements(scope, body)?;
@@ -113,10 +113,10 @@ fn block(scope: &mut Scope, body: &[Statement]) -> Result<(), CheckError>
     Ok(())
 }
 
-/// Checks statements one after another. Behind them, what they declare is visible.
+/// Checks statements one after another. After them, what they declare is visible.
 #[cycle(statement)]
 pub fn statements(scope: &mut Scope, body: &[Statement]) -> Result<(), CheckError>
-    ensures { Checks result (behind_all scope.old (statement_list (map statement_of body.now))) scope.new }
+    ensures { Answers (λ _. scope.new) fault_of result (names_after_statements scope.old (statement_list (map statement_of body.now))) }
 {
     for x in body {
         statement(scope, x)?;

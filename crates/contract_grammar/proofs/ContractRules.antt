@@ -1,5 +1,5 @@
 -- The laws of readers of blocks, functions and contracts.
-use Rattle.std.proofs.Common.{ltb, ◌≡◌, ◌||◌, ℕ, zero, suc, ◌+◌, Bool, true, false, List, [], ◌∷◌, ◌++◌, Some, is_some, ◌⊎◌, inl, inr, refl, sym, ap, ◌∙◌, subst, arith, append_assoc}
+use Rattle.std.proofs.Common.{ltb, ◌≡◌, ◌||◌, ℕ, zero, suc, ◌+◌, Bool, true, false, List, [], ◌∷◌, ◌++◌, Some, is_some, ◌⊎◌, inl, inr, refl, sym, ap, ◌∙◌, subst, arith, append_assoc, codes}
 use Rattle.std.proofs.lemmas.Bool.{ltb-true, ltb-false}
 use Rattle.std.proofs.lemmas.List.{append-nil}
 use Rattle.contract_tokens.specs.declared.token.Token.{Token}
@@ -10,20 +10,23 @@ use Rattle.contract_tree.specs.declared.tree.Param.{Param}
 use Rattle.contract_tree.specs.declared.tree.ValueKind.{ValueKind}
 use Rattle.contract_tree.specs.declared.tree.ValueKind.TheVariants as k
 use Rattle.contract_grammar.specs.declared.Obstacle.{Obstacle}
-use Rattle.contract_grammar.specs.declared.Obstacle.TheVariants.{Nesting, Surplus, Turns}
+use Rattle.contract_grammar.specs.declared.Obstacle.TheVariants.{Nesting, Surplus}
 use Rattle.contract_grammar.specs.Grammar.{Limits, Within, IsStatement, Lets, Assigns, Ifs, IfElses, Whiles, Puts, Fails, Returns, IsBlock, Block, IsStatements, Closes, Then, IsParam, IsOneParam, IsMoreParams, LastParam, MoreParams, IsParams, NoParams, Params, IsFunction, IsOneFunction, IsContract, LastFunction, MoreFunctions}
 use Rattle.contract_grammar.specs.Marks.{the, is, is_not, is_no_end, has, any, is_end, name_of, declared_of, kind_of}
 use Rattle.contract_grammar.specs.Reading.{block_of, block, a_param, param, params, a_function, function, contract}
-use Rattle.contract_grammar.specs.Rules.{either_by, Rule, one, closed, many}
+use Rattle.contract_grammar.specs.Rules.{either_by, Rule, one, refuse}
 use Rattle.contract_grammar.proofs.Laws.{IsRule, IsRet, Ret, ret_is, IsOne, One, ret_rule, one_rule}
 use Rattle.contract_grammar.proofs.MarkFacts.{has_some}
 use Rattle.contract_grammar.proofs.Sequence.{IsSeq, Seq, seq_rule}
 use Rattle.contract_grammar.proofs.Choice.{Starts, seq_starts, renamed, IsEither, either_rule, IsEach, Nothing, Each, IsMoreOf, each_rule, closed_rule}
-use Rattle.contract_grammar.proofs.Parts.{IsFair, token, the_is, has_one, is_one, leads_any, leads_start, differs_start, after_rule, before_rule}
+use Rattle.contract_grammar.proofs.Parts.{IsFair, token, the_is, has_one, is_one, leads_any, leads_start, differs_start, preceded_rule, terminated_rule}
 use Rattle.contract_grammar.proofs.Operands.{IsAllowed}
 use Rattle.contract_grammar.proofs.Expressions.{allowed_rule}
-use Rattle.contract_grammar.proofs.Statements.{nothing_behind, behind_nothing}
+use Rattle.contract_grammar.proofs.Statements.{nothing_after, after_nothing}
 use Rattle.contract_grammar.proofs.StatementRules.{is_other, declared_no_end, declared_is, statement_rule}
+use Rattle.contract_grammar.specs.declared.limits.TheConstants.{MAX_NESTING, MAX_PARAMETERS}
+use Rattle.contract_grammar.proofs.Writable.{no_words, one_word, more_words, name_writable, mark_writable}
+use Rattle.contract_grammar.specs.Faults.{AreWritable}
 
 -- a token with which a statement begins
 begins_statement : Token → Bool
@@ -90,8 +93,8 @@ block_to {l} d f ss (may, Seq _ _ at _ (One o _ e) (Seq y _ had _ i (Seq _ z end
 block_from : {l : Limits} (d : ℕ) (f : List Token) (ss : StatementTrees) → IsBlock l d f ss → IsAllowed (Within l.nesting d) (IsBlockBy l d) f ss
 block_from {l} d f ss (Block _ o at z _ e may i) =
     let r = open_statements d 0 z ss i in
-    let closed : IsSeq (IsOne (the m.BraceClose)) (λ end. IsRet (statement_list r.items)) (r.c ∷ []) (statement_list r.items) = Seq (r.c ∷ []) [] r.end (statement_list r.items) (One r.c r.end r.closes) Ret in
-    let made : IsBlockBy l d (o ∷ (r.y ++ r.c ∷ [])) (statement_list r.items) = Seq (o ∷ []) (r.y ++ r.c ∷ []) at (statement_list r.items) (One o at e) (Seq r.y (r.c ∷ []) r.items (statement_list r.items) (r.items, refl, r.all) closed) in
+    let refuse : IsSeq (IsOne (the m.BraceClose)) (λ end. IsRet (statement_list r.items)) (r.c ∷ []) (statement_list r.items) = Seq (r.c ∷ []) [] r.end (statement_list r.items) (One r.c r.end r.closes) Ret in
+    let made : IsBlockBy l d (o ∷ (r.y ++ r.c ∷ [])) (statement_list r.items) = Seq (o ∷ []) (r.y ++ r.c ∷ []) at (statement_list r.items) (One o at e) (Seq r.y (r.c ∷ []) r.items (statement_list r.items) (r.items, refl, r.all) refuse) in
     (may, subst (λ v. IsBlockBy l d (o ∷ v) ss) (sym r.path) (subst (λ v. IsBlockBy l d (o ∷ (r.y ++ r.c ∷ [])) v) (sym r.tree_is) made))
 
 pub brace_token : Token
@@ -101,11 +104,9 @@ pub brace_is : the m.BraceClose brace_token ≡ Some 0
 unfolding brace_token
 brace_is = refl
 
-nesting_not_turns : ◌≡◌ {A = Obstacle} Nesting Turns → ⊥
-nesting_not_turns e = cc
-
-surplus_not_turns : ◌≡◌ {A = Obstacle} Surplus Turns → ⊥
-surplus_not_turns e = cc
+pub brace_written : AreWritable (brace_token ∷ [])
+unfolding brace_token
+brace_written = one_word (token (w.Mark m.BraceClose)) (mark_writable m.BraceClose)
 
 brace_told : (t : Token) → is m.BraceOpen t ≡ true → is m.BraceOpen t ≡ true
 brace_told t h = h
@@ -120,20 +121,20 @@ block_may : {l : Limits} (d : ℕ) (f : List Token) (ss : StatementTrees) → Is
 block_may d f ss (Block _ o at z _ e may i) = may
 
 module _ {l : Limits} {E : Obstacle → Type 0} {U : Type 0} (fair : IsFair l E U) where
-  closed_block : (d : ℕ) → d ≡ 33 → IsRule E U many (closed Nesting (is m.BraceOpen)) (IsBlock l d) any
+  closed_block : (d : ℕ) → d ≡ suc MAX_NESTING → IsRule E U (refuse Nesting (is m.BraceOpen)) (IsBlock l d) any
   closed_block d full =
-      closed_rule Nesting (is m.BraceOpen) nesting_not_turns brace_told
-      (λ u. (token (w.Mark m.BraceOpen) ∷ brace_token ∷ [], no_statement, Block d (token (w.Mark m.BraceOpen)) 0 (brace_token ∷ []) no_statement refl (fair.nesting_free u d) (Closes d brace_token 0 brace_is)))
-      (λ u t h. (brace_token ∷ [], no_statement, Block d t t.at (brace_token ∷ []) no_statement (brace_at t h) (fair.nesting_free u d) (Closes d brace_token 0 brace_is)))
+      closed_rule Nesting (is m.BraceOpen) refl brace_told
+      (λ u. (token (w.Mark m.BraceOpen) ∷ brace_token ∷ [], no_statement, more_words (token (w.Mark m.BraceOpen)) (brace_token ∷ []) (mark_writable m.BraceOpen) brace_written, Block d (token (w.Mark m.BraceOpen)) 0 (brace_token ∷ []) no_statement refl (fair.nesting_free u d) (Closes d brace_token 0 brace_is)))
+      (λ u t h. (brace_token ∷ [], no_statement, brace_written, Block d t t.at (brace_token ∷ []) no_statement (brace_at t h) (fair.nesting_free u d) (Closes d brace_token 0 brace_is)))
       (block_begins d)
       (λ f ss i. elim (fair.nesting_fair d (block_may d f ss i)) [ inl k ↦ absurd (omega (arith, k, full)) | inr x ↦ x ])
 
-  block_of_rule : (d : ℕ) {inner : Rule StatementTrees} → IsRule E U many inner (IsBlock l (suc d)) any → IsRule E U many (block_of inner) (IsBlockBy l d) any
+  block_of_rule : (d : ℕ) {inner : Rule StatementTrees} → IsRule E U inner (IsBlock l (suc d)) any → IsRule E U (block_of inner) (IsBlockBy l d) any
   block_of_rule d h =
-      let items = each_rule {T = is m.BraceClose} (is_not m.BraceClose) begins_statement fair.spent (λ n. statement_rule fair d h) (λ n. statement_begins d) begins_no_brace begins_no_else close_no_else close_leaves [] in
-      after_rule m.BraceOpen (seq_rule items (λ all. before_rule m.BraceClose (statement_list all)) (leads_start (is m.BraceClose) (is m.BraceClose) any (λ all. IsSeq (IsOne (the m.BraceClose)) (λ end. IsRet (statement_list all))) (λ all. seq_starts (is m.BraceClose) (is_one m.BraceClose)) (λ t e. e)))
+      let items = each_rule {T = is m.BraceClose} (is_not m.BraceClose) begins_statement (λ n. statement_rule fair d h) (λ n. statement_begins d) begins_no_brace begins_no_else close_no_else close_leaves [] in
+      preceded_rule m.BraceOpen (seq_rule items (λ all. terminated_rule m.BraceClose (statement_list all)) (leads_start (is m.BraceClose) (is m.BraceClose) any (λ all. IsSeq (IsOne (the m.BraceClose)) (λ end. IsRet (statement_list all))) (λ all. seq_starts (is m.BraceClose) (is_one m.BraceClose)) (λ t e. e)))
 
-  pub block_rule : (n d : ℕ) → n + d ≡ 33 → IsRule E U many (block n) (IsBlock l d) any
+  pub block_rule : (n d : ℕ) → n + d ≡ suc MAX_NESTING → IsRule E U (block n) (IsBlock l d) any
   unfolding block
   block_rule zero d e = closed_block d (omega (arith, e))
   block_rule (suc n) d e =
@@ -152,7 +153,7 @@ param_to {l} n f x (Seq _ _ name _ (may, One t _ e) (Seq _ _ p _ (One c _ g) (Se
 param_from : {l : Limits} (n : ℕ) (f : List Token) (x : Param) → IsParam l n f x → IsParamBy l n f x
 param_from n f x (IsOneParam _ t name c p o kind e may g h) = Seq (t ∷ []) (c ∷ o ∷ []) name x (may, One t name e) (Seq (c ∷ []) (o ∷ []) p x (One c p g) (Seq (o ∷ []) [] kind x (One o kind h) Ret))
 
--- parameters behind the first, by the ways of putting readers together
+-- parameters after the first, by the ways of putting readers together
 abbrev pub IsMoreParamsBy : Limits → Param → List Token → List Param → Type 0
 IsMoreParamsBy l x = IsSeq (IsMoreOf (λ n. IsSeq (IsOne (the m.Comma)) (λ at. IsParam l n)) (x ∷ [])) (λ all. IsSeq (IsOne (the m.ParenClose)) (λ end. IsRet all))
 
@@ -191,8 +192,8 @@ params_from : {l : Limits} (f : List Token) (xs : List Param) → IsParams l f x
 params_from f xs (NoParams o at c end e h) = Seq (o ∷ []) (c ∷ []) at [] (One o at e) (inl (Seq (c ∷ []) [] end [] (One c end h) Ret))
 params_from {l} f xs (Params o at y x z more e i j) =
     let r = open_params 1 z more j in
-    let closed : IsSeq (IsOne (the m.ParenClose)) (λ end. IsRet (x ∷ more)) (r.c ∷ []) (x ∷ more) = Seq (r.c ∷ []) [] r.end (x ∷ more) (One r.c r.end r.closes) Ret in
-    let made : IsMoreParamsBy l x (r.y ++ r.c ∷ []) (x ∷ more) = Seq r.y (r.c ∷ []) (x ∷ more) (x ∷ more) (more, refl, r.items) closed in
+    let refuse : IsSeq (IsOne (the m.ParenClose)) (λ end. IsRet (x ∷ more)) (r.c ∷ []) (x ∷ more) = Seq (r.c ∷ []) [] r.end (x ∷ more) (One r.c r.end r.closes) Ret in
+    let made : IsMoreParamsBy l x (r.y ++ r.c ∷ []) (x ∷ more) = Seq r.y (r.c ∷ []) (x ∷ more) (x ∷ more) (more, refl, r.items) refuse in
     Seq (o ∷ []) (y ++ z) at (x ∷ more) (One o at e) (inr (Seq y z x (x ∷ more) i (subst (λ v. IsMoreParamsBy l x v (x ∷ more)) (sym r.path) made)))
 
 declared_name : (t : Token) → has declared_of t ≡ true → has name_of t ≡ true
@@ -215,11 +216,11 @@ IsFunctionBy l = IsSeq (IsOne (the m.Fn)) (λ at. IsSeq (IsOne declared_of) (λ 
 
 pub function_to : {l : Limits} (f : List Token) (x : FunctionTree) → IsFunctionBy l f x → IsFunction l f x
 function_to {l} f x (Seq _ _ at _ (One t _ e) (Seq _ _ name _ (One n _ g) (Seq y z ps _ i j))) =
-    let q = nothing_behind j in
+    let q = nothing_after j in
     subst (λ v. IsFunction l (t ∷ n ∷ (y ++ z)) v) (sym q.1) (IsOneFunction t at n name y ps z q.0 e g i q.2)
 
 function_from : {l : Limits} (f : List Token) (x : FunctionTree) → IsFunction l f x → IsFunctionBy l f x
-function_from f x (IsOneFunction t at n name y ps z body e g i j) = Seq (t ∷ []) (n ∷ (y ++ z)) at x (One t at e) (Seq (n ∷ []) (y ++ z) name x (One n name g) (Seq y z ps x i (behind_nothing (a_function name ps) z body j)))
+function_from f x (IsOneFunction t at n name y ps z body e g i j) = Seq (t ∷ []) (n ∷ (y ++ z)) at x (One t at e) (Seq (n ∷ []) (y ++ z) name x (One n name g) (Seq y z ps x i (after_nothing (a_function name ps) z body j)))
 
 abbrev pub IsContractBy : Limits → List Token → List FunctionTree → Type 0
 IsContractBy l = IsSeq (IsFunction l) (λ f. IsMoreOf (λ n. IsFunction l) (f ∷ []))
@@ -253,39 +254,39 @@ one_begins : {W : Type 0} → Starts (has declared_of) (IsAllowed W (IsOne decla
 one_begins f x i = has_one declared_of f x i.1
 
 module _ {l : Limits} {E : Obstacle → Type 0} {U : Type 0} (fair : IsFair l E U) where
-  name_rule : (n : ℕ) (b : Bool) → ltb n 8 ≡ b → IsRule E U many (either_by b (one declared_of) (closed Surplus (has declared_of))) (IsAllowed (Within l.parameters (suc n)) (IsOne declared_of)) any
-  name_rule n true e = allowed_rule (fair.parameters_kept (suc n) (ltb-true n 8 e)) (one_rule declared_of (token (w.Name [])) (0, []) declared_is declared_no_end)
+  name_rule : (n : ℕ) (b : Bool) → ltb n MAX_PARAMETERS ≡ b → IsRule E U (either_by b (one declared_of) (refuse Surplus (has declared_of))) (IsAllowed (Within l.parameters (suc n)) (IsOne declared_of)) any
+  name_rule n true e = allowed_rule (fair.parameters_kept (suc n) (ltb-true n MAX_PARAMETERS e)) (one_rule declared_of (token (w.Name (codes "x"))) (0, codes "x") declared_is name_writable declared_no_end)
   name_rule n false e =
-      closed_rule Surplus (has declared_of) surplus_not_turns declared_name
-      (λ u. (token (w.Name []) ∷ [], (0, []), (fair.parameters_free u (suc n), One (token (w.Name [])) (0, []) declared_is)))
-      (λ u t h. let q = has_some (declared_of t) h in ([], q.0, (fair.parameters_free u (suc n), One t q.0 q.1)))
+      closed_rule Surplus (has declared_of) refl declared_name
+      (λ u. (token (w.Name (codes "x")) ∷ [], (0, codes "x"), one_word (token (w.Name (codes "x"))) name_writable, (fair.parameters_free u (suc n), One (token (w.Name (codes "x"))) (0, codes "x") declared_is)))
+      (λ u t h. let q = has_some (declared_of t) h in ([], q.0, no_words, (fair.parameters_free u (suc n), One t q.0 q.1)))
       one_begins
-      (λ f x i. elim (fair.parameters_fair (suc n) i.0) [ inl k ↦ absurd (omega (arith, ltb-false n 8 e, k)) | inr y ↦ y ])
+      (λ f x i. elim (fair.parameters_fair (suc n) i.0) [ inl k ↦ absurd (omega (arith, ltb-false n MAX_PARAMETERS e, k)) | inr y ↦ y ])
 
-  param_rule : (n : ℕ) → IsRule E U many (param n) (IsParam l n) any
+  param_rule : (n : ℕ) → IsRule E U (param n) (IsParam l n) any
   param_rule n =
-      let kinds = λ (name : ℕ × List ℕ). seq_rule (one_rule {S = any} kind_of (token (w.Mark m.Int)) k.Int refl kind_no_end) (λ kind. ret_rule (a_param name kind)) (leads_any (λ kind. IsRet (a_param name kind)) any) in
-      let made = seq_rule (name_rule n (ltb n 8) refl) (λ name. after_rule m.Colon (kinds name)) (leads_any (λ name. IsSeq (IsOne (the m.Colon)) (λ p. IsSeq (IsOne kind_of) (λ kind. IsRet (a_param name kind)))) any) in
+      let kinds = λ (name : ℕ × List ℕ). seq_rule (one_rule {S = any} kind_of (token (w.Mark m.Int)) k.Int refl (mark_writable m.Int) kind_no_end) (λ kind. ret_rule (a_param name kind)) (leads_any (λ kind. IsRet (a_param name kind)) any) in
+      let made = seq_rule (name_rule n (ltb n MAX_PARAMETERS) refl) (λ name. preceded_rule m.Colon (kinds name)) (leads_any (λ name. IsSeq (IsOne (the m.Colon)) (λ p. IsSeq (IsOne kind_of) (λ kind. IsRet (a_param name kind)))) any) in
       renamed made (param_to n) (param_from n)
 
-  params_rule : IsRule E U many params (IsParams l) any
+  params_rule : IsRule E U params (IsParams l) any
   params_rule =
-      let items = λ (x : Param). each_rule {T = is m.ParenClose} (is m.Comma) (is m.Comma) fair.spent (λ n. after_rule m.Comma (param_rule n)) (λ n. seq_starts (is m.Comma) (is_one m.Comma)) (λ t e. e) (λ t e. refl) (λ t e. refl) (is_other m.Comma m.ParenClose refl) (x ∷ []) in
-      let more = λ (x : Param). seq_rule (items x) (λ all. before_rule {S = any} m.ParenClose all) (leads_start (is m.ParenClose) (is m.ParenClose) any (λ all. IsSeq (IsOne (the m.ParenClose)) (λ end. IsRet all)) (λ all. seq_starts (is m.ParenClose) (is_one m.ParenClose)) (λ t e. e)) in
+      let items = λ (x : Param). each_rule {T = is m.ParenClose} (is m.Comma) (is m.Comma) (λ n. preceded_rule m.Comma (param_rule n)) (λ n. seq_starts (is m.Comma) (is_one m.Comma)) (λ t e. e) (λ t e. refl) (λ t e. refl) (is_other m.Comma m.ParenClose refl) (x ∷ []) in
+      let more = λ (x : Param). seq_rule (items x) (λ all. terminated_rule {S = any} m.ParenClose all) (leads_start (is m.ParenClose) (is m.ParenClose) any (λ all. IsSeq (IsOne (the m.ParenClose)) (λ end. IsRet all)) (λ all. seq_starts (is m.ParenClose) (is_one m.ParenClose)) (λ t e. e)) in
       let listed = seq_rule (param_rule 0) more (leads_any (IsMoreParamsBy l) any) in
-      let chosen = either_rule (is m.ParenClose) (before_rule m.ParenClose []) listed (seq_starts (is m.ParenClose) (is_one m.ParenClose)) (differs_start (is m.ParenClose) (has declared_of) any (IsSeq (IsParam l 0) (IsMoreParamsBy l)) (seq_starts (has declared_of) (param_begins 0)) declared_no_close) in
-      renamed (after_rule m.ParenOpen chosen) params_to params_from
+      let chosen = either_rule (is m.ParenClose) (terminated_rule m.ParenClose []) listed (seq_starts (is m.ParenClose) (is_one m.ParenClose)) (differs_start (is m.ParenClose) (has declared_of) any (IsSeq (IsParam l 0) (IsMoreParamsBy l)) (seq_starts (has declared_of) (param_begins 0)) declared_no_close) in
+      renamed (preceded_rule m.ParenOpen chosen) params_to params_from
 
-  function_rule : IsRule E U many function (IsFunction l) any
+  function_rule : IsRule E U function (IsFunction l) any
   unfolding function
   function_rule =
-      let bodies = λ (name : ℕ × List ℕ) (ps : List Param). seq_rule (block_rule fair 32 1 refl) (λ body. ret_rule (a_function name ps body)) (leads_any (λ body. IsRet (a_function name ps body)) any) in
+      let bodies = λ (name : ℕ × List ℕ) (ps : List Param). seq_rule (block_rule fair MAX_NESTING 1 refl) (λ body. ret_rule (a_function name ps body)) (leads_any (λ body. IsRet (a_function name ps body)) any) in
       let heads = λ (name : ℕ × List ℕ). seq_rule params_rule (bodies name) (leads_any (λ ps. IsSeq (IsBlock l 1) (λ body. IsRet (a_function name ps body))) any) in
-      let names = seq_rule (one_rule {S = any} declared_of (token (w.Name [])) (0, []) declared_is declared_no_end) heads (leads_any (λ name. IsSeq (IsParams l) (λ ps. IsSeq (IsBlock l 1) (λ body. IsRet (a_function name ps body)))) any) in
-      renamed (after_rule m.Fn names) function_to function_from
+      let names = seq_rule (one_rule {S = any} declared_of (token (w.Name (codes "x"))) (0, codes "x") declared_is name_writable declared_no_end) heads (leads_any (λ name. IsSeq (IsParams l) (λ ps. IsSeq (IsBlock l 1) (λ body. IsRet (a_function name ps body)))) any) in
+      renamed (preceded_rule m.Fn names) function_to function_from
 
-  pub contract_rule : IsRule E U many contract (IsContract l) is_end
+  pub contract_rule : IsRule E U contract (IsContract l) is_end
   unfolding contract
   contract_rule =
-      let items = λ (f : FunctionTree). each_rule {T = is_end} is_no_end (is m.Fn) fair.spent (λ n. function_rule) (λ n. function_begins) function_goes (λ t e. refl) (λ t e. refl) end_leaves (f ∷ []) in
+      let items = λ (f : FunctionTree). each_rule {T = is_end} is_no_end (is m.Fn) (λ n. function_rule) (λ n. function_begins) function_goes (λ t e. refl) (λ t e. refl) end_leaves (f ∷ []) in
       renamed (seq_rule function_rule items (leads_any (λ f. IsMoreOf (λ n. IsFunction l) (f ∷ [])) is_end)) contract_to contract_from

@@ -1,43 +1,56 @@
 -- What holds of a reader and what it reads, for each way in which readers are put together.
-use Rattle.std.proofs.Common.{◌≡◌, ◌||◌, ℕ, ◌<◌, Bool, true, false, List, [], ◌∷◌, ◌++◌, length, Option, Some, None, Result, Ok, Err, ◌⊎◌, inl, inr, refl, sym, ap, ◌∙◌, subst, arith, length-append}
+use Rattle.std.proofs.Common.{◌≡◌, ◌||◌, Bool, true, false, List, [], ◌∷◌, ◌++◌, length, Option, Some, None, Result, Ok, Err, ◌⊎◌, inl, inr, refl, sym, ap, ◌∙◌, subst, arith, length-append}
 use Rattle.std.proofs.lemmas.List.{append_cancel_right}
 use Rattle.contract_tokens.specs.declared.token.Token.{Token}
 use Rattle.contract_grammar.specs.declared.Obstacle.{Obstacle}
-use Rattle.contract_grammar.specs.declared.Obstacle.TheVariants.{Unfit, Turns}
+use Rattle.contract_grammar.specs.declared.Obstacle.TheVariants.{Unfit}
 use Rattle.contract_grammar.specs.Marks.{is_end}
 use Rattle.contract_grammar.specs.Rules.{Read, Rule, head_is, ret, guard, one_by, one, is_limit, Told}
+use Rattle.contract_grammar.proofs.Writable.{no_words, one_word}
+use Rattle.contract_grammar.specs.Faults.{AreWritable, IsWritable}
 
 -- what a reader may answer to what the grammar has: that, or an obstacle that is excused
 abbrev pub Agrees : (Obstacle → Type 0) → {A : Type 0} → A → List Token → Read A → Type 0
 Agrees E a rest r = (r ≡ (Ok a, rest)) ⊎ ((why : Obstacle) × (left : List Token) × (r ≡ (Err why, left)) × E why)
 
--- where a limit was met, what follows begins with the token that was refused
+abbrev pub GoesBy : Bool → Obstacle → List Token → List Token → Type 0
+GoesBy true why rest more =
+    (t : Token) × (y : List Token) × (m : List Token) × (rest ≡ t ∷ y) × (more ≡ t ∷ m) × AreWritable m × Told why t
+GoesBy false why rest more = AreWritable more
+
+-- what follows can be written; where a limit was met, it begins with the token that was refused
 abbrev pub GoesOn : Obstacle → List Token → List Token → Type 0
-GoesOn why rest more = is_limit why ≡ true → (t : Token) × (y : List Token) × (m : List Token) × (rest ≡ t ∷ y) × (more ≡ t ∷ m) × Told why t
+GoesOn why rest more = GoesBy (is_limit why) why rest more
 
 -- the end of the source is yet to come
 abbrev pub has_end : List Token → Bool
 has_end [] = false
 has_end (t ∷ ts) = is_end t || has_end ts
 
--- A reader and what the grammar has there. E: the obstacles that are excused; U: nothing is limited; N: more tokens than there are.
-pub record IsRule (E : Obstacle → Type 0) (U : Type 0) (N : ℕ) {A : Type 0} (read : Rule A) (Is : List Token → A → Type 0) (Stops : Token → Bool) : Type 0 where
+-- what a reader reads is of the grammar
+abbrev pub Takes : {A : Type 0} → Rule A → (List Token → A → Type 0) → Type 0
+Takes {A} read Is = (ts rest : List Token) (a : A) → read ts ≡ (Ok a, rest) → (prefix : List Token) × (ts ≡ prefix ++ rest) × Is prefix a
+
+-- something of the grammar begins with the tokens, and goes on with tokens that can be written
+abbrev pub Begins : {A : Type 0} → (List Token → A → Type 0) → List Token → Type 0
+Begins {A} Is used = (more : List Token) × (a : A) × AreWritable more × Is (used ++ more) a
+
+-- A reader and what the grammar has there. E: the obstacles that are excused; U: nothing is limited.
+pub record IsRule (E : Obstacle → Type 0) (U : Type 0) {A : Type 0} (read : Rule A) (Is : List Token → A → Type 0) (Stops : Token → Bool) : Type 0 where
   -- what is read is of the grammar
-  pub takes : (ts rest : List Token) (a : A) → read ts ≡ (Ok a, rest) → (front : List Token) × (ts ≡ front ++ rest) × Is front a
+  pub takes : Takes read Is
   -- a reader that stops has taken the tokens before the one where it stands
   pub leaves : (ts rest : List Token) (why : Obstacle) → read ts ≡ (Err why, rest) → (used : List Token) × (ts ≡ used ++ rest)
   -- what it has taken can be completed, with the next token too where only a limit refused that
   pub viable : U → (ts rest : List Token) (why : Obstacle) → read ts ≡ (Err why, rest) → (used : List Token) × (more : List Token) × (a : A) × (ts ≡ used ++ rest) × Is (used ++ more) a × GoesOn why rest more
   -- what is of the grammar is read, whatever follows, if the next token ends it
-  pub again : (front rest : List Token) (a : A) → Is front a → head_is Stops rest ≡ true → Agrees E a rest (read (front ++ rest))
-  -- what stands behind the next token plays no part
+  pub again : (prefix rest : List Token) (a : A) → Is prefix a → head_is Stops rest ≡ true → Agrees E a rest (read (prefix ++ rest))
+  -- what stands after the next token plays no part
   pub same : (u v y z : List Token) (t : Token) (r : Result A Obstacle) → read (u ++ t ∷ y) ≡ (r, v ++ t ∷ y) → read (u ++ t ∷ z) ≡ (r, v ++ t ∷ z)
   -- something is of the grammar
-  pub some : U → (more : List Token) × (a : A) × Is more a
+  pub some : U → Begins Is []
   -- it does not take the end of the source
   pub stays : (ts : List Token) → has_end ts ≡ true → has_end (read ts).1 ≡ true
-  -- it does not run out of turns
-  pub enough : (ts rest : List Token) → length ts < N → read ts ≡ (Err Turns, rest) → ⊥
 
 -- the parts of equal answers
 pub ok_is : {A : Type 0} {a b : A} {m n : List Token} → ◌≡◌ {A = Read A} (Ok a, m) (Ok b, n) → (a ≡ b) × (m ≡ n)
@@ -71,22 +84,24 @@ here_same q r u v y z t e =
 pub data IsRet {A : Type 0} (a : A) : List Token → A → Type 0 where
   Ret : IsRet a [] a
 
-pub ret_is : {A : Type 0} {a : A} {front : List Token} {b : A} → IsRet a front b → (front ≡ []) × (b ≡ a)
+pub ret_is : {A : Type 0} {a : A} {prefix : List Token} {b : A} → IsRet a prefix b → (prefix ≡ []) × (b ≡ a)
 ret_is Ret = (refl, refl)
 
-ret_again : {E : Obstacle → Type 0} {A : Type 0} (a : A) (front rest : List Token) (b : A) → IsRet a front b → Agrees E b rest (ret a (front ++ rest))
-ret_again a front rest b Ret = inl refl
+ret_again : {E : Obstacle → Type 0} {A : Type 0} (a : A) (prefix rest : List Token) (b : A) → IsRet a prefix b → Agrees E b rest (ret a (prefix ++ rest))
+ret_again a prefix rest b Ret = inl refl
 
-pub ret_rule : {E : Obstacle → Type 0} {U : Type 0} {N : ℕ} {A : Type 0} (a : A) {S : Token → Bool} → IsRule E U N (ret a) (IsRet a) S
+pub ret_takes : {A : Type 0} (a : A) → Takes (ret a) (IsRet a)
+ret_takes a ts rest b e = let k = ok_is e in ([], k.1, subst (λ c. IsRet a [] c) k.0 Ret)
+
+pub ret_rule : {E : Obstacle → Type 0} {U : Type 0} {A : Type 0} (a : A) {S : Token → Bool} → IsRule E U (ret a) (IsRet a) S
 ret_rule a = record {
-  takes = λ ts rest b e. let k = ok_is e in ([], k.1, subst (λ c. IsRet a [] c) k.0 Ret);
+  takes = ret_takes a;
   leaves = λ ts rest why e. absurd (no_err e);
   viable = λ u ts rest why e. absurd (no_err e);
-  again = λ front rest b i h. ret_again a front rest b i;
+  again = λ prefix rest b i h. ret_again a prefix rest b i;
   same = λ u v y z t r e. here_same (Ok a) r u v y z t e;
-  some = λ u. ([], a, Ret);
+  some = λ u. ([], a, no_words, Ret);
   stays = λ ts h. h;
-  enough = λ ts rest l e. no_err e;
 }
 
 -- nothing more, and this value, where it may be
@@ -96,46 +111,44 @@ pub data IsGuarded {A : Type 0} (L : Type 0) (a : A) : List Token → A → Type
 pub no_false : {b : Bool} → b ≡ false → b ≡ true → ⊥
 no_false e h = cc
 
--- a limit that was not met has nothing to say
-pub soft_goes : (why : Obstacle) (rest more : List Token) → is_limit why ≡ false → GoesOn why rest more
-soft_goes why rest more e h = absurd (no_false e h)
+-- where no limit was met, what follows can be written
+pub soft_goes : (why : Obstacle) (rest more : List Token) → is_limit why ≡ false → AreWritable more → GoesOn why rest more
+soft_goes why rest more e h = subst (λ b. GoesBy b why rest more) (sym e) h
 
-pub guarded_is : {A : Type 0} {L : Type 0} {a : A} {front : List Token} {b : A} → IsGuarded L a front b → (front ≡ []) × (b ≡ a) × L
+pub guarded_is : {A : Type 0} {L : Type 0} {a : A} {prefix : List Token} {b : A} → IsGuarded L a prefix b → (prefix ≡ []) × (b ≡ a) × L
 guarded_is (Guarded h) = (refl, refl, h)
 
-guard_again : {E : Obstacle → Type 0} {A : Type 0} (L : Type 0) (a : A) (front rest : List Token) (b : A) → IsGuarded L a front b → Agrees E b rest (ret a (front ++ rest))
-guard_again L a front rest b (Guarded _) = inl refl
+guard_again : {E : Obstacle → Type 0} {A : Type 0} (L : Type 0) (a : A) (prefix rest : List Token) (b : A) → IsGuarded L a prefix b → Agrees E b rest (ret a (prefix ++ rest))
+guard_again L a prefix rest b (Guarded _) = inl refl
 
-guard_may : {A : Type 0} (L : Type 0) (a : A) (front : List Token) (b : A) → IsGuarded L a front b → L
-guard_may L a front b (Guarded may) = may
+guard_may : {A : Type 0} (L : Type 0) (a : A) (prefix : List Token) (b : A) → IsGuarded L a prefix b → L
+guard_may L a prefix b (Guarded may) = may
 
-pub guard_rule : {E : Obstacle → Type 0} {U : Type 0} {N : ℕ} {A : Type 0} {S : Token → Bool} (L : Type 0) (may : Bool) (why : Obstacle) (a : A) → (may ≡ true → L) → (L → (may ≡ true) ⊎ E why) → (U → L) → is_limit why ≡ false → (why ≡ Turns → ⊥) → IsRule E U N (guard may why a) (IsGuarded L a) S
-guard_rule L true why a kept fair free soft goes = record {
+pub guard_rule : {E : Obstacle → Type 0} {U : Type 0} {A : Type 0} {S : Token → Bool} (L : Type 0) (may : Bool) (why : Obstacle) (a : A) → (may ≡ true → L) → (L → (may ≡ true) ⊎ E why) → (U → L) → is_limit why ≡ false → IsRule E U (guard may why a) (IsGuarded L a) S
+guard_rule L true why a kept fair free soft = record {
   takes = λ ts rest b e. let k = ok_is e in ([], k.1, subst (λ c. IsGuarded L a [] c) k.0 (Guarded (kept refl)));
   leaves = λ ts rest w e. absurd (no_err e);
   viable = λ u ts rest w e. absurd (no_err e);
-  again = λ front rest b i h. guard_again L a front rest b i;
+  again = λ prefix rest b i h. guard_again L a prefix rest b i;
   same = λ u v y z t r e. here_same (Ok a) r u v y z t e;
-  some = λ u. ([], a, Guarded (free u));
+  some = λ u. ([], a, no_words, Guarded (free u));
   stays = λ ts h. h;
-  enough = λ ts rest l e. no_err e;
 }
-guard_rule L false why a kept fair free soft goes = record {
+guard_rule L false why a kept fair free soft = record {
   takes = λ ts rest b e. absurd (no_ok e);
   leaves = λ ts rest w e. ([], (err_is e).1);
-  viable = λ u ts rest w e. let k = err_is e in ([], [], a, k.1, Guarded (free u), soft_goes w rest [] (ap is_limit (sym k.0) ∙ soft));
-  again = λ front rest b i h. elim (fair (guard_may L a front b i)) [ inl e ↦ absurd (no_false refl e) | inr x ↦ inr (why, front ++ rest, refl, x) ];
+  viable = λ u ts rest w e. let k = err_is e in ([], [], a, k.1, Guarded (free u), soft_goes w rest [] (ap is_limit (sym k.0) ∙ soft) no_words);
+  again = λ prefix rest b i h. elim (fair (guard_may L a prefix b i)) [ inl e ↦ absurd (no_false refl e) | inr x ↦ inr (why, prefix ++ rest, refl, x) ];
   same = λ u v y z t r e. here_same (Err why) r u v y z t e;
-  some = λ u. ([], a, Guarded (free u));
+  some = λ u. ([], a, no_words, Guarded (free u));
   stays = λ ts h. h;
-  enough = λ ts rest l e. goes (err_is e).0;
 }
 
 -- one token, of which the function makes this
 pub data IsOne {A : Type 0} (f : Token → Option A) : List Token → A → Type 0 where
   One : (t : Token) (a : A) → f t ≡ Some a → IsOne f (t ∷ []) a
 
-one_takes : {A : Type 0} (f : Token → Option A) (o : Option A) (t : Token) (ts rest : List Token) (a : A) → f t ≡ o → one_by o t ts ≡ (Ok a, rest) → (front : List Token) × (t ∷ ts ≡ front ++ rest) × IsOne f front a
+one_takes : {A : Type 0} (f : Token → Option A) (o : Option A) (t : Token) (ts rest : List Token) (a : A) → f t ≡ o → one_by o t ts ≡ (Ok a, rest) → (prefix : List Token) × (t ∷ ts ≡ prefix ++ rest) × IsOne f prefix a
 one_takes f None t ts rest a h e = absurd (no_ok e)
 one_takes f (Some b) t ts rest a h e = let k = ok_is e in (t ∷ [], ap (λ r. t ∷ r) k.1, One t a (h ∙ ap (λ x. Some x) k.0))
 
@@ -151,7 +164,7 @@ one_same : {A : Type 0} (o : Option A) (r : Result A Obstacle) (s : Token) (u v 
 one_same None r s u v y z t e = here_same (Err Unfit) r (s ∷ u) v y z t e
 one_same (Some a) r s u v y z t e = here_same (Ok a) r u v y z t e
 
--- a list is not as long as one of it with a token in front
+-- a list is not as long as one of it with a token before it
 pub no_longer : (v y : List Token) (t : Token) → y ≡ v ++ t ∷ y → ⊥
 no_longer v y t e = omega (arith, ap length e, length-append v (t ∷ y))
 
@@ -163,18 +176,15 @@ one_same_all : {A : Type 0} (f : Token → Option A) (u v y z : List Token) (t :
 one_same_all f [] v y z t r e = one_first (f t) r v y z t e
 one_same_all f (s ∷ u) v y z t r e = one_same (f s) r s u v y z t e
 
-pub one_takes_all : {A : Type 0} (f : Token → Option A) (ts rest : List Token) (a : A) → one f ts ≡ (Ok a, rest) → (front : List Token) × (ts ≡ front ++ rest) × IsOne f front a
+pub one_takes_all : {A : Type 0} (f : Token → Option A) (ts rest : List Token) (a : A) → one f ts ≡ (Ok a, rest) → (prefix : List Token) × (ts ≡ prefix ++ rest) × IsOne f prefix a
 one_takes_all f [] rest a e = absurd (no_ok e)
 one_takes_all f (t ∷ ts) rest a e = one_takes f (f t) t ts rest a refl e
 
-one_again : {A : Type 0} (f : Token → Option A) (front rest : List Token) (a : A) → IsOne f front a → one f (front ++ rest) ≡ (Ok a, rest)
-one_again f front rest a (One t _ e) = ap (λ o. one_by o t rest) e
+one_again : {A : Type 0} (f : Token → Option A) (prefix rest : List Token) (a : A) → IsOne f prefix a → one f (prefix ++ rest) ≡ (Ok a, rest)
+one_again f prefix rest a (One t _ e) = ap (λ o. one_by o t rest) e
 
 pub unfit_soft : {why : Obstacle} → why ≡ Unfit → is_limit why ≡ false
 unfit_soft e = ap is_limit e
-
-pub unfit_not_turns : {why : Obstacle} → why ≡ Unfit → why ≡ Turns → ⊥
-unfit_not_turns e h = cc
 
 one_stays_by : {A : Type 0} (f : Token → Option A) → ((t : Token) (a : A) → f t ≡ Some a → is_end t ≡ false) → (o : Option A) (t : Token) (ts : List Token) → f t ≡ o → has_end (t ∷ ts) ≡ true → has_end (one_by o t ts).1 ≡ true
 one_stays_by f plain None t ts e h = h
@@ -184,14 +194,13 @@ one_stays : {A : Type 0} (f : Token → Option A) → ((t : Token) (a : A) → f
 one_stays f plain [] h = h
 one_stays f plain (t ∷ ts) h = one_stays_by f plain (f t) t ts refl h
 
-pub one_rule : {E : Obstacle → Type 0} {U : Type 0} {N : ℕ} {A : Type 0} {S : Token → Bool} (f : Token → Option A) (sample : Token) (made : A) → f sample ≡ Some made → ((t : Token) (a : A) → f t ≡ Some a → is_end t ≡ false) → IsRule E U N (one f) (IsOne f) S
-one_rule f sample made is plain = record {
+pub one_rule : {E : Obstacle → Type 0} {U : Type 0} {A : Type 0} {S : Token → Bool} (f : Token → Option A) (sample : Token) (made : A) → f sample ≡ Some made → IsWritable sample.word → ((t : Token) (a : A) → f t ≡ Some a → is_end t ≡ false) → IsRule E U (one f) (IsOne f) S
+one_rule f sample made is written plain = record {
   takes = one_takes_all f;
   leaves = λ ts rest why e. ([], (one_stops f ts rest why e).1);
-  viable = λ u ts rest why e. let k = one_stops f ts rest why e in ([], sample ∷ [], made, k.1, One sample made is, soft_goes why rest (sample ∷ []) (unfit_soft k.0));
-  again = λ front rest a i h. inl (one_again f front rest a i);
+  viable = λ u ts rest why e. let k = one_stops f ts rest why e in ([], sample ∷ [], made, k.1, One sample made is, soft_goes why rest (sample ∷ []) (unfit_soft k.0) (one_word sample written));
+  again = λ prefix rest a i h. inl (one_again f prefix rest a i);
   same = one_same_all f;
-  some = λ u. (sample ∷ [], made, One sample made is);
+  some = λ u. (sample ∷ [], made, one_word sample written, One sample made is);
   stays = one_stays f plain;
-  enough = λ ts rest l e. unfit_not_turns (one_stops f ts rest Turns e).0 refl;
 }

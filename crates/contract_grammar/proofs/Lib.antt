@@ -1,3 +1,4 @@
+pub mod Writable
 pub mod Laws
 pub mod Sequence
 pub mod Choice
@@ -9,9 +10,17 @@ pub mod Expressions
 pub mod Statements
 pub mod StatementRules
 pub mod ContractRules
-pub mod Seen
-pub mod SeenExpressions
-pub mod SeenContracts
+pub mod Heights
+pub mod Completions
+pub mod ExpressionCompletions
+pub mod ExpressionHeights
+pub mod Braceless
+pub mod ContractCompletions
+pub mod PassedTokens
+pub mod Splits
 pub mod Answers
 pub mod Turns
+pub mod OneFault
+pub mod Shorter
+pub mod Loops
 pub mod Examples

@@ -5,6 +5,7 @@ use Rattle.contract_tokens.specs.declared.token.Mark.TheVariants as m
 use Rattle.contract_tree.specs.declared.tree.Sign.{Sign}
 use Rattle.contract_grammar.specs.Marks.{the, is, has, is_end, stops, int_of, text_of, name_of, builtin_of, callee_of, prefix_of, opens}
 use Rattle.contract_grammar.proofs.Laws.{no_false}
+use Rattle.contract_grammar.specs.declared.limits.TheConstants.{WHOLE}
 
 -- a token with which an expression begins
 pub begins : Token → Bool
@@ -31,10 +32,10 @@ builtin_callee t n e = grind arith
 pub callee_is : (t : Token) (n : ℕ × List ℕ) → callee_of t ≡ Some n → (name_of t ≡ Some n) ⊎ (builtin_of t ≡ Some n)
 callee_is t n e = grind arith
 
-pub comma_stops : (t : Token) → is m.Comma t ≡ true → stops 6 t ≡ true
+pub comma_stops : (t : Token) → is m.Comma t ≡ true → stops WHOLE t ≡ true
 comma_stops t h = grind arith
 
-pub close_stops : (t : Token) → is m.ParenClose t ≡ true → stops 6 t ≡ true
+pub close_stops : (t : Token) → is m.ParenClose t ≡ true → stops WHOLE t ≡ true
 close_stops t h = grind arith
 
 pub close_no_comma : (t : Token) → is m.ParenClose t ≡ true → is m.Comma t ≡ false
@@ -102,6 +103,15 @@ text_no_end t n e = grind arith
 
 pub int_no_end : (t : Token) (n : ℕ × ℤ) → int_of t ≡ Some n → is_end t ≡ false
 int_no_end t n e = grind arith
+
+pub named_no_end : (t : Token) → has name_of t ≡ true → is_end t ≡ false
+named_no_end t h = grind arith
+
+pub open_no_end : (t : Token) → opens t ≡ true → is_end t ≡ false
+open_no_end t h = grind arith
+
+pub brace_no_end : (t : Token) → is m.BraceOpen t ≡ true → is_end t ≡ false
+brace_no_end t h = grind arith
 
 pub paren_opens : (t : Token) → is m.ParenOpen t ≡ true → opens t ≡ true
 paren_opens t h = grind arith

@@ -16,6 +16,7 @@ use Rattle.contract_grammar.proofs.MarkFacts.{begins, callee_begins, begins_with
 use Rattle.contract_grammar.proofs.Sequence.{IsSeq, Seq}
 use Rattle.contract_grammar.proofs.Choice.{Starts, head_lift, head_more, seq_starts, IsEither, IsEach, Nothing, Each}
 use Rattle.contract_grammar.proofs.Parts.{the_is, is_one, IsMoreOfThem}
+use Rattle.contract_grammar.specs.declared.limits.TheConstants.{WHOLE}
 
 -- what commas part, up to the sign that closes it
 record IsClosed (l : Limits) (mark : Mark) (d n : ℕ) (z : List Token) (xs : List Tree) : Type 0 where
@@ -23,17 +24,17 @@ record IsClosed (l : Limits) (mark : Mark) (d n : ℕ) (z : List Token) (xs : Li
   c : Token
   end : ℕ
   path : z ≡ y ++ c ∷ []
-  items : IsEach (λ n. IsSeq (IsOne (the m.Comma)) (λ at. IsExpr l d 6)) n y xs
+  items : IsEach (λ n. IsSeq (IsOne (the m.Comma)) (λ at. IsExpr l d WHOLE)) n y xs
   closes : the mark c ≡ Some end
 
--- what stands behind the first
+-- what stands after the first
 module _ {l : Limits} (mark : Mark) (d : ℕ) where
-  pub close_args : (n : ℕ) (y : List Token) (xs : List Tree) → IsEach (λ n. IsSeq (IsOne (the m.Comma)) (λ at. IsExpr l d 6)) n y xs → (c : Token) (end : ℕ) → the mark c ≡ Some end → IsMore l mark d (y ++ c ∷ []) xs
+  pub close_args : (n : ℕ) (y : List Token) (xs : List Tree) → IsEach (λ n. IsSeq (IsOne (the m.Comma)) (λ at. IsExpr l d WHOLE)) n y xs → (c : Token) (end : ℕ) → the mark c ≡ Some end → IsMore l mark d (y ++ c ∷ []) xs
   close_args n y xs (Nothing _) c end h = Last mark d c end h
   close_args n y xs (Each _ a items _ z (Seq _ f at _ (One t _ e) i) more) c end h =
       subst (λ v. IsMore l mark d (t ∷ v) (a ∷ items)) (sym (append_assoc f z (c ∷ []))) (More mark d t at f a (z ++ c ∷ []) items e i (close_args (suc n) z items more c end h))
 
-  pub to_more : (x : Tree) (z : List Token) (all : List Tree) → IsMoreOfThem (IsExpr l d 6) mark x z all → (xs : List Tree) × (all ≡ x ∷ xs) × IsMore l mark d z xs
+  pub to_more : (x : Tree) (z : List Token) (all : List Tree) → IsMoreOfThem (IsExpr l d WHOLE) mark x z all → (xs : List Tree) × (all ≡ x ∷ xs) × IsMore l mark d z xs
   to_more x z all (Seq y f had _ i (Seq _ g end _ (One c _ h) r)) =
       let q = ret_is r in
       (i.0, q.1 ∙ i.1, subst (λ v. IsMore l mark d (y ++ c ∷ v) i.0) (sym q.0) (close_args 1 y i.0 i.2 c end h))
@@ -44,15 +45,15 @@ module _ {l : Limits} (mark : Mark) (d : ℕ) where
       let r = open_args (suc n) f more j in
       record { y = (t ∷ y) ++ r.y; c = r.c; end = r.end; path = ap (λ v. t ∷ (y ++ v)) r.path ∙ sym (append_assoc (t ∷ y) r.y (r.c ∷ [])); items = Each n x more (t ∷ y) r.y (Seq (t ∷ []) y at x (One t at e) i) r.items; closes = r.closes }
 
-  pub from_more : (x : Tree) (z : List Token) (xs : List Tree) → IsMore l mark d z xs → IsMoreOfThem (IsExpr l d 6) mark x z (x ∷ xs)
+  pub from_more : (x : Tree) (z : List Token) (xs : List Tree) → IsMore l mark d z xs → IsMoreOfThem (IsExpr l d WHOLE) mark x z (x ∷ xs)
   from_more x z xs i =
       let r = open_args 1 z xs i in
       let end : IsSeq (IsOne (the mark)) (λ at. IsRet (x ∷ xs)) (r.c ∷ []) (x ∷ xs) = Seq (r.c ∷ []) [] r.end (x ∷ xs) (One r.c r.end r.closes) Ret in
-      subst (λ v. IsMoreOfThem (IsExpr l d 6) mark x v (x ∷ xs)) (sym r.path) (Seq r.y (r.c ∷ []) (x ∷ xs) (x ∷ xs) (xs, refl, r.items) end)
+      subst (λ v. IsMoreOfThem (IsExpr l d WHOLE) mark x v (x ∷ xs)) (sym r.path) (Seq r.y (r.c ∷ []) (x ∷ xs) (x ∷ xs) (xs, refl, r.items) end)
 
 -- arguments by the ways of putting readers together
 abbrev pub IsArgsBy : Limits → ℕ → List Token → List Tree → Type 0
-IsArgsBy l d = IsSeq (IsOne (the m.ParenOpen)) (λ at. IsEither (IsSeq (IsOne (the m.ParenClose)) (λ end. IsRet [])) (IsSeq (IsExpr l d 6) (IsMoreOfThem (IsExpr l d 6) m.ParenClose)))
+IsArgsBy l d = IsSeq (IsOne (the m.ParenOpen)) (λ at. IsEither (IsSeq (IsOne (the m.ParenClose)) (λ end. IsRet [])) (IsSeq (IsExpr l d WHOLE) (IsMoreOfThem (IsExpr l d WHOLE) m.ParenClose)))
 
 pub args_to : {l : Limits} (d : ℕ) (f : List Token) (xs : List Tree) → IsArgsBy l d f xs → IsArgs l d f xs
 args_to {l} d f xs (Seq _ _ at _ (One o _ e) (inl (Seq _ g end _ (One c _ h) r))) =
@@ -68,7 +69,7 @@ args_from d f xs (Args _ o at y x z more e i j) = Seq (o ∷ []) (y ++ z) at (x 
 
 -- what the grammar has there, and only where a limit allows it
 abbrev pub IsAllowed : {A : Type 0} → Type 0 → (List Token → A → Type 0) → List Token → A → Type 0
-IsAllowed W P front a = W × P front a
+IsAllowed W P prefix a = W × P prefix a
 
 abbrev pub IsCall : Limits → ℕ → ℕ × List ℕ → List Token → Tree → Type 0
 IsCall l d n = IsSeq (IsAllowed (Within l.pending (suc d)) (IsArgs l (suc d))) (λ args. IsGuarded (Within l.height (height (tree.Call n.0 n.1 (trees args)))) (tree.Call n.0 n.1 (trees args)))
@@ -86,7 +87,7 @@ abbrev pub IsPrefixed : Limits → ℕ → List Token → Tree → Type 0
 IsPrefixed l d = IsAllowed (Within l.pending (suc d)) (IsPrefixedBy l d)
 
 abbrev pub IsGroupedBy : Limits → ℕ → List Token → Tree → Type 0
-IsGroupedBy l d = IsSeq (IsOne (the m.ParenOpen)) (λ at. IsSeq (IsExpr l (suc d) 6) (λ x. IsSeq (IsOne (the m.ParenClose)) (λ end. IsRet x)))
+IsGroupedBy l d = IsSeq (IsOne (the m.ParenOpen)) (λ at. IsSeq (IsExpr l (suc d) WHOLE) (λ x. IsSeq (IsOne (the m.ParenClose)) (λ end. IsRet x)))
 
 abbrev pub IsGrouped : Limits → ℕ → List Token → Tree → Type 0
 IsGrouped l d = IsAllowed (Within l.pending (suc d)) (IsGroupedBy l d)
@@ -159,7 +160,7 @@ pub args_begin : {l : Limits} (d : ℕ) (f : List Token) (xs : List Tree) → Is
 args_begin d f xs (NoArgs _ o at c end e h) = the_is m.ParenOpen o at e
 args_begin d f xs (Args _ o at y x z more e i j) = the_is m.ParenOpen o at e
 
--- what stands behind the first of several begins with a comma or the closing sign
+-- what stands after the first of several begins with a comma or the closing sign
 pub more_stops : {P : List Token → Tree → Type 0} (g : Token → Bool) (mark : Mark) → ((t : Token) → is m.Comma t ≡ true → g t ≡ true) → ((t : Token) → is mark t ≡ true → g t ≡ true) → (x : Tree) → Starts g (IsMoreOfThem P mark x)
 more_stops g mark comma close x f all (Seq _ z had _ (items, path, Nothing _) j) = head_lift (is mark) g close z (seq_starts (is mark) (is_one mark) z all j)
 more_stops g mark comma close x f all (Seq _ c had _ (items, path, Each _ a rest y z i more) j) =

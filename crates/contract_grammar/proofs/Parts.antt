@@ -8,29 +8,30 @@ use Rattle.contract_tokens.specs.declared.token.Mark.TheVariants as m
 use Rattle.contract_tokens.specs.declared.token.Word.TheVariants as w
 use Rattle.contract_tree.specs.Tree.{Tree, height}
 use Rattle.contract_grammar.specs.declared.Obstacle.{Obstacle}
-use Rattle.contract_grammar.specs.declared.Obstacle.TheVariants.{Surplus, Pending, Nesting, Height, Turns}
+use Rattle.contract_grammar.specs.declared.Obstacle.TheVariants.{Surplus, Pending, Nesting, Height}
 use Rattle.contract_grammar.specs.Grammar.{Limits, Within}
 use Rattle.contract_grammar.specs.Marks.{the, is, has, any, is_end}
-use Rattle.contract_grammar.specs.Reading.{node, after, before, more_of}
-use Rattle.contract_grammar.specs.Rules.{Rule, head_is, one, many}
+use Rattle.contract_grammar.specs.Reading.{node, preceded, terminated, more_of}
+use Rattle.contract_grammar.specs.Rules.{Rule, head_is, one}
 use Rattle.contract_grammar.proofs.Laws.{no_false, IsRule, IsRet, Ret, IsGuarded, Guarded, IsOne, One, ret_rule, guard_rule, one_rule}
 use Rattle.contract_grammar.proofs.Sequence.{IsSeq, Leads, seq_rule}
 use Rattle.contract_grammar.proofs.Choice.{Starts, Differs, head_more, head_lift, head_not, seq_starts, each_rule, IsMoreOf, IsEither}
+use Rattle.contract_grammar.specs.declared.limits.TheConstants.{MAX_PENDING, MAX_NESTING, MAX_HEIGHT, MAX_PARAMETERS}
+use Rattle.contract_grammar.proofs.Writable.{mark_writable}
 
 -- What the limits of the grammar have to do with those of its readers. E: the obstacles that are excused, since the grammar has no such limit; U: the grammar has no limit.
 pub record IsFair (l : Limits) (E : Obstacle → Type 0) (U : Type 0) : Type 0 where
-  pub spent : E Turns
-  pub pending_kept : (n : ℕ) → n ≤ 128 → Within l.pending n
-  pub pending_fair : (n : ℕ) → Within l.pending n → (n ≤ 128) ⊎ E Pending
+  pub pending_kept : (n : ℕ) → n ≤ MAX_PENDING → Within l.pending n
+  pub pending_fair : (n : ℕ) → Within l.pending n → (n ≤ MAX_PENDING) ⊎ E Pending
   pub pending_free : U → (n : ℕ) → Within l.pending n
-  pub nesting_kept : (n : ℕ) → n ≤ 32 → Within l.nesting n
-  pub nesting_fair : (n : ℕ) → Within l.nesting n → (n ≤ 32) ⊎ E Nesting
+  pub nesting_kept : (n : ℕ) → n ≤ MAX_NESTING → Within l.nesting n
+  pub nesting_fair : (n : ℕ) → Within l.nesting n → (n ≤ MAX_NESTING) ⊎ E Nesting
   pub nesting_free : U → (n : ℕ) → Within l.nesting n
-  pub height_kept : (n : ℕ) → n ≤ 64 → Within l.height n
-  pub height_fair : (n at : ℕ) → Within l.height n → (n ≤ 64) ⊎ E (Height at)
+  pub height_kept : (n : ℕ) → n ≤ MAX_HEIGHT → Within l.height n
+  pub height_fair : (n at : ℕ) → Within l.height n → (n ≤ MAX_HEIGHT) ⊎ E (Height at)
   pub height_free : U → (n : ℕ) → Within l.height n
-  pub parameters_kept : (n : ℕ) → n ≤ 8 → Within l.parameters n
-  pub parameters_fair : (n : ℕ) → Within l.parameters n → (n ≤ 8) ⊎ E Surplus
+  pub parameters_kept : (n : ℕ) → n ≤ MAX_PARAMETERS → Within l.parameters n
+  pub parameters_fair : (n : ℕ) → Within l.parameters n → (n ≤ MAX_PARAMETERS) ⊎ E Surplus
   pub parameters_free : U → (n : ℕ) → Within l.parameters n
 
 -- a token of this word
@@ -47,10 +48,10 @@ pub the_no_end : (mark : Mark) (t : Token) (at : ℕ) → the mark t ≡ Some at
 the_no_end mark t at e = grind arith
 
 pub has_one : {A : Type 0} (f : Token → Option A) → Starts (has f) (IsOne f)
-has_one f front a (One t _ e) = ap is_some e
+has_one f prefix a (One t _ e) = ap is_some e
 
 pub is_one : (mark : Mark) → Starts (is mark) (IsOne (the mark))
-is_one mark front a (One t _ e) = the_is mark t a e
+is_one mark prefix a (One t _ e) = the_is mark t a e
 
 pub head_any : (S T : Token → Bool) → ((t : Token) → S t ≡ true) → (z rest : List Token) → head_is T rest ≡ true → head_is S (z ++ rest) ≡ true
 head_any S T all [] [] h = absurd (no_false refl h)
@@ -78,34 +79,31 @@ leads_either S T P Q p q a z rest b (inl i) h = p a z rest b i h
 leads_either S T P Q p q a z rest b (inr i) h = q a z rest b i h
 
 pub differs_start : {A : Type 0} (f g S : Token → Bool) (Q : List Token → A → Type 0) → Starts g Q → ((t : Token) → g t ≡ true → f t ≡ false) → Differs f Q S
-differs_start f g S Q starts other front rest a q h = head_not g f other (front ++ rest) (head_more g front rest (starts front a q))
+differs_start f g S Q starts other prefix rest a q h = head_not g f other (prefix ++ rest) (head_more g prefix rest (starts prefix a q))
 
 pub differs_either : {A : Type 0} (f S : Token → Bool) (P Q : List Token → A → Type 0) → Differs f P S → Differs f Q S → Differs f (IsEither P Q) S
-differs_either f S P Q p q front rest a (inl i) h = p front rest a i h
-differs_either f S P Q p q front rest a (inr i) h = q front rest a i h
-
-height_not_turns : (at : ℕ) → ◌≡◌ {A = Obstacle} (Height at) Turns → ⊥
-height_not_turns at e = cc
+differs_either f S P Q p q prefix rest a (inl i) h = p prefix rest a i h
+differs_either f S P Q p q prefix rest a (inr i) h = q prefix rest a i h
 
 module _ {E : Obstacle → Type 0} {U : Type 0} where
-  pub mark_rule : {S : Token → Bool} (mark : Mark) → IsRule E U many (one (the mark)) (IsOne (the mark)) S
-  mark_rule mark = one_rule (the mark) (token (w.Mark mark)) 0 (the_token mark) (the_no_end mark)
+  pub mark_rule : {S : Token → Bool} (mark : Mark) → IsRule E U (one (the mark)) (IsOne (the mark)) S
+  mark_rule mark = one_rule (the mark) (token (w.Mark mark)) 0 (the_token mark) (mark_writable mark) (the_no_end mark)
 
-  pub after_rule : {A : Type 0} {p : Rule A} {P : List Token → A → Type 0} {S : Token → Bool} (mark : Mark) → IsRule E U many p P S → IsRule E U many (after mark p) (IsSeq (IsOne (the mark)) (λ at. P)) S
-  after_rule {P = P} {S = S} mark h = seq_rule (mark_rule {S = any} mark) (λ at. h) (leads_any (λ at. P) S)
+  pub preceded_rule : {A : Type 0} {p : Rule A} {P : List Token → A → Type 0} {S : Token → Bool} (mark : Mark) → IsRule E U p P S → IsRule E U (preceded mark p) (IsSeq (IsOne (the mark)) (λ at. P)) S
+  preceded_rule {P = P} {S = S} mark h = seq_rule (mark_rule {S = any} mark) (λ at. h) (leads_any (λ at. P) S)
 
-  pub before_rule : {A : Type 0} {S : Token → Bool} (mark : Mark) (a : A) → IsRule E U many (before mark a) (IsSeq (IsOne (the mark)) (λ at. IsRet a)) S
-  before_rule {S = S} mark a = seq_rule (mark_rule {S = any} mark) (λ at. ret_rule a) (leads_any (λ (at : ℕ). IsRet a) S)
+  pub terminated_rule : {A : Type 0} {S : Token → Bool} (mark : Mark) (a : A) → IsRule E U (terminated mark a) (IsSeq (IsOne (the mark)) (λ at. IsRet a)) S
+  terminated_rule {S = S} mark a = seq_rule (mark_rule {S = any} mark) (λ at. ret_rule a) (leads_any (λ (at : ℕ). IsRet a) S)
 
--- what commas part, behind the first, and the sign that closes it
+-- what commas part, after the first, and the sign that closes it
 abbrev pub IsMoreOfThem : (List Token → Tree → Type 0) → Mark → Tree → List Token → List Tree → Type 0
 IsMoreOfThem P mark x = IsSeq (IsMoreOf (λ n. IsSeq (IsOne (the m.Comma)) (λ at. P)) (x ∷ [])) (λ all. IsSeq (IsOne (the mark)) (λ at. IsRet all))
 
 module _ {l : Limits} {E : Obstacle → Type 0} {U : Type 0} (fair : IsFair l E U) where
-  pub node_rule : {S : Token → Bool} (at : ℕ) (x : Tree) → IsRule E U many (node at x) (IsGuarded (Within l.height (height x)) x) S
-  node_rule at x = guard_rule (Within l.height (height x)) (leb (height x) 64) (Height at) x (λ h. fair.height_kept (height x) (leb-true (height x) 64 h)) (λ h. elim (fair.height_fair (height x) at h) [ inl k ↦ inl (le-leb (height x) 64 k) | inr e ↦ inr e ]) (λ u. fair.height_free u (height x)) refl (height_not_turns at)
+  pub node_rule : {S : Token → Bool} (at : ℕ) (x : Tree) → IsRule E U (node at x) (IsGuarded (Within l.height (height x)) x) S
+  node_rule at x = guard_rule (Within l.height (height x)) (leb (height x) MAX_HEIGHT) (Height at) x (λ h. fair.height_kept (height x) (leb-true (height x) MAX_HEIGHT h)) (λ h. elim (fair.height_fair (height x) at h) [ inl k ↦ inl (le-leb (height x) MAX_HEIGHT k) | inr e ↦ inr e ]) (λ u. fair.height_free u (height x)) refl
 
-  pub more_rule : {expression : Rule Tree} {P : List Token → Tree → Type 0} {S T : Token → Bool} (mark : Mark) → IsRule E U many expression P S → ((t : Token) → is m.Comma t ≡ true → S t ≡ true) → ((t : Token) → is mark t ≡ true → S t ≡ true) → ((t : Token) → is mark t ≡ true → is m.Comma t ≡ false) → (x : Tree) → IsRule E U many (more_of expression mark x) (IsMoreOfThem P mark x) T
+  pub more_rule : {expression : Rule Tree} {P : List Token → Tree → Type 0} {S T : Token → Bool} (mark : Mark) → IsRule E U expression P S → ((t : Token) → is m.Comma t ≡ true → S t ≡ true) → ((t : Token) → is mark t ≡ true → S t ≡ true) → ((t : Token) → is mark t ≡ true → is m.Comma t ≡ false) → (x : Tree) → IsRule E U (more_of expression mark x) (IsMoreOfThem P mark x) T
   more_rule {P = P} {T = T} mark h passes ends leaves x =
-      let items = each_rule {T = is mark} (is m.Comma) (is m.Comma) fair.spent (λ n. after_rule m.Comma h) (λ n. seq_starts (is m.Comma) (is_one m.Comma)) (λ t e. e) passes ends leaves (x ∷ []) in
-      seq_rule items (λ all. before_rule mark all) (leads_start (is mark) (is mark) T (λ all. IsSeq (IsOne (the mark)) (λ at. IsRet all)) (λ all. seq_starts (is mark) (is_one mark)) (λ t e. e))
+      let items = each_rule {T = is mark} (is m.Comma) (is m.Comma) (λ n. preceded_rule m.Comma h) (λ n. seq_starts (is m.Comma) (is_one m.Comma)) (λ t e. e) passes ends leaves (x ∷ []) in
+      seq_rule items (λ all. terminated_rule mark all) (leads_start (is mark) (is mark) T (λ all. IsSeq (IsOne (the mark)) (λ at. IsRet all)) (λ all. seq_starts (is mark) (is_one mark)) (λ t e. e))

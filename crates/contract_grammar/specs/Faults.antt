@@ -1,45 +1,117 @@
 -- The first token at which tokens stop being those of a contract.
-use Rattle.std.specs.Prelude.{◌≡◌, ℕ, Bool, true, false, List, [], ◌∷◌, ◌++◌}
+use Rattle.std.specs.Prelude.{◌≡◌, ℕ, Bool, true, false, List, [], ◌∷◌, ◌++◌, All, suc}
 use Rattle.contract_tokens.specs.declared.token.Token.{Token}
 use Rattle.contract_tokens.specs.declared.token.Mark.TheVariants.{BraceOpen}
-use Rattle.contract_tree.specs.Tree.{Tree, place, height, FunctionTree}
+use Rattle.contract_tokens.specs.declared.token.Word.{Word}
+use Rattle.contract_tokens.specs.Lexemes.{IsSpelled}
+use Rattle.contract_tree.specs.Tree.{Tree, offset_of, height, FunctionTree}
 use Rattle.contract_grammar.specs.declared.Obstacle.{Obstacle}
-use Rattle.contract_grammar.specs.declared.Obstacle.TheVariants.{Unfit, Surplus, Pending, Nesting, Height, Turns}
+use Rattle.contract_grammar.specs.declared.Obstacle.TheVariants.{Unfit, Surplus, Pending, Nesting, Height}
 use Rattle.contract_grammar.specs.Grammar.{Limits, limits_of, no_limits, IsExpr, IsContract}
 use Rattle.contract_grammar.specs.Marks.{is, has, is_end, name_of, opens}
+use Rattle.contract_grammar.specs.declared.limits.TheConstants.{MAX_HEIGHT}
 
--- A contract begins with the tokens.
+-- Some bytes spell the word.
+abbrev pub IsWritable : Word → Type 0
+IsWritable word = (bytes : List ℕ) × IsSpelled bytes word
+
+-- A source may have the tokens: each of them can be written.
+abbrev pub AreWritable : List Token → Type 0
+AreWritable tokens = All (λ t. IsWritable t.word) tokens
+
+-- A contract begins with the tokens, and the tokens with which it goes on can be written.
 abbrev pub Fits : Limits → List Token → Type 0
-Fits l before = (more : List Token) × (all : List FunctionTree) × IsContract l (before ++ more) all
+Fits l before =
+    (more : List Token) × (all : List FunctionTree) × AreWritable more × IsContract l (before ++ more) all
 
+-- `Allows`, by whether the token is the end of the source.
 abbrev pub Allows_by : Bool → Limits → List Token → Token → Type 0
 Allows_by true l before t = (all : List FunctionTree) × IsContract l before all
 Allows_by false l before t = Fits l (before ++ t ∷ [])
 
--- Behind these tokens the token fits: a contract begins with them and it, or it is the end of the source, and they are a contract.
+-- After these tokens the token fits: a contract begins with them and it, or it is the end of the
+-- source, and they are a contract.
 abbrev pub Allows : Limits → List Token → Token → Type 0
 Allows l before t = Allows_by (is_end t) l before t
 
--- The last of the tokens end an expression at this place that is one higher than may be, in some contract that begins with them: whatever else is that expression could stand there, and the contract be the same.
+-- The last of the tokens are an expression at this offset that is one higher than may be, in some
+-- contract that begins with them: whatever else is that expression could stand there, and the
+-- contract be the same.
 pub record IsTooHigh (before : List Token) (at : ℕ) : Type 0 where
-  pub front : List Token
+  pub prefix : List Token
   pub tokens : List Token
   pub more : List Token
-  pub before_is : before ≡ front ++ tokens
+  pub before_is : before ≡ prefix ++ tokens
   pub pending : ℕ
   pub level : ℕ
   pub tree : Tree
   pub is_expression : IsExpr no_limits pending level tokens tree
-  pub place_is : place tree ≡ at
-  pub height_is : height tree ≡ 65
+  pub offset_is : offset_of tree ≡ at
+  pub height_is : height tree ≡ suc MAX_HEIGHT
   pub all : List FunctionTree
-  pub stands : (other : List Token) → IsExpr no_limits pending level other tree → IsContract no_limits (front ++ (other ++ more)) all
+  pub more_is : AreWritable more
+  pub stands :
+      (other : List Token) → IsExpr no_limits pending level other tree
+      → IsContract no_limits (prefix ++ (other ++ more)) all
 
--- What is wrong at a token behind others. Each limit is looked at alone: the other three are left out.
+-- The limit of what is pending alone; the other three are left out.
+abbrev pub pending_only : Limits
+pending_only = limits_of true false false false
+
+-- The limit of nested blocks alone.
+abbrev pub nesting_only : Limits
+nesting_only = limits_of false true false false
+
+-- The limit of heights alone.
+abbrev pub heights_only : Limits
+heights_only = limits_of false false true false
+
+-- The limit of parameters alone.
+abbrev pub parameters_only : Limits
+parameters_only = limits_of false false false true
+
+-- What keeps a contract that begins with the tokens from going on with this one. Each limit is
+-- looked at alone.
+abbrev pub IsObstacle : Obstacle → List Token → Token → Type 0
+IsObstacle Unfit before t = Fits no_limits before × (Allows no_limits before t → ⊥)
+IsObstacle Surplus before t =
+    (has name_of t ≡ true) × Allows no_limits before t × (Allows parameters_only before t → ⊥)
+IsObstacle Pending before t =
+    (opens t ≡ true) × Allows no_limits before t × (Allows pending_only before t → ⊥)
+IsObstacle Nesting before t =
+    (is BraceOpen t ≡ true) × Allows no_limits before t × (Allows nesting_only before t → ⊥)
+IsObstacle (Height at) before t = IsTooHigh before at × (Allows heights_only before t → ⊥)
+
+-- Of these tokens each that passes the test was allowed where it stands.
+abbrev pub Keeps : Limits → (Token → Bool) → List Token → Type 0
+Keeps l test tokens =
+    (before after : List Token) (t : Token)
+    → tokens ≡ before ++ t ∷ after → test t ≡ true → Allows l before t
+
+-- The tokens keep the limits of parameters, of what is pending and of nested blocks: no name,
+-- parenthesis, prefix or brace of them was one too many.
+pub record KeepsLimits (tokens : List Token) : Type 0 where
+  pub pending : Keeps pending_only opens tokens
+  pub nesting : Keeps nesting_only (is BraceOpen) tokens
+  pub parameters : Keeps parameters_only (has name_of) tokens
+
+-- Whether the obstacle is the height of an expression.
+abbrev pub is_height : Obstacle → Bool
+is_height Unfit = false
+is_height Surplus = false
+is_height Pending = false
+is_height Nesting = false
+is_height (Height at) = true
+
+-- What is wrong at the first token that a contract does not go on with, or that a limit refuses:
+-- the tokens before it keep the limits.
 abbrev pub IsFault : Obstacle → List Token → Token → Type 0
-IsFault Unfit before t = Fits no_limits before × (Allows no_limits before t → ⊥)
-IsFault Surplus before t = (has name_of t ≡ true) × Allows no_limits before t × (Allows (limits_of false false false true) before t → ⊥)
-IsFault Pending before t = (opens t ≡ true) × Allows no_limits before t × (Allows (limits_of true false false false) before t → ⊥)
-IsFault Nesting before t = (is BraceOpen t ≡ true) × Allows no_limits before t × (Allows (limits_of false true false false) before t → ⊥)
-IsFault (Height at) before t = IsTooHigh before at × (Allows (limits_of false false true false) before t → ⊥)
-IsFault Turns before t = ⊥
+IsFault why before t = IsObstacle why before t × KeepsLimits before
+
+-- There is one fault at most, heights left out: at one token one thing is wrong.
+abbrev pub HasOneFault : List Token → Type 0
+HasOneFault tokens =
+    (why why' : Obstacle) (before after before' after' : List Token) (t t' : Token)
+    → tokens ≡ before ++ t ∷ after → tokens ≡ before' ++ t' ∷ after'
+    → is_height why ≡ false → is_height why' ≡ false → IsFault why before t → IsFault why' before' t'
+    → (before ≡ before') × (why ≡ why')

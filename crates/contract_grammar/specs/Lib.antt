@@ -2,4 +2,5 @@ pub mod Faults
 pub mod Grammar
 pub mod Marks
 pub mod Reading
+pub mod Reads
 pub mod Rules

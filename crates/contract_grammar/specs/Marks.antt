@@ -1,7 +1,8 @@
--- What the tokens of a source are to the grammar.
-use Rattle.std.specs.Prelude.{ℕ, ℤ, Bool, true, false, ◌==◌, ◌||◌, not, nat_lt, List, [], ◌∷◌, Option, Some, None, is_some, if◌then◌else◌, codes}
-use Rattle.std.specs.List.{list_any}
-use Rattle.std.specs.Cmp.Lexicographic.{pointwise}
+-- What the tokens of a source are to the grammar. A name that ends in `_in` speaks of a word, one
+-- that ends in `_of` of a token with its offset.
+use Rattle.std.specs.Prelude.{ℕ, suc, ℤ, Bool, true, false, ◌==◌, ◌||◌, not, nat_lt, List, Option, Some, None, is_some, if◌then◌else◌}
+use denote.Enum.Bare.{sameb}
+use Rattle.contract_tokens.specs.contracts.token.Mark.{the_type}
 use Rattle.contract_tokens.specs.declared.token.Token.{Token}
 use Rattle.contract_tokens.specs.declared.token.Word.{Word}
 use Rattle.contract_tokens.specs.declared.token.Mark.{Mark as MarkType}
@@ -11,60 +12,31 @@ use Rattle.contract_tree.specs.declared.tree.Sign.{Sign}
 use Rattle.contract_tree.specs.declared.tree.Sign.TheVariants as s
 use Rattle.contract_tree.specs.declared.tree.ValueKind.{ValueKind}
 use Rattle.contract_tree.specs.declared.tree.ValueKind.TheVariants as k
+use Rattle.contract_tree.specs.declared.builtin.Builtin.TheVariants as b
+use Rattle.contract_tree.specs.Builtins.{builtin_name, is_builtin}
+use Rattle.contract_grammar.specs.declared.limits.TheConstants.{COMPARISONS, WHOLE}
 
--- a number for each keyword and sign
-abbrev pub code : MarkType → ℕ
-code m.Fn = 0
-code m.Let = 1
-code m.If = 2
-code m.Else = 3
-code m.While = 4
-code m.Put = 5
-code m.From = 6
-code m.Fail = 7
-code m.Return = 8
-code m.Int = 9
-code m.Text = 10
-code m.ParenOpen = 11
-code m.ParenClose = 12
-code m.BraceOpen = 13
-code m.BraceClose = 14
-code m.Comma = 15
-code m.Semicolon = 16
-code m.Colon = 17
-code m.Assign = 18
-code m.Equal = 19
-code m.NotEqual = 20
-code m.Less = 21
-code m.LessEqual = 22
-code m.Greater = 23
-code m.GreaterEqual = 24
-code m.Plus = 25
-code m.Minus = 26
-code m.Star = 27
-code m.Slash = 28
-code m.Percent = 29
-code m.Concat = 30
-code m.Not = 31
-code m.And = 32
-code m.Or = 33
+-- Whether two keywords or signs are the same, as `==` of the program says.
+abbrev pub is_same : MarkType → MarkType → Bool
+is_same = sameb the_type
 
-abbrev pub has_code : ℕ → Word → Bool
-has_code n (w.Mark mark) = code mark == n
-has_code n (w.Int value) = false
-has_code n (w.Text text) = false
-has_code n (w.Name name) = false
-has_code n w.End = false
+-- Whether the word is this keyword or sign.
+abbrev pub is_word : MarkType → Word → Bool
+is_word mark (w.Mark other) = is_same other mark
+is_word mark (w.Int value) = false
+is_word mark (w.Text text) = false
+is_word mark (w.Name name) = false
+is_word mark w.End = false
 
--- whether the token is this keyword or sign
+-- Whether the token is this keyword or sign.
 abbrev pub is : MarkType → Token → Bool
-is mark t = has_code (code mark) t.word
+is mark t = is_word mark t.word
 
--- the place of this keyword or sign
+-- The offset of this keyword or sign.
 abbrev pub the : MarkType → Token → Option ℕ
 the mark t = if is mark t then Some t.at else None
 
--- a number
+-- The value of a number.
 abbrev pub int_in : Word → Option ℤ
 int_in (w.Int value) = Some value
 int_in (w.Text text) = None
@@ -72,7 +44,7 @@ int_in (w.Name name) = None
 int_in (w.Mark mark) = None
 int_in w.End = None
 
--- a text literal, as the bytes that it means
+-- The bytes that a text literal means.
 abbrev pub text_in : Word → Option (List ℕ)
 text_in (w.Text text) = Some text
 text_in (w.Int value) = None
@@ -80,7 +52,7 @@ text_in (w.Name name) = None
 text_in (w.Mark mark) = None
 text_in w.End = None
 
--- a name
+-- The bytes of a name.
 abbrev pub name_in : Word → Option (List ℕ)
 name_in (w.Name name) = Some name
 name_in (w.Int value) = None
@@ -88,6 +60,7 @@ name_in (w.Text text) = None
 name_in (w.Mark mark) = None
 name_in w.End = None
 
+-- Whether the word is the end of the source.
 abbrev pub end_in : Word → Bool
 end_in w.End = true
 end_in (w.Int value) = false
@@ -95,76 +68,77 @@ end_in (w.Text text) = false
 end_in (w.Name name) = false
 end_in (w.Mark mark) = false
 
--- the end of the source, which closes each list of tokens
+-- Whether the token is the end of the source, which closes each list of tokens.
 abbrev pub is_end : Token → Bool
 is_end t = end_in t.word
 
--- something with the place of its token
-abbrev pub placed : {A : Type 0} → ℕ → Option A → Option (ℕ × A)
-placed at None = None
-placed at (Some a) = Some (at, a)
+-- Something with the offset of its token.
+abbrev pub with_offset : {A : Type 0} → ℕ → Option A → Option (ℕ × A)
+with_offset at None = None
+with_offset at (Some a) = Some (at, a)
 
+-- A number with its offset.
 abbrev pub int_of : Token → Option (ℕ × ℤ)
-int_of t = placed t.at (int_in t.word)
+int_of t = with_offset t.at (int_in t.word)
 
+-- A text literal with its offset.
 abbrev pub text_of : Token → Option (ℕ × List ℕ)
-text_of t = placed t.at (text_in t.word)
+text_of t = with_offset t.at (text_in t.word)
 
+-- A name with its offset.
 abbrev pub name_of : Token → Option (ℕ × List ℕ)
-name_of t = placed t.at (name_in t.word)
+name_of t = with_offset t.at (name_in t.word)
 
--- the functions that each contract may call and none declares, but for `text`, which is a keyword
-abbrev pub builtins : List (List ℕ)
-builtins =
-    codes "get_int" ∷ codes "get_text" ∷ codes "has" ∷ codes "caller" ∷ codes "block" ∷ codes "len" ∷ codes "hist_int" ∷ codes "hist_text"
-    ∷ codes "hist_block" ∷ codes "hist_tx" ∷ codes "seen" ∷ codes "back_count" ∷ codes "fwd_count" ∷ codes "back_key" ∷ codes "fwd_key"
-    ∷ codes "back_block" ∷ codes "fwd_block" ∷ []
-
-unfoldable pub is_builtin : List ℕ → Bool
-is_builtin name = list_any (λ builtin. pointwise ◌==◌ builtin name) builtins
-
--- the keyword that names a function
+-- The name of a function that is a keyword too.
 abbrev pub builtin_in : Word → Option (List ℕ)
-builtin_in (w.Mark m.Text) = Some (codes "text")
+builtin_in (w.Mark m.Text) = Some (builtin_name b.Text)
 builtin_in _ = None
 
+-- Such a name with its offset.
 abbrev pub builtin_of : Token → Option (ℕ × List ℕ)
-builtin_of t = placed t.at (builtin_in t.word)
+builtin_of t = with_offset t.at (builtin_in t.word)
 
--- what may stand before the parentheses of a call: a name, or the keyword that names a function
+-- What may stand before the parentheses of a call: a name, or the keyword that names a function.
 abbrev pub callee_in : Word → Option (List ℕ)
 callee_in (w.Name name) = Some name
-callee_in (w.Mark m.Text) = Some (codes "text")
+callee_in (w.Mark m.Text) = Some (builtin_name b.Text)
 callee_in _ = None
 
+-- Such a name with its offset.
 abbrev pub callee_of : Token → Option (ℕ × List ℕ)
-callee_of t = placed t.at (callee_in t.word)
+callee_of t = with_offset t.at (callee_in t.word)
 
+-- A name, unless it is that of a builtin.
 abbrev pub unless_builtin : Bool → List ℕ → Option (List ℕ)
 unless_builtin true name = None
 unless_builtin false name = Some name
 
-abbrev pub unless_taken : Option (List ℕ) → Option (List ℕ)
-unless_taken None = None
-unless_taken (Some name) = unless_builtin (is_builtin name) name
+-- A name that may be declared, if there is one.
+abbrev pub declarable : Option (List ℕ) → Option (List ℕ)
+declarable None = None
+declarable (Some name) = unless_builtin (is_builtin name) name
 
--- a name that may be declared: that of no builtin
-abbrev pub free_in : Word → Option (List ℕ)
-free_in word = unless_taken (name_in word)
+-- A name that may be declared: that of no builtin.
+abbrev pub declared_in : Word → Option (List ℕ)
+declared_in word = declarable (name_in word)
 
+-- Such a name with its offset.
 abbrev pub declared_of : Token → Option (ℕ × List ℕ)
-declared_of t = placed t.at (free_in t.word)
+declared_of t = with_offset t.at (declared_in t.word)
 
--- what a parameter's values are
+-- What a parameter's values are.
 abbrev pub kind_in : Word → Option ValueKind
 kind_in (w.Mark m.Int) = Some k.Int
 kind_in (w.Mark m.Text) = Some k.Text
 kind_in _ = None
 
+-- What a parameter's values are, by the token that says it.
 abbrev pub kind_of : Token → Option ValueKind
 kind_of t = kind_in t.word
 
--- how tight a token binds as an operator between two operands: the less, the tighter; what binds nothing has 7. A parenthesis behind a name makes a call, so it has 0.
+-- How tight a token binds as an operator between two operands: the less, the tighter. What is no
+-- operator has a level of its own after all others; a parenthesis after a name makes a call, so it
+-- has 0.
 abbrev pub level_in : Word → ℕ
 level_in (w.Mark m.ParenOpen) = 0
 level_in (w.Mark m.Star) = 1
@@ -173,17 +147,17 @@ level_in (w.Mark m.Percent) = 1
 level_in (w.Mark m.Plus) = 2
 level_in (w.Mark m.Minus) = 2
 level_in (w.Mark m.Concat) = 3
-level_in (w.Mark m.Equal) = 4
-level_in (w.Mark m.NotEqual) = 4
-level_in (w.Mark m.Less) = 4
-level_in (w.Mark m.LessEqual) = 4
-level_in (w.Mark m.Greater) = 4
-level_in (w.Mark m.GreaterEqual) = 4
+level_in (w.Mark m.Equal) = COMPARISONS
+level_in (w.Mark m.NotEqual) = COMPARISONS
+level_in (w.Mark m.Less) = COMPARISONS
+level_in (w.Mark m.LessEqual) = COMPARISONS
+level_in (w.Mark m.Greater) = COMPARISONS
+level_in (w.Mark m.GreaterEqual) = COMPARISONS
 level_in (w.Mark m.And) = 5
-level_in (w.Mark m.Or) = 6
-level_in _ = 7
+level_in (w.Mark m.Or) = WHOLE
+level_in _ = suc WHOLE
 
--- an operator between two operands
+-- An operator between two operands.
 abbrev pub sign_in : Word → Option Sign
 sign_in (w.Mark m.Star) = Some s.Star
 sign_in (w.Mark m.Slash) = Some s.Slash
@@ -201,39 +175,43 @@ sign_in (w.Mark m.And) = Some s.And
 sign_in (w.Mark m.Or) = Some s.Or
 sign_in _ = None
 
--- an operator of this level, with its place
+-- An operator of this level, with its offset.
 abbrev pub sign_of : ℕ → Token → Option (ℕ × Sign)
-sign_of level t = if level_in t.word == level then placed t.at (sign_in t.word) else None
+sign_of level t = if level_in t.word == level then with_offset t.at (sign_in t.word) else None
 
--- a prefix
+-- A prefix.
 abbrev pub prefix_in : Word → Option Sign
 prefix_in (w.Mark m.Minus) = Some s.Minus
 prefix_in (w.Mark m.Not) = Some s.Not
 prefix_in _ = None
 
+-- A prefix with its offset.
 abbrev pub prefix_of : Token → Option (ℕ × Sign)
-prefix_of t = placed t.at (prefix_in t.word)
+prefix_of t = with_offset t.at (prefix_in t.word)
 
+-- Whether the token is one of which the function makes something.
 abbrev pub has : {A : Type 0} → (Token → Option A) → Token → Bool
 has f t = is_some (f t)
 
--- an expression of this level ends before the token: it is no operator that binds as tight, and makes no call
+-- Whether an expression of this level ends before the token: it is no operator that binds as tight,
+-- and makes no call.
 abbrev pub stops : ℕ → Token → Bool
 stops level t = nat_lt level (level_in t.word)
 
--- each token
+-- Whether the token is one at all.
 abbrev pub any : Token → Bool
 any t = true
 
 -- each token but this one
 
+-- Whether the token is another than this keyword or sign.
 abbrev pub is_not : MarkType → Token → Bool
 is_not mark t = not (is mark t)
 
--- each token but the end
+-- Whether the token is another than the end of the source.
 abbrev pub is_no_end : Token → Bool
 is_no_end t = not (is_end t)
 
--- a parenthesis that opens, or a prefix
+-- Whether the token is a parenthesis that opens, or a prefix.
 abbrev pub opens : Token → Bool
 opens t = is m.ParenOpen t || has prefix_of t

@@ -1,4 +1,5 @@
--- How the grammar is read, token by token, with no way back.
+-- How the grammar is read, token by token, with no way back. Each reader is that of a rule of the
+-- grammar, or of the rest of one.
 use Rattle.std.specs.Prelude.{ℕ, zero, suc, Bool, true, false, nat_lt, nat_le, List, [], ◌∷◌, Option, Some, None}
 use Rattle.contract_tokens.specs.declared.token.Mark.{Mark}
 use Rattle.contract_tokens.specs.declared.token.Mark.TheVariants as m
@@ -10,136 +11,188 @@ use Rattle.contract_tree.specs.declared.tree.Sign.{Sign}
 use Rattle.contract_grammar.specs.declared.Obstacle.TheVariants.{Surplus, Pending, Nesting, Height}
 use Rattle.contract_grammar.specs.Grammar.{is_chained}
 use Rattle.contract_grammar.specs.Marks.{is_not, is_no_end, the, is, has, int_of, text_of, name_of, builtin_of, prefix_of, sign_of, declared_of, kind_of}
-use Rattle.contract_grammar.specs.Rules.{Rule, ret, guard, one, closed, seq, either_by, either, turns, each, many}
+use Rattle.contract_grammar.specs.Rules.{Rule, ret, guard, one, refuse, seq, either_by, either, turns, each}
+use Rattle.contract_grammar.specs.declared.limits.TheConstants.{MAX_PENDING, MAX_NESTING, MAX_HEIGHT, MAX_PARAMETERS, WHOLE}
 
--- a node that has just been put together
+-- A node that has just been put together, unless it is too high.
 abbrev pub node : ℕ → Tree → Rule Tree
-node at x = guard (nat_le (height x) 64) (Height at) x
+node at x = guard (nat_le (height x) MAX_HEIGHT) (Height at) x
 
+-- A call of this name with these arguments.
 abbrev pub call_of : ℕ × List ℕ → List Tree → Rule Tree
 call_of n args = node n.0 (tree.Call n.0 n.1 (trees args))
 
+-- This prefix before an operand.
 abbrev pub prefix_node : ℕ × Sign → Tree → Rule Tree
 prefix_node s x = node s.0 (tree.Prefix s.0 s.1 x)
 
+-- This operator between two operands.
 abbrev pub binary_node : ℕ × Sign → Tree → Tree → Rule Tree
 binary_node s x w = node s.0 (tree.Binary s.0 s.1 x w)
 
--- a keyword or sign, and then what follows
-abbrev pub after : {A : Type 0} → Mark → Rule A → Rule A
-after mark p = seq (one (the mark)) (λ at. p)
+-- A keyword or sign, and then what follows.
+abbrev pub preceded : {A : Type 0} → Mark → Rule A → Rule A
+preceded mark p = seq (one (the mark)) (λ at. p)
 
--- what was read, and then a keyword or sign
-abbrev pub before : {A : Type 0} → Mark → A → Rule A
-before mark a = seq (one (the mark)) (λ at. ret a)
+-- What was read, and then a keyword or sign.
+abbrev pub terminated : {A : Type 0} → Mark → A → Rule A
+terminated mark a = seq (one (the mark)) (λ at. ret a)
 
+-- A comma, and then the next part, whatever the number of those before.
 abbrev pub comma_then : {A : Type 0} → Rule A → ℕ → Rule A
-comma_then p n = after m.Comma p
+comma_then p n = preceded m.Comma p
 
--- one more of what the commas part, any number of times, and then the closing sign
+-- The parts after the first that commas divide, and then the closing sign.
 abbrev pub more_of : Rule Tree → Mark → Tree → Rule (List Tree)
-more_of expression mark x = seq (each many (is m.Comma) (comma_then expression) (x ∷ [])) (before mark)
+more_of expression mark x =
+    seq (each (is m.Comma) (comma_then expression) (x ∷ [])) (terminated mark)
 
+-- Arguments after the parenthesis that opens.
 abbrev pub args : Rule Tree → Rule (List Tree)
-args expression = either (is m.ParenClose) (before m.ParenClose []) (seq expression (more_of expression m.ParenClose))
+args expression =
+    either (is m.ParenClose)
+    (terminated m.ParenClose [])
+    (seq expression (more_of expression m.ParenClose))
 
+-- A number.
 abbrev pub number : Rule Tree
 number = seq (one int_of) (λ n. ret (tree.Int n.0 n.1))
 
+-- A text literal.
 abbrev pub text : Rule Tree
 text = seq (one text_of) (λ n. ret (tree.Text n.0 n.1))
 
+-- A text literal or a number.
 abbrev pub literal : Rule Tree
 literal = either (has text_of) text number
 
--- behind a name: its arguments, or nothing
-abbrev pub name_or_call : Rule (List Tree) → ℕ × List ℕ → Rule Tree
-name_or_call arguments n = either (is m.ParenOpen) (seq arguments (call_of n)) (ret (tree.Name n.0 n.1))
+-- What follows a name: its arguments, or nothing.
+abbrev pub name_rest : Rule (List Tree) → ℕ × List ℕ → Rule Tree
+name_rest arguments n =
+    either (is m.ParenOpen) (seq arguments (call_of n)) (ret (tree.Name n.0 n.1))
 
-abbrev pub named : Rule (List Tree) → Rule Tree
-named arguments = seq (one name_of) (name_or_call arguments)
+-- A name, or a call of one.
+abbrev pub name_or_call : Rule (List Tree) → Rule Tree
+name_or_call arguments = seq (one name_of) (name_rest arguments)
 
-abbrev pub builtin : Rule (List Tree) → Rule Tree
-builtin arguments = seq (one builtin_of) (λ n. seq arguments (call_of n))
+-- A call of the function that a keyword names.
+abbrev pub builtin_call : Rule (List Tree) → Rule Tree
+builtin_call arguments = seq (one builtin_of) (λ n. seq arguments (call_of n))
 
+-- An operand, by the readers of its parts.
 abbrev pub operand_of : Rule (List Tree) → Rule Tree → Rule Tree → Rule Tree
 operand_of arguments prefixed grouped =
-    either (has name_of) (named arguments) (either (has builtin_of) (builtin arguments) (either (has prefix_of) prefixed (either (is m.ParenOpen) grouped literal)))
+    either (has name_of) (name_or_call arguments)
+    (either (has builtin_of) (builtin_call arguments)
+    (either (has prefix_of) prefixed
+    (either (is m.ParenOpen) grouped literal)))
 
+-- An operator of this level after its left operand, and then its right one.
 abbrev pub binary : ℕ → Rule Tree → Tree → Rule Tree
 binary level tighter x = seq (one (sign_of level)) (λ s. seq tighter (binary_node s x))
 
+-- The operators of a level and their right operands, after the first operand: any number of them
+-- where they are chained, else one at most.
 abbrev pub rest_of_level : Bool → ℕ → Rule Tree → Tree → Rule Tree
-rest_of_level true level tighter = turns many (has (sign_of level)) (binary level tighter)
-rest_of_level false level tighter = λ x. either (has (sign_of level)) (binary level tighter x) (ret x)
+rest_of_level true level tighter = turns (has (sign_of level)) (binary level tighter)
+rest_of_level false level tighter =
+    λ x. either (has (sign_of level)) (binary level tighter x) (ret x)
 
--- expressions of a level, by those of level 0
+-- Expressions of a level, by those of level 0.
 unfoldable pub level_of : Rule Tree → ℕ → Rule Tree
 level_of operand zero = operand
-level_of operand (suc level) = seq (level_of operand level) (rest_of_level (is_chained (suc level)) (suc level) (level_of operand level))
+level_of operand (suc level) =
+    seq (level_of operand level)
+    (rest_of_level (is_chained (suc level)) (suc level) (level_of operand level))
 
--- arguments, by the operands that may stand in them, if any may
+-- Arguments, by the operands that may stand in them, if any may.
 abbrev pub arguments_in : Option (Rule Tree) → Rule (List Tree)
-arguments_in None = closed Pending (is m.ParenOpen)
-arguments_in (Some operand) = after m.ParenOpen (args (level_of operand 6))
+arguments_in None = refuse Pending (is m.ParenOpen)
+arguments_in (Some operand) = preceded m.ParenOpen (args (level_of operand WHOLE))
 
-abbrev pub prefixed_in : Option (Rule Tree) → Rule Tree
-prefixed_in None = closed Pending (has prefix_of)
-prefixed_in (Some operand) = seq (one prefix_of) (λ s. seq operand (prefix_node s))
+-- A prefix with its operand, if any may stand after it.
+abbrev pub prefix_operand_in : Option (Rule Tree) → Rule Tree
+prefix_operand_in None = refuse Pending (has prefix_of)
+prefix_operand_in (Some operand) = seq (one prefix_of) (λ s. seq operand (prefix_node s))
 
-abbrev pub grouped_in : Option (Rule Tree) → Rule Tree
-grouped_in None = closed Pending (is m.ParenOpen)
-grouped_in (Some operand) = after m.ParenOpen (seq (level_of operand 6) (before m.ParenClose))
+-- An expression in parentheses, by the operands that may stand in them, if any may.
+abbrev pub group_in : Option (Rule Tree) → Rule Tree
+group_in None = refuse Pending (is m.ParenOpen)
+group_in (Some operand) =
+    preceded m.ParenOpen (seq (level_of operand WHOLE) (terminated m.ParenClose))
 
+-- An operand, by those that may stand after one more parenthesis or prefix, if any may.
 abbrev pub operand_in : Option (Rule Tree) → Rule Tree
-operand_in inside = operand_of (arguments_in inside) (prefixed_in inside) (grouped_in inside)
+operand_in inner = operand_of (arguments_in inner) (prefix_operand_in inner) (group_in inner)
 
--- an operand, where so many more parentheses and prefixes may be pending
+-- An operand, where so many more parentheses and prefixes may be pending.
 unfoldable pub operand : ℕ → Rule Tree
 operand zero = operand_in None
 operand (suc n) = operand_in (Some (operand n))
 
--- the operands behind one more parenthesis or prefix, if so many more may be pending that it may
-abbrev pub inside : ℕ → Option (Rule Tree)
-inside zero = None
-inside (suc n) = Some (operand n)
+-- The operands after one more parenthesis or prefix, if so many more may be pending that it may.
+abbrev pub inner_operand : ℕ → Option (Rule Tree)
+inner_operand zero = None
+inner_operand (suc n) = Some (operand n)
 
--- a whole expression: 128 may be pending in it
+-- A whole expression.
 unfoldable pub expression : Rule Tree
-expression = level_of (operand 128) 6
+expression = level_of (operand MAX_PENDING) WHOLE
 
--- the end of a statement that gives a value
+-- The end of a statement that gives a value.
 abbrev pub value_of : (Tree → StatementTree) → Rule StatementTree
-value_of f = after m.Assign (seq expression (λ x. before m.Semicolon (f x)))
+value_of f = preceded m.Assign (seq expression (λ x. terminated m.Semicolon (f x)))
 
+-- A `let`.
 abbrev pub let_statement : Rule StatementTree
-let_statement = seq (one (the m.Let)) (λ at. seq (one declared_of) (λ n. value_of (tree.Let at n.0 n.1)))
+let_statement =
+    seq (one (the m.Let)) (λ at. seq (one declared_of) (λ n. value_of (tree.Let at n.0 n.1)))
 
+-- An assignment.
 abbrev pub assign_statement : Rule StatementTree
 assign_statement = seq (one name_of) (λ n. value_of (tree.Assign n.0 n.1))
 
--- behind the first block of an `if`
+-- What follows the first block of an `if`: an `else` with its block, or nothing.
 abbrev pub else_part : Rule StatementTrees → ℕ → Tree → StatementTrees → Rule StatementTree
-else_part block at x first = either (is m.Else) (after m.Else (seq block (λ second. ret (tree.IfElse at x first second)))) (ret (tree.If at x first))
+else_part block at x first =
+    either (is m.Else)
+    (preceded m.Else (seq block (λ second. ret (tree.IfElse at x first second))))
+    (ret (tree.If at x first))
 
+-- An `if`.
 abbrev pub if_statement : Rule StatementTrees → Rule StatementTree
-if_statement block = seq (one (the m.If)) (λ at. seq expression (λ x. seq block (else_part block at x)))
+if_statement block =
+    seq (one (the m.If)) (λ at. seq expression (λ x. seq block (else_part block at x)))
 
+-- A `while`.
 abbrev pub while_statement : Rule StatementTrees → Rule StatementTree
-while_statement block = seq (one (the m.While)) (λ at. seq expression (λ x. seq block (λ body. ret (tree.While at x body))))
+while_statement block =
+    seq (one (the m.While))
+    (λ at. seq expression (λ x. seq block (λ body. ret (tree.While at x body))))
 
+-- A `from` with its parts, and the semicolon.
 abbrev pub from_parts : Rule (Option Trees)
-from_parts = after m.From (seq expression (λ x. seq (more_of expression m.Semicolon x) (λ xs. ret (Some (trees xs)))))
+from_parts =
+    preceded m.From
+    (seq expression (λ x. seq (more_of expression m.Semicolon x) (λ xs. ret (Some (trees xs)))))
 
+-- The end of a `put`: a `from` or none, and the semicolon.
 abbrev pub from_part : Rule (Option Trees)
-from_part = either (is m.Semicolon) (before m.Semicolon None) from_parts
+from_part = either (is m.Semicolon) (terminated m.Semicolon None) from_parts
 
+-- A `put`.
 abbrev pub put_statement : Rule StatementTree
-put_statement = seq (one (the m.Put)) (λ at. seq expression (λ key. after m.Assign (seq expression (λ value. seq from_part (λ parts. ret (tree.Put at key value parts))))))
+put_statement =
+    seq (one (the m.Put))
+    (λ at. seq expression
+    (λ key. preceded m.Assign
+    (seq expression (λ value. seq from_part (λ parts. ret (tree.Put at key value parts))))))
 
+-- A statement of one keyword.
 abbrev pub short_statement : Mark → (ℕ → StatementTree) → Rule StatementTree
-short_statement mark f = seq (one (the mark)) (λ at. before m.Semicolon (f at))
+short_statement mark f = seq (one (the mark)) (λ at. terminated m.Semicolon (f at))
 
+-- A statement, by the blocks that may stand in it.
 abbrev pub statement : Rule StatementTrees → Rule StatementTree
 statement block =
     either (is m.Let) let_statement
@@ -149,36 +202,57 @@ statement block =
     (either (is m.Fail) (short_statement m.Fail tree.Fail)
     (either (is m.Return) (short_statement m.Return tree.Return) assign_statement)))))
 
+-- A block, by the blocks that may stand in it.
 abbrev pub block_of : Rule StatementTrees → Rule StatementTrees
-block_of inner = after m.BraceOpen (seq (each many (is_not m.BraceClose) (λ n. statement inner) []) (λ ss. before m.BraceClose (statement_list ss)))
+block_of inner =
+    preceded m.BraceOpen
+    (seq (each (is_not m.BraceClose) (λ n. statement inner) [])
+    (λ ss. terminated m.BraceClose (statement_list ss)))
 
--- a block, where so many more may be nested, itself counted
+-- A block, where so many more may be nested, itself counted.
 unfoldable pub block : ℕ → Rule StatementTrees
-block zero = closed Nesting (is m.BraceOpen)
+block zero = refuse Nesting (is m.BraceOpen)
 block (suc n) = block_of (block n)
 
--- the name of a parameter behind so many others
+-- The name of a parameter after so many others.
 abbrev pub param_name : ℕ → Rule (ℕ × List ℕ)
-param_name n = either_by (nat_lt n 8) (one declared_of) (closed Surplus (has declared_of))
+param_name n =
+    either_by (nat_lt n MAX_PARAMETERS) (one declared_of) (refuse Surplus (has declared_of))
 
+-- A parameter of this name, with its offset, and this kind.
 abbrev pub a_param : ℕ × List ℕ → ValueKind → Param
 a_param name kind = record { at = name.0; name = name.1; kind = kind }
 
+-- A parameter after so many others.
 abbrev pub param : ℕ → Rule Param
-param n = seq (param_name n) (λ name. after m.Colon (seq (one kind_of) (λ kind. ret (a_param name kind))))
+param n =
+    seq (param_name n)
+    (λ name. preceded m.Colon (seq (one kind_of) (λ kind. ret (a_param name kind))))
 
+-- The parameters after the first, and the parenthesis that closes them.
 abbrev pub more_params : Param → Rule (List Param)
-more_params p = seq (each many (is m.Comma) (λ n. after m.Comma (param n)) (p ∷ [])) (before m.ParenClose)
+more_params p =
+    seq (each (is m.Comma) (λ n. preceded m.Comma (param n)) (p ∷ [])) (terminated m.ParenClose)
 
+-- Parameters with their parentheses.
 abbrev pub params : Rule (List Param)
-params = after m.ParenOpen (either (is m.ParenClose) (before m.ParenClose []) (seq (param 0) more_params))
+params =
+    preceded m.ParenOpen
+    (either (is m.ParenClose) (terminated m.ParenClose []) (seq (param 0) more_params))
 
+-- A function of this name, with its offset, these parameters and these statements.
 abbrev pub a_function : ℕ × List ℕ → List Param → StatementTrees → FunctionTree
-a_function name params body = record { at = name.0; name = name.1; params = params; body = body }
+a_function name params body =
+    record { at = name.0; name = name.1; params = params; body = body }
 
+-- A function.
 unfoldable pub function : Rule FunctionTree
-function = after m.Fn (seq (one declared_of) (λ name. seq params (λ ps. seq (block 32) (λ body. ret (a_function name ps body)))))
+function =
+    preceded m.Fn
+    (seq (one declared_of)
+    (λ name. seq params
+    (λ ps. seq (block MAX_NESTING) (λ body. ret (a_function name ps body)))))
 
--- functions up to the end of the source
+-- A contract: functions up to the end of the source.
 unfoldable pub contract : Rule (List FunctionTree)
-contract = seq function (λ f. each many is_no_end (λ n. function) (f ∷ []))
+contract = seq function (λ f. each is_no_end (λ n. function) (f ∷ []))

@@ -1,5 +1,15 @@
-//! The grammar of the contract language over its tokens, and what a reader of it may meet.
+//! The grammar of the contract language over its tokens, and its tokens read one by one.
 #![tactic(auto)]
+
+mod cursor;
+mod limits;
+mod stop;
+mod word;
+
+pub use cursor::Cursor;
+pub use limits::{COMPARISONS, MAX_HEIGHT, MAX_NESTING, MAX_PARAMETERS, MAX_PENDING, WHOLE};
+pub use stop::Stop;
+pub use word::is_end;
 
 /// What keeps a reader from going on.
 #[derive(Clone, Copy, Debug)]
@@ -12,8 +22,6 @@ pub enum Obstacle {
     Pending,
     /// The next token is a brace, and its block would be nested too deep.
     Nesting,
-    /// The expression at this place was read, and is too high.
+    /// The expression at this offset was read, and is too high.
     Height(u32),
-    /// There are more tokens than any source has.
-    Turns,
 }

@@ -1,4 +1,3 @@
-pub mod Heights
-pub mod Loops
 pub mod Sources
 pub mod Parsed
+pub mod Outcomes

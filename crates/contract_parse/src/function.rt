@@ -4,32 +4,25 @@ ghost use Rattle.std.specs.Prelude.{◌≡◌, ◌<◌, ◌-◌, List, [], ◌�
 ghost use Rattle.contract_tree.specs.Tree.{statement_of, statement_list, function_of, contract_of};
 ghost use Rattle.contract_tokens.specs.declared.token.Mark.TheVariants as m;
 ghost use Rattle.contract_grammar.specs.Marks.{is, is_no_end};
-ghost use Rattle.contract_grammar.specs.Rules.{each, many, put, seq, ret};
-ghost use Rattle.contract_grammar.specs.Reading.{after, before, block, param_name, param, more_params, params, a_function, function, contract};
-ghost use Rattle.contract_cursor.specs.Reads.{Gives, Reads};
+ghost use Rattle.contract_grammar.specs.Rules.{each, put, seq, ret};
+ghost use Rattle.contract_grammar.specs.Reading.{preceded, terminated, block, param_name, param, more_params, params, a_function, function, contract};
+ghost use Rattle.contract_grammar.specs.Reads.{Gives, Reads};
+ghost use Rattle.contract_grammar.specs.declared.limits.TheConstants.{MAX_NESTING};
 
-use crate::expression::TURNS;
 use crate::statement::block;
-use contract_cursor::{Cursor, Stop};
-use contract_grammar::Obstacle;
+use contract_grammar::{Cursor, MAX_NESTING, MAX_PARAMETERS, Obstacle, Stop};
 use contract_tokens::Mark;
 use contract_tree::{Contract, Function, FunctionList, Param, ParamList};
 use lc_base::Name;
 use std::alloc::Global;
 
-/// So many parameters may a function have.
-const MAX_PARAMS: usize = 8;
-
-/// So deep may blocks be nested, the body of a function counted.
-const MAX_NESTING: u32 = 32;
-
 fn param_name(cursor: &mut Cursor<'_>, count: usize) -> Result<(u32, Name), Stop>
     ensures { Reads result (param_name count cursor.old) cursor.new }
 {
-    if count < MAX_PARAMS {
+    if count < MAX_PARAMETERS {
         cursor.declared()
     } else {
-        Err(cursor.refused(cursor.next_is_declared(), Obstacle::Surplus))
+        Err(cursor.refusal(cursor.next_is_declared(), Obstacle::Surplus))
     }
 }
 
@@ -43,36 +36,32 @@ fn param(cursor: &mut Cursor<'_>, count: usize) -> Result<Param, Stop>
 }
 
 fn next_param(cursor: &mut Cursor<'_>, count: usize) -> Result<Param, Stop>
-    ensures { Reads result (after m.Comma (param count) cursor.old) cursor.new }
+    ensures { Reads result (preceded m.Comma (param count) cursor.old) cursor.new }
 {
     cursor.take(Mark::Comma)?;
     param(cursor, count)
 }
 
-fn another_param(cursor: &mut Cursor<'_>, had: ParamList) -> Result<ParamList, Stop>
-    ensures { Gives (λ v. v.items) result (put (λ n. after m.Comma (param n)) had.items cursor.old) cursor.new }
+fn push_param(cursor: &mut Cursor<'_>, earlier: ParamList) -> Result<ParamList, Stop>
+    ensures { Gives (λ v. v.items) result
+        (put (λ n. preceded m.Comma (param n)) earlier.items cursor.old) cursor.new }
 {
-    let mut all = had;
+    let mut all = earlier;
     let count = all.len();
     let next = next_param(cursor, count)?;
     all.push(next)?;
     Ok(all)
 }
 
-fn listed_params(cursor: &mut Cursor<'_>, had: ParamList) -> Result<ParamList, Stop>
-    ensures { Gives (λ v. v.items) result (each many (is m.Comma) (λ n. after m.Comma (param n)) had.items cursor.old) cursor.new }
+fn more_params(cursor: &mut Cursor<'_>, earlier: ParamList) -> Result<ParamList, Stop>
+    ensures { Gives (λ v. v.items) result
+        (each (is m.Comma) (λ n. preceded m.Comma (param n)) earlier.items cursor.old) cursor.new }
 {
-    let mut all = had;
-    for _ in 0..TURNS {
-        if !cursor.next_is(Mark::Comma) {
-            return Ok(all);
-        }
-        match another_param(cursor, all) {
-            Ok(more) => all = more,
-            Err(stop) => return Err(stop),
-        }
+    let mut all = earlier;
+    while cursor.next_is(Mark::Comma) {
+        all = push_param(cursor, all)?;
     }
-    Err(Stop::At(Obstacle::Turns))
+    Ok(all)
 }
 
 fn params(alloc: Global, cursor: &mut Cursor<'_>) -> Result<ParamList, Stop>
@@ -85,18 +74,23 @@ fn params(alloc: Global, cursor: &mut Cursor<'_>) -> Result<ParamList, Stop>
         return Ok(all);
     }
     all.push(param(cursor, 0)?)?;
-    let all = listed_params(cursor, all)?;
+    let all = more_params(cursor, all)?;
     cursor.take(Mark::ParenClose)?;
     Ok(all)
 }
 
-fn function_behind(
+fn function_parts(
     alloc: Global,
     cursor: &mut Cursor<'_>,
     at: u32,
     name: Name,
 ) -> Result<Function, Stop>
-    ensures { Gives function_of result (seq params (λ ps. seq (block 32) (λ body. ret (record { at = at; name = name; params = ps; body = body }))) cursor.old) cursor.new }
+    ensures { Gives function_of result
+        (seq params
+        (λ ps. seq (block MAX_NESTING)
+        (λ body. ret (record { at = at; name = name; params = ps; body = body })))
+        cursor.old)
+        cursor.new }
 {
     let params = params(alloc, cursor)?;
     let body = block(alloc, cursor, MAX_NESTING)?;
@@ -114,17 +108,18 @@ fn function(alloc: Global, cursor: &mut Cursor<'_>) -> Result<Function, Stop>
 {
     cursor.take(Mark::Fn)?;
     let (at, name) = cursor.declared()?;
-    function_behind(alloc, cursor, at, name)
+    function_parts(alloc, cursor, at, name)
 }
 
-fn another_function(
+fn push_function(
     alloc: Global,
     cursor: &mut Cursor<'_>,
-    had: FunctionList,
+    earlier: FunctionList,
 ) -> Result<FunctionList, Stop>
-    ensures { Gives (λ v. map function_of v.items) result (put (λ n. function) (map function_of had.items) cursor.old) cursor.new }
+    ensures { Gives (λ v. map function_of v.items) result
+        (put (λ n. function) (map function_of earlier.items) cursor.old) cursor.new }
 {
-    let mut all = had;
+    let mut all = earlier;
     let next = function(alloc, cursor)?;
     all.push(next)?;
     Ok(all)
@@ -133,21 +128,16 @@ fn another_function(
 fn functions(
     alloc: Global,
     cursor: &mut Cursor<'_>,
-    had: FunctionList,
+    earlier: FunctionList,
 ) -> Result<FunctionList, Stop>
-    ensures { Gives (λ v. map function_of v.items) result (each many is_no_end (λ n. function) (map function_of had.items) cursor.old) cursor.new }
+    ensures { Gives (λ v. map function_of v.items) result
+        (each is_no_end (λ n. function) (map function_of earlier.items) cursor.old) cursor.new }
 {
-    let mut all = had;
-    for _ in 0..TURNS {
-        if !cursor.goes_on() {
-            return Ok(all);
-        }
-        match another_function(alloc, cursor, all) {
-            Ok(more) => all = more,
-            Err(stop) => return Err(stop),
-        }
+    let mut all = earlier;
+    while cursor.goes_on() {
+        all = push_function(alloc, cursor, all)?;
     }
-    Err(Stop::At(Obstacle::Turns))
+    Ok(all)
 }
 
 /// A contract, up to the end of the source.

@@ -1,8 +1,6 @@
 //! Sources of the contract language as trees, and trees as their canonical text.
 #![tactic(auto)]
 
-mod build;
-mod expression;
 mod function;
 mod source;
 mod statement;

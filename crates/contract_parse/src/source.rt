@@ -1,17 +1,14 @@
 //! A whole source.
 
-ghost use Rattle.std.specs.Prelude.{◌≡◌, ◌<◌, ◌^◌, ℕ, List, length, IfOk, IfErr};
-ghost use Rattle.contract_tokens.specs.declared.token.Token.{Token};
-ghost use Rattle.contract_tokens.specs.declared.token.TokenKind.{TokenKind};
-ghost use Rattle.contract_tree.specs.Tree.{FunctionTree, contract_of};
+ghost use Rattle.std.specs.Prelude.{◌≡◌, ◌<◌, ◌^◌, length};
+ghost use Rattle.lc_base.specs.Answers.{Answers};
+ghost use Rattle.contract_tree.specs.Tree.{contract_of};
 ghost use Rattle.contract_grammar.specs.Marks.{is_end};
 ghost use Rattle.contract_grammar.specs.Reading.{contract};
-ghost use Rattle.contract_parse.specs.Syntax.{refusal, unfit_kind, ReadsAs, SyntaxFault, IsFaultOf, IsContractOr, IsRefusedOr, token_kind, told, told_at, Answers};
-ghost use Rattle.contract_parse.specs.declared.source.SyntaxKind.{SyntaxKind as KindOf};
+ghost use Rattle.contract_parse.specs.Syntax.{refusal, unfit_kind, Outcome, IsOutcome, HasOneOutcome, HasOneObstacle, fault_of, token_kind, stop_fault, obstacle_fault, reading_outcome};
 
 use crate::function::contract;
-use contract_cursor::{Cursor, Stop, is_end};
-use contract_grammar::Obstacle;
+use contract_grammar::{Cursor, Obstacle, Stop, is_end};
 use contract_tokens::{Token, TokenError, TokenKind, Tokens};
 use contract_tree::Contract;
 use std::alloc::Global;
@@ -23,7 +20,8 @@ pub enum SyntaxKind {
     Byte,
     /// A number, text literal or name that breaks its rule.
     Literal,
-    /// A token that doesn't fit, a builtin's name in a declaration, or the name of a ninth parameter.
+    /// A token that doesn't fit, a builtin's name in a declaration, or the name of a parameter too
+    /// many.
     Expected,
     /// The source ends too early.
     End,
@@ -36,12 +34,12 @@ pub enum SyntaxKind {
 pub enum SyntaxError {
     /// The first fault of the source.
     Refused {
-        /// Its place, from 0.
+        /// Its offset.
         at: u32,
         /// What is wrong there.
         kind: SyntaxKind,
     },
-    /// No memory was to be had.
+    /// Out of memory.
     Memory,
 }
 
@@ -54,13 +52,13 @@ fn token_kind(kind: TokenKind) -> SyntaxKind
     }
 }
 
-fn told_at(why: Obstacle, token: &Token) -> (u32, SyntaxKind)
-    ensures { result ≡ told_at why token.now }
+fn obstacle_fault(why: Obstacle, token: &Token) -> (u32, SyntaxKind)
+    ensures { result ≡ obstacle_fault why token.now }
 {
     match why {
         Obstacle::Unfit => (token.at, unfit_kind(token)),
         Obstacle::Surplus => (token.at, SyntaxKind::Expected),
-        Obstacle::Pending | Obstacle::Nesting | Obstacle::Turns => (token.at, SyntaxKind::Deep),
+        Obstacle::Pending | Obstacle::Nesting => (token.at, SyntaxKind::Deep),
         Obstacle::Height(at) => (at, SyntaxKind::Deep),
     }
 }
@@ -75,12 +73,12 @@ fn unfit_kind(token: &Token) -> SyntaxKind
     }
 }
 
-fn told(why: Obstacle, cursor: &Cursor<'_>) -> (u32, SyntaxKind)
-    ensures { result ≡ told why cursor.now }
+fn stop_fault(why: Obstacle, cursor: &Cursor<'_>) -> (u32, SyntaxKind)
+    ensures { result ≡ stop_fault why cursor.now }
 {
     match cursor.next() {
         None => (0, SyntaxKind::End),
-        Some(token) => told_at(why, token),
+        Some(token) => obstacle_fault(why, token),
     }
 }
 
@@ -97,7 +95,7 @@ fn refusal(error: TokenError) -> SyntaxError
 }
 
 fn read(alloc: Global, tokens: Tokens<'_>) -> Result<Contract, SyntaxError>
-    ensures { Answers result (contract tokens.entry) }
+    ensures { Answers contract_of fault_of result (reading_outcome (contract tokens.entry)) }
 {
     let Ok(mut cursor) = Cursor::new(tokens) else {
         return Err(SyntaxError::Memory);
@@ -106,23 +104,23 @@ fn read(alloc: Global, tokens: Tokens<'_>) -> Result<Contract, SyntaxError>
         Ok(contract) => Ok(contract),
         Err(Stop::Memory) => Err(SyntaxError::Memory),
         Err(Stop::At(why)) => {
-            let (at, kind) = told(why, &cursor);
+            let (at, kind) = stop_fault(why, &cursor);
             Err(SyntaxError::Refused { at, kind })
         }
     }
 }
 
-/// The contract that a source is.
+/// The contract that a source is. Each source has one outcome: it reads as a contract, or it has a
+/// first fault.
 ///
 /// # Errors
 ///
 /// The first fault of the source, or `Memory`.
 pub fn parse(alloc: Global, source: &[u8]) -> Result<Contract, SyntaxError>
     requires { length source.now < 2 ^ 32 }
-    ensures found { IfOk result (λ c. ReadsAs source.now (contract_of c)) }
-    ensures only { (all : List FunctionTree) → ReadsAs source.now all → IsContractOr all result }
-    ensures refused { IfErr result (IsFaultOf source.now) }
-    ensures fault { (at : ℕ) (kind : KindOf) → SyntaxFault source.now at kind → IsRefusedOr at kind result }
+    ensures outcome { (outcome : Outcome) × IsOutcome source.now outcome × Answers contract_of fault_of result outcome }
+    ensures once { HasOneOutcome source.now }
+    ensures one_fault { HasOneObstacle source.now }
 {
     match Tokens::new(alloc, source) {
         Ok(tokens) => read(alloc, tokens),

@@ -6,35 +6,34 @@ ghost use Rattle.contract_tree.specs.Tree as tree;
 ghost use Rattle.contract_tokens.specs.declared.token.Mark.TheVariants as m;
 ghost use Rattle.contract_grammar.specs.Marks.{is, is_not};
 ghost use Rattle.contract_grammar.specs.declared.Obstacle.TheVariants.{Nesting};
-ghost use Rattle.contract_grammar.specs.Rules.{each, many, put, seq, ret, closed};
-ghost use Rattle.contract_grammar.specs.Reading.{expression, after, before, value_of, let_statement, assign_statement, else_part, if_statement, while_statement, from_part, put_statement, short_statement, statement, block_of, block};
-ghost use Rattle.contract_cursor.specs.Reads.{Gives};
+ghost use Rattle.contract_grammar.specs.Rules.{each, put, seq, ret, refuse};
+ghost use Rattle.contract_grammar.specs.Reading.{expression, preceded, terminated, value_of, let_statement, assign_statement, else_part, if_statement, while_statement, from_part, put_statement, short_statement, statement, block_of, block};
+ghost use Rattle.contract_grammar.specs.Reads.{Gives};
 
-use crate::expression::{TURNS, expression, expressions};
-use contract_cursor::{Cursor, Stop};
-use contract_grammar::Obstacle;
+use contract_expression::{expression, expressions};
+use contract_grammar::{Cursor, Obstacle, Stop};
 use contract_tokens::Mark;
 use contract_tree::{Expr, ExprList, Form, Statement, StatementList};
 use lc_base::Name;
 use std::alloc::Global;
 
-fn ended(cursor: &mut Cursor<'_>, statement: Statement) -> Result<Statement, Stop>
-    ensures { Gives statement_of result (before m.Semicolon (statement_of statement) cursor.old) cursor.new }
+fn end_statement(cursor: &mut Cursor<'_>, statement: Statement) -> Result<Statement, Stop>
+    ensures { Gives statement_of result (terminated m.Semicolon (statement_of statement) cursor.old)
+        cursor.new }
 {
-    match cursor.take(Mark::Semicolon) {
-        Ok(_) => Ok(statement),
-        Err(stop) => Err(stop),
-    }
+    cursor.take(Mark::Semicolon)?;
+    Ok(statement)
 }
 
-fn declared(
+fn let_value(
     alloc: Global,
     cursor: &mut Cursor<'_>,
     at: u32,
     name_at: u32,
     name: Name,
 ) -> Result<Statement, Stop>
-    ensures { Gives statement_of result (value_of (tree.Let at name_at name) cursor.old) cursor.new }
+    ensures { Gives statement_of result (value_of (tree.Let at name_at name) cursor.old)
+        cursor.new }
 {
     cursor.take(Mark::Assign)?;
     let value = expression(alloc, cursor)?;
@@ -43,7 +42,7 @@ fn declared(
         name,
         value,
     };
-    ended(cursor, Statement { at, form })
+    end_statement(cursor, Statement { at, form })
 }
 
 fn let_statement(alloc: Global, cursor: &mut Cursor<'_>) -> Result<Statement, Stop>
@@ -51,23 +50,28 @@ fn let_statement(alloc: Global, cursor: &mut Cursor<'_>) -> Result<Statement, St
 {
     let at = cursor.take(Mark::Let)?;
     let (name_at, name) = cursor.declared()?;
-    declared(alloc, cursor, at, name_at, name)
+    let_value(alloc, cursor, at, name_at, name)
 }
 
-fn assigned(alloc: Global, cursor: &mut Cursor<'_>, at: u32, name: Name) -> Result<Statement, Stop>
+fn assign_value(
+    alloc: Global,
+    cursor: &mut Cursor<'_>,
+    at: u32,
+    name: Name,
+) -> Result<Statement, Stop>
     ensures { Gives statement_of result (value_of (tree.Assign at name) cursor.old) cursor.new }
 {
     cursor.take(Mark::Assign)?;
     let value = expression(alloc, cursor)?;
     let form = Form::Assign { name, value };
-    ended(cursor, Statement { at, form })
+    end_statement(cursor, Statement { at, form })
 }
 
 fn assign_statement(alloc: Global, cursor: &mut Cursor<'_>) -> Result<Statement, Stop>
     ensures { Gives statement_of result (assign_statement cursor.old) cursor.new }
 {
     let (at, name) = cursor.name()?;
-    assigned(alloc, cursor, at, name)
+    assign_value(alloc, cursor, at, name)
 }
 
 fn from_part(alloc: Global, cursor: &mut Cursor<'_>) -> Result<Option<ExprList>, Stop>
@@ -89,19 +93,22 @@ fn put_end(
     key: Expr,
     value: Expr,
 ) -> Result<Statement, Stop>
-    ensures { Gives statement_of result (seq from_part (λ parts. ret (tree.Put at (tree_of key) (tree_of value) parts)) cursor.old) cursor.new }
+    ensures { Gives statement_of result
+        (seq from_part (λ parts. ret (tree.Put at (tree_of key) (tree_of value) parts)) cursor.old)
+        cursor.new }
 {
-    match from_part(alloc, cursor) {
-        Ok(from) => {
-            let form = Form::Put { key, value, from };
-            Ok(Statement { at, form })
-        }
-        Err(stop) => Err(stop),
-    }
+    let from = from_part(alloc, cursor)?;
+    let form = Form::Put { key, value, from };
+    Ok(Statement { at, form })
 }
 
 fn put_value(alloc: Global, cursor: &mut Cursor<'_>, at: u32, key: Expr) -> Result<Statement, Stop>
-    ensures { Gives statement_of result (after m.Assign (seq expression (λ value. seq from_part (λ parts. ret (tree.Put at (tree_of key) value parts)))) cursor.old) cursor.new }
+    ensures { Gives statement_of result
+        (preceded m.Assign
+        (seq expression
+        (λ value. seq from_part (λ parts. ret (tree.Put at (tree_of key) value parts))))
+        cursor.old)
+        cursor.new }
 {
     cursor.take(Mark::Assign)?;
     let value = expression(alloc, cursor)?;
@@ -120,7 +127,7 @@ fn fail_statement(cursor: &mut Cursor<'_>) -> Result<Statement, Stop>
     ensures { Gives statement_of result (short_statement m.Fail tree.Fail cursor.old) cursor.new }
 {
     let at = cursor.take(Mark::Fail)?;
-    ended(
+    end_statement(
         cursor,
         Statement {
             at,
@@ -130,10 +137,11 @@ fn fail_statement(cursor: &mut Cursor<'_>) -> Result<Statement, Stop>
 }
 
 fn return_statement(cursor: &mut Cursor<'_>) -> Result<Statement, Stop>
-    ensures { Gives statement_of result (short_statement m.Return tree.Return cursor.old) cursor.new }
+    ensures { Gives statement_of result (short_statement m.Return tree.Return cursor.old)
+        cursor.new }
 {
     let at = cursor.take(Mark::Return)?;
-    ended(
+    end_statement(
         cursor,
         Statement {
             at,
@@ -142,19 +150,20 @@ fn return_statement(cursor: &mut Cursor<'_>) -> Result<Statement, Stop>
     )
 }
 
-fn closed(cursor: &mut Cursor<'_>, all: StatementList) -> Result<StatementList, Stop>
-    ensures { Gives (λ v. statement_list (map statement_of v.items)) result (before m.BraceClose (statement_list (map statement_of all.items)) cursor.old) cursor.new }
+fn close_block(cursor: &mut Cursor<'_>, all: StatementList) -> Result<StatementList, Stop>
+    ensures { Gives (λ v. statement_list (map statement_of v.items)) result
+        (terminated m.BraceClose (statement_list (map statement_of all.items)) cursor.old)
+        cursor.new }
 {
-    match cursor.take(Mark::BraceClose) {
-        Ok(_) => Ok(all),
-        Err(stop) => Err(stop),
-    }
+    cursor.take(Mark::BraceClose)?;
+    Ok(all)
 }
 
-fn no_block(cursor: &mut Cursor<'_>) -> Result<StatementList, Stop>
-    ensures { Gives (λ v. statement_list (map statement_of v.items)) result (closed Nesting (is m.BraceOpen) cursor.old) cursor.new }
+fn refuse_block(cursor: &mut Cursor<'_>) -> Result<StatementList, Stop>
+    ensures { Gives (λ v. statement_list (map statement_of v.items)) result
+        (refuse Nesting (is m.BraceOpen) cursor.old) cursor.new }
 {
-    Err(cursor.refused(cursor.next_is(Mark::BraceOpen), Obstacle::Nesting))
+    Err(cursor.refusal(cursor.next_is(Mark::BraceOpen), Obstacle::Nesting))
 }
 
 #[cycle(block)]
@@ -166,10 +175,13 @@ fn else_part(
     test: Expr,
     first: StatementList,
 ) -> Result<Statement, Stop>
-    ensures { Gives statement_of result (else_part (block nesting) at (tree_of test) (statement_list (map statement_of first.items)) cursor.old) cursor.new }
+    ensures { Gives statement_of result
+        (else_part (block nesting) at (tree_of test) (statement_list (map statement_of first.items))
+        cursor.old)
+        cursor.new }
 {
     if cursor.next_is(Mark::Else) {
-        return else_behind(alloc, cursor, nesting, at, test, first);
+        return else_block(alloc, cursor, nesting, at, test, first);
     }
     let form = Form::If {
         test,
@@ -180,7 +192,7 @@ fn else_part(
 }
 
 #[cycle(block)]
-fn else_behind(
+fn else_block(
     alloc: Global,
     cursor: &mut Cursor<'_>,
     nesting: u32,
@@ -188,12 +200,17 @@ fn else_behind(
     test: Expr,
     first: StatementList,
 ) -> Result<Statement, Stop>
-    ensures { Gives statement_of result (after m.Else (seq (block nesting) (λ second. ret (tree.IfElse at (tree_of test) (statement_list (map statement_of first.items)) second))) cursor.old) cursor.new }
+    ensures { Gives statement_of result
+        (preceded m.Else
+        (seq (block nesting)
+        (λ second. ret
+        (tree.IfElse at (tree_of test) (statement_list (map statement_of first.items))
+        second)))
+        cursor.old)
+        cursor.new }
 {
-    match cursor.take(Mark::Else) {
-        Ok(_) => second_block(alloc, cursor, nesting, at, test, first),
-        Err(stop) => Err(stop),
-    }
+    cursor.take(Mark::Else)?;
+    second_block(alloc, cursor, nesting, at, test, first)
 }
 
 #[cycle(block)]
@@ -205,35 +222,36 @@ fn second_block(
     test: Expr,
     first: StatementList,
 ) -> Result<Statement, Stop>
-    ensures { Gives statement_of result (seq (block nesting) (λ second. ret (tree.IfElse at (tree_of test) (statement_list (map statement_of first.items)) second)) cursor.old) cursor.new }
+    ensures { Gives statement_of result
+        (seq (block nesting)
+        (λ second. ret
+        (tree.IfElse at (tree_of test) (statement_list (map statement_of first.items))
+        second))
+        cursor.old)
+        cursor.new }
 {
-    match block(alloc, cursor, nesting) {
-        Ok(second) => {
-            let form = Form::If {
-                test,
-                first,
-                second: Some(second),
-            };
-            Ok(Statement { at, form })
-        }
-        Err(stop) => Err(stop),
-    }
+    let second = block(alloc, cursor, nesting)?;
+    let form = Form::If {
+        test,
+        first,
+        second: Some(second),
+    };
+    Ok(Statement { at, form })
 }
 
 #[cycle(block)]
-fn if_behind(
+fn if_blocks(
     alloc: Global,
     cursor: &mut Cursor<'_>,
     nesting: u32,
     at: u32,
     test: Expr,
 ) -> Result<Statement, Stop>
-    ensures { Gives statement_of result (seq (block nesting) (else_part (block nesting) at (tree_of test)) cursor.old) cursor.new }
+    ensures { Gives statement_of result
+        (seq (block nesting) (else_part (block nesting) at (tree_of test)) cursor.old) cursor.new }
 {
-    match block(alloc, cursor, nesting) {
-        Ok(first) => else_part(alloc, cursor, nesting, at, test, first),
-        Err(stop) => Err(stop),
-    }
+    let first = block(alloc, cursor, nesting)?;
+    else_part(alloc, cursor, nesting, at, test, first)
 }
 
 #[cycle(block)]
@@ -242,26 +260,24 @@ fn if_statement(alloc: Global, cursor: &mut Cursor<'_>, nesting: u32) -> Result<
 {
     let at = cursor.take(Mark::If)?;
     let test = expression(alloc, cursor)?;
-    if_behind(alloc, cursor, nesting, at, test)
+    if_blocks(alloc, cursor, nesting, at, test)
 }
 
 #[cycle(block)]
-fn while_behind(
+fn while_block(
     alloc: Global,
     cursor: &mut Cursor<'_>,
     nesting: u32,
     at: u32,
     test: Expr,
 ) -> Result<Statement, Stop>
-    ensures { Gives statement_of result (seq (block nesting) (λ body. ret (tree.While at (tree_of test) body)) cursor.old) cursor.new }
+    ensures { Gives statement_of result
+        (seq (block nesting) (λ body. ret (tree.While at (tree_of test) body)) cursor.old)
+        cursor.new }
 {
-    match block(alloc, cursor, nesting) {
-        Ok(body) => {
-            let form = Form::While { test, body };
-            Ok(Statement { at, form })
-        }
-        Err(stop) => Err(stop),
-    }
+    let body = block(alloc, cursor, nesting)?;
+    let form = Form::While { test, body };
+    Ok(Statement { at, form })
 }
 
 #[cycle(block)]
@@ -270,7 +286,7 @@ fn while_statement(alloc: Global, cursor: &mut Cursor<'_>, nesting: u32) -> Resu
 {
     let at = cursor.take(Mark::While)?;
     let test = expression(alloc, cursor)?;
-    while_behind(alloc, cursor, nesting, at, test)
+    while_block(alloc, cursor, nesting, at, test)
 }
 
 #[cycle(block)]
@@ -299,15 +315,17 @@ fn statement(alloc: Global, cursor: &mut Cursor<'_>, nesting: u32) -> Result<Sta
 }
 
 #[cycle(block)]
-fn another(
+fn push_statement(
     alloc: Global,
     cursor: &mut Cursor<'_>,
     nesting: u32,
-    had: StatementList,
+    earlier: StatementList,
 ) -> Result<StatementList, Stop>
-    ensures { Gives (λ v. map statement_of v.items) result (put (λ n. statement (block nesting)) (map statement_of had.items) cursor.old) cursor.new }
+    ensures { Gives (λ v. map statement_of v.items) result
+        (put (λ n. statement (block nesting)) (map statement_of earlier.items) cursor.old)
+        cursor.new }
 {
-    let mut all = had;
+    let mut all = earlier;
     let next = statement(alloc, cursor, nesting)?;
     all.push(next)?;
     Ok(all)
@@ -315,48 +333,44 @@ fn another(
 
 #[cycle(block)]
 fn statements(alloc: Global, cursor: &mut Cursor<'_>, nesting: u32) -> Result<StatementList, Stop>
-    ensures { Gives (λ v. map statement_of v.items) result (each many (is_not m.BraceClose) (λ n. statement (block nesting)) [] cursor.old) cursor.new }
+    ensures { Gives (λ v. map statement_of v.items) result
+        (each (is_not m.BraceClose) (λ n. statement (block nesting)) [] cursor.old) cursor.new }
 {
     let mut all = Vec::new(alloc);
-    for _ in 0..TURNS {
-        if !cursor.next_is_other(Mark::BraceClose) {
-            return Ok(all);
-        }
-        match another(alloc, cursor, nesting, all) {
-            Ok(more) => all = more,
-            Err(stop) => return Err(stop),
-        }
+    while cursor.next_is_other(Mark::BraceClose) {
+        all = push_statement(alloc, cursor, nesting, all)?;
     }
-    Err(Stop::At(Obstacle::Turns))
+    Ok(all)
 }
 
 #[cycle(block)]
 fn block_rest(alloc: Global, cursor: &mut Cursor<'_>, nesting: u32) -> Result<StatementList, Stop>
-    ensures { Gives (λ v. statement_list (map statement_of v.items)) result (seq (each many (is_not m.BraceClose) (λ n. statement (block nesting)) []) (λ ss. before m.BraceClose (statement_list ss)) cursor.old) cursor.new }
+    ensures { Gives (λ v. statement_list (map statement_of v.items)) result
+        (seq (each (is_not m.BraceClose) (λ n. statement (block nesting)) [])
+        (λ ss. terminated m.BraceClose (statement_list ss)) cursor.old)
+        cursor.new }
 {
-    match statements(alloc, cursor, nesting) {
-        Ok(all) => closed(cursor, all),
-        Err(stop) => Err(stop),
-    }
+    let all = statements(alloc, cursor, nesting)?;
+    close_block(cursor, all)
 }
 
 #[cycle(block)]
-fn block_inside(alloc: Global, cursor: &mut Cursor<'_>, nesting: u32) -> Result<StatementList, Stop>
-    ensures { Gives (λ v. statement_list (map statement_of v.items)) result (block_of (block nesting) cursor.old) cursor.new }
+fn open_block(alloc: Global, cursor: &mut Cursor<'_>, nesting: u32) -> Result<StatementList, Stop>
+    ensures { Gives (λ v. statement_list (map statement_of v.items)) result
+        (block_of (block nesting) cursor.old) cursor.new }
 {
-    match cursor.take(Mark::BraceOpen) {
-        Ok(_) => block_rest(alloc, cursor, nesting),
-        Err(stop) => Err(stop),
-    }
+    cursor.take(Mark::BraceOpen)?;
+    block_rest(alloc, cursor, nesting)
 }
 
 /// A block, where so many more may be nested, itself counted.
 #[cycle(block)]
 pub fn block(alloc: Global, cursor: &mut Cursor<'_>, nesting: u32) -> Result<StatementList, Stop>
-    ensures { Gives (λ v. statement_list (map statement_of v.items)) result (block nesting cursor.old) cursor.new }
+    ensures { Gives (λ v. statement_list (map statement_of v.items)) result
+        (block nesting cursor.old) cursor.new }
 {
     if nesting == 0 {
-        return no_block(cursor);
+        return refuse_block(cursor);
     }
-    block_inside(alloc, cursor, nesting - 1)
+    open_block(alloc, cursor, nesting - 1)
 }

@@ -4,3 +4,4 @@ pub mod Printed
 pub mod Reread
 pub mod RereadStatements
 pub mod RereadContracts
+pub mod WithoutOffsets

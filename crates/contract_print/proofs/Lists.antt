@@ -6,11 +6,11 @@ use Rattle.contract_tree.specs.declared.tree.Expr.{Expr}
 use Rattle.contract_tree.specs.declared.tree.Statement.{Statement}
 use Rattle.contract_tree.specs.declared.tree.Function.{Function}
 use Rattle.contract_tree.specs.Tree.{tree_of, trees, statement_of, statement_list, function_of}
-use Rattle.contract_print.specs.Canonical.{expression_text, args_text, behind_text, statement_text, statements_text, function_text, functions_behind, contract_text, deeper}
+use Rattle.contract_print.specs.Canonical.{expression_text, args_text, more_args_text, statement_text, statements_text, function_text, more_functions_text, contract_text, deeper}
 
-pub behind_is : (xs : List Expr) → behind_text (trees (map tree_of xs)) ≡ flat_map (λ x. codes ", " ++ expression_text (tree_of x)) xs
-behind_is [] = refl
-behind_is (x ∷ xs) = ap (λ l. (codes ", " ++ expression_text (tree_of x)) ++ l) (behind_is xs)
+pub after_is : (xs : List Expr) → more_args_text (trees (map tree_of xs)) ≡ flat_map (λ x. codes ", " ++ expression_text (tree_of x)) xs
+after_is [] = refl
+after_is (x ∷ xs) = ap (λ l. (codes ", " ++ expression_text (tree_of x)) ++ l) (after_is xs)
 
 pub statements_are : (margin : List ℕ) (xs : List Statement) → statements_text margin (statement_list (map statement_of xs)) ≡ flat_map (λ x. statement_text margin (statement_of x)) xs
 statements_are margin [] = refl
@@ -20,18 +20,18 @@ pub functions_are : (fs : List Function) → flat_map (λ f. codes "\n" ++ funct
 functions_are [] = refl
 functions_are (f ∷ fs) = ap (λ l. (codes "\n" ++ function_text (function_of f)) ++ l) (functions_are fs)
 
--- the items behind the first, all written
-abbrev pub Behind : Expr → List ℕ
-Behind x = codes ", " ++ expression_text (tree_of x)
+-- the items after the first, all written
+abbrev pub After : Expr → List ℕ
+After x = codes ", " ++ expression_text (tree_of x)
 
-pub args_written : (args : List Expr) (first : Expr) (out mid after : List ℕ) (i : ℕ) → 1 ≤ length args → first ≡ get_or args 0 first → mid ≡ out ++ expression_text (tree_of first) → after ≡ mid ++ flat_map Behind (take i (take (length args - 1) (drop 1 args))) → length (take (length args - 1) (drop 1 args)) ≤ i → after ≡ out ++ args_text (trees (map tree_of args))
+pub args_written : (args : List Expr) (first : Expr) (out mid after : List ℕ) (i : ℕ) → 1 ≤ length args → first ≡ get_or args 0 first → mid ≡ out ++ expression_text (tree_of first) → after ≡ mid ++ flat_map After (take i (take (length args - 1) (drop 1 args))) → length (take (length args - 1) (drop 1 args)) ≤ i → after ≡ out ++ args_text (trees (map tree_of args))
 args_written [] first out mid after i some f e g h = absurd (omega arith)
 args_written (y ∷ ys) first out mid after i some f e g h =
     let rest : take (length (y ∷ ys) - 1) (drop 1 (y ∷ ys)) ≡ ys = take_rest (y ∷ ys) 1 in
     let all : take i (take (length (y ∷ ys) - 1) (drop 1 (y ∷ ys))) ≡ ys = take_all i (take (length (y ∷ ys) - 1) (drop 1 (y ∷ ys))) h ∙ rest in
-    let text : flat_map Behind (take i (take (length (y ∷ ys) - 1) (drop 1 (y ∷ ys)))) ≡ behind_text (trees (map tree_of ys)) = ap (flat_map Behind) all ∙ sym (behind_is ys) in
+    let text : flat_map After (take i (take (length (y ∷ ys) - 1) (drop 1 (y ∷ ys)))) ≡ more_args_text (trees (map tree_of ys)) = ap (flat_map After) all ∙ sym (after_is ys) in
     let start : mid ≡ out ++ expression_text (tree_of y) = e ∙ ap (λ x. out ++ expression_text (tree_of x)) f in
-    g ∙ ap (λ l. l ++ flat_map Behind (take i (take (length (y ∷ ys) - 1) (drop 1 (y ∷ ys))))) start ∙ ap (λ l. (out ++ expression_text (tree_of y)) ++ l) text ∙ append_assoc out (expression_text (tree_of y)) (behind_text (trees (map tree_of ys)))
+    g ∙ ap (λ l. l ++ flat_map After (take i (take (length (y ∷ ys) - 1) (drop 1 (y ∷ ys))))) start ∙ ap (λ l. (out ++ expression_text (tree_of y)) ++ l) text ∙ append_assoc out (expression_text (tree_of y)) (more_args_text (trees (map tree_of ys)))
 
 pub body_written : (margin start inner : List ℕ) (body : List Statement) (out after : List ℕ) (i : ℕ) → start ≡ margin → inner ≡ start ++ codes "  " → after ≡ out ++ flat_map (λ x. statement_text inner (statement_of x)) (take i body) → length body ≤ i → after ≡ out ++ statements_text (deeper margin) (statement_list (map statement_of body))
 body_written margin start inner body out after i e f g h =
@@ -47,9 +47,9 @@ functions_all [] first out mid after some f e g = absurd (omega arith)
 functions_all (y ∷ ys) first out mid after some f e g =
     let next = λ (l : List Function). flat_map (λ f. codes "\n" ++ function_text (function_of f)) l in
     let rest : take (length (y ∷ ys) - 1) (drop 1 (y ∷ ys)) ≡ ys = take_rest (y ∷ ys) 1 in
-    let text : next (take (length (y ∷ ys) - 1) (drop 1 (y ∷ ys))) ≡ functions_behind (map function_of ys) = ap next rest ∙ sym (functions_are ys) in
+    let text : next (take (length (y ∷ ys) - 1) (drop 1 (y ∷ ys))) ≡ more_functions_text (map function_of ys) = ap next rest ∙ sym (functions_are ys) in
     let start : mid ≡ out ++ function_text (function_of y) = e ∙ ap (λ x. out ++ function_text (function_of x)) f in
-    g ∙ ap (λ l. l ++ next (take (length (y ∷ ys) - 1) (drop 1 (y ∷ ys)))) start ∙ ap (λ l. (out ++ function_text (function_of y)) ++ l) text ∙ append_assoc out (function_text (function_of y)) (functions_behind (map function_of ys))
+    g ∙ ap (λ l. l ++ next (take (length (y ∷ ys) - 1) (drop 1 (y ∷ ys)))) start ∙ ap (λ l. (out ++ function_text (function_of y)) ++ l) text ∙ append_assoc out (function_text (function_of y)) (more_functions_text (map function_of ys))
 
 pub functions_written : {T F : Type 0} (r : Result T F) (fs : List Function) (first : Function) (out mid after : List ℕ) → 1 ≤ length fs → first ≡ get_or fs 0 first → mid ≡ out ++ function_text (function_of first) → OnOk r (after ≡ mid ++ flat_map (λ f. codes "\n" ++ function_text (function_of f)) (take (length fs - 1) (drop 1 fs))) → OnOk r (after ≡ out ++ contract_text (map function_of fs))
 functions_written r fs first out mid after some f e h = on_ok r (functions_all fs first out mid after some f e) h

@@ -8,7 +8,6 @@ use Rattle.contract_tokens.specs.declared.token.Word.TheVariants as w
 use Rattle.contract_tokens.specs.declared.token.Mark.{Mark}
 use Rattle.contract_tokens.specs.declared.token.Mark.TheVariants as m
 use Rattle.contract_tokens.specs.Lexemes.{is_digit}
-use Rattle.contract_tokens.specs.Spelling.{spelling}
 use Rattle.contract_tokens.specs.Tokens.{IsTokens}
 use Rattle.contract_tokens.proofs.Runs.{Stops}
 use Rattle.contract_tokens.proofs.Marks.{first_is}
@@ -16,16 +15,17 @@ use Rattle.contract_tree.specs.declared.tree.Sign.{Sign}
 use Rattle.contract_tree.specs.declared.tree.Sign.TheVariants as s
 use Rattle.contract_tree.specs.Tree.{Tree, Trees, none, more, trees, height, heights, erase, erase_all}
 use Rattle.contract_tree.specs.Tree as tree
+use Rattle.contract_grammar.specs.declared.limits.TheConstants.{MAX_PENDING, MAX_HEIGHT, WHOLE}
 use Rattle.contract_grammar.specs.Grammar.{limits, is_chained, IsExpr, Number, Literal, Named, Called, Prefixed, Grouped, Tighter, Chained, Compared, IsArgs, NoArgs, Args, IsMore, Last, More}
-use Rattle.contract_grammar.specs.Marks.{placed, level_in, sign_in, the, is_end, int_of, text_of, name_of, callee_of, prefix_of, sign_of}
+use Rattle.contract_grammar.specs.Marks.{with_offset, level_in, sign_in, the, is_end, int_of, text_of, name_of, callee_of, prefix_of, sign_of}
 use Rattle.contract_grammar.proofs.Laws.{no_false, IsOne, One}
 use Rattle.contract_grammar.proofs.Sequence.{IsSeq, Seq}
 use Rattle.contract_grammar.proofs.Choice.{IsEach, Nothing, Each}
 use Rattle.contract_grammar.proofs.Operands.{close_args}
 use Rattle.contract_grammar.proofs.Expressions.{expression_is}
-use Rattle.contract_print.specs.Canonical.{sign_text, is_compound, wrapped, expression_text, args_text, behind_text}
+use Rattle.contract_print.specs.Canonical.{mark_of_sign, sign_text, is_compound, wrapped, expression_text, args_text, more_args_text}
 use Rattle.contract_print.proofs.Respelled.{word_text, goes_on, sign_goes_on, IsWord, mark_word, int_in, name_first}
-use Rattle.contract_print.proofs.Printed.{IsPrinted, IsWordOf, Said, Both, Pair, word_printed, both, gap_behind, mapped, stopped, spelled_as, breaks, break_word}
+use Rattle.contract_print.proofs.Printed.{IsPrinted, IsWordOf, Said, Both, Pair, word_printed, both, gap_after, mapped, stopped, spelled_as, breaks, break_word}
 
 -- each token but the end says a word of a source
 abbrev pub AllWords : List Token → Type 0
@@ -50,45 +50,10 @@ name_word t n e = grind arith
 callee_word : (t : Token) (n : ℕ × List ℕ) → callee_of t ≡ Some n → ((t.word ≡ w.Name n.1) × (is_end t ≡ false)) ⊎ (n.1 ≡ codes "text")
 callee_word t n e = grind arith
 
-mark_of : Sign → Mark
-mark_of s.Or = m.Or
-mark_of s.And = m.And
-mark_of s.Equal = m.Equal
-mark_of s.NotEqual = m.NotEqual
-mark_of s.Less = m.Less
-mark_of s.LessEqual = m.LessEqual
-mark_of s.Greater = m.Greater
-mark_of s.GreaterEqual = m.GreaterEqual
-mark_of s.Concat = m.Concat
-mark_of s.Plus = m.Plus
-mark_of s.Minus = m.Minus
-mark_of s.Star = m.Star
-mark_of s.Slash = m.Slash
-mark_of s.Percent = m.Percent
-mark_of s.Not = m.Not
-
-sign_spelled : (sign : Sign) → spelling (mark_of sign) ≡ sign_text sign
-unfolding mark_of
-sign_spelled s.Or = refl
-sign_spelled s.And = refl
-sign_spelled s.Equal = refl
-sign_spelled s.NotEqual = refl
-sign_spelled s.Less = refl
-sign_spelled s.LessEqual = refl
-sign_spelled s.Greater = refl
-sign_spelled s.GreaterEqual = refl
-sign_spelled s.Concat = refl
-sign_spelled s.Plus = refl
-sign_spelled s.Minus = refl
-sign_spelled s.Star = refl
-sign_spelled s.Slash = refl
-sign_spelled s.Percent = refl
-sign_spelled s.Not = refl
-
 abbrev pub said : ℕ → Mark → Token
 said at mark = record { at = at; word = w.Mark mark }
 
-moved : (b : Bool) (o : Option Sign) (p q : ℕ) (n : ℕ × Sign) → (if b then placed p o else None) ≡ Some n → ((if b then placed q o else None) ≡ Some (q, n.1)) × (o ≡ Some n.1)
+moved : (b : Bool) (o : Option Sign) (p q : ℕ) (n : ℕ × Sign) → (if b then with_offset p o else None) ≡ Some n → ((if b then with_offset q o else None) ≡ Some (q, n.1)) × (o ≡ Some n.1)
 moved true None p q n e = absurd (cc)
 moved true (Some sign) p q n e =
     let same : (p, sign) ≡ n = cc in
@@ -96,26 +61,24 @@ moved true (Some sign) p q n e =
     (ap (λ v. Some (q, v)) sign_is, ap (λ v. Some v) sign_is)
 moved false o p q n e = absurd (cc)
 
-sign_mark : (word : Word) (sign : Sign) → sign_in word ≡ Some sign → word ≡ w.Mark (mark_of sign)
-unfolding mark_of
+sign_mark : (word : Word) (sign : Sign) → sign_in word ≡ Some sign → word ≡ w.Mark (mark_of_sign sign)
 sign_mark word sign e = grind arith
 
-sign_again : (k : ℕ) (t : Token) (n : ℕ × Sign) (at : ℕ) → sign_of k t ≡ Some n → sign_of k (said at (mark_of n.1)) ≡ Some (at, n.1)
+sign_again : (k : ℕ) (t : Token) (n : ℕ × Sign) (at : ℕ) → sign_of k t ≡ Some n → sign_of k (said at (mark_of_sign n.1)) ≡ Some (at, n.1)
 sign_again k t n at e =
     let q = moved (level_in t.word == k) (sign_in t.word) t.at at n e in
     subst (λ v. sign_of k (record { at = at; word = v }) ≡ Some (at, n.1)) (sign_mark t.word n.1 q.1) q.0
 
-prefix_again : (t : Token) (n : ℕ × Sign) (at : ℕ) → prefix_of t ≡ Some n → prefix_of (said at (mark_of n.1)) ≡ Some (at, n.1)
-unfolding mark_of
+prefix_again : (t : Token) (n : ℕ × Sign) (at : ℕ) → prefix_of t ≡ Some n → prefix_of (said at (mark_of_sign n.1)) ≡ Some (at, n.1)
 prefix_again t n at e = grind arith
 
-sign_level : (k : ℕ) (t : Token) (n : ℕ × Sign) → sign_of k t ≡ Some n → k ≤ 6
+sign_level : (k : ℕ) (t : Token) (n : ℕ × Sign) → sign_of k t ≡ Some n → k ≤ WHOLE
 sign_level k t n e = grind arith
 
 -- ---- levels and heights
 
 abbrev pub place_by : Bool → ℕ
-place_by true = 6
+place_by true = WHOLE
 place_by false = 0
 
 abbrev pub IsExprOf : ℕ → ℕ → Tree → List Token → Type 0
@@ -128,7 +91,7 @@ pub record Again (d : ℕ) (x : Tree) : Type 0 where
 
 -- the same wherever so few are pending that the limits are kept
 abbrev pub Rereads : Tree → Type 0
-Rereads x = (d : ℕ) → d + 2 * height x ≤ 128 → Again d x
+Rereads x = (d : ℕ) → d + 2 * height x ≤ MAX_PENDING → Again d x
 
 abbrev pub RereadsAll : List Tree → Type 0
 RereadsAll [] = Unit {0}
@@ -166,14 +129,14 @@ raise : {d : ℕ} {y : List Token} {x : Tree} (n j : ℕ) → IsExpr limits d j 
 raise {d} {y} {x} zero j i = let e : j ≡ zero + j = omega arith in subst (λ k. IsExpr limits d k y x) e i
 raise {d} {y} {x} (suc n) j i = let e : suc (n + j) ≡ suc n + j = omega arith in subst (λ k. IsExpr limits d k y x) e (Tighter d (n + j) y x (raise n j i))
 
-to_whole : {d : ℕ} {y : List Token} {x : Tree} (j : ℕ) → j ≤ 6 → IsExpr limits d j y x → IsExpr limits d 6 y x
-to_whole {d} {y} {x} j low i = let e : (6 - j) + j ≡ 6 = omega arith in subst (λ k. IsExpr limits d k y x) e (raise (6 - j) j i)
+to_whole : {d : ℕ} {y : List Token} {x : Tree} (j : ℕ) → j ≤ WHOLE → IsExpr limits d j y x → IsExpr limits d WHOLE y x
+to_whole {d} {y} {x} j low i = let e : (WHOLE - j) + j ≡ WHOLE = omega arith in subst (λ k. IsExpr limits d k y x) e (raise (WHOLE - j) j i)
 
-whole_by : (b : Bool) (d : ℕ) (x : Tree) (ts : List Token) → IsExprOf d (place_by b) x ts → IsExprOf d 6 x ts
+whole_by : (b : Bool) (d : ℕ) (x : Tree) (ts : List Token) → IsExprOf d (place_by b) x ts → IsExprOf d WHOLE x ts
 whole_by true d x ts i = i
 whole_by false d x ts (y, i, e) = (y, expression_is i, e)
 
-pub whole : {d : ℕ} {x : Tree} → Again d x → IsPrinted (IsExprOf d 6 x) (Stops breaks) (expression_text x)
+pub whole : {d : ℕ} {x : Tree} → Again d x → IsPrinted (IsExprOf d WHOLE x) (Stops breaks) (expression_text x)
 whole {d} {x} a = mapped (whole_by (is_compound x) d x) a.printed
 
 -- ---- parts
@@ -181,14 +144,14 @@ whole {d} {x} a = mapped (whole_by (is_compound x) d x) a.printed
 paren_ends : (rest : List ℕ) → Stops breaks (codes ")" ++ rest)
 paren_ends rest = refl
 
-group_of : (d : ℕ) (x : Tree) → suc d ≤ 128 → (ts : List Token) → Both (Both (IsWordOf (w.Mark m.ParenOpen)) (IsExprOf (suc d) 6 x)) (IsWordOf (w.Mark m.ParenClose)) ts → IsExprOf d 0 x ts
+group_of : (d : ℕ) (x : Tree) → suc d ≤ MAX_PENDING → (ts : List Token) → Both (Both (IsWordOf (w.Mark m.ParenOpen)) (IsExprOf (suc d) WHOLE x)) (IsWordOf (w.Mark m.ParenClose)) ts → IsExprOf d 0 x ts
 group_of d x may ts (Pair _ _ (Pair _ vs (Said at) (y, i, e)) (Said end)) = (y, Grouped d (said at m.ParenOpen) at vs y (said end m.ParenClose) end refl may i refl, e)
 
 record AsOperand (d : ℕ) (b : Bool) (x : Tree) : Type 0 where
   printed : IsPrinted (IsExprOf d 0 x) (Stops breaks) (wrapped b (expression_text x))
   begins : (rest : List ℕ) → Stops sign_goes_on (wrapped b (expression_text x) ++ rest)
 
-operand_by : (b : Bool) (x : Tree) → is_compound x ≡ b → Rereads x → (d : ℕ) → d + 2 * height x + 1 ≤ 128 → AsOperand d b x
+operand_by : (b : Bool) (x : Tree) → is_compound x ≡ b → Rereads x → (d : ℕ) → d + 2 * height x + 1 ≤ MAX_PENDING → AsOperand d b x
 operand_by false x e again d low =
     let a = again d (omega arith) in
     record { printed = subst (λ v. IsPrinted (IsExprOf d (place_by v) x) (Stops breaks) (expression_text x)) e a.printed; begins = a.begins }
@@ -203,7 +166,7 @@ pub begin_by : (p : ℕ → Bool) → ((byte : ℕ) → p byte ≡ true → sign
 begin_by p apart [] h rest = absurd (no_false refl h)
 begin_by p apart (byte ∷ text) h rest = apart byte h
 
--- what begins a text begins it with more behind
+-- what begins a text begins it with more after
 pub begins_left : (a b : List ℕ) → ((rest : List ℕ) → Stops sign_goes_on (a ++ rest)) → (rest : List ℕ) → Stops sign_goes_on ((a ++ b) ++ rest)
 begins_left a b begins rest = subst (Stops sign_goes_on) (sym (append_assoc a b rest)) (begins (b ++ rest))
 
@@ -216,37 +179,37 @@ digit_begins byte h = grind arith
 -- ---- lists
 
 abbrev pub IsComma : ℕ → ℕ → List Token → Tree → Type 0
-IsComma d n = IsSeq (IsOne (the m.Comma)) (λ at. IsExpr limits d 6)
+IsComma d n = IsSeq (IsOne (the m.Comma)) (λ at. IsExpr limits d WHOLE)
 
-abbrev pub IsBehind : ℕ → List Tree → List Token → Type 0
-IsBehind d xs ts = (n : ℕ) → (ys : List Tree) × IsEach (λ k. IsSeq (IsOne (the m.Comma)) (λ at. IsExpr limits d 6)) n ts ys × (erase_all (trees ys) ≡ erase_all (trees xs))
+abbrev pub IsAfter : ℕ → List Tree → List Token → Type 0
+IsAfter d xs ts = (n : ℕ) → (ys : List Tree) × IsEach (λ k. IsSeq (IsOne (the m.Comma)) (λ at. IsExpr limits d WHOLE)) n ts ys × (erase_all (trees ys) ≡ erase_all (trees xs))
 
 pub nothing_printed : {P : List Token → Type 0} → P [] → IsPrinted P (Stops breaks) []
-nothing_printed i = record { tokens = λ at. []; is = λ at. i; cut = λ at rest more stop h. let same : at + length {A = ℕ} [] ≡ at = omega arith in subst (λ n. IsTokens n rest more) same h }
+nothing_printed i = record { tokens = λ at. []; is = λ at. i; tokenized = λ at rest more stop h. let same : at + length {A = ℕ} [] ≡ at = omega arith in subst (λ n. IsTokens n rest more) same h }
 
-pub behind_starts : (xs : List Tree) (rest : List ℕ) → Stops breaks rest → Stops breaks (behind_text (trees xs) ++ rest)
-behind_starts [] rest h = h
-behind_starts (x ∷ xs) rest h = refl
+pub after_starts : (xs : List Tree) (rest : List ℕ) → Stops breaks rest → Stops breaks (more_args_text (trees xs) ++ rest)
+after_starts [] rest h = h
+after_starts (x ∷ xs) rest h = refl
 
-behind_more : (d : ℕ) (x : Tree) (xs : List Tree) (ts : List Token) → Both (Both (IsWordOf (w.Mark m.Comma)) (IsExprOf d 6 x)) (IsBehind d xs) ts → IsBehind d (x ∷ xs) ts
-behind_more d x xs ts (Pair _ vs (Pair _ us (Said at) (y, i, e)) j) n =
+after_more : (d : ℕ) (x : Tree) (xs : List Tree) (ts : List Token) → Both (Both (IsWordOf (w.Mark m.Comma)) (IsExprOf d WHOLE x)) (IsAfter d xs) ts → IsAfter d (x ∷ xs) ts
+after_more d x xs ts (Pair _ vs (Pair _ us (Said at) (y, i, e)) j) n =
     let k = j (suc n) in
     (y ∷ k.0, Each n y k.0 (said at m.Comma ∷ us) vs (Seq (said at m.Comma ∷ []) us at y (One (said at m.Comma) at refl) i) k.1, let f : erase_all (trees k.0) ≡ erase_all (trees xs) = k.2 in cc)
 
-behind_printed : (d : ℕ) (xs : List Tree) → RereadsAll xs → d + 2 * heights (trees xs) ≤ 128 → IsPrinted (IsBehind d xs) (Stops breaks) (behind_text (trees xs))
-behind_printed d [] again low = nothing_printed (λ n. ([], Nothing n, refl))
-behind_printed d (x ∷ xs) again low =
+after_printed : (d : ℕ) (xs : List Tree) → RereadsAll xs → d + 2 * heights (trees xs) ≤ MAX_PENDING → IsPrinted (IsAfter d xs) (Stops breaks) (more_args_text (trees xs))
+after_printed d [] again low = nothing_printed (λ n. ([], Nothing n, refl))
+after_printed d (x ∷ xs) again low =
     let a = again.0 d (omega arith) in
-    let comma = gap_behind (codes " ") refl (word_printed (w.Mark m.Comma) (mark_word m.Comma)) (λ rest. refl) in
+    let comma = gap_after (codes " ") refl (word_printed (w.Mark m.Comma) (mark_word m.Comma)) (λ rest. refl) in
     let first = both comma (whole a) (λ rest h. tt) in
-    let all = both first (behind_printed d xs again.1 (omega arith)) (behind_starts xs) in
-    mapped (behind_more d x xs) all
+    let all = both first (after_printed d xs again.1 (omega arith)) (after_starts xs) in
+    mapped (after_more d x xs) all
 
 -- arguments with their parentheses
 abbrev pub IsArgsOf : ℕ → List Tree → List Token → Type 0
 IsArgsOf d xs ts = (ys : List Tree) × IsArgs limits d ts ys × (erase_all (trees ys) ≡ erase_all (trees xs))
 
-some_args : (d : ℕ) (x : Tree) (xs : List Tree) (ts : List Token) → Both (Both (IsWordOf (w.Mark m.ParenOpen)) (Both (IsExprOf d 6 x) (IsBehind d xs))) (IsWordOf (w.Mark m.ParenClose)) ts → IsArgsOf d (x ∷ xs) ts
+some_args : (d : ℕ) (x : Tree) (xs : List Tree) (ts : List Token) → Both (Both (IsWordOf (w.Mark m.ParenOpen)) (Both (IsExprOf d WHOLE x) (IsAfter d xs))) (IsWordOf (w.Mark m.ParenClose)) ts → IsArgsOf d (x ∷ xs) ts
 some_args d x xs ts (Pair _ _ (Pair _ _ (Said at) (Pair us vs (y, i, e) j)) (Said end)) =
     let k = j 1 in
     let more : IsMore limits m.ParenClose d (vs ++ said end m.ParenClose ∷ []) k.0 = close_args m.ParenClose d 1 vs k.0 k.1 (said end m.ParenClose) end refl in
@@ -256,14 +219,14 @@ some_args d x xs ts (Pair _ _ (Pair _ _ (Said at) (Pair us vs (y, i, e) j)) (Sai
 no_args : (d : ℕ) (ts : List Token) → Both (IsWordOf (w.Mark m.ParenOpen)) (IsWordOf (w.Mark m.ParenClose)) ts → IsArgsOf d [] ts
 no_args d ts (Pair _ _ (Said at) (Said end)) = ([], NoArgs d (said at m.ParenOpen) at (said end m.ParenClose) end refl refl, refl)
 
-args_printed : (d : ℕ) (xs : List Tree) → RereadsAll xs → d + 2 * heights (trees xs) ≤ 128 → IsPrinted (IsArgsOf d xs) (Stops breaks) (codes "(" ++ args_text (trees xs) ++ codes ")")
+args_printed : (d : ℕ) (xs : List Tree) → RereadsAll xs → d + 2 * heights (trees xs) ≤ MAX_PENDING → IsPrinted (IsArgsOf d xs) (Stops breaks) (codes "(" ++ args_text (trees xs) ++ codes ")")
 args_printed d [] again low =
     let closed = both (word_printed (w.Mark m.ParenOpen) (mark_word m.ParenOpen)) (word_printed (w.Mark m.ParenClose) (mark_word m.ParenClose)) (λ rest h. refl) in
     mapped (no_args d) (stopped (break_word (w.Mark m.ParenClose)) closed)
 args_printed d (x ∷ xs) again low =
     let a = again.0 d (omega arith) in
-    let items = both (whole a) (behind_printed d xs again.1 (omega arith)) (behind_starts xs) in
-    let begins = λ (rest : List ℕ). subst (Stops sign_goes_on) (sym (append_assoc (expression_text x) (behind_text (trees xs)) rest)) (a.begins (behind_text (trees xs) ++ rest)) in
+    let items = both (whole a) (after_printed d xs again.1 (omega arith)) (after_starts xs) in
+    let begins = λ (rest : List ℕ). subst (Stops sign_goes_on) (sym (append_assoc (expression_text x) (more_args_text (trees xs)) rest)) (a.begins (more_args_text (trees xs) ++ rest)) in
     let opened = both (word_printed (w.Mark m.ParenOpen) (mark_word m.ParenOpen)) items (λ rest h. begins rest) in
     let closed = both opened (word_printed (w.Mark m.ParenClose) (mark_word m.ParenClose)) (λ rest h. paren_ends rest) in
     mapped (some_args d x xs) (stopped (break_word (w.Mark m.ParenClose)) closed)
@@ -278,10 +241,10 @@ record IsCallee (name : List ℕ) : Type 0 where
   begins : (rest : List ℕ) → Stops sign_goes_on (name ++ rest)
   ends : (rest : List ℕ) → Stops (goes_on word) (codes "(" ++ rest)
 
-call_of : (d at : ℕ) (word : Word) (name : List ℕ) (args : List Tree) → ((at : ℕ) → callee_of (record { at = at; word = word }) ≡ Some (at, name)) → suc d ≤ 128 → height (tree.Call at name (trees args)) ≤ 64 → (ts : List Token) → Both (IsWordOf word) (IsArgsOf (suc d) args) ts → IsExprOf d 0 (tree.Call at name (trees args)) ts
+call_of : (d at : ℕ) (word : Word) (name : List ℕ) (args : List Tree) → ((at : ℕ) → callee_of (record { at = at; word = word }) ≡ Some (at, name)) → suc d ≤ MAX_PENDING → height (tree.Call at name (trees args)) ≤ MAX_HEIGHT → (ts : List Token) → Both (IsWordOf word) (IsArgsOf (suc d) args) ts → IsExprOf d 0 (tree.Call at name (trees args)) ts
 call_of d at word name args callee may low ts (Pair _ vs (Said place) (ys, i, e)) =
     let same : erase (tree.Call place name (trees ys)) ≡ erase (tree.Call at name (trees args)) = ap (λ l. tree.Call 0 name l) e in
-    let high : height (tree.Call place name (trees ys)) ≤ 64 = subst (λ n. n ≤ 64) (sym (same_height (tree.Call place name (trees ys)) (tree.Call at name (trees args)) same)) low in
+    let high : height (tree.Call place name (trees ys)) ≤ MAX_HEIGHT = subst (λ n. n ≤ MAX_HEIGHT) (sym (same_height (tree.Call place name (trees ys)) (tree.Call at name (trees args)) same)) low in
     (tree.Call place name (trees ys), Called d (record { at = place; word = word }) (place, name) vs ys (callee place) may i high, same)
 
 call_again : (at : ℕ) (name : List ℕ) (args : List Tree) → IsCallee name → RereadsAll args → Rereads (tree.Call at name (trees args))
@@ -332,11 +295,11 @@ name_again at name i d low = record { printed = mapped (name_of_word d at name) 
 
 -- ---- operators
 
-prefix_made : (d : ℕ) (t : Token) (sign : ℕ × Sign) (x : Tree) → prefix_of t ≡ Some sign → suc d ≤ 128 → height (tree.Prefix sign.0 sign.1 x) ≤ 64 → (ts : List Token) → Both (IsWordOf (w.Mark (mark_of sign.1))) (IsExprOf (suc d) 0 x) ts → IsExprOf d 6 (tree.Prefix sign.0 sign.1 x) ts
+prefix_made : (d : ℕ) (t : Token) (sign : ℕ × Sign) (x : Tree) → prefix_of t ≡ Some sign → suc d ≤ MAX_PENDING → height (tree.Prefix sign.0 sign.1 x) ≤ MAX_HEIGHT → (ts : List Token) → Both (IsWordOf (w.Mark (mark_of_sign sign.1))) (IsExprOf (suc d) 0 x) ts → IsExprOf d WHOLE (tree.Prefix sign.0 sign.1 x) ts
 prefix_made d t sign x e may low ts (Pair _ vs (Said at) (y, i, same)) =
     let whole_same : erase (tree.Prefix at sign.1 y) ≡ erase (tree.Prefix sign.0 sign.1 x) = ap (λ v. tree.Prefix 0 sign.1 v) same in
-    let high : height (tree.Prefix at sign.1 y) ≤ 64 = subst (λ n. n ≤ 64) (sym (same_height (tree.Prefix at sign.1 y) (tree.Prefix sign.0 sign.1 x) whole_same)) low in
-    (tree.Prefix at sign.1 y, expression_is (Prefixed d (said at (mark_of sign.1)) (at, sign.1) vs y (prefix_again t sign at e) may i high), whole_same)
+    let high : height (tree.Prefix at sign.1 y) ≤ MAX_HEIGHT = subst (λ n. n ≤ MAX_HEIGHT) (sym (same_height (tree.Prefix at sign.1 y) (tree.Prefix sign.0 sign.1 x) whole_same)) low in
+    (tree.Prefix at sign.1 y, expression_is (Prefixed d (said at (mark_of_sign sign.1)) (at, sign.1) vs y (prefix_again t sign at e) may i high), whole_same)
 
 prefix_begins : (t : Token) (sign : ℕ × Sign) → prefix_of t ≡ Some sign → (rest : List ℕ) → Stops sign_goes_on (sign_text sign.1 ++ rest)
 prefix_begins t sign e rest = elim (prefix_cases t sign e) [ inl k ↦ subst (λ v. Stops sign_goes_on (sign_text v ++ rest)) (sym k) refl | inr k ↦ subst (λ v. Stops sign_goes_on (sign_text v ++ rest)) (sym k) refl ]
@@ -344,32 +307,31 @@ prefix_begins t sign e rest = elim (prefix_cases t sign e) [ inl k ↦ subst (λ
     prefix_cases : (t : Token) (sign : ℕ × Sign) → prefix_of t ≡ Some sign → (sign.1 ≡ s.Minus) ⊎ (sign.1 ≡ s.Not)
     prefix_cases t sign e = grind arith
 
-sign_byte : (sign : Sign) (byte : ℕ) → sign_goes_on byte ≡ false → goes_on (w.Mark (mark_of sign)) byte ≡ false
-unfolding mark_of
+sign_byte : (sign : Sign) (byte : ℕ) → sign_goes_on byte ≡ false → goes_on (w.Mark (mark_of_sign sign)) byte ≡ false
 sign_byte sign byte h = grind arith
 
-sign_ends : (sign : Sign) (rest : List ℕ) → Stops sign_goes_on rest → Stops (goes_on (w.Mark (mark_of sign))) rest
+sign_ends : (sign : Sign) (rest : List ℕ) → Stops sign_goes_on rest → Stops (goes_on (w.Mark (mark_of_sign sign))) rest
 sign_ends sign [] h = tt
 sign_ends sign (byte ∷ rest) h = sign_byte sign byte h
 
 prefix_again_tree : (t : Token) (sign : ℕ × Sign) (x : Tree) → prefix_of t ≡ Some sign → Rereads x → Rereads (tree.Prefix sign.0 sign.1 x)
 prefix_again_tree t sign x e again d low =
     let inner = operand_by (is_compound x) x refl again (suc d) (omega (arith, low)) in
-    let word = spelled_as (sign_spelled sign.1) (word_printed (w.Mark (mark_of sign.1)) (mark_word (mark_of sign.1))) in
+    let word = word_printed (w.Mark (mark_of_sign sign.1)) (mark_word (mark_of_sign sign.1)) in
     let all = both word inner.printed (λ rest h. sign_ends sign.1 (wrapped (is_compound x) (expression_text x) ++ rest) (inner.begins rest)) in
     let begins = λ (rest : List ℕ). subst (Stops sign_goes_on) (sym (append_assoc (sign_text sign.1) (wrapped (is_compound x) (expression_text x)) rest)) (prefix_begins t sign e (wrapped (is_compound x) (expression_text x) ++ rest)) in
     record { printed = mapped (prefix_made d t sign x e (omega arith) (omega arith)) all; begins = begins }
 
-binary_level : (b : Bool) (d k : ℕ) (t : Token) (sign : ℕ × Sign) (at : ℕ) (us vs : List Token) (x y : Tree) → is_chained (suc k) ≡ b → sign_of (suc k) t ≡ Some sign → IsExpr limits d 0 us x → IsExpr limits d 0 vs y → height (tree.Binary at sign.1 x y) ≤ 64 → IsExpr limits d 6 (us ++ said at (mark_of sign.1) ∷ vs) (tree.Binary at sign.1 x y)
-binary_level true d k t sign at us vs x y c e i j high = to_whole (suc k) (sign_level (suc k) t sign e) (Chained d k us x (said at (mark_of sign.1)) (at, sign.1) vs y c (lift (suc k) i) (sign_again (suc k) t sign at e) (lift k j) high)
-binary_level false d k t sign at us vs x y c e i j high = to_whole (suc k) (sign_level (suc k) t sign e) (Compared d k us x (said at (mark_of sign.1)) (at, sign.1) vs y c (lift k i) (sign_again (suc k) t sign at e) (lift k j) high)
+binary_level : (b : Bool) (d k : ℕ) (t : Token) (sign : ℕ × Sign) (at : ℕ) (us vs : List Token) (x y : Tree) → is_chained (suc k) ≡ b → sign_of (suc k) t ≡ Some sign → IsExpr limits d 0 us x → IsExpr limits d 0 vs y → height (tree.Binary at sign.1 x y) ≤ MAX_HEIGHT → IsExpr limits d WHOLE (us ++ said at (mark_of_sign sign.1) ∷ vs) (tree.Binary at sign.1 x y)
+binary_level true d k t sign at us vs x y c e i j high = to_whole (suc k) (sign_level (suc k) t sign e) (Chained d k us x (said at (mark_of_sign sign.1)) (at, sign.1) vs y c (lift (suc k) i) (sign_again (suc k) t sign at e) (lift k j) high)
+binary_level false d k t sign at us vs x y c e i j high = to_whole (suc k) (sign_level (suc k) t sign e) (Compared d k us x (said at (mark_of_sign sign.1)) (at, sign.1) vs y c (lift k i) (sign_again (suc k) t sign at e) (lift k j) high)
 
-binary_made : (d k : ℕ) (t : Token) (sign : ℕ × Sign) (x y : Tree) → sign_of (suc k) t ≡ Some sign → height (tree.Binary sign.0 sign.1 x y) ≤ 64 → (ts : List Token) → Both (Both (IsExprOf d 0 x) (IsWordOf (w.Mark (mark_of sign.1)))) (IsExprOf d 0 y) ts → IsExprOf d 6 (tree.Binary sign.0 sign.1 x y) ts
+binary_made : (d k : ℕ) (t : Token) (sign : ℕ × Sign) (x y : Tree) → sign_of (suc k) t ≡ Some sign → height (tree.Binary sign.0 sign.1 x y) ≤ MAX_HEIGHT → (ts : List Token) → Both (Both (IsExprOf d 0 x) (IsWordOf (w.Mark (mark_of_sign sign.1)))) (IsExprOf d 0 y) ts → IsExprOf d WHOLE (tree.Binary sign.0 sign.1 x y) ts
 binary_made d k t sign x y e low ts (Pair _ vs (Pair us _ (x', i, f) (Said at)) (y', j, g)) =
     let same : erase (tree.Binary at sign.1 x' y') ≡ erase (tree.Binary sign.0 sign.1 x y) = ap (λ v. tree.Binary 0 sign.1 v (erase y')) f ∙ ap (λ v. tree.Binary 0 sign.1 (erase x) v) g in
-    let high : height (tree.Binary at sign.1 x' y') ≤ 64 = subst (λ n. n ≤ 64) (sym (same_height (tree.Binary at sign.1 x' y') (tree.Binary sign.0 sign.1 x y) same)) low in
+    let high : height (tree.Binary at sign.1 x' y') ≤ MAX_HEIGHT = subst (λ n. n ≤ MAX_HEIGHT) (sym (same_height (tree.Binary at sign.1 x' y') (tree.Binary sign.0 sign.1 x y) same)) low in
     let made = binary_level (is_chained (suc k)) d k t sign at us vs x' y' refl e i j high in
-    (tree.Binary at sign.1 x' y', subst (λ l. IsExpr limits d 6 l (tree.Binary at sign.1 x' y')) (sym (append_assoc us (said at (mark_of sign.1) ∷ []) vs)) made, same)
+    (tree.Binary at sign.1 x' y', subst (λ l. IsExpr limits d WHOLE l (tree.Binary at sign.1 x' y')) (sym (append_assoc us (said at (mark_of_sign sign.1) ∷ []) vs)) made, same)
 
 blank_ends : (rest : List ℕ) → Stops sign_goes_on (codes " " ++ rest)
 blank_ends rest = refl
@@ -378,9 +340,9 @@ binary_again : (k : ℕ) (t : Token) (sign : ℕ × Sign) (x y : Tree) → sign_
 binary_again k t sign x y e left_again right_again d low =
     let left = operand_by (is_compound x) x refl left_again d (omega (arith, low)) in
     let right = operand_by (is_compound y) y refl right_again d (omega (arith, low)) in
-    let first = gap_behind (codes " ") refl left.printed (λ rest. refl) in
-    let word = spelled_as (sign_spelled sign.1) (word_printed (w.Mark (mark_of sign.1)) (mark_word (mark_of sign.1))) in
-    let signed = gap_behind (codes " ") refl (both first word (λ rest h. tt)) (λ rest. sign_ends sign.1 (codes " " ++ rest) (blank_ends rest)) in
+    let first = gap_after (codes " ") refl left.printed (λ rest. refl) in
+    let word = word_printed (w.Mark (mark_of_sign sign.1)) (mark_word (mark_of_sign sign.1)) in
+    let signed = gap_after (codes " ") refl (both first word (λ rest h. tt)) (λ rest. sign_ends sign.1 (codes " " ++ rest) (blank_ends rest)) in
     let all = both signed right.printed (λ rest h. tt) in
     let start = begins_left (wrapped (is_compound x) (expression_text x)) (codes " ") left.begins in
     let middle = begins_left (wrapped (is_compound x) (expression_text x) ++ codes " ") (sign_text sign.1) start in
@@ -395,26 +357,26 @@ mutual
   reread d k f x (Named _ t n e) h = let q = name_word t n e in name_again n.0 n.1 (subst IsWord q.0 (h.0 q.1))
   reread d k f x (Called _ t n y args e may i low) h = call_again n.0 n.1 args (callee_again t n e h.0) (reread_args (suc d) y args i h.1)
   reread d k f x (Prefixed _ t s y a e may i low) h = prefix_again_tree t s a e (reread (suc d) 0 y a i h.1)
-  reread d k f x (Grouped _ o at y a c end e may i g) h = reread (suc d) 6 y a i (words_parts y (c ∷ []) h.1).0
+  reread d k f x (Grouped _ o at y a c end e may i g) h = reread (suc d) WHOLE y a i (words_parts y (c ∷ []) h.1).0
   reread d k f x (Tighter _ j y a i) h = reread d j y a i h
   reread d k f x (Chained _ j y a t s z b c i e r low) h = let q = words_parts y (t ∷ z) h in binary_again j t s a b e (reread d (suc j) y a i q.0) (reread d j z b r q.1.1)
   reread d k f x (Compared _ j y a t s z b c i e r low) h = let q = words_parts y (t ∷ z) h in binary_again j t s a b e (reread d j y a i q.0) (reread d j z b r q.1.1)
 
   reread_args : (d : ℕ) (f : List Token) (xs : List Tree) → IsArgs limits d f xs → AllWords f → RereadsAll xs
   reread_args d f xs (NoArgs _ o at c end e g) h = tt
-  reread_args d f xs (Args _ o at y x z others e i j) h = let q = words_parts y z h.1 in (reread d 6 y x i q.0, reread_more m.ParenClose d z others j q.1)
+  reread_args d f xs (Args _ o at y x z others e i j) h = let q = words_parts y z h.1 in (reread d WHOLE y x i q.0, reread_more m.ParenClose d z others j q.1)
 
   pub reread_more : (mark : Mark) (d : ℕ) (f : List Token) (xs : List Tree) → IsMore limits mark d f xs → AllWords f → RereadsAll xs
   reread_more mark d f xs (Last _ _ c end g) h = tt
-  reread_more mark d f xs (More _ _ t at y x z others e i j) h = let q = words_parts y z h.1 in (reread d 6 y x i q.0, reread_more mark d z others j q.1)
+  reread_more mark d f xs (More _ _ t at y x z others e i j) h = let q = words_parts y z h.1 in (reread d WHOLE y x i q.0, reread_more mark d z others j q.1)
 
-pub low_height : (d k : ℕ) (f : List Token) (x : Tree) → IsExpr limits d k f x → height x ≤ 64
+pub low_height : (d k : ℕ) (f : List Token) (x : Tree) → IsExpr limits d k f x → height x ≤ MAX_HEIGHT
 low_height d k f x (Number _ t n e) = omega arith
 low_height d k f x (Literal _ t n e) = omega arith
 low_height d k f x (Named _ t n e) = omega arith
 low_height d k f x (Called _ t n y args e may i low) = low
 low_height d k f x (Prefixed _ t s y a e may i low) = low
-low_height d k f x (Grouped _ o at y a c end e may i g) = low_height (suc d) 6 y a i
+low_height d k f x (Grouped _ o at y a c end e may i g) = low_height (suc d) WHOLE y a i
 low_height d k f x (Tighter _ j y a i) = low_height d j y a i
 low_height d k f x (Chained _ j y a t s z b c i e r low) = low
 low_height d k f x (Compared _ j y a t s z b c i e r low) = low
@@ -423,9 +385,9 @@ low_height d k f x (Compared _ j y a t s z b c i e r low) = low
 pub again_here : (k : ℕ) (f : List Token) (x : Tree) → IsExpr limits 0 k f x → AllWords f → Again 0 x
 again_here k f x i h = reread 0 k f x i h 0 (omega (arith, low_height 0 k f x i))
 
-low_all : (mark : Mark) (d : ℕ) (f : List Token) (xs : List Tree) → IsMore limits mark d f xs → heights (trees xs) ≤ 64
+low_all : (mark : Mark) (d : ℕ) (f : List Token) (xs : List Tree) → IsMore limits mark d f xs → heights (trees xs) ≤ MAX_HEIGHT
 low_all mark d f xs (Last _ _ c end g) = omega arith
-low_all mark d f xs (More _ _ t at y x z others e i j) = omega (arith, low_height d 6 y x i, low_all mark d z others j)
+low_all mark d f xs (More _ _ t at y x z others e i j) = omega (arith, low_height d WHOLE y x i, low_all mark d z others j)
 
-pub behind_here : (mark : Mark) (f : List Token) (xs : List Tree) → IsMore limits mark 0 f xs → AllWords f → IsPrinted (IsBehind 0 xs) (Stops breaks) (behind_text (trees xs))
-behind_here mark f xs i h = behind_printed 0 xs (reread_more mark 0 f xs i h) (omega (arith, low_all mark 0 f xs i))
+pub after_here : (mark : Mark) (f : List Token) (xs : List Tree) → IsMore limits mark 0 f xs → AllWords f → IsPrinted (IsAfter 0 xs) (Stops breaks) (more_args_text (trees xs))
+after_here mark f xs i h = after_printed 0 xs (reread_more mark 0 f xs i h) (omega (arith, low_all mark 0 f xs i))

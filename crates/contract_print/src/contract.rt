@@ -3,7 +3,7 @@
 ghost use Rattle.std.specs.Prelude.{◌≡◌, ◌++◌, OnOk, IfOk, map, codes, ℕ, List};
 ghost use Rattle.std.specs.List.{flat_map};
 ghost use Rattle.contract_tree.specs.Tree.{statement_of, statement_list, function_of, contract_of};
-ghost use Rattle.contract_print.specs.Canonical.{param_text, params_text, function_text, contract_text, functions_behind, statement_text, statements_text, ReadsAgain};
+ghost use Rattle.contract_print.specs.Canonical.{param_text, params_text, function_text, contract_text, more_functions_text, statement_text, statements_text, ReadsAgain, HasOneText, IsFixed};
 ghost use Rattle.contract_parse.specs.Syntax.{ReadsAs};
 
 use crate::statement::put_statement;
@@ -117,15 +117,18 @@ fn written(alloc: Global, contract: &Contract) -> Result<Vec<u8>, Memory>
     Ok(out)
 }
 
-/// The canonical text of a contract. A contract that was read from a source is read again from its text,
-/// the same but for the places.
+/// The canonical text of a contract. Contracts that are equal but for the offsets in them have one
+/// text; a contract that was read from a source is read again from its text, the same but for the
+/// offsets, and so the text of what its text reads as is that text.
 ///
 /// # Errors
 ///
-/// `Memory`, where there is none for the text.
+/// `Memory`, where the text does not fit.
 pub fn print(alloc: Global, contract: &Contract) -> Result<Bytes, Memory>
     ensures text { IfOk result (λ text. text ≡ contract_text (contract_of contract.now)) }
+    ensures one_text { HasOneText (contract_of contract.now) }
     ensures again { (source : List ℕ) → ReadsAs source (contract_of contract.now) → IfOk result (λ text. ReadsAgain text (contract_of contract.now)) }
+    ensures fixed { (source : List ℕ) → ReadsAs source (contract_of contract.now) → IfOk result IsFixed }
 {
     let text = written(alloc, contract)?;
     Ok(Seq::from_vec(text))

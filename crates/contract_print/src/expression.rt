@@ -1,8 +1,9 @@
 //! Expressions as text.
 
 ghost use Rattle.std.specs.Prelude.{◌≡◌, ◌++◌, OnOk, map, codes};
+ghost use Rattle.contract_tokens.specs.Lexemes.{in_quotes, literal_body};
 ghost use Rattle.contract_tree.specs.Tree.{tree_of, trees};
-ghost use Rattle.contract_print.specs.Canonical.{expression_text, wrapped, is_compound, args_text, behind_text, escaped};
+ghost use Rattle.contract_print.specs.Canonical.{expression_text, wrapped, is_compound, args_text, more_args_text};
 
 use crate::writer::{put, put_int, put_sign, put_text};
 use contract_tree::{Expr, ExprNode};
@@ -44,7 +45,7 @@ pub fn put_expression(alloc: Global, out: &mut Vec<u8>, x: &Expr) -> Result<(), 
 }
 
 fn put_quoted(out: &mut Vec<u8>, text: &[u8]) -> Result<(), Memory>
-    ensures { OnOk result (out.new.items ≡ out.old.items ++ (codes "\"" ++ escaped text.now ++ codes "\"")) }
+    ensures { OnOk result (out.new.items ≡ out.old.items ++ in_quotes (literal_body text.now)) }
 {
     put(out, b"\"")?;
     put_text(out, text)?;
@@ -73,7 +74,7 @@ pub fn put_args(alloc: Global, out: &mut Vec<u8>, args: &[Expr]) -> Result<(), M
         [first, rest @ ..] => {
             put_expression(alloc, out, first)?;
             for x in rest {
-                put_behind(alloc, out, x)?;
+                put_another_arg(alloc, out, x)?;
             }
             Ok(())
         }
@@ -81,7 +82,7 @@ pub fn put_args(alloc: Global, out: &mut Vec<u8>, args: &[Expr]) -> Result<(), M
 }
 
 #[cycle(put)]
-fn put_behind(alloc: Global, out: &mut Vec<u8>, x: &Expr) -> Result<(), Memory>
+fn put_another_arg(alloc: Global, out: &mut Vec<u8>, x: &Expr) -> Result<(), Memory>
     ensures { OnOk result (out.new.items ≡ out.old.items ++ (codes ", " ++ expression_text (tree_of x.now))) }
 {
     put(out, b", ")?;

@@ -1,8 +1,9 @@
-//! Bytes that are written one behind another.
+//! Bytes that are written one after another.
 
 ghost use Rattle.std.specs.Prelude.{◌≡◌, ◌++◌, OnOk};
 ghost use Rattle.std.specs.Fmt.{signed_decimal};
-ghost use Rattle.contract_print.specs.Canonical.{sign_text, kind_text, escaped, escaped_by, is_escaped};
+ghost use Rattle.contract_tokens.specs.Lexemes.{literal_body, escape, is_escaped};
+ghost use Rattle.contract_print.specs.Canonical.{sign_text, kind_text};
 
 use contract_tree::{Sign, ValueKind};
 use lc_base::Memory;
@@ -23,7 +24,7 @@ pub fn put_int(alloc: Global, out: &mut Vec<u8>, value: i64) -> Result<(), Memor
 }
 
 fn put_escaped(out: &mut Vec<u8>, byte: u8) -> Result<(), Memory>
-    ensures { OnOk result (out.new.items ≡ out.old.items ++ escaped_by (is_escaped byte) byte) }
+    ensures { OnOk result (out.new.items ≡ out.old.items ++ escape (is_escaped byte) byte) }
 {
     if byte == b'"' || byte == b'\\' {
         out.push(b'\\')?;
@@ -33,7 +34,7 @@ fn put_escaped(out: &mut Vec<u8>, byte: u8) -> Result<(), Memory>
 }
 
 pub fn put_text(out: &mut Vec<u8>, text: &[u8]) -> Result<(), Memory>
-    ensures { OnOk result (out.new.items ≡ out.old.items ++ escaped text.now) }
+    ensures { OnOk result (out.new.items ≡ out.old.items ++ literal_body text.now) }
 {
     for byte in text {
         put_escaped(out, *byte)?;

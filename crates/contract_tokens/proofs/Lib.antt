@@ -5,6 +5,5 @@ pub mod Words
 pub mod Literals
 pub mod Pieces
 pub mod Once
-pub mod Cuts
+pub mod Outcomes
 pub mod Listings
-pub mod Printed

@@ -11,7 +11,7 @@ use Rattle.contract_tokens.specs.declared.token.Mark.{Mark}
 use Rattle.contract_tokens.specs.declared.token.Mark.TheVariants as marks
 use Rattle.contract_tokens.specs.Spelling.{spelling}
 use Rattle.contract_tokens.specs.Lexemes.{is_digit, is_blank}
-use Rattle.contract_tokens.specs.Steps.{keyword_of, keywords, short_sign, long_sign}
+use Rattle.contract_tokens.specs.Pieces.{keyword_of, keywords, short_sign, long_sign}
 
 pub find_passes : {X : Type 0} (p : X → Bool) (xs : List X) (x : X) → find p xs ≡ Some x → p x ≡ true
 find_passes p [] x e = cc

@@ -1,4 +1,4 @@
--- The piece that is read at the front of a source is what stands there.
+-- The piece that is read at the start of a source is what stands there.
 use Rattle.std.proofs.Common.{◌≡◌, ◌≢◌, ℕ, ◌+◌, ◌-◌, ◌*◌, ◌^◌, ◌≤◌, ◌<◌, Bool, true, false, cond, not, ◌==◌, List, [], ◌∷◌, ◌++◌, length, get_or, drop, Option, Some, None, Result, Ok, Err, inl, inr, sym, ap, subst, refl, ◌∙◌, arith, append_assoc}
 use Rattle.std.specs.Prelude.{nat_lt, take_while, decimal, pos}
 use Rattle.std.specs.List.{list_all, prefix_len}
@@ -12,25 +12,26 @@ use Rattle.lc_base.specs.Name.{name_of}
 use Rattle.lc_base.specs.declared.key.KeyError.{KeyError}
 use Rattle.lc_base.specs.declared.key.KeyError.TheVariants as errors
 use Rattle.contract_tokens.specs.declared.token.Mark.{Mark}
+use Rattle.contract_tokens.specs.declared.limits.TheConstants.{MAX_LITERAL_BYTES}
 use Rattle.contract_tokens.specs.declared.token.Word.{Word}
 use Rattle.contract_tokens.specs.declared.token.Word.TheVariants as words
 use Rattle.contract_tokens.specs.declared.token.TokenKind.{TokenKind}
 use Rattle.contract_tokens.specs.declared.piece.Piece.{Piece}
 use Rattle.contract_tokens.specs.declared.piece.Piece.TheVariants as pieces
 use Rattle.contract_tokens.specs.Spelling.{spelling}
-use Rattle.contract_tokens.specs.Lexemes.{is_blank, is_digit, newline, quote, hash, IsLineEnd, IsGap, Blank, Comment, quoted, IsLiteralBody, IsSpelled, MarkSpelled, NameSpelled, IntSpelled, TextSpelled, IsLexeme, MarkShape, NameShape, IntShape, TextShape, IsLongest, IsRefused, Breaks, NoText, NoToken}
-use Rattle.contract_tokens.specs.Steps.{keyword_of, short_sign, long_sign, short_step, long_step, sign_step, named_step, word_step, name_step, value_from, value_step, has_leading_zero, number_step, literal_step, step}
+use Rattle.contract_tokens.specs.Lexemes.{is_blank, is_digit, newline, quote, hash, IsLineEnd, IsGap, Blank, Comment, in_quotes, IsLiteralBody, IsSpelled, MarkSpelled, NameSpelled, IntSpelled, TextSpelled, IsLexeme, MarkShape, NameShape, IntShape, TextShape, IsLongest, IsRefused, Breaks, NoText, NoToken}
+use Rattle.contract_tokens.specs.Pieces.{keyword_of, short_sign, long_sign, short_piece, long_piece, sign_piece, checked_name_piece, word_piece, name_piece, value_from, value_piece, has_leading_zero, number_piece, literal_piece, next_piece}
 use Rattle.contract_tokens.proofs.Marks.{first_is, keyword_spelled, keyword_missed, short_spelled, long_spelled, Keyword, Short, Long, written}
 use Rattle.contract_tokens.proofs.Runs.{Stops, run, run_of, nothing_more, list_all-append}
 use Rattle.contract_tokens.proofs.Shapes.{is_quote, mark_begins, letter_not_digit, letter_not_quote, digit_not_quote, not_both, name_begins, read_on, numerals, decimal_begins, body_unique}
 use Rattle.contract_tokens.proofs.Words.{lexeme_nonempty, letter_lexeme, digit_lexeme, quote_lexeme, is_signs, sign_lexeme}
 use Rattle.contract_tokens.proofs.Literals.{IsRead, read_is}
 
--- what a piece says of the front of the bytes
+-- what a piece says of the prefix of the bytes
 abbrev pub IsPieceOf : List ℕ → Piece → Type 0
 IsPieceOf bytes pieces.End = bytes ≡ []
 IsPieceOf bytes (pieces.Skip n) = (gap rest : List ℕ) × (bytes ≡ gap ++ rest) × (length gap ≡ n) × IsGap gap rest
-IsPieceOf bytes (pieces.Take n word) = (front rest : List ℕ) × (bytes ≡ front ++ rest) × (length front ≡ n) × IsLongest front rest × IsSpelled front word
+IsPieceOf bytes (pieces.Take n word) = (prefix rest : List ℕ) × (bytes ≡ prefix ++ rest) × (length prefix ≡ n) × IsLongest prefix rest × IsSpelled prefix word
 IsPieceOf bytes (pieces.Bad kind) = IsRefused bytes kind
 
 -- ---- gaps
@@ -51,16 +52,16 @@ comment_is rest =
 
 -- A run is the longest lexeme where all that begins as it does passes the test.
 pub run_longest : (test first : ℕ → Bool) → ((bytes : List ℕ) → IsLexeme bytes → first_is first bytes ≡ true → list_all test bytes ≡ true)
-    → (front rest : List ℕ) → IsLexeme front → first_is first front ≡ true → Stops test rest → IsLongest front rest
-run_longest test first all front rest lexeme begins stops = record {
+    → (prefix rest : List ℕ) → IsLexeme prefix → first_is first prefix ≡ true → Stops test rest → IsLongest prefix rest
+run_longest test first all prefix rest lexeme begins stops = record {
   lexeme = lexeme;
-  longest = λ more behind e h.
-      nothing_more test rest more behind stops e (list_all-append test front more (all (front ++ more) h (begins_so first front more begins))).1;
+  longest = λ more after e h.
+      nothing_more test rest more after stops e (list_all-append test prefix more (all (prefix ++ more) h (begins_so first prefix more begins))).1;
 }
   where
-    begins_so : (first : ℕ → Bool) (front more : List ℕ) → first_is first front ≡ true → first_is first (front ++ more) ≡ true
+    begins_so : (first : ℕ → Bool) (prefix more : List ℕ) → first_is first prefix ≡ true → first_is first (prefix ++ more) ≡ true
     begins_so first [] more b = cc
-    begins_so first (byte ∷ front) more b = b
+    begins_so first (byte ∷ prefix) more b = b
 
 -- a run that begins with a byte that passes
 run_begins : (test first : ℕ → Bool) (byte : ℕ) (rest : List ℕ) → first byte ≡ true → test byte ≡ true → take_while test (byte ∷ rest) ≡ byte ∷ take_while test rest
@@ -106,30 +107,30 @@ no_word _ l k error e _ (NameSpelled name is free) = let f = name_of_name name i
 no_word _ l k error e _ (IntSpelled n h) = not_both is_letter is_digit letter_not_digit (decimal n) l (decimal_begins n h)
 no_word _ l k error e _ (TextSpelled body text t s) = cc
 
-named_is : (run rest : List ℕ) → IsLongest run rest → first_is is_letter run ≡ true → keyword_of run ≡ None → (r : Result (List ℕ) KeyError) → name_of run ≡ r → IsPieceOf (run ++ rest) (named_step run r)
+named_is : (run rest : List ℕ) → IsLongest run rest → first_is is_letter run ≡ true → keyword_of run ≡ None → (r : Result (List ℕ) KeyError) → name_of run ≡ r → IsPieceOf (run ++ rest) (checked_name_piece run r)
 named_is run rest longest l k (Ok name) e =
     let n = name_of_ok run name e in
     let free : (mark : Mark) → spelling mark ≢ run = λ mark f. keyword_missed mark (ap (first_is is_letter) f ∙ l) (ap keyword_of f ∙ k) in
     (run, rest, refl, refl, longest, (let P : List ℕ → Type 0 = λ w. IsSpelled run (words.Name w) in subst P n.1 (NameSpelled run n.0 free)))
 named_is run rest longest l k (Err error) e = Breaks run rest longest (no_word run l k error e)
 
-word_is : (run rest : List ℕ) → IsLongest run rest → first_is is_letter run ≡ true → (o : Option Mark) → keyword_of run ≡ o → IsPieceOf (run ++ rest) (word_step run o)
+word_is : (run rest : List ℕ) → IsLongest run rest → first_is is_letter run ≡ true → (o : Option Mark) → keyword_of run ≡ o → IsPieceOf (run ++ rest) (word_piece run o)
 word_is run rest longest l (Some mark) e = (run, rest, refl, refl, longest, (let P : List ℕ → Type 0 = λ w. IsSpelled w (words.Mark mark) in subst P (keyword_spelled run mark e) (MarkSpelled mark)))
 word_is run rest longest l None e = named_is run rest longest l e (name_of run) refl
 
-name_is : (byte : ℕ) (rest : List ℕ) → is_letter byte ≡ true → IsPieceOf (byte ∷ rest) (name_step (take_while is_name_byte (byte ∷ rest)))
-unfolding name_step
+name_is : (byte : ℕ) (rest : List ℕ) → is_letter byte ≡ true → IsPieceOf (byte ∷ rest) (name_piece (take_while is_name_byte (byte ∷ rest)))
+unfolding name_piece
 name_is byte rest l =
     let r = run is_name_byte (byte ∷ rest) in
-    let front = take_while is_name_byte (byte ∷ rest) in
+    let prefix = take_while is_name_byte (byte ∷ rest) in
     let more = take_while is_name_byte rest in
-    let begins : front ≡ byte ∷ more = run_begins is_name_byte is_letter byte rest l (letter_in_name byte l) in
-    let first : first_is is_letter front ≡ true = ap (first_is is_letter) begins ∙ l in
+    let begins : prefix ≡ byte ∷ more = run_begins is_name_byte is_letter byte rest l (letter_in_name byte l) in
+    let first : first_is is_letter prefix ≡ true = ap (first_is is_letter) begins ∙ l in
     let passes : list_all is_name_byte (byte ∷ more) ≡ true = ap (list_all is_name_byte) (sym begins) ∙ r.1.passes in
-    let lexeme : IsLexeme front = subst IsLexeme (sym begins) (NameShape byte more l (and_parts (is_name_byte byte) (list_all is_name_byte more) passes).1) in
-    let longest = run_longest is_name_byte is_letter letter_lexeme front r.0 lexeme first r.1.stops in
-    let P : List ℕ → Type 0 = λ bytes. IsPieceOf bytes (name_step front) in
-    subst P (sym r.1.parts) (word_is front r.0 longest first (keyword_of front) refl)
+    let lexeme : IsLexeme prefix = subst IsLexeme (sym begins) (NameShape byte more l (and_parts (is_name_byte byte) (list_all is_name_byte more) passes).1) in
+    let longest = run_longest is_name_byte is_letter letter_lexeme prefix r.0 lexeme first r.1.stops in
+    let P : List ℕ → Type 0 = λ bytes. IsPieceOf bytes (name_piece prefix) in
+    subst P (sym r.1.parts) (word_is prefix r.0 longest first (keyword_of prefix) refl)
 
 -- ---- numbers
 
@@ -178,7 +179,7 @@ one_zero [] z f some = absurd (omega arith)
 one_zero (byte ∷ []) z f some = refl
 one_zero (byte ∷ next ∷ more) z f some = absurd (eqb-false byte 48 z f)
 
-value_is : (run rest : List ℕ) → IsLongest run rest → first_is is_digit run ≡ true → list_all is_digit run ≡ true → 0 < length run → has_leading_zero run ≡ false → (o : Option ℕ) → value_from 0 run ≡ o → IsPieceOf (run ++ rest) (value_step run o)
+value_is : (run rest : List ℕ) → IsLongest run rest → first_is is_digit run ≡ true → list_all is_digit run ≡ true → 0 < length run → has_leading_zero run ≡ false → (o : Option ℕ) → value_from 0 run ≡ o → IsPieceOf (run ++ rest) (value_piece run o)
 value_is run rest longest d all some z (Some n) e =
     let r = value_read run 0 n e in
     let small : n < 2 ^ 63 = r.1 (omega arith) in
@@ -195,27 +196,27 @@ some_from_first : (p : ℕ → Bool) (bytes : List ℕ) → first_is p bytes ≡
 some_from_first p [] e = cc
 some_from_first p (byte ∷ more) e = omega arith
 
-number_is : (byte : ℕ) (rest : List ℕ) → is_digit byte ≡ true → IsPieceOf (byte ∷ rest) (number_step (take_while is_digit (byte ∷ rest)))
-unfolding number_step
+number_is : (byte : ℕ) (rest : List ℕ) → is_digit byte ≡ true → IsPieceOf (byte ∷ rest) (number_piece (take_while is_digit (byte ∷ rest)))
+unfolding number_piece
 number_is byte rest d =
     let r = run is_digit (byte ∷ rest) in
-    let front = take_while is_digit (byte ∷ rest) in
+    let prefix = take_while is_digit (byte ∷ rest) in
     let more = take_while is_digit rest in
-    let begins : front ≡ byte ∷ more = run_begins is_digit is_digit byte rest d d in
-    let first : first_is is_digit front ≡ true = ap (first_is is_digit) begins ∙ d in
+    let begins : prefix ≡ byte ∷ more = run_begins is_digit is_digit byte rest d d in
+    let first : first_is is_digit prefix ≡ true = ap (first_is is_digit) begins ∙ d in
     let passes : list_all is_digit (byte ∷ more) ≡ true = ap (list_all is_digit) (sym begins) ∙ r.1.passes in
-    let lexeme : IsLexeme front = subst IsLexeme (sym begins) (IntShape byte more d (and_parts (is_digit byte) (list_all is_digit more) passes).1) in
-    let longest = run_longest is_digit is_digit digit_lexeme front r.0 lexeme first r.1.stops in
-    let P : List ℕ → Type 0 = λ bytes. IsPieceOf bytes (number_step front) in
-    subst P (sym r.1.parts) (cond_both (has_leading_zero front) _ _ (IsPieceOf (front ++ r.0))
-    (λ z. Breaks front r.0 longest (no_number front first (λ n h f. no_leading_zero n h front f z)))
-    (λ z. value_is front r.0 longest first r.1.passes (some_from_first is_digit front first) z (value_from 0 front) refl))
+    let lexeme : IsLexeme prefix = subst IsLexeme (sym begins) (IntShape byte more d (and_parts (is_digit byte) (list_all is_digit more) passes).1) in
+    let longest = run_longest is_digit is_digit digit_lexeme prefix r.0 lexeme first r.1.stops in
+    let P : List ℕ → Type 0 = λ bytes. IsPieceOf bytes (number_piece prefix) in
+    subst P (sym r.1.parts) (cond_both (has_leading_zero prefix) _ _ (IsPieceOf (prefix ++ r.0))
+    (λ z. Breaks prefix r.0 longest (no_number prefix first (λ n h f. no_leading_zero n h prefix f z)))
+    (λ z. value_is prefix r.0 longest first r.1.passes (some_from_first is_digit prefix first) z (value_from 0 prefix) refl))
 
 -- ---- text literals
 
 -- a word that begins with a quote is a text literal
 data IsQuotedWord (bytes : List ℕ) (word : Word) : Type 0 where
-  Quoted : (body text : List ℕ) → bytes ≡ quoted body → IsLiteralBody body text → length text ≤ 1024 → word ≡ words.Text text → IsQuotedWord bytes word
+  Quoted : (body text : List ℕ) → bytes ≡ in_quotes body → IsLiteralBody body text → length text ≤ MAX_LITERAL_BYTES → word ≡ words.Text text → IsQuotedWord bytes word
 
 quoted_word : (bytes : List ℕ) (word : Word) → IsSpelled bytes word → first_is is_quote bytes ≡ true → IsQuotedWord bytes word
 quoted_word _ _ (MarkSpelled mark) q = absurd (let f = (mark_begins mark).1 in cc)
@@ -223,18 +224,18 @@ quoted_word _ _ (NameSpelled name is free) q = absurd (not_both is_letter is_quo
 quoted_word _ _ (IntSpelled n h) q = absurd (not_both is_digit is_quote digit_not_quote (decimal n) (decimal_begins n h) q)
 quoted_word _ _ (TextSpelled body text t s) q = Quoted body text refl t s refl
 
-pub first_of_parts : (p : ℕ → Bool) (front rest bytes : List ℕ) → (front ≡ [] → ⊥) → bytes ≡ front ++ rest → first_is p front ≡ first_is p bytes
+pub first_of_parts : (p : ℕ → Bool) (prefix rest bytes : List ℕ) → (prefix ≡ [] → ⊥) → bytes ≡ prefix ++ rest → first_is p prefix ≡ first_is p bytes
 first_of_parts p [] rest bytes some e = absurd (some refl)
-first_of_parts p (byte ∷ front) rest bytes some e = ap (first_is p) (sym e)
+first_of_parts p (byte ∷ prefix) rest bytes some e = ap (first_is p) (sym e)
 
-quoted_parts : (body behind : List ℕ) → quote ∷ (body ++ quote ∷ behind) ≡ quoted body ++ behind
-quoted_parts body behind = ap (λ l. quote ∷ l) (simp append_assoc)
+quoted_parts : (body after : List ℕ) → quote ∷ (body ++ quote ∷ after) ≡ in_quotes body ++ after
+quoted_parts body after = ap (λ l. quote ∷ l) (simp append_assoc)
 
-pub quoted_longest : (body text behind : List ℕ) → IsLiteralBody body text → IsLongest (quoted body) behind
-quoted_longest body text behind h = record {
+pub quoted_longest : (body text after : List ℕ) → IsLiteralBody body text → IsLongest (in_quotes body) after
+quoted_longest body text after h = record {
   lexeme = TextShape body text h;
   longest = λ more after e lexeme.
-      let q = quote_lexeme (quoted body ++ more) lexeme refl in
+      let q = quote_lexeme (in_quotes body ++ more) lexeme refl in
       let f : body ++ quote ∷ more ≡ q.0 ++ quote ∷ [] = ap (drop 1) (quoted_parts body more ∙ q.2.is) in
       (body_unique body text more q.0 q.1 [] h q.2.means f).2;
 }
@@ -242,15 +243,15 @@ quoted_longest body text behind h = record {
 literal_is : (rest : List ℕ) (p : Piece) → IsRead false [] 0 rest p → IsPieceOf (quote ∷ rest) p
 literal_is rest pieces.End r = absurd r
 literal_is rest (pieces.Skip n) r = absurd r
-literal_is rest (pieces.Take n word) (body, text, behind, m, w, closed) =
-    (let P : Word → Type 0 = λ v. IsSpelled (quoted body) v in
-    (quoted body, behind, ap (λ l. quote ∷ l) closed.parts ∙ quoted_parts body behind, simp length-append (omega (arith, m)), quoted_longest body text behind closed.means, subst P (sym w) (TextSpelled body text closed.means closed.short)))
+literal_is rest (pieces.Take n word) (body, text, after, m, w, closed) =
+    (let P : Word → Type 0 = λ v. IsSpelled (in_quotes body) v in
+    (in_quotes body, after, ap (λ l. quote ∷ l) closed.parts ∙ quoted_parts body after, simp length-append (omega (arith, m)), quoted_longest body text after closed.means, subst P (sym w) (TextSpelled body text closed.means closed.short)))
 literal_is rest (pieces.Bad kind) (same, unclosed) =
     (let P : TokenKind → Type 0 = λ k. IsRefused (quote ∷ rest) k in
-    subst P (sym same) (NoText rest (λ front behind word e spelled.
-    let first : first_is is_quote front ≡ true = first_of_parts is_quote front behind (quote ∷ rest) (spelled_nonempty front word spelled) e in
-    elim (quoted_word front word spelled first) [
-      | Quoted body text f h s v ↦ (let g : rest ≡ body ++ quote ∷ behind = ap (drop 1) (e ∙ ap (λ l. l ++ behind) f ∙ sym (quoted_parts body behind)) in let l = unclosed body text behind g h in omega (arith, l, s))
+    subst P (sym same) (NoText rest (λ prefix after word e spelled.
+    let first : first_is is_quote prefix ≡ true = first_of_parts is_quote prefix after (quote ∷ rest) (spelled_nonempty prefix word spelled) e in
+    elim (quoted_word prefix word spelled first) [
+      | Quoted body text f h s v ↦ (let g : rest ≡ body ++ quote ∷ after = ap (drop 1) (e ∙ ap (λ l. l ++ after) f ∙ sym (quoted_parts body after)) in let l = unclosed body text after g h in omega (arith, l, s))
     ])))
   where
     spelled_nonempty : (bytes : List ℕ) (word : Word) → IsSpelled bytes word → bytes ≡ [] → ⊥
@@ -263,7 +264,7 @@ literal_is rest (pieces.Bad kind) (same, unclosed) =
 
 -- no sign of two bytes begins so
 abbrev HasNoLong : ℕ → List ℕ → Type 0
-HasNoLong byte rest = (next : ℕ) (behind : List ℕ) → rest ≡ next ∷ behind → long_sign byte next ≡ None
+HasNoLong byte rest = (next : ℕ) (after : List ℕ) → rest ≡ next ∷ after → long_sign byte next ≡ None
 
 signs_no_letter : (byte : ℕ) → is_signs byte ≡ true → is_letter byte ≡ false
 signs_no_letter byte o = grind arith
@@ -282,15 +283,15 @@ sign_of byte more s lexeme =
       | Long a b e h o ↦ (let f : a ∷ b ∷ [] ≡ byte ∷ more = sym e ∙ m.1 in let same : a ≡ byte = cc in TwoBytes m.0 b (let g : b ∷ [] ≡ more = cc in sym g) (ap (λ c. long_sign c b) (sym same) ∙ h))
     ]
 
--- a front that is not empty, by the first byte of the whole
-data IsBegun (byte : ℕ) (rest front behind : List ℕ) : Type 0 where
-  Begun : (more : List ℕ) → front ≡ byte ∷ more → rest ≡ more ++ behind → IsBegun byte rest front behind
+-- a prefix that is not empty, by the first byte of the whole
+data IsBegun (byte : ℕ) (rest prefix after : List ℕ) : Type 0 where
+  Begun : (more : List ℕ) → prefix ≡ byte ∷ more → rest ≡ more ++ after → IsBegun byte rest prefix after
 
-begun_by : (byte : ℕ) (rest front behind : List ℕ) → (front ≡ [] → ⊥) → byte ∷ rest ≡ front ++ behind → IsBegun byte rest front behind
-begun_by byte rest [] behind some e = absurd (some refl)
-begun_by byte rest (c ∷ more) behind some e = (let same : c ≡ byte = cc in Begun more (ap (λ d. d ∷ more) same) cc)
+begun_by : (byte : ℕ) (rest prefix after : List ℕ) → (prefix ≡ [] → ⊥) → byte ∷ rest ≡ prefix ++ after → IsBegun byte rest prefix after
+begun_by byte rest [] after some e = absurd (some refl)
+begun_by byte rest (c ∷ more) after some e = (let same : c ≡ byte = cc in Begun more (ap (λ d. d ∷ more) same) cc)
 
-short_is : (byte : ℕ) (rest : List ℕ) → is_signs byte ≡ true → is_blank byte ≡ false → byte ≢ hash → byte ≢ quote → HasNoLong byte rest → (o : Option Mark) → short_sign byte ≡ o → IsPieceOf (byte ∷ rest) (short_step o)
+short_is : (byte : ℕ) (rest : List ℕ) → is_signs byte ≡ true → is_blank byte ≡ false → byte ≢ hash → byte ≢ quote → HasNoLong byte rest → (o : Option Mark) → short_sign byte ≡ o → IsPieceOf (byte ∷ rest) (short_piece o)
 short_is byte rest s b h q long (Some mark) e =
     let spelled : spelling mark ≡ byte ∷ [] = short_spelled byte mark e in
     let P : List ℕ → Type 0 = λ w. IsSpelled w (words.Mark mark) in (
@@ -300,25 +301,25 @@ short_is byte rest s b h q long (Some mark) e =
       refl,
       record {
         lexeme = subst IsLexeme spelled (MarkShape mark);
-        longest = λ more behind f lexeme.
+        longest = λ more after f lexeme.
             elim (sign_of byte more s lexeme) [
               | OneByte m g k ↦ g
-              | TwoBytes m next g k ↦ absurd (let n = long next behind (f ∙ ap (λ l. l ++ behind) g) in cc)
+              | TwoBytes m next g k ↦ absurd (let n = long next after (f ∙ ap (λ l. l ++ after) g) in cc)
             ];
       },
       subst P spelled (MarkSpelled mark),
     )
 short_is byte rest s b h q long None e =
-    NoToken byte rest b h q (λ front behind f lexeme.
-    elim (begun_by byte rest front behind (lexeme_nonempty front lexeme) f) [
+    NoToken byte rest b h q (λ prefix after f lexeme.
+    elim (begun_by byte rest prefix after (lexeme_nonempty prefix lexeme) f) [
       | Begun more g k ↦ (
           elim (sign_of byte more s (subst IsLexeme g lexeme)) [
             | OneByte m i j ↦ (let n = e in cc)
-            | TwoBytes m next i j ↦ (let n = long next behind (k ∙ ap (λ l. l ++ behind) i) in cc)
+            | TwoBytes m next i j ↦ (let n = long next after (k ∙ ap (λ l. l ++ after) i) in cc)
           ])
     ])
 
-long_is : (byte next : ℕ) (rest : List ℕ) → is_signs byte ≡ true → is_blank byte ≡ false → byte ≢ hash → byte ≢ quote → (o : Option Mark) → long_sign byte next ≡ o → IsPieceOf (byte ∷ next ∷ rest) (long_step byte o)
+long_is : (byte next : ℕ) (rest : List ℕ) → is_signs byte ≡ true → is_blank byte ≡ false → byte ≢ hash → byte ≢ quote → (o : Option Mark) → long_sign byte next ≡ o → IsPieceOf (byte ∷ next ∷ rest) (long_piece byte o)
 long_is byte next rest s b h q (Some mark) e =
     let spelled : spelling mark ≡ byte ∷ next ∷ [] = long_spelled byte next mark e in
     let P : List ℕ → Type 0 = λ w. IsSpelled w (words.Mark mark) in (
@@ -328,7 +329,7 @@ long_is byte next rest s b h q (Some mark) e =
       refl,
       record {
         lexeme = subst IsLexeme spelled (MarkShape mark);
-        longest = λ more behind f lexeme.
+        longest = λ more after f lexeme.
             elim (sign_of byte (next ∷ more) s lexeme) [
               | OneByte m g k ↦ cc
               | TwoBytes m other g k ↦ (let i : more ≡ [] = cc in i)
@@ -337,18 +338,18 @@ long_is byte next rest s b h q (Some mark) e =
       subst P spelled (MarkSpelled mark),
     )
 long_is byte next rest s b h q None e =
-    short_is byte (next ∷ rest) s b h q (λ other behind f. (let same : next ≡ other = cc in ap (long_sign byte) (sym same) ∙ e)) (short_sign byte) refl
+    short_is byte (next ∷ rest) s b h q (λ other after f. (let same : next ≡ other = cc in ap (long_sign byte) (sym same) ∙ e)) (short_sign byte) refl
 
-sign_is : (byte : ℕ) (rest : List ℕ) → is_signs byte ≡ true → is_blank byte ≡ false → byte ≢ hash → byte ≢ quote → IsPieceOf (byte ∷ rest) (sign_step byte rest)
-sign_is byte [] s b h q = short_is byte [] s b h q (λ next behind f. cc) (short_sign byte) refl
+sign_is : (byte : ℕ) (rest : List ℕ) → is_signs byte ≡ true → is_blank byte ≡ false → byte ≢ hash → byte ≢ quote → IsPieceOf (byte ∷ rest) (sign_piece byte rest)
+sign_is byte [] s b h q = short_is byte [] s b h q (λ next after f. cc) (short_sign byte) refl
 sign_is byte (next ∷ rest) s b h q = long_is byte next rest s b h q (long_sign byte next) refl
 
 -- ---- all of them
 
-pub step_is : (bytes : List ℕ) → IsPieceOf bytes (step bytes)
-unfolding step
-step_is [] = refl
-step_is (byte ∷ rest) =
+pub next_piece_is : (bytes : List ℕ) → IsPieceOf bytes (next_piece bytes)
+unfolding next_piece
+next_piece_is [] = refl
+next_piece_is (byte ∷ rest) =
     let P : Piece → Type 0 = IsPieceOf (byte ∷ rest) in
     cond_both (is_blank byte) _ _ P
     (λ b. (byte ∷ [], rest, refl, refl, Blank byte rest b))
@@ -359,5 +360,5 @@ step_is (byte ∷ rest) =
     (λ l. cond_both (is_digit byte) _ _ P
     (λ d. number_is byte rest d)
     (λ d. cond_both (byte == quote) _ _ P
-    (λ q. let same : quote ≡ byte = sym (eqb-true byte quote q) in subst (λ c. IsPieceOf (c ∷ rest) (literal_step false [] 0 rest)) same (literal_is rest _ (read_is rest false [] 0 (omega arith))))
+    (λ q. let same : quote ≡ byte = sym (eqb-true byte quote q) in subst (λ c. IsPieceOf (c ∷ rest) (literal_piece false [] 0 rest)) same (literal_is rest _ (read_is rest false [] 0 (omega arith))))
     (λ q. sign_is byte rest (rw (l, d, q) refl) b (eqb-false byte hash h) (eqb-false byte quote q))))))

@@ -11,7 +11,7 @@ use Rattle.contract_tokens.specs.declared.token.Mark.{Mark}
 use Rattle.contract_tokens.specs.declared.token.Mark.TheVariants as marks
 use Rattle.contract_tokens.specs.Spelling.{spelling}
 use Rattle.contract_tokens.specs.Lexemes.{is_digit, is_blank, quote, hash, backslash, IsLiteralBody, Nothing, Plain, EscapedQuote, EscapedBackslash}
-use Rattle.contract_tokens.specs.Steps.{keyword_of, short_sign, long_sign}
+use Rattle.contract_tokens.specs.Pieces.{keyword_of, short_sign, long_sign}
 use Rattle.contract_tokens.proofs.Marks.{first_is}
 
 -- ---- marks
@@ -72,7 +72,7 @@ name_begins (byte ∷ more) is =
       | inr h ↦ absurd (let e : cond (is_letter byte) (foreign_byte (byte ∷ more)) (Some 0) ≡ None = is.good in let f : Some 0 ≡ None = subst (λ b. cond b (foreign_byte (byte ∷ more)) (Some 0) ≡ None) h e in cc)
     ]
 
--- the value of digits behind a number
+-- the value of digits after a number
 abbrev pub read_on : ℕ → List ℕ → ℕ
 read_on n [] = n
 read_on n (c ∷ cs) = read_on (10 * n + (c - 48)) cs

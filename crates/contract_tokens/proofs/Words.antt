@@ -9,7 +9,7 @@ use Rattle.contract_tokens.specs.declared.token.Mark.{Mark}
 use Rattle.contract_tokens.specs.declared.token.Word.{Word}
 use Rattle.contract_tokens.specs.declared.token.Word.TheVariants as words
 use Rattle.contract_tokens.specs.Spelling.{spelling}
-use Rattle.contract_tokens.specs.Lexemes.{is_digit, quote, IsLiteralBody, quoted, IsSpelled, MarkSpelled, NameSpelled, IntSpelled, TextSpelled, IsLexeme, MarkShape, NameShape, IntShape, TextShape}
+use Rattle.contract_tokens.specs.Lexemes.{is_digit, quote, IsLiteralBody, in_quotes, IsSpelled, MarkSpelled, NameSpelled, IntSpelled, TextSpelled, IsLexeme, MarkShape, NameShape, IntShape, TextShape}
 use Rattle.contract_tokens.proofs.Marks.{first_is, is_other, Keyword, Short, Long, written}
 use Rattle.contract_tokens.proofs.Shapes.{is_quote, begins_gap, spelling_injective, mark_begins, letter_not_digit, letter_not_quote, digit_not_quote, letter_not_gap, digit_not_gap, not_both, name_begins, decimal_begins, body_unique}
 
@@ -53,7 +53,7 @@ digit_lexeme _ (IntShape byte more d h) f = and_from (is_digit byte) (list_all i
 digit_lexeme _ (TextShape body text h) f = cc
 
 pub record IsQuoted (bytes body text : List ℕ) : Type 0 where
-  pub is : bytes ≡ quoted body
+  pub is : bytes ≡ in_quotes body
   pub means : IsLiteralBody body text
 
 pub quote_lexeme : (bytes : List ℕ) → IsLexeme bytes → first_is is_quote bytes ≡ true → (body text : List ℕ) × IsQuoted bytes body text

@@ -1,8 +1,9 @@
 -- The tokens of the contract language, by the bytes that spell them.
 use Rattle.std.specs.Prelude.{◌≡◌, ◌≢◌, ℕ, ◌^◌, ◌<◌, ◌≤◌, Bool, true, false, ◌&&◌, ◌||◌, not, ◌==◌, nat_le, List, [], ◌∷◌, ◌++◌, length, pos, decimal}
-use Rattle.std.specs.List.{list_all}
+use Rattle.std.specs.List.{list_all, flat_map}
 use Rattle.lc_base.specs.NameBytes.{is_letter, is_name_byte, IsName}
 use Rattle.lc_base.specs.TextBytes.{is_text_byte}
+use Rattle.contract_tokens.specs.declared.limits.TheConstants.{MAX_LITERAL_BYTES}
 use Rattle.contract_tokens.specs.declared.token.Mark.{Mark}
 use Rattle.contract_tokens.specs.declared.token.Word.{Word}
 use Rattle.contract_tokens.specs.declared.token.Word.TheVariants as words
@@ -12,28 +13,33 @@ use Rattle.contract_tokens.specs.Spelling.{spelling}
 
 -- ---- bytes
 
--- space, tab, CR, LF
+-- Whether a byte is a blank: a space, a tab, CR or LF.
 abbrev pub is_blank : ℕ → Bool
 is_blank byte = byte == 32 || byte == 9 || byte == 13 || byte == 10
 
+-- Whether a byte is one of the digits 0 to 9.
 abbrev pub is_digit : ℕ → Bool
 is_digit byte = nat_le 48 byte && nat_le byte 57
 
+-- The byte that ends a line: LF.
 abbrev pub newline : ℕ
 newline = 10
 
+-- The byte that begins and ends a text literal: a double quote.
 abbrev pub quote : ℕ
 quote = 34
 
+-- The byte that begins a comment.
 abbrev pub hash : ℕ
 hash = 35
 
+-- The byte that begins an escape.
 abbrev pub backslash : ℕ
 backslash = 92
 
 -- ---- what stands between tokens
 
--- nothing, or a line that ends here
+-- Nothing is left, or a line ends here.
 abbrev pub IsLineEnd : List ℕ → Type 0
 IsLineEnd [] = Unit {0}
 IsLineEnd (byte ∷ _) = byte ≡ newline
@@ -41,48 +47,87 @@ IsLineEnd (byte ∷ _) = byte ≡ newline
 -- A gap before the rest of the source: a blank, or a comment up to the end of its line.
 pub data IsGap : List ℕ → List ℕ → Type 0 where
   Blank : (byte : ℕ) (rest : List ℕ) → is_blank byte ≡ true → IsGap (byte ∷ []) rest
-  Comment : (text rest : List ℕ) → list_all (λ byte. not (byte == newline)) text ≡ true → IsLineEnd rest → IsGap (hash ∷ text) rest
+  Comment :
+      (text rest : List ℕ) → list_all (λ byte. not (byte == newline)) text ≡ true → IsLineEnd rest
+      → IsGap (hash ∷ text) rest
 
 -- ---- tokens
 
 -- The bytes between the quotes of a text literal, and the bytes that they mean.
 pub data IsLiteralBody : List ℕ → List ℕ → Type 0 where
   Nothing : IsLiteralBody [] []
-  Plain : (byte : ℕ) (body text : List ℕ) → is_text_byte byte ≡ true → byte ≢ quote → byte ≢ backslash → IsLiteralBody body text → IsLiteralBody (byte ∷ body) (byte ∷ text)
-  EscapedQuote : (body text : List ℕ) → IsLiteralBody body text → IsLiteralBody (backslash ∷ quote ∷ body) (quote ∷ text)
-  EscapedBackslash : (body text : List ℕ) → IsLiteralBody body text → IsLiteralBody (backslash ∷ backslash ∷ body) (backslash ∷ text)
+  Plain :
+      (byte : ℕ) (body text : List ℕ) → is_text_byte byte ≡ true → byte ≢ quote → byte ≢ backslash
+      → IsLiteralBody body text → IsLiteralBody (byte ∷ body) (byte ∷ text)
+  EscapedQuote :
+      (body text : List ℕ) → IsLiteralBody body text
+      → IsLiteralBody (backslash ∷ quote ∷ body) (quote ∷ text)
+  EscapedBackslash :
+      (body text : List ℕ) → IsLiteralBody body text
+      → IsLiteralBody (backslash ∷ backslash ∷ body) (backslash ∷ text)
 
--- a text literal with its quotes
-abbrev pub quoted : List ℕ → List ℕ
-quoted body = quote ∷ (body ++ quote ∷ [])
+-- The bytes between quotes.
+abbrev pub in_quotes : List ℕ → List ℕ
+in_quotes body = quote ∷ (body ++ quote ∷ [])
+
+-- A byte of a text has a backslash before it in a literal: a quote or a backslash.
+abbrev pub is_escaped : ℕ → Bool
+is_escaped byte = byte == quote || byte == backslash
+
+-- A byte of a text as a literal has it, by whether it is escaped.
+abbrev pub escape : Bool → ℕ → List ℕ
+escape true byte = backslash ∷ byte ∷ []
+escape false byte = byte ∷ []
+
+-- The literal that is printed for a text, without its quotes.
+abbrev pub literal_body : List ℕ → List ℕ
+literal_body text = flat_map (λ byte. escape (is_escaped byte) byte) text
 
 -- The bytes spell this word.
 pub data IsSpelled : List ℕ → Word → Type 0 where
   MarkSpelled : (mark : Mark) → IsSpelled (spelling mark) (words.Mark mark)
-  NameSpelled : (name : List ℕ) → IsName name → ((mark : Mark) → spelling mark ≢ name) → IsSpelled name (words.Name name)
+  NameSpelled :
+      (name : List ℕ) → IsName name → ((mark : Mark) → spelling mark ≢ name)
+      → IsSpelled name (words.Name name)
   IntSpelled : (n : ℕ) → n < 2 ^ 63 → IsSpelled (decimal n) (words.Int (pos n))
-  TextSpelled : (body text : List ℕ) → IsLiteralBody body text → length text ≤ 1024 → IsSpelled (quoted body) (words.Text text)
+  TextSpelled :
+      (body text : List ℕ) → IsLiteralBody body text → length text ≤ MAX_LITERAL_BYTES
+      → IsSpelled (in_quotes body) (words.Text text)
 
--- The bytes have the shape of a token. Rules of size, and that a number begins with no 0 too many, are left out.
+-- The bytes have the shape of a token. Rules of size, and that a number begins with no 0 too many,
+-- are left out.
 pub data IsLexeme : List ℕ → Type 0 where
   MarkShape : (mark : Mark) → IsLexeme (spelling mark)
-  NameShape : (byte : ℕ) (more : List ℕ) → is_letter byte ≡ true → list_all is_name_byte more ≡ true → IsLexeme (byte ∷ more)
-  IntShape : (byte : ℕ) (more : List ℕ) → is_digit byte ≡ true → list_all is_digit more ≡ true → IsLexeme (byte ∷ more)
-  TextShape : (body text : List ℕ) → IsLiteralBody body text → IsLexeme (quoted body)
+  NameShape :
+      (byte : ℕ) (more : List ℕ) → is_letter byte ≡ true → list_all is_name_byte more ≡ true
+      → IsLexeme (byte ∷ more)
+  IntShape :
+      (byte : ℕ) (more : List ℕ) → is_digit byte ≡ true → list_all is_digit more ≡ true
+      → IsLexeme (byte ∷ more)
+  TextShape : (body text : List ℕ) → IsLiteralBody body text → IsLexeme (in_quotes body)
 
--- The longest lexeme at the front, before the rest.
-pub record IsLongest (front rest : List ℕ) : Type 0 where
-  pub lexeme : IsLexeme front
-  pub longest : (more behind : List ℕ) → rest ≡ more ++ behind → IsLexeme (front ++ more) → more ≡ []
+-- The prefix is the longest lexeme with which the source begins.
+pub record IsLongest (prefix rest : List ℕ) : Type 0 where
+  pub lexeme : IsLexeme prefix
+  pub longest : (more after : List ℕ) → rest ≡ more ++ after → IsLexeme (prefix ++ more) → more ≡ []
 
--- No lexeme stands at the front.
+-- No lexeme is a prefix of the bytes.
 abbrev pub HasNoLexeme : List ℕ → Type 0
-HasNoLexeme bytes = (front rest : List ℕ) → bytes ≡ front ++ rest → IsLexeme front → ⊥
+HasNoLexeme bytes = (prefix rest : List ℕ) → bytes ≡ prefix ++ rest → IsLexeme prefix → ⊥
 
--- What stands at the front is no token, and why.
+-- The bytes begin with no token, and why.
 pub data IsRefused : List ℕ → TokenKind → Type 0 where
-  -- the longest lexeme spells no word: a name too long, a number too large or with a leading 0, a text too long
-  Breaks : (front rest : List ℕ) → IsLongest front rest → ((word : Word) → IsSpelled front word → ⊥) → IsRefused (front ++ rest) kinds.Literal
+  -- the longest lexeme spells no word: a name too long, a number too large or with a leading 0, a
+  -- text too long
+  Breaks :
+      (prefix rest : List ℕ) → IsLongest prefix rest → ((word : Word) → IsSpelled prefix word → ⊥)
+      → IsRefused (prefix ++ rest) kinds.Literal
   -- a quote begins no text literal
-  NoText : (rest : List ℕ) → ((front behind : List ℕ) (word : Word) → quote ∷ rest ≡ front ++ behind → IsSpelled front word → ⊥) → IsRefused (quote ∷ rest) kinds.Literal
-  NoToken : (byte : ℕ) (rest : List ℕ) → is_blank byte ≡ false → byte ≢ hash → byte ≢ quote → HasNoLexeme (byte ∷ rest) → IsRefused (byte ∷ rest) kinds.Byte
+  NoText :
+      (rest : List ℕ)
+      → ((prefix after : List ℕ) (word : Word)
+      → quote ∷ rest ≡ prefix ++ after → IsSpelled prefix word → ⊥)
+      → IsRefused (quote ∷ rest) kinds.Literal
+  NoToken :
+      (byte : ℕ) (rest : List ℕ) → is_blank byte ≡ false → byte ≢ hash → byte ≢ quote
+      → HasNoLexeme (byte ∷ rest) → IsRefused (byte ∷ rest) kinds.Byte

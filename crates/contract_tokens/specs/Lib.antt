@@ -1,7 +1,5 @@
 pub mod Spelling
 pub mod Lexemes
 pub mod Tokens
-pub mod Answers
-pub mod Steps
+pub mod Pieces
 pub mod Listing
-pub mod Printing

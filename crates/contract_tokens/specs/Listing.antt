@@ -1,57 +1,55 @@
--- The tokens of what is left of a source, as a list of which the code cuts off one after the other.
+-- The tokens that are left of a source, as a list from which the code takes one after the other.
 use Rattle.std.specs.Prelude.{◌≡◌, ℕ, zero, suc, ◌+◌, ◌≤◌, List, [], ◌∷◌, length, drop, Option, Some, None, Result, Ok, Err}
 use Rattle.contract_tokens.specs.declared.token.Token.{Token}
+use Rattle.contract_tokens.specs.declared.token.TokenKind.{TokenKind}
 use Rattle.contract_tokens.specs.declared.token.Word.TheVariants as words
-use Rattle.contract_tokens.specs.declared.token.TokenError.{TokenError}
-use Rattle.contract_tokens.specs.declared.token.TokenError.TheVariants.{Refused, Memory}
 use Rattle.contract_tokens.specs.declared.piece.Piece.{Piece}
 use Rattle.contract_tokens.specs.declared.piece.Piece.TheVariants as pieces
-use Rattle.contract_tokens.specs.Steps.{step}
+use Rattle.contract_tokens.specs.Pieces.{next_piece}
 
--- the tokens from a place on, by the piece that stands there and by those behind it
-abbrev pub listed_by : Piece → ℕ → List ℕ → (ℕ → List ℕ → List Token) → List Token
-listed_by pieces.End at bytes behind = record { at = at; word = words.End } ∷ []
-listed_by (pieces.Skip n) at bytes behind = behind (at + n) (drop n bytes)
-listed_by (pieces.Take n word) at bytes behind = record { at = at; word = word } ∷ behind (at + n) (drop n bytes)
-listed_by (pieces.Bad kind) at bytes behind = []
+-- The tokens from an offset on, by the piece that stands there and by those after it.
+abbrev pub tokens_by_piece : Piece → ℕ → List ℕ → (ℕ → List ℕ → List Token) → List Token
+tokens_by_piece pieces.End at bytes others = record { at = at; word = words.End } ∷ []
+tokens_by_piece (pieces.Skip n) at bytes others = others (at + n) (drop n bytes)
+tokens_by_piece (pieces.Take n word) at bytes others =
+    record { at = at; word = word } ∷ others (at + n) (drop n bytes)
+tokens_by_piece (pieces.Bad kind) at bytes others = []
 
--- those of at most so many pieces
-unfoldable pub listed : ℕ → ℕ → List ℕ → List Token
-listed zero at bytes = []
-listed (suc turns) at bytes = listed_by (step bytes) at bytes (listed turns)
+-- The tokens of at most so many pieces.
+unfoldable pub tokens_within : ℕ → ℕ → List ℕ → List Token
+tokens_within zero at bytes = []
+tokens_within (suc turns) at bytes =
+    tokens_by_piece (next_piece bytes) at bytes (tokens_within turns)
 
--- the tokens of what is left of a source from a place on, up to its end or its first fault
+-- The tokens of a source from an offset on, up to its end or its first fault.
 unfoldable pub tokens_from : ℕ → List ℕ → List Token
-tokens_from at bytes = listed (suc (length bytes)) at bytes
+tokens_from at bytes = tokens_within (suc (length bytes)) at bytes
 
--- the tokens from a place on, if there is one
-abbrev pub left : List ℕ → Option ℕ → List Token
-left source None = []
-left source (Some at) = tokens_from at (drop at source)
+-- The tokens that are left at an offset; none are where there is no offset.
+abbrev pub tokens_left : List ℕ → Option ℕ → List Token
+tokens_left source None = []
+tokens_left source (Some at) = tokens_from at (drop at source)
 
-abbrev pub IsPlaceIn : List ℕ → Option ℕ → Type 0
-IsPlaceIn source None = Unit {0}
-IsPlaceIn source (Some at) = at ≤ length source
+-- The offset, if there is one, is within the source.
+abbrev pub IsOffsetIn : List ℕ → Option ℕ → Type 0
+IsOffsetIn source None = Unit {0}
+IsOffsetIn source (Some at) = at ≤ length source
 
--- a token before the others; where there is none, nothing is left
-abbrev pub ahead : Option Token → List Token → List Token
-ahead None rest = []
-ahead (Some token) rest = token ∷ rest
+-- A token before the others; where there is none, nothing is left.
+abbrev pub next_and_rest : Option Token → List Token → List Token
+next_and_rest None rest = []
+next_and_rest (Some token) rest = token ∷ rest
 
--- The list begins with this token, and goes on at the place behind it; it is empty where there is none.
+-- The list begins with this token, and goes on at the offset after it; it is empty where there is
+-- none.
 abbrev pub IsFirst : List ℕ → List Token → Option (Token × Option ℕ) → Type 0
 IsFirst source list None = list ≡ []
-IsFirst source list (Some (token, behind)) = (list ≡ token ∷ left source behind) × IsPlaceIn source behind
+IsFirst source list (Some (token, next)) =
+    (list ≡ token ∷ tokens_left source next) × IsOffsetIn source next
 
--- the place behind the piece at this one, or none at the end
-abbrev pub place_behind : ℕ → Piece → Result (Option ℕ) TokenError
-place_behind at pieces.End = Ok None
-place_behind at (pieces.Skip n) = Ok (Some (at + n))
-place_behind at (pieces.Take n word) = Ok (Some (at + n))
-place_behind at (pieces.Bad kind) = Err (Refused at kind)
-
--- The answer is this one, unless memory was wanting.
-abbrev pub GoesTo : Result (Option ℕ) TokenError → Result (Option ℕ) TokenError → Type 0
-GoesTo place (Ok other) = place ≡ Ok other
-GoesTo place (Err (Refused at kind)) = place ≡ Err (Refused at kind)
-GoesTo place (Err Memory) = Unit {0}
+-- The offset after the piece at this one, none at the end, or the fault there.
+abbrev pub offset_after : ℕ → Piece → Result (Option ℕ) (ℕ × TokenKind)
+offset_after at pieces.End = Ok None
+offset_after at (pieces.Skip n) = Ok (Some (at + n))
+offset_after at (pieces.Take n word) = Ok (Some (at + n))
+offset_after at (pieces.Bad kind) = Err (at, kind)

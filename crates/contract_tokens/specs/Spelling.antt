@@ -3,6 +3,7 @@ use Rattle.std.specs.Prelude.{ℕ, List, codes}
 use Rattle.contract_tokens.specs.declared.token.Mark.{Mark}
 use Rattle.contract_tokens.specs.declared.token.Mark.TheVariants as marks
 
+-- The bytes of a keyword or a sign.
 abbrev pub spelling : Mark → List ℕ
 spelling marks.Fn = codes "fn"
 spelling marks.Let = codes "let"

@@ -1,31 +1,47 @@
--- A source is cut into tokens: the longest at each place, with gaps between them, up to the end or the first fault.
-use Rattle.std.specs.Prelude.{ℕ, ◌+◌, List, [], ◌∷◌, ◌++◌, length, Result, Ok, Err}
+-- How a source is tokenized: the longest token at each offset, with gaps between them, up to the
+-- end or the first fault.
+use Rattle.std.specs.Prelude.{ℕ, ◌+◌, List, [], ◌∷◌, ◌++◌, length, Option, Some, None, Result, Ok, Err}
 use Rattle.contract_tokens.specs.declared.token.Token.{Token}
 use Rattle.contract_tokens.specs.declared.token.Word.{Word}
 use Rattle.contract_tokens.specs.declared.token.Word.TheVariants as words
 use Rattle.contract_tokens.specs.declared.token.TokenKind.{TokenKind}
+use Rattle.contract_tokens.specs.declared.token.TokenError.{TokenError}
+use Rattle.contract_tokens.specs.declared.token.TokenError.TheVariants as errors
 use Rattle.contract_tokens.specs.Lexemes.{IsGap, IsLongest, IsSpelled, IsRefused}
 
--- the tokens, or the place and the kind of the first fault
+-- The tokens of a source, or the offset and the kind of its first fault.
 abbrev pub Outcome : Type 0
 Outcome = Result (List Token) (ℕ × TokenKind)
 
--- the outcome with a token before the others
-abbrev pub behind : Token → Outcome → Outcome
-behind token (Ok list) = Ok (token ∷ list)
-behind token (Err fault) = Err fault
+-- The outcome with one more token before the others.
+abbrev pub prepend_token : Token → Outcome → Outcome
+prepend_token token (Ok list) = Ok (token ∷ list)
+prepend_token token (Err fault) = Err fault
 
--- What is left of a source, from a place on, has this outcome.
-pub data IsCut : ℕ → List ℕ → Outcome → Type 0 where
-  Ends : (at : ℕ) → IsCut at [] (Ok (record { at = at; word = words.End } ∷ []))
-  Skips : (at : ℕ) (gap rest : List ℕ) (outcome : Outcome) → IsGap gap rest → IsCut (at + length gap) rest outcome → IsCut at (gap ++ rest) outcome
-  Takes : (at : ℕ) (front rest : List ℕ) (word : Word) (outcome : Outcome) → IsLongest front rest → IsSpelled front word → IsCut (at + length front) rest outcome → IsCut at (front ++ rest) (behind (record { at = at; word = word }) outcome)
-  Refuses : (at : ℕ) (bytes : List ℕ) (kind : TokenKind) → IsRefused bytes kind → IsCut at bytes (Err (at, kind))
+-- What stands at an offset of a source and after it has this outcome.
+pub data IsTokenized : ℕ → List ℕ → Outcome → Type 0 where
+  Ends : (at : ℕ) → IsTokenized at [] (Ok (record { at = at; word = words.End } ∷ []))
+  Skips :
+      (at : ℕ) (gap rest : List ℕ) (outcome : Outcome) → IsGap gap rest
+      → IsTokenized (at + length gap) rest outcome → IsTokenized at (gap ++ rest) outcome
+  Takes :
+      (at : ℕ) (prefix rest : List ℕ) (word : Word) (outcome : Outcome) → IsLongest prefix rest
+      → IsSpelled prefix word → IsTokenized (at + length prefix) rest outcome
+      → IsTokenized at (prefix ++ rest) (prepend_token (record { at = at; word = word }) outcome)
+  Refuses :
+      (at : ℕ) (bytes : List ℕ) (kind : TokenKind) → IsRefused bytes kind
+      → IsTokenized at bytes (Err (at, kind))
 
--- These are the tokens of what is left of a source, from a place on.
+-- These are the tokens of what stands at an offset of a source and after it.
 abbrev pub IsTokens : ℕ → List ℕ → List Token → Type 0
-IsTokens at bytes list = IsCut at bytes (Ok list)
+IsTokens at bytes list = IsTokenized at bytes (Ok list)
 
--- The first fault of what is left of a source stands at this place.
+-- The first fault of what stands at an offset of a source and after it is of this kind, at the
+-- second offset.
 abbrev pub IsTokenFault : ℕ → List ℕ → ℕ → TokenKind → Type 0
-IsTokenFault at bytes place kind = IsCut at bytes (Err (place, kind))
+IsTokenFault at bytes offset kind = IsTokenized at bytes (Err (offset, kind))
+
+-- The fault that an error tells: none where it is out of memory.
+abbrev pub fault_of : TokenError → Option (ℕ × TokenKind)
+fault_of (errors.Refused at kind) = Some (at, kind)
+fault_of errors.Memory = None

@@ -1,6 +1,7 @@
-// The tokens of the contract language: what a source's bytes are cut into before it is parsed.
+//! The tokens of the contract language: what a source's bytes are turned into before it is parsed.
 #![tactic(auto)]
 
+mod limits;
 mod literal;
 mod name;
 mod number;
@@ -9,5 +10,6 @@ mod sign;
 mod token;
 mod tokens;
 
+pub use limits::MAX_LITERAL_BYTES;
 pub use token::{Mark, Token, TokenError, TokenKind, Word};
 pub use tokens::Tokens;

@@ -4,18 +4,17 @@ ghost use Rattle.std.specs.Prelude.{◌≡◌, ℕ, false, [], IfOk};
 ghost use Rattle.lc_base.specs.TextBytes.{is_text_byte, IsText};
 ghost use Rattle.contract_tokens.specs.declared.piece.Piece.TheVariants as Piece;
 ghost use Rattle.contract_tokens.specs.declared.token.Word.TheVariants as Word;
-ghost use Rattle.contract_tokens.specs.Steps.{meaning_of, literal_step};
+ghost use Rattle.contract_tokens.specs.Pieces.{literal_byte, literal_piece};
 
+use crate::limits::MAX_LITERAL_BYTES;
 use crate::piece::Piece;
 use crate::token::{TokenKind, Word};
-use lc_base::{Memory, Text, TextError};
+use lc_base::{Memory, Text, TextError, is_text_byte};
 use std::alloc::Global;
 
-const MAX_LEN: usize = 1024;
-
-/// What a byte of a text literal is.
+/// What a byte of a text literal stands for.
 #[derive(Clone, Copy, Debug)]
-pub enum Meaning {
+pub enum LiteralByte {
     /// The quote that closes the literal.
     Close,
     /// A backslash that begins an escape.
@@ -26,34 +25,28 @@ pub enum Meaning {
     Fault,
 }
 
-fn is_text_byte(byte: u8) -> bool
-    ensures { result ≡ is_text_byte byte }
-{
-    matches!(byte, 0x20..=0x7E)
-}
-
-fn meaning_of(escaped: bool, byte: u8) -> Meaning
-    ensures { result ≡ meaning_of escaped byte }
+fn literal_byte(escaped: bool, byte: u8) -> LiteralByte
+    ensures { result ≡ literal_byte escaped byte }
 {
     if escaped {
         if byte == b'"' || byte == b'\\' {
-            Meaning::Itself
+            LiteralByte::Itself
         } else {
-            Meaning::Fault
+            LiteralByte::Fault
         }
     } else if byte == b'"' {
-        Meaning::Close
+        LiteralByte::Close
     } else if byte == b'\\' {
-        Meaning::Escape
+        LiteralByte::Escape
     } else if is_text_byte(byte) {
-        Meaning::Itself
+        LiteralByte::Itself
     } else {
-        Meaning::Fault
+        LiteralByte::Fault
     }
 }
 
 // A text that was read has no byte and no length that `Text::new` refuses.
-fn closed(alloc: Global, count: usize, text: &[u8]) -> Result<Piece, Memory>
+fn closed_literal(alloc: Global, count: usize, text: &[u8]) -> Result<Piece, Memory>
     requires { IsText text.now }
     ensures { IfOk result (λ piece. piece ≡ Piece.Take count (Word.Text text.now)) }
 {
@@ -65,24 +58,24 @@ fn closed(alloc: Global, count: usize, text: &[u8]) -> Result<Piece, Memory>
 }
 
 /// The literal whose first quote stands before the rest.
-#[tactic(auto, unfolding(crate::specs::Steps::literal_step))]
+#[tactic(auto, unfolding(crate::specs::Pieces::literal_piece))]
 pub fn literal_piece(alloc: Global, rest: &[u8]) -> Result<Piece, Memory>
-    ensures { IfOk result (λ piece. piece ≡ literal_step false [] 0 rest.now) }
+    ensures { IfOk result (λ piece. piece ≡ literal_piece false [] 0 rest.now) }
 {
     let mut text = Vec::new(alloc);
     let mut escaped = false;
     for (i, byte) in rest.iter().enumerate() {
-        match meaning_of(escaped, *byte) {
-            Meaning::Close => return closed(alloc, i + 2, text.as_slice()),
-            Meaning::Escape => escaped = true,
-            Meaning::Itself => {
-                if text.len() == MAX_LEN {
+        match literal_byte(escaped, *byte) {
+            LiteralByte::Close => return closed_literal(alloc, i + 2, text.as_slice()),
+            LiteralByte::Escape => escaped = true,
+            LiteralByte::Itself => {
+                if text.len() == MAX_LITERAL_BYTES {
                     return Ok(Piece::Bad(TokenKind::Literal));
                 }
                 text.push(*byte)?;
                 escaped = false;
             }
-            Meaning::Fault => return Ok(Piece::Bad(TokenKind::Literal)),
+            LiteralByte::Fault => return Ok(Piece::Bad(TokenKind::Literal)),
         }
     }
     Ok(Piece::Bad(TokenKind::Literal))

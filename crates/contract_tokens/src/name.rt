@@ -1,13 +1,13 @@
 //! Names and keywords.
 
 ghost use Rattle.std.specs.Prelude.{◌≡◌};
-ghost use Rattle.contract_tokens.specs.Steps.{keyword_of, name_step};
+ghost use Rattle.contract_tokens.specs.Pieces.{keyword_of, name_piece};
 
 use crate::piece::Piece;
 use crate::token::{Mark, TokenKind, Word};
 use lc_base::Name;
 
-#[tactic(auto, unfolding(crate::specs::Steps::keyword_of))]
+#[tactic(auto, unfolding(crate::specs::Pieces::keyword_of))]
 fn keyword_of(run: &[u8]) -> Option<Mark>
     ensures { result ≡ keyword_of run.now }
 {
@@ -28,9 +28,9 @@ fn keyword_of(run: &[u8]) -> Option<Mark>
 }
 
 /// The keyword or the name that the bytes are.
-#[tactic(auto, unfolding(crate::specs::Steps::name_step))]
+#[tactic(auto, unfolding(crate::specs::Pieces::name_piece))]
 pub fn name_piece(run: &[u8]) -> Piece
-    ensures { result ≡ name_step run.now }
+    ensures { result ≡ name_piece run.now }
 {
     if let Some(mark) = keyword_of(run) {
         return Piece::Take(run.len(), Word::Mark(mark));

@@ -1,13 +1,13 @@
 //! Numbers.
 
 ghost use Rattle.std.specs.Prelude.{◌≡◌, ℕ, ◌<◌, ◌^◌, ◌≤◌, IfSome};
-ghost use Rattle.contract_tokens.specs.Steps.{value_from, has_leading_zero, number_step};
+ghost use Rattle.contract_tokens.specs.Pieces.{value_from, has_leading_zero, number_piece};
 
 use crate::piece::Piece;
 use crate::token::{TokenKind, Word};
 
 /// The value of the digits, unless it is 2 ^ 63 or more.
-#[tactic(auto, unfolding(crate::specs::Steps::value_from))]
+#[tactic(auto, unfolding(crate::specs::Pieces::value_from))]
 fn value_of(digits: &[u8]) -> Option<u64>
     ensures value { result ≡ value_from 0 digits.now }
     ensures small { IfSome result (λ n. n < 2 ^ 63) }
@@ -33,9 +33,9 @@ fn has_leading_zero(digits: &[u8]) -> bool
 }
 
 /// The number that the digits are.
-#[tactic(auto, unfolding(crate::specs::Steps::number_step))]
+#[tactic(auto, unfolding(crate::specs::Pieces::number_piece))]
 pub fn number_piece(digits: &[u8]) -> Piece
-    ensures { result ≡ number_step digits.now }
+    ensures { result ≡ number_piece digits.now }
 {
     if has_leading_zero(digits) {
         return Piece::Bad(TokenKind::Literal);

@@ -1,20 +1,20 @@
-//! What stands at the front of a source: a gap, a token, or a fault.
+//! What stands at the start of a source: a gap, a token, or a fault.
 
 ghost use Rattle.std.specs.Prelude.{◌≡◌, ℕ, ◌+◌, ◌-◌, ◌<◌, ◌^◌, not, ◌==◌, List, [], ◌∷◌, length, take, drop, take_while, IfOk};
 ghost use Rattle.std.specs.List.{prefix_len};
 ghost use Rattle.lc_base.specs.NameBytes.{is_letter, is_name_byte};
 ghost use Rattle.contract_tokens.specs.Lexemes.{is_blank, is_digit, newline};
-ghost use Rattle.contract_tokens.specs.Steps.{step, begun_step};
+ghost use Rattle.contract_tokens.specs.Pieces.{next_piece, nonempty_piece};
 
 use crate::literal::literal_piece;
 use crate::name::name_piece;
 use crate::number::number_piece;
 use crate::sign::sign_piece;
 use crate::token::{TokenKind, Word};
-use lc_base::Memory;
+use lc_base::{Memory, is_name_byte};
 use std::alloc::Global;
 
-/// What stands at the front of a source.
+/// What stands at the start of a source.
 #[derive(Debug, Drop)]
 pub enum Piece {
     /// Nothing: the source ends.
@@ -37,12 +37,6 @@ fn is_letter(byte: u8) -> bool
     ensures { result ≡ is_letter byte }
 {
     matches!(byte, b'a'..=b'z')
-}
-
-fn is_name_byte(byte: u8) -> bool
-    ensures { result ≡ is_name_byte byte }
-{
-    matches!(byte, b'a'..=b'z' | b'0'..=b'9' | b'_')
 }
 
 fn is_digit(byte: u8) -> bool
@@ -81,9 +75,9 @@ fn digit_run(bytes: &[u8]) -> &[u8]
     &bytes[..digit_count(bytes)]
 }
 
-fn begun(alloc: Global, first: u8, bytes: &[u8]) -> Result<Piece, Memory>
+fn nonempty_piece(alloc: Global, first: u8, bytes: &[u8]) -> Result<Piece, Memory>
     requires { bytes.now ≡ first ∷ drop 1 bytes.now }
-    ensures { IfOk result (λ piece. piece ≡ begun_step first (drop 1 bytes.now)) }
+    ensures { IfOk result (λ piece. piece ≡ nonempty_piece first (drop 1 bytes.now)) }
 {
     if is_blank(first) {
         return Ok(Piece::Skip(1));
@@ -103,13 +97,13 @@ fn begun(alloc: Global, first: u8, bytes: &[u8]) -> Result<Piece, Memory>
     Ok(sign_piece(first, &bytes[1..]))
 }
 
-/// The piece at the front of the bytes.
-#[tactic(auto, unfolding(crate::specs::Steps::step))]
+/// The piece at the start of the bytes.
+#[tactic(auto, unfolding(crate::specs::Pieces::next_piece))]
 pub fn next_piece(alloc: Global, bytes: &[u8]) -> Result<Piece, Memory>
-    ensures { IfOk result (λ piece. piece ≡ step bytes.now) }
+    ensures { IfOk result (λ piece. piece ≡ next_piece bytes.now) }
 {
     match bytes {
         [] => Ok(Piece::End),
-        [first, ..] => begun(alloc, *first, bytes),
+        [first, ..] => nonempty_piece(alloc, *first, bytes),
     }
 }

@@ -1,12 +1,12 @@
 //! Signs of one byte and of two.
 
 ghost use Rattle.std.specs.Prelude.{◌≡◌};
-ghost use Rattle.contract_tokens.specs.Steps.{short_sign, long_sign, short_step, sign_step};
+ghost use Rattle.contract_tokens.specs.Pieces.{short_sign, long_sign, short_piece, sign_piece};
 
 use crate::piece::Piece;
 use crate::token::{Mark, TokenKind, Word};
 
-#[tactic(auto, unfolding(crate::specs::Steps::short_sign))]
+#[tactic(auto, unfolding(crate::specs::Pieces::short_sign))]
 fn short_sign(byte: u8) -> Option<Mark>
     ensures { result ≡ short_sign byte }
 {
@@ -31,7 +31,7 @@ fn short_sign(byte: u8) -> Option<Mark>
     }
 }
 
-#[tactic(auto, unfolding(crate::specs::Steps::long_sign))]
+#[tactic(auto, unfolding(crate::specs::Pieces::long_sign))]
 fn long_sign(byte: u8, next: u8) -> Option<Mark>
     ensures { result ≡ long_sign byte next }
 {
@@ -48,7 +48,7 @@ fn long_sign(byte: u8, next: u8) -> Option<Mark>
 }
 
 fn short_piece(byte: u8) -> Piece
-    ensures { result ≡ short_step (short_sign byte) }
+    ensures { result ≡ short_piece (short_sign byte) }
 {
     match short_sign(byte) {
         Some(mark) => Piece::Take(1, Word::Mark(mark)),
@@ -58,7 +58,7 @@ fn short_piece(byte: u8) -> Piece
 
 /// The sign that begins with this byte, before the rest.
 pub fn sign_piece(byte: u8, rest: &[u8]) -> Piece
-    ensures { result ≡ sign_step byte rest.now }
+    ensures { result ≡ sign_piece byte rest.now }
 {
     let [next, ..] = rest else {
         return short_piece(byte);

@@ -6,10 +6,10 @@ ghost use Rattle.contract_tokens.specs.declared.token.TokenError.TheVariants as 
 use lc_base::{Memory, Name, Text};
 use std::alloc::AllocFailed;
 
-/// A word of a source, with its place.
+/// A word of a source, with its offset.
 #[derive(Debug, Drop)]
 pub struct Token {
-    /// The place of its first byte, counted from 0.
+    /// The offset of its first byte.
     pub at: u32,
     /// What stands there.
     pub word: Word,
@@ -117,12 +117,12 @@ pub enum TokenKind {
 pub enum TokenError {
     /// The first fault of the source.
     Refused {
-        /// The place of the byte, or of the first byte of the number, text literal or name.
+        /// The offset of the byte, or of the first byte of the number, text literal or name.
         at: u32,
-        /// What is at fault.
+        /// What is invalid.
         kind: TokenKind,
     },
-    /// There was no memory for the tokens.
+    /// Out of memory.
     Memory,
 }
 

@@ -1,12 +1,10 @@
-//! A source, cut into its tokens one by one.
+//! The tokens of a source, taken one by one.
 
-ghost use Rattle.std.specs.Prelude.{◌≡◌, ℕ, ◌^◌, ◌<◌, ◌≤◌, length, drop, List, Ok, Err, IfOk, IfErr, OnErr};
-ghost use Rattle.contract_tokens.specs.declared.token.Token.{Token};
-ghost use Rattle.contract_tokens.specs.declared.token.TokenKind.{TokenKind};
-ghost use Rattle.contract_tokens.specs.Tokens.{IsTokens, IsTokenFault};
-ghost use Rattle.contract_tokens.specs.Answers.{IsFaultOf, Answers};
-ghost use Rattle.contract_tokens.specs.Listing.{tokens_from, ahead, IsFirst, place_behind, GoesTo};
-ghost use Rattle.contract_tokens.specs.Steps.{step};
+ghost use Rattle.std.specs.Prelude.{◌≡◌, ℕ, ◌^◌, ◌<◌, ◌≤◌, length, drop, List, [], IfOk, OnErr};
+ghost use Rattle.lc_base.specs.Answers.{Answers};
+ghost use Rattle.contract_tokens.specs.Tokens.{Outcome, IsTokenized, fault_of};
+ghost use Rattle.contract_tokens.specs.Listing.{tokens_from, next_and_rest, IsFirst, offset_after};
+ghost use Rattle.contract_tokens.specs.Pieces.{next_piece};
 
 use crate::piece::{Piece, next_piece};
 use crate::token::{Token, TokenError, Word};
@@ -16,16 +14,16 @@ use std::marker::Model;
 
 fn piece_at(alloc: Global, source: &[u8], at: usize) -> Result<Piece, Memory>
     requires { at ≤ length source.now }
-    ensures { IfOk result (λ piece. piece ≡ step (drop at source.now)) }
+    ensures { IfOk result (λ piece. piece ≡ next_piece (drop at source.now)) }
 {
     next_piece(alloc, &source[at..])
 }
 
-/// The place behind the token or the gap that stands at this one, or `None` at the end.
-fn place_behind(alloc: Global, source: &[u8], at: usize) -> Result<Option<usize>, TokenError>
+/// The offset after the token or the gap that stands at this one, or `None` at the end.
+fn offset_after(alloc: Global, source: &[u8], at: usize) -> Result<Option<usize>, TokenError>
     requires at { at ≤ length source.now }
     requires source { length source.now < 2 ^ 32 }
-    ensures { GoesTo (place_behind at (step (drop at source.now))) result }
+    ensures { Answers (λ next. next) fault_of result (offset_after at (next_piece (drop at source.now))) }
 {
     match piece_at(alloc, source, at)? {
         Piece::End => Ok(None),
@@ -38,7 +36,8 @@ fn place_behind(alloc: Global, source: &[u8], at: usize) -> Result<Option<usize>
     }
 }
 
-/// The first token that stands at a place or behind it, and the place behind that token: none behind the end.
+/// The first token that stands at an offset or after it, and the offset after that token: none
+/// after the end.
 fn first_token(
     alloc: Global,
     source: &[u8],
@@ -72,7 +71,8 @@ fn first_token(
     }
 }
 
-/// The tokens of a source that are left to read: at each place the longest, with blanks and comments skipped, and `Word::End` at the end.
+/// The tokens of a source that are left to read: at each offset the longest, with blanks and
+/// comments skipped, and `Word::End` at the end.
 #[derive(Drop)]
 pub struct Tokens<'a> {
     alloc: Global,
@@ -83,30 +83,29 @@ pub struct Tokens<'a> {
 impl<'a> Model for Tokens<'a> {
     ghost use Rattle.std.specs.Prelude.{List, length, ◌<◌, ◌^◌};
     ghost use Rattle.contract_tokens.specs.declared.token.Token.{Token};
-    ghost use Rattle.contract_tokens.specs.Listing.{left, IsPlaceIn};
+    ghost use Rattle.contract_tokens.specs.Listing.{tokens_left, IsOffsetIn};
 
     ghost Value = { List Token };
 
-    ghost view = { λ tokens. left tokens.source.now tokens.at };
+    ghost view = { λ tokens. tokens_left tokens.source.now tokens.at };
 
-    ghost invariant = { λ tokens. IsPlaceIn tokens.source.now tokens.at × (length tokens.source.now < 2 ^ 32) };
+    ghost invariant = { λ tokens. IsOffsetIn tokens.source.now tokens.at × (length tokens.source.now < 2 ^ 32) };
 }
 
 impl<'a> Tokens<'a> {
-    /// All tokens of a source. It is read once here, so that its first fault is known before its first token is.
+    /// All tokens of a source. It is read once here, so that its first fault is known before its
+    /// first token is. Each source has one outcome: its tokens, or its first fault.
     ///
     /// # Errors
     ///
-    /// The first place at which no token stands, or `Memory`.
+    /// The first offset at which no token stands, or `Memory`.
     pub fn new(alloc: Global, source: &'a [u8]) -> Result<Self, TokenError>
         requires { length source.now < 2 ^ 32 }
-        ensures found { IfOk result (λ list. IsTokens 0 source.now list) }
-        ensures only { (list : List Token) → IsTokens 0 source.now list → Answers (Ok list) result }
-        ensures refused { IfErr result (IsFaultOf source.now) }
-        ensures fault { (at : ℕ) (kind : TokenKind) → IsTokenFault 0 source.now at kind → Answers (Err (at, kind)) result }
+        ensures outcome { (outcome : Outcome) × IsTokenized 0 source.now outcome × Answers (λ list. list) fault_of result outcome }
+        ensures once { (one other : Outcome) → IsTokenized 0 source.now one → IsTokenized 0 source.now other → one ≡ other }
     {
         let mut at = 0;
-        while let Some(next) = place_behind(alloc, source, at)? {
+        while let Some(next) = offset_after(alloc, source, at)? {
             at = next;
         }
         Ok(Tokens {
@@ -116,22 +115,23 @@ impl<'a> Tokens<'a> {
         })
     }
 
-    /// The next token, or `None` behind the end.
+    /// The next token, or `None` after the end.
     ///
     /// # Errors
     ///
     /// `Memory`, for the bytes of a text literal; the token is then still to come.
     pub fn next(&mut self) -> Result<Option<Token>, Memory>
-        ensures token { IfOk result (λ token. self.old ≡ ahead token self.new) }
+        ensures token { IfOk result (λ token. self.old ≡ next_and_rest token self.new) }
+        ensures end { self.old ≡ [] → self.new ≡ [] }
         ensures kept { OnErr result (self.new ≡ self.old) }
     {
         let Some(from) = self.at else {
             return Ok(None);
         };
-        let Some((token, behind)) = first_token(self.alloc, self.source, from)? else {
+        let Some((token, next)) = first_token(self.alloc, self.source, from)? else {
             return Ok(None);
         };
-        self.at = behind;
+        self.at = next;
         Ok(Some(token))
     }
 }

@@ -1,8 +1,10 @@
-//! The tree of a contract: what a source of the contract language means, place by place.
+//! The tree of a contract, and the functions that each contract may call.
 #![tactic(auto)]
 
+mod builtin;
 mod tree;
 
+pub use builtin::Builtin;
 pub use tree::{
     Contract, Expr, ExprList, ExprNode, Form, Function, FunctionList, Param, ParamList, Sign,
     Statement, StatementList, ValueKind,

@@ -19,11 +19,11 @@ pub struct Contract {
 /// A function.
 #[derive(Debug, Drop)]
 pub struct Function {
-    /// The place of its name.
+    /// The offset of its name.
     pub at: u32,
     /// Its name.
     pub name: Name,
-    /// Its parameters, at most 8 where it was read from a source.
+    /// Its parameters, no more than the grammar allows where it was read from a source.
     pub params: ParamList,
     /// Its statements.
     pub body: StatementList,
@@ -32,7 +32,7 @@ pub struct Function {
 /// A parameter of a function.
 #[derive(Clone, Copy, Debug)]
 pub struct Param {
-    /// The place of its name.
+    /// The offset of its name.
     pub at: u32,
     /// Its name.
     pub name: Name,
@@ -53,7 +53,7 @@ pub enum ValueKind {
 #[derive(Debug, Drop)]
 #[cycle(statement)]
 pub struct Statement {
-    /// The place of its first token.
+    /// The offset of its first token.
     pub at: u32,
     /// What it does.
     pub form: Form,
@@ -65,7 +65,7 @@ pub struct Statement {
 pub enum Form {
     /// `let name = value;`
     Let {
-        /// The place of the name.
+        /// The offset of the name.
         name_at: u32,
         /// The name that it declares.
         name: Name,
@@ -74,7 +74,7 @@ pub enum Form {
     },
     /// `name = value;`
     Assign {
-        /// The name, at the statement's place.
+        /// The name, at the statement's offset.
         name: Name,
         /// What the name then stands for.
         value: Expr,
@@ -110,12 +110,12 @@ pub enum Form {
     Return,
 }
 
-/// An expression. Its place is its first byte for a number, text, name and call, and its operator
+/// An expression. Its offset is that of its first byte for a number, text, name and call, and that of its operator
 /// for the others.
 #[derive(Debug, Drop)]
 #[cycle(expression)]
 pub struct Expr {
-    /// Its place.
+    /// Its offset.
     pub at: u32,
     /// What it is.
     pub node: ExprNode,
@@ -151,7 +151,7 @@ pub enum ExprNode {
         sign: Sign,
         /// What stands before it.
         left: Box<Expr>,
-        /// What stands behind it.
+        /// What stands after it.
         right: Box<Expr>,
     },
 }

@@ -1,21 +1,25 @@
-use Rattle.std.proofs.Common.{map, sym, ◌∙◌, arith}
+use Rattle.std.proofs.Common.{rules, ◌≡◌, map, Err, sym, ◌∙◌, subst}
 use Rattle.std.specs.Global.{Vec}
 use Rattle.contract_tree.specs.declared.tree.Function.{Function}
 use Rattle.contract_tree.specs.Tree.{function_of}
 use Rattle.contract_grammar.specs.Marks.{is_no_end}
-use Rattle.contract_grammar.specs.Rules.{put}
+use Rattle.contract_grammar.specs.Rules.{put, each}
+use Rattle.contract_grammar.specs.Reads.{Gives}
 use Rattle.contract_grammar.specs.Reading.{function}
-use Rattle.contract_parse.proofs.Loops.{loop_over, loop_on, loop_err, loop_none}
+use Rattle.contract_grammar.proofs.Loops.{loop_over, loop_on, loop_err}
+use Rattle.contract_grammar.proofs.Shorter.{functions_strict}
 use Rattle.contract_parse.proofs.function.functions.Goals as goal
 
-pub returns-then-not-goes_on : goal.returns-then-not-goes_on
-returns-then-not-goes_on c = loop_over is_no_end (put (λ n. function)) (map function_of c.args.had.items) c.args.cursor.now c.loop.counter (map function_of c.loop.all.items) c.loop.cursor c.loop.invariant c.loop-test.true (sym c.goes_on.ensures ∙ c.if-not-goes_on.true)
+pub returns-in_err-all : goal.returns-in_err-all
+returns-in_err-all c =
+    let same : c.from_residual.result ≡ Err c.in_err-all.field-0.0 = search rules in
+    subst (λ r. Gives (λ v. map function_of v.items) r (each is_no_end (λ n. function) (map function_of c.args.earlier.items) c.args.cursor.now) c.push_function.new.cursor) (sym same) (loop_err is_no_end (put (λ n. function)) functions_strict (map function_of c.args.earlier.items) c.args.cursor.now (map function_of c.loop-alloc.all.items) c.loop-alloc.cursor c.loop-alloc.invariant (Vec Function) (sym c.goes_on.ensures ∙ c.loop-alloc-test.true) (λ v. map function_of v.items) c.in_err-all.field-0.0 c.push_function.new.cursor c.in_err-all.ensures)
 
-pub returns-in-Err : goal.returns-in-Err
-returns-in-Err c = loop_err is_no_end (put (λ n. function)) (map function_of c.args.had.items) c.args.cursor.now c.loop.counter (map function_of c.loop.all.items) c.loop.cursor c.loop.invariant (Vec Function) c.loop-test.true (sym c.goes_on.ensures ∙ c.if-not-goes_on.false) (λ v. map function_of v.items) c.in-Err.stop c.another_function.new.cursor c.in-Err.ensures
+pub loop-alloc-smaller : goal.loop-alloc-smaller
+loop-alloc-smaller c = functions_strict (map function_of c.loop-alloc.all.items) c.loop-alloc.cursor c.push_function.new.cursor (map function_of c.in_ok-all.all.items) c.in_ok-all.ensures
 
-pub loop-preserved : goal.loop-preserved
-loop-preserved c = loop_on is_no_end (put (λ n. function)) (map function_of c.args.had.items) c.args.cursor.now c.loop.counter (map function_of c.loop.all.items) c.loop.cursor c.loop.invariant c.loop-test.true (sym c.goes_on.ensures ∙ c.if-not-goes_on.false) (map function_of c.in-Ok.more.items) c.another_function.new.cursor c.in-Ok.ensures
+pub loop-alloc-preserved : goal.loop-alloc-preserved
+loop-alloc-preserved c = loop_on is_no_end (put (λ n. function)) functions_strict (map function_of c.args.earlier.items) c.args.cursor.now (map function_of c.loop-alloc.all.items) c.loop-alloc.cursor c.loop-alloc.invariant (sym c.goes_on.ensures ∙ c.loop-alloc-test.true) (map function_of c.in_ok-all.all.items) c.push_function.new.cursor c.in_ok-all.ensures
 
 pub returns : goal.returns
-returns c = loop_none is_no_end (put (λ n. function)) (map function_of c.args.had.items) c.args.cursor.now c.loop.counter (map function_of c.loop.all.items) c.loop.cursor c.loop.invariant c.loop-test.false (omega arith)
+returns c = loop_over is_no_end (put (λ n. function)) functions_strict (map function_of c.args.earlier.items) c.args.cursor.now (map function_of c.loop-alloc.all.items) c.loop-alloc.cursor c.loop-alloc.invariant (sym c.goes_on.ensures ∙ c.loop-alloc-test.false)

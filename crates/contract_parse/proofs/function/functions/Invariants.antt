@@ -1,9 +1,12 @@
-use Rattle.std.proofs.Common.{◌≡◌, ◌-◌, map}
+use Rattle.std.proofs.Common.{◌≡◌, map, length}
 use Rattle.contract_tree.specs.Tree.{function_of}
 use Rattle.contract_grammar.specs.Marks.{is_no_end}
-use Rattle.contract_grammar.specs.Rules.{each, many}
+use Rattle.contract_grammar.specs.Rules.{each}
 use Rattle.contract_grammar.specs.Reading.{function}
 use Rattle.contract_parse.proofs.function.functions.Given as goal
 
-abbrev pub invariant-loop : goal.invariant-loop
-invariant-loop l = each (many - l.counter) (is_no_end) (λ n. function) (map function_of l.all.items) l.cursor ≡ each many (is_no_end) (λ n. function) (map function_of l.fn.had.items) l.initial.cursor
+abbrev pub decreases-loop-alloc : goal.decreases-loop-alloc
+decreases-loop-alloc l = length l.cursor
+
+abbrev pub invariant-loop-alloc : goal.invariant-loop-alloc
+invariant-loop-alloc l = each is_no_end (λ n. function) (map function_of l.all.items) l.cursor ≡ each is_no_end (λ n. function) (map function_of l.fn.earlier.items) l.initial.cursor

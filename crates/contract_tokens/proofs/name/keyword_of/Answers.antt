@@ -1,7 +1,7 @@
 use Rattle.std.proofs.Common.{◌≡◌, refl, arith}
 use Rattle.std.specs.Prelude.{codes}
 use Rattle.std.proofs.lemmas.Slice.Eq.{text_from_reads}
-use Rattle.contract_tokens.specs.Steps.{keyword_of}
+use Rattle.contract_tokens.specs.Pieces.{keyword_of}
 use Rattle.contract_tokens.proofs.name.keyword_of.Goals as goal
 
 -- the longest keyword, where the search gives up

@@ -1,5 +1,5 @@
 use Rattle.std.proofs.Common.{◌≡◌, ◌<◌, ◌^◌, drop}
-use Rattle.contract_tokens.specs.Steps.{value_from}
+use Rattle.contract_tokens.specs.Pieces.{value_from}
 use Rattle.contract_tokens.proofs.number.value_of.Given as goal
 
 abbrev pub invariant-loop-byte : goal.invariant-loop-byte

@@ -1,0 +1,153 @@
+//! Expressions that are put together from their parts, with their heights.
+
+ghost use Rattle.std.specs.Prelude.{◌≡◌, ◌≤◌, ◌+◌, ℕ, List, map, max, Ok, Err, [], ◌∷◌, ◌++◌, IfOk, IfErr};
+ghost use Rattle.contract_grammar.specs.declared.stop.Stop.TheVariants as stops;
+ghost use Rattle.contract_tokens.specs.declared.token.Token.{Token};
+ghost use Rattle.contract_tree.specs.Tree.{tree_of, trees, heights, height as height_of};
+ghost use Rattle.contract_tree.specs.Tree as tree;
+ghost use Rattle.contract_grammar.specs.Reading.{node};
+ghost use Rattle.contract_grammar.specs.Reads.{Gives};
+ghost use Rattle.contract_grammar.specs.declared.limits.TheConstants.{MAX_HEIGHT};
+
+use contract_grammar::{MAX_HEIGHT, Obstacle, Stop};
+use contract_tree::{Expr, ExprList, ExprNode, Sign};
+use lc_base::{Name, Text};
+use std::alloc::Global;
+
+/// An expression that was read, with its height.
+#[derive(Drop)]
+pub struct Subtree {
+    pub expr: Expr,
+    height: u32,
+    ghost height_is: { height ≡ height_of (tree_of expr) },
+    ghost height_most: { height ≤ MAX_HEIGHT },
+}
+
+/// Expressions that were read, with the greatest of their heights, or 0 where there is none.
+#[derive(Drop)]
+pub struct Subtrees {
+    pub items: ExprList,
+    height: u32,
+    ghost height_is: { height ≡ heights (trees (map tree_of items.items)) },
+    ghost height_most: { height ≤ MAX_HEIGHT },
+}
+
+pub fn int(at: u32, value: i64) -> Subtree
+    ensures { tree_of result.expr ≡ tree.Int at value }
+{
+    Subtree {
+        expr: Expr {
+            at,
+            node: ExprNode::Int(value),
+        },
+        height: 1,
+    }
+}
+
+pub fn text(at: u32, text: Text) -> Subtree
+    ensures { tree_of result.expr ≡ tree.Text at text }
+{
+    Subtree {
+        expr: Expr {
+            at,
+            node: ExprNode::Text(text),
+        },
+        height: 1,
+    }
+}
+
+pub fn name(at: u32, name: Name) -> Subtree
+    ensures { tree_of result.expr ≡ tree.Name at name }
+{
+    Subtree {
+        expr: Expr {
+            at,
+            node: ExprNode::Name(name),
+        },
+        height: 1,
+    }
+}
+
+pub fn call(at: u32, name: Name, args: Subtrees) -> Result<Subtree, Stop>
+    ensures { (ts : List Token) → Gives (λ b. tree_of b.expr) result
+        (node at (tree.Call at name (trees (map tree_of args.items.items))) ts) ts }
+{
+    if args.height >= MAX_HEIGHT {
+        return Err(Stop::At(Obstacle::Height(at)));
+    }
+    let height = args.height + 1;
+    let node = ExprNode::Call {
+        name,
+        args: args.items,
+    };
+    Ok(Subtree {
+        expr: Expr { at, node },
+        height,
+    })
+}
+
+pub fn prefix(alloc: Global, at: u32, sign: Sign, operand: Subtree) -> Result<Subtree, Stop>
+    ensures { (ts : List Token) → Gives (λ b. tree_of b.expr) result
+        (node at (tree.Prefix at sign (tree_of operand.expr)) ts) ts }
+{
+    if operand.height >= MAX_HEIGHT {
+        return Err(Stop::At(Obstacle::Height(at)));
+    }
+    let height = operand.height + 1;
+    let operand = Box::new(alloc, operand.expr)?;
+    Ok(Subtree {
+        expr: Expr {
+            at,
+            node: ExprNode::Prefix { sign, operand },
+        },
+        height,
+    })
+}
+
+pub fn binary(
+    alloc: Global,
+    at: u32,
+    sign: Sign,
+    left: Subtree,
+    right: Subtree,
+) -> Result<Subtree, Stop>
+    ensures { (ts : List Token) → Gives (λ b. tree_of b.expr) result
+        (node at (tree.Binary at sign (tree_of left.expr) (tree_of right.expr)) ts) ts }
+{
+    let below = left.height.max(right.height);
+    if below >= MAX_HEIGHT {
+        return Err(Stop::At(Obstacle::Height(at)));
+    }
+    let left = Box::new(alloc, left.expr)?;
+    let right = Box::new(alloc, right.expr)?;
+    Ok(Subtree {
+        expr: Expr {
+            at,
+            node: ExprNode::Binary { sign, left, right },
+        },
+        height: below + 1,
+    })
+}
+
+impl Subtrees {
+    pub fn new(alloc: Global) -> Self
+        ensures { result.items.items ≡ [] }
+    {
+        Subtrees {
+            items: Vec::new(alloc),
+            height: 0,
+        }
+    }
+
+    pub fn push(&mut self, item: Subtree) -> Result<(), Stop>
+        ensures pushed { IfOk result
+            (λ _. map tree_of self.new.items.items
+            ≡ map tree_of self.old.items.items ++ tree_of item.expr ∷ []) }
+        ensures memory { IfErr result (λ e. e ≡ stops.Memory) }
+    {
+        let height = self.height.max(item.height);
+        self.items.push(item.expr)?;
+        self.height = height;
+        Ok(())
+    }
+}

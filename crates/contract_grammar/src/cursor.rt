@@ -1,0 +1,270 @@
+//! The tokens of a source, read one by one.
+
+ghost use Rattle.std.specs.Prelude.{◌≡◌, slice_get, drop, IfOk, OnErr, IsErrOf};
+ghost use Rattle.std.specs.Option.{option_copied};
+ghost use Rattle.contract_grammar.specs.Marks.{the, is, is_not, has, is_no_end, int_of, text_of, name_of, declared_of, builtin_of, kind_of, sign_of, prefix_of, with_offset};
+ghost use Rattle.contract_grammar.specs.Rules.{head_is, one, refusal};
+ghost use Rattle.contract_grammar.specs.declared.stop.Stop.TheVariants as stops;
+ghost use Rattle.contract_grammar.specs.Reads.{Reads};
+
+use crate::Obstacle;
+use crate::stop::Stop;
+use crate::word::{
+    builtin_in, declared_in, int_in, is_end, is_mark, kind_in, level_in, name_in, prefix_in,
+    sign_at, text_in,
+};
+use contract_tokens::{Mark, Token, Tokens};
+use contract_tree::{Sign, ValueKind};
+use lc_base::{Duplicate, Memory, Name, Text};
+use std::alloc::Global;
+use std::marker::Model;
+
+/// The tokens that are left to read, of which the next one is seen.
+#[derive(Drop)]
+pub struct Cursor<'a> {
+    next: Option<Token>,
+    after: Tokens<'a>,
+}
+
+impl<'a> Model for Cursor<'a> {
+    ghost use Rattle.std.specs.Prelude.{List};
+    ghost use Rattle.contract_tokens.specs.declared.token.Token.{Token};
+    ghost use Rattle.contract_tokens.specs.Listing.{next_and_rest};
+
+    ghost Value = { List Token };
+
+    ghost view = { λ cursor. next_and_rest cursor.next cursor.after };
+}
+
+impl<'a> Cursor<'a> {
+    /// Stands before all of these tokens.
+    ///
+    /// # Errors
+    ///
+    /// `Memory`, for the bytes of a text literal that is the first.
+    pub fn new(tokens: Tokens<'a>) -> Result<Self, Memory>
+        ensures { IfOk result (λ cursor. cursor ≡ tokens.entry) }
+    {
+        let mut after = tokens;
+        let next = after.next()?;
+        Ok(Cursor { next, after })
+    }
+
+    /// The next token, unless there is none.
+    pub fn next(&self) -> Option<&Token>
+        ensures { option_copied result ≡ slice_get self.now 0 }
+    {
+        self.next.as_ref()
+    }
+
+    // Goes after the next token.
+    fn advance(&mut self) -> Result<(), Memory>
+        ensures after { IfOk result (λ _. self.new ≡ drop 1 self.old) }
+        ensures kept { OnErr result (self.new ≡ self.old) }
+    {
+        if self.next.is_some() {
+            self.next = self.after.next()?;
+        }
+        Ok(())
+    }
+
+    // Takes the next token, of which this was found.
+    fn take_found<A: Drop>(&mut self, found: Option<A>) -> Result<(u32, A), Stop>
+        ensures read { Reads result (one (λ token. with_offset token.at found) self.old) self.new }
+        ensures kept { IsErrOf result stops.Memory → self.new ≡ self.old }
+    {
+        let (Some(token), Some(a)) = (&self.next, found) else {
+            return Err(Stop::At(Obstacle::Unfit));
+        };
+        let at = token.at;
+        self.advance()?;
+        Ok((at, a))
+    }
+
+    /// Whether the next token is this keyword or sign.
+    pub fn next_is(&self, mark: Mark) -> bool
+        ensures { result ≡ head_is (is mark) self.now }
+    {
+        self.next
+            .as_ref()
+            .is_some_and(|token| is_mark(&token.word, mark))
+    }
+
+    /// Whether there is a next token, and it is another than this keyword or sign.
+    pub fn next_is_other(&self, mark: Mark) -> bool
+        ensures { result ≡ head_is (is_not mark) self.now }
+    {
+        self.next
+            .as_ref()
+            .is_some_and(|token| !is_mark(&token.word, mark))
+    }
+
+    /// Whether there is a next token before the end of the source.
+    pub fn goes_on(&self) -> bool
+        ensures { result ≡ head_is is_no_end self.now }
+    {
+        self.next.as_ref().is_some_and(|token| !is_end(&token.word))
+    }
+
+    /// Whether the next token is a name.
+    pub fn next_is_name(&self) -> bool
+        ensures { result ≡ head_is (has name_of) self.now }
+    {
+        self.next
+            .as_ref()
+            .is_some_and(|token| name_in(&token.word).is_some())
+    }
+
+    /// Whether the next token is a text literal.
+    pub fn next_is_text(&self) -> bool
+        ensures { result ≡ head_is (has text_of) self.now }
+    {
+        self.next
+            .as_ref()
+            .is_some_and(|token| text_in(&token.word).is_some())
+    }
+
+    /// Whether the next token is a prefix.
+    pub fn next_is_prefix(&self) -> bool
+        ensures { result ≡ head_is (has prefix_of) self.now }
+    {
+        self.next
+            .as_ref()
+            .is_some_and(|token| prefix_in(&token.word).is_some())
+    }
+
+    /// Whether the next token is a keyword that is the name of a builtin too.
+    pub fn next_is_builtin(&self) -> bool
+        ensures { result ≡ head_is (has builtin_of) self.now }
+    {
+        self.next
+            .as_ref()
+            .is_some_and(|token| builtin_in(&token.word).is_some())
+    }
+
+    /// Whether the next token is a name that may be declared.
+    pub fn next_is_declared(&self) -> bool
+        ensures { result ≡ head_is (has declared_of) self.now }
+    {
+        self.next
+            .as_ref()
+            .is_some_and(|token| declared_in(&token.word).is_some())
+    }
+
+    /// Whether the next token is an operator of this level, from 1, the tightest, to `WHOLE`.
+    pub fn next_is_sign(&self, level: u8) -> bool
+        ensures { result ≡ head_is (has (sign_of level)) self.now }
+    {
+        self.next
+            .as_ref()
+            .is_some_and(|token| sign_at(&token.word, level).is_some())
+    }
+
+    /// Why a token is refused that would be one too many, or another one in its place.
+    pub fn refusal(&self, is_it: bool, why: Obstacle) -> Stop
+        ensures { result ≡ stops.At (refusal why is_it) }
+    {
+        if is_it {
+            Stop::At(why)
+        } else {
+            Stop::At(Obstacle::Unfit)
+        }
+    }
+
+    /// Takes this keyword or sign, and gives its offset.
+    ///
+    /// # Errors
+    ///
+    /// Here and below, `Unfit` where the next token is another one: it is not taken then. `Memory`,
+    /// for the token after it.
+    pub fn take(&mut self, mark: Mark) -> Result<u32, Stop>
+        ensures read { Reads result (one (the mark) self.old) self.new }
+        ensures kept { IsErrOf result stops.Memory → self.new ≡ self.old }
+    {
+        let found = self.next_is(mark).then_some(());
+        let (at, ()) = self.take_found(found)?;
+        Ok(at)
+    }
+
+    /// Takes a number, and gives it with its offset.
+    pub fn int(&mut self) -> Result<(u32, i64), Stop>
+        ensures read { Reads result (one int_of self.old) self.new }
+        ensures kept { IsErrOf result stops.Memory → self.new ≡ self.old }
+    {
+        let found = self.next.as_ref().and_then(|token| int_in(&token.word));
+        self.take_found(found)
+    }
+
+    /// Takes a text literal, and gives what it means with its offset.
+    pub fn text(&mut self, alloc: Global) -> Result<(u32, Text), Stop>
+        ensures read { Reads result (one text_of self.old) self.new }
+        ensures kept { IsErrOf result stops.Memory → self.new ≡ self.old }
+    {
+        let found = match self.next.as_ref().and_then(|token| text_in(&token.word)) {
+            Some(text) => Some(text.copy(alloc)?),
+            None => None,
+        };
+        self.take_found(found)
+    }
+
+    /// Takes a name, and gives it with its offset.
+    pub fn name(&mut self) -> Result<(u32, Name), Stop>
+        ensures read { Reads result (one name_of self.old) self.new }
+        ensures kept { IsErrOf result stops.Memory → self.new ≡ self.old }
+    {
+        let found = self.next.as_ref().and_then(|token| name_in(&token.word));
+        self.take_found(found)
+    }
+
+    /// Takes a name that may be declared, that of no builtin, and gives it with its offset.
+    pub fn declared(&mut self) -> Result<(u32, Name), Stop>
+        ensures read { Reads result (one declared_of self.old) self.new }
+        ensures kept { IsErrOf result stops.Memory → self.new ≡ self.old }
+    {
+        let found = self
+            .next
+            .as_ref()
+            .and_then(|token| declared_in(&token.word));
+        self.take_found(found)
+    }
+
+    /// Takes a keyword that is the name of a builtin too, and gives that name with its offset.
+    pub fn builtin(&mut self) -> Result<(u32, Name), Stop>
+        ensures read { Reads result (one builtin_of self.old) self.new }
+        ensures kept { IsErrOf result stops.Memory → self.new ≡ self.old }
+    {
+        let found = self.next.as_ref().and_then(|token| builtin_in(&token.word));
+        self.take_found(found)
+    }
+
+    /// Takes an operator of this level, and gives it with its offset.
+    pub fn sign(&mut self, level: u8) -> Result<(u32, Sign), Stop>
+        ensures read { Reads result (one (sign_of level) self.old) self.new }
+        ensures kept { IsErrOf result stops.Memory → self.new ≡ self.old }
+    {
+        let found = self
+            .next
+            .as_ref()
+            .and_then(|token| sign_at(&token.word, level));
+        self.take_found(found)
+    }
+
+    /// Takes a prefix, and gives it with its offset.
+    pub fn prefix(&mut self) -> Result<(u32, Sign), Stop>
+        ensures read { Reads result (one prefix_of self.old) self.new }
+        ensures kept { IsErrOf result stops.Memory → self.new ≡ self.old }
+    {
+        let found = self.next.as_ref().and_then(|token| prefix_in(&token.word));
+        self.take_found(found)
+    }
+
+    /// Takes the keyword for a kind of values, and gives that kind.
+    pub fn kind(&mut self) -> Result<ValueKind, Stop>
+        ensures read { Reads result (one kind_of self.old) self.new }
+        ensures kept { IsErrOf result stops.Memory → self.new ≡ self.old }
+    {
+        let found = self.next.as_ref().and_then(|token| kind_in(&token.word));
+        let (_, kind) = self.take_found(found)?;
+        Ok(kind)
+    }
+}

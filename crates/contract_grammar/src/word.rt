@@ -1,0 +1,176 @@
+//! What a word is to the grammar.
+
+ghost use Rattle.std.specs.Prelude.{◌≡◌, ◌==◌, Some, None, if◌then◌else◌};
+ghost use Rattle.std.specs.Option.{option_copied};
+ghost use Rattle.contract_tokens.specs.declared.token.Word.TheVariants as words;
+ghost use Rattle.contract_grammar.specs.Marks.{is_word, int_in, text_in, name_in, end_in, kind_in, level_in, sign_in, prefix_in, builtin_in, declared_in};
+ghost use Rattle.contract_tree.specs.declared.builtin.Builtin.TheVariants as builtins;
+ghost use Rattle.contract_tree.specs.Builtins.{builtin_name};
+
+use crate::limits::{COMPARISONS, WHOLE};
+use contract_tokens::{Mark, Word};
+use contract_tree::{Builtin, Sign, ValueKind};
+use lc_base::{Name, Text};
+
+pub fn is_mark(word: &Word, mark: Mark) -> bool
+    ensures { result ≡ is_word mark word.now }
+{
+    match word {
+        Word::Mark(other) => *other == mark,
+        _ => false,
+    }
+}
+
+pub fn int_in(word: &Word) -> Option<i64>
+    ensures { result ≡ int_in word.now }
+{
+    match word {
+        Word::Int(value) => Some(*value),
+        _ => None,
+    }
+}
+
+pub fn text_in(word: &Word) -> Option<&Text>
+    ensures { option_copied result ≡ text_in word.now }
+{
+    match word {
+        Word::Text(text) => Some(text),
+        _ => None,
+    }
+}
+
+pub fn name_in(word: &Word) -> Option<Name>
+    ensures { result ≡ name_in word.now }
+{
+    match word {
+        Word::Name(name) => Some(*name),
+        _ => None,
+    }
+}
+
+/// Whether this is the end of the source.
+pub fn is_end(word: &Word) -> bool
+    ensures { result ≡ end_in word.now }
+{
+    matches!(word, Word::End)
+}
+
+pub fn kind_in(word: &Word) -> Option<ValueKind>
+    ensures { result ≡ kind_in word.now }
+{
+    match word {
+        Word::Mark(Mark::Int) => Some(ValueKind::Int),
+        Word::Mark(Mark::Text) => Some(ValueKind::Text),
+        _ => None,
+    }
+}
+
+fn mark_level(mark: Mark) -> u8
+    ensures { result ≡ level_in (words.Mark mark) }
+{
+    match mark {
+        Mark::ParenOpen => 0,
+        Mark::Star | Mark::Slash | Mark::Percent => 1,
+        Mark::Plus | Mark::Minus => 2,
+        Mark::Concat => 3,
+        Mark::Equal
+        | Mark::NotEqual
+        | Mark::Less
+        | Mark::LessEqual
+        | Mark::Greater
+        | Mark::GreaterEqual => COMPARISONS,
+        Mark::And => 5,
+        Mark::Or => WHOLE,
+        _ => WHOLE + 1,
+    }
+}
+
+pub fn level_in(word: &Word) -> u8
+    ensures { result ≡ level_in word.now }
+{
+    match word {
+        Word::Mark(mark) => mark_level(*mark),
+        _ => WHOLE + 1,
+    }
+}
+
+fn mark_sign(mark: Mark) -> Option<Sign>
+    ensures { result ≡ sign_in (words.Mark mark) }
+{
+    match mark {
+        Mark::Star => Some(Sign::Star),
+        Mark::Slash => Some(Sign::Slash),
+        Mark::Percent => Some(Sign::Percent),
+        Mark::Plus => Some(Sign::Plus),
+        Mark::Minus => Some(Sign::Minus),
+        Mark::Concat => Some(Sign::Concat),
+        Mark::Equal => Some(Sign::Equal),
+        Mark::NotEqual => Some(Sign::NotEqual),
+        Mark::Less => Some(Sign::Less),
+        Mark::LessEqual => Some(Sign::LessEqual),
+        Mark::Greater => Some(Sign::Greater),
+        Mark::GreaterEqual => Some(Sign::GreaterEqual),
+        Mark::And => Some(Sign::And),
+        Mark::Or => Some(Sign::Or),
+        _ => None,
+    }
+}
+
+fn sign_in(word: &Word) -> Option<Sign>
+    ensures { result ≡ sign_in word.now }
+{
+    match word {
+        Word::Mark(mark) => mark_sign(*mark),
+        _ => None,
+    }
+}
+
+pub fn prefix_in(word: &Word) -> Option<Sign>
+    ensures { result ≡ prefix_in word.now }
+{
+    match word {
+        Word::Mark(Mark::Minus) => Some(Sign::Minus),
+        Word::Mark(Mark::Not) => Some(Sign::Not),
+        _ => None,
+    }
+}
+
+/// An operator of this level.
+pub fn sign_at(word: &Word, level: u8) -> Option<Sign>
+    ensures { result ≡ (if level_in word.now == level then sign_in word.now else None) }
+{
+    if level_in(word) == level {
+        sign_in(word)
+    } else {
+        None
+    }
+}
+
+fn text_name() -> Name
+    ensures { result ≡ builtin_name builtins.Text }
+{
+    match Name::new(Builtin::Text.name()) {
+        Ok(name) => name,
+        Err(_) => unreachable!(),
+    }
+}
+
+/// The name that a keyword has as that of a function.
+pub fn builtin_in(word: &Word) -> Option<Name>
+    ensures { result ≡ builtin_in word.now }
+{
+    match word {
+        Word::Mark(Mark::Text) => Some(text_name()),
+        _ => None,
+    }
+}
+
+/// A name that may be declared: that of no function that each contract may call.
+pub fn declared_in(word: &Word) -> Option<Name>
+    ensures { result ≡ declared_in word.now }
+{
+    match name_in(word) {
+        Some(name) if Builtin::of_name(&name).is_none() => Some(name),
+        _ => None,
+    }
+}
