@@ -9,7 +9,7 @@ use Rattle.block_codec.specs.Placement.{digest_of, placement}
 use Rattle.block_codec.specs.declared.block.Block.{Block}
 use Rattle.block_codec.specs.declared.placement.Placement.TheVariants.{Next}
 use Rattle.chain_cli.specs.Effect.{block_rows, replayed, replay}
-use Rattle.chain_cli.specs.Chain.{ChainState, StandsFor, last_digest, placed, IsChain, of_placement}
+use Rattle.chain_cli.specs.Chain.{ChainState, StandsFor, last_digest, placement_in, IsChain, blocks_after_placement}
 
 -- the rows of a chain with one more block
 replayed-push : (rows : List Row) (blocks : List Block) (block : Block) → replayed rows (blocks ++ block ∷ []) ≡ replayed rows blocks ++ block_rows (replayed rows blocks) block
@@ -22,33 +22,33 @@ replay-push blocks block = replayed-push [] blocks block
 
 -- what is kept tells where a block stands
 pub placed_as_kept : (kept : ChainState) (blocks : List Block) (block : Block) → StandsFor kept blocks
-    → placement (length kept.digests) (length kept.rows) (slice_get kept.digests block.number) (last_digest kept.digests) block (digest_of block) ≡ placed blocks block
+    → placement (length kept.digests) (length kept.rows) (slice_get kept.digests block.number) (last_digest kept.digests) block (digest_of block) ≡ placement_in blocks block
 placed_as_kept kept blocks block stands =
     ap (λ (ds : List Digest). placement (length ds) (length kept.rows) (slice_get ds block.number) (last_digest ds) block (digest_of block)) stands.digests_are
     ∙ ap (λ (n : ℕ). placement n (length kept.rows) (slice_get (map digest_of blocks) block.number) (last_digest (map digest_of blocks)) block (digest_of block)) (length-map blocks digest_of)
     ∙ ap (λ (rs : List Row). placement (length blocks) (length rs) (slice_get (map digest_of blocks) block.number) (last_digest (map digest_of blocks)) block (digest_of block)) stands.rows_are
 
 -- a chain and its next block are a chain
-pub chain_more : (blocks : List Block) (block : Block) → IsChain blocks → placed blocks block ≡ Next → IsChain (blocks ++ block ∷ [])
+pub chain_more : (blocks : List Block) (block : Block) → IsChain blocks → placement_in blocks block ≡ Next → IsChain (blocks ++ block ∷ [])
 chain_more blocks block chain next i d within =
     elim (cases_lt i (length blocks)) [
       | inl inside ↦
-          ap (λ (bs : List Block). placed bs (get_or (blocks ++ block ∷ []) i d)) (take-append-le i blocks (block ∷ []) (omega arith))
-          ∙ ap (placed (take i blocks)) (get_or_append_left blocks (block ∷ []) d i inside) ∙ chain i d inside
+          ap (λ (bs : List Block). placement_in bs (get_or (blocks ++ block ∷ []) i d)) (take-append-le i blocks (block ∷ []) (omega arith))
+          ∙ ap (placement_in (take i blocks)) (get_or_append_left blocks (block ∷ []) d i inside) ∙ chain i d inside
       | inr past ↦
           let last : length blocks ≡ i = omega (arith, length-append blocks (block ∷ [])) in
-          ap (λ (bs : List Block). placed bs (get_or (blocks ++ block ∷ []) i d)) (take_at blocks (block ∷ []) i last) ∙ ap (placed blocks) (get_or_push blocks block d i last) ∙ next
+          ap (λ (bs : List Block). placement_in bs (get_or (blocks ++ block ∷ []) i d)) (take_at blocks (block ∷ []) i last) ∙ ap (placement_in blocks) (get_or_push blocks block d i last) ∙ next
     ]
 
 pub next_stands : (kept new : ChainState) (blocks : List Block) (block : Block) (digest : Digest)
     → Next ≡ placement (length kept.digests) (length kept.rows) (slice_get kept.digests block.number) (last_digest kept.digests) block digest → digest ≡ digest_of block
     → new ≡ record { digests = kept.digests ++ digest ∷ []; rows = kept.rows ++ block_rows kept.rows block } → StandsFor kept blocks
-    → (x : List Block) × (of_placement blocks block (placed blocks block) ≡ Ok x) × StandsFor new x
+    → (x : List Block) × (blocks_after_placement blocks block (placement_in blocks block) ≡ Ok x) × StandsFor new x
 next_stands kept new blocks block digest next is new_is stands =
-    let placed_next : placed blocks block ≡ Next =
+    let placed_next : placement_in blocks block ≡ Next =
     sym (next ∙ ap (placement (length kept.digests) (length kept.rows) (slice_get kept.digests block.number) (last_digest kept.digests) block) is ∙ placed_as_kept kept blocks block stands) in (
       blocks ++ block ∷ [],
-      ap (of_placement blocks block) placed_next,
+      ap (blocks_after_placement blocks block) placed_next,
       record {
         chained = chain_more blocks block stands.chained placed_next;
         digests_are = ap (λ (k : ChainState). k.digests) new_is ∙ ap (λ (d : Digest). kept.digests ++ d ∷ []) is

@@ -46,7 +46,7 @@ is_there-others y x (o ∷ deps) apart =
           ]
     ]
 
--- one more dependency behind a list without repeats
+-- one more dependency after a list without repeats
 pub without_repeats-push : (deps : List Dep) (x : Dep) → without_repeats (deps ++ x ∷ []) ≡ with_once (without_repeats deps) x
 without_repeats-push [] x = refl
 without_repeats-push (y ∷ deps) x =

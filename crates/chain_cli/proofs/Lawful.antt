@@ -9,6 +9,7 @@ use Rattle.std.proofs.lemmas.List.{append_assoc, append-nil, length-append}
 use Rattle.std.proofs.lemmas.List.Elements.{All-nil, All-cons, All-head, All-tail, All-append, All-push, All-weaker, All-filter, filter_passes, filter-append}
 use Rattle.std.proofs.lemmas.List.Kept.{AllPairs-cons, AllPairs-filter}
 use Rattle.std.proofs.lemmas.List.Quantifiers.{all_pairs_push}
+use Rattle.lc_base.specs.declared.limits.TheConstants.{MAX_DEPS}
 use Rattle.lc_base.specs.History.{below, newest, version_of, StandsBefore, HasLawfulDeps, IsLawful}
 use Rattle.lc_base.specs.declared.row.Row.{Row}
 use Rattle.lc_base.specs.declared.row.Dep.{Dep}
@@ -16,6 +17,7 @@ use Rattle.block_codec.specs.Spelling.{IsTx, IsBlock}
 use Rattle.block_codec.specs.declared.block.Tx.{Tx}
 use Rattle.block_codec.specs.declared.block.Tx.TheVariants.{Set}
 use Rattle.block_codec.specs.declared.block.Block.{Block}
+use Rattle.block_codec.specs.declared.limits.TheConstants.{MAX_BLOCKS, MAX_ROWS_BEFORE_BLOCK}
 use Rattle.chain_cli.specs.Effect.{version_to_depend_on, is_same_dep, without_repeats, deps_on, is_written, effect_of, rows_of, staged_after, block_rows}
 use Rattle.chain_cli.specs.Chain.{ChainState, IsKept}
 use Rattle.lc_base.specs.declared.digest.Digest.{Digest}
@@ -86,15 +88,15 @@ apart (dep ∷ deps) =
     (All-weaker (λ (other : Dep). keeps other ≡ true) (λ (other : Dep). dep ≢ other) (λ other passes same. both_ways (is_same_dep dep other) (not-true _ passes) (is_same dep other same)) _ (filter_passes keeps (without_repeats deps)))
     (AllPairs-filter ◌≢◌ keeps (without_repeats deps) (apart deps))
 
--- at most 64, none twice, each on the newest version of its key among these rows
+-- at most MAX_DEPS, none twice, each on the newest version of its key among these rows
 record HasDeps (rows : List Row) (row : Row) : Type 0 where
-  few : length row.deps ≤ 64
+  few : length row.deps ≤ MAX_DEPS
   once : AllPairs ◌≢◌ row.deps
   newest : All (IsNewest rows) row.deps
 
 -- ---- the rows of a block
 
--- a row of this block, of a transaction before the place `at`
+-- a row of this block, of a transaction before the index `at`
 record IsHere (number at : ℕ) (row : Row) : Type 0 where
   block : row.block ≡ number
   earlier : row.tx < at
@@ -102,7 +104,7 @@ record IsHere (number at : ℕ) (row : Row) : Type 0 where
 record IsStaged (rows : List Row) (number at : ℕ) (staged : List Row) : Type 0 where
   ordered : AllPairs StandsBefore (rows ++ staged)
   here : All (IsHere number at) staged
-  drawn : All (HasDeps rows) staged
+  lawful_deps : All (HasDeps rows) staged
   few : length staged ≤ at
 
 abbrev IsBelow : ℕ → Row → Type 0
@@ -115,7 +117,7 @@ nothing_staged : (rows : List Row) (number : ℕ) → AllPairs StandsBefore rows
 nothing_staged rows number ordered = record {
   ordered = subst (AllPairs StandsBefore) (sym (append-nil rows)) ordered;
   here = All-nil (IsHere number 0);
-  drawn = All-nil (HasDeps rows);
+  lawful_deps = All-nil (HasDeps rows);
   few = omega arith;
 }
 
@@ -124,7 +126,7 @@ no_more rows staged number at so_far =
     subst (IsStaged rows number (at + 1)) (sym (append-nil staged)) (record {
       ordered = so_far.ordered;
       here = All-weaker (IsHere number at) (IsHere number (at + 1)) (later_place number at) staged so_far.here;
-      drawn = so_far.drawn;
+      lawful_deps = so_far.lawful_deps;
       few = omega (arith, so_far.few);
     })
 
@@ -143,7 +145,7 @@ one_more rows staged number at row block tx old unwritten deps so_far =
     record {
       ordered = subst (AllPairs StandsBefore) (append_assoc rows staged (row ∷ [])) (all_pairs_push StandsBefore (rows ++ staged) row so_far.ordered (All-append before rows staged from_old from_here));
       here = All-push (IsHere number (at + 1)) staged row (All-weaker (IsHere number at) (IsHere number (at + 1)) (later_place number at) staged so_far.here) (record { block = block; earlier = omega (arith, tx) });
-      drawn = All-push (HasDeps rows) staged row so_far.drawn deps;
+      lawful_deps = All-push (HasDeps rows) staged row so_far.lawful_deps deps;
       few = omega (arith, so_far.few, length-append staged (row ∷ []));
     }
 
@@ -209,7 +211,7 @@ new_deps rows new number at row is old here deps =
     }
 
 -- what the next block adds to a history keeps it lawful
-pub lawful_more : (rows : List Row) (block : Block) → IsLawful rows → All (λ (row : Row). row.block < block.number) rows → length rows ≤ 4293918718 → IsBlock block → IsLawful (rows ++ block_rows rows block)
+pub lawful_more : (rows : List Row) (block : Block) → IsLawful rows → All (λ (row : Row). row.block < block.number) rows → length rows ≤ MAX_ROWS_BEFORE_BLOCK → IsBlock block → IsLawful (rows ++ block_rows rows block)
 lawful_more rows block lawful old few is =
     let new : List Row = block_rows rows block in
     let count : ℕ = 0 + length block.txs in
@@ -217,9 +219,9 @@ lawful_more rows block lawful old few is =
     record {
       few = omega (arith, length-append rows new, staged.few, is.few_txs, few);
       ordered = staged.ordered;
-      drawn = All-append (HasLawfulDeps (rows ++ new)) rows new
-          (λ k d within. old_deps rows new block.number count _ (old k d within) staged.here (lawful.drawn k d within))
-          (λ k d within. new_deps rows new block.number count _ (staged.here k d within) old staged.here (staged.drawn k d within));
+      lawful_deps = All-append (HasLawfulDeps (rows ++ new)) rows new
+          (λ k d within. old_deps rows new block.number count _ (old k d within) staged.here (lawful.lawful_deps k d within))
+          (λ k d within. new_deps rows new block.number count _ (staged.here k d within) old staged.here (staged.lawful_deps k d within));
     }
 
 -- and its rows are of the blocks up to this one
@@ -232,15 +234,15 @@ held_more rows block lawful old is =
 
 -- the rows of the block that comes next
 pub next_lawful : (kept : ChainState) (digests : List Digest) (rows written : List Row) (block : Block) → record { digests = digests; rows = rows } ≡ kept → IsKept digests rows → IsLawful rows
-    → block.number ≡ length kept.digests → length kept.rows ≤ 4293918718 → IsBlock block → written ≡ block_rows rows block → IsLawful (rows ++ written)
+    → block.number ≡ length kept.digests → length kept.rows ≤ MAX_ROWS_BEFORE_BLOCK → IsBlock block → written ≡ block_rows rows block → IsLawful (rows ++ written)
 next_lawful kept digests rows written block view is lawful number few block_is written_is =
     let count : length digests ≡ block.number = ap (λ (k : ChainState). length k.digests) view ∙ sym number in
-    let room : length rows ≤ 4293918718 = subst (λ (k : ChainState). length k.rows ≤ 4293918718) (sym view) few in
+    let room : length rows ≤ MAX_ROWS_BEFORE_BLOCK = subst (λ (k : ChainState). length k.rows ≤ MAX_ROWS_BEFORE_BLOCK) (sym view) few in
     let old : All (IsBelow block.number) rows = subst (λ (n : ℕ). All (IsBelow n) rows) count is.held in
     subst (λ (rs : List Row). IsLawful (rows ++ rs)) (sym written_is) (lawful_more rows block lawful old room block_is)
 
 pub next_kept : (kept : ChainState) (digests : List Digest) (rows written : List Row) (block : Block) (digest : Digest) → record { digests = digests; rows = rows } ≡ kept → IsKept digests rows → IsLawful rows
-    → block.number ≡ length kept.digests → length kept.digests < 1048576 → IsBlock block → written ≡ block_rows rows block → IsKept (digests ++ digest ∷ []) (rows ++ written)
+    → block.number ≡ length kept.digests → length kept.digests < MAX_BLOCKS → IsBlock block → written ≡ block_rows rows block → IsKept (digests ++ digest ∷ []) (rows ++ written)
 next_kept kept digests rows written block digest view is lawful number room block_is written_is =
     let count : length digests ≡ block.number = ap (λ (k : ChainState). length k.digests) view ∙ sym number in
     let old : All (IsBelow block.number) rows = subst (λ (n : ℕ). All (IsBelow n) rows) count is.held in

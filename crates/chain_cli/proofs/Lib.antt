@@ -8,3 +8,5 @@ pub mod Turns
 pub mod Wholes
 pub mod Fmts
 pub mod Outputs
+pub mod OneOutput
+pub mod Formatted

@@ -8,8 +8,8 @@ use Rattle.block_codec.specs.Reading.{block_in}
 use Rattle.block_codec.proofs.WholeBlocks.{decided}
 use Rattle.chain_cli.specs.Words.{IsCommand}
 use Rattle.chain_cli.specs.Lines.{usage_line}
-use Rattle.chain_cli.specs.Output.{Output, output_of, of_fold, fold_of, status_of, of_usage, IsOut, Meets}
-use Rattle.chain_cli.specs.Scanning.{IsOutput, IsWanted}
+use Rattle.chain_cli.specs.Output.{Output, output_of, scan_output, fold_input, status_of, usage_output, Wants, Meets}
+use Rattle.chain_cli.specs.Scanning.{GivesOutput, WantsOutcome}
 use Rattle.chain_cli.specs.Telling.{IsAnswered}
 use Rattle.chain_cli.specs.declared.outcome.Outcome.{Outcome}
 use Rattle.chain_cli.specs.declared.outcome.Ending.{Ending}
@@ -20,19 +20,19 @@ use Rattle.chain_cli.specs.declared.stop.Stop.{Stop}
 use Rattle.chain_cli.specs.declared.words.Command.{Command}
 use Rattle.chain_cli.specs.declared.words.Command.TheVariants.{Scan}
 
-scanned : (input : List ℕ) (left : Option (List ℕ)) (query : Query) (outcome : Outcome) → IsOutput outcome left (of_fold query (fold_of block_in input)) → IsWanted (Scan query) input outcome left
-scanned input left query outcome (is, rest) = ((of_fold query (fold_of block_in input)).left, rest, (block_in, decided, sym is))
+scanned : (input : List ℕ) (left : Option (List ℕ)) (query : Query) (outcome : Outcome) → GivesOutput outcome left (scan_output query (fold_input block_in input)) → WantsOutcome (Scan query) input outcome left
+scanned input left query outcome (is, rest) = ((scan_output query (fold_input block_in input)).left, rest, (block_in, decided, sym is))
 
-scan_here : (first left : Option (List ℕ)) (query : Query) (result : Result Outcome Stop) → IfSome first (λ input. IfOk result (λ outcome. IsOutput outcome left (of_fold query (fold_of block_in input))))
-    → IfSome first (λ input. IfOk result (λ outcome. IsWanted (Scan query) input outcome left))
+scan_here : (first left : Option (List ℕ)) (query : Query) (result : Result Outcome Stop) → IfSome first (λ input. IfOk result (λ outcome. GivesOutput outcome left (scan_output query (fold_input block_in input))))
+    → IfSome first (λ input. IfOk result (λ outcome. WantsOutcome (Scan query) input outcome left))
 scan_here None left query result is = tt
 scan_here (Some input) left query (Err stop) is = tt
 scan_here (Some input) left query (Ok outcome) is = scanned input left query outcome is
 
 -- what a scan answers is what the command wants
 pub scan_wanted : (first left : Option (List ℕ)) (command : Command) (query : Query) (result : Result Outcome Stop) → command ≡ Scan query
-    → IfSome first (λ input. IfOk result (λ outcome. IsOutput outcome left (of_fold query (fold_of block_in input)))) → IfSome first (λ input. IfOk result (λ outcome. IsWanted command input outcome left))
-scan_wanted first left command query result is scan = subst (λ (given : Command). IfSome first (λ input. IfOk result (λ outcome. IsWanted given input outcome left))) (sym is) (scan_here first left query result scan)
+    → IfSome first (λ input. IfOk result (λ outcome. GivesOutput outcome left (scan_output query (fold_input block_in input)))) → IfSome first (λ input. IfOk result (λ outcome. WantsOutcome command input outcome left))
+scan_wanted first left command query result is scan = subst (λ (given : Command). IfSome first (λ input. IfOk result (λ outcome. WantsOutcome given input outcome left))) (sym is) (scan_here first left query result scan)
 
 -- no answer is that of a source that failed
 never_unreadable : (ending : Ending) → statuses.Unreadable ≡ status_of ending → ⊥
@@ -57,26 +57,26 @@ never_usage : statuses.Unreadable ≡ statuses.Usage → ⊥
 never_usage is = absurd cc
 
 -- words that are no command
-pub usage_output : (left : Option (List ℕ)) (words : List (List ℕ)) (answer : Status) (old new : Option (List Tell)) → IsCommand words None → IsAnswered answer old new statuses.Usage (usage_line ∷ [])
-    → IfSome left (λ input. (command : Option Command) × IsCommand words command × Meets answer old new left (IsOut command input))
-usage_output None words answer old new is told = tt
-usage_output (Some input) words answer old new is told = (None, is, met answer old new (Some input) (IsOut None input) (of_usage input) refl refl never_usage told)
+pub usage_wanted : (left : Option (List ℕ)) (words : List (List ℕ)) (answer : Status) (old new : Option (List Tell)) → IsCommand words None → IsAnswered answer old new statuses.Usage (usage_line ∷ [])
+    → IfSome left (λ input. (command : Option Command) × IsCommand words command × Meets answer old new left (Wants command input))
+usage_wanted None words answer old new is told = tt
+usage_wanted (Some input) words answer old new is told = (None, is, met answer old new (Some input) (Wants None input) (usage_output input) refl refl never_usage told)
 
 -- a command that was done
 pub command_output : (left left_now : Option (List ℕ)) (words : List (List ℕ)) (command : Command) (outcome : Outcome) (answer : Status) (old new : Option (List Tell))
-    → IsCommand words (Some command) → IfSome left (λ input. IsWanted command input outcome left_now) → IsAnswered answer old new (status_of outcome.ending) outcome.lines
-    → IfSome left (λ input. (command : Option Command) × IsCommand words command × Meets answer old new left_now (IsOut command input))
+    → IsCommand words (Some command) → IfSome left (λ input. WantsOutcome command input outcome left_now) → IsAnswered answer old new (status_of outcome.ending) outcome.lines
+    → IfSome left (λ input. (command : Option Command) × IsCommand words command × Meets answer old new left_now (Wants command input))
 command_output None left_now words command outcome answer old new is wanted told = tt
 command_output (Some input) left_now words command outcome answer old new is (rest, left_is, wanted) told =
-    (Some command, is, met answer old new left_now (IsOut (Some command) input) (output_of outcome rest) wanted left_is (never_unreadable outcome.ending) told)
+    (Some command, is, met answer old new left_now (Wants (Some command) input) (output_of outcome rest) wanted left_is (never_unreadable outcome.ending) told)
 
 -- a command that stopped before it told anything
 pub unread_output : (left left_now : Option (List ℕ)) (words : List (List ℕ)) (command : Command) (told : Option (List Tell)) → IsCommand words (Some command)
-    → IfSome left (λ input. (command : Option Command) × IsCommand words command × Meets statuses.Unreadable told told left_now (IsOut command input))
+    → IfSome left (λ input. (command : Option Command) × IsCommand words command × Meets statuses.Unreadable told told left_now (Wants command input))
 unread_output None left_now words command told is = tt
 unread_output (Some input) left_now words command told is = (Some command, is, told_nothing told)
 
 pub memory_output : (left left_now : Option (List ℕ)) (words : List (List ℕ)) (command : Command) (told : Option (List Tell)) → IsCommand words (Some command)
-    → IfSome left (λ input. (command : Option Command) × IsCommand words command × Meets statuses.Memory told told left_now (IsOut command input))
+    → IfSome left (λ input. (command : Option Command) × IsCommand words command × Meets statuses.Memory told told left_now (Wants command input))
 memory_output None left_now words command told is = tt
 memory_output (Some input) left_now words command told is = (Some command, is, told_nothing told)

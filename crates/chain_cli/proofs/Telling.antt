@@ -1,7 +1,7 @@
 -- Lines told one after another.
 use Rattle.std.proofs.Common.{◌≡◌, ℕ, ◌+◌, ◌<◌, ◌≤◌, List, [], ◌∷◌, ◌++◌, length, get_or, take, Option, Err, sym, ap, ◌∙◌, subst, arith}
 use Rattle.std.proofs.lemmas.List.{take_more, get_or_read}
-use Rattle.lc_base.specs.Outside.{Tell, Tells, Told, ToldFront, with_tells}
+use Rattle.lc_base.specs.Outside.{Tell, Tells, Told, ToldPrefix, with_tells}
 use Rattle.lc_base.proofs.Telling.{told_more, told_less}
 
 -- so far these lines were told, and the faults have not become fewer
@@ -21,6 +21,6 @@ one_more_told first before now faults_first faults_before faults_now at i lines 
 
 -- a line that was not told whole
 pub last_told : (T : Type 0) {E : Type 0} (first before now : Option (List Tell)) (at i : ℕ) (lines : List (List ℕ)) (line item : List ℕ) (e : E)
-    → i < length lines → line ≡ item → item ≡ get_or lines i item → Told first before (take i lines) → Tells {T = T} at line before now (Err e) → ToldFront first now lines
+    → i < length lines → line ≡ item → item ≡ get_or lines i item → Told first before (take i lines) → Tells {T = T} at line before now (Err e) → ToldPrefix first now lines
 last_told T first before now at i lines line item e within same is so_far cut =
     told_less T first before now at lines i e within so_far (subst (λ (l : List ℕ). Tells {T = T} at l before now (Err e)) (same ∙ get_or_read lines i item within is []) cut)

@@ -4,10 +4,11 @@ use Rattle.std.specs.Prelude.{IfSome}
 use Rattle.block_codec.specs.Frames.{frame_step}
 use Rattle.block_codec.specs.Reading.{block_in}
 use Rattle.block_codec.specs.declared.block.Block.{Block}
+use Rattle.block_codec.specs.declared.limits.TheConstants.{MAX_FRAMES}
 use Rattle.chain_cli.specs.Effect.{replay}
 use Rattle.chain_cli.specs.Chain.{ChainState, StandsFor}
-use Rattle.chain_cli.specs.Output.{Refused, of_step, folded, fold_of}
-use Rattle.chain_cli.specs.Scanning.{step_of, IsTurn, Counts, IsFoundFold}
+use Rattle.chain_cli.specs.Output.{Refused, fold_step, fold_from, fold_input}
+use Rattle.chain_cli.specs.Scanning.{step_at_start, IsTurn, CountsFrames, IsFoldResult}
 use Rattle.chain_cli.specs.declared.cause.Cause.{Cause}
 use Rattle.chain_cli.specs.declared.folding.Turn.{Turn}
 use Rattle.chain_cli.specs.declared.folding.Turn.TheVariants as turns
@@ -19,10 +20,10 @@ pub record IsLeft (input : List ℕ) (left : Option (List ℕ)) (taken : ℕ) (c
   pub rest : List ℕ
   pub left_is : left ≡ Some rest
   pub stands : StandsFor chain blocks
-  pub same : folded block_in (2097153 - taken) blocks rest ≡ fold_of block_in input
+  pub same : fold_from block_in (MAX_FRAMES + 1 - taken) blocks rest ≡ fold_input block_in input
 
 pub record IsFolding (first now : Option (List ℕ)) (faults_first faults_now taken : ℕ) (chain : ChainState) : Type 0 where
-  pub bound : taken ≤ 2097152
+  pub bound : taken ≤ MAX_FRAMES
   pub later : faults_first ≤ faults_now
   pub told : (input : List ℕ) → first ≡ Some input → IsLeft input now taken chain
 
@@ -37,52 +38,52 @@ begun left faults = record {
   told = λ input is. record { blocks = []; rest = input; left_is = is; stands = no_blocks; same = refl };
 }
 
--- one look at the front of the input
-folded_turn : (taken : ℕ) (blocks : List Block) (rest : List ℕ) → taken ≤ 2097152 → folded block_in (2097153 - taken) blocks rest ≡ step_of (folded block_in (2097152 - taken)) taken blocks rest
-unfolding folded
+-- one look at the start of the input
+folded_turn : (taken : ℕ) (blocks : List Block) (rest : List ℕ) → taken ≤ MAX_FRAMES → fold_from block_in (MAX_FRAMES + 1 - taken) blocks rest ≡ step_at_start (fold_from block_in (MAX_FRAMES - taken)) taken blocks rest
+unfolding fold_from
 folded_turn taken blocks rest bound =
-    let m : ℕ = 2097152 - taken in
-    let e : 2097153 - taken ≡ suc m = omega arith in
-    let t : 2097152 - m ≡ taken = omega arith in
-    ap (λ (n : ℕ). folded block_in n blocks rest) e ∙ ap (λ (n : ℕ). of_step block_in (folded block_in m) n blocks rest (frame_step n rest)) t
+    let m : ℕ = MAX_FRAMES - taken in
+    let e : MAX_FRAMES + 1 - taken ≡ suc m = omega arith in
+    let t : MAX_FRAMES - m ≡ taken = omega arith in
+    ap (λ (n : ℕ). fold_from block_in n blocks rest) e ∙ ap (λ (n : ℕ). fold_step block_in (fold_from block_in m) n blocks rest (frame_step n rest)) t
 
 pub taken_in : (first before now : Option (List ℕ)) (faults_first faults_before faults_now taken more : ℕ) (chain longer : ChainState) (look : Turn)
-    → IsFolding first before faults_first faults_before taken chain → look ≡ turns.Taken longer more → IfSome before (λ input. IsTurn chain taken input now look) → Counts taken look → faults_before ≤ faults_now
+    → IsFolding first before faults_first faults_before taken chain → look ≡ turns.Taken longer more → IfSome before (λ input. IsTurn chain taken input now look) → CountsFrames taken look → faults_before ≤ faults_now
     → IsFolding first now faults_first faults_now more longer
 taken_in first before now faults_first faults_before faults_now taken more chain longer look so_far is_taken looked counted later = record {
-  bound = (subst (Counts taken) is_taken counted).1;
+  bound = (subst (CountsFrames taken) is_taken counted).1;
   later = omega (arith, so_far.later, later);
   told = λ input is.
       let l = so_far.told input is in
       let here = subst (λ (t : Turn). IsTurn chain taken l.rest now t) is_taken (subst (λ (o : Option (List ℕ)). IfSome o (λ rest. IsTurn chain taken rest now look)) l.left_is looked) in
       let t = here l.blocks l.stands in
-      let count : more ≡ taken + 1 = (subst (Counts taken) is_taken counted).0 in
-      let fewer : 2097153 - more ≡ 2097152 - taken = omega arith in
+      let count : more ≡ taken + 1 = (subst (CountsFrames taken) is_taken counted).0 in
+      let fewer : MAX_FRAMES + 1 - more ≡ MAX_FRAMES - taken = omega arith in
       record {
         blocks = t.0;
         rest = t.1;
         stands = t.2;
         left_is = t.3;
-        same = ap (λ (n : ℕ). folded block_in n t.0 t.1) fewer ∙ sym (t.4 (folded block_in (2097152 - taken))) ∙ sym (folded_turn taken l.blocks l.rest so_far.bound) ∙ l.same;
+        same = ap (λ (n : ℕ). fold_from block_in n t.0 t.1) fewer ∙ sym (t.4 (fold_from block_in (MAX_FRAMES - taken))) ∙ sym (folded_turn taken l.blocks l.rest so_far.bound) ∙ l.same;
       };
 }
 
 pub ended : (first before now : Option (List ℕ)) (faults_first faults_before taken : ℕ) (chain whole : ChainState) (look : Turn)
     → IsFolding first before faults_first faults_before taken chain → look ≡ turns.Ended whole → IfSome before (λ input. IsTurn chain taken input now look)
-    → IfSome first (λ input. IsFoundFold (found.Whole whole) now (fold_of block_in input))
+    → IfSome first (λ input. IsFoldResult (found.Whole whole) now (fold_input block_in input))
 ended None before now faults_first faults_before taken chain whole look so_far is_end looked = tt
 ended (Some input) before now faults_first faults_before taken chain whole look so_far is_end looked =
     let l = so_far.told input refl in
     let here = subst (λ (t : Turn). IsTurn chain taken l.rest now t) is_end (subst (λ (o : Option (List ℕ)). IfSome o (λ rest. IsTurn chain taken rest now look)) l.left_is looked) in
     let t = here l.blocks l.stands in
-    (l.blocks, sym l.same ∙ folded_turn taken l.blocks l.rest so_far.bound ∙ t.2 (folded block_in (2097152 - taken)), subst (λ (c : ChainState). StandsFor c l.blocks) (sym t.0) l.stands, t.1)
+    (l.blocks, sym l.same ∙ folded_turn taken l.blocks l.rest so_far.bound ∙ t.2 (fold_from block_in (MAX_FRAMES - taken)), subst (λ (c : ChainState). StandsFor c l.blocks) (sym t.0) l.stands, t.1)
 
 pub stopped : (first before now : Option (List ℕ)) (faults_first faults_before taken : ℕ) (frame : ℕ) (chain : ChainState) (cause : Cause) (look : Turn)
     → IsFolding first before faults_first faults_before taken chain → frame ≡ taken → look ≡ turns.Refused cause → IfSome before (λ input. IsTurn chain taken input now look)
-    → IfSome first (λ input. IsFoundFold (found.Refused frame cause) now (fold_of block_in input))
+    → IfSome first (λ input. IsFoldResult (found.Refused frame cause) now (fold_input block_in input))
 stopped None before now faults_first faults_before taken frame chain cause look so_far number is_refused looked = tt
 stopped (Some input) before now faults_first faults_before taken frame chain cause look so_far number is_refused looked =
     let l = so_far.told input refl in
     let here = subst (λ (t : Turn). IsTurn chain taken l.rest now t) is_refused (subst (λ (o : Option (List ℕ)). IfSome o (λ rest. IsTurn chain taken rest now look)) l.left_is looked) in
     let t = here l.blocks l.stands in
-    (t.0, sym l.same ∙ folded_turn taken l.blocks l.rest so_far.bound ∙ t.2 (folded block_in (2097152 - taken)) ∙ ap (λ (n : ℕ). Refused n cause t.0) (sym number), t.1)
+    (t.0, sym l.same ∙ folded_turn taken l.blocks l.rest so_far.bound ∙ t.2 (fold_from block_in (MAX_FRAMES - taken)) ∙ ap (λ (n : ℕ). Refused n cause t.0) (sym number), t.1)

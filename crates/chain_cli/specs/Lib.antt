@@ -4,6 +4,7 @@ pub mod Whole
 pub mod Lines
 pub mod Effect
 pub mod Chain
+pub mod Status
 pub mod Output
 pub mod Scanning
 pub mod Telling

@@ -15,58 +15,60 @@ use Rattle.hex.specs.Hex.{encode_lower}
 use Rattle.chain_cli.specs.declared.cause.Cause.{Cause}
 use Rattle.chain_cli.specs.declared.cause.Cause.TheVariants as causes
 
--- a line ends with the byte 0x0A
+-- A line ends with the byte 0x0A.
 abbrev pub line : List ℕ → List ℕ
 line text = text ++ 10 ∷ []
 
--- a value, behind the word for its kind
+-- A value, after the word for its kind.
 abbrev pub value_text : Value → List ℕ
 value_text (Int number) = codes "int " ++ signed_decimal number
 value_text (Text text) = codes "text " ++ text
 
--- a version, as others depend on it
+-- A version, as others depend on it.
 abbrev pub dep_line : Dep → List ℕ
 dep_line dep = line (dep.key ++ codes " " ++ decimal dep.block)
 
--- the lines of an answer: one, and behind the heads of lists one for each version
+-- The lines of an answer: one, and after the heads of lists one for each version.
 abbrev pub answer_lines : Answer → List (List ℕ)
 answer_lines Nothing = line (codes "none") ∷ []
 answer_lines (Hist block tx value) = line (codes "block " ++ decimal block ++ codes " tx " ++ decimal tx ++ codes " " ++ value_text value) ∷ []
 answer_lines (Back block deps) = line (codes "block " ++ decimal block ++ codes " deps " ++ decimal (length deps)) ∷ map dep_line deps
 answer_lines (Fwd block uses) = line (codes "block " ++ decimal block ++ codes " uses " ++ decimal (length uses)) ∷ map dep_line uses
 
+-- The words are no command.
 abbrev pub usage_line : List ℕ
 usage_line = line (codes "usage")
 
--- there is no block at all
+-- There is no block at all.
 abbrev pub empty_line : List ℕ
 empty_line = line (codes "beyond empty")
 
--- the head of the chain, past which was asked
+-- The head of the chain, past which was asked.
 abbrev pub head_line : ℕ → List ℕ
 head_line head = line (codes "beyond head " ++ decimal head)
 
--- why a frame is refused
+-- Why a frame is refused.
 abbrev pub cause_text : Cause → List ℕ
 cause_text causes.Truncated = codes "truncated"
 cause_text (causes.Length count) = codes "length " ++ decimal count
 cause_text causes.Many = codes "many"
-cause_text (causes.Malformed place) = codes "malformed " ++ decimal place
+cause_text (causes.Malformed offset) = codes "malformed " ++ decimal offset
 cause_text (causes.Fork have) = codes "fork " ++ encode_lower have.0
 cause_text causes.Full = codes "full"
 cause_text (causes.Number want) = codes "number " ++ decimal want
 cause_text (causes.Parent want) = codes "parent " ++ encode_lower want.0
 
--- which frame of the input was refused, from 0, and why
+-- Which frame of the input was refused, from 0, and why.
 abbrev pub refused_line : ℕ → Cause → List ℕ
 refused_line frame cause = line (codes "refused frame " ++ decimal frame ++ codes " " ++ cause_text cause)
 
 -- ---- inputs that are not of their grammar
 
+-- The input is not of its grammar, or too long.
 abbrev pub bad_input_line : List ℕ → List ℕ
 bad_input_line cause = line (codes "badinput " ++ cause)
 
--- what is wrong with a source
+-- What is wrong with a source.
 abbrev pub syntax_word : SyntaxKind → List ℕ
 syntax_word syntax.Byte = codes "byte"
 syntax_word syntax.Literal = codes "literal"
@@ -74,16 +76,17 @@ syntax_word syntax.Expected = codes "expected"
 syntax_word syntax.End = codes "end"
 syntax_word syntax.Deep = codes "deep"
 
--- the place of the fault, and what it is
+-- The offset of the fault, and what it is.
 abbrev pub syntax_cause : ℕ → SyntaxKind → List ℕ
 syntax_cause at kind = codes "syntax " ++ decimal at ++ codes " " ++ syntax_word kind
 
--- what is wrong with the names and kinds of a contract
+-- What is wrong with the names and kinds of a contract.
 abbrev pub check_word : CheckKind → List ℕ
 check_word checks.Unknown = codes "unknown"
 check_word checks.Again = codes "again"
 check_word checks.Count = codes "count"
 check_word checks.Kind = codes "kind"
 
+-- The offset of the fault of a name or a kind, and what it is.
 abbrev pub check_cause : Fault → List ℕ
 check_cause fault = codes "check " ++ decimal fault.at ++ codes " " ++ check_word fault.kind

@@ -1,23 +1,25 @@
--- What the program tells on its words and input, how it ends, and what it leaves of the input.
-use Rattle.std.specs.Prelude.{◌≡◌, ℕ, zero, suc, ◌-◌, ◌<◌, ◌≤◌, ◌==◌, nat_lt, if◌then◌else◌, List, [], ◌∷◌, length, drop, Option, Some, None, Result, Ok, Err, codes}
-use Rattle.lc_base.specs.Outside.{Tell, Told, ToldFront}
+-- What a command wants told of an input, how it ends, and what it leaves of the input.
+use Rattle.std.specs.Prelude.{◌≡◌, ℕ, zero, suc, ◌+◌, ◌-◌, ◌<◌, ◌≤◌, ◌==◌, nat_lt, if◌then◌else◌, List, [], ◌∷◌, length, drop, Option, Some, None, Result, Ok, Err, codes}
+use Rattle.std.specs.List.{concat}
+use Rattle.lc_base.specs.Outside.{Tell, Told, ToldPrefix}
 use Rattle.lc_base.specs.History.{scan}
 use Rattle.lc_base.specs.declared.answer.Query.{Query}
 use Rattle.block_codec.specs.Frames.{FrameStep, End, Truncated, Length, Many, Frame, frame_step}
 use Rattle.block_codec.specs.Spelling.{Decoder, IsDecoder}
+use Rattle.block_codec.specs.declared.limits.TheConstants.{MAX_FRAMES}
 use Rattle.block_codec.specs.declared.block.Block.{Block}
 use Rattle.chain_cli.specs.Lines.{usage_line, empty_line, head_line, refused_line, answer_lines, bad_input_line, syntax_cause, check_cause}
 use Rattle.contract_tree.specs.Tree.{FunctionTree}
-use Rattle.contract_parse.specs.Syntax.{ReadsAs, SyntaxFault}
-use Rattle.contract_parse.specs.declared.source.SyntaxKind.{SyntaxKind}
+use Rattle.contract_parse.specs.Syntax.{Outcome as SourceOutcome, IsOutcome}
 use Rattle.contract_check.specs.Faults.{check_fault}
 use Rattle.contract_check.specs.declared.fault.Fault.{Fault}
 use Rattle.contract_print.specs.Canonical.{contract_text}
 use Rattle.chain_cli.specs.Texts.{lines_of}
+use Rattle.chain_cli.specs.declared.whole.TheConstants.{MAX_WHOLE_INPUT_BYTES}
 use Rattle.chain_cli.specs.declared.words.Command.{Command}
 use Rattle.chain_cli.specs.declared.words.Command.TheVariants.{Scan, Fmt}
 use Rattle.chain_cli.specs.Effect.{replay}
-use Rattle.chain_cli.specs.Chain.{of_spelled}
+use Rattle.chain_cli.specs.Chain.{blocks_after_frame}
 use Rattle.chain_cli.specs.declared.cause.Cause.{Cause}
 use Rattle.chain_cli.specs.declared.cause.Cause.TheVariants as causes
 use Rattle.chain_cli.specs.declared.outcome.Outcome.{Outcome}
@@ -28,107 +30,137 @@ use Rattle.chain_cli.specs.declared.status.Status.TheVariants as statuses
 
 -- ---- the frames of an input
 
--- where the frames of an input end: with all of them taken into a chain, or with one refused, its number from 0, why, and what follows what was taken of the input
+-- Where the frames of an input end: with all of them taken into a chain, or with one refused. Then
+-- its number is told, from 0, why it is refused, and what follows what was taken of the input.
 pub data Fold : Type 0 where
   Whole : List Block → Fold
   Refused : ℕ → Cause → List ℕ → Fold
 
--- a frame was taken in, or is refused; `next` goes on
-abbrev pub of_taken : (List Block → List ℕ → Fold) → ℕ → List ℕ → Result (List Block) Cause → Fold
-of_taken next taken rest (Ok blocks) = next blocks rest
-of_taken next taken rest (Err cause) = Refused taken cause rest
+-- The fold goes on by `next` where a frame was taken in, and ends where it is refused.
+abbrev pub fold_after_frame : (List Block → List ℕ → Fold) → ℕ → List ℕ → Result (List Block) Cause → Fold
+fold_after_frame next taken rest (Ok blocks) = next blocks rest
+fold_after_frame next taken rest (Err cause) = Refused taken cause rest
 
--- what stands at the front of the input, where so many frames were taken; `read` says what the bytes of a frame spell
-abbrev pub of_step : Decoder → (List Block → List ℕ → Fold) → ℕ → List Block → List ℕ → FrameStep → Fold
-of_step read next taken blocks input End = Whole blocks
-of_step read next taken blocks input Truncated = Refused taken causes.Truncated []
-of_step read next taken blocks input (Length count) = Refused taken (causes.Length count) (drop 4 input)
-of_step read next taken blocks input Many = Refused taken causes.Many (drop 4 input)
-of_step read next taken blocks input (Frame frame rest) = of_taken next taken rest (of_spelled blocks (read frame))
+-- One step of the fold, by what stands at the start of the input, after so many frames were taken;
+-- `read` says what the bytes of a frame spell.
+abbrev pub fold_step : Decoder → (List Block → List ℕ → Fold) → ℕ → List Block → List ℕ → FrameStep → Fold
+fold_step read next taken blocks input End = Whole blocks
+fold_step read next taken blocks input Truncated = Refused taken causes.Truncated []
+fold_step read next taken blocks input (Length count) = Refused taken (causes.Length count) (drop 4 input)
+fold_step read next taken blocks input Many = Refused taken causes.Many (drop 4 input)
+fold_step read next taken blocks input (Frame frame rest) =
+    fold_after_frame next taken rest (blocks_after_frame blocks (read frame))
 
--- The frames of an input, taken one after another behind those blocks. `more` is how often to look at the front of the input: an input
--- has at most 2,097,152 frames, so looking once more than that comes to its end.
-unfoldable pub folded : Decoder → ℕ → List Block → List ℕ → Fold
-folded read zero blocks input = Whole blocks
-folded read (suc more) blocks input = of_step read (folded read more) (2097152 - more) blocks input (frame_step (2097152 - more) input)
+-- The frames of an input, taken one by one after those blocks. `more` is how often to look at the
+-- start of the input: an input has at most MAX_FRAMES frames, so looking once more than that
+-- reaches its end.
+unfoldable pub fold_from : Decoder → ℕ → List Block → List ℕ → Fold
+fold_from read zero blocks input = Whole blocks
+fold_from read (suc more) blocks input =
+    fold_step read (fold_from read more) (MAX_FRAMES - more) blocks input (frame_step (MAX_FRAMES - more) input)
 
--- the frames of an input, from no block
-abbrev pub fold_of : Decoder → List ℕ → Fold
-fold_of read input = folded read 2097153 [] input
+-- The frames of an input, from no block.
+abbrev pub fold_input : Decoder → List ℕ → Fold
+fold_input read input = fold_from read (MAX_FRAMES + 1) [] input
 
 -- ---- the commands
 
--- what is told, how it ends, and what is left of the input
+-- What is told, how the command ends, and what is left of the input.
 pub record Output : Type 0 where
   pub lines : List (List ℕ)
   pub status : Status
   pub left : List ℕ
 
--- the status that an ending gives
+-- The status that an ending gives.
 abbrev pub status_of : Ending → Status
 status_of endings.Done = statuses.Done
 status_of endings.Refused = statuses.Refused
 status_of endings.Beyond = statuses.Beyond
 status_of endings.BadInput = statuses.BadInput
 
--- some lines, and an ending
-abbrev pub ended : List (List ℕ) → Ending → Outcome
-ended lines ending = record { lines = lines; ending = ending }
+-- Some lines, and an ending.
+abbrev pub outcome_with : List (List ℕ) → Ending → Outcome
+outcome_with lines ending = record { lines = lines; ending = ending }
 
--- an outcome, and what is left of the input
+-- An outcome, and what is left of the input.
 abbrev pub output_of : Outcome → List ℕ → Output
 output_of outcome left = record { lines = outcome.lines; status = status_of outcome.ending; left = left }
 
--- the answer over the rows of a chain, if it is asked for up to one of its blocks
-abbrev pub of_chain : Query → List Block → Outcome
-of_chain query blocks =
-    if length blocks == 0 then ended (empty_line ∷ []) endings.Beyond
-    else (if nat_lt query.at (length blocks) then ended (answer_lines (scan (replay blocks) query)) endings.Done
-    else ended (head_line (length blocks - 1) ∷ []) endings.Beyond)
+-- The answer over the rows of a chain, where it is asked for up to one of its blocks.
+abbrev pub answer_outcome : Query → List Block → Outcome
+answer_outcome query blocks =
+    if length blocks == 0 then outcome_with (empty_line ∷ []) endings.Beyond
+    else (if nat_lt query.at (length blocks)
+    then outcome_with (answer_lines (scan (replay blocks) query)) endings.Done
+    else outcome_with (head_line (length blocks - 1) ∷ []) endings.Beyond)
 
--- a refused frame decides, wherever it stands
-abbrev pub of_fold : Query → Fold → Output
-of_fold query (Whole blocks) = output_of (of_chain query blocks) []
-of_fold query (Refused frame cause left) = output_of (ended (refused_line frame cause ∷ []) endings.Refused) left
+-- What `scan` tells: a refused frame decides, wherever it stands.
+abbrev pub scan_output : Query → Fold → Output
+scan_output query (Whole blocks) = output_of (answer_outcome query blocks) []
+scan_output query (Refused frame cause left) =
+    output_of (outcome_with (refused_line frame cause ∷ []) endings.Refused) left
 
--- words that are no command give `usage`, and leave the input
-abbrev pub of_usage : List ℕ → Output
-of_usage input = record { lines = usage_line ∷ []; status = statuses.Usage; left = input }
+-- Words that are no command give `usage`, and leave the input.
+abbrev pub usage_output : List ℕ → Output
+usage_output input = record { lines = usage_line ∷ []; status = statuses.Usage; left = input }
 
 -- ---- the canonical text of a contract
 
--- the greatest number of bytes of an input that is read whole
-abbrev pub fits_whole : List ℕ → Type 0
-fits_whole input = length input ≤ 67108864
+-- The input is short enough to be read whole.
+abbrev pub FitsInput : List ℕ → Type 0
+FitsInput input = length input ≤ MAX_WHOLE_INPUT_BYTES
 
--- an input that is not of its grammar, or too long
+-- An input that is not of its grammar, or too long.
 abbrev pub bad_input : List ℕ → Outcome
-bad_input cause = ended (bad_input_line cause ∷ []) endings.BadInput
+bad_input cause = outcome_with (bad_input_line cause ∷ []) endings.BadInput
 
--- what is told of functions: their canonical text, line by line, unless one of their names or kinds is at fault
-abbrev pub of_judged : List FunctionTree → Option Fault → Outcome
-of_judged functions (Some fault) = bad_input (check_cause fault)
-of_judged functions None = ended (lines_of (contract_text functions)) endings.Done
+-- What is told of functions: their canonical text, line by line, unless one of their names or kinds
+-- is invalid.
+abbrev pub fmt_outcome : List FunctionTree → Option Fault → Outcome
+fmt_outcome functions (Some fault) = bad_input (check_cause fault)
+fmt_outcome functions None = outcome_with (lines_of (contract_text functions)) endings.Done
 
--- What `fmt` tells of a source: the first fault of its syntax, or what is told of the functions that it reads as. A source that is
--- too long leaves what follows the first byte too many.
+-- What is told of a source: the first fault of its syntax, or what is told of the functions that it
+-- reads as.
+abbrev pub source_outcome : SourceOutcome → Outcome
+source_outcome (Ok functions) = fmt_outcome functions (check_fault functions)
+source_outcome (Err fault) = bad_input (syntax_cause fault.0 fault.1)
+
+-- What `fmt` tells of an input: what is told of the source that it is, or that it is too long. Then
+-- what follows the first byte too many is left.
 pub data IsFmt (input : List ℕ) : Output → Type 0 where
-  Long : 67108864 < length input → IsFmt input (output_of (bad_input (codes "long")) (drop 67108865 input))
-  Syntax : fits_whole input → (at : ℕ) (kind : SyntaxKind) → SyntaxFault input at kind → IsFmt input (output_of (bad_input (syntax_cause at kind)) [])
-  Read : fits_whole input → (functions : List FunctionTree) → ReadsAs input functions → IsFmt input (output_of (of_judged functions (check_fault functions)) [])
+  Long : MAX_WHOLE_INPUT_BYTES < length input →
+      IsFmt input (output_of (bad_input (codes "long")) (drop (MAX_WHOLE_INPUT_BYTES + 1) input))
+  Source : FitsInput input → (outcome : SourceOutcome) → IsOutcome input outcome →
+      IsFmt input (output_of (source_outcome outcome) [])
+
+-- What `fmt` tells of an input without a fault, it tells of what it told, where that is short
+-- enough to be read whole.
+abbrev pub FormatsAgain : List ℕ → Type 0
+FormatsAgain input =
+    (output : Output) → IsFmt input output → output.status ≡ statuses.Done → FitsInput (concat output.lines) →
+    IsFmt (concat output.lines) output
 
 -- ---- what is wanted
 
--- the output for a command and an input
-abbrev pub IsOut : Option Command → List ℕ → Output → Type 0
-IsOut None input output = output ≡ of_usage input
-IsOut (Some (Scan query)) input output = (read : Decoder) × IsDecoder read × (output ≡ of_fold query (fold_of read input))
-IsOut (Some Fmt) input output = IsFmt input output
+-- A command, or that the words are none, wants this output of an input.
+abbrev pub Wants : Option Command → List ℕ → Output → Type 0
+Wants None input output = output ≡ usage_output input
+Wants (Some (Scan query)) input output =
+    (read : Decoder) × IsDecoder read × (output ≡ scan_output query (fold_input read input))
+Wants (Some Fmt) input output = IsFmt input output
 
--- What was told, the status and what is left are those of the output that is wanted. Where reading failed or memory was wanting nothing
--- was told; where the wire failed, a front of the lines.
+-- There is an output that is wanted, and no other.
+pub record IsOneOutput (Wanted : Output → Type 0) : Type 0 where
+  pub output : Output
+  pub wanted : Wanted output
+  pub only : (other : Output) → Wanted other → other ≡ output
+
+-- What was told, the status and what is left are those of an output that is wanted. Where reading
+-- failed or memory ran out, nothing was told; where the wire failed, a prefix of the lines.
 abbrev pub Meets : Status → Option (List Tell) → Option (List Tell) → Option (List ℕ) → (Output → Type 0) → Type 0
 Meets statuses.Unreadable old new left Wanted = Told old new []
 Meets statuses.Memory old new left Wanted = Told old new []
-Meets statuses.Untold old new left Wanted = (output : Output) × Wanted output × ToldFront old new output.lines
-Meets status old new left Wanted = (output : Output) × Wanted output × Told old new output.lines × (status ≡ output.status) × (left ≡ Some output.left)
+Meets statuses.Untold old new left Wanted = (output : Output) × Wanted output × ToldPrefix old new output.lines
+Meets status old new left Wanted =
+    (output : Output) × Wanted output × Told old new output.lines × (status ≡ output.status) × (left ≡ Some output.left)

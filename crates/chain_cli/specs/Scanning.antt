@@ -1,11 +1,11 @@
 -- What the scan of an input answers, for its definition.
-use Rattle.std.specs.Prelude.{◌≡◌, ℕ, ◌+◌, ◌≤◌, List, [], Option, Some, Result, Ok, Err, IsErrOf}
-use Rattle.lc_base.specs.Outside.{Rose}
+use Rattle.std.specs.Prelude.{◌≡◌, ℕ, ◌+◌, ◌≤◌, List, [], Option, Some, Result, Ok, Err}
 use Rattle.block_codec.specs.Frames.{frame_step}
+use Rattle.block_codec.specs.declared.limits.TheConstants.{MAX_FRAMES}
 use Rattle.block_codec.specs.Reading.{block_in}
 use Rattle.block_codec.specs.declared.block.Block.{Block}
 use Rattle.chain_cli.specs.Chain.{ChainState, StandsFor}
-use Rattle.chain_cli.specs.Output.{Fold, Whole, Refused, of_step, Output, output_of, IsFmt, IsOut}
+use Rattle.chain_cli.specs.Output.{Fold, Whole, Refused, fold_step, Output, output_of, IsFmt, Wants}
 use Rattle.chain_cli.specs.declared.words.Command.{Command}
 use Rattle.chain_cli.specs.declared.outcome.Outcome.{Outcome}
 use Rattle.block_codec.specs.declared.frames.FrameError.{FrameError}
@@ -19,17 +19,13 @@ use Rattle.chain_cli.specs.declared.folding.Turn.TheVariants as turns
 use Rattle.chain_cli.specs.declared.stop.Stop.{Stop}
 use Rattle.chain_cli.specs.declared.stop.Stop.TheVariants.{Fault, Memory}
 
--- The count of faults did not fall, and rose where a fault is answered.
-pub record HasStopCause {T : Type 0} (before now : ℕ) (result : Result T Stop) : Type 0 where
-  pub later : before ≤ now
-  pub fault : IsErrOf result Fault → Rose before now
+-- The fold is found where it ends, with a chain that stands for its blocks, and what follows is
+-- left.
+abbrev pub IsFoldResult : Folded → Option (List ℕ) → Fold → Type 0
+IsFoldResult (found.Whole chain) left fold = (blocks : List Block) × (fold ≡ Whole blocks) × StandsFor chain blocks × (left ≡ Some [])
+IsFoldResult (found.Refused frame cause) left fold = (rest : List ℕ) × (fold ≡ Refused frame cause rest) × (left ≡ Some rest)
 
--- where the frames end is found, with a chain that stands for its blocks, and what follows is left
-abbrev pub IsFoundFold : Folded → Option (List ℕ) → Fold → Type 0
-IsFoundFold (found.Whole chain) left fold = (blocks : List Block) × (fold ≡ Whole blocks) × StandsFor chain blocks × (left ≡ Some [])
-IsFoundFold (found.Refused frame cause) left fold = (rest : List ℕ) × (fold ≡ Refused frame cause rest) × (left ≡ Some rest)
-
--- what an error of the frames says of the input, or that it says nothing
+-- What an error of the frames says of the input, or that it says nothing.
 abbrev pub IsCauseOf : FrameError → Result Cause Stop → Type 0
 IsCauseOf frames.Truncated result = result ≡ Ok causes.Truncated
 IsCauseOf (frames.Length count) result = result ≡ Ok (causes.Length count)
@@ -37,37 +33,39 @@ IsCauseOf frames.Many result = result ≡ Ok causes.Many
 IsCauseOf frames.Fault result = result ≡ Err Fault
 IsCauseOf frames.Memory result = result ≡ Err Memory
 
--- ---- one look at the front of an input
+-- ---- one look at the start of an input
 
--- what stands at the front of an input
-abbrev pub step_of : (List Block → List ℕ → Fold) → ℕ → List Block → List ℕ → Fold
-step_of next taken blocks input = of_step block_in next taken blocks input (frame_step taken input)
+-- One step of the fold at the start of an input.
+abbrev pub step_at_start : (List Block → List ℕ → Fold) → ℕ → List Block → List ℕ → Fold
+step_at_start next taken blocks input = fold_step block_in next taken blocks input (frame_step taken input)
 
--- What a look at the front of the input finds, of which so many frames were taken into a chain: that it has ended, a chain with the
--- frame taken in and what follows it, or why the frame is refused and what follows what was taken.
+-- What a look at the start of the input finds, of which so many frames were taken into a chain:
+-- that it has ended, a chain with the frame taken in and what follows it, or why the frame is
+-- refused and what follows what was taken.
 abbrev pub FindsTurn : ChainState → ℕ → List Block → List ℕ → Option (List ℕ) → Turn → Type 0
-FindsTurn chain taken blocks input left (turns.Ended same) = (same ≡ chain) × (left ≡ Some []) × ((next : List Block → List ℕ → Fold) → step_of next taken blocks input ≡ Whole blocks)
+FindsTurn chain taken blocks input left (turns.Ended same) = (same ≡ chain) × (left ≡ Some []) × ((next : List Block → List ℕ → Fold) → step_at_start next taken blocks input ≡ Whole blocks)
 FindsTurn chain taken blocks input left (turns.Taken longer more) =
-    (more_blocks : List Block) × (rest : List ℕ) × StandsFor longer more_blocks × (left ≡ Some rest) × ((next : List Block → List ℕ → Fold) → step_of next taken blocks input ≡ next more_blocks rest)
+    (more_blocks : List Block) × (rest : List ℕ) × StandsFor longer more_blocks × (left ≡ Some rest) × ((next : List Block → List ℕ → Fold) → step_at_start next taken blocks input ≡ next more_blocks rest)
 FindsTurn chain taken blocks input left (turns.Refused cause) =
-    (rest : List ℕ) × (left ≡ Some rest) × ((next : List Block → List ℕ → Fold) → step_of next taken blocks input ≡ Refused taken cause rest)
+    (rest : List ℕ) × (left ≡ Some rest) × ((next : List Block → List ℕ → Fold) → step_at_start next taken blocks input ≡ Refused taken cause rest)
 
+-- The same, whatever blocks the chain stands for.
 abbrev pub IsTurn : ChainState → ℕ → List ℕ → Option (List ℕ) → Turn → Type 0
 IsTurn chain taken input left turn = (blocks : List Block) → StandsFor chain blocks → FindsTurn chain taken blocks input left turn
 
--- a frame that is taken in counts, and there are at most 2,097,152
-abbrev pub Counts : ℕ → Turn → Type 0
-Counts taken (turns.Taken longer more) = (more ≡ taken + 1) × (more ≤ 2097152)
-Counts taken turn = Unit {0}
+-- A frame that is taken in is counted, and at most MAX_FRAMES are.
+abbrev pub CountsFrames : ℕ → Turn → Type 0
+CountsFrames taken (turns.Taken longer more) = (more ≡ taken + 1) × (more ≤ MAX_FRAMES)
+CountsFrames taken turn = Unit {0}
 
--- an outcome, and what is left of the input, are the output
-abbrev pub IsOutput : Outcome → Option (List ℕ) → Output → Type 0
-IsOutput outcome left output = (output ≡ output_of outcome output.left) × (left ≡ Some output.left)
+-- An outcome, and what is left of the input, are the output.
+abbrev pub GivesOutput : Outcome → Option (List ℕ) → Output → Type 0
+GivesOutput outcome left output = (output ≡ output_of outcome output.left) × (left ≡ Some output.left)
 
--- an outcome, and what is left of the input, are what `fmt` tells of it
+-- An outcome, and what is left of the input, are what `fmt` tells of it.
 abbrev pub IsFmtOutcome : Outcome → Option (List ℕ) → List ℕ → Type 0
 IsFmtOutcome outcome left input = (rest : List ℕ) × (left ≡ Some rest) × IsFmt input (output_of outcome rest)
 
--- an outcome, and what is left of the input, are the output that a command wants
-abbrev pub IsWanted : Command → List ℕ → Outcome → Option (List ℕ) → Type 0
-IsWanted command input outcome left = (rest : List ℕ) × (left ≡ Some rest) × IsOut (Some command) input (output_of outcome rest)
+-- An outcome, and what is left of the input, are an output that the command wants.
+abbrev pub WantsOutcome : Command → List ℕ → Outcome → Option (List ℕ) → Type 0
+WantsOutcome command input outcome left = (rest : List ℕ) × (left ≡ Some rest) × Wants (Some command) input (output_of outcome rest)

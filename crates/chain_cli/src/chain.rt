@@ -5,6 +5,7 @@ ghost use Rattle.std.specs.List.{slice_get};
 ghost use Rattle.lc_base.specs.History.{scan};
 ghost use Rattle.block_codec.specs.Spelling.{IsBlock};
 ghost use Rattle.block_codec.specs.Placement.{placement};
+ghost use Rattle.block_codec.specs.declared.limits.TheConstants.{MAX_BLOCKS, MAX_ROWS_BEFORE_BLOCK};
 ghost use Rattle.chain_cli.specs.Effect.{block_rows};
 ghost use Rattle.chain_cli.specs.Chain.{ChainState, last_digest};
 
@@ -43,7 +44,7 @@ impl Chain {
         }
     }
 
-    /// The number of its blocks, at most 1,048,576.
+    /// The number of its blocks, at most `MAX_BLOCKS`.
     pub fn len(&self) -> u32
         ensures { result ≡ length self.now.digests }
     {
@@ -77,11 +78,11 @@ impl Chain {
         }
     }
 
-    /// The chain with the next block behind the others. On `Memory` the chain is given up.
+    /// The chain with the next block after the others. On `Memory` the chain is given up.
     pub fn extended(self, alloc: Global, block: &Block, digest: Digest) -> Result<Chain, Memory>
         requires number { block.now.number ≡ length self.digests }
-        requires room { length self.digests < 1048576 }
-        requires few_rows { length self.rows ≤ 4293918718 }
+        requires room { length self.digests < MAX_BLOCKS }
+        requires few_rows { length self.rows ≤ MAX_ROWS_BEFORE_BLOCK }
         requires lawful { IsBlock block.now }
         ensures { IfOk result (λ chain. chain ≡ record { digests = self.digests ++ digest ∷ []; rows = self.rows ++ block_rows self.rows block.now }) }
     {

@@ -4,6 +4,7 @@ ghost use Rattle.std.specs.Prelude.{◌≡◌, ◌≤◌, ◌&&◌, ◌==◌, le
 ghost use Rattle.std.specs.Option.{option_copied};
 ghost use Rattle.std.specs.List.{list_any};
 ghost use Rattle.lc_base.specs.History.{newest};
+ghost use Rattle.block_codec.specs.declared.limits.TheConstants.{MAX_TXS};
 ghost use Rattle.chain_cli.specs.Effect.{is_same_dep, is_among, with_once, with_version, version_to_depend_on, deps_on, is_written, effect_of, staged_after, block_rows};
 
 use block_codec::{Block, Tx};
@@ -53,7 +54,7 @@ fn is_among(deps: &[Dep], dep: &Dep) -> bool
     deps.iter().any(|other| is_same_dep(other, dep))
 }
 
-/// Puts the dependency behind the others, unless it is there already.
+/// Appends the dependency, unless it is there already.
 fn push_once(deps: &mut DepList, dep: Dep) -> Result<(), Memory>
     ensures { OnOk result (deps.new ≡ with_once deps.old dep) }
 {
@@ -63,7 +64,7 @@ fn push_once(deps: &mut DepList, dep: Dep) -> Result<(), Memory>
     deps.push(dep)
 }
 
-/// Puts the newest version of a key, if it has one, behind the others.
+/// Appends the newest version of a key, if it has one.
 fn derive_from(deps: &mut DepList, rows: &[Row], key: &Key) -> Result<(), Memory>
     ensures { OnOk result (deps.new ≡ with_version deps.old (version_to_depend_on rows.now key.now)) }
 {
@@ -97,7 +98,8 @@ fn is_any_written(rows: &[Row], keys: &[Key]) -> bool
     keys.iter().any(|key| is_written(rows, key))
 }
 
-/// What a transaction at a place of a block does. `rows` are those before the block, `staged` those of the block's earlier transactions.
+/// What a transaction at an index of a block does. `rows` are those before the block, `staged`
+/// those of the block's earlier transactions.
 fn effect_of(
     alloc: Global,
     rows: &[Row],
@@ -136,7 +138,7 @@ fn effect_of(
 
 /// The rows that the transactions of a block write on the rows before it.
 fn rows_of_txs(alloc: Global, rows: &[Row], number: u32, txs: &[Tx]) -> Result<RowList, Memory>
-    requires { length txs.now ≤ 4096 }
+    requires { length txs.now ≤ MAX_TXS }
     ensures { IfOk result (λ written. written ≡ staged_after rows.now number 0 [] txs.now) }
 {
     let mut staged = RowList::new(alloc);
@@ -152,7 +154,7 @@ fn rows_of_txs(alloc: Global, rows: &[Row], number: u32, txs: &[Tx]) -> Result<R
 
 /// The rows that a block writes on the rows before it.
 pub fn block_rows(alloc: Global, rows: &[Row], block: &Block) -> Result<RowList, Memory>
-    requires { length block.now.txs ≤ 4096 }
+    requires { length block.now.txs ≤ MAX_TXS }
     ensures { IfOk result (λ written. written ≡ block_rows rows.now block.now) }
 {
     rows_of_txs(alloc, rows, block.number, block.txs.as_slice())

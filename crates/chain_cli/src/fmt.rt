@@ -1,12 +1,14 @@
 //! The command `fmt`: the canonical text of a contract, or its first fault.
 
-ghost use Rattle.std.specs.Prelude.{◌≡◌, ◌≤◌, ℕ, List, [], ◌∷◌, ◌++◌, length, string_bytes, IfOk, IfSome, OnOk};
+ghost use Rattle.lc_base.specs.Outside.{HasCause};
+ghost use Rattle.std.specs.Prelude.{◌≡◌, ◌≤◌, ℕ, List, [], ◌∷◌, ◌++◌, length, string_bytes, IfOk, IfSome, OnOk, IsErrOf};
 ghost use Rattle.contract_tree.specs.Tree.{contract_of};
 ghost use Rattle.contract_check.specs.Faults.{check_fault};
+ghost use Rattle.chain_cli.specs.declared.whole.TheConstants.{MAX_WHOLE_INPUT_BYTES};
 ghost use Rattle.chain_cli.specs.Lines.{syntax_word, syntax_cause, check_word, check_cause};
-ghost use Rattle.chain_cli.specs.Output.{bad_input, of_judged, IsFmt, output_of};
-ghost use Rattle.chain_cli.specs.Scanning.{HasStopCause, IsFmtOutcome};
-ghost use Rattle.chain_cli.specs.Texts.{last_line, lines_behind, lines_of};
+ghost use Rattle.chain_cli.specs.Output.{bad_input, fmt_outcome, IsFmt, output_of};
+ghost use Rattle.chain_cli.specs.Scanning.{IsFmtOutcome};
+ghost use Rattle.chain_cli.specs.Texts.{last_line, lines_after, lines_of};
 
 use crate::lines::bad_input_line;
 use crate::outcome::{Ending, Outcome};
@@ -19,14 +21,14 @@ use lc_base::{Bytes, Memory, Seq, Source};
 use std::alloc::{AllocError, Global};
 use std::mem;
 
-/// One byte more of a text that is cut into lines: `line` has the bytes behind the last line end.
+/// One byte more of a text that is cut into lines: `line` has the bytes after the last line end.
 fn put_byte(
     alloc: Global,
     lines: &mut Seq<Bytes>,
     line: &mut Vec<u8>,
     byte: u8,
 ) -> Result<(), Memory>
-    ensures { OnOk result ((bytes : List ℕ) → lines.new ++ lines_behind line.new.items bytes ≡ lines.old ++ lines_behind line.old.items (byte ∷ bytes)) }
+    ensures { OnOk result ((bytes : List ℕ) → lines.new ++ lines_after line.new.items bytes ≡ lines.old ++ lines_after line.old.items (byte ∷ bytes)) }
 {
     line.push(byte)?;
     if byte == b'\n' {
@@ -36,7 +38,7 @@ fn put_byte(
     Ok(())
 }
 
-/// Puts what stands behind the last line end behind the lines, where something does.
+/// Puts what stands after the last line end after the lines, where something does.
 fn put_rest(lines: &mut Seq<Bytes>, line: Vec<u8>) -> Result<(), Memory>
     ensures { OnOk result (lines.new ≡ lines.old ++ last_line line.items) }
 {
@@ -46,7 +48,7 @@ fn put_rest(lines: &mut Seq<Bytes>, line: Vec<u8>) -> Result<(), Memory>
     lines.push(Bytes::from_vec(line))
 }
 
-/// A text, cut behind each line end.
+/// A text, cut after each line end.
 fn lines_of(alloc: Global, text: &[u8]) -> Result<Seq<Bytes>, Memory>
     ensures { IfOk result (λ lines. lines ≡ lines_of text.now) }
 {
@@ -63,7 +65,7 @@ fn lines_of(alloc: Global, text: &[u8]) -> Result<Seq<Bytes>, Memory>
 fn bad_input(alloc: Global, cause: &str) -> Result<Outcome, Memory>
     ensures { IfOk result (λ outcome. outcome ≡ bad_input cause.now) }
 {
-    Outcome::of_line(alloc, bad_input_line(alloc, cause)?, Ending::BadInput)
+    Outcome::from_line(alloc, bad_input_line(alloc, cause)?, Ending::BadInput)
 }
 
 fn syntax_word(kind: SyntaxKind) -> &'static str
@@ -105,9 +107,9 @@ fn check_cause(alloc: Global, at: u32, kind: CheckKind) -> Result<String, AllocE
     Ok(text)
 }
 
-/// What is told of a contract: its canonical text, unless a name or a kind is at fault.
-fn of_contract(alloc: Global, contract: Contract) -> Result<Outcome, Memory>
-    ensures { IfOk result (λ outcome. outcome ≡ of_judged (contract_of contract) (check_fault (contract_of contract))) }
+/// What is told of a contract: its canonical text, unless a name or a kind is invalid.
+fn contract_outcome(alloc: Global, contract: Contract) -> Result<Outcome, Memory>
+    ensures { IfOk result (λ outcome. outcome ≡ fmt_outcome (contract_of contract) (check_fault (contract_of contract))) }
 {
     match check(alloc, contract) {
         Ok(checked) => {
@@ -126,13 +128,13 @@ fn of_contract(alloc: Global, contract: Contract) -> Result<Outcome, Memory>
 }
 
 /// What is told of a source that was read whole.
-fn of_source(alloc: Global, source: &[u8]) -> Result<Outcome, Memory>
-    requires { length source.now ≤ 67108864 }
+fn source_outcome(alloc: Global, source: &[u8]) -> Result<Outcome, Memory>
+    requires { length source.now ≤ MAX_WHOLE_INPUT_BYTES }
     ensures { IfOk result (λ outcome. IsFmt source.now (output_of outcome [])) }
 {
     match parse(alloc, source) {
         Ok(contract) => {
-            let outcome = of_contract(alloc, contract)?;
+            let outcome = contract_outcome(alloc, contract)?;
             Ok(outcome)
         }
         Err(SyntaxError::Refused { at, kind }) => {
@@ -147,10 +149,10 @@ fn of_source(alloc: Global, source: &[u8]) -> Result<Outcome, Memory>
 /// The canonical text of the contract that the input is, or its first fault.
 pub fn fmt<I: Source>(alloc: Global, source: &mut I) -> Result<Outcome, Stop>
     ensures outcome { IfSome (I.left source.old) (λ input. IfOk result (λ outcome. IsFmtOutcome outcome (I.left source.new) input)) }
-    ensures cause { HasStopCause (I.source_faults source.old) (I.source_faults source.new) result }
+    ensures cause { HasCause (I.source_faults source.old) (I.source_faults source.new) (IsErrOf result Stop.Fault) }
 {
     match read_whole(alloc, source)? {
         None => Ok(bad_input(alloc, "long")?),
-        Some(bytes) => Ok(of_source(alloc, bytes.as_bytes())?),
+        Some(bytes) => Ok(source_outcome(alloc, bytes.as_bytes())?),
     }
 }

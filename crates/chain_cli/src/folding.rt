@@ -1,14 +1,15 @@
 //! The frames of an input, taken one after another into a chain.
 
-ghost use Rattle.std.specs.Prelude.{◌≡◌, [], IfOk, IfSome, List};
+ghost use Rattle.lc_base.specs.Outside.{HasCause};
+ghost use Rattle.std.specs.Prelude.{◌≡◌, [], IfOk, IfSome, List, IsErrOf};
 ghost use Rattle.lc_base.specs.Outside.{Rose};
 ghost use Rattle.block_codec.specs.Spelling.{IsBlock};
 ghost use Rattle.block_codec.specs.Placement.{digest_of};
 ghost use Rattle.block_codec.specs.Reading.{block_in};
 ghost use Rattle.block_codec.specs.declared.block.Block.{Block as Blocks};
-ghost use Rattle.chain_cli.specs.Chain.{of_placement, of_spelled, placed, StandsFor, IsTakenIn};
-ghost use Rattle.chain_cli.specs.Output.{fold_of};
-ghost use Rattle.chain_cli.specs.Scanning.{HasStopCause, IsFoundFold, IsCauseOf, IsTurn, Counts};
+ghost use Rattle.chain_cli.specs.Chain.{blocks_after_placement, blocks_after_frame, placement_in, StandsFor, IsTakenIn};
+ghost use Rattle.chain_cli.specs.Output.{fold_input};
+ghost use Rattle.chain_cli.specs.Scanning.{IsFoldResult, IsCauseOf, IsTurn, CountsFrames};
 
 use crate::cause::Cause;
 use crate::chain::Chain;
@@ -26,7 +27,7 @@ pub enum Folded {
     Refused { frame: u32, cause: Cause },
 }
 
-/// What became of looking once at the front of the input.
+/// What became of looking once at the start of the input.
 #[derive(Debug, Drop)]
 enum Turn {
     /// The input has ended.
@@ -37,7 +38,8 @@ enum Turn {
     Refused(Cause),
 }
 
-/// A block that the chain holds is passed over, the next one is put behind the others, and every other one is refused.
+/// A block that the chain holds is passed over, the next one is append to the others, and every
+/// other one is refused.
 fn take_block(
     alloc: Global,
     chain: Chain,
@@ -46,7 +48,7 @@ fn take_block(
 ) -> Result<Result<Chain, Cause>, Memory>
     requires lawful { IsBlock block.now }
     requires digest { digest ≡ digest_of block.now }
-    ensures { IfOk result (λ taken. (blocks : List Blocks) → StandsFor chain blocks → IsTakenIn taken (of_placement blocks block.now (placed blocks block.now))) }
+    ensures { IfOk result (λ taken. (blocks : List Blocks) → StandsFor chain blocks → IsTakenIn taken (blocks_after_placement blocks block.now (placement_in blocks block.now))) }
 {
     match chain.place(block, digest) {
         Placement::Known => Ok(Ok(chain)),
@@ -60,7 +62,7 @@ fn take_block(
 
 /// What the bytes of a frame spell decides.
 fn take_frame(alloc: Global, chain: Chain, frame: &[u8]) -> Result<Result<Chain, Cause>, Memory>
-    ensures { IfOk result (λ taken. (blocks : List Blocks) → StandsFor chain blocks → IsTakenIn taken (of_spelled blocks (block_in frame.now))) }
+    ensures { IfOk result (λ taken. (blocks : List Blocks) → StandsFor chain blocks → IsTakenIn taken (blocks_after_frame blocks (block_in frame.now))) }
 {
     match decode(alloc, frame) {
         Ok(block) => take_block(alloc, chain, &block, block_digest(frame)),
@@ -82,7 +84,7 @@ fn cause_of(error: FrameError) -> Result<Cause, Stop>
     }
 }
 
-/// Looks once at the front of the input.
+/// Looks once at the start of the input.
 fn look<I: Source>(
     alloc: Global,
     chain: Chain,
@@ -90,8 +92,8 @@ fn look<I: Source>(
     source: &mut I,
 ) -> Result<Turn, Stop>
     ensures turn { IfSome (I.left source.old) (λ input. IfOk result (IsTurn chain frames input (I.left source.new))) }
-    ensures count { IfOk result (Counts frames) }
-    ensures cause { HasStopCause (I.source_faults source.old) (I.source_faults source.new) result }
+    ensures count { IfOk result (CountsFrames frames) }
+    ensures cause { HasCause (I.source_faults source.old) (I.source_faults source.new) (IsErrOf result Stop.Fault) }
 {
     match frames.next(alloc, source) {
         Ok(None) => Ok(Turn::Ended(chain)),
@@ -105,8 +107,8 @@ fn look<I: Source>(
 
 /// Takes the frames of the input one after another into a chain, from no block.
 pub fn fold<I: Source>(alloc: Global, source: &mut I) -> Result<Folded, Stop>
-    ensures fold { IfSome (I.left source.old) (λ input. IfOk result (λ folded. IsFoundFold folded (I.left source.new) (fold_of block_in input))) }
-    ensures cause { HasStopCause (I.source_faults source.old) (I.source_faults source.new) result }
+    ensures fold { IfSome (I.left source.old) (λ input. IfOk result (λ folded. IsFoldResult folded (I.left source.new) (fold_input block_in input))) }
+    ensures cause { HasCause (I.source_faults source.old) (I.source_faults source.new) (IsErrOf result Stop.Fault) }
 {
     let mut chain = Chain::new(alloc);
     let mut frames = Frames::new();

@@ -39,7 +39,7 @@ pub fn head_line(alloc: Global, head: u32) -> Result<Bytes, Memory>
     line(alloc, text.as_str())
 }
 
-/// A digest in lower-case hex, behind a word.
+/// A digest in lower-case hex, after a word.
 fn digest_text(alloc: Global, word: &str, digest: &Digest) -> Result<String, AllocError>
     ensures { IfOk result (λ text. string_bytes text ≡ word.now ++ encode_lower digest.now.0) }
 {
@@ -57,7 +57,7 @@ fn cause_text(alloc: Global, cause: &Cause) -> Result<String, AllocError>
         Cause::Truncated => String::from_str(alloc, "truncated"),
         Cause::Length(count) => format!(in alloc; "length {count}"),
         Cause::Many => String::from_str(alloc, "many"),
-        Cause::Malformed(place) => format!(in alloc; "malformed {place}"),
+        Cause::Malformed(offset) => format!(in alloc; "malformed {offset}"),
         Cause::Fork(have) => digest_text(alloc, "fork ", have),
         Cause::Full => String::from_str(alloc, "full"),
         Cause::Number(want) => format!(in alloc; "number {want}"),
@@ -72,7 +72,7 @@ fn refused_text(alloc: Global, frame: u32, cause: &str) -> Result<Bytes, Memory>
     line(alloc, text.as_str())
 }
 
-/// The frame at this place of the input, from 0, is refused for this cause.
+/// The frame of this number, from 0, is refused for this cause.
 pub fn refused_line(alloc: Global, frame: u32, cause: &Cause) -> Result<Bytes, Memory>
     ensures { IfOk result (λ bytes. bytes ≡ refused_line frame cause.now) }
 {
@@ -114,7 +114,7 @@ fn dep_line(alloc: Global, dep: &Dep) -> Result<Bytes, Memory>
     Ok(Bytes::from_vec(bytes))
 }
 
-/// A line, and behind it one for each version.
+/// A line, and after it one for each version.
 fn dep_lines(alloc: Global, head: Bytes, deps: &[Dep]) -> Result<Seq<Bytes>, Memory>
     ensures { IfOk result (λ lines. lines ≡ head ∷ map dep_line deps.now) }
 {

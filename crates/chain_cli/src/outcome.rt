@@ -1,7 +1,7 @@
 //! What a command tells, and how it ends where nothing fails.
 
 ghost use Rattle.std.specs.Prelude.{◌≡◌, [], ◌∷◌, IfOk};
-ghost use Rattle.chain_cli.specs.Output.{status_of, ended};
+ghost use Rattle.chain_cli.specs.Output.{status_of, outcome_with};
 
 use crate::status::Status;
 use lc_base::{Bytes, Memory, Seq};
@@ -25,8 +25,8 @@ pub struct Outcome {
 
 impl Outcome {
     /// One line, and an ending.
-    pub fn of_line(alloc: Global, line: Bytes, ending: Ending) -> Result<Outcome, Memory>
-        ensures { IfOk result (λ outcome. outcome ≡ ended (line ∷ []) ending) }
+    pub fn from_line(alloc: Global, line: Bytes, ending: Ending) -> Result<Outcome, Memory>
+        ensures { IfOk result (λ outcome. outcome ≡ outcome_with (line ∷ []) ending) }
     {
         let mut lines = Seq::new(alloc);
         lines.push(line)?;

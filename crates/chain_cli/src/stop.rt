@@ -10,7 +10,7 @@ use std::alloc::AllocError;
 pub enum Stop {
     /// The source failed.
     Fault,
-    /// No memory was to be had.
+    /// Out of memory.
     Memory,
 }
 

@@ -61,7 +61,8 @@ fn is_scan(text: &str) -> bool
     text == "scan"
 }
 
-/// The question of the command `scan KIND KEY BLOCK`; `None` exactly where the words are no such command.
+/// The question of the command `scan KIND KEY BLOCK`; `None` exactly where the words are no such
+/// command.
 fn query_of(words: &[String]) -> Option<Query>
     ensures { IsScan (map string_bytes words.now) result }
 {

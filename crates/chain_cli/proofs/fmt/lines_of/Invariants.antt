@@ -1,6 +1,6 @@
 use Rattle.std.proofs.Common.{◌≡◌, ◌++◌, drop}
-use Rattle.chain_cli.specs.Texts.{lines_behind, lines_of}
+use Rattle.chain_cli.specs.Texts.{lines_after, lines_of}
 use Rattle.chain_cli.proofs.fmt.lines_of.Given as goal
 
 abbrev pub invariant-loop-byte : goal.invariant-loop-byte
-invariant-loop-byte l = l.lines ++ lines_behind l.line.items (drop l.byte-index l.text) ≡ lines_of l.text
+invariant-loop-byte l = l.lines ++ lines_after l.line.items (drop l.byte-index l.text) ≡ lines_of l.text

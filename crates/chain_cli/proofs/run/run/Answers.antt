@@ -1,9 +1,9 @@
-use Rattle.chain_cli.proofs.Outputs.{usage_output, command_output, unread_output, memory_output}
+use Rattle.chain_cli.proofs.Outputs.{usage_wanted, command_output, unread_output, memory_output}
 use Rattle.chain_cli.proofs.run.run.Goals as goal
 
 pub returns-in-None-clause-output : goal.returns-in-None-clause-output
 returns-in-None-clause-output g c =
-    usage_output (g.I.Source.left c.args.source.now) _ c.tell_usage.result (g.M.Clock.told c.args.machine.now) (g.M.Clock.told c.tell_usage.new.machine) c.in-None.ensures c.tell_usage.ensures.told
+    usage_wanted (g.I.Source.left c.args.source.now) _ c.tell_usage.result (g.M.Clock.told c.args.machine.now) (g.M.Clock.told c.tell_usage.new.machine) c.in-None.ensures c.tell_usage.ensures.told
 
 pub returns-in-Ok-clause-output : goal.returns-in-Ok-clause-output
 returns-in-Ok-clause-output g c =

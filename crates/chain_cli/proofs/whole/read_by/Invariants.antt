@@ -1,5 +1,6 @@
-use Rattle.std.proofs.Common.{◌-◌}
+use Rattle.std.proofs.Common.{◌+◌, ◌-◌}
 use Rattle.std.specs.Prelude.{vec_len}
+use Rattle.chain_cli.specs.declared.whole.TheConstants.{MAX_WHOLE_INPUT_BYTES}
 use Rattle.chain_cli.proofs.Wholes.{IsReading}
 use Rattle.chain_cli.proofs.whole.read_by.Given as goal
 
@@ -7,4 +8,4 @@ abbrev pub invariant-pulls : goal.invariant-pulls
 invariant-pulls g l = IsReading (g.I.Source.left l.initial.source) (g.I.Source.left l.source) (g.I.Source.source_faults l.initial.source) (g.I.Source.source_faults l.source) l.bytes.items
 
 abbrev pub decreases-pulls : goal.decreases-pulls
-decreases-pulls g l = 67108865 - vec_len l.bytes
+decreases-pulls g l = (MAX_WHOLE_INPUT_BYTES + 1) - vec_len l.bytes

@@ -1,16 +1,14 @@
-mod cases;
-mod forms;
-mod syntax;
+//! Runs whose source or wire fails, whose input is very long, or of which each byte is changed.
 
-use self::cases::{
-    BEYOND, CONTRACTS, Case, HISTORY, LINEAGE, MALFORMED, MORE_SOURCES, NO_COMMAND, ONE_SET,
-    REFUSED, SHORT_SOURCES, SOURCES, Written,
-};
-use crate::run::run;
-use crate::status::Status;
+use chain_cli::run::run;
+use chain_cli::{MAX_WHOLE_INPUT_BYTES, Status};
 use lc_base::{MemSource, MemWire, Room};
 use std::alloc::Global;
 use std::test::Fail;
+
+/// One block, numbered 0, with one Set of raw/a to 5.
+const ONE_SET: &str =
+    "0000003c0100000000000000000000000000000000000000000000000000000000000000000000000000010100017500057261772f6100000000000000000500";
 
 /// Three blocks: raw/b comes from raw/a in block 1, raw/a from raw/b in block 2. Their frames end at 92, 163 and 234 bytes.
 const THREE: &str =
@@ -73,142 +71,14 @@ fn lines_of(told: &[u8]) -> usize {
     told.iter().filter(|byte| **byte == b'\n').count()
 }
 
-/// Whether a run ends so and tells just this, line by line, however the source cuts the input.
-fn is_told(
-    alloc: Global,
-    words: &str,
-    input: &[u8],
-    told: &str,
-    status: Status,
-) -> Result<bool, Fail> {
-    for piece in [1, 7, 256] {
-        let done = run_over(alloc, words, input, piece, &[], &[])?;
-        let same = done.told.as_slice() == told.as_bytes();
-        let ended = done.status == status;
-        let parted = done.pieces == lines_of(told.as_bytes());
-        if !(same && ended && parted) {
-            return Ok(false);
-        }
-    }
-    Ok(true)
-}
-
-/// The words and the input of the first case whose run goes wrong.
-fn first_wrong(alloc: Global, cases: &[Case]) -> Result<Option<(&str, &str)>, Fail> {
-    for case in cases {
-        let input = hex::decode(alloc, case.input)?;
-        if !is_told(alloc, case.words, &input, case.told, case.status)? {
-            return Ok(Some((case.words, case.input)));
-        }
-    }
-    Ok(None)
-}
-
-/// The source of the first case of `fmt` whose run goes wrong.
-fn first_wrong_source(alloc: Global, cases: &[Written]) -> Result<Option<&str>, Fail> {
-    for case in cases {
-        let input = case.source.as_bytes();
-        if !is_told(alloc, "fmt", input, case.told, case.status)? {
-            return Ok(Some(case.source));
-        }
-    }
-    Ok(None)
-}
-
-#[test]
-fn history(rt: HostRuntime) -> Result<(), Fail> {
-    assert_eq!(rt; first_wrong(rt.alloc(), &HISTORY)?, None);
-    Ok(())
-}
-
-#[test]
-fn lineage(rt: HostRuntime) -> Result<(), Fail> {
-    assert_eq!(rt; first_wrong(rt.alloc(), &LINEAGE)?, None);
-    Ok(())
-}
-
-#[test]
-fn beyond(rt: HostRuntime) -> Result<(), Fail> {
-    assert_eq!(rt; first_wrong(rt.alloc(), &BEYOND)?, None);
-    Ok(())
-}
-
-#[test]
-fn no_command(rt: HostRuntime) -> Result<(), Fail> {
-    assert_eq!(rt; first_wrong(rt.alloc(), &NO_COMMAND)?, None);
-    Ok(())
-}
-
-#[test]
-fn malformed(rt: HostRuntime) -> Result<(), Fail> {
-    assert_eq!(rt; first_wrong(rt.alloc(), &MALFORMED)?, None);
-    Ok(())
-}
-
-#[test]
-fn refused(rt: HostRuntime) -> Result<(), Fail> {
-    assert_eq!(rt; first_wrong(rt.alloc(), &REFUSED)?, None);
-    Ok(())
-}
-
-#[test]
-fn contracts(rt: HostRuntime) -> Result<(), Fail> {
-    assert_eq!(rt; first_wrong(rt.alloc(), &CONTRACTS)?, None);
-    Ok(())
-}
-
-#[test]
-fn sources(rt: HostRuntime) -> Result<(), Fail> {
-    assert_eq!(rt; first_wrong_source(rt.alloc(), &SOURCES)?, None);
-    Ok(())
-}
-
-#[test]
-fn short_sources(rt: HostRuntime) -> Result<(), Fail> {
-    assert_eq!(rt; first_wrong_source(rt.alloc(), &SHORT_SOURCES)?, None);
-    Ok(())
-}
-
-#[test]
-fn more_sources(rt: HostRuntime) -> Result<(), Fail> {
-    assert_eq!(rt; first_wrong_source(rt.alloc(), &MORE_SOURCES)?, None);
-    Ok(())
-}
-
-#[test]
-fn cut_at_every_length(rt: HostRuntime) -> Result<(), Fail> {
-    let input = hex::decode(rt.alloc(), THREE)?;
-    let lines = [
-        "refused frame 0 truncated\n",
-        "refused frame 1 truncated\n",
-        "refused frame 2 truncated\n",
-    ];
-    for (cut, _) in input.iter().enumerate().skip(1) {
-        let front = input.get(..cut).ok_or("a front")?;
-        let frame = ENDS.iter().filter(|end| **end <= cut).count();
-        let done = run_over(rt.alloc(), "scan hist raw/a 0", front, 4096, &[], &[])?;
-        if ENDS.contains(&cut) {
-            assert_eq!(rt;
-                done.told.as_slice(),
-                b"block 0 tx 0 int 1\n".as_slice(),
-                "at {cut}"
-            );
-        } else {
-            let want = lines.get(frame).ok_or("a frame")?;
-            assert_eq!(rt; done.told.as_slice(), want.as_bytes(), "at {cut}");
-        }
-    }
-    Ok(())
-}
-
-/// How a frame is refused for its own bytes, and the frame behind it for a parent that is another.
+/// How a frame is refused for its own bytes, and the frame after it for a parent that is another.
 const REFUSALS: [(&str, &str); 3] = [
     ("refused frame 0 ", "refused frame 1 parent "),
     ("refused frame 1 ", "refused frame 2 parent "),
     ("refused frame 2 ", "refused frame 2 "),
 ];
 
-/// Whether a run over the three blocks, a byte of this frame changed, may end so. The last block has none behind it
+/// Whether a run over the three blocks, a byte of this frame changed, may end so. The last block has none after it
 /// that shows its change, and the answer about the first doesn't depend on it.
 fn is_of_changed(done: &Run, frame: usize) -> bool {
     let told = done.told.as_slice();
@@ -254,21 +124,21 @@ fn failing_pulls(alloc: Global, words: &str, input: &[u8], piece: usize) -> Resu
 
 /// Whether just these lines are told, and the lines before it alone where the tell of one of them fails.
 fn is_cut_by_tells(alloc: Global, words: &str, input: &[u8], lines: &[&str]) -> Result<bool, Fail> {
-    let mut front = Vec::new(alloc);
+    let mut prefix = Vec::new(alloc);
     for (tell, line) in (0u64..).zip(lines) {
         let done = run_over(alloc, words, input, 4096, &[], &[tell])?;
-        if done.status != Status::Untold || done.told.as_slice() != front.as_slice() {
+        if done.status != Status::Untold || done.told.as_slice() != prefix.as_slice() {
             return Ok(false);
         }
-        front.extend_from_slice(line.as_bytes())?;
+        prefix.extend_from_slice(line.as_bytes())?;
     }
     let done = run_over(alloc, words, input, 4096, &[], &[])?;
-    Ok(done.told.as_slice() == front.as_slice())
+    Ok(done.told.as_slice() == prefix.as_slice())
 }
 
 #[test]
 fn longest_source(rt: HostRuntime) -> Result<(), Fail> {
-    let mut blanks = Vec::from_elem(rt.alloc(), b' ', 67_108_864)?;
+    let mut blanks = Vec::from_elem(rt.alloc(), b' ', MAX_WHOLE_INPUT_BYTES)?;
     let longest = run_over(rt.alloc(), "fmt", &blanks, 65_536, &[], &[])?;
     assert_eq!(rt; longest.status, Status::BadInput);
     assert_eq!(rt;
@@ -306,7 +176,7 @@ fn failing_calls_of_fmt(rt: HostRuntime) -> Result<(), Fail> {
 
 #[test]
 fn left_of_the_input(rt: HostRuntime) -> Result<(), Fail> {
-    // Behind a refused length 4 bytes are left, behind a refused block nothing but what follows its frame.
+    // After a refused length 4 bytes are left, after a refused block nothing but what follows its frame.
     let table: [(&[u8], usize); 3] = [
         (&[0, 0, 0, 0, 1, 2, 3, 4], 4),
         (&[0, 0, 0, 1, 9, 1, 2, 3], 3),

@@ -1,29 +1,12 @@
-//! The program: a ledger at the command line.
+//! The program: it hands its words, standard input and standard output to `run`.
 #![tactic(auto)]
 
-mod cause;
-mod chain;
-mod effect;
-mod fmt;
-mod folding;
-mod lines;
-mod outcome;
-mod run;
-mod scan;
-mod status;
-mod stop;
-mod whole;
-mod words;
-
-use crate::run::run;
-use crate::status::Status;
+use chain_cli::Status;
+use chain_cli::run::run;
 use lc_base::{HostSource, HostWire};
 use std::io::ErrorKind;
 use std::process::ExitCode;
 use std::{env, io};
-
-#[cfg(test)]
-mod tests;
 
 /// The words after the program's name.
 fn words_of(rt: &HostRuntime) -> io::Result<Vec<String>> {
@@ -47,5 +30,5 @@ fn main(rt: HostRuntime) -> ExitCode {
         // A word that is no text is part of no command.
         Err(_) => run_over_host(&rt, &[]),
     };
-    ExitCode::from(status as u8)
+    ExitCode::from(status.number())
 }

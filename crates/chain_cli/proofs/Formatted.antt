@@ -1,0 +1,62 @@
+-- The canonical text that `fmt` tells is told again of that text.
+use Rattle.std.proofs.Common.{◌≡◌, ℕ, Bool, true, false, cond, eqb, List, [], ◌∷◌, ◌++◌, Option, Some, None, Ok, Err, refl, sym, ap, ◌∙◌, subst, append_assoc}
+use Rattle.std.specs.List.{concat}
+use Rattle.contract_tree.specs.Tree.{FunctionTree}
+use Rattle.contract_parse.specs.Syntax.{Outcome as SourceOutcome, IsOutcome, ReadsAs}
+use Rattle.contract_check.specs.Faults.{check_fault}
+use Rattle.contract_check.specs.declared.fault.Fault.{Fault}
+use Rattle.contract_check.proofs.StatementLaws.{well_kinded, no_check_fault}
+use Rattle.contract_check.proofs.WithoutOffsets.{kinded_anywhere}
+use Rattle.contract_print.specs.Canonical.{contract_text}
+use Rattle.contract_print.proofs.RereadContracts.{reads_again}
+use Rattle.contract_print.proofs.WithoutOffsets.{one_text}
+use Rattle.chain_cli.specs.Texts.{last_line, lines_after, lines_of}
+use Rattle.chain_cli.specs.Output.{output_of, outcome_with, fmt_outcome, source_outcome, FitsInput, IsFmt, Long, Source, FormatsAgain}
+use Rattle.chain_cli.specs.declared.outcome.Ending.TheVariants as endings
+use Rattle.chain_cli.specs.declared.status.Status.TheVariants as statuses
+
+-- ---- the lines of a text, joined
+
+last_joined : (begun : List ℕ) → concat (last_line begun) ≡ begun ++ []
+last_joined [] = refl
+last_joined (byte ∷ bytes) = refl
+
+joined_by : (b : Bool) (begun bytes : List ℕ) (byte : ℕ) → concat (lines_after [] bytes) ≡ bytes → concat (lines_after (begun ++ byte ∷ []) bytes) ≡ (begun ++ byte ∷ []) ++ bytes
+    → concat (cond b ((begun ++ byte ∷ []) ∷ lines_after [] bytes) (lines_after (begun ++ byte ∷ []) bytes)) ≡ begun ++ byte ∷ bytes
+joined_by true begun bytes byte after on = ap (λ (rest : List ℕ). (begun ++ byte ∷ []) ++ rest) after ∙ append_assoc begun (byte ∷ []) bytes
+joined_by false begun bytes byte after on = on ∙ append_assoc begun (byte ∷ []) bytes
+
+lines_joined : (begun bytes : List ℕ) → concat (lines_after begun bytes) ≡ begun ++ bytes
+lines_joined begun [] = last_joined begun
+lines_joined begun (byte ∷ bytes) = joined_by (eqb byte 10) begun bytes byte (lines_joined [] bytes) (lines_joined (begun ++ byte ∷ []) bytes)
+
+text_joined : (text : List ℕ) → concat (lines_of text) ≡ text
+text_joined text = lines_joined [] text
+
+-- ---- the text of functions that are well kinded
+
+told_again : (input : List ℕ) (functions : List FunctionTree) → ReadsAs input functions → check_fault functions ≡ None → FitsInput (contract_text functions)
+    → IsFmt (contract_text functions) (output_of (outcome_with (lines_of (contract_text functions)) endings.Done) [])
+told_again input functions reads good fits =
+    let again = reads_again input functions reads in
+    let none : check_fault again.0 ≡ None = no_check_fault again.0 ((kinded_anywhere functions again.0 again.2).0 (well_kinded functions good)) in
+    let text : contract_text again.0 ≡ contract_text functions = one_text functions again.0 again.2 in
+    let told : fmt_outcome again.0 (check_fault again.0) ≡ outcome_with (lines_of (contract_text functions)) endings.Done =
+    ap (fmt_outcome again.0) none ∙ ap (λ (t : List ℕ). outcome_with (lines_of t) endings.Done) text in
+    subst (λ o. IsFmt (contract_text functions) (output_of o [])) told (Source fits (Ok again.0) again.1)
+
+by_fault : (input : List ℕ) (functions : List FunctionTree) (fault : Option Fault) → ReadsAs input functions → check_fault functions ≡ fault → (output_of (fmt_outcome functions fault) []).status ≡ statuses.Done
+    → FitsInput (concat (output_of (fmt_outcome functions fault) []).lines) → IsFmt (concat (output_of (fmt_outcome functions fault) []).lines) (output_of (fmt_outcome functions fault) [])
+by_fault input functions (Some fault) reads e done fits = absurd cc
+by_fault input functions None reads e done fits =
+    let text : concat (lines_of (contract_text functions)) ≡ contract_text functions = text_joined (contract_text functions) in
+    subst (λ (t : List ℕ). IsFmt t (output_of (outcome_with (lines_of (contract_text functions)) endings.Done) [])) (sym text) (told_again input functions reads e (subst FitsInput text fits))
+
+by_outcome : (input : List ℕ) (outcome : SourceOutcome) → IsOutcome input outcome → (output_of (source_outcome outcome) []).status ≡ statuses.Done
+    → FitsInput (concat (output_of (source_outcome outcome) []).lines) → IsFmt (concat (output_of (source_outcome outcome) []).lines) (output_of (source_outcome outcome) [])
+by_outcome input (Ok functions) reads done fits = by_fault input functions (check_fault functions) reads refl done fits
+by_outcome input (Err fault) is done fits = absurd cc
+
+pub formats_again : (input : List ℕ) → FormatsAgain input
+formats_again input _ (Long long) done fits = absurd cc
+formats_again input _ (Source short outcome is) done fits = by_outcome input outcome is done fits

@@ -1,0 +1,19 @@
+//! The ledger at the command line: what each command tells of its words and its input.
+#![tactic(auto)]
+
+mod cause;
+mod chain;
+mod effect;
+mod fmt;
+mod folding;
+mod lines;
+mod outcome;
+pub mod run;
+mod scan;
+mod status;
+mod stop;
+mod whole;
+mod words;
+
+pub use status::Status;
+pub use whole::MAX_WHOLE_INPUT_BYTES;
