@@ -3,3 +3,5 @@ pub mod Pieces
 pub mod Pulling
 pub mod Telling
 pub mod Writing
+pub mod TextBytes
+pub mod Repeats

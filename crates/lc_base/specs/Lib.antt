@@ -11,3 +11,7 @@ pub mod Fakes
 pub mod Marks
 pub mod Streams
 pub mod History
+pub mod Parts
+pub mod Deps
+pub mod Disk
+pub mod TxStatus

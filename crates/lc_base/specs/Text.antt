@@ -1,5 +1,5 @@
 -- What `Text::new` answers.
-use Rattle.std.specs.Prelude.{◌≡◌, ℕ, ◌<◌, ◌≤◌, List, length, Some, Result, Ok, Err}
+use Rattle.std.specs.Prelude.{◌≡◌, ℕ, ◌+◌, ◌<◌, ◌≤◌, nat_lt, if◌then◌else◌, List, ◌++◌, length, Option, Some, None, Result, Ok, Err}
 use Rattle.lc_base.specs.TextBytes.{bad_text_byte, IsText}
 use Rattle.lc_base.specs.declared.limits.TheConstants.{MAX_TEXT_BYTES}
 use Rattle.lc_base.specs.declared.text.TextError.{TextError}
@@ -12,3 +12,7 @@ IsTextOf bytes (Ok text) = IsText bytes × (text ≡ bytes)
 IsTextOf bytes (Err Long) = MAX_TEXT_BYTES < length bytes
 IsTextOf bytes (Err (Byte offset)) = (length bytes ≤ MAX_TEXT_BYTES) × (bad_text_byte bytes ≡ Some offset)
 IsTextOf bytes (Err Memory) = IsText bytes
+
+-- Two texts as one, where that is short enough for a text.
+abbrev pub joined_text : List ℕ → List ℕ → Option (List ℕ)
+joined_text a b = if nat_lt MAX_TEXT_BYTES (length a + length b) then None else Some (a ++ b)

@@ -3,8 +3,9 @@
 //! Of a stream whose bytes std knows, such as a slice or a vector in memory, the clauses `reader`
 //! and `writer` say what becomes of them.
 
-ghost use Rattle.std.specs.Prelude.{◌≡◌, ◌<◌, ◌≤◌, length, take, None, IfOk, IsErr};
+ghost use Rattle.std.specs.Prelude.{◌≡◌, ℕ, ◌<◌, ◌≤◌, length, take, None, IfOk, IsErr};
 ghost use Rattle.std.specs.Io.KnownBytes.{ReadConsumes, Appends};
+ghost use Rattle.lc_base.specs.Disk.{Stays};
 ghost use Rattle.lc_base.specs.Outside.{HasCause, Pulls, Tells};
 ghost use Rattle.lc_base.specs.Streams.{CountsFaults, Writes};
 
@@ -75,6 +76,10 @@ impl<W> Clock for HostWire<W> {
     ghost told = { λ _. None };
 
     ghost wire_faults = { λ w. w.faults };
+
+    ghost disk = { λ _ _. None };
+
+    ghost disk_faults = { λ _. 0 };
 }
 
 /// Writes once, and answers how many bytes were taken; none where the write failed.
@@ -91,6 +96,8 @@ fn written<W: Write>(writer: &mut W, bytes: &[u8]) -> usize
 impl<W: Write> Wire for HostWire<W> {
     /// Writes until all bytes are taken. A write that takes nothing is a fault.
     fn tell(&mut self, bytes: &[u8]) -> Result<(), Failed>
+        ensures disk { Stays (λ _. 0) (λ _ _. None) self.old self.new }
+        ensures disk_faults { ◌≡◌ {A = ℕ} 0 0 }
         ensures told { Tells 0 bytes.now None None result }
         ensures cause { HasCause self.old.faults self.new.faults (IsErr result) }
         ensures writer { Writes (W.contents self.old.writer) (W.contents self.new.writer) bytes.now result }

@@ -3,9 +3,11 @@
 ghost use Rattle.std.specs.Prelude.{◌≡◌, ◌==◌, [], ◌∷◌, ◌++◌, length, slice_get, Ok, OnOk, OnErr, IfOk};
 ghost use Rattle.std.specs.Option.{option_copied};
 
+use crate::digest::Digest;
 use crate::key::Key;
 use crate::memory::Memory;
 use crate::row::{Dep, Row};
+use crate::value::Value;
 use std::alloc::Global;
 use std::marker::Model;
 
@@ -38,6 +40,12 @@ pub type KeyList = Seq<Key>;
 pub type DepList = Seq<Dep>;
 /// Rows.
 pub type RowList = Seq<Row>;
+/// Values.
+pub type ValueList = Seq<Value>;
+/// Digests.
+pub type DigestList = Seq<Digest>;
+/// Lists of bytes.
+pub type TextList = Seq<Bytes>;
 
 impl<T> Seq<T> {
     /// The empty list. It takes no memory.
@@ -129,6 +137,14 @@ impl<T: Duplicate> Seq<T> {
     }
 }
 
+impl<T: Duplicate> Duplicate for Seq<T> {
+    fn copy(&self, alloc: Global) -> Result<Seq<T>, Memory> {
+        Ok(Seq {
+            items: copied(alloc, self.items.as_slice())?,
+        })
+    }
+}
+
 impl Bytes {
     /// The bytes.
     pub fn as_bytes(&self) -> &[u8]
@@ -150,6 +166,14 @@ fn copied<T: Duplicate>(alloc: Global, all: &[T]) -> Result<Vec<T>, Memory>
 
 impl Duplicate for u8 {
     fn copy(&self, _alloc: Global) -> Result<u8, Memory>
+        ensures { result ≡ Ok self.now }
+    {
+        Ok(*self)
+    }
+}
+
+impl Duplicate for Digest {
+    fn copy(&self, _alloc: Global) -> Result<Digest, Memory>
         ensures { result ≡ Ok self.now }
     {
         Ok(*self)

@@ -1,8 +1,9 @@
 //! A wire in memory.
 
-ghost use Rattle.std.specs.Prelude.{◌≡◌, ◌+◌, ◌^◌, ◌<◌, ◌≤◌, Some, [], ◌∷◌, ◌++◌, length, IfOk, IsErr, MatchOption};
+ghost use Rattle.std.specs.Prelude.{◌≡◌, ℕ, ◌+◌, ◌^◌, ◌<◌, ◌≤◌, Some, None, [], ◌∷◌, ◌++◌, length, IfOk, IsErr, MatchOption};
 ghost use Rattle.std.specs.Vec.{vec_len, vec_capacity};
 ghost use Rattle.std.specs.List.{slice_get};
+ghost use Rattle.lc_base.specs.Disk.{Stays};
 ghost use Rattle.lc_base.specs.Outside.{HasCause, Tells};
 ghost use Rattle.lc_base.specs.Fakes.{WireState, TellsPiece, fits_room};
 
@@ -125,13 +126,18 @@ impl Clock for MemWire {
     ghost told = { λ w. Some w.told };
 
     ghost wire_faults = { λ w. w.faults };
+
+    ghost disk = { λ _ _. None };
+
+    ghost disk_faults = { λ _. 0 };
 }
 
 impl Wire for MemWire {
     /// Fails exactly at the calls whose numbers are among the failing ones, and at those that do
     /// not fit the room.
     fn tell(&mut self, bytes: &[u8]) -> Result<(), Failed>
-        ensures time { self.old.calls ≤ self.new.calls }
+        ensures disk { Stays (λ w. w.calls) (λ _ _. None) self.old self.new }
+        ensures disk_faults { ◌≡◌ {A = ℕ} 0 0 }
         ensures told { Tells self.old.calls bytes.now (Some self.old.told) (Some self.new.told) result }
         ensures cause { HasCause self.old.faults self.new.faults (IsErr result) }
         ensures exact { TellsPiece bytes.now self.old self.new result }

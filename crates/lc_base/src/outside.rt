@@ -3,14 +3,15 @@
 //! An optional meaning is `None` where the object does not tell it, and a clause on it then says
 //! only that it stays untold.
 
-ghost use Rattle.std.specs.Prelude.{ℕ, ◌<◌, ◌≤◌, List, length, Option, IfOk, IsErr};
+ghost use Rattle.std.specs.Prelude.{◌≡◌, ℕ, ◌<◌, ◌≤◌, List, length, Option, IfOk, IsErr};
+ghost use Rattle.lc_base.specs.Disk.{DiskState, Stays};
 ghost use Rattle.lc_base.specs.Outside.{HasCause, Pulls, Tell, Tells};
 
 /// A call of the outside failed.
 #[derive(Clone, Copy, Debug, PartialEq, Eq)]
 pub struct Failed;
 
-/// The one clock of a machine, and what the machine was told.
+/// The one clock of a machine, what the machine was told, and what its disk holds.
 pub trait Clock {
     /// The present moment. No call lowers it.
     ghost now: { Self → ℕ };
@@ -18,6 +19,10 @@ pub trait Clock {
     ghost told: { Self → Option (List Tell) };
     /// How many tells failed, up to the last value of a `u64`.
     ghost wire_faults: { Self → ℕ };
+    /// The disk at a moment (optional).
+    ghost disk: { Self → ℕ → Option DiskState };
+    /// How many calls of the disk failed, up to the last value of a `u64`.
+    ghost disk_faults: { Self → ℕ };
 }
 
 /// Bytes that come in.
@@ -39,9 +44,11 @@ pub trait Source {
 
 /// Bytes that go out.
 pub trait Wire: Clock {
-    /// Tells one piece. After `Failed` some first bytes of it may have been told.
+    /// Tells one piece. After `Failed` some first bytes of it may have been told. The disk stays as
+    /// it was.
     fn tell(&mut self, bytes: &[u8]) -> Result<(), Failed>
-        ensures time { Self.now self.old ≤ Self.now self.new }
+        ensures disk { Stays Self.now Self.disk self.old self.new }
+        ensures disk_faults { Self.disk_faults self.new ≡ Self.disk_faults self.old }
         ensures told { Tells (Self.now self.old) bytes.now (Self.told self.old) (Self.told self.new) result }
         ensures cause { HasCause (Self.wire_faults self.old) (Self.wire_faults self.new) (IsErr result) };
 }

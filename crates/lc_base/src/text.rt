@@ -1,10 +1,12 @@
 //! Texts, one of the two kinds of value.
 
-ghost use Rattle.std.specs.Prelude.{◌≡◌, IfOk};
+ghost use Rattle.std.specs.Prelude.{◌≡◌, ◌++◌, IfOk};
 ghost use Rattle.lc_base.specs.TextBytes.{is_text_byte, bad_text_byte, IsText};
-ghost use Rattle.lc_base.specs.Text.{IsTextOf};
+ghost use Rattle.std.specs.Fmt.{signed_decimal};
+ghost use Rattle.lc_base.specs.Text.{IsTextOf, joined_text};
 ghost use Rattle.lc_base.specs.declared.text.TextError.TheVariants.{Memory};
 
+use crate::key::Key;
 use crate::limits::MAX_TEXT_BYTES;
 use crate::list::Duplicate;
 use std::alloc::{AllocError, Global};
@@ -85,6 +87,44 @@ impl Text {
     {
         &self.bytes
     }
+
+    /// The bytes of a key, which are a text.
+    pub fn from_key(alloc: Global, key: &Key) -> Result<Text, crate::Memory>
+        ensures { IfOk result (λ text. text ≡ key.now) }
+    {
+        let bytes = Vec::from_slice(alloc, key.as_bytes())?;
+        Ok(Text { bytes })
+    }
+
+    /// A number in decimal digits, with `-` before them where it is negative.
+    pub fn from_number(alloc: Global, number: i64) -> Result<Text, crate::Memory>
+        ensures { IfOk result (λ text. text ≡ signed_decimal number) }
+    {
+        let bytes = number.to_string(alloc)?.into_bytes();
+        Ok(Text { bytes })
+    }
+
+    /// This text and another after it; `None` exactly where they are too long for one text.
+    pub fn join(&self, alloc: Global, other: &Text) -> Result<Option<Text>, crate::Memory>
+        ensures { IfOk result (λ text. text ≡ joined_text self.now other.now) }
+    {
+        let first = self.as_bytes();
+        let second = other.as_bytes();
+        if first.len() + second.len() > MAX_TEXT_BYTES {
+            return Ok(None);
+        }
+        let bytes = joined(alloc, first, second)?;
+        Ok(Some(Text { bytes }))
+    }
+}
+
+fn joined(alloc: Global, a: &[u8], b: &[u8]) -> Result<Vec<u8>, crate::Memory>
+    ensures { IfOk result (λ bytes. bytes.items ≡ a.now ++ b.now) }
+{
+    let mut bytes = Vec::with_capacity(alloc, a.len() + b.len())?;
+    bytes.extend_from_slice(a)?;
+    bytes.extend_from_slice(b)?;
+    Ok(bytes)
 }
 
 impl Duplicate for Text {

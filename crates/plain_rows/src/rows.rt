@@ -33,7 +33,7 @@ fn is_version(row: &Row, key: &Key, at: u32) -> bool
 }
 
 /// The last row of the key with a block up to this one.
-fn latest<'a>(rows: &'a [Row], key: &Key, at: u32) -> Option<&'a Row>
+pub(crate) fn latest<'a>(rows: &'a [Row], key: &Key, at: u32) -> Option<&'a Row>
     ensures { option_copied result ≡ latest rows.now key.now at }
 {
     rows.iter().rev().find(|row| is_version(row, key, at))
@@ -112,7 +112,7 @@ fn is_version_of(dep: &Dep, key: &Key, block: u32) -> bool
 }
 
 /// Whether a row was derived from the version of this key in this block.
-fn depends_on(row: &Row, key: &Key, block: u32) -> bool
+pub(crate) fn depends_on(row: &Row, key: &Key, block: u32) -> bool
     ensures { result ≡ depends_on key.now block row.now }
 {
     row.deps
@@ -121,7 +121,7 @@ fn depends_on(row: &Row, key: &Key, block: u32) -> bool
         .any(|dep| is_version_of(dep, key, block))
 }
 
-fn version_of(row: &Row) -> Dep
+pub(crate) fn version_of(row: &Row) -> Dep
     ensures { result ≡ version_of row.now }
 {
     Dep {
