@@ -1,0 +1,91 @@
+//! What a put depends on.
+
+ghost use Rattle.std.specs.Prelude.{◌≡◌, ◌≢◌, Some, IfOk, filter_map};
+ghost use Rattle.std.specs.List.{AllPairs};
+ghost use Rattle.std.specs.Option.{option_copied};
+ghost use Rattle.dep_capture.specs.Capture.{was_read, read_of, dep_of_read, dep_named, deps_of, are_read};
+
+use crate::access::Read;
+use lc_base::{Dep, DepList, Key, KeyList, Memory};
+use std::alloc::{AllocError, Global};
+
+/// Whether the key was read.
+pub(crate) fn was_read(reads: &[Read], key: &Key) -> bool
+    ensures { result ≡ was_read reads.now key.now }
+{
+    reads.iter().any(|read| read.key == *key)
+}
+
+/// Whether each of the keys was read.
+fn all_read(reads: &[Read], keys: &[Key]) -> bool
+    ensures { result ≡ are_read reads.now (Some keys.now) }
+{
+    keys.iter().all(|key| was_read(reads, key))
+}
+
+/// Whether each of the named keys was read, if keys are named.
+pub(crate) fn are_read(reads: &[Read], named: Option<&KeyList>) -> bool
+    ensures { result ≡ are_read reads.now (option_copied named.entry) }
+{
+    match named {
+        None => true,
+        Some(keys) => all_read(reads, keys.as_slice()),
+    }
+}
+
+/// The dependency on a key that was read; `None` where it had no version.
+fn dep_of_read(read: &Read) -> Option<Dep>
+    ensures { result ≡ dep_of_read read.now }
+{
+    let block = read.version?;
+    Some(Dep {
+        key: read.key,
+        block,
+    })
+}
+
+fn read_of<'a>(reads: &'a [Read], key: &Key) -> Option<&'a Read>
+    ensures { option_copied result ≡ read_of reads.now key.now }
+{
+    reads.iter().find(|read| read.key == *key)
+}
+
+/// The dependency on a key; `None` where it was not read, or had no version.
+fn dep_named(reads: &[Read], key: &Key) -> Option<Dep>
+    ensures { result ≡ dep_named reads.now key.now }
+{
+    dep_of_read(read_of(reads, key)?)
+}
+
+fn deps_of_reads(alloc: Global, reads: &[Read]) -> Result<Vec<Dep>, AllocError>
+    ensures { IfOk result (λ deps. deps.items ≡ filter_map dep_of_read reads.now) }
+{
+    reads
+        .iter()
+        .filter_map(|read| dep_of_read(read))
+        .collect(alloc)
+}
+
+fn deps_named(alloc: Global, reads: &[Read], keys: &[Key]) -> Result<Vec<Dep>, AllocError>
+    ensures { IfOk result (λ deps. deps.items ≡ filter_map (dep_named reads.now) keys.now) }
+{
+    keys.iter()
+        .filter_map(|key| dep_named(reads, key))
+        .collect(alloc)
+}
+
+/// The dependencies of a put: on all keys read so far, or on the named ones, in order, each once.
+pub(crate) fn deps_of(
+    alloc: Global,
+    reads: &[Read],
+    named: Option<&KeyList>,
+) -> Result<DepList, Memory>
+    ensures deps { IfOk result (λ deps. deps ≡ deps_of reads.now (option_copied named.entry)) }
+    ensures once { IfOk result (λ deps. AllPairs ◌≢◌ deps) }
+{
+    let deps = match named {
+        None => deps_of_reads(alloc, reads)?,
+        Some(keys) => deps_named(alloc, reads, keys.as_slice())?,
+    };
+    DepList::without_repeats(alloc, deps.as_slice())
+}

@@ -1,0 +1,7 @@
+//! How many keys a transaction may read and put.
+
+/// The greatest number of distinct keys that a transaction reads.
+pub const MAX_KEYS_READ: usize = 256;
+
+/// The greatest number of distinct keys that a transaction puts.
+pub const MAX_KEYS_PUT: usize = 256;

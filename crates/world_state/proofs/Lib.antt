@@ -1,0 +1,3 @@
+pub mod NewCodes
+pub mod Newest
+pub mod StagedKeys

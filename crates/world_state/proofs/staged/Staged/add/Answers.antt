@@ -1,0 +1,15 @@
+use Rattle.std.proofs.Common.{◌==◌, ◌||◌, ◌++◌, ◌∙◌, ap, sym}
+use Rattle.std.specs.List.{list_any}
+use Rattle.std.specs.Cmp.Lexicographic.{pointwise}
+use Rattle.lc_base.specs.declared.row.Row.{Row}
+use Rattle.world_state.specs.Rows.{is_staged}
+use Rattle.world_state.proofs.StagedKeys.{staged_more}
+use Rattle.world_state.proofs.staged.Staged.add.Goals as goal
+
+pub invariant_of-self-in-Ok : goal.invariant_of-self-in-Ok
+invariant_of-self-in-Ok c =
+    let items = c.in_ok-append.ensures.items ∙ ap (λ more. c.self.inside.entries.items ++ more) c.in_ok-more.ensures in
+    λ key. c.in-Ok.ensures.ok key
+    ∙ ap (λ b. b || list_any (λ (row : Row). pointwise ◌==◌ row.key key) c.args.rows.now) (c.self.invariant key)
+    ∙ sym (staged_more c.self.inside.entries.items c.args.rows.now key)
+    ∙ ap (λ entries. is_staged entries key) (sym items)

@@ -1,0 +1,143 @@
+//! The world.
+
+ghost use Rattle.std.specs.Prelude.{◌≡◌, ◌==◌, false, ℕ, List, [], ◌∷◌, ◌++◌, map, None, Some, MatchOption, IfOk, OnOk, OnErr};
+ghost use Rattle.std.specs.Option.{option_copied, option_or};
+ghost use Rattle.std.specs.Cmp.Lexicographic.{pointwise};
+ghost use Rattle.indexmap.specs.IndexMap.{get};
+ghost use Rattle.lc_base.specs.declared.row.Row.{Row};
+ghost use Rattle.world_state.specs.Rows.{entry_of, newest_staged, held_in};
+ghost use Rattle.world_state.specs.World.{newest_of, newest_after, is_written, code_of, is_raw, is_taken, StandsForRows};
+
+use crate::codes::Codes;
+use crate::held::Held;
+use crate::limits::RAW_NAME;
+use crate::staged::Staged;
+use indexmap::IndexMap;
+use lc_base::{Key, Memory, Name, RowList, Value};
+use std::alloc::Global;
+use std::marker::Model;
+
+/// The newest version of each key, the codes that can be called, and what the block at work has
+/// staged. `C` is what is kept of a contract.
+#[derive(Drop)]
+pub struct World<C> {
+    newest: IndexMap<Key, Held>,
+    codes: Codes<C>,
+    staged: Staged,
+}
+
+impl<C> Model for World<C> {
+    ghost use Rattle.world_state.specs.Known.{Known};
+
+    ghost Value = { Known C };
+
+    ghost view = { λ world. record { newest = world.newest.entries; codes = world.codes.committed; staged = world.staged; staged_codes = world.codes.staged } };
+}
+
+fn is_raw(name: &Name) -> bool
+    ensures { result ≡ is_raw name.now }
+{
+    name.as_bytes() == RAW_NAME.as_slice()
+}
+
+/// Each entry in turn becomes the newest version of its key.
+fn add_newest(newest: &mut IndexMap<Key, Held>, entries: Vec<(Key, Held)>) -> Result<(), Memory>
+    ensures { OnOk result ((key : List ℕ) → get (pointwise ◌==◌) newest.new key ≡ option_or (newest_staged entries.items key) (get (pointwise ◌==◌) newest.old key)) }
+{
+    newest.extend(entries)?;
+    Ok(())
+}
+
+impl<C> World<C> {
+    /// No version and no code. It takes no memory.
+    pub fn new(alloc: Global) -> World<C>
+        ensures { result ≡ record { newest = []; codes = []; staged = []; staged_codes = [] } }
+    {
+        World {
+            newest: IndexMap::new(alloc),
+            codes: Codes::new(alloc),
+            staged: Staged::new(alloc),
+        }
+    }
+
+    /// The block and the value of the newest version of the key before the block at work; `None`
+    /// exactly where there is none.
+    pub fn value(&self, key: &Key) -> Option<(u32, &Value)>
+        ensures { MatchOption result (newest_of self.now key.now ≡ None)
+            (λ found. newest_of self.now key.now ≡ Some (record { block = found.0; value = found.1.now })) }
+    {
+        match self.newest.get(key) {
+            None => None,
+            Some(held) => Some((held.block, &held.value)),
+        }
+    }
+
+    /// Whether the block at work has written the key.
+    pub fn written(&self, key: &Key) -> bool
+        ensures { result ≡ is_written self.now key.now }
+    {
+        self.staged.has(key)
+    }
+
+    /// The code of the contract of this name; `None` exactly where no block before the block at
+    /// work deployed one.
+    pub fn code(&self, name: &Name) -> Option<&C>
+        ensures { option_copied result ≡ code_of self.now name.now }
+    {
+        self.codes.get(name)
+    }
+
+    /// Whether no contract of this name can be deployed: the name is `raw`, or a contract has it,
+    /// also one that the block at work deployed.
+    pub fn taken(&self, name: &Name) -> bool
+        ensures { result ≡ is_taken self.now name.now }
+    {
+        is_raw(name) || self.codes.is_used(name)
+    }
+
+    /// Stages the versions of rows that the block at work wrote. Out of memory, the world stays as
+    /// it was.
+    pub fn stage(&mut self, rows: &RowList) -> Result<(), Memory>
+        ensures ok { OnOk result (self.new ≡ record self.old { staged = self.old.staged ++ map entry_of rows.now }) }
+        ensures err { OnErr result (self.new ≡ self.old) }
+    {
+        self.staged.add(rows.as_slice())
+    }
+}
+
+impl<C: Drop> World<C> {
+    /// Stages the code of a contract that the block at work deployed. Out of memory, the world
+    /// stays as it was.
+    pub fn stage_code(&mut self, name: Name, code: C) -> Result<(), Memory>
+        requires { is_taken self.old name ≡ false }
+        ensures ok { OnOk result (self.new ≡ record self.old { staged_codes = self.old.staged_codes ++ (name, code) ∷ [] }) }
+        ensures err { OnErr result (self.new ≡ self.old) }
+    {
+        self.codes.add(name, code)
+    }
+
+    /// What was staged becomes the newest: of each key the version staged last, and the codes after
+    /// those so far. Nothing is staged then.
+    pub fn commit(self) -> Result<World<C>, Memory>
+        ensures newest { IfOk result (λ world. (key : List ℕ) → newest_of world key ≡ newest_after self key) }
+        ensures codes { IfOk result (λ world. world.codes ≡ self.codes ++ self.staged_codes) }
+        ensures no_rows { IfOk result (λ world. world.staged ≡ []) }
+        ensures no_codes { IfOk result (λ world. world.staged_codes ≡ []) }
+        ensures rows { (rows more : List Row) → StandsForRows self rows → self.staged ≡ map entry_of more
+            → IfOk result (λ world. StandsForRows world (rows ++ more)) }
+    {
+        let World {
+            mut newest,
+            codes,
+            staged,
+        } = self;
+        let alloc = *newest.allocator();
+        let codes = codes.commit()?;
+        add_newest(&mut newest, staged.into_entries())?;
+        Ok(World {
+            newest,
+            codes,
+            staged: Staged::new(alloc),
+        })
+    }
+}
