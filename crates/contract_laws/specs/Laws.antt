@@ -1,0 +1,181 @@
+-- Laws of the meaning of contracts. `functions` are the functions of a contract, a scene is where
+-- it is called, and a call has the same meaning wherever it is worked out.
+use Rattle.std.specs.Prelude.{◌≡◌, ◌≢◌, ◌≤◌, ◌<◌, ◌+◌, ℕ, Bool, true, false, List, ◌++◌, Some, IsSomeAnd}
+use Rattle.std.specs.List.{All}
+use Rattle.lc_base.specs.History.{scan, newest}
+use Rattle.lc_base.specs.declared.row.Row.{Row}
+use Rattle.lc_base.specs.declared.row.Dep.{Dep}
+use Rattle.lc_base.specs.declared.answer.Query.{Query}
+use Rattle.lc_base.specs.declared.value.Value.{Value}
+use Rattle.lc_base.specs.declared.tx_status.TxStatus.{TxStatus}
+use Rattle.lc_base.specs.declared.tx_status.TxStatus.TheVariants as statuses
+use Rattle.contract_tree.specs.Tree.{Tree, FunctionTree, StatementTrees, While}
+use Rattle.dep_capture.specs.Captured.{WasBacked}
+use Rattle.dep_capture.specs.declared.access.Read.{Read}
+use Rattle.dep_capture.specs.declared.access.Put.{Put}
+use Rattle.world_state.specs.Rows.{held_in}
+use Rattle.contract_meaning.specs.declared.site.CallSite.{CallSite}
+use Rattle.contract_meaning.specs.declared.variable.Variable.{Variable}
+use Rattle.contract_meaning.specs.Scenes.{Scene, scene_of}
+use Rattle.contract_meaning.specs.Puts.{is_own}
+use Rattle.contract_meaning.specs.Steps.{Machine, Failed, after}
+use Rattle.contract_meaning.specs.Reading.{block_of}
+use Rattle.contract_meaning.specs.Statements.{loop_run, statement_run, statements_run}
+use Rattle.contract_meaning.specs.Calls.{call_result}
+use Rattle.contract_laws.specs.CallLookups.{questions_of, keys_met}
+
+-- ---- the budget
+
+-- The cost of a call is at most its budget.
+abbrev pub CostIsWithinBudget : Type 0
+CostIsWithinBudget =
+    (functions : List FunctionTree) (s : Scene) (args : List Value)
+    → (call_result functions s args).outcome.cost ≤ s.site.budget
+
+-- What is left of a budget never rises, whatever statements run.
+abbrev pub NothingIsPaidBack : Type 0
+NothingIsPaidBack =
+    (s : Scene) (body : StatementTrees) (variables : List Variable) (m : Machine)
+    → (after (statements_run s body variables m)).left ≤ m.left
+
+-- A scene with another budget.
+abbrev pub with_budget : ℕ → Scene → Scene
+with_budget budget s = record s { site = record s.site { budget = budget } }
+
+-- A call that did not end with OutOfSteps ends alike with a larger budget: with the same status,
+-- cost, reads and puts.
+abbrev pub LargerBudgetChangesNothing : Type 0
+LargerBudgetChangesNothing =
+    (functions : List FunctionTree) (s : Scene) (args : List Value) (more : ℕ)
+    → (call_result functions s args).outcome.status ≢ statuses.OutOfSteps
+    → call_result functions (with_budget (s.site.budget + more) s) args ≡ call_result functions s args
+
+-- The clock of a loop is no limit of its own: with any clock of at least what is left of the
+-- budget, the turns of a loop do what the loop does.
+abbrev pub LongerClockChangesNothing : Type 0
+LongerClockChangesNothing =
+    (s : Scene) (at : ℕ) (test : Tree) (body : StatementTrees) (variables : List Variable)
+    (m : Machine) (clock : ℕ)
+    → m.left ≤ clock
+    → loop_run s test body clock variables m ≡ statement_run s (While at test body) variables m
+
+-- ---- dependencies
+
+-- What was read before stands first among what was read after.
+abbrev pub ReadsAreOnlyAdded : Type 0
+ReadsAreOnlyAdded =
+    (s : Scene) (body : StatementTrees) (variables : List Variable) (m : Machine)
+    → (added : List Read)
+    × ((after (statements_run s body variables m)).capture.reads ≡ m.capture.reads ++ added)
+
+-- Each read of a call has the version that its key had before the block, however the call ends.
+abbrev pub ReadsAreOfVersionsBefore : Type 0
+ReadsAreOfVersionsBefore =
+    (functions : List FunctionTree) (s : Scene) (args : List Value)
+    → All (λ (read : Read). read.version ≡ block_of (s.place.newest read.key))
+    (call_result functions s args).capture.reads
+
+-- A dependency was read, and names the version that its key had before the block.
+pub record IsReadVersion (s : Scene) (reads : List Read) (dep : Dep) : Type 0 where
+  pub read : WasBacked reads dep
+  pub version : block_of (s.place.newest dep.key) ≡ Some dep.block
+
+-- Each dependency of each put of a call was read by the call, and names the version that its key
+-- had before the block, however the call ends.
+abbrev pub DependenciesAreReads : Type 0
+DependenciesAreReads =
+    (functions : List FunctionTree) (s : Scene) (args : List Value)
+    → All (λ (put : Put). All (IsReadVersion s (call_result functions s args).capture.reads) put.deps)
+    (call_result functions s args).capture.puts
+
+-- So where a call runs over a history, each dependency names the block of the newest row of its key
+-- in the rows of the blocks before.
+abbrev pub DependenciesAreNewestRows : Type 0
+DependenciesAreNewestRows =
+    (functions : List FunctionTree) (rows : List Row) (written : List ℕ → Bool) (site : CallSite)
+    (args : List Value)
+    → All
+    (λ (put : Put). All (λ (dep : Dep). IsSomeAnd (newest rows dep.key) (λ row. row.block ≡ dep.block))
+    put.deps)
+    (call_result functions (scene_of rows written site) args).capture.puts
+
+-- A put of a key that is the contract's own, and that the block has not written before.
+pub record IsOwnAndUnwritten (s : Scene) (put : Put) : Type 0 where
+  pub own : is_own s.site.contract put.key ≡ true
+  pub unwritten : s.place.written put.key ≡ false
+
+-- Each key that a call puts is the contract's own, and the block has not written it before, however
+-- the call ends.
+abbrev pub PutsAreOwnAndUnwritten : Type 0
+PutsAreOwnAndUnwritten =
+    (functions : List FunctionTree) (s : Scene) (args : List Value)
+    → All (IsOwnAndUnwritten s) (call_result functions s args).capture.puts
+
+-- Statements that fail give a status other than Ok. So a call has the status Ok exactly where its
+-- function came to its end or returned.
+abbrev pub FailuresAreNotOk : Type 0
+FailuresAreNotOk =
+    (s : Scene) (body : StatementTrees) (variables : List Variable) (m n : Machine)
+    (status : TxStatus)
+    → statements_run s body variables m ≡ Failed status n
+    → status ≢ statuses.Ok
+
+-- ---- what a call depends on
+
+-- Two scenes have the same newest version of each key that was read.
+abbrev pub HoldAlike : Scene → Scene → List Read → Type 0
+HoldAlike s t reads = All (λ (read : Read). t.place.newest read.key ≡ s.place.newest read.key) reads
+
+-- The rows of two scenes give the same answer to each question.
+abbrev pub AnswerAlike : Scene → Scene → List Query → Type 0
+AnswerAlike s t questions = All (λ query. scan t.rows query ≡ scan s.rows query) questions
+
+-- Two scenes agree, of each key, on whether the block has written it.
+abbrev pub AreWrittenAlike : Scene → Scene → List (List ℕ) → Type 0
+AreWrittenAlike s t keys = All (λ key. t.place.written key ≡ s.place.written key) keys
+
+-- What is recorded of a call is all that it depends on. Take two scenes of one call site. If they
+-- have the same newest version of each key that the call read in the first, answer alike each
+-- question that it asked there, and agree, of each key that it met there, on whether the block has
+-- written it, then the call ends alike in both: with the same status, cost, reads and puts, so with
+-- the same rows and dependencies. This holds however the call ends.
+abbrev pub WhatIsRecordedIsComplete : Type 0
+WhatIsRecordedIsComplete =
+    (functions : List FunctionTree) (s t : Scene) (args : List Value)
+    → t.site ≡ s.site
+    → HoldAlike s t (call_result functions s args).capture.reads
+    → AnswerAlike s t (questions_of functions s args)
+    → AreWrittenAlike s t (keys_met functions s args)
+    → call_result functions t args ≡ call_result functions s args
+
+-- And it asks the same questions, and meets the same keys.
+abbrev pub LookupsAreTheSame : Type 0
+LookupsAreTheSame =
+    (functions : List FunctionTree) (s t : Scene) (args : List Value)
+    → t.site ≡ s.site
+    → HoldAlike s t (call_result functions s args).capture.reads
+    → AnswerAlike s t (questions_of functions s args)
+    → AreWrittenAlike s t (keys_met functions s args)
+    → (questions_of functions t args ≡ questions_of functions s args)
+    × (keys_met functions t args ≡ keys_met functions s args)
+
+-- Each question of a call is about a block before its own.
+abbrev pub QuestionsAreOfBlocksBefore : Type 0
+QuestionsAreOfBlocksBefore =
+    (functions : List FunctionTree) (s : Scene) (args : List Value)
+    → All (λ (query : Query). query.at < s.site.number) (questions_of functions s args)
+
+-- The same of two histories: where the newest rows of the keys that were read hold the same, the
+-- rows answer alike what was asked, and the keys that were met are written alike, a call ends
+-- alike.
+abbrev pub HistoriesWithTheSameReadsGiveTheSame : Type 0
+HistoriesWithTheSameReadsGiveTheSame =
+    (functions : List FunctionTree) (rows rows' : List Row) (written written' : List ℕ → Bool)
+    (site : CallSite) (args : List Value)
+    → All (λ (read : Read). held_in rows' read.key ≡ held_in rows read.key)
+    (call_result functions (scene_of rows written site) args).capture.reads
+    → All (λ query. scan rows' query ≡ scan rows query)
+    (questions_of functions (scene_of rows written site) args)
+    → All (λ key. written' key ≡ written key) (keys_met functions (scene_of rows written site) args)
+    → call_result functions (scene_of rows' written' site) args
+    ≡ call_result functions (scene_of rows written site) args

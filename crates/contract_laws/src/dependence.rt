@@ -1,0 +1,23 @@
+//! Laws of what calls depend on.
+
+ghost use Rattle.contract_laws.specs.Laws.{WhatIsRecordedIsComplete, LookupsAreTheSame, QuestionsAreOfBlocksBefore, HistoriesWithTheSameReadsGiveTheSame};
+
+/// What is recorded of a call is all that it depends on, however it ends.
+pub fn what_is_recorded_is_complete()
+    ensures { WhatIsRecordedIsComplete }
+{}
+
+/// Where that is the same, a call asks the same questions and meets the same keys.
+pub fn lookups_are_the_same()
+    ensures { LookupsAreTheSame }
+{}
+
+/// Each question of a call is about a block before its own.
+pub fn questions_are_of_blocks_before()
+    ensures { QuestionsAreOfBlocksBefore }
+{}
+
+/// The same of two histories.
+pub fn histories_with_the_same_reads_give_the_same()
+    ensures { HistoriesWithTheSameReadsGiveTheSame }
+{}

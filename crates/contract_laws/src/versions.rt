@@ -1,0 +1,33 @@
+//! Laws of what calls read and put, and of the dependencies of what they put.
+
+ghost use Rattle.contract_laws.specs.Laws.{ReadsAreOnlyAdded, ReadsAreOfVersionsBefore, DependenciesAreReads, DependenciesAreNewestRows, PutsAreOwnAndUnwritten, FailuresAreNotOk};
+
+/// What was read before stands first among what was read after.
+pub fn reads_are_only_added()
+    ensures { ReadsAreOnlyAdded }
+{}
+
+/// Each read has the version that its key had before the block.
+pub fn reads_are_of_versions_before()
+    ensures { ReadsAreOfVersionsBefore }
+{}
+
+/// Each dependency was read, and names the version that its key had before the block.
+pub fn dependencies_are_reads()
+    ensures { DependenciesAreReads }
+{}
+
+/// Over a history, each dependency names the block of the newest row of its key.
+pub fn dependencies_are_newest_rows()
+    ensures { DependenciesAreNewestRows }
+{}
+
+/// Each key that is put is the contract's own, and the block has not written it before.
+pub fn puts_are_own_and_unwritten()
+    ensures { PutsAreOwnAndUnwritten }
+{}
+
+/// Statements that fail give a status other than `Ok`.
+pub fn failures_are_not_ok()
+    ensures { FailuresAreNotOk }
+{}

@@ -1,0 +1,13 @@
+pub mod Charges
+pub mod Steps
+pub mod Numbers
+pub mod Operators
+pub mod Scenes
+pub mod Reading
+pub mod Asking
+pub mod Builtins
+pub mod Expressions
+pub mod Puts
+pub mod Statements
+pub mod Calls
+pub mod Answers

@@ -1,0 +1,12 @@
+//! What contracts mean when they run: the definitions, and the types that they speak of.
+#![tactic(auto)]
+
+mod charge;
+mod site;
+mod stop;
+mod variable;
+
+pub use charge::{CHARGE_HISTORY, CHARGE_NODE, CHARGE_PUT, CHARGE_READ, charge_of};
+pub use site::{CallSite, Outcome};
+pub use stop::Stop;
+pub use variable::Variable;
