@@ -1,4 +1,6 @@
 pub mod Filling
+pub mod Written
+pub mod Txs
 pub mod Blocks
 pub mod WholeBlocks
 pub mod Decoders

@@ -1,15 +1,17 @@
 -- Where a block stands to a chain.
 use Rattle.std.specs.Prelude.{ℕ, ◌==◌, ◌||◌, Bool, not, nat_lt, if◌then◌else◌, List, ◌∷◌, Option, Some, None}
-use Rattle.std.specs.List.{concat}
+use Rattle.std.specs.List.{concat, sum_by}
 use Rattle.std.specs.Cmp.Lexicographic.{pointwise}
 use Rattle.sha2.specs.Sha256.{sha256}
 use Rattle.lc_base.specs.declared.digest.Digest.{Digest}
 use Rattle.block_codec.specs.Spelling.{block_fields}
-use Rattle.block_codec.specs.declared.limits.TheConstants.{MAX_BLOCKS, MAX_ROWS_BEFORE_BLOCK}
+use Rattle.block_codec.specs.declared.limits.TheConstants.{MAX_BLOCK_BUDGET, MAX_BLOCKS, MAX_ROWS_BEFORE_BLOCK}
 use Rattle.block_codec.specs.declared.placement.TheConstants.{BLOCK_TAG}
+use Rattle.block_codec.specs.declared.block.Tx.{Tx}
+use Rattle.block_codec.specs.declared.block.Tx.TheVariants.{Set, Deploy, Call}
 use Rattle.block_codec.specs.declared.block.Block.{Block}
 use Rattle.block_codec.specs.declared.placement.Placement.{Placement}
-use Rattle.block_codec.specs.declared.placement.Placement.TheVariants.{Known, Next, Fork, Full, Number, Parent}
+use Rattle.block_codec.specs.declared.placement.Placement.TheVariants.{Known, Next, Fork, Full, Number, Parent, Budget}
 
 -- The digest of the bytes of a block: SHA-256 of the byte 7 and these (FIPS 180-4).
 abbrev pub bytes_digest : List ℕ → Digest
@@ -27,13 +29,24 @@ is_same_digest a b = pointwise ◌==◌ a.0 b.0
 abbrev pub held_placement : Digest → Digest → Placement
 held_placement have digest = if is_same_digest have digest then Known else Fork have
 
--- A block of a number that is not held: next, where the chain has room, this is its number, and its
--- parent is the last block.
+-- The budget of a transaction: a Call's own; a Set and a Deploy have none.
+abbrev pub tx_budget : Tx → ℕ
+tx_budget (Set sender key value deps) = 0
+tx_budget (Deploy sender name source) = 0
+tx_budget (Call sender contract function args budget) = budget
+
+-- The budget of a block: the sum of its transactions' budgets.
+abbrev pub block_budget : Block → ℕ
+block_budget block = sum_by tx_budget block.txs
+
+-- A block of a number that is not held: next, where the chain has room, this is its number, its
+-- parent is the last block, and its budget is at most `MAX_BLOCK_BUDGET`.
 abbrev pub new_placement : ℕ → ℕ → Digest → Block → Placement
 new_placement held rows parent block =
     if held == MAX_BLOCKS || nat_lt MAX_ROWS_BEFORE_BLOCK rows then Full
     else (if not (block.number == held) then Number held
-    else (if not (is_same_digest block.parent parent) then Parent parent else Next))
+    else (if not (is_same_digest block.parent parent) then Parent parent
+    else (if nat_lt MAX_BLOCK_BUDGET (block_budget block) then Budget (block_budget block) else Next)))
 
 -- Where a block stands to a chain of `held` blocks and so many rows: `have` is the digest of the
 -- held block of its number, `parent` that of the last block.

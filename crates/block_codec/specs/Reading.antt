@@ -1,13 +1,13 @@
 -- Reading a block from its bytes, field by field.
-use Rattle.std.specs.Prelude.{ℕ, ◌-◌, min, ◌==◌, nat_le, nat_lt, if◌then◌else◌, List, length, Result, Ok, Err}
+use Rattle.std.specs.Prelude.{ℕ, ◌-◌, min, Bool, ◌==◌, ◌||◌, nat_le, nat_lt, if◌then◌else◌, List, length, Result, Ok, Err}
 use Rattle.std.specs.Int.{w16, w32}
 use Rattle.lc_base.specs.declared.value.Value.{Value}
-use Rattle.byte_fields.specs.Reading.{Field, all_read, bind_at, then_at, made_at, ruled_at, items_at, number_at, byte_at, bytes_at, key_at, value_at}
+use Rattle.byte_fields.specs.Reading.{Field, all_read, bind_at, then_at, made_at, ruled_at, items_at, number_at, byte_at, bytes_at, key_at, name_at, any_bytes_at, value_at}
 use Rattle.lc_base.specs.declared.limits.TheConstants.{MAX_DEPS}
-use Rattle.block_codec.specs.declared.limits.TheConstants.{MAX_BLOCK_BYTES, MAX_TXS}
-use Rattle.block_codec.specs.declared.block.TheConstants.{SET, VERSION}
+use Rattle.block_codec.specs.declared.limits.TheConstants.{MAX_ARGS, MAX_BLOCK_BYTES, MAX_CALL_BUDGET, MAX_SOURCE_BYTES, MAX_TXS}
+use Rattle.block_codec.specs.declared.block.TheConstants.{SET, DEPLOY, CALL, VERSION}
 use Rattle.block_codec.specs.declared.block.Tx.{Tx}
-use Rattle.block_codec.specs.declared.block.Tx.TheVariants.{Set}
+use Rattle.block_codec.specs.declared.block.Tx.TheVariants.{Set, Deploy, Call}
 use Rattle.block_codec.specs.declared.block.Block.{Block}
 
 -- At most `MAX_DEPS` keys, after their number.
@@ -22,9 +22,37 @@ set_of parts = Set parts.0 parts.1.0 parts.1.1.0 parts.1.1.1
 unfoldable pub set_at : List ℕ → Field Tx
 set_at = made_at set_of (then_at key_at (then_at key_at (then_at value_at dep_keys_at)))
 
+-- A Deploy of its parts.
+abbrev pub deploy_of : List ℕ × (List ℕ × List ℕ) → Tx
+deploy_of parts = Deploy parts.0 parts.1.0 parts.1.1
+
+-- What follows the kind of a Deploy.
+unfoldable pub deploy_at : List ℕ → Field Tx
+deploy_at = made_at deploy_of (then_at key_at (then_at name_at (any_bytes_at MAX_SOURCE_BYTES)))
+
+-- At most `MAX_ARGS` values, after their number.
+unfoldable pub args_at : List ℕ → Field (List Value)
+args_at = bind_at (ruled_at (λ n. nat_le n MAX_ARGS) byte_at) (items_at value_at)
+
+-- A Call of its parts.
+abbrev pub call_of : List ℕ × (List ℕ × (List ℕ × (List Value × ℕ))) → Tx
+call_of parts = Call parts.0 parts.1.0 parts.1.1.0 parts.1.1.1.0 parts.1.1.1.1
+
+-- What follows the kind of a Call.
+unfoldable pub call_at : List ℕ → Field Tx
+call_at = made_at call_of (then_at key_at (then_at name_at (then_at name_at (then_at args_at (ruled_at (λ n. nat_le n MAX_CALL_BUDGET) (number_at w32))))))
+
+-- Whether there is such a kind of transaction.
+abbrev pub is_kind : ℕ → Bool
+is_kind kind = kind == SET || kind == DEPLOY || kind == CALL
+
+-- What follows the kind of a transaction.
+abbrev pub kind_at : ℕ → List ℕ → Field Tx
+kind_at kind = if kind == SET then set_at else (if kind == DEPLOY then deploy_at else call_at)
+
 -- A transaction: its kind, and what follows that.
 unfoldable pub tx_at : List ℕ → Field Tx
-tx_at = bind_at (ruled_at (λ kind. kind == SET) byte_at) (λ kind. set_at)
+tx_at = bind_at (ruled_at is_kind byte_at) kind_at
 
 -- At most `MAX_TXS` transactions, after their number.
 unfoldable pub txs_at : List ℕ → Field (List Tx)

@@ -3,14 +3,15 @@ use Rattle.std.specs.Prelude.{◌≡◌, ℕ, ◌^◌, ◌<◌, ◌≤◌, List,
 use Rattle.std.specs.List.{concat, flat_map, AllByRecursion}
 use Rattle.std.specs.Int.{w16, w32, to_be_bytes}
 use Rattle.lc_base.specs.KeyBytes.{IsKey}
+use Rattle.lc_base.specs.NameBytes.{IsName}
 use Rattle.lc_base.specs.declared.value.Value.{Value}
 use Rattle.byte_fields.specs.Prefixes.{IsLongestPrefix}
 use Rattle.byte_fields.specs.Spelling.{IsBytes, string_fields, value_fields, IsValue}
 use Rattle.lc_base.specs.declared.limits.TheConstants.{MAX_DEPS}
-use Rattle.block_codec.specs.declared.limits.TheConstants.{MAX_BLOCK_BYTES, MAX_TXS}
-use Rattle.block_codec.specs.declared.block.TheConstants.{SET, VERSION}
+use Rattle.block_codec.specs.declared.limits.TheConstants.{MAX_ARGS, MAX_BLOCK_BYTES, MAX_CALL_BUDGET, MAX_SOURCE_BYTES, MAX_TXS}
+use Rattle.block_codec.specs.declared.block.TheConstants.{SET, DEPLOY, CALL, VERSION}
 use Rattle.block_codec.specs.declared.block.Tx.{Tx}
-use Rattle.block_codec.specs.declared.block.Tx.TheVariants.{Set}
+use Rattle.block_codec.specs.declared.block.Tx.TheVariants.{Set, Deploy, Call}
 use Rattle.block_codec.specs.declared.block.Block.{Block}
 
 -- ---- what a block may be
@@ -23,9 +24,27 @@ pub record IsSet (sender key : List ℕ) (value : Value) (deps : List (List ℕ)
   pub few_deps : length deps ≤ MAX_DEPS
   pub deps_are_keys : AllByRecursion IsKey deps
 
+-- A sender, a name and a source of at most `MAX_SOURCE_BYTES` bytes.
+pub record IsDeploy (sender name source : List ℕ) : Type 0 where
+  pub sender_is_key : IsKey sender
+  pub name_is_name : IsName name
+  pub short_source : length source ≤ MAX_SOURCE_BYTES
+
+-- A sender, the names of a contract and of a function, at most `MAX_ARGS` values, and a budget of
+-- at most `MAX_CALL_BUDGET`.
+pub record IsCall (sender contract function : List ℕ) (args : List Value) (budget : ℕ) : Type 0 where
+  pub sender_is_key : IsKey sender
+  pub contract_is_name : IsName contract
+  pub function_is_name : IsName function
+  pub few_args : length args ≤ MAX_ARGS
+  pub args_are_values : AllByRecursion IsValue args
+  pub low_budget : budget ≤ MAX_CALL_BUDGET
+
 -- What a transaction may be.
 abbrev pub IsTx : Tx → Type 0
 IsTx (Set sender key value deps) = IsSet sender key value deps
+IsTx (Deploy sender name source) = IsDeploy sender name source
+IsTx (Call sender contract function args budget) = IsCall sender contract function args budget
 
 -- A number of 32 bits, a digest of 32 bytes, and at most `MAX_TXS` transactions.
 pub record IsBlock (block : Block) : Type 0 where
@@ -36,10 +55,28 @@ pub record IsBlock (block : Block) : Type 0 where
 
 -- ---- how it is spelled, field by field
 
--- The kind, the sender, the key, the value, the number of dependency keys in one byte, and these
--- keys.
+-- The sender, the key, the value, the number of dependency keys in one byte, and these keys.
+abbrev pub set_fields : List ℕ → List ℕ → Value → List (List ℕ) → List (List ℕ)
+set_fields sender key value deps = string_fields sender ++ string_fields key ++ value_fields value ++ (length deps ∷ []) ∷ flat_map string_fields deps
+
+-- The sender, the name and the source.
+abbrev pub deploy_fields : List ℕ → List ℕ → List ℕ → List (List ℕ)
+deploy_fields sender name source = string_fields sender ++ string_fields name ++ string_fields source
+
+-- The sender, the names of the contract and of the function, the number of arguments in one byte,
+-- and these.
+abbrev pub invocation_fields : List ℕ → List ℕ → List ℕ → List Value → List (List ℕ)
+invocation_fields sender contract function args = string_fields sender ++ string_fields contract ++ string_fields function ++ (length args ∷ []) ∷ flat_map value_fields args
+
+-- The sender, what it calls with which arguments, and the budget in four bytes.
+abbrev pub call_fields : List ℕ → List ℕ → List ℕ → List Value → ℕ → List (List ℕ)
+call_fields sender contract function args budget = invocation_fields sender contract function args ++ to_be_bytes w32 budget ∷ []
+
+-- The kind, and the fields that the kind has.
 abbrev pub tx_fields : Tx → List (List ℕ)
-tx_fields (Set sender key value deps) = (SET ∷ []) ∷ string_fields sender ++ string_fields key ++ value_fields value ++ (length deps ∷ []) ∷ flat_map string_fields deps
+tx_fields (Set sender key value deps) = (SET ∷ []) ∷ set_fields sender key value deps
+tx_fields (Deploy sender name source) = (DEPLOY ∷ []) ∷ deploy_fields sender name source
+tx_fields (Call sender contract function args budget) = (CALL ∷ []) ∷ call_fields sender contract function args budget
 
 -- The version, the number, the parent, the number of transactions, and these.
 abbrev pub block_fields : Block → List (List ℕ)

@@ -1,6 +1,6 @@
 //! Blocks and their transactions.
 
-use lc_base::{Digest, Duplicate, Key, KeyList, Memory, Seq, Value};
+use lc_base::{Bytes, Digest, Duplicate, Key, KeyList, Memory, Name, Seq, Value};
 use std::alloc::Global;
 
 /// The first byte of a block: the version of its format.
@@ -8,6 +8,12 @@ pub const VERSION: u8 = 1;
 
 /// The first byte of a transaction that writes a value.
 pub const SET: u8 = 1;
+
+/// The first byte of a transaction that deploys a contract.
+pub const DEPLOY: u8 = 2;
+
+/// The first byte of a transaction that calls a contract.
+pub const CALL: u8 = 3;
 
 /// A transaction.
 #[derive(Debug, Drop)]
@@ -19,6 +25,23 @@ pub enum Tx {
         value: Value,
         /// At most `MAX_DEPS`.
         deps: KeyList,
+    },
+    /// Deploys a contract under a name.
+    Deploy {
+        sender: Key,
+        name: Name,
+        /// At most `MAX_SOURCE_BYTES`, of any values.
+        source: Bytes,
+    },
+    /// Calls a function of a deployed contract.
+    Call {
+        sender: Key,
+        contract: Name,
+        function: Name,
+        /// At most `MAX_ARGS`.
+        args: Seq<Value>,
+        /// How many steps it may take, at most `MAX_CALL_BUDGET`.
+        budget: u32,
     },
 }
 
@@ -43,16 +66,34 @@ impl Duplicate for Tx {
                 key,
                 value,
                 deps,
-            } => {
-                let value = value.copy(alloc)?;
-                let deps = deps.copy()?;
-                Ok(Tx::Set {
-                    sender: *sender,
-                    key: *key,
-                    value,
-                    deps,
-                })
-            }
+            } => Ok(Tx::Set {
+                sender: *sender,
+                key: *key,
+                value: value.copy(alloc)?,
+                deps: deps.copy()?,
+            }),
+            Tx::Deploy {
+                sender,
+                name,
+                source,
+            } => Ok(Tx::Deploy {
+                sender: *sender,
+                name: *name,
+                source: source.copy()?,
+            }),
+            Tx::Call {
+                sender,
+                contract,
+                function,
+                args,
+                budget,
+            } => Ok(Tx::Call {
+                sender: *sender,
+                contract: *contract,
+                function: *function,
+                args: args.copy()?,
+                budget: *budget,
+            }),
         }
     }
 }

@@ -2,16 +2,16 @@
 
 ghost use Rattle.std.specs.Prelude.{◌≡◌, Ok, IfOk, IfErr, IfSome, length};
 ghost use Rattle.lc_base.specs.Answers.{Answers};
-ghost use Rattle.byte_fields.specs.Reading.{items_at, key_at};
+ghost use Rattle.byte_fields.specs.Reading.{items_at};
 ghost use Rattle.byte_fields.specs.Reader.{error_left, Reads};
 ghost use Rattle.block_codec.specs.Spelling.{Spells, IsFaultOffset, IsDecoder};
-ghost use Rattle.block_codec.specs.Reading.{dep_keys_at, set_at, tx_at, txs_at, block_at, whole_block, block_in};
+ghost use Rattle.block_codec.specs.Reading.{dep_keys_at, set_at, deploy_at, args_at, call_at, tx_at, txs_at, block_at, whole_block, block_in};
 ghost use Rattle.block_codec.specs.Decoding.{fault_offset};
 
-use crate::block::{Block, SET, Tx, TxList, VERSION};
-use crate::limits::{MAX_BLOCK_BYTES, MAX_TXS};
+use crate::block::{Block, CALL, DEPLOY, SET, Tx, TxList, VERSION};
+use crate::limits::{MAX_ARGS, MAX_BLOCK_BYTES, MAX_CALL_BUDGET, MAX_SOURCE_BYTES, MAX_TXS};
 use byte_fields::{Fault, FieldError, Reader};
-use lc_base::{Digest, KeyList, MAX_DEPS};
+use lc_base::{Digest, KeyList, MAX_DEPS, Seq, Value};
 use std::alloc::Global;
 
 /// Why bytes were not read as a block.
@@ -27,23 +27,12 @@ pub enum DecodeError {
     Memory,
 }
 
-fn keys(alloc: Global, reader: &mut Reader, count: u8) -> Result<KeyList, FieldError>
-    ensures { Reads error_left result (items_at key_at count reader.old) reader.new }
-{
-    let mut keys = KeyList::new(alloc);
-    for _ in 0..count {
-        let key = reader.key()?;
-        keys.push(key)?;
-    }
-    Ok(keys)
-}
-
 #[tactic(auto, unfolding(crate::specs::Reading::dep_keys_at))]
 fn dep_keys(alloc: Global, reader: &mut Reader) -> Result<KeyList, FieldError>
     ensures { Reads error_left result (dep_keys_at reader.old) reader.new }
 {
     let count = reader.byte_at_most(MAX_DEPS as u8)?;
-    keys(alloc, reader, count)
+    reader.keys(alloc, count)
 }
 
 #[tactic(auto, unfolding(crate::specs::Reading::set_at))]
@@ -62,12 +51,57 @@ fn set(alloc: Global, reader: &mut Reader) -> Result<Tx, FieldError>
     })
 }
 
+#[tactic(auto, unfolding(crate::specs::Reading::deploy_at))]
+fn deploy(alloc: Global, reader: &mut Reader) -> Result<Tx, FieldError>
+    ensures { Reads error_left result (deploy_at reader.old) reader.new }
+{
+    let sender = reader.key()?;
+    let name = reader.name()?;
+    let source = reader.any_bytes(alloc, MAX_SOURCE_BYTES as u16)?;
+    Ok(Tx::Deploy {
+        sender,
+        name,
+        source,
+    })
+}
+
+#[tactic(auto, unfolding(crate::specs::Reading::args_at))]
+fn args(alloc: Global, reader: &mut Reader) -> Result<Seq<Value>, FieldError>
+    ensures { Reads error_left result (args_at reader.old) reader.new }
+{
+    let count = reader.byte_at_most(MAX_ARGS as u8)?;
+    reader.values(alloc, count)
+}
+
+#[tactic(auto, unfolding(crate::specs::Reading::call_at))]
+fn call(alloc: Global, reader: &mut Reader) -> Result<Tx, FieldError>
+    ensures { Reads error_left result (call_at reader.old) reader.new }
+{
+    let sender = reader.key()?;
+    let contract = reader.name()?;
+    let function = reader.name()?;
+    let args = args(alloc, reader)?;
+    let budget = reader.u32_at_most(MAX_CALL_BUDGET)?;
+    Ok(Tx::Call {
+        sender,
+        contract,
+        function,
+        args,
+        budget,
+    })
+}
+
 #[tactic(auto, unfolding(crate::specs::Reading::tx_at))]
 fn tx(alloc: Global, reader: &mut Reader) -> Result<Tx, FieldError>
     ensures { Reads error_left result (tx_at reader.old) reader.new }
 {
-    reader.byte_that_is(SET)?;
-    set(alloc, reader)
+    let left = reader.left();
+    match reader.byte()? {
+        SET => set(alloc, reader),
+        DEPLOY => deploy(alloc, reader),
+        CALL => call(alloc, reader),
+        _ => Err(FieldError::Fault(Fault { left })),
+    }
 }
 
 fn counted_txs(alloc: Global, reader: &mut Reader, count: u16) -> Result<TxList, FieldError>

@@ -3,20 +3,24 @@
 ghost use Rattle.std.specs.Prelude.{◌≡◌, ◌<◌, ◌≤◌, ◌∷◌, ◌++◌, [], List, ℕ, length, OnOk, IfOk, IsErrOf};
 ghost use Rattle.std.specs.List.{concat, flat_map, AllByRecursion};
 ghost use Rattle.lc_base.specs.KeyBytes.{IsKey};
-ghost use Rattle.byte_fields.specs.Spelling.{string_fields};
-ghost use Rattle.block_codec.specs.Spelling.{IsTx, IsBlock, Spells, tx_fields, block_fields};
+ghost use Rattle.lc_base.specs.NameBytes.{IsName};
+ghost use Rattle.block_codec.specs.declared.limits.TheConstants.{MAX_ARGS};
+ghost use Rattle.byte_fields.specs.Spelling.{string_fields, value_fields, IsValue};
+ghost use Rattle.block_codec.specs.Spelling.{IsSet, IsDeploy, IsCall, IsTx, IsBlock, Spells, set_fields, deploy_fields, invocation_fields, call_fields, tx_fields, block_fields};
 
-use crate::block::{Block, SET, Tx, VERSION};
-use crate::limits::{MAX_BLOCK_BYTES, MAX_TXS};
-use byte_fields::{put_key, put_value};
-use lc_base::{Bytes, Key, MAX_DEPS, Memory};
+use crate::block::{Block, CALL, DEPLOY, SET, Tx, VERSION};
+use crate::limits::{MAX_ARGS, MAX_BLOCK_BYTES, MAX_CALL_BUDGET, MAX_SOURCE_BYTES, MAX_TXS};
+use byte_fields::{put_any_bytes, put_key, put_keys, put_name, put_u32, put_value, put_values};
+use lc_base::{Bytes, Key, KeyList, MAX_DEPS, Memory, Name, Seq, Value};
 use std::alloc::{AllocError, AllocFailed, Global};
 
 /// Why a block was not written.
 #[derive(Clone, Copy, Debug, PartialEq, Eq)]
 pub enum EncodeError {
-    /// It has no spelling: it has more than `MAX_TXS` transactions, more than `MAX_DEPS` dependency
-    /// keys in one of them, or more than `MAX_BLOCK_BYTES` bytes.
+    /// It has no spelling: it has more than `MAX_TXS` transactions, or one of them has more than
+    /// `MAX_DEPS` dependency keys, a source of more than `MAX_SOURCE_BYTES` bytes, more than
+    /// `MAX_ARGS` arguments or a budget above `MAX_CALL_BUDGET`, or it has more than
+    /// `MAX_BLOCK_BYTES` bytes.
     Limit,
     /// Out of memory.
     Memory,
@@ -52,13 +56,84 @@ impl<T: Drop> From<AllocFailed<T>> for EncodeError {
     }
 }
 
-fn put_keys(out: &mut Vec<u8>, keys: &[Key]) -> Result<(), Memory>
-    ensures written { OnOk result (out.new.items ≡ out.old.items ++ concat (flat_map string_fields keys.now)) }
-    ensures lawful { OnOk result (AllByRecursion IsKey keys.now) }
+fn put_set(
+    out: &mut Vec<u8>,
+    sender: &Key,
+    key: &Key,
+    value: &Value,
+    deps: &KeyList,
+) -> Result<(), EncodeError>
+    ensures written { OnOk result (out.new.items ≡ out.old.items ++ concat (set_fields sender.now key.now value.now deps.now)) }
+    ensures lawful { OnOk result (IsSet sender.now key.now value.now deps.now) }
+    ensures limit { IsErrOf result EncodeError.Limit → IsSet sender.now key.now value.now deps.now → ⊥ }
 {
-    for key in keys {
-        put_key(out, key)?;
+    if deps.len() > MAX_DEPS {
+        return Err(EncodeError::Limit);
     }
+    put_key(out, sender)?;
+    put_key(out, key)?;
+    put_value(out, value)?;
+    out.push(deps.len() as u8)?;
+    put_keys(out, deps.as_slice())?;
+    Ok(())
+}
+
+fn put_deploy(
+    out: &mut Vec<u8>,
+    sender: &Key,
+    name: &Name,
+    source: &Bytes,
+) -> Result<(), EncodeError>
+    ensures written { OnOk result (out.new.items ≡ out.old.items ++ concat (deploy_fields sender.now name.now source.now)) }
+    ensures lawful { OnOk result (IsDeploy sender.now name.now source.now) }
+    ensures limit { IsErrOf result EncodeError.Limit → IsDeploy sender.now name.now source.now → ⊥ }
+{
+    if source.len() > MAX_SOURCE_BYTES {
+        return Err(EncodeError::Limit);
+    }
+    put_key(out, sender)?;
+    put_name(out, name)?;
+    put_any_bytes(out, source)?;
+    Ok(())
+}
+
+fn put_invocation(
+    out: &mut Vec<u8>,
+    sender: &Key,
+    contract: &Name,
+    function: &Name,
+    args: &Seq<Value>,
+) -> Result<(), Memory>
+    requires { length args.now ≤ MAX_ARGS }
+    ensures written { OnOk result (out.new.items ≡ out.old.items ++ concat (invocation_fields sender.now contract.now function.now args.now)) }
+    ensures sender { OnOk result (IsKey sender.now) }
+    ensures names { OnOk result (IsName contract.now × IsName function.now) }
+    ensures args { OnOk result (AllByRecursion IsValue args.now) }
+{
+    put_key(out, sender)?;
+    put_name(out, contract)?;
+    put_name(out, function)?;
+    out.push(args.len() as u8)?;
+    put_values(out, args.as_slice())
+}
+
+fn put_call(
+    out: &mut Vec<u8>,
+    sender: &Key,
+    contract: &Name,
+    function: &Name,
+    args: &Seq<Value>,
+    budget: u32,
+) -> Result<(), EncodeError>
+    ensures written { OnOk result (out.new.items ≡ out.old.items ++ concat (call_fields sender.now contract.now function.now args.now budget)) }
+    ensures lawful { OnOk result (IsCall sender.now contract.now function.now args.now budget) }
+    ensures limit { IsErrOf result EncodeError.Limit → IsCall sender.now contract.now function.now args.now budget → ⊥ }
+{
+    if args.len() > MAX_ARGS || budget > MAX_CALL_BUDGET {
+        return Err(EncodeError::Limit);
+    }
+    put_invocation(out, sender, contract, function, args)?;
+    put_u32(out, budget)?;
     Ok(())
 }
 
@@ -74,16 +149,26 @@ fn put_tx(out: &mut Vec<u8>, tx: &Tx) -> Result<(), EncodeError>
             value,
             deps,
         } => {
-            if deps.len() > MAX_DEPS {
-                return Err(EncodeError::Limit);
-            }
             out.push(SET)?;
-            put_key(out, sender)?;
-            put_key(out, key)?;
-            put_value(out, value)?;
-            out.push(deps.len() as u8)?;
-            put_keys(out, deps.as_slice())?;
-            Ok(())
+            put_set(out, sender, key, value, deps)
+        }
+        Tx::Deploy {
+            sender,
+            name,
+            source,
+        } => {
+            out.push(DEPLOY)?;
+            put_deploy(out, sender, name, source)
+        }
+        Tx::Call {
+            sender,
+            contract,
+            function,
+            args,
+            budget,
+        } => {
+            out.push(CALL)?;
+            put_call(out, sender, contract, function, args, *budget)
         }
     }
 }
@@ -108,7 +193,7 @@ fn put_block(out: &mut Vec<u8>, block: &Block) -> Result<(), EncodeError>
         return Err(EncodeError::Limit);
     }
     out.push(VERSION)?;
-    out.extend_from_slice(&block.number.to_be_bytes())?;
+    put_u32(out, block.number)?;
     out.extend_from_slice(&block.parent.0)?;
     out.extend_from_slice(&(block.txs.len() as u16).to_be_bytes())?;
     put_txs(out, block.txs.as_slice())

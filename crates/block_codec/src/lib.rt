@@ -8,9 +8,12 @@ mod frames;
 mod limits;
 mod placement;
 
-pub use block::{Block, SET, Tx, TxList, VERSION};
+pub use block::{Block, CALL, DEPLOY, SET, Tx, TxList, VERSION};
 pub use decoding::{DecodeError, decode};
 pub use encoding::{EncodeError, encode};
 pub use frames::{FrameError, Frames};
-pub use limits::{MAX_BLOCK_BYTES, MAX_BLOCKS, MAX_FRAMES, MAX_ROWS_BEFORE_BLOCK, MAX_TXS};
+pub use limits::{
+    MAX_ARGS, MAX_BLOCK_BUDGET, MAX_BLOCK_BYTES, MAX_BLOCKS, MAX_CALL_BUDGET, MAX_FRAMES,
+    MAX_ROWS_BEFORE_BLOCK, MAX_SOURCE_BYTES, MAX_TXS,
+};
 pub use placement::{Placement, block_digest, place};

@@ -6,6 +6,18 @@ pub const MAX_BLOCK_BYTES: usize = 1_048_576;
 /// The greatest number of transactions of a block.
 pub const MAX_TXS: u16 = 4096;
 
+/// The greatest number of bytes of a contract's source.
+pub const MAX_SOURCE_BYTES: usize = 16_384;
+
+/// The greatest number of arguments of a call.
+pub const MAX_ARGS: usize = 8;
+
+/// The greatest budget of a call, in steps.
+pub const MAX_CALL_BUDGET: u32 = 1_000_000;
+
+/// The greatest sum of the budgets of a block's calls, in steps.
+pub const MAX_BLOCK_BUDGET: u64 = 10_000_000;
+
 /// The greatest number of frames of an input.
 pub const MAX_FRAMES: u32 = 2_097_152;
 

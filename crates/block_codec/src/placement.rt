@@ -1,10 +1,13 @@
 //! Where a block stands to a chain.
 
-ghost use Rattle.std.specs.Prelude.{◌≡◌, ◌<◌, ◌↔◌, IsSome};
-ghost use Rattle.block_codec.specs.Placement.{bytes_digest, held_placement, new_placement, placement};
+ghost use Rattle.std.specs.Prelude.{◌≡◌, ◌<◌, ◌≤◌, ◌↔◌, IsSome, length};
+ghost use Rattle.std.specs.List.{sum_by};
+ghost use Rattle.block_codec.specs.Spelling.{IsBlock};
+ghost use Rattle.block_codec.specs.declared.limits.TheConstants.{MAX_TXS};
+ghost use Rattle.block_codec.specs.Placement.{bytes_digest, tx_budget, held_placement, new_placement, placement};
 
-use crate::block::Block;
-use crate::limits::{MAX_BLOCKS, MAX_ROWS_BEFORE_BLOCK};
+use crate::block::{Block, Tx};
+use crate::limits::{MAX_BLOCK_BUDGET, MAX_BLOCKS, MAX_ROWS_BEFORE_BLOCK};
 use digest_kit::TagHasher;
 use lc_base::Digest;
 
@@ -26,6 +29,8 @@ pub enum Placement {
     Number { want: u32 },
     /// The next block has another parent.
     Parent { want: Digest },
+    /// The sum of the budgets of the block's calls, in steps, which is above `MAX_BLOCK_BUDGET`.
+    Budget { sum: u64 },
 }
 
 /// The digest of the bytes of a block: SHA-256 (FIPS 180-4) of the byte 7 and these.
@@ -47,7 +52,24 @@ fn held_placement(have: Digest, digest: Digest) -> Placement
     }
 }
 
+fn tx_budget(tx: &Tx) -> u32
+    ensures { result ≡ tx_budget tx.now }
+{
+    match tx {
+        Tx::Set { .. } | Tx::Deploy { .. } => 0,
+        Tx::Call { budget, .. } => *budget,
+    }
+}
+
+fn budget_sum(txs: &[Tx]) -> u64
+    requires { length txs.now ≤ MAX_TXS }
+    ensures { result ≡ sum_by tx_budget txs.now }
+{
+    txs.iter().map(|tx| u64::from(tx_budget(tx))).sum()
+}
+
 fn new_placement(held: u32, rows: u64, parent: Digest, block: &Block) -> Placement
+    requires { IsBlock block.now }
     ensures { result ≡ new_placement held rows parent block.now }
 {
     if held == MAX_BLOCKS || rows > MAX_ROWS_BEFORE_BLOCK {
@@ -59,13 +81,16 @@ fn new_placement(held: u32, rows: u64, parent: Digest, block: &Block) -> Placeme
     if block.parent != parent {
         return Placement::Parent { want: parent };
     }
+    let sum = budget_sum(block.txs.as_slice());
+    if sum > MAX_BLOCK_BUDGET {
+        return Placement::Budget { sum };
+    }
     Placement::Next
 }
 
 /// Where a block with this digest stands to a chain of `held` blocks and so many rows. `have` is
-/// the
-/// digest of the held block of its number, `parent` that of the last block, or 32 zero bytes where
-/// there is none.
+/// the digest of the held block of its number, `parent` that of the last block, or 32 zero bytes
+/// where there is none. The cases are tested in the order of `Placement`, `Next` last.
 pub fn place(
     held: u32,
     rows: u64,
@@ -74,7 +99,8 @@ pub fn place(
     block: &Block,
     digest: Digest,
 ) -> Placement
-    requires { IsSome have ↔ (block.now.number < held) }
+    requires held { IsSome have ↔ (block.now.number < held) }
+    requires lawful { IsBlock block.now }
     ensures { result ≡ placement held rows have parent block.now digest }
 {
     match have {

@@ -1,4 +1,4 @@
--- Keys, texts, ints and values as fields.
+-- Keys, names, other strings, texts, ints and values as fields.
 use Rattle.std.proofs.Common.{◌≡◌, ℕ, zero, suc, ℤ, ◌^◌, ◌<◌, ◌≤◌, Bool, true, false, not, ◌&&◌, List, [], ◌∷◌, length, replicate, Option, Some, None, refl, sym, ap, subst, ◌∙◌, arith}
 use Rattle.std.specs.Prelude.{position, is_none, nat_le, nat_lt}
 use Rattle.std.specs.List.{position_or_len}
@@ -10,13 +10,14 @@ use Rattle.std.proofs.lemmas.List.Sums.{position_or_len_is}
 use borrow.Author.Gap.{read_sfits}
 use Rattle.std.proofs.lemmas.Int.{of_z-to_z, to_z-of_z}
 use Rattle.std.proofs.Math.Facts.{Fits-of_z}
-use Rattle.lc_base.specs.declared.limits.TheConstants.{MAX_KEY_BYTES, MAX_TEXT_BYTES}
+use Rattle.lc_base.specs.declared.limits.TheConstants.{MAX_KEY_BYTES, MAX_NAME_BYTES, MAX_TEXT_BYTES}
 use Rattle.lc_base.specs.KeyBytes.{IsKey, is_key_byte, bad_key_byte}
+use Rattle.lc_base.specs.NameBytes.{IsName, is_name_byte, bad_name_byte}
 use Rattle.lc_base.specs.TextBytes.{IsText, is_text_byte, bad_text_byte}
 use Rattle.lc_base.specs.declared.value.Value.{Value}
 use Rattle.lc_base.specs.declared.value.Value.TheVariants.{Int, Text}
 use Rattle.byte_fields.specs.Spelling.{string_fields, int_bytes, value_fields, IsValue}
-use Rattle.byte_fields.specs.Reading.{string_at, key_at, text_at, int_at, tagged_at, value_at}
+use Rattle.byte_fields.specs.Reading.{string_at, key_at, name_at, any_bytes_at, text_at, int_at, tagged_at, value_at}
 use Rattle.byte_fields.proofs.Laws.{IsField, renamed, bind_field, made_field}
 use Rattle.byte_fields.proofs.Pieces.{piece_field, ruled_piece, number_piece, byte_piece, bytes_piece, wide16, wide64}
 
@@ -59,6 +60,22 @@ pub key_field : IsField key_at string_fields IsKey
 unfolding key_at
 key_field = renamed (string_field 1 MAX_KEY_BYTES bad_key_byte (omega arith) (omega arith) (letters_good (λ byte. not (is_key_byte byte)) refl))
     (λ bytes is. record { some = is.long; short = is.short; good = is.good }) (λ bytes is. record { long = is.some; short = is.short; good = is.good }) (λ bytes is. refl)
+
+name_good : (n : ℕ) → bad_name_byte (replicate n 97) ≡ None
+name_good zero = refl
+name_good (suc n) = letters_good (λ byte. not (is_name_byte byte)) refl (suc n)
+
+pub name_field : IsField name_at string_fields IsName
+unfolding name_at
+name_field = renamed (string_field 1 MAX_NAME_BYTES bad_name_byte (omega arith) (omega arith) name_good)
+    (λ bytes is. record { some = is.long; short = is.short; good = is.good }) (λ bytes is. record { long = is.some; short = is.short; good = is.good }) (λ bytes is. refl)
+
+pub any_bytes_field : (greatest : ℕ) → greatest < 2 ^ 16 → IsField (any_bytes_at greatest) string_fields (λ bytes. length bytes ≤ greatest)
+unfolding any_bytes_at
+any_bytes_field greatest short =
+    let number = ruled_piece (number_piece wide16) (λ n. nat_le n greatest) (record { value = 0; is = (omega arith, le-leb 0 greatest (omega arith)) }) in
+    renamed (bind_field {Is_b = λ n bytes. length bytes ≡ n} length (piece_field number) (λ n is. piece_field (bytes_piece n)) (λ n bytes is_n is_bytes. is_bytes))
+    (λ bytes is. leb-true _ _ is.0.1) (λ bytes is. ((omega (arith, short, is), le-leb _ _ is), refl)) (λ bytes is. refl)
 
 pub text_field : IsField text_at string_fields IsText
 unfolding text_at

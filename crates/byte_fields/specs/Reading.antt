@@ -2,8 +2,9 @@
 use Rattle.std.specs.Prelude.{ℕ, zero, suc, ℤ, Bool, nat_lt, nat_le, ◌==◌, ◌&&◌, is_none, if◌then◌else◌, List, [], ◌∷◌, length, take, drop, Option, Result, Ok, Err}
 use Rattle.std.specs.Int.{Width, w16, w64, byte_len, from_be_bytes, cast_signed}
 use Rattle.lc_base.specs.KeyBytes.{bad_key_byte}
+use Rattle.lc_base.specs.NameBytes.{bad_name_byte}
 use Rattle.lc_base.specs.TextBytes.{bad_text_byte}
-use Rattle.lc_base.specs.declared.limits.TheConstants.{MAX_KEY_BYTES, MAX_TEXT_BYTES}
+use Rattle.lc_base.specs.declared.limits.TheConstants.{MAX_KEY_BYTES, MAX_NAME_BYTES, MAX_TEXT_BYTES}
 use Rattle.lc_base.specs.declared.value.Value.{Value}
 use Rattle.lc_base.specs.declared.value.Value.TheVariants.{Int, Text}
 
@@ -79,6 +80,14 @@ string_at low high bad = bind_at (ruled_at (λ n. nat_le low n && nat_le n high)
 -- A key.
 unfoldable pub key_at : List ℕ → Field (List ℕ)
 key_at = string_at 1 MAX_KEY_BYTES bad_key_byte
+
+-- A name.
+unfoldable pub name_at : List ℕ → Field (List ℕ)
+name_at = string_at 1 MAX_NAME_BYTES bad_name_byte
+
+-- A string of any bytes, at most so many: its length in two bytes, and its bytes.
+unfoldable pub any_bytes_at : ℕ → List ℕ → Field (List ℕ)
+any_bytes_at greatest = bind_at (ruled_at (λ n. nat_le n greatest) (number_at w16)) bytes_at
 
 -- A text.
 unfoldable pub text_at : List ℕ → Field (List ℕ)

@@ -1,4 +1,4 @@
--- How texts, keys and values are spelled, each as its list of fields: a field is read whole or is
+-- How keys, names, texts, other strings and values are spelled, each as its list of fields: a field is read whole or is
 -- invalid.
 use Rattle.std.specs.Prelude.{ℕ, ℤ, ◌<◌, List, [], ◌∷◌, length, slice_index}
 use Rattle.std.specs.Int.{w16, w64, to_be_bytes, cast_unsigned}

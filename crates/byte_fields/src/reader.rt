@@ -2,14 +2,18 @@
 
 ghost use Rattle.std.specs.Prelude.{◌≡◌, ◌≤◌, ◌==◌, ◌&&◌, nat_le, is_none, length};
 ghost use Rattle.lc_base.specs.KeyBytes.{bad_key_byte};
+ghost use Rattle.lc_base.specs.NameBytes.{bad_name_byte};
 ghost use Rattle.lc_base.specs.TextBytes.{bad_text_byte};
-ghost use Rattle.lc_base.specs.declared.limits.TheConstants.{MAX_KEY_BYTES, MAX_TEXT_BYTES};
+ghost use Rattle.lc_base.specs.declared.limits.TheConstants.{MAX_KEY_BYTES, MAX_NAME_BYTES, MAX_TEXT_BYTES};
 ghost use Rattle.std.specs.Int.{w16, w32, w64};
-ghost use Rattle.byte_fields.specs.Reading.{ruled_at, number_at, byte_at, bytes_at, key_at, text_at, int_at, value_at};
+ghost use Rattle.byte_fields.specs.Reading.{ruled_at, items_at, number_at, byte_at, bytes_at, key_at, name_at, any_bytes_at, text_at, int_at, value_at};
 ghost use Rattle.byte_fields.specs.Reader.{fault_left, error_left, Reads};
 
 use crate::fault::{Fault, FieldError};
-use lc_base::{Key, MAX_KEY_BYTES, MAX_TEXT_BYTES, Text, TextError, Value};
+use lc_base::{
+    Bytes, Key, KeyList, MAX_KEY_BYTES, MAX_NAME_BYTES, MAX_TEXT_BYTES, Name, Seq, Text, TextError,
+    Value,
+};
 use std::alloc::Global;
 use std::marker::Model;
 
@@ -142,6 +146,18 @@ impl<'a> Reader<'a> {
         Ok(number)
     }
 
+    /// A number of four bytes that is at most this one.
+    pub fn u32_at_most(&mut self, greatest: u32) -> Result<u32, Fault>
+        ensures { Reads fault_left result (ruled_at (λ n. nat_le n greatest) (number_at w32) self.old) self.new }
+    {
+        let fault = self.fault();
+        let number = self.u32()?;
+        if number > greatest {
+            return Err(fault);
+        }
+        Ok(number)
+    }
+
     /// The bytes of a digest.
     #[tactic(auto, unfolding(crate::specs::Reading::bytes_at))]
     pub fn digest_bytes(&mut self) -> Result<[u8; 32], Fault>
@@ -195,6 +211,56 @@ impl<'a> Reader<'a> {
     }
 
     #[tactic(auto, unfolding(crate::specs::Reading::bytes_at))]
+    fn name_of(&mut self, length: usize) -> Result<Name, Fault>
+        requires { (1 ≤ length) × (length ≤ MAX_NAME_BYTES) }
+        ensures { Reads fault_left result (ruled_at (λ bytes. is_none (bad_name_byte bytes)) (bytes_at length) self.old) self.new }
+    {
+        match self.rest.split_at_checked(length) {
+            None => Err(self.fault()),
+            Some((prefix, rest)) => match Name::new(prefix) {
+                Err(_) => Err(self.fault()),
+                Ok(name) => {
+                    self.rest = rest;
+                    Ok(name)
+                }
+            },
+        }
+    }
+
+    /// A name: its length in two bytes, and its bytes.
+    #[tactic(auto, unfolding(crate::specs::Reading::name_at, crate::specs::Reading::string_at))]
+    pub fn name(&mut self) -> Result<Name, Fault>
+        ensures { Reads fault_left result (name_at self.old) self.new }
+    {
+        let length = self.length_between(1, MAX_NAME_BYTES as u16)?;
+        self.name_of(length)
+    }
+
+    #[tactic(auto, unfolding(crate::specs::Reading::bytes_at))]
+    fn bytes_of(&mut self, alloc: Global, length: usize) -> Result<Bytes, FieldError>
+        ensures { Reads error_left result (bytes_at length self.old) self.new }
+    {
+        match self.rest.split_at_checked(length) {
+            None => Err(FieldError::Fault(self.fault())),
+            Some((prefix, rest)) => {
+                let mut bytes = Vec::with_capacity(alloc, length)?;
+                bytes.extend_from_slice(prefix)?;
+                self.rest = rest;
+                Ok(Bytes::from_vec(bytes))
+            }
+        }
+    }
+
+    /// A string of any bytes, at most so many: its length in two bytes, and its bytes.
+    #[tactic(auto, unfolding(crate::specs::Reading::any_bytes_at))]
+    pub fn any_bytes(&mut self, alloc: Global, greatest: u16) -> Result<Bytes, FieldError>
+        ensures { Reads error_left result (any_bytes_at greatest self.old) self.new }
+    {
+        let length = self.u16_at_most(greatest)?;
+        self.bytes_of(alloc, length as usize)
+    }
+
+    #[tactic(auto, unfolding(crate::specs::Reading::bytes_at))]
     fn text_of(&mut self, alloc: Global, length: usize) -> Result<Text, FieldError>
         requires { length ≤ MAX_TEXT_BYTES }
         ensures { Reads error_left result (ruled_at (λ bytes. is_none (bad_text_byte bytes)) (bytes_at length) self.old) self.new }
@@ -241,5 +307,29 @@ impl<'a> Reader<'a> {
             1 => Ok(Value::Text(self.text(alloc)?)),
             _ => Err(FieldError::Fault(fault)),
         }
+    }
+
+    /// So many keys, one after another.
+    pub fn keys(&mut self, alloc: Global, count: u8) -> Result<KeyList, FieldError>
+        ensures { Reads error_left result (items_at key_at count self.old) self.new }
+    {
+        let mut keys = KeyList::new(alloc);
+        for _ in 0..count {
+            let key = self.key()?;
+            keys.push(key)?;
+        }
+        Ok(keys)
+    }
+
+    /// So many values, one after another.
+    pub fn values(&mut self, alloc: Global, count: u8) -> Result<Seq<Value>, FieldError>
+        ensures { Reads error_left result (items_at value_at count self.old) self.new }
+    {
+        let mut values = Seq::new(alloc);
+        for _ in 0..count {
+            let value = self.value(alloc)?;
+            values.push(value)?;
+        }
+        Ok(values)
     }
 }

@@ -1,14 +1,15 @@
 //! Writing the fields that blocks, entries and proofs are spelled with. Where memory runs out, a
-//! part
-//! of a field may stand after what was written before.
+//! part of a field may stand after what was written before.
 
 ghost use Rattle.std.specs.Prelude.{◌≡◌, ◌++◌, ◌^◌, ◌<◌, length, OnOk};
-ghost use Rattle.std.specs.List.{concat};
+ghost use Rattle.std.specs.List.{concat, flat_map, AllByRecursion};
+ghost use Rattle.std.specs.Int.{w32, to_be_bytes};
 ghost use Rattle.lc_base.specs.KeyBytes.{IsKey};
+ghost use Rattle.lc_base.specs.NameBytes.{IsName};
 ghost use Rattle.lc_base.specs.TextBytes.{IsText};
 ghost use Rattle.byte_fields.specs.Spelling.{string_fields, value_fields, IsValue};
 
-use lc_base::{Key, Memory, Text, Value};
+use lc_base::{Bytes, Key, Memory, Name, Text, Value};
 
 fn put_string(out: &mut Vec<u8>, bytes: &[u8]) -> Result<(), Memory>
     requires { length bytes.now < 2 ^ 16 }
@@ -19,12 +20,36 @@ fn put_string(out: &mut Vec<u8>, bytes: &[u8]) -> Result<(), Memory>
     Ok(())
 }
 
+/// A number of four bytes, the most significant first.
+pub fn put_u32(out: &mut Vec<u8>, number: u32) -> Result<(), Memory>
+    ensures written { OnOk result (out.new.items ≡ out.old.items ++ to_be_bytes w32 number) }
+{
+    out.extend_from_slice(&number.to_be_bytes())?;
+    Ok(())
+}
+
 /// A key: its length in two bytes, and its bytes.
 pub fn put_key(out: &mut Vec<u8>, key: &Key) -> Result<(), Memory>
     ensures written { OnOk result (out.new.items ≡ out.old.items ++ concat (string_fields key.now)) }
     ensures lawful { OnOk result (IsKey key.now) }
 {
     put_string(out, key.as_bytes())
+}
+
+/// A name: its length in two bytes, and its bytes.
+pub fn put_name(out: &mut Vec<u8>, name: &Name) -> Result<(), Memory>
+    ensures written { OnOk result (out.new.items ≡ out.old.items ++ concat (string_fields name.now)) }
+    ensures lawful { OnOk result (IsName name.now) }
+{
+    put_string(out, name.as_bytes())
+}
+
+/// A string of any bytes, fewer than 65,536: its length in two bytes, and its bytes.
+pub fn put_any_bytes(out: &mut Vec<u8>, bytes: &Bytes) -> Result<(), Memory>
+    requires { length bytes.now < 2 ^ 16 }
+    ensures written { OnOk result (out.new.items ≡ out.old.items ++ concat (string_fields bytes.now)) }
+{
+    put_string(out, bytes.as_bytes())
 }
 
 /// A text: its length in two bytes, and its bytes.
@@ -51,4 +76,26 @@ pub fn put_value(out: &mut Vec<u8>, value: &Value) -> Result<(), Memory>
             put_text(out, text)
         }
     }
+}
+
+/// Keys, one after another.
+pub fn put_keys(out: &mut Vec<u8>, keys: &[Key]) -> Result<(), Memory>
+    ensures written { OnOk result (out.new.items ≡ out.old.items ++ concat (flat_map string_fields keys.now)) }
+    ensures lawful { OnOk result (AllByRecursion IsKey keys.now) }
+{
+    for key in keys {
+        put_key(out, key)?;
+    }
+    Ok(())
+}
+
+/// Values, one after another.
+pub fn put_values(out: &mut Vec<u8>, values: &[Value]) -> Result<(), Memory>
+    ensures written { OnOk result (out.new.items ≡ out.old.items ++ concat (flat_map value_fields values.now)) }
+    ensures lawful { OnOk result (AllByRecursion IsValue values.now) }
+{
+    for value in values {
+        put_value(out, value)?;
+    }
+    Ok(())
 }

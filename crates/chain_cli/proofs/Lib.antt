@@ -1,10 +1,6 @@
 pub mod Commands
 pub mod Texts
 pub mod Telling
-pub mod Deps
-pub mod Lawful
-pub mod Chains
-pub mod Turns
 pub mod Wholes
 pub mod Fmts
 pub mod Outputs

@@ -16,9 +16,12 @@ use Rattle.block_codec.proofs.WholeBlocks.{decided}
 use Rattle.contract_parse.specs.Syntax.{Outcome as SourceOutcome, IsOutcome}
 use Rattle.contract_parse.proofs.Outcomes.{some_outcome, one_outcome}
 use Rattle.chain_cli.specs.declared.whole.TheConstants.{MAX_WHOLE_INPUT_BYTES}
-use Rattle.chain_cli.specs.Chain.{blocks_after_frame}
-use Rattle.chain_cli.specs.Output.{Fold, fold_after_frame, fold_step, fold_from, fold_input, Output, output_of, scan_output, usage_output, bad_input, source_outcome, IsFmt, Long, Source, Wants, IsOneOutput}
-use Rattle.chain_cli.specs.declared.cause.Cause.{Cause}
+use Rattle.chain_exec.specs.Compiled.{Compiler, compiled_in}
+use Rattle.chain_exec.proofs.TheLaws.{one_compiler}
+use Rattle.scan_chain.specs.Chain.{blocks_after_frame}
+use Rattle.scan_chain.specs.Folding.{Fold, fold_after_frame, fold_step, fold_from, fold_input}
+use Rattle.chain_cli.specs.Output.{Output, output_of, scan_output, usage_output, bad_input, source_outcome, IsFmt, Long, Source, Wants, IsOneOutput}
+use Rattle.scan_chain.specs.declared.cause.Cause.{Cause}
 use Rattle.chain_cli.specs.declared.words.Command.{Command}
 use Rattle.chain_cli.specs.declared.words.Command.TheVariants.{Scan, Fmt}
 
@@ -71,29 +74,33 @@ next_same : (f g : List Block → List ℕ → Fold) → ((blocks : List Block) 
 next_same f g same taken rest fits (Ok blocks) = same blocks rest fits
 next_same f g same taken rest fits (Err cause) = refl
 
-module _ (a b : Decoder) (is_a : IsDecoder a) (is_b : IsDecoder b) where
+module _ (compile : Compiler) (a b : Decoder) (is_a : IsDecoder a) (is_b : IsDecoder b) where
   step_same : (f g : List Block → List ℕ → Fold) → ((blocks : List Block) (input : List ℕ) → IsBytes input → f blocks input ≡ g blocks input) → (taken : ℕ) (blocks : List Block) (input : List ℕ) → IsBytes input
-      → (step : FrameStep) → frame_step taken input ≡ step → fold_step a f taken blocks input step ≡ fold_step b g taken blocks input step
+      → (step : FrameStep) → frame_step taken input ≡ step → fold_step a compile f taken blocks input step ≡ fold_step b compile g taken blocks input step
   step_same f g same taken blocks input fits End e = refl
   step_same f g same taken blocks input fits Truncated e = refl
   step_same f g same taken blocks input fits (Length count) e = refl
   step_same f g same taken blocks input fits Many e = refl
   step_same f g same taken blocks input fits (Frame frame rest) e =
       let bytes = frame_bytes taken input frame rest fits e in
-      ap (λ (r : Result Block ℕ). fold_after_frame f taken rest (blocks_after_frame blocks r)) (decoders_agree a b is_a is_b frame bytes.0)
-      ∙ next_same f g same taken rest bytes.1 (blocks_after_frame blocks (b frame))
+      ap (λ (r : Result Block ℕ). fold_after_frame f taken rest (blocks_after_frame compile blocks r)) (decoders_agree a b is_a is_b frame bytes.0)
+      ∙ next_same f g same taken rest bytes.1 (blocks_after_frame compile blocks (b frame))
 
-  fold_same : (more : ℕ) (blocks : List Block) (input : List ℕ) → IsBytes input → fold_from a more blocks input ≡ fold_from b more blocks input
+  fold_same : (more : ℕ) (blocks : List Block) (input : List ℕ) → IsBytes input → fold_from a compile more blocks input ≡ fold_from b compile more blocks input
   unfolding fold_from
   fold_same zero blocks input fits = refl
   fold_same (suc more) blocks input fits =
-      step_same (fold_from a more) (fold_from b more) (fold_same more) (MAX_FRAMES - more) blocks input fits (frame_step (MAX_FRAMES - more) input) refl
+      step_same (fold_from a compile more) (fold_from b compile more) (fold_same more) (MAX_FRAMES - more) blocks input fits (frame_step (MAX_FRAMES - more) input) refl
 
 one_scan : (query : Query) (input : List ℕ) → IsBytes input → IsOneOutput (Wants (Some (Scan query)) input)
 one_scan query input fits = record {
-  output = scan_output query (fold_input block_in input);
-  wanted = (block_in, decided, refl);
-  only = λ other is. is.2 ∙ ap (scan_output query) (fold_same is.0 block_in is.1 decided (MAX_FRAMES + 1) [] input fits);
+  output = scan_output compiled_in query (fold_input block_in compiled_in input);
+  wanted = (block_in, decided, compiled_in, one_compiler.is_compiler, refl);
+  only = λ other is.
+      let read : Decoder = is.0 in
+      let compile : Compiler = is.2 in
+      is.4 ∙ ap (scan_output compile query) (fold_same compile read block_in is.1 decided (MAX_FRAMES + 1) [] input fits)
+      ∙ ap (λ (c : Compiler). scan_output c query (fold_input block_in c input)) (one_compiler.only compile is.3);
 }
 
 one_usage : (input : List ℕ) → IsOneOutput (Wants None input)

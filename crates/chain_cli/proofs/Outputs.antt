@@ -6,9 +6,12 @@ use Rattle.lc_base.proofs.Telling.{told_nothing}
 use Rattle.lc_base.specs.declared.answer.Query.{Query}
 use Rattle.block_codec.specs.Reading.{block_in}
 use Rattle.block_codec.proofs.WholeBlocks.{decided}
+use Rattle.chain_exec.specs.Compiled.{compiled_in}
+use Rattle.chain_exec.proofs.TheLaws.{one_compiler}
+use Rattle.scan_chain.specs.Folding.{fold_input}
 use Rattle.chain_cli.specs.Words.{IsCommand}
 use Rattle.chain_cli.specs.Lines.{usage_line}
-use Rattle.chain_cli.specs.Output.{Output, output_of, scan_output, fold_input, status_of, usage_output, Wants, Meets}
+use Rattle.chain_cli.specs.Output.{Output, output_of, scan_output, status_of, usage_output, Wants, Meets}
 use Rattle.chain_cli.specs.Scanning.{GivesOutput, WantsOutcome}
 use Rattle.chain_cli.specs.Telling.{IsAnswered}
 use Rattle.chain_cli.specs.declared.outcome.Outcome.{Outcome}
@@ -16,14 +19,14 @@ use Rattle.chain_cli.specs.declared.outcome.Ending.{Ending}
 use Rattle.chain_cli.specs.declared.outcome.Ending.TheVariants as endings
 use Rattle.chain_cli.specs.declared.status.Status.{Status}
 use Rattle.chain_cli.specs.declared.status.Status.TheVariants as statuses
-use Rattle.chain_cli.specs.declared.stop.Stop.{Stop}
+use Rattle.scan_chain.specs.declared.stop.Stop.{Stop}
 use Rattle.chain_cli.specs.declared.words.Command.{Command}
 use Rattle.chain_cli.specs.declared.words.Command.TheVariants.{Scan}
 
-scanned : (input : List ℕ) (left : Option (List ℕ)) (query : Query) (outcome : Outcome) → GivesOutput outcome left (scan_output query (fold_input block_in input)) → WantsOutcome (Scan query) input outcome left
-scanned input left query outcome (is, rest) = ((scan_output query (fold_input block_in input)).left, rest, (block_in, decided, sym is))
+scanned : (input : List ℕ) (left : Option (List ℕ)) (query : Query) (outcome : Outcome) → GivesOutput outcome left (scan_output compiled_in query (fold_input block_in compiled_in input)) → WantsOutcome (Scan query) input outcome left
+scanned input left query outcome (is, rest) = ((scan_output compiled_in query (fold_input block_in compiled_in input)).left, rest, (block_in, decided, compiled_in, one_compiler.is_compiler, sym is))
 
-scan_here : (first left : Option (List ℕ)) (query : Query) (result : Result Outcome Stop) → IfSome first (λ input. IfOk result (λ outcome. GivesOutput outcome left (scan_output query (fold_input block_in input))))
+scan_here : (first left : Option (List ℕ)) (query : Query) (result : Result Outcome Stop) → IfSome first (λ input. IfOk result (λ outcome. GivesOutput outcome left (scan_output compiled_in query (fold_input block_in compiled_in input))))
     → IfSome first (λ input. IfOk result (λ outcome. WantsOutcome (Scan query) input outcome left))
 scan_here None left query result is = tt
 scan_here (Some input) left query (Err stop) is = tt
@@ -31,7 +34,7 @@ scan_here (Some input) left query (Ok outcome) is = scanned input left query out
 
 -- what a scan answers is what the command wants
 pub scan_wanted : (first left : Option (List ℕ)) (command : Command) (query : Query) (result : Result Outcome Stop) → command ≡ Scan query
-    → IfSome first (λ input. IfOk result (λ outcome. GivesOutput outcome left (scan_output query (fold_input block_in input)))) → IfSome first (λ input. IfOk result (λ outcome. WantsOutcome command input outcome left))
+    → IfSome first (λ input. IfOk result (λ outcome. GivesOutput outcome left (scan_output compiled_in query (fold_input block_in compiled_in input)))) → IfSome first (λ input. IfOk result (λ outcome. WantsOutcome command input outcome left))
 scan_wanted first left command query result is scan = subst (λ (given : Command). IfSome first (λ input. IfOk result (λ outcome. WantsOutcome given input outcome left))) (sym is) (scan_here first left query result scan)
 
 -- no answer is that of a source that failed

@@ -2,8 +2,6 @@ pub mod Words
 pub mod Texts
 pub mod Whole
 pub mod Lines
-pub mod Effect
-pub mod Chain
 pub mod Status
 pub mod Output
 pub mod Scanning

@@ -12,8 +12,8 @@ use Rattle.contract_check.specs.declared.fault.Fault.{Fault}
 use Rattle.contract_check.specs.declared.fault.CheckKind.{CheckKind}
 use Rattle.contract_check.specs.declared.fault.CheckKind.TheVariants as checks
 use Rattle.hex.specs.Hex.{encode_lower}
-use Rattle.chain_cli.specs.declared.cause.Cause.{Cause}
-use Rattle.chain_cli.specs.declared.cause.Cause.TheVariants as causes
+use Rattle.scan_chain.specs.declared.cause.Cause.{Cause}
+use Rattle.scan_chain.specs.declared.cause.Cause.TheVariants as causes
 
 -- A line ends with the byte 0x0A.
 abbrev pub line : List ℕ → List ℕ
@@ -57,6 +57,7 @@ cause_text (causes.Fork have) = codes "fork " ++ encode_lower have.0
 cause_text causes.Full = codes "full"
 cause_text (causes.Number want) = codes "number " ++ decimal want
 cause_text (causes.Parent want) = codes "parent " ++ encode_lower want.0
+cause_text (causes.Budget sum) = codes "budget " ++ decimal sum
 
 -- Which frame of the input was refused, from 0, and why.
 abbrev pub refused_line : ℕ → Cause → List ℕ

@@ -1,12 +1,10 @@
 -- What a command wants told of an input, how it ends, and what it leaves of the input.
-use Rattle.std.specs.Prelude.{◌≡◌, ℕ, zero, suc, ◌+◌, ◌-◌, ◌<◌, ◌≤◌, ◌==◌, nat_lt, if◌then◌else◌, List, [], ◌∷◌, length, drop, Option, Some, None, Result, Ok, Err, codes}
+use Rattle.std.specs.Prelude.{◌≡◌, ℕ, ◌+◌, ◌-◌, ◌<◌, ◌≤◌, ◌==◌, nat_lt, if◌then◌else◌, List, [], ◌∷◌, length, drop, Option, Some, None, Ok, Err, codes}
 use Rattle.std.specs.List.{concat}
 use Rattle.lc_base.specs.Outside.{Tell, Told, ToldPrefix}
 use Rattle.lc_base.specs.History.{scan}
 use Rattle.lc_base.specs.declared.answer.Query.{Query}
-use Rattle.block_codec.specs.Frames.{FrameStep, End, Truncated, Length, Many, Frame, frame_step}
 use Rattle.block_codec.specs.Spelling.{Decoder, IsDecoder}
-use Rattle.block_codec.specs.declared.limits.TheConstants.{MAX_FRAMES}
 use Rattle.block_codec.specs.declared.block.Block.{Block}
 use Rattle.chain_cli.specs.Lines.{usage_line, empty_line, head_line, refused_line, answer_lines, bad_input_line, syntax_cause, check_cause}
 use Rattle.contract_tree.specs.Tree.{FunctionTree}
@@ -18,50 +16,14 @@ use Rattle.chain_cli.specs.Texts.{lines_of}
 use Rattle.chain_cli.specs.declared.whole.TheConstants.{MAX_WHOLE_INPUT_BYTES}
 use Rattle.chain_cli.specs.declared.words.Command.{Command}
 use Rattle.chain_cli.specs.declared.words.Command.TheVariants.{Scan, Fmt}
-use Rattle.chain_cli.specs.Effect.{replay}
-use Rattle.chain_cli.specs.Chain.{blocks_after_frame}
-use Rattle.chain_cli.specs.declared.cause.Cause.{Cause}
-use Rattle.chain_cli.specs.declared.cause.Cause.TheVariants as causes
+use Rattle.chain_exec.specs.Compiled.{Compiler, IsCompiler}
+use Rattle.chain_exec.specs.Replay.{replay}
+use Rattle.scan_chain.specs.Folding.{Fold, Whole, Refused, fold_input}
 use Rattle.chain_cli.specs.declared.outcome.Outcome.{Outcome}
 use Rattle.chain_cli.specs.declared.outcome.Ending.{Ending}
 use Rattle.chain_cli.specs.declared.outcome.Ending.TheVariants as endings
 use Rattle.chain_cli.specs.declared.status.Status.{Status}
 use Rattle.chain_cli.specs.declared.status.Status.TheVariants as statuses
-
--- ---- the frames of an input
-
--- Where the frames of an input end: with all of them taken into a chain, or with one refused. Then
--- its number is told, from 0, why it is refused, and what follows what was taken of the input.
-pub data Fold : Type 0 where
-  Whole : List Block → Fold
-  Refused : ℕ → Cause → List ℕ → Fold
-
--- The fold goes on by `next` where a frame was taken in, and ends where it is refused.
-abbrev pub fold_after_frame : (List Block → List ℕ → Fold) → ℕ → List ℕ → Result (List Block) Cause → Fold
-fold_after_frame next taken rest (Ok blocks) = next blocks rest
-fold_after_frame next taken rest (Err cause) = Refused taken cause rest
-
--- One step of the fold, by what stands at the start of the input, after so many frames were taken;
--- `read` says what the bytes of a frame spell.
-abbrev pub fold_step : Decoder → (List Block → List ℕ → Fold) → ℕ → List Block → List ℕ → FrameStep → Fold
-fold_step read next taken blocks input End = Whole blocks
-fold_step read next taken blocks input Truncated = Refused taken causes.Truncated []
-fold_step read next taken blocks input (Length count) = Refused taken (causes.Length count) (drop 4 input)
-fold_step read next taken blocks input Many = Refused taken causes.Many (drop 4 input)
-fold_step read next taken blocks input (Frame frame rest) =
-    fold_after_frame next taken rest (blocks_after_frame blocks (read frame))
-
--- The frames of an input, taken one by one after those blocks. `more` is how often to look at the
--- start of the input: an input has at most MAX_FRAMES frames, so looking once more than that
--- reaches its end.
-unfoldable pub fold_from : Decoder → ℕ → List Block → List ℕ → Fold
-fold_from read zero blocks input = Whole blocks
-fold_from read (suc more) blocks input =
-    fold_step read (fold_from read more) (MAX_FRAMES - more) blocks input (frame_step (MAX_FRAMES - more) input)
-
--- The frames of an input, from no block.
-abbrev pub fold_input : Decoder → List ℕ → Fold
-fold_input read input = fold_from read (MAX_FRAMES + 1) [] input
 
 -- ---- the commands
 
@@ -87,17 +49,17 @@ abbrev pub output_of : Outcome → List ℕ → Output
 output_of outcome left = record { lines = outcome.lines; status = status_of outcome.ending; left = left }
 
 -- The answer over the rows of a chain, where it is asked for up to one of its blocks.
-abbrev pub answer_outcome : Query → List Block → Outcome
-answer_outcome query blocks =
+abbrev pub answer_outcome : Compiler → Query → List Block → Outcome
+answer_outcome compile query blocks =
     if length blocks == 0 then outcome_with (empty_line ∷ []) endings.Beyond
     else (if nat_lt query.at (length blocks)
-    then outcome_with (answer_lines (scan (replay blocks) query)) endings.Done
+    then outcome_with (answer_lines (scan (replay compile blocks).rows query)) endings.Done
     else outcome_with (head_line (length blocks - 1) ∷ []) endings.Beyond)
 
 -- What `scan` tells: a refused frame decides, wherever it stands.
-abbrev pub scan_output : Query → Fold → Output
-scan_output query (Whole blocks) = output_of (answer_outcome query blocks) []
-scan_output query (Refused frame cause left) =
+abbrev pub scan_output : Compiler → Query → Fold → Output
+scan_output compile query (Whole blocks) = output_of (answer_outcome compile query blocks) []
+scan_output compile query (Refused frame cause left) =
     output_of (outcome_with (refused_line frame cause ∷ []) endings.Refused) left
 
 -- Words that are no command give `usage`, and leave the input.
@@ -147,7 +109,8 @@ FormatsAgain input =
 abbrev pub Wants : Option Command → List ℕ → Output → Type 0
 Wants None input output = output ≡ usage_output input
 Wants (Some (Scan query)) input output =
-    (read : Decoder) × IsDecoder read × (output ≡ scan_output query (fold_input read input))
+    (read : Decoder) × IsDecoder read × (compile : Compiler) × IsCompiler compile
+    × (output ≡ scan_output compile query (fold_input read compile input))
 Wants (Some Fmt) input output = IsFmt input output
 
 -- There is an output that is wanted, and no other.

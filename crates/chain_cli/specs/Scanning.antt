@@ -1,62 +1,8 @@
--- What the scan of an input answers, for its definition.
-use Rattle.std.specs.Prelude.{◌≡◌, ℕ, ◌+◌, ◌≤◌, List, [], Option, Some, Result, Ok, Err}
-use Rattle.block_codec.specs.Frames.{frame_step}
-use Rattle.block_codec.specs.declared.limits.TheConstants.{MAX_FRAMES}
-use Rattle.block_codec.specs.Reading.{block_in}
-use Rattle.block_codec.specs.declared.block.Block.{Block}
-use Rattle.chain_cli.specs.Chain.{ChainState, StandsFor}
-use Rattle.chain_cli.specs.Output.{Fold, Whole, Refused, fold_step, Output, output_of, IsFmt, Wants}
+-- What the commands of the program answer, for their definitions.
+use Rattle.std.specs.Prelude.{◌≡◌, ℕ, List, Option, Some}
+use Rattle.chain_cli.specs.Output.{Output, output_of, IsFmt, Wants}
 use Rattle.chain_cli.specs.declared.words.Command.{Command}
 use Rattle.chain_cli.specs.declared.outcome.Outcome.{Outcome}
-use Rattle.block_codec.specs.declared.frames.FrameError.{FrameError}
-use Rattle.block_codec.specs.declared.frames.FrameError.TheVariants as frames
-use Rattle.chain_cli.specs.declared.cause.Cause.{Cause}
-use Rattle.chain_cli.specs.declared.cause.Cause.TheVariants as causes
-use Rattle.chain_cli.specs.declared.folding.Folded.{Folded}
-use Rattle.chain_cli.specs.declared.folding.Folded.TheVariants as found
-use Rattle.chain_cli.specs.declared.folding.Turn.{Turn}
-use Rattle.chain_cli.specs.declared.folding.Turn.TheVariants as turns
-use Rattle.chain_cli.specs.declared.stop.Stop.{Stop}
-use Rattle.chain_cli.specs.declared.stop.Stop.TheVariants.{Fault, Memory}
-
--- The fold is found where it ends, with a chain that stands for its blocks, and what follows is
--- left.
-abbrev pub IsFoldResult : Folded → Option (List ℕ) → Fold → Type 0
-IsFoldResult (found.Whole chain) left fold = (blocks : List Block) × (fold ≡ Whole blocks) × StandsFor chain blocks × (left ≡ Some [])
-IsFoldResult (found.Refused frame cause) left fold = (rest : List ℕ) × (fold ≡ Refused frame cause rest) × (left ≡ Some rest)
-
--- What an error of the frames says of the input, or that it says nothing.
-abbrev pub IsCauseOf : FrameError → Result Cause Stop → Type 0
-IsCauseOf frames.Truncated result = result ≡ Ok causes.Truncated
-IsCauseOf (frames.Length count) result = result ≡ Ok (causes.Length count)
-IsCauseOf frames.Many result = result ≡ Ok causes.Many
-IsCauseOf frames.Fault result = result ≡ Err Fault
-IsCauseOf frames.Memory result = result ≡ Err Memory
-
--- ---- one look at the start of an input
-
--- One step of the fold at the start of an input.
-abbrev pub step_at_start : (List Block → List ℕ → Fold) → ℕ → List Block → List ℕ → Fold
-step_at_start next taken blocks input = fold_step block_in next taken blocks input (frame_step taken input)
-
--- What a look at the start of the input finds, of which so many frames were taken into a chain:
--- that it has ended, a chain with the frame taken in and what follows it, or why the frame is
--- refused and what follows what was taken.
-abbrev pub FindsTurn : ChainState → ℕ → List Block → List ℕ → Option (List ℕ) → Turn → Type 0
-FindsTurn chain taken blocks input left (turns.Ended same) = (same ≡ chain) × (left ≡ Some []) × ((next : List Block → List ℕ → Fold) → step_at_start next taken blocks input ≡ Whole blocks)
-FindsTurn chain taken blocks input left (turns.Taken longer more) =
-    (more_blocks : List Block) × (rest : List ℕ) × StandsFor longer more_blocks × (left ≡ Some rest) × ((next : List Block → List ℕ → Fold) → step_at_start next taken blocks input ≡ next more_blocks rest)
-FindsTurn chain taken blocks input left (turns.Refused cause) =
-    (rest : List ℕ) × (left ≡ Some rest) × ((next : List Block → List ℕ → Fold) → step_at_start next taken blocks input ≡ Refused taken cause rest)
-
--- The same, whatever blocks the chain stands for.
-abbrev pub IsTurn : ChainState → ℕ → List ℕ → Option (List ℕ) → Turn → Type 0
-IsTurn chain taken input left turn = (blocks : List Block) → StandsFor chain blocks → FindsTurn chain taken blocks input left turn
-
--- A frame that is taken in is counted, and at most MAX_FRAMES are.
-abbrev pub CountsFrames : ℕ → Turn → Type 0
-CountsFrames taken (turns.Taken longer more) = (more ≡ taken + 1) × (more ≤ MAX_FRAMES)
-CountsFrames taken turn = Unit {0}
 
 -- An outcome, and what is left of the input, are the output.
 abbrev pub GivesOutput : Outcome → Option (List ℕ) → Output → Type 0

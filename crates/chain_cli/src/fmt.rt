@@ -12,12 +12,12 @@ ghost use Rattle.chain_cli.specs.Texts.{last_line, lines_after, lines_of};
 
 use crate::lines::bad_input_line;
 use crate::outcome::{Ending, Outcome};
-use crate::stop::Stop;
 use crate::whole::read_whole;
 use contract_check::{CheckError, CheckKind, check};
 use contract_parse::{Contract, SyntaxError, SyntaxKind, parse};
 use contract_print::print;
 use lc_base::{Bytes, Memory, Seq, Source};
+use scan_chain::Stop;
 use std::alloc::{AllocError, Global};
 use std::mem;
 

@@ -1,17 +1,12 @@
 //! The ledger at the command line: what each command tells of its words and its input.
 #![tactic(auto)]
 
-mod cause;
-mod chain;
-mod effect;
 mod fmt;
-mod folding;
 mod lines;
 mod outcome;
 pub mod run;
 mod scan;
 mod status;
-mod stop;
 mod whole;
 mod words;
 

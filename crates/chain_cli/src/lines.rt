@@ -5,8 +5,8 @@ ghost use Rattle.std.specs.Fmt.{signed_decimal};
 ghost use Rattle.chain_cli.specs.Lines.{usage_line, empty_line, head_line, cause_text, refused_line, value_text, dep_line, answer_lines, bad_input_line, line};
 ghost use Rattle.hex.specs.Hex.{encode_lower};
 
-use crate::cause::Cause;
 use lc_base::{Answer, Bytes, Dep, DepList, Digest, Memory, Seq, Value};
+use scan_chain::Cause;
 use std::alloc::{AllocError, Global};
 
 fn line(alloc: Global, text: &str) -> Result<Bytes, Memory>
@@ -62,6 +62,7 @@ fn cause_text(alloc: Global, cause: &Cause) -> Result<String, AllocError>
         Cause::Full => String::from_str(alloc, "full"),
         Cause::Number(want) => format!(in alloc; "number {want}"),
         Cause::Parent(want) => digest_text(alloc, "parent ", want),
+        Cause::Budget(sum) => format!(in alloc; "budget {sum}"),
     }
 }
 

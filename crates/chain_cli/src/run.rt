@@ -15,9 +15,9 @@ use crate::lines::usage_line;
 use crate::outcome::Outcome;
 use crate::scan::scan;
 use crate::status::Status;
-use crate::stop::Stop;
 use crate::words::{Command, command_of};
 use lc_base::{Bytes, Failed, Memory, Source, Wire};
+use scan_chain::Stop;
 use std::alloc::Global;
 
 /// Tells each line by itself, in order.

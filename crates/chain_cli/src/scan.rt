@@ -4,18 +4,17 @@ ghost use Rattle.lc_base.specs.Outside.{HasCause};
 ghost use Rattle.std.specs.Prelude.{◌≡◌, [], ◌∷◌, IfOk, IfSome, List, IsErrOf};
 ghost use Rattle.block_codec.specs.Reading.{block_in};
 ghost use Rattle.block_codec.specs.declared.block.Block.{Block as Blocks};
-ghost use Rattle.chain_cli.specs.Chain.{StandsFor};
-ghost use Rattle.chain_cli.specs.Output.{outcome_with, answer_outcome, scan_output, fold_input};
+ghost use Rattle.scan_chain.specs.Chain.{StandsFor};
+ghost use Rattle.chain_cli.specs.Output.{outcome_with, answer_outcome, scan_output};
+ghost use Rattle.chain_exec.specs.Compiled.{compiled_in};
+ghost use Rattle.scan_chain.specs.Folding.{fold_input};
 ghost use Rattle.chain_cli.specs.Scanning.{GivesOutput};
 ghost use Rattle.chain_cli.specs.Lines.{refused_line};
 
-use crate::cause::Cause;
-use crate::chain::Chain;
-use crate::folding::{Folded, fold};
 use crate::lines::{answer_lines, empty_line, head_line, refused_line};
 use crate::outcome::{Ending, Outcome};
-use crate::stop::Stop;
 use lc_base::{Memory, Query, Source};
+use scan_chain::{Cause, Chain, Folded, Stop, fold};
 use std::alloc::Global;
 
 /// A frame is refused.
@@ -27,7 +26,7 @@ fn refused(alloc: Global, frame: u32, cause: &Cause) -> Result<Outcome, Memory>
 
 /// The answer over the rows of a chain, if it is asked for up to one of its blocks.
 fn answer_outcome(alloc: Global, query: &Query, chain: &mut Chain) -> Result<Outcome, Memory>
-    ensures { IfOk result (λ outcome. (blocks : List Blocks) → StandsFor chain.old blocks → outcome ≡ answer_outcome query.now blocks) }
+    ensures { IfOk result (λ outcome. (blocks : List Blocks) → StandsFor chain.old blocks → outcome ≡ answer_outcome compiled_in query.now blocks) }
 {
     let count = chain.len();
     if count == 0 {
@@ -43,16 +42,21 @@ fn answer_outcome(alloc: Global, query: &Query, chain: &mut Chain) -> Result<Out
     })
 }
 
+/// The same of a chain that is given up.
+fn whole_outcome(alloc: Global, query: &Query, chain: Chain) -> Result<Outcome, Memory>
+    ensures { IfOk result (λ outcome. (blocks : List Blocks) → StandsFor chain blocks → outcome ≡ answer_outcome compiled_in query.now blocks) }
+{
+    let mut chain = chain;
+    answer_outcome(alloc, query, &mut chain)
+}
+
 /// The answer to a question over the blocks of an input.
 pub fn scan<I: Source>(alloc: Global, query: &Query, source: &mut I) -> Result<Outcome, Stop>
-    ensures outcome { IfSome (I.left source.old) (λ input. IfOk result (λ outcome. GivesOutput outcome (I.left source.new) (scan_output query.now (fold_input block_in input)))) }
+    ensures outcome { IfSome (I.left source.old) (λ input. IfOk result (λ outcome. GivesOutput outcome (I.left source.new) (scan_output compiled_in query.now (fold_input block_in compiled_in input)))) }
     ensures cause { HasCause (I.source_faults source.old) (I.source_faults source.new) (IsErrOf result Stop.Fault) }
 {
     match fold(alloc, source)? {
-        Folded::Whole(chain) => {
-            let mut chain = chain;
-            Ok(answer_outcome(alloc, query, &mut chain)?)
-        }
+        Folded::Whole(chain) => Ok(whole_outcome(alloc, query, chain)?),
         Folded::Refused { frame, cause } => Ok(refused(alloc, frame, &cause)?),
     }
 }

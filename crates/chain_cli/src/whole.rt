@@ -5,8 +5,8 @@ ghost use Rattle.std.specs.Prelude.{◌≡◌, ◌<◌, ◌≤◌, length, vec_l
 ghost use Rattle.chain_cli.specs.declared.whole.TheConstants.{MAX_WHOLE_INPUT_BYTES};
 ghost use Rattle.chain_cli.specs.Whole.{IsWholeInput};
 
-use crate::stop::Stop;
 use lc_base::{Bytes, Source};
+use scan_chain::Stop;
 use std::alloc::{AllocError, Global};
 
 /// The greatest number of bytes of an input that is read whole.

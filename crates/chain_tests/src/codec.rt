@@ -30,7 +30,9 @@ fn two_sets(rt: HostRuntime) -> Result<(), Fail> {
     let [first, second] = block.txs.as_slice() else {
         return Err(Fail::from("two transactions"));
     };
-    let Tx::Set { value, deps, .. } = first;
+    let Tx::Set { value, deps, .. } = first else {
+        return Err(Fail::from("a Set"));
+    };
     assert!(rt; matches!(value, Value::Int(8)));
     assert_eq!(rt; deps.len(), 0);
     let Tx::Set {
@@ -38,7 +40,10 @@ fn two_sets(rt: HostRuntime) -> Result<(), Fail> {
         key,
         value,
         deps,
-    } = second;
+    } = second
+    else {
+        return Err(Fail::from("a Set"));
+    };
     assert_eq!(rt; sender.as_bytes(), b"u".as_slice());
     assert_eq!(rt; key.as_bytes(), b"raw/b".as_slice());
     assert!(rt; matches!(value, Value::Text(text) if text.as_bytes() == b"hi".as_slice()));

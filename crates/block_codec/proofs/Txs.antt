@@ -1,0 +1,206 @@
+-- What is read of a transaction is spelled so, and what is spelled so is read.
+use Rattle.std.proofs.Common.{◌≡◌, ℕ, zero, suc, ◌<◌, ◌≤◌, true, List, [], ◌∷◌, ◌++◌, length, refl, append_assoc, arith}
+use Rattle.std.specs.Prelude.{nat_le}
+use Rattle.std.specs.List.{flat_map, AllByRecursion}
+use Rattle.std.specs.Int.{w32, to_be_bytes}
+use Rattle.std.proofs.lemmas.Bool.{leb-true, le-leb, ne_eqb}
+use Rattle.lc_base.specs.KeyBytes.{IsKey}
+use Rattle.lc_base.specs.NameBytes.{IsName}
+use Rattle.lc_base.specs.declared.value.Value.{Value}
+use Rattle.lc_base.specs.declared.value.Value.TheVariants.{Text}
+use Rattle.byte_fields.specs.Spelling.{string_fields, value_fields, IsValue}
+use Rattle.byte_fields.specs.Reading.{ruled_at, number_at}
+use Rattle.byte_fields.proofs.Laws.{IsField, renamed, bind_field, then_field, made_field}
+use Rattle.byte_fields.proofs.Items.{counted_field}
+use Rattle.byte_fields.proofs.Pieces.{piece_field, ruled_piece, number_piece, byte_piece, wide32}
+use Rattle.byte_fields.proofs.Fields.{key_field, name_field, any_bytes_field, value_field}
+use Rattle.lc_base.specs.declared.limits.TheConstants.{MAX_DEPS}
+use Rattle.block_codec.specs.declared.limits.TheConstants.{MAX_ARGS, MAX_CALL_BUDGET, MAX_SOURCE_BYTES}
+use Rattle.block_codec.specs.declared.block.TheConstants.{SET, DEPLOY, CALL}
+use Rattle.block_codec.specs.declared.block.Tx.{Tx}
+use Rattle.block_codec.specs.declared.block.Tx.TheVariants.{Set, Deploy, Call}
+use Rattle.block_codec.specs.Spelling.{IsTx, set_fields, deploy_fields, call_fields, tx_fields}
+use Rattle.block_codec.specs.Reading.{dep_keys_at, set_of, set_at, deploy_of, deploy_at, args_at, call_of, call_at, is_kind, kind_at, tx_at}
+
+-- ---- the kinds
+
+abbrev kind_of : Tx → ℕ
+kind_of (Set sender key value deps) = SET
+kind_of (Deploy sender name source) = DEPLOY
+kind_of (Call sender contract function args budget) = CALL
+
+-- what stands after the kind
+abbrev after_kind : Tx → List (List ℕ)
+after_kind (Set sender key value deps) = set_fields sender key value deps
+after_kind (Deploy sender name source) = deploy_fields sender name source
+after_kind (Call sender contract function args budget) = call_fields sender contract function args budget
+
+-- a transaction of this kind
+abbrev HasKind : ℕ → Tx → Type 0
+HasKind kind tx = (kind_of tx ≡ kind) × IsTx tx
+
+-- ---- a Set
+
+-- at most MAX_DEPS keys
+AreDeps : List (List ℕ) → Type 0
+AreDeps keys = (length keys ≤ MAX_DEPS) × AllByRecursion IsKey keys
+
+dep_fields : List (List ℕ) → List (List ℕ)
+dep_fields keys = (length keys ∷ []) ∷ flat_map string_fields keys
+
+deps_field : IsField dep_keys_at dep_fields AreDeps
+unfolding dep_keys_at dep_fields AreDeps
+deps_field =
+    let count = piece_field (ruled_piece byte_piece (λ n. nat_le n MAX_DEPS) (record { value = 0; is = (omega arith, refl) })) in
+    renamed (counted_field count key_field)
+    (λ keys is. (leb-true _ _ is.0.1, is.1)) (λ keys is. ((omega (arith, is.0), le-leb _ _ is.0), is.1)) (λ keys is. refl)
+
+-- what a Set has, in order
+abbrev SetParts : Type 0
+SetParts = List ℕ × (List ℕ × (Value × List (List ℕ)))
+
+abbrev set_parts : Tx → SetParts
+set_parts (Set sender key value deps) = (sender, (key, (value, deps)))
+set_parts (Deploy sender name source) = ([], ([], (Text [], [])))
+set_parts (Call sender contract function args budget) = ([], ([], (Text [], [])))
+
+abbrev AreSetParts : SetParts → Type 0
+AreSetParts parts = IsKey parts.0 × (IsKey parts.1.0 × (IsValue parts.1.1.0 × AreDeps parts.1.1.1))
+
+is_set : (tx : Tx) → AreSetParts (set_parts tx) × (tx ≡ set_of (set_parts tx)) → HasKind SET tx
+unfolding AreDeps
+is_set (Set sender key value deps) is = (refl, record { sender_is_key = is.0.0; key_is_key = is.0.1.0; value_is_value = is.0.1.1.0; few_deps = is.0.1.1.1.0; deps_are_keys = is.0.1.1.1.1 })
+is_set (Deploy sender name source) is = absurd cc
+is_set (Call sender contract function args budget) is = absurd cc
+
+set_is : (tx : Tx) → HasKind SET tx → AreSetParts (set_parts tx) × (tx ≡ set_of (set_parts tx))
+unfolding AreDeps
+set_is (Set sender key value deps) is = let s = is.1 in ((s.sender_is_key, (s.key_is_key, (s.value_is_value, (s.few_deps, s.deps_are_keys)))), refl)
+set_is (Deploy sender name source) is = absurd cc
+set_is (Call sender contract function args budget) is = absurd cc
+
+same_set : (tx : Tx) → tx ≡ set_of (set_parts tx) → string_fields (set_parts tx).0 ++ (string_fields (set_parts tx).1.0 ++ (value_fields (set_parts tx).1.1.0 ++ dep_fields (set_parts tx).1.1.1)) ≡ after_kind tx
+unfolding dep_fields
+same_set (Set sender key value deps) is = simp append_assoc
+same_set (Deploy sender name source) is = absurd cc
+same_set (Call sender contract function args budget) is = absurd cc
+
+set_field : IsField set_at after_kind (HasKind SET)
+unfolding set_at
+set_field = renamed (made_field set_of set_parts (then_field key_field (then_field key_field (then_field value_field deps_field))) (λ parts is. refl)) is_set set_is (λ tx is. same_set tx is.1)
+
+-- ---- a Deploy
+
+-- what a Deploy has, in order
+abbrev DeployParts : Type 0
+DeployParts = List ℕ × (List ℕ × List ℕ)
+
+abbrev deploy_parts : Tx → DeployParts
+deploy_parts (Set sender key value deps) = ([], ([], []))
+deploy_parts (Deploy sender name source) = (sender, (name, source))
+deploy_parts (Call sender contract function args budget) = ([], ([], []))
+
+abbrev AreDeployParts : DeployParts → Type 0
+AreDeployParts parts = IsKey parts.0 × (IsName parts.1.0 × (length parts.1.1 ≤ MAX_SOURCE_BYTES))
+
+is_deploy : (tx : Tx) → AreDeployParts (deploy_parts tx) × (tx ≡ deploy_of (deploy_parts tx)) → HasKind DEPLOY tx
+is_deploy (Set sender key value deps) is = absurd cc
+is_deploy (Deploy sender name source) is = (refl, record { sender_is_key = is.0.0; name_is_name = is.0.1.0; short_source = is.0.1.1 })
+is_deploy (Call sender contract function args budget) is = absurd cc
+
+deploy_is : (tx : Tx) → HasKind DEPLOY tx → AreDeployParts (deploy_parts tx) × (tx ≡ deploy_of (deploy_parts tx))
+deploy_is (Set sender key value deps) is = absurd cc
+deploy_is (Deploy sender name source) is = let d = is.1 in ((d.sender_is_key, (d.name_is_name, d.short_source)), refl)
+deploy_is (Call sender contract function args budget) is = absurd cc
+
+same_deploy : (tx : Tx) → tx ≡ deploy_of (deploy_parts tx) → string_fields (deploy_parts tx).0 ++ (string_fields (deploy_parts tx).1.0 ++ string_fields (deploy_parts tx).1.1) ≡ after_kind tx
+same_deploy (Set sender key value deps) is = absurd cc
+same_deploy (Deploy sender name source) is = simp append_assoc
+same_deploy (Call sender contract function args budget) is = absurd cc
+
+deploy_field : IsField deploy_at after_kind (HasKind DEPLOY)
+unfolding deploy_at
+deploy_field = renamed (made_field deploy_of deploy_parts (then_field key_field (then_field name_field (any_bytes_field MAX_SOURCE_BYTES (omega arith)))) (λ parts is. refl)) is_deploy deploy_is (λ tx is. same_deploy tx is.1)
+
+-- ---- a Call
+
+-- at most MAX_ARGS values
+AreArgs : List Value → Type 0
+AreArgs args = (length args ≤ MAX_ARGS) × AllByRecursion IsValue args
+
+arg_fields : List Value → List (List ℕ)
+arg_fields args = (length args ∷ []) ∷ flat_map value_fields args
+
+args_field : IsField args_at arg_fields AreArgs
+unfolding args_at arg_fields AreArgs
+args_field =
+    let count = piece_field (ruled_piece byte_piece (λ n. nat_le n MAX_ARGS) (record { value = 0; is = (omega arith, refl) })) in
+    renamed (counted_field count value_field)
+    (λ args is. (leb-true _ _ is.0.1, is.1)) (λ args is. ((omega (arith, is.0), le-leb _ _ is.0), is.1)) (λ args is. refl)
+
+budget_field : IsField (ruled_at (λ n. nat_le n MAX_CALL_BUDGET) (number_at w32)) (λ n. to_be_bytes w32 n ∷ []) (λ n. n ≤ MAX_CALL_BUDGET)
+budget_field =
+    renamed (piece_field (ruled_piece (number_piece wide32) (λ n. nat_le n MAX_CALL_BUDGET) (record { value = 0; is = (omega arith, refl) })))
+    (λ n is. leb-true _ _ is.1) (λ n is. (omega (arith, is), le-leb _ _ is)) (λ n is. refl)
+
+-- what a Call has, in order
+abbrev CallParts : Type 0
+CallParts = List ℕ × (List ℕ × (List ℕ × (List Value × ℕ)))
+
+abbrev call_parts : Tx → CallParts
+call_parts (Set sender key value deps) = ([], ([], ([], ([], 0))))
+call_parts (Deploy sender name source) = ([], ([], ([], ([], 0))))
+call_parts (Call sender contract function args budget) = (sender, (contract, (function, (args, budget))))
+
+abbrev AreCallParts : CallParts → Type 0
+AreCallParts parts = IsKey parts.0 × (IsName parts.1.0 × (IsName parts.1.1.0 × (AreArgs parts.1.1.1.0 × (parts.1.1.1.1 ≤ MAX_CALL_BUDGET))))
+
+is_call : (tx : Tx) → AreCallParts (call_parts tx) × (tx ≡ call_of (call_parts tx)) → HasKind CALL tx
+unfolding AreArgs
+is_call (Set sender key value deps) is = absurd cc
+is_call (Deploy sender name source) is = absurd cc
+is_call (Call sender contract function args budget) is =
+    let p = is.0 in
+    (refl, record { sender_is_key = p.0; contract_is_name = p.1.0; function_is_name = p.1.1.0; few_args = p.1.1.1.0.0; args_are_values = p.1.1.1.0.1; low_budget = p.1.1.1.1 })
+
+call_is : (tx : Tx) → HasKind CALL tx → AreCallParts (call_parts tx) × (tx ≡ call_of (call_parts tx))
+unfolding AreArgs
+call_is (Set sender key value deps) is = absurd cc
+call_is (Deploy sender name source) is = absurd cc
+call_is (Call sender contract function args budget) is = let c = is.1 in ((c.sender_is_key, (c.contract_is_name, (c.function_is_name, ((c.few_args, c.args_are_values), c.low_budget)))), refl)
+
+same_call : (tx : Tx) → tx ≡ call_of (call_parts tx)
+    → string_fields (call_parts tx).0 ++ (string_fields (call_parts tx).1.0 ++ (string_fields (call_parts tx).1.1.0 ++ (arg_fields (call_parts tx).1.1.1.0 ++ to_be_bytes w32 (call_parts tx).1.1.1.1 ∷ []))) ≡ after_kind tx
+unfolding arg_fields
+same_call (Set sender key value deps) is = absurd cc
+same_call (Deploy sender name source) is = absurd cc
+same_call (Call sender contract function args budget) is = simp append_assoc
+
+call_field : IsField call_at after_kind (HasKind CALL)
+unfolding call_at
+call_field = renamed (made_field call_of call_parts (then_field key_field (then_field name_field (then_field name_field (then_field args_field budget_field)))) (λ parts is. refl)) is_call call_is (λ tx is. same_call tx is.1)
+
+-- ---- a transaction
+
+kinds_field : (kind : ℕ) → (kind < 256) × (is_kind kind ≡ true) → IsField (kind_at kind) after_kind (HasKind kind)
+kinds_field zero is = absurd cc
+kinds_field (suc zero) is = set_field
+kinds_field (suc (suc zero)) is = deploy_field
+kinds_field (suc (suc (suc zero))) is = call_field
+kinds_field (suc (suc (suc (suc n)))) is = let kind = suc (suc (suc (suc n))) in absurd (cc (is.1, ne_eqb kind SET (omega arith), ne_eqb kind DEPLOY (omega arith), ne_eqb kind CALL (omega arith)))
+
+kinds_are : (tx : Tx) → IsTx tx → ((kind_of tx < 256) × (is_kind (kind_of tx) ≡ true)) × HasKind (kind_of tx) tx
+kinds_are (Set sender key value deps) is = ((omega arith, refl), (refl, is))
+kinds_are (Deploy sender name source) is = ((omega arith, refl), (refl, is))
+kinds_are (Call sender contract function args budget) is = ((omega arith, refl), (refl, is))
+
+same_tx : (tx : Tx) → (kind_of tx ∷ []) ∷ after_kind tx ≡ tx_fields tx
+same_tx (Set sender key value deps) = refl
+same_tx (Deploy sender name source) = refl
+same_tx (Call sender contract function args budget) = refl
+
+pub tx_field : IsField tx_at tx_fields IsTx
+unfolding tx_at
+tx_field =
+    let kind = piece_field (ruled_piece byte_piece is_kind (record { value = SET; is = (omega arith, refl) })) in
+    renamed (bind_field {Is_b = HasKind} kind_of kind kinds_field (λ kind tx is is_tx. is_tx.0)) (λ tx is. is.1.1) kinds_are (λ tx is. same_tx tx)

@@ -1,0 +1,6 @@
+mod Compilers
+mod TxRows
+pub mod BlockSteps
+mod SameEffects
+mod Told
+pub mod TheLaws

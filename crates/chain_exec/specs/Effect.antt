@@ -1,0 +1,129 @@
+-- What a transaction does: how it ends, what it costs, and the rows and the code that it leaves.
+use Rattle.std.specs.Prelude.{ℕ, Bool, ◌||◌, not, ◌==◌, if◌then◌else◌, List, [], ◌∷◌, Option, Some, None, is_some, codes}
+use Rattle.std.specs.Option.{option_map}
+use Rattle.std.specs.List.{list_any, filter_map, starts_with}
+use Rattle.std.specs.Map.{lookup}
+use Rattle.std.specs.Cmp.Lexicographic.{pointwise}
+use Rattle.lc_base.specs.Deps.{without_repeats}
+use Rattle.lc_base.specs.History.{newest, version_of}
+use Rattle.lc_base.specs.declared.row.Dep.{Dep}
+use Rattle.lc_base.specs.declared.row.Row.{Row}
+use Rattle.lc_base.specs.declared.value.Value.{Value}
+use Rattle.lc_base.specs.declared.tx_status.TxStatus.{TxStatus}
+use Rattle.lc_base.specs.declared.tx_status.TxStatus.TheVariants as statuses
+use Rattle.contract_tree.specs.Tree.{FunctionTree}
+use Rattle.contract_meaning.specs.Scenes.{Scene, scene_of}
+use Rattle.contract_meaning.specs.Calls.{CallResult, call_result, rows_written}
+use Rattle.world_state.specs.World.{is_raw}
+use Rattle.block_codec.specs.declared.block.Tx.{Tx}
+use Rattle.block_codec.specs.declared.block.Tx.TheVariants.{Set, Deploy, Call}
+use Rattle.chain_exec.specs.declared.receipt.Receipt.{Receipt}
+use Rattle.chain_exec.specs.Compiled.{Compiler}
+
+-- The codes of contracts, by their names, in the order of deployment.
+abbrev pub Codes : Type 0
+Codes = List (List ℕ × List FunctionTree)
+
+-- What blocks have left: their rows, in order, and the codes that can be called.
+pub record History : Type 0 where
+  pub rows : List Row
+  pub codes : Codes
+
+-- What a transaction does: its receipt, the rows that it writes, and the code that it deploys, if
+-- it deploys one.
+pub record Effect : Type 0 where
+  pub receipt : Receipt
+  pub rows : List Row
+  pub codes : Codes
+
+-- The receipt of a transaction that costs nothing.
+abbrev pub free : TxStatus → Receipt
+free status = record { status = status; cost = 0 }
+
+-- A transaction that fails before it costs anything: it leaves nothing.
+abbrev pub refused : TxStatus → Effect
+refused status = record { receipt = free status; rows = []; codes = [] }
+
+-- ---- dependencies
+
+-- The newest version of a key, as others depend on it.
+abbrev pub version_to_depend_on : List Row → List ℕ → Option Dep
+version_to_depend_on rows key = option_map version_of (newest rows key)
+
+-- What is derived from these keys: from the newest version of each that has one, in order, repeats
+-- dropped.
+abbrev pub deps_on : List Row → List (List ℕ) → List Dep
+deps_on rows keys = without_repeats (filter_map (version_to_depend_on rows) keys)
+
+-- ---- writing a value
+
+-- Whether one of these rows is of the key.
+abbrev pub is_written : List Row → List ℕ → Bool
+is_written rows key = list_any (λ (row : Row). pointwise ◌==◌ row.key key) rows
+
+-- Whether a Set meets a conflict: one of its dependency keys, or its key, was written.
+abbrev pub meets_conflict : (List ℕ → Bool) → List ℕ → List (List ℕ) → Bool
+meets_conflict written key deps = list_any written deps || written key
+
+-- A Set writes this row, where it meets no conflict. It is Foreign where the key does not begin
+-- raw/, and that is tested first.
+abbrev pub set_effect : Bool → Row → Effect
+set_effect conflict row =
+    if not (starts_with ◌==◌ row.key (codes "raw/")) then refused statuses.Foreign
+    else (if conflict then refused statuses.Conflict
+    else record { receipt = free statuses.Ok; rows = row ∷ []; codes = [] })
+
+-- ---- deploying a contract
+
+-- The functions of the contract of a name.
+abbrev pub code_in : Codes → List ℕ → Option (List FunctionTree)
+code_in codes name = lookup (pointwise ◌==◌ name) codes
+
+-- Whether no contract of a name can be deployed: the name is `raw`, or a contract has it, of the
+-- blocks before or of this one.
+abbrev pub is_taken_in : Codes → Codes → List ℕ → Bool
+is_taken_in codes staged name =
+    is_raw name || (is_some (code_in codes name) || is_some (code_in staged name))
+
+-- A Deploy of what the source was made into.
+abbrev pub code_effect : List ℕ → Option (List FunctionTree) → Effect
+code_effect name None = refused statuses.BadSource
+code_effect name (Some functions) =
+    record { receipt = free statuses.Ok; rows = []; codes = (name, functions) ∷ [] }
+
+-- A Deploy under a name: Taken, where the name is taken, is tested before the source.
+abbrev pub deploy_effect : Bool → List ℕ → Option (List FunctionTree) → Effect
+deploy_effect taken name code = if taken then refused statuses.Taken else code_effect name code
+
+-- ---- calling a contract
+
+-- How a call ends, with the rows that it writes where it ends well.
+abbrev pub result_effect : ℕ → ℕ → CallResult → Effect
+result_effect number at result =
+    record {
+      receipt = record { status = result.outcome.status; cost = result.outcome.cost };
+      rows = rows_written number at result.outcome.status result.capture;
+      codes = [];
+    }
+
+-- A Call of a contract, where there is one.
+abbrev pub call_effect : Option (List FunctionTree) → Scene → List Value → ℕ → Effect
+call_effect None s args at = refused statuses.NoContract
+call_effect (Some functions) s args at =
+    result_effect s.site.number at (call_result functions s args)
+
+-- ---- together
+
+-- What a transaction does at the index `at` of the block of this number: on the history of the
+-- blocks before, after the block's earlier transactions wrote and deployed what is staged.
+abbrev pub effect_of : Compiler → History → List Row → Codes → ℕ → ℕ → Tx → Effect
+effect_of compile history staged_rows staged_codes number at (Set sender key value deps) =
+    set_effect (meets_conflict (is_written staged_rows) key deps)
+    (record { key = key; block = number; tx = at; value = value; deps = deps_on history.rows deps })
+effect_of compile history staged_rows staged_codes number at (Deploy sender name source) =
+    deploy_effect (is_taken_in history.codes staged_codes name) name (compile source)
+effect_of compile history staged_rows staged_codes number at (Call sender contract function args budget) =
+    call_effect (code_in history.codes contract)
+    (scene_of history.rows (is_written staged_rows)
+    (record { contract = contract; function = function; sender = sender; number = number; budget = budget }))
+    args at

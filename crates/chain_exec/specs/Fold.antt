@@ -1,0 +1,41 @@
+-- What a block does: its transactions, one after another.
+use Rattle.std.specs.Prelude.{ℕ, ◌+◌, List, [], ◌∷◌, ◌++◌}
+use Rattle.lc_base.specs.declared.row.Row.{Row}
+use Rattle.block_codec.specs.declared.block.Tx.{Tx}
+use Rattle.block_codec.specs.declared.block.Block.{Block}
+use Rattle.chain_exec.specs.declared.receipt.Receipt.{Receipt}
+use Rattle.chain_exec.specs.Compiled.{Compiler}
+use Rattle.chain_exec.specs.Effect.{Codes, History, Effect, effect_of}
+
+-- What the transactions of a block did so far: the rows that they wrote, the codes that they
+-- deployed, and a receipt for each.
+pub record Staged : Type 0 where
+  pub rows : List Row
+  pub codes : Codes
+  pub receipts : List Receipt
+
+-- Nothing done yet.
+abbrev pub nothing_staged : Staged
+nothing_staged = record { rows = []; codes = []; receipts = [] }
+
+-- What is done after one more transaction.
+abbrev pub with_effect : Staged → Effect → Staged
+with_effect done effect =
+    record {
+      rows = done.rows ++ effect.rows;
+      codes = done.codes ++ effect.codes;
+      receipts = done.receipts ++ effect.receipt ∷ [];
+    }
+
+-- What is done after these transactions, the first at the index `at` of its block. All run on the
+-- history of the blocks before.
+abbrev pub effects_after : Compiler → History → ℕ → ℕ → Staged → List Tx → Staged
+effects_after compile history number at done [] = done
+effects_after compile history number at done (tx ∷ txs) =
+    effects_after compile history number (at + 1)
+    (with_effect done (effect_of compile history done.rows done.codes number at tx)) txs
+
+-- What a block does on the history of the blocks before it.
+abbrev pub block_effects : Compiler → History → Block → Staged
+block_effects compile history block =
+    effects_after compile history block.number 0 nothing_staged block.txs

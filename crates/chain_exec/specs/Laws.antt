@@ -1,0 +1,63 @@
+-- Laws of what transactions and blocks do.
+use Rattle.std.specs.Prelude.{◌≡◌, ◌≢◌, ℕ, ◌+◌, ◌<◌, ◌≤◌, List, [], ◌∷◌, ◌++◌, length, Option}
+use Rattle.std.specs.List.{All}
+use Rattle.lc_base.specs.History.{IsLawful}
+use Rattle.lc_base.specs.declared.row.Row.{Row}
+use Rattle.lc_base.specs.declared.tx_status.TxStatus.TheVariants as statuses
+use Rattle.world_state.specs.Rows.{held_in}
+use Rattle.world_state.specs.declared.held.Held.{Held}
+use Rattle.block_codec.specs.declared.limits.TheConstants.{MAX_ROWS_BEFORE_BLOCK, MAX_TXS}
+use Rattle.block_codec.specs.declared.block.Tx.{Tx}
+use Rattle.block_codec.specs.declared.block.Block.{Block}
+use Rattle.chain_exec.specs.BlockRows.{AreBlockRows}
+use Rattle.chain_exec.specs.Compiled.{Compiler, IsCompiler, compiled_in}
+use Rattle.chain_exec.specs.Effect.{Codes, History, effect_of}
+use Rattle.chain_exec.specs.Fold.{block_effects}
+use Rattle.chain_exec.specs.Replay.{history_after, replay, receipts_of}
+
+-- There is one compiler, and it is `compiled_in`.
+pub record OneCompiler : Type 0 where
+  pub is_compiler : IsCompiler compiled_in
+  pub only : (compile : Compiler) → IsCompiler compile → compile ≡ compiled_in
+
+-- How a transaction ends and what it costs does not depend on its index in the block.
+abbrev pub ReceiptsIgnoreIndexes : Type 0
+ReceiptsIgnoreIndexes =
+    (compile : Compiler) (history : History) (rows : List Row) (codes : Codes) (number at other : ℕ)
+    (tx : Tx)
+    → (effect_of compile history rows codes number at tx).receipt
+    ≡ (effect_of compile history rows codes number other tx).receipt
+
+-- A transaction that fails leaves no row and no code.
+abbrev pub FailuresLeaveNothing : Type 0
+FailuresLeaveNothing =
+    (compile : Compiler) (history : History) (rows : List Row) (codes : Codes) (number at : ℕ)
+    (tx : Tx)
+    → (effect_of compile history rows codes number at tx).receipt.status ≢ statuses.Ok
+    → ((effect_of compile history rows codes number at tx).rows ≡ [])
+    × ((effect_of compile history rows codes number at tx).codes ≡ [])
+
+-- One more block adds to a replay what it does on the history of the blocks before it, and changes
+-- nothing of theirs.
+pub record ReplayGrows (compile : Compiler) (blocks : List Block) (block : Block) : Type 0 where
+  pub history : replay compile (blocks ++ block ∷ []) ≡ history_after compile (replay compile blocks) block
+  pub receipts :
+      receipts_of compile (blocks ++ block ∷ [])
+      ≡ receipts_of compile blocks ++ (block_effects compile (replay compile blocks) block).receipts ∷ []
+
+-- The rows of a block, after a lawful history of earlier blocks that has room for them, make a
+-- lawful history.
+abbrev pub BlocksKeepLawful : Type 0
+BlocksKeepLawful =
+    (rows more : List Row) (number count : ℕ)
+    → IsLawful rows → All (λ (row : Row). row.block < number) rows
+    → length rows ≤ MAX_ROWS_BEFORE_BLOCK → count ≤ MAX_TXS
+    → AreBlockRows (held_in rows) number count more
+    → IsLawful (rows ++ more)
+
+-- Each row of a history of earlier blocks, and of the block's own, is of a block up to this one.
+abbrev pub BlocksKeepOrder : Type 0
+BlocksKeepOrder =
+    (rows more : List Row) (newest : List ℕ → Option Held) (number count : ℕ)
+    → All (λ (row : Row). row.block < number) rows → AreBlockRows newest number count more
+    → All (λ (row : Row). row.block < number + 1) (rows ++ more)

@@ -1,0 +1,42 @@
+-- What blocks do, one after another.
+use Rattle.std.specs.Prelude.{List, [], ◌∷◌, ◌++◌}
+use Rattle.block_codec.specs.declared.block.Block.{Block}
+use Rattle.chain_exec.specs.declared.receipt.Receipt.{Receipt}
+use Rattle.chain_exec.specs.Compiled.{Compiler}
+use Rattle.chain_exec.specs.Effect.{History}
+use Rattle.chain_exec.specs.Fold.{Staged, block_effects}
+
+-- No row and no code.
+abbrev pub no_history : History
+no_history = record { rows = []; codes = [] }
+
+-- A history, and after it what a block did.
+abbrev pub with_staged : History → Staged → History
+with_staged history done =
+    record { rows = history.rows ++ done.rows; codes = history.codes ++ done.codes }
+
+-- The history after one more block.
+abbrev pub history_after : Compiler → History → Block → History
+history_after compile history block =
+    with_staged history (block_effects compile history block)
+
+-- The history after these blocks.
+abbrev pub replayed : Compiler → History → List Block → History
+replayed compile history [] = history
+replayed compile history (block ∷ blocks) =
+    replayed compile (history_after compile history block) blocks
+
+-- The history of some blocks, from no row and no code.
+unfoldable pub replay : Compiler → List Block → History
+replay compile blocks = replayed compile no_history blocks
+
+-- The receipts of these blocks, on the history of the blocks before them.
+abbrev pub receipts_after : Compiler → History → List Block → List (List Receipt)
+receipts_after compile history [] = []
+receipts_after compile history (block ∷ blocks) =
+    (block_effects compile history block).receipts
+    ∷ receipts_after compile (history_after compile history block) blocks
+
+-- The receipts of some blocks: of each block one for each transaction.
+unfoldable pub receipts_of : Compiler → List Block → List (List Receipt)
+receipts_of compile blocks = receipts_after compile no_history blocks

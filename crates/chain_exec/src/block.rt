@@ -1,0 +1,114 @@
+//! A whole block.
+
+ghost use Rattle.std.specs.Prelude.{◌≡◌, ◌≤◌, [], ◌∷◌, ◌++◌, length, map, IfSome, IfOk, OnOk, IsErrOf};
+ghost use Rattle.std.specs.List.{AllByRecursion};
+ghost use Rattle.lc_base.specs.Outside.{HasCause};
+ghost use Rattle.block_codec.specs.declared.limits.TheConstants.{MAX_TXS};
+ghost use Rattle.block_codec.specs.Spelling.{IsTx, IsBlock};
+ghost use Rattle.world_state.specs.Rows.{entry_of};
+ghost use Rattle.world_state.specs.World.{newest_of, StandsForRows};
+ghost use Rattle.chain_exec.specs.BlockRows.{AreBlockRows, AreWithinBudgets};
+ghost use Rattle.chain_exec.specs.Compiled.{compiled_in};
+ghost use Rattle.chain_exec.specs.Fold.{nothing_staged, with_effect, effects_after, block_effects};
+ghost use Rattle.chain_exec.specs.Running.{history_in, staged_in};
+
+use crate::receipt::{Receipt, ReceiptList};
+use crate::staging::TxRun;
+use crate::transaction::transaction;
+use block_codec::{Block, Tx};
+use contract_check::Checked;
+use lc_base::{Host, HostError, Memory, RowList};
+use std::alloc::Global;
+use world_state::World;
+
+/// What a block did: the rows that it wrote, in order, and a receipt for each transaction.
+#[derive(Debug, Drop)]
+pub struct BlockRun {
+    pub rows: RowList,
+    pub receipts: ReceiptList,
+}
+
+impl BlockRun {
+    /// Appends what a transaction did.
+    fn add(&mut self, run: TxRun) -> Result<(), HostError>
+        ensures rows { OnOk result (self.new.rows ≡ self.old.rows ++ run.rows) }
+        ensures receipts { OnOk result (self.new.receipts ≡ self.old.receipts ++ run.receipt ∷ []) }
+        ensures no_fault { IsErrOf result HostError.Fault → ⊥ }
+    {
+        let TxRun { receipt, rows } = run;
+        match self.rows.append(rows) {
+            Err(Memory) => Err(HostError::Memory),
+            Ok(()) => match self.receipts.push(receipt) {
+                Err(Memory) => Err(HostError::Memory),
+                Ok(()) => Ok(()),
+            },
+        }
+    }
+}
+
+/// Runs the transactions of a block, one after another.
+fn run_txs<H: Host>(
+    alloc: Global,
+    host: &mut H,
+    world: &mut World<Checked>,
+    number: u32,
+    txs: &[Tx],
+) -> Result<BlockRun, HostError>
+    requires ready { H.ready host.old }
+    requires stands { IfSome (H.rows host.old) (StandsForRows world.old) }
+    requires few { length txs.now ≤ MAX_TXS }
+    requires are_txs { AllByRecursion IsTx txs.now }
+    requires no_rows { world.old.staged ≡ [] }
+    requires no_codes { world.old.staged_codes ≡ [] }
+    ensures same { H.same host.old host.new }
+    ensures effects { IfSome (H.rows host.old) (λ rows. IfOk result (λ run.
+        staged_in world.new run ≡ effects_after compiled_in (history_in rows world.old) number 0 nothing_staged txs.now)) }
+    ensures newest { OnOk result (world.new.newest ≡ world.old.newest) }
+    ensures codes { OnOk result (world.new.codes ≡ world.old.codes) }
+    ensures staged { IfOk result (λ run. world.new.staged ≡ map entry_of run.rows) }
+    ensures lawful { IfOk result (λ run. AreBlockRows (newest_of world.old) number (length txs.now) run.rows) }
+    ensures costs { IfOk result (λ run. AreWithinBudgets txs.now run.receipts) }
+    ensures cause { HasCause (H.host_faults host.old) (H.host_faults host.new) (IsErrOf result HostError.Fault) }
+{
+    let mut run = BlockRun {
+        rows: RowList::new(alloc),
+        receipts: ReceiptList::new(alloc),
+    };
+    for (at, tx) in txs.iter().enumerate() {
+        let done = transaction(alloc, host, world, number, at as u16, tx)?;
+        run.add(done)?;
+    }
+    Ok(run)
+}
+
+/// Runs a block on the state before it: `world` is that state, with nothing staged, and `host`
+/// answers what contracts ask of its history. Each transaction sees the rows and codes of the
+/// blocks before alone. What the block writes and deploys is staged in the world, for `commit`.
+///
+/// # Errors
+///
+/// `Fault` only where the host failed, and `Memory`. The world must be given up then: some of the
+/// block may be staged in it.
+pub fn run_block<H: Host>(
+    alloc: Global,
+    host: &mut H,
+    world: &mut World<Checked>,
+    block: &Block,
+) -> Result<BlockRun, HostError>
+    requires ready { H.ready host.old }
+    requires stands { IfSome (H.rows host.old) (StandsForRows world.old) }
+    requires is_block { IsBlock block.now }
+    requires no_rows { world.old.staged ≡ [] }
+    requires no_codes { world.old.staged_codes ≡ [] }
+    ensures same { H.same host.old host.new }
+    ensures effects { IfSome (H.rows host.old) (λ rows. IfOk result (λ run.
+        staged_in world.new run ≡ block_effects compiled_in (history_in rows world.old) block.now)) }
+    ensures newest { OnOk result (world.new.newest ≡ world.old.newest) }
+    ensures codes { OnOk result (world.new.codes ≡ world.old.codes) }
+    ensures staged { IfOk result (λ run. world.new.staged ≡ map entry_of run.rows) }
+    ensures lawful { IfOk result (λ run. AreBlockRows (newest_of world.old) block.now.number (length block.now.txs) run.rows) }
+    ensures costs { IfOk result (λ run. AreWithinBudgets block.now.txs run.receipts) }
+    ensures cause { HasCause (H.host_faults host.old) (H.host_faults host.new) (IsErrOf result HostError.Fault) }
+{
+    run_txs(alloc, host, world, block.number, block.txs.as_slice())
+}

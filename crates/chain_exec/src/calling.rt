@@ -1,0 +1,138 @@
+//! Transactions that call a contract.
+
+ghost use Rattle.std.specs.Prelude.{◌≡◌, ◌≤◌, Some, IfSome, IfOk, IsErrOf};
+ghost use Rattle.lc_base.specs.Outside.{HasCause};
+ghost use Rattle.contract_tree.specs.Tree.{contract_of};
+ghost use Rattle.dep_capture.specs.Captured.{AreLawfulRows};
+ghost use Rattle.world_state.specs.World.{StandsForRows};
+ghost use Rattle.contract_meaning.specs.Answers.{place_in};
+ghost use Rattle.contract_meaning.specs.Calls.{rows_written};
+ghost use Rattle.chain_exec.specs.BlockRows.{AreTxRows};
+ghost use Rattle.chain_exec.specs.Effect.{result_effect, call_effect};
+ghost use Rattle.chain_exec.specs.Running.{scene_at, call_in, run_left, StagesRows};
+
+use crate::receipt::Receipt;
+use crate::staging::{TxRun, or_memory, stage, without_rows};
+use contract_check::Checked;
+use contract_eval::call;
+use contract_meaning::{CallSite, Outcome};
+use dep_capture::Capture;
+use lc_base::{Host, HostError, Memory, RowList, TxStatus, ValueList};
+use std::alloc::Global;
+use world_state::World;
+
+/// The rows of what was put; none where the call failed.
+fn rows_written(
+    alloc: Global,
+    number: u32,
+    at: u16,
+    status: TxStatus,
+    capture: Capture,
+) -> Result<RowList, Memory>
+    ensures rows { IfOk result (λ rows. rows ≡ rows_written number at status capture) }
+    ensures lawful { IfOk result (λ rows. AreLawfulRows capture.reads rows) }
+{
+    match status {
+        TxStatus::Ok => capture.take_rows(number, at),
+        _ => Ok(RowList::new(alloc)),
+    }
+}
+
+/// What a call does that ended so, with these reads and puts.
+fn run_of_outcome(
+    alloc: Global,
+    number: u32,
+    at: u16,
+    outcome: Outcome,
+    capture: Capture,
+) -> Result<TxRun, HostError>
+    ensures run { IfOk result (λ run. run ≡ run_left
+        (result_effect number at (record { outcome = outcome; capture = capture }))) }
+    ensures lawful { IfOk result (λ run. AreLawfulRows capture.reads run.rows) }
+    ensures no_fault { IsErrOf result HostError.Fault → ⊥ }
+{
+    match rows_written(alloc, number, at, outcome.status, capture) {
+        Err(Memory) => Err(HostError::Memory),
+        Ok(rows) => Ok(TxRun {
+            receipt: Receipt {
+                status: outcome.status,
+                cost: outcome.cost,
+            },
+            rows,
+        }),
+    }
+}
+
+/// What a call of a contract does, of this code.
+fn run_code<H: Host>(
+    alloc: Global,
+    code: &Checked,
+    site: &CallSite,
+    args: &ValueList,
+    world: &World<Checked>,
+    host: &mut H,
+    at: u16,
+) -> Result<TxRun, HostError>
+    requires ready { H.ready host.old }
+    requires stands { IfSome (H.rows host.old) (StandsForRows world.now) }
+    ensures same { H.same host.old host.new }
+    ensures effect { IfSome (H.rows host.old) (λ rows. IfOk result (λ run. run ≡ run_left
+        (call_effect (Some (contract_of code.now)) (scene_at rows world.now site.now) args.now at))) }
+    ensures lawful { IfOk result (λ run. AreTxRows (place_in world.now) site.now.number at run.rows) }
+    ensures cost { IfOk result (λ run. run.receipt.cost ≤ site.now.budget) }
+    ensures cause { HasCause (H.host_faults host.old) (H.host_faults host.new) (IsErrOf result HostError.Fault) }
+{
+    let mut capture = Capture::new(alloc);
+    match call(alloc, code, site, args, world, host, &mut capture) {
+        Err(error) => Err(error),
+        Ok(outcome) => run_of_outcome(alloc, site.number, at, outcome, capture),
+    }
+}
+
+/// What a Call at the index `at` of a block does, where a world stands for the state before.
+fn run_of_call<H: Host>(
+    alloc: Global,
+    site: &CallSite,
+    args: &ValueList,
+    world: &World<Checked>,
+    host: &mut H,
+    at: u16,
+) -> Result<TxRun, HostError>
+    requires ready { H.ready host.old }
+    requires stands { IfSome (H.rows host.old) (StandsForRows world.now) }
+    ensures same { H.same host.old host.new }
+    ensures effect { IfSome (H.rows host.old) (λ rows. IfOk result (λ run. run ≡ run_left
+        (call_in rows world.now site.now args.now at))) }
+    ensures lawful { IfOk result (λ run. AreTxRows (place_in world.now) site.now.number at run.rows) }
+    ensures cost { IfOk result (λ run. run.receipt.cost ≤ site.now.budget) }
+    ensures cause { HasCause (H.host_faults host.old) (H.host_faults host.new) (IsErrOf result HostError.Fault) }
+{
+    match world.code(&site.contract) {
+        None => Ok(without_rows(alloc, TxStatus::NoContract)),
+        Some(code) => run_code(alloc, code, site, args, world, host, at),
+    }
+}
+
+/// Runs a Call at the index `at` of a block, and stages its rows.
+pub(crate) fn run_call<H: Host>(
+    alloc: Global,
+    site: &CallSite,
+    args: &ValueList,
+    world: &mut World<Checked>,
+    host: &mut H,
+    at: u16,
+) -> Result<TxRun, HostError>
+    requires ready { H.ready host.old }
+    requires stands { IfSome (H.rows host.old) (StandsForRows world.old) }
+    ensures same { H.same host.old host.new }
+    ensures effect { IfSome (H.rows host.old) (λ rows. IfOk result (λ run. run ≡ run_left
+        (call_in rows world.old site.now args.now at))) }
+    ensures stages { IfOk result (λ run. StagesRows world.old world.new run.rows) }
+    ensures codes { world.new.staged_codes ≡ world.old.staged_codes }
+    ensures lawful { IfOk result (λ run. AreTxRows (place_in world.old) site.now.number at run.rows) }
+    ensures cost { IfOk result (λ run. run.receipt.cost ≤ site.now.budget) }
+    ensures cause { HasCause (H.host_faults host.old) (H.host_faults host.new) (IsErrOf result HostError.Fault) }
+{
+    let run = run_of_call(alloc, site, args, world, host, at)?;
+    or_memory(stage(world, run))
+}

@@ -1,0 +1,83 @@
+//! Transactions that deploy a contract.
+
+ghost use Rattle.std.specs.Prelude.{◌≡◌, ◌<◌, ◌^◌, [], ◌++◌, length, IfOk, OnOk};
+ghost use Rattle.std.specs.Option.{option_map};
+ghost use Rattle.contract_tree.specs.Tree.{contract_of};
+ghost use Rattle.contract_check.specs.Faults.{check_fault};
+ghost use Rattle.chain_exec.specs.Compiled.{faultless, compiled_in};
+ghost use Rattle.chain_exec.specs.Effect.{free};
+ghost use Rattle.chain_exec.specs.Running.{codes_seen, deploy_in, StagesRows, HasEffect};
+
+use crate::staging::{TxRun, without_rows};
+use contract_check::{CheckError, Checked, check};
+use contract_parse::{SyntaxError, parse};
+use contract_tree::Contract;
+use lc_base::{Memory, Name, TxStatus};
+use std::alloc::Global;
+use world_state::World;
+
+/// The contract, where its names and kinds have no fault.
+fn faultless(alloc: Global, contract: Contract) -> Result<Option<Checked>, Memory>
+    ensures { IfOk result (λ code. option_map contract_of code
+        ≡ faultless (contract_of contract) (check_fault (contract_of contract))) }
+{
+    match check(alloc, contract) {
+        Ok(checked) => Ok(Some(checked)),
+        Err(CheckError::Refused { .. }) => Ok(None),
+        Err(CheckError::Memory) => Err(Memory),
+    }
+}
+
+/// The contract that a source is; `None` where it is none, or has a fault.
+fn compile(alloc: Global, source: &[u8]) -> Result<Option<Checked>, Memory>
+    requires { length source.now < 2 ^ 32 }
+    ensures { IfOk result (λ code. option_map contract_of code ≡ compiled_in source.now) }
+{
+    match parse(alloc, source) {
+        Ok(contract) => faultless(alloc, contract),
+        Err(SyntaxError::Refused { .. }) => Ok(None),
+        Err(SyntaxError::Memory) => Err(Memory),
+    }
+}
+
+/// Stages the contract that a source is under a name, unless the name is taken or the source is no
+/// contract; how it ends.
+fn deploy(
+    alloc: Global,
+    world: &mut World<Checked>,
+    name: &Name,
+    source: &[u8],
+) -> Result<TxStatus, Memory>
+    requires { length source.now < 2 ^ 32 }
+    ensures status { IfOk result (λ status. status ≡ (deploy_in world.old name.now source.now).receipt.status) }
+    ensures codes { OnOk result (codes_seen world.new.staged_codes
+        ≡ codes_seen world.old.staged_codes ++ (deploy_in world.old name.now source.now).codes) }
+    ensures others { world.new ≡ record world.old { staged_codes = world.new.staged_codes } }
+{
+    if world.taken(name) {
+        return Ok(TxStatus::Taken);
+    }
+    match compile(alloc, source)? {
+        None => Ok(TxStatus::BadSource),
+        Some(code) => {
+            world.stage_code(*name, code)?;
+            Ok(TxStatus::Ok)
+        }
+    }
+}
+
+/// Runs a Deploy, which writes no row.
+pub(crate) fn run_deploy(
+    alloc: Global,
+    world: &mut World<Checked>,
+    name: &Name,
+    source: &[u8],
+) -> Result<TxRun, Memory>
+    requires { length source.now < 2 ^ 32 }
+    ensures effect { IfOk result (λ run. HasEffect world.old world.new run (deploy_in world.old name.now source.now)) }
+    ensures stages { IfOk result (λ run. StagesRows world.old world.new run.rows) }
+    ensures cost { IfOk result (λ run. run ≡ record { receipt = free run.receipt.status; rows = [] }) }
+{
+    let status = deploy(alloc, world, name, source)?;
+    Ok(without_rows(alloc, status))
+}

@@ -1,0 +1,33 @@
+//! Laws of what transactions and blocks do, each the contract of a function that does nothing.
+
+ghost use Rattle.std.specs.Prelude.{List};
+ghost use Rattle.block_codec.specs.declared.block.Block.{Block};
+ghost use Rattle.chain_exec.specs.Compiled.{Compiler};
+ghost use Rattle.chain_exec.specs.Laws.{OneCompiler, ReceiptsIgnoreIndexes, FailuresLeaveNothing, ReplayGrows, BlocksKeepLawful, BlocksKeepOrder};
+
+/// There is one compiler, so each source is deployed as one contract or none.
+pub fn one_compiler()
+    ensures { OneCompiler }
+{}
+
+/// How a transaction ends and what it costs does not depend on its index in the block.
+pub fn receipts_ignore_indexes()
+    ensures { ReceiptsIgnoreIndexes }
+{}
+
+/// A transaction that fails leaves no row and no code.
+pub fn failures_leave_nothing()
+    ensures { FailuresLeaveNothing }
+{}
+
+/// One more block changes nothing of what was replayed before it.
+pub fn replay_grows()
+    ensures { (compile : Compiler) (blocks : List Block) (block : Block)
+        → ReplayGrows compile blocks block }
+{}
+
+/// The rows of a block keep a history lawful, and of blocks up to this one.
+pub fn blocks_keep_lawful()
+    ensures lawful { BlocksKeepLawful }
+    ensures order { BlocksKeepOrder }
+{}

@@ -1,0 +1,144 @@
+//! Transactions that write a value.
+
+ghost use Rattle.std.specs.Prelude.{◌≡◌, ◌≤◌, ◌==◌, [], ◌∷◌, length, codes, IfOk};
+ghost use Rattle.lc_base.specs.declared.limits.TheConstants.{MAX_DEPS};
+ghost use Rattle.contract_meaning.specs.Answers.{place_in};
+ghost use Rattle.chain_exec.specs.BlockRows.{AreTxRows};
+ghost use Rattle.std.specs.List.{starts_with, list_any, filter_map};
+ghost use Rattle.world_state.specs.World.{is_written};
+ghost use Rattle.chain_exec.specs.Effect.{meets_conflict};
+ghost use Rattle.chain_exec.specs.Running.{dep_in, deps_in, row_in, set_in, run_left, StagesRows, HasEffect};
+
+use crate::receipt::Receipt;
+use crate::staging::{TxRun, free, stage, without_rows};
+use contract_check::Checked;
+use lc_base::{Dep, DepList, Duplicate, Key, Memory, Row, RowList, TxStatus, Value};
+use std::alloc::{AllocError, Global};
+use world_state::World;
+
+/// What the keys begin with that a Set writes.
+const RAW_PREFIX: [u8; 4] = *b"raw/";
+
+/// The dependency on the newest version of a key; `None` where it has none.
+fn dep_on(world: &World<Checked>, key: &Key) -> Option<Dep>
+    ensures { result ≡ dep_in world.now key.now }
+{
+    match world.value(key) {
+        None => None,
+        Some((block, _)) => Some(Dep { key: *key, block }),
+    }
+}
+
+fn all_deps_on(alloc: Global, world: &World<Checked>, keys: &[Key]) -> Result<Vec<Dep>, AllocError>
+    ensures { IfOk result (λ deps. deps.items ≡ filter_map (dep_in world.now) keys.now) }
+{
+    keys.iter()
+        .filter_map(|key| dep_on(world, key))
+        .collect(alloc)
+}
+
+/// The dependencies on the newest versions of the keys, in order, each once.
+fn deps_on(alloc: Global, world: &World<Checked>, keys: &[Key]) -> Result<DepList, Memory>
+    ensures { IfOk result (λ deps. deps ≡ deps_in world.now keys.now) }
+{
+    let deps = all_deps_on(alloc, world, keys)?;
+    DepList::without_repeats(alloc, deps.as_slice())
+}
+
+fn is_any_written(world: &World<Checked>, keys: &[Key]) -> bool
+    ensures { result ≡ list_any (is_written world.now) keys.now }
+{
+    keys.iter().any(|key| world.written(key))
+}
+
+/// Whether the block has written the key or one of the dependency keys.
+fn meets_conflict(world: &World<Checked>, key: &Key, deps: &[Key]) -> bool
+    ensures { result ≡ meets_conflict (is_written world.now) key.now deps.now }
+{
+    is_any_written(world, deps) || world.written(key)
+}
+
+/// Whether a Set may write the key.
+fn is_raw(key: &Key) -> bool
+    ensures { result ≡ starts_with ◌==◌ key.now (codes "raw/") }
+{
+    key.as_bytes().starts_with(&RAW_PREFIX)
+}
+
+/// The one row of a transaction.
+fn one_row(alloc: Global, row: Row) -> Result<RowList, Memory>
+    ensures { IfOk result (λ rows. rows ≡ row ∷ []) }
+{
+    let mut rows = RowList::new(alloc);
+    rows.push(row)?;
+    Ok(rows)
+}
+
+/// The row of a Set.
+fn row_of_set(
+    alloc: Global,
+    world: &World<Checked>,
+    number: u32,
+    at: u16,
+    key: &Key,
+    value: &Value,
+    deps: &[Key],
+) -> Result<Row, Memory>
+    ensures { IfOk result (λ row. row ≡ row_in world.now number at key.now value.now deps.now) }
+{
+    let value = value.copy(alloc)?;
+    let deps = deps_on(alloc, world, deps)?;
+    Ok(Row {
+        key: *key,
+        block: number,
+        tx: at,
+        value,
+        deps,
+    })
+}
+
+/// What a Set at the index `at` of a block does, where a world stands for the state before.
+fn run_of_set(
+    alloc: Global,
+    world: &World<Checked>,
+    number: u32,
+    at: u16,
+    key: &Key,
+    value: &Value,
+    deps: &[Key],
+) -> Result<TxRun, Memory>
+    ensures { IfOk result (λ run. run ≡ run_left (set_in world.now number at key.now value.now deps.now)) }
+{
+    if !is_raw(key) {
+        return Ok(without_rows(alloc, TxStatus::Foreign));
+    }
+    if meets_conflict(world, key, deps) {
+        return Ok(without_rows(alloc, TxStatus::Conflict));
+    }
+    let row = row_of_set(alloc, world, number, at, key, value, deps)?;
+    Ok(TxRun {
+        receipt: free(TxStatus::Ok),
+        rows: one_row(alloc, row)?,
+    })
+}
+
+/// Runs a Set at the index `at` of a block, and stages its row.
+pub(crate) fn run_set(
+    alloc: Global,
+    world: &mut World<Checked>,
+    number: u32,
+    at: u16,
+    key: &Key,
+    value: &Value,
+    deps: &[Key],
+) -> Result<TxRun, Memory>
+    requires { length deps.now ≤ MAX_DEPS }
+    ensures effect { IfOk result (λ run. HasEffect world.old world.new run
+        (set_in world.old number at key.now value.now deps.now)) }
+    ensures stages { IfOk result (λ run. StagesRows world.old world.new run.rows) }
+    ensures lawful { IfOk result (λ run. AreTxRows (place_in world.old) number at run.rows) }
+    ensures cost { IfOk result (λ run. run.receipt.cost ≡ 0) }
+{
+    let run = run_of_set(alloc, world, number, at, key, value, deps)?;
+    stage(world, run)
+}

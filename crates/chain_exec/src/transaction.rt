@@ -1,0 +1,70 @@
+//! One transaction.
+
+ghost use Rattle.std.specs.Prelude.{◌≡◌, ◌≤◌, IfSome, IfOk, IsErrOf};
+ghost use Rattle.lc_base.specs.Outside.{HasCause};
+ghost use Rattle.block_codec.specs.Spelling.{IsTx};
+ghost use Rattle.world_state.specs.World.{StandsForRows};
+ghost use Rattle.contract_meaning.specs.Answers.{place_in};
+ghost use Rattle.chain_exec.specs.BlockRows.{AreTxRows, IsWithinBudget};
+ghost use Rattle.chain_exec.specs.Running.{effect_in, StagesRows, HasEffect};
+
+use crate::calling::run_call;
+use crate::deploying::run_deploy;
+use crate::setting::run_set;
+use crate::staging::{TxRun, or_memory};
+use block_codec::Tx;
+use contract_check::Checked;
+use contract_meaning::CallSite;
+use lc_base::{Host, HostError};
+use std::alloc::Global;
+use world_state::World;
+
+/// Runs the transaction at the index `at` of a block, and stages in the world what it writes or
+/// deploys.
+pub(crate) fn transaction<H: Host>(
+    alloc: Global,
+    host: &mut H,
+    world: &mut World<Checked>,
+    number: u32,
+    at: u16,
+    tx: &Tx,
+) -> Result<TxRun, HostError>
+    requires ready { H.ready host.old }
+    requires stands { IfSome (H.rows host.old) (StandsForRows world.old) }
+    requires is_tx { IsTx tx.now }
+    ensures same { H.same host.old host.new }
+    ensures stages { IfOk result (λ run. StagesRows world.old world.new run.rows) }
+    ensures effect { IfSome (H.rows host.old) (λ rows. IfOk result (λ run.
+        HasEffect world.old world.new run (effect_in rows world.old number at tx.now))) }
+    ensures lawful { IfOk result (λ run. AreTxRows (place_in world.old) number at run.rows) }
+    ensures cost { IfOk result (λ run. IsWithinBudget tx.now run.receipt) }
+    ensures cause { HasCause (H.host_faults host.old) (H.host_faults host.new) (IsErrOf result HostError.Fault) }
+{
+    match tx {
+        Tx::Set {
+            key,
+            value,
+            deps,
+            ..
+        } => or_memory(run_set(alloc, world, number, at, key, value, deps.as_slice())),
+        Tx::Deploy { name, source, .. } => {
+            or_memory(run_deploy(alloc, world, name, source.as_bytes()))
+        }
+        Tx::Call {
+            sender,
+            contract,
+            function,
+            args,
+            budget,
+        } => {
+            let site = CallSite {
+                contract: *contract,
+                function: *function,
+                sender: *sender,
+                number,
+                budget: *budget,
+            };
+            run_call(alloc, &site, args, world, host, at)
+        }
+    }
+}
