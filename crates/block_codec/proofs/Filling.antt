@@ -1,7 +1,7 @@
 -- A buffer that is filled piece by piece.
 use Rattle.std.proofs.Common.{◌≡◌, ℕ, ◌+◌, ◌≤◌, List, ◌++◌, length, take, drop, Option, Some, None, refl, sym, ap, ◌∙◌, arith}
 use Rattle.std.proofs.lemmas.List.{append_assoc, take_at, take-append-drop, length-take-le, length-append}
-use Rattle.lc_base.specs.Outside.{prepend}
+use Rattle.lc_outside.specs.Outside.{prepend}
 
 -- What was left at first is what the buffer holds before `start`, and what is left now; the faults have not become fewer.
 pub record IsFilled (first now : Option (List ℕ)) (faults_first faults_now start : ℕ) (buffer : List ℕ) : Type 0 where

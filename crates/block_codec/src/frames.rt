@@ -1,12 +1,13 @@
 //! The frames of a block file.
 
 ghost use Rattle.std.specs.Prelude.{◌≡◌, ◌≤◌, length, IfOk, IfSome, IsErr, IsErrOf};
-ghost use Rattle.lc_base.specs.Outside.{HasCause};
+ghost use Rattle.lc_base.specs.Faults.{HasCause};
 ghost use Rattle.block_codec.specs.Frames.{Fills, frame_of, IsBody, IsFrameAnswer, CountsFrame};
 ghost use Rattle.block_codec.specs.declared.limits.TheConstants.{MAX_FRAMES};
 
 use crate::limits::{MAX_BLOCK_BYTES, MAX_FRAMES};
-use lc_base::{Bytes, Failed, Source};
+use lc_base::Bytes;
+use lc_outside::{Failed, Source};
 use std::alloc::{AllocError, Global};
 use std::marker::Model;
 

@@ -1,4 +1,5 @@
 pub mod Answers
+pub mod Faults
 pub mod Padding
 pub mod KeyBytes
 pub mod Key
@@ -6,12 +7,7 @@ pub mod NameBytes
 pub mod Name
 pub mod TextBytes
 pub mod Text
-pub mod Outside
-pub mod Fakes
-pub mod Marks
-pub mod Streams
 pub mod History
 pub mod Parts
 pub mod Deps
-pub mod Disk
 pub mod TxStatus

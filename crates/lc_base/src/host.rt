@@ -1,7 +1,7 @@
 //! What answers questions about the history while a contract runs.
 
 ghost use Rattle.std.specs.Prelude.{◌≡◌, ℕ, ◌^◌, ◌<◌, List, Option, IfSome, IfOk, IsErrOf};
-ghost use Rattle.lc_base.specs.Outside.{HasCause};
+ghost use Rattle.lc_base.specs.Faults.{HasCause};
 ghost use Rattle.lc_base.specs.History.{scan};
 ghost use Rattle.lc_base.specs.Parts.{question, version_in, count_in, item_in};
 ghost use Rattle.lc_base.specs.declared.row.Row.{Row};

@@ -1,4 +1,4 @@
-use Rattle.std.proofs.Common.{subst, sym, ◌∙◌, ap}
+use Rattle.std.proofs.Common.{subst, sym, ◌∙◌}
 use Rattle.lc_base.specs.TextBytes.{IsText}
 use Rattle.lc_base.proofs.TextBytes.{key_is_text}
 use Rattle.lc_base.proofs.text.Text.from_key.Goals as goal

@@ -1,4 +1,4 @@
-use Rattle.std.proofs.Common.{subst, sym, ◌∙◌, ap, arith}
+use Rattle.std.proofs.Common.{subst, sym}
 use Rattle.lc_base.specs.TextBytes.{IsText}
 use Rattle.lc_base.proofs.TextBytes.{joined_is_text}
 use Rattle.lc_base.proofs.text.Text.join.Goals as goal

@@ -4,8 +4,9 @@
 //! only that it stays untold.
 
 ghost use Rattle.std.specs.Prelude.{◌≡◌, ℕ, ◌<◌, ◌≤◌, List, length, Option, IfOk, IsErr};
-ghost use Rattle.lc_base.specs.Disk.{DiskState, Stays};
-ghost use Rattle.lc_base.specs.Outside.{HasCause, Pulls, Tell, Tells};
+ghost use Rattle.lc_outside.specs.Disk.{DiskState, Stays};
+ghost use Rattle.lc_base.specs.Faults.{HasCause};
+ghost use Rattle.lc_outside.specs.Outside.{Pulls, Tell, Tells};
 
 /// A call of the outside failed.
 #[derive(Clone, Copy, Debug, PartialEq, Eq)]

@@ -1,6 +1,6 @@
 use Rattle.std.proofs.Common.{arith}
-use Rattle.lc_base.proofs.Writing.{written_more}
-use Rattle.lc_base.proofs.edge.HostWireWire.tell.Goals as goal
+use Rattle.lc_outside.proofs.Writing.{written_more}
+use Rattle.lc_outside.proofs.edge.HostWireWire.tell.Goals as goal
 
 pub loop-told-preserved : goal.loop-told-preserved
 loop-told-preserved g c = (

@@ -1,7 +1,7 @@
 -- What the edges do to the streams that they stand over.
 use Rattle.std.specs.Prelude.{◌≡◌, ℕ, List, take, Option, Result, Ok, Err}
 use Rattle.std.specs.Io.KnownBytes.{Appends}
-use Rattle.lc_base.specs.Fakes.{one_more}
+use Rattle.lc_outside.specs.Fakes.{one_more}
 
 -- A count of faults rises by one where the call failed, and stays where it did not.
 abbrev pub CountsFaults : {T E : Type 0} → ℕ → ℕ → Result T E → Type 0

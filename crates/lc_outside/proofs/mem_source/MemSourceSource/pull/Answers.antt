@@ -1,8 +1,8 @@
 use Rattle.std.proofs.Common.{◌≡◌, ℕ, List, length, take, drop, ◌++◌, Some, ap, sym, ◌∙◌}
 use Rattle.std.proofs.lemmas.List.{drop-drop}
-use Rattle.lc_base.specs.Fakes.{SourceState, pulled_count}
-use Rattle.lc_base.proofs.Pulling.{left_is_pulled, none_is_left}
-use Rattle.lc_base.proofs.mem_source.MemSourceSource.pull.Goals as goal
+use Rattle.lc_outside.specs.Fakes.{SourceState, pulled_count}
+use Rattle.lc_outside.proofs.Pulling.{left_is_pulled, none_is_left}
+use Rattle.lc_outside.proofs.mem_source.MemSourceSource.pull.Goals as goal
 
 pub returns-clause-bytes : goal.returns-clause-bytes
 returns-clause-bytes c =

@@ -3,7 +3,7 @@ use Rattle.std.proofs.Common.{◌≡◌, ℕ, ◌+◌, ◌<◌, List, [], ◌∷
 use Rattle.std.specs.List.{concat}
 use Rattle.std.proofs.lemmas.List.{append_assoc, append-nil, take-append-drop, drop_more, map_push}
 use Rattle.std.proofs.lemmas.List.Folds.{concat-append}
-use Rattle.lc_base.specs.Outside.{Tell, with_tells, joined, Tells, Told, ToldPrefix}
+use Rattle.lc_outside.specs.Outside.{Tell, with_tells, joined, Tells, Told, ToldPrefix}
 
 -- pieces after pieces
 with_tells-with_tells : (old : Option (List Tell)) (a b : List Tell) → with_tells (with_tells old a) b ≡ with_tells old (a ++ b)

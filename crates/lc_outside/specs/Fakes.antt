@@ -1,7 +1,7 @@
 -- The fakes of the outside: what they keep, and what each call does.
 use Rattle.std.specs.Prelude.{◌≡◌, ℕ, ◌+◌, ◌-◌, ◌^◌, Bool, true, false, ◌&&◌, ◌==◌, nat_le, nat_lt, MatchBool, List, [], ◌∷◌, ◌++◌, length, take, drop, min, Result, Ok, Err}
 use Rattle.std.specs.List.{list_any}
-use Rattle.lc_base.specs.Outside.{Tell}
+use Rattle.lc_outside.specs.Outside.{Tell}
 
 -- One more, up to the last value of a u64.
 abbrev pub one_more : ℕ → ℕ

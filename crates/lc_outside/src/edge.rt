@@ -5,9 +5,10 @@
 
 ghost use Rattle.std.specs.Prelude.{◌≡◌, ℕ, ◌<◌, ◌≤◌, length, take, None, IfOk, IsErr};
 ghost use Rattle.std.specs.Io.KnownBytes.{ReadConsumes, Appends};
-ghost use Rattle.lc_base.specs.Disk.{Stays};
-ghost use Rattle.lc_base.specs.Outside.{HasCause, Pulls, Tells};
-ghost use Rattle.lc_base.specs.Streams.{CountsFaults, Writes};
+ghost use Rattle.lc_outside.specs.Disk.{Stays};
+ghost use Rattle.lc_base.specs.Faults.{HasCause};
+ghost use Rattle.lc_outside.specs.Outside.{Pulls, Tells};
+ghost use Rattle.lc_outside.specs.Streams.{CountsFaults, Writes};
 
 use crate::outside::{Clock, Failed, Source, Wire};
 use std::io::{Read, Write};

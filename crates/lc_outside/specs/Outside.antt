@@ -1,15 +1,6 @@
 -- What the outside gives and takes, and when it may fail.
-use Rattle.std.specs.Prelude.{◌≡◌, ℕ, ◌+◌, ◌-◌, ◌^◌, ◌≤◌, List, [], ◌∷◌, ◌++◌, take, map, min, Option, Some, None, Result, Ok, Err, ◌⊎◌}
+use Rattle.std.specs.Prelude.{◌≡◌, ℕ, List, [], ◌∷◌, ◌++◌, take, map, Option, Some, None, Result, Ok, Err, ◌⊎◌}
 use Rattle.std.specs.List.{concat}
-
--- A count of faults rose: it is greater than before, or stands at the last value of a u64.
-abbrev pub Rose : ℕ → ℕ → Type 0
-Rose before now = min (before + 1) (2 ^ 64 - 1) ≤ now
-
--- A count of faults never falls, and rose where a call blames its object.
-pub record HasCause (before now : ℕ) (Blames : Type 0) : Type 0 where
-  pub later : before ≤ now
-  pub failed : Blames → Rose before now
 
 -- ---- what a source has left, where that is told
 

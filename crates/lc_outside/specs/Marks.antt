@@ -3,8 +3,8 @@ use Rattle.std.specs.Prelude.{ℕ, ◌≤◌, List, length, map}
 use Rattle.std.specs.List.{slice_range, AllByRecursion}
 use Rattle.std.specs.Global.{Vec}
 use Rattle.std.specs.Vec.{vec_len, vec_capacity}
-use Rattle.lc_base.specs.Outside.{Tell}
-use Rattle.lc_base.specs.declared.mem_wire.Mark.{Mark}
+use Rattle.lc_outside.specs.Outside.{Tell}
+use Rattle.lc_outside.specs.declared.mem_wire.Mark.{Mark}
 
 -- The piece that a mark names.
 abbrev pub piece_at : List ℕ → Mark → Tell

@@ -1,11 +1,13 @@
 //! A source in memory.
 
 ghost use Rattle.std.specs.Prelude.{◌≡◌, ◌++◌, ◌<◌, ◌≤◌, Some, length, take, drop, IfOk, IsErr};
-ghost use Rattle.lc_base.specs.Outside.{HasCause, Pulls};
-ghost use Rattle.lc_base.specs.Fakes.{SourceState, PullsPiece, is_failing, pulled_count, one_more};
+ghost use Rattle.lc_base.specs.Faults.{HasCause};
+ghost use Rattle.lc_outside.specs.Outside.{Pulls};
+ghost use Rattle.lc_outside.specs.Fakes.{SourceState, PullsPiece, pulled_count};
 
-use crate::memory::Memory;
+use crate::fakes::{is_failing, one_more};
 use crate::outside::{Failed, Source};
+use lc_base::Memory;
 use std::alloc::Global;
 use std::marker::Model;
 
@@ -23,27 +25,13 @@ pub struct MemSource {
 
 impl Model for MemSource {
     ghost use Rattle.std.specs.Prelude.{◌≤◌, ◌<◌, drop, length};
-    ghost use Rattle.lc_base.specs.Fakes.{SourceState};
+    ghost use Rattle.lc_outside.specs.Fakes.{SourceState};
 
     ghost Value = { SourceState };
 
     ghost view = { λ s. record { left = drop s.start s.bytes.items; piece = s.piece; failing = s.failing.items; calls = s.calls; faults = s.faults } };
 
     ghost invariant = { λ s. (s.start ≤ length s.bytes.items) × (0 < s.piece) };
-}
-
-/// Whether a call of this number is to fail.
-pub(crate) fn is_failing(failing: &[u64], number: u64) -> bool
-    ensures { result ≡ is_failing failing.now number }
-{
-    failing.iter().any(|n| *n == number)
-}
-
-/// One more, up to the last value.
-pub(crate) fn one_more(count: u64) -> u64
-    ensures { result ≡ one_more count }
-{
-    count.saturating_add(1)
 }
 
 impl MemSource {

@@ -1,7 +1,7 @@
 -- What a pull of a fake gives, and what it leaves.
 use Rattle.std.proofs.Common.{◌≡◌, ℕ, ◌<◌, ◌≤◌, List, [], ◌++◌, length, take, drop, sym, ap, ◌∙◌, arith}
 use Rattle.std.proofs.lemmas.List.{take_at, take-append-drop, length-take-le, nil_from_length}
-use Rattle.lc_base.specs.Fakes.{SourceState, pulled_count}
+use Rattle.lc_outside.specs.Fakes.{SourceState, pulled_count}
 
 -- what was left is what stands before the buffer now, and the rest
 pub left_is_pulled : (s : SourceState) (room n : ℕ) (buffer : List ℕ) → n ≡ pulled_count s room → s.left ≡ take n (take n s.left ++ drop n buffer) ++ drop n s.left

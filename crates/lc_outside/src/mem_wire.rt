@@ -3,13 +3,14 @@
 ghost use Rattle.std.specs.Prelude.{◌≡◌, ℕ, ◌+◌, ◌^◌, ◌<◌, ◌≤◌, Some, None, [], ◌∷◌, ◌++◌, length, IfOk, IsErr, MatchOption};
 ghost use Rattle.std.specs.Vec.{vec_len, vec_capacity};
 ghost use Rattle.std.specs.List.{slice_get};
-ghost use Rattle.lc_base.specs.Disk.{Stays};
-ghost use Rattle.lc_base.specs.Outside.{HasCause, Tells};
-ghost use Rattle.lc_base.specs.Fakes.{WireState, TellsPiece, fits_room};
+ghost use Rattle.lc_outside.specs.Disk.{Stays};
+ghost use Rattle.lc_base.specs.Faults.{HasCause};
+ghost use Rattle.lc_outside.specs.Outside.{Tells};
+ghost use Rattle.lc_outside.specs.Fakes.{WireState, TellsPiece, fits_room};
 
-use crate::mem_source::{is_failing, one_more};
-use crate::memory::Memory;
+use crate::fakes::{is_failing, one_more};
 use crate::outside::{Clock, Failed, Wire};
+use lc_base::Memory;
 use std::alloc::Global;
 use std::marker::Model;
 
@@ -44,8 +45,8 @@ pub struct MemWire {
 
 impl Model for MemWire {
     ghost use Rattle.std.specs.Prelude.{length};
-    ghost use Rattle.lc_base.specs.Fakes.{WireState};
-    ghost use Rattle.lc_base.specs.Marks.{pieces, IsRecord};
+    ghost use Rattle.lc_outside.specs.Fakes.{WireState};
+    ghost use Rattle.lc_outside.specs.Marks.{pieces, IsRecord};
 
     ghost Value = { WireState };
 

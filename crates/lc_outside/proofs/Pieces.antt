@@ -2,9 +2,9 @@
 use Rattle.std.proofs.Common.{◌≡◌, ℕ, ◌+◌, ◌-◌, ◌≤◌, List, [], ◌∷◌, ◌++◌, length, take, drop, refl, ap, ◌∙◌, arith}
 use Rattle.std.specs.List.{AllByRecursion}
 use Rattle.std.proofs.lemmas.List.{take-append-le, drop-append-le, drop_at, take_all, length-drop, length-append, map_push}
-use Rattle.lc_base.specs.Outside.{Tell}
-use Rattle.lc_base.specs.Marks.{piece_at, pieces, IsWithin}
-use Rattle.lc_base.specs.declared.mem_wire.Mark.{Mark}
+use Rattle.lc_outside.specs.Outside.{Tell}
+use Rattle.lc_outside.specs.Marks.{piece_at, pieces, IsWithin}
+use Rattle.lc_outside.specs.declared.mem_wire.Mark.{Mark}
 
 -- bytes after a piece do not change it
 piece_stays : (bytes more : List ℕ) (m : Mark) → IsWithin (length bytes) m → piece_at (bytes ++ more) m ≡ piece_at bytes m

@@ -1,10 +1,10 @@
 use Rattle.std.proofs.Common.{◌≡◌, ℕ, ◌+◌, List, [], ◌∷◌, ◌++◌, length, Some, ap, sym, ◌∙◌}
 use Rattle.std.proofs.lemmas.List.{length-append}
-use Rattle.lc_base.specs.Outside.{Tell}
-use Rattle.lc_base.specs.Fakes.{WireState, is_failing}
-use Rattle.lc_base.specs.Marks.{pieces}
-use Rattle.lc_base.proofs.Pieces.{more_pieces}
-use Rattle.lc_base.proofs.mem_wire.MemWireWire.tell.Goals as goal
+use Rattle.lc_outside.specs.Outside.{Tell}
+use Rattle.lc_outside.specs.Fakes.{WireState, is_failing}
+use Rattle.lc_outside.specs.Marks.{pieces}
+use Rattle.lc_outside.proofs.Pieces.{more_pieces}
+use Rattle.lc_outside.proofs.mem_wire.MemWireWire.tell.Goals as goal
 
 told_is : (c : goal.After-record) → pieces c.record.new.bytes.items c.record.new.marks.items ≡ c.args.self.now.told ++ record { at = c.args.self.now.calls; bytes = c.args.bytes.now } ∷ []
 told_is c = rw (c.record.ensures.bytes, c.record.ensures.marks) (more_pieces c.self.inside.bytes.items c.args.bytes.now c.self.inside.marks.items c.self.inside.calls c.self.invariant.within ∙ ap (λ (w : WireState). w.told ++ record { at = w.calls; bytes = c.args.bytes.now } ∷ []) c.self.view_is)

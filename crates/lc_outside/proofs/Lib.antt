@@ -1,0 +1,4 @@
+pub mod Pieces
+pub mod Pulling
+pub mod Telling
+pub mod Writing

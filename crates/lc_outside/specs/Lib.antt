@@ -1,0 +1,5 @@
+pub mod Disk
+pub mod Outside
+pub mod Fakes
+pub mod Marks
+pub mod Streams

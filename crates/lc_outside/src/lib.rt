@@ -1,0 +1,15 @@
+//! The traits by which a program meets the outside, what they are over real streams, and their
+//! fakes in memory.
+#![tactic(auto)]
+
+mod edge;
+mod fakes;
+mod mem_source;
+mod mem_wire;
+mod outside;
+
+pub use edge::{HostSource, HostWire};
+pub use fakes::{is_failing, one_more};
+pub use mem_source::MemSource;
+pub use mem_wire::{MemWire, Room};
+pub use outside::{Clock, Failed, Source, Wire};
