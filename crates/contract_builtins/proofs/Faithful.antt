@@ -1,7 +1,6 @@
 -- Reads and puts keep to what the place says of keys.
 use Rattle.std.proofs.Common.{◌≡◌, ℕ, Bool, true, false, cond, List, [], ◌∷◌, ◌++◌, Ok, Err, refl, subst}
 use Rattle.std.specs.Prelude.{nat_le, length}
-use Rattle.std.specs.List.{All}
 use Rattle.std.proofs.lemmas.List.Elements.{All-push}
 use Rattle.dep_capture.specs.Captured.{Captured}
 use Rattle.dep_capture.specs.Capture.{was_read}

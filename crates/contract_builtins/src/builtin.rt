@@ -4,17 +4,17 @@ ghost use Rattle.std.specs.Prelude.{◌≡◌, ℕ, pos, length, ◌≤◌, Ok, 
 ghost use Rattle.std.specs.Fmt.{signed_decimal};
 ghost use Rattle.lc_base.specs.declared.value.Value.TheVariants as values;
 ghost use Rattle.lc_base.specs.declared.answer.Kind.TheVariants as kinds;
-ghost use Rattle.lc_base.specs.Outside.{HasCause};
+ghost use Rattle.lc_base.specs.Faults.{HasCause};
 ghost use Rattle.contract_meaning.specs.Builtins.{with_args, one_text, one_int, version_value, item_value, version_part, count_part, item_part, plain_value, built, called, applied};
 ghost use Rattle.contract_meaning.specs.Steps.{machine};
 ghost use Rattle.contract_meaning.specs.Answers.{scene_in, place_in, IsResultOf, IsNoFault, Takes, Gives, Charges, IsFaithful};
 
 use crate::arguments::{one_int, one_text, text_and_int, text_and_ints};
-use crate::asking::{
+use crate::reading::{get_int, get_text, has, int_in, text_in};
+use contract_asking::{
     back_count_asked, back_item_asked, block_told, block_value, fwd_count_asked, fwd_item_asked,
     key_value, seen_told, tx_told, value_told, version_asked,
 };
-use crate::reading::{get_int, get_text, has, int_in, text_in};
 use contract_meaning::{CallSite, Stop, charge_of};
 use contract_tree::Builtin;
 use dep_capture::Capture;

@@ -1,28 +1,18 @@
 //! What a contract reads of the present: the value of a key.
 
-ghost use Rattle.std.specs.Prelude.{◌≡◌, Ok, IfOk, OnErr};
-ghost use Rattle.lc_base.specs.Key.{key_of};
+ghost use Rattle.std.specs.Prelude.{◌≡◌, Ok};
 ghost use Rattle.dep_capture.specs.Capture.{pending};
 ghost use Rattle.world_state.specs.World.{newest_of};
-ghost use Rattle.contract_meaning.specs.Reading.{key_of_text, block_of, value_of_version, captured_by_read, value_got, is_held, int_in, text_in, of_kind, getting, having};
+ghost use Rattle.contract_meaning.specs.Reading.{block_of, value_of_version, captured_by_read, value_got, is_held, int_in, text_in, of_kind, getting, having};
 ghost use Rattle.contract_meaning.specs.Answers.{place_in, IsResultOf, IsNoFault, Takes, ReadsOrRefuses, IsFaithful};
 
+use contract_asking::key_of_text;
 use contract_meaning::Stop;
 use contract_operators::truth;
 use dep_capture::{Capture, CaptureError};
 use lc_base::{Duplicate, Key, Text, TxStatus, Value};
 use std::alloc::Global;
 use world_state::World;
-
-/// The key that a text is.
-pub fn key_of_text(text: &Text) -> Result<Key, TxStatus>
-    ensures { result ≡ key_of_text text.now }
-{
-    match Key::new(text.as_bytes()) {
-        Ok(key) => Ok(key),
-        Err(_) => Err(TxStatus::BadKey),
-    }
-}
 
 /// The same value again.
 pub fn copied(alloc: Global, value: &Value) -> Result<Value, Stop>

@@ -9,15 +9,11 @@ use Rattle.contract_tree.proofs.Statements.{if_is, two_blocks_is, while_is}
 use Rattle.contract_meaning.specs.declared.variable.Variable.{Variable}
 use Rattle.contract_meaning.specs.declared.stop.Stop.{Stop}
 use Rattle.contract_meaning.specs.Scenes.{Scene}
-use Rattle.contract_meaning.specs.Steps.{Machine, Step, Done, and_then}
+use Rattle.contract_meaning.specs.Steps.{Machine, Step, Done}
 use Rattle.contract_meaning.specs.Statements.{Ending, tested, statement_run, branch_run, loop_run}
-use Rattle.contract_eval.specs.declared.flow.Flow.{Flow}
-use Rattle.contract_eval.specs.Flows.{Flows}
-
--- what follows a step that is done
-pub then_flows : {A : Type 0} (step : Step A) (x : A) (n : Machine) (next : A → Machine → Step Ending) (result : Result Flow Stop) (variables : List Variable) (k : Machine)
-    → step ≡ Done x n → Flows (next x n) result variables k → Flows (and_then step next) result variables k
-then_flows step x n next result variables k done flows = subst (λ step. Flows (and_then step next) result variables k) (sym done) flows
+use Rattle.contract_statements.specs.declared.flow.Flow.{Flow}
+use Rattle.contract_statements.specs.Flows.{Flows}
+use Rattle.contract_statements.proofs.Following.{then_flows}
 
 -- the same statement, as another tree
 as_tree : (run : StatementTree → Step Ending) (s t : StatementTree) (result : Result Flow Stop) (variables : List Variable) (k : Machine) → s ≡ t → Flows (run t) result variables k → Flows (run s) result variables k

@@ -1,7 +1,3 @@
-pub mod Charging
-pub mod Faithful
-pub mod ToldRows
-pub mod Binary
 pub mod Loops
 pub mod Branches
 pub mod Arguments

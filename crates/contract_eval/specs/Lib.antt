@@ -1,1 +1,1 @@
-pub mod Flows
+pub mod Endings

@@ -1,22 +1,21 @@
 //! Calls of contracts.
 
-ghost use Rattle.std.specs.Prelude.{◌≡◌, ◌≤◌, map, find, List, IfSome, IfOk, IsErrOf};
+ghost use Rattle.std.specs.Prelude.{◌≡◌, ◌≤◌, IfSome, IfOk, IsErrOf};
 ghost use Rattle.std.specs.Option.{option_copied, option_map};
 ghost use Rattle.std.specs.List.{list_all, zip};
-ghost use Rattle.contract_eval.specs.Flows.{IsStatusOf};
-ghost use Rattle.lc_base.specs.Outside.{HasCause};
-ghost use Rattle.contract_tree.specs.Tree.{function_of, contract_of, statement_of, statement_list};
+ghost use Rattle.contract_eval.specs.Endings.{IsStatusOf};
+ghost use Rattle.lc_base.specs.Faults.{HasCause};
+ghost use Rattle.contract_tree.specs.Tree.{function_of, contract_of};
 ghost use Rattle.dep_capture.specs.Capture.{captured_none};
 ghost use Rattle.world_state.specs.World.{is_written, StandsForRows};
 ghost use Rattle.contract_meaning.specs.Scenes.{scene_of};
-ghost use Rattle.contract_meaning.specs.Steps.{machine};
 ghost use Rattle.contract_meaning.specs.Calls.{is_of_kind, is_of_its_kind, are_arguments, bound, function_run, function_called, call_result};
 ghost use Rattle.contract_meaning.specs.Answers.{scene_in, place_in, IsFaithful};
 
-use crate::flow::Flow;
 use crate::statement::statements;
 use contract_check::Checked;
 use contract_meaning::{CallSite, Outcome, Stop, Variable};
+use contract_statements::Flow;
 use contract_tree::{Function, Param, ValueKind};
 use dep_capture::Capture;
 use lc_base::{Duplicate, Host, HostError, Memory, TxStatus, Value, ValueList};

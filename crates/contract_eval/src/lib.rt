@@ -2,11 +2,6 @@
 #![tactic(auto)]
 
 mod calling;
-mod expression;
-mod flow;
-mod put_statement;
-mod putting;
 mod statement;
-mod variables;
 
 pub use calling::call;

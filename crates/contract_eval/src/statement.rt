@@ -1,136 +1,24 @@
 //! What statements do.
 
-ghost use Rattle.std.specs.Prelude.{◌≡◌, ◌≤◌, map, List, IfSome, IsErrOf};
-ghost use Rattle.lc_base.specs.Outside.{HasCause};
-ghost use Rattle.lc_base.specs.declared.tx_status.TxStatus.TheVariants as statuses;
+ghost use Rattle.std.specs.Prelude.{◌≤◌, map, IfSome, IsErrOf};
+ghost use Rattle.lc_base.specs.Faults.{HasCause};
 ghost use Rattle.contract_tree.specs.Tree.{tree_of, statement_of, statement_list};
-ghost use Rattle.contract_meaning.specs.declared.variable.Variable.{Variable as Variables};
-ghost use Rattle.contract_meaning.specs.declared.charge.TheConstants.{CHARGE_NODE};
-ghost use Rattle.contract_meaning.specs.Steps.{machine, charged, Done, Failed};
-ghost use Rattle.contract_meaning.specs.Statements.{Returns, tested, let_run, assign_run, statement_run, statements_run, block_run, branch_run, loop_turn, loop_run};
-ghost use Rattle.contract_meaning.specs.Answers.{scene_in, place_in, Gives, IsNoFault, IsFaithful};
-ghost use Rattle.dep_capture.specs.Captured.{Captured};
-ghost use Rattle.contract_eval.specs.Flows.{Flows, Turns};
+ghost use Rattle.contract_meaning.specs.Steps.{machine};
+ghost use Rattle.contract_meaning.specs.Statements.{statement_run, statements_run, block_run, branch_run, loop_turn, loop_run};
+ghost use Rattle.contract_meaning.specs.Answers.{scene_in, place_in, IsFaithful};
+ghost use Rattle.contract_statements.specs.Flows.{Flows};
+ghost use Rattle.contract_eval.specs.Endings.{Turns};
 
-use crate::expression::value;
-use crate::flow::Flow;
-use crate::put_statement::put_statement;
-use crate::variables::{assign, declare};
-use contract_builtins::charge;
-use contract_meaning::{CHARGE_NODE, CallSite, Stop, Variable};
-use contract_operators::holds;
+use contract_meaning::{CallSite, Stop, Variable};
+use contract_statements::{
+    Flow, assign_statement, end_names, fail_statement, let_statement, put_statement,
+    return_statement, tested,
+};
 use contract_tree::{Expr, Form, Statement};
 use dep_capture::Capture;
-use lc_base::{Host, Name, TxStatus};
+use lc_base::{Host, TxStatus};
 use std::alloc::Global;
 use world_state::World;
-
-/// The charge of a statement, and whether its condition holds.
-fn tested<C, H: Host>(
-    alloc: Global,
-    world: &World<C>,
-    site: &CallSite,
-    host: &mut H,
-    variables: &[Variable],
-    capture: &mut Capture,
-    left: &mut u32,
-    test: &Expr,
-) -> Result<bool, Stop>
-    requires { H.ready host.old }
-    ensures same { H.same host.old host.new }
-    ensures step { IfSome (H.rows host.old) (λ rows. Gives (λ holds. holds) (tested (scene_in rows world.now site.now) (tree_of test.now) variables.now (machine left.old capture.old)) result (machine left.new capture.new)) }
-    ensures left { left.new ≤ left.old }
-    ensures faithful { IsFaithful (place_in world.now) capture.old → IsFaithful (place_in world.now) capture.new }
-    ensures cause { HasCause (H.host_faults host.old) (H.host_faults host.new) (IsErrOf result Stop.Fault) }
-{
-    charge(left, CHARGE_NODE)?;
-    let value = value(alloc, world, site, host, variables, capture, left, test)?;
-    Ok(holds(&value))
-}
-
-fn let_statement<C, H: Host>(
-    alloc: Global,
-    world: &World<C>,
-    site: &CallSite,
-    host: &mut H,
-    variables: &mut Vec<Variable>,
-    capture: &mut Capture,
-    left: &mut u32,
-    name: &Name,
-    x: &Expr,
-) -> Result<Flow, Stop>
-    requires { H.ready host.old }
-    ensures same { H.same host.old host.new }
-    ensures step { IfSome (H.rows host.old) (λ rows. Flows (let_run (scene_in rows world.now site.now) name.now (tree_of x.now) variables.old.items (machine left.old capture.old)) result variables.new.items (machine left.new capture.new)) }
-    ensures left { left.new ≤ left.old }
-    ensures faithful { IsFaithful (place_in world.now) capture.old → IsFaithful (place_in world.now) capture.new }
-    ensures cause { HasCause (H.host_faults host.old) (H.host_faults host.new) (IsErrOf result Stop.Fault) }
-{
-    charge(left, CHARGE_NODE)?;
-    let value = value(
-        alloc,
-        world,
-        site,
-        host,
-        variables.as_slice(),
-        capture,
-        left,
-        x,
-    )?;
-    declare(variables, name, value)?;
-    Ok(Flow::Goes)
-}
-
-fn assign_statement<C, H: Host>(
-    alloc: Global,
-    world: &World<C>,
-    site: &CallSite,
-    host: &mut H,
-    variables: &mut Vec<Variable>,
-    capture: &mut Capture,
-    left: &mut u32,
-    name: &Name,
-    x: &Expr,
-) -> Result<Flow, Stop>
-    requires { H.ready host.old }
-    ensures same { H.same host.old host.new }
-    ensures step { IfSome (H.rows host.old) (λ rows. Flows (assign_run (scene_in rows world.now site.now) name.now (tree_of x.now) variables.old.items (machine left.old capture.old)) result variables.new.items (machine left.new capture.new)) }
-    ensures left { left.new ≤ left.old }
-    ensures faithful { IsFaithful (place_in world.now) capture.old → IsFaithful (place_in world.now) capture.new }
-    ensures cause { HasCause (H.host_faults host.old) (H.host_faults host.new) (IsErrOf result Stop.Fault) }
-{
-    charge(left, CHARGE_NODE)?;
-    let value = value(
-        alloc,
-        world,
-        site,
-        host,
-        variables.as_slice(),
-        capture,
-        left,
-        x,
-    )?;
-    assign(variables, name, value);
-    Ok(Flow::Goes)
-}
-
-fn fail_statement(left: &mut u32) -> Result<Flow, Stop>
-    ensures step { (variables : List Variables) (c : Captured) → Flows (charged CHARGE_NODE (machine left.old c) (λ m. Failed statuses.Failed m)) result variables (machine left.new c) }
-    ensures left { left.new ≤ left.old }
-    ensures no_fault { IsNoFault result }
-{
-    charge(left, CHARGE_NODE)?;
-    Err(Stop::Status(TxStatus::Failed))
-}
-
-fn return_statement(left: &mut u32) -> Result<Flow, Stop>
-    ensures step { (variables : List Variables) (c : Captured) → Flows (charged CHARGE_NODE (machine left.old c) (λ m. Done Returns m)) result variables (machine left.new c) }
-    ensures left { left.new ≤ left.old }
-    ensures no_fault { IsNoFault result }
-{
-    charge(left, CHARGE_NODE)?;
-    Ok(Flow::Returns)
-}
 
 /// A statement.
 #[cycle(statement)]
@@ -237,6 +125,7 @@ fn branch<C, H: Host>(
 }
 
 /// A block, whose names end with it.
+#[inline(always)]
 #[cycle(statement)]
 fn block<C, H: Host>(
     alloc: Global,
@@ -259,13 +148,14 @@ fn block<C, H: Host>(
     match statements(alloc, world, site, host, variables, capture, left, body)? {
         Flow::Returns => Ok(Flow::Returns),
         Flow::Goes => {
-            variables.truncate(outer);
+            end_names(variables, outer);
             Ok(Flow::Goes)
         }
     }
 }
 
 /// A turn of a loop: `None` where another turn comes.
+#[inline(always)]
 #[cycle(statement)]
 fn turn<C, H: Host>(
     alloc: Global,

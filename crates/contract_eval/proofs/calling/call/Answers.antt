@@ -8,7 +8,7 @@ use Rattle.contract_tree.specs.Tree.{contract_of, function_of}
 use Rattle.contract_meaning.specs.Scenes.{scene_of}
 use Rattle.contract_meaning.specs.Calls.{call_result, function_called}
 use Rattle.contract_eval.proofs.Called.{called_is, ok_so}
-use Rattle.contract_eval.proofs.ToldRows.{told_at, told_all}
+use Rattle.contract_values.proofs.ToldRows.{told_at, told_all}
 use Rattle.contract_eval.proofs.calling.call.Goals as goal
 
 pub returns-clause-outcome : goal.returns-clause-outcome

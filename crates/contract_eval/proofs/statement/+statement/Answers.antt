@@ -1,7 +1,7 @@
 use Rattle.std.proofs.Common.{◌≡◌, Some, ◌∙◌, arith}
 use Rattle.contract_eval.proofs.Branches.{if_flows, while_flows}
 use Rattle.contract_eval.proofs.Loops.{one_more, stops, ends}
-use Rattle.contract_eval.proofs.ToldRows.{told_at, told_all}
+use Rattle.contract_values.proofs.ToldRows.{told_at, told_all}
 use Rattle.contract_eval.proofs.statement.+statement.Goals as goal
 
 pub statement-returns-in_ok-chosen-in-If-clause-step : goal.statement-returns-in_ok-chosen-in-If-clause-step

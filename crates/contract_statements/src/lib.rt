@@ -1,0 +1,13 @@
+//! What statements do that have no block: declarations, assignments, puts, `fail` and `return`; and
+//! the conditions of those that have one.
+#![tactic(auto)]
+
+mod flow;
+mod put;
+mod simple;
+mod variables;
+
+pub use flow::Flow;
+pub use put::put_statement;
+pub use simple::{assign_statement, fail_statement, let_statement, return_statement, tested};
+pub use variables::end_names;

@@ -1,0 +1,4 @@
+pub mod Charging
+pub mod PlainNumbers
+pub mod ToldRows
+pub mod Binary

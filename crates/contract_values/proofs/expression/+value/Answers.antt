@@ -1,0 +1,13 @@
+use Rattle.std.proofs.Common.{◌∙◌}
+use Rattle.contract_values.proofs.Binary.{binary_gives}
+use Rattle.contract_values.proofs.ToldRows.{told_at, told_all}
+use Rattle.contract_values.proofs.expression.+value.Goals as goal
+
+pub node-returns-in_ok-first-in-Binary-clause-step :
+    goal.node-returns-in_ok-first-in-Binary-clause-step
+node-returns-in_ok-first-in-Binary-clause-step g t c =
+    told_all _ _
+    (λ rows told.
+    let mid = g.met.H.Host.same_rows c.args.host.now c.value-in-Binary.new.host c.in_ok-first-in-Binary.ensures.same ∙ told in
+    binary_gives _ _ c.args.x.now c.in-Binary.sign c.in-Binary.first c.in-Binary.second c.deref-in-Binary.result.now c.deref-in-Binary-2.result.now _ _ _ c.in_ok-first-in-Binary.first c.right.result c.in-Binary.is c.deref-in-Binary.ensures c.deref-in-Binary-2.ensures
+    (told_at _ _ rows told c.in_ok-first-in-Binary.ensures.step) (told_at _ _ rows mid c.right.ensures.step))

@@ -1,0 +1,6 @@
+//! What expressions give.
+#![tactic(auto)]
+
+mod expression;
+
+pub use expression::{value, values};
