@@ -3,13 +3,16 @@
 //! transaction the number of its status and its cost.
 #![tactic(auto)]
 
-mod ledger;
+ghost use Rattle.std.specs.Prelude.{IfOk};
+ghost use Rattle.block_codec.specs.Spelling.{IsBlock};
+ghost use Rattle.chain_state.specs.Chain.{IsAfter};
 
-use crate::ledger::Ledger;
 use anyhow::{Context, Result, bail};
-use block_codec::{Frames, MAX_FRAMES, decode};
+use block_codec::{Block, Frames, MAX_FRAMES, Placement, block_digest, decode};
 use chain_exec::BlockRun;
-use lc_base::MemSource;
+use chain_state::Chain;
+use lc_base::{Digest, Memory};
+use lc_outside::MemSource;
 use std::alloc::Global;
 use std::io::{self, BufRead, BufReader, BufWriter, Write};
 
@@ -27,40 +30,69 @@ fn print_run<W: Write>(out: &mut W, number: u32, run: &BlockRun) -> Result<()> {
     Ok(())
 }
 
-/// Runs the block of a frame after the blocks so far, and prints what it did.
-fn run_frame<W: Write>(alloc: Global, out: &mut W, ledger: Ledger, frame: &[u8]) -> Result<Ledger> {
-    let block = decode(alloc, frame)
-        .ok()
-        .context("a frame that is no block")?;
-    if !ledger.is_next(&block) {
-        bail!("a block that isn't the next one");
+/// Runs the next block of a chain.
+fn run_next(alloc: Global, chain: Chain, block: &Block, digest: Digest) -> Result<(Chain, BlockRun)>
+    requires { IsBlock block.now }
+    ensures { IfOk result (λ done. IsAfter chain block.now digest done.0 done.1) }
+{
+    match chain.place(block, digest) {
+        Placement::Next => match chain.extended(alloc, block, digest) {
+            Ok(done) => Ok(done),
+            Err(Memory) => bail!("no memory for what a block did"),
+        },
+        _ => {
+            chain.give_up();
+            bail!("a block that isn't the next one")
+        }
     }
-    let (ledger, run) = ledger
-        .extended(alloc, &block)
-        .ok()
-        .context("no memory for what a block did")?;
-    print_run(out, block.number, &run)?;
-    Ok(ledger)
 }
 
-/// Runs the blocks of a file.
-fn run_file<W: Write>(alloc: Global, out: &mut W, file: &[u8]) -> Result<()> {
-    let mut source = MemSource::new(alloc, file, PIECE, &[])
-        .ok()
-        .context("no memory for the input")?;
-    let mut ledger = Ledger::new(alloc);
+/// Runs the block of a frame after the blocks so far, and prints what it did.
+fn run_frame<W: Write>(alloc: Global, out: &mut W, chain: Chain, frame: &[u8]) -> Result<Chain> {
+    let Ok(block) = decode(alloc, frame) else {
+        chain.give_up();
+        bail!("a frame that is no block");
+    };
+    let (chain, run) = run_next(alloc, chain, &block, block_digest(frame))?;
+    match print_run(out, block.number, &run) {
+        Ok(()) => Ok(chain),
+        Err(error) => {
+            chain.give_up();
+            Err(error)
+        }
+    }
+}
+
+/// Runs the blocks of the frames that a source gives.
+fn run_frames<W: Write>(alloc: Global, out: &mut W, source: &mut MemSource) -> Result<()> {
+    let mut chain = Chain::new(alloc);
     let mut frames = Frames::new();
     for _ in 0..=MAX_FRAMES {
-        let next = frames.next(alloc, &mut source).ok();
-        match next.context("a file that isn't frames")? {
-            None => return Ok(()),
-            Some((frame, more)) => {
-                ledger = run_frame(alloc, out, ledger, frame.as_bytes())?;
+        match frames.next(alloc, source) {
+            Ok(None) => break,
+            Ok(Some((frame, more))) => {
+                chain = run_frame(alloc, out, chain, frame.as_bytes())?;
                 frames = more;
+            }
+            Err(_) => {
+                chain.give_up();
+                bail!("a file that isn't frames");
             }
         }
     }
+    chain.give_up();
     Ok(())
+}
+
+/// Runs the case of a line, after its name.
+fn run_case<W: Write>(alloc: Global, out: &mut W, line: &str) -> Result<()> {
+    let (name, file) = line.split_once('|').context("a case without a file")?;
+    writeln!(out, "== {name}")?;
+    let file = hex::decode(alloc, file)?;
+    let mut source = MemSource::new(alloc, &file, PIECE, &[])
+        .ok()
+        .context("no memory for the input")?;
+    run_frames(alloc, out, &mut source)
 }
 
 fn main(rt: HostRuntime) -> Result<()> {
@@ -68,9 +100,7 @@ fn main(rt: HostRuntime) -> Result<()> {
     let mut out = BufWriter::new(alloc, io::writer(&rt))?;
     for line in BufReader::new(alloc, rt.reader())?.lines(alloc) {
         let line = line?;
-        let (name, file) = line.split_once('|').context("a case without a file")?;
-        writeln!(out, "== {name}")?;
-        run_file(alloc, &mut out, &hex::decode(alloc, file)?)?;
+        run_case(alloc, &mut out, line.as_str())?;
     }
     out.flush()?;
     Ok(())

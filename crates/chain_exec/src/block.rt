@@ -2,7 +2,7 @@
 
 ghost use Rattle.std.specs.Prelude.{◌≡◌, ◌≤◌, [], ◌∷◌, ◌++◌, length, map, IfSome, IfOk, OnOk, IsErrOf};
 ghost use Rattle.std.specs.List.{AllByRecursion};
-ghost use Rattle.lc_base.specs.Outside.{HasCause};
+ghost use Rattle.lc_base.specs.Faults.{HasCause};
 ghost use Rattle.block_codec.specs.declared.limits.TheConstants.{MAX_TXS};
 ghost use Rattle.block_codec.specs.Spelling.{IsTx, IsBlock};
 ghost use Rattle.world_state.specs.Rows.{entry_of};
@@ -22,7 +22,7 @@ use std::alloc::Global;
 use world_state::World;
 
 /// What a block did: the rows that it wrote, in order, and a receipt for each transaction.
-#[derive(Debug, Drop)]
+#[derive(Drop)]
 pub struct BlockRun {
     pub rows: RowList,
     pub receipts: ReceiptList,

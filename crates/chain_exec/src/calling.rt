@@ -1,7 +1,7 @@
 //! Transactions that call a contract.
 
 ghost use Rattle.std.specs.Prelude.{◌≡◌, ◌≤◌, Some, IfSome, IfOk, IsErrOf};
-ghost use Rattle.lc_base.specs.Outside.{HasCause};
+ghost use Rattle.lc_base.specs.Faults.{HasCause};
 ghost use Rattle.contract_tree.specs.Tree.{contract_of};
 ghost use Rattle.dep_capture.specs.Captured.{AreLawfulRows};
 ghost use Rattle.world_state.specs.World.{StandsForRows};

@@ -11,7 +11,7 @@ use std::alloc::Global;
 use world_state::World;
 
 /// What a transaction hands to its block: its receipt, and the rows that it wrote.
-#[derive(Debug, Drop)]
+#[derive(Drop)]
 pub(crate) struct TxRun {
     pub(crate) receipt: Receipt,
     pub(crate) rows: RowList,

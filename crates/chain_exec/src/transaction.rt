@@ -1,7 +1,7 @@
 //! One transaction.
 
 ghost use Rattle.std.specs.Prelude.{◌≡◌, ◌≤◌, IfSome, IfOk, IsErrOf};
-ghost use Rattle.lc_base.specs.Outside.{HasCause};
+ghost use Rattle.lc_base.specs.Faults.{HasCause};
 ghost use Rattle.block_codec.specs.Spelling.{IsTx};
 ghost use Rattle.world_state.specs.World.{StandsForRows};
 ghost use Rattle.contract_meaning.specs.Answers.{place_in};

@@ -7,7 +7,7 @@ use Rattle.block_codec.specs.declared.block.Block.{Block}
 use Rattle.block_codec.specs.declared.limits.TheConstants.{MAX_FRAMES}
 use Rattle.chain_exec.specs.Compiled.{compiled_in}
 use Rattle.chain_exec.specs.Replay.{replay}
-use Rattle.scan_chain.specs.Chain.{ChainState, nothing_kept, StandsFor}
+use Rattle.chain_state.specs.Chain.{ChainState, nothing_kept, StandsFor}
 use Rattle.scan_chain.specs.Folding.{Refused, fold_step, fold_from, fold_input}
 use Rattle.scan_chain.specs.Turns.{step_at_start, IsTurn, CountsFrames, IsFoldResult}
 use Rattle.scan_chain.specs.declared.cause.Cause.{Cause}

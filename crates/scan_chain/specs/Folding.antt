@@ -1,13 +1,31 @@
 -- The frames of an input, taken one after another into a chain.
-use Rattle.std.specs.Prelude.{ℕ, zero, suc, ◌+◌, ◌-◌, List, [], drop, Result, Ok, Err}
+use Rattle.std.specs.Prelude.{ℕ, zero, suc, ◌+◌, ◌-◌, List, [], ◌∷◌, ◌++◌, drop, Result, Ok, Err}
 use Rattle.block_codec.specs.Frames.{FrameStep, End, Truncated, Length, Many, Frame, frame_step}
 use Rattle.block_codec.specs.Spelling.{Decoder}
 use Rattle.block_codec.specs.declared.limits.TheConstants.{MAX_FRAMES}
 use Rattle.block_codec.specs.declared.block.Block.{Block}
+use Rattle.block_codec.specs.declared.placement.Placement.{Placement}
+use Rattle.block_codec.specs.declared.placement.Placement.TheVariants as placements
 use Rattle.chain_exec.specs.Compiled.{Compiler}
-use Rattle.scan_chain.specs.Chain.{blocks_after_frame}
+use Rattle.chain_state.specs.Chain.{placement_in}
 use Rattle.scan_chain.specs.declared.cause.Cause.{Cause}
 use Rattle.scan_chain.specs.declared.cause.Cause.TheVariants as causes
+
+-- A block that the chain holds is passed over, the next one is appended to the others, and every
+-- other one is refused.
+abbrev pub blocks_after_placement : List Block → Block → Placement → Result (List Block) Cause
+blocks_after_placement blocks block placements.Known = Ok blocks
+blocks_after_placement blocks block placements.Next = Ok (blocks ++ block ∷ [])
+blocks_after_placement blocks block (placements.Fork have) = Err (causes.Fork have)
+blocks_after_placement blocks block placements.Full = Err causes.Full
+blocks_after_placement blocks block (placements.Number want) = Err (causes.Number want)
+blocks_after_placement blocks block (placements.Parent want) = Err (causes.Parent want)
+blocks_after_placement blocks block (placements.Budget sum) = Err (causes.Budget sum)
+
+-- What the bytes of a frame spell decides: a block, or the offset at which they are invalid.
+abbrev pub blocks_after_frame : Compiler → List Block → Result Block ℕ → Result (List Block) Cause
+blocks_after_frame compile blocks (Ok block) = blocks_after_placement blocks block (placement_in compile blocks block)
+blocks_after_frame compile blocks (Err offset) = Err (causes.Malformed offset)
 
 -- Where the frames of an input end: with all of them taken into a chain, or with one refused. Then
 -- its number is told, from 0, why it is refused, and what follows what was taken of the input.

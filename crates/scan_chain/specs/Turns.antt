@@ -7,7 +7,7 @@ use Rattle.block_codec.specs.declared.block.Block.{Block}
 use Rattle.block_codec.specs.declared.frames.FrameError.{FrameError}
 use Rattle.block_codec.specs.declared.frames.FrameError.TheVariants as frames
 use Rattle.chain_exec.specs.Compiled.{compiled_in}
-use Rattle.scan_chain.specs.Chain.{ChainState, StandsFor}
+use Rattle.chain_state.specs.Chain.{ChainState, StandsFor}
 use Rattle.scan_chain.specs.Folding.{Fold, Whole, Refused, fold_step}
 use Rattle.scan_chain.specs.declared.cause.Cause.{Cause}
 use Rattle.scan_chain.specs.declared.cause.Cause.TheVariants as causes
@@ -23,6 +23,12 @@ use Rattle.scan_chain.specs.declared.stop.Stop.TheVariants.{Fault, Memory}
 abbrev pub IsFoldResult : Folded → Option (List ℕ) → Fold → Type 0
 IsFoldResult (found.Whole chain) left fold = (blocks : List Block) × (fold ≡ Whole blocks) × StandsFor chain blocks × (left ≡ Some [])
 IsFoldResult (found.Refused frame cause) left fold = (rest : List ℕ) × (fold ≡ Refused frame cause rest) × (left ≡ Some rest)
+
+-- What became of a chain on a frame: it stands for the blocks that are wanted, or the frame is
+-- refused for the wanted cause.
+abbrev pub IsTakenIn : Result ChainState Cause → Result (List Block) Cause → Type 0
+IsTakenIn (Ok kept) wanted = (blocks : List Block) × (wanted ≡ Ok blocks) × StandsFor kept blocks
+IsTakenIn (Err cause) wanted = wanted ≡ Err cause
 
 -- What an error of the frames says of the input, or that it says nothing.
 abbrev pub IsCauseOf : FrameError → Result Cause Stop → Type 0

@@ -1,22 +1,23 @@
 //! The frames of an input, taken one after another into a chain.
 
-ghost use Rattle.lc_base.specs.Outside.{HasCause};
+ghost use Rattle.lc_base.specs.Faults.{HasCause};
 ghost use Rattle.std.specs.Prelude.{◌≡◌, [], IfOk, IfSome, List, IsErrOf};
-ghost use Rattle.lc_base.specs.Outside.{Rose};
+ghost use Rattle.lc_base.specs.Faults.{Rose};
 ghost use Rattle.block_codec.specs.Spelling.{IsBlock};
 ghost use Rattle.block_codec.specs.Placement.{digest_of};
 ghost use Rattle.block_codec.specs.Reading.{block_in};
 ghost use Rattle.block_codec.specs.declared.block.Block.{Block as Blocks};
-ghost use Rattle.scan_chain.specs.Chain.{blocks_after_placement, blocks_after_frame, placement_in, StandsFor, IsTakenIn};
-ghost use Rattle.scan_chain.specs.Folding.{fold_input};
 ghost use Rattle.chain_exec.specs.Compiled.{compiled_in};
-ghost use Rattle.scan_chain.specs.Turns.{IsFoldResult, IsCauseOf, IsTurn, CountsFrames};
+ghost use Rattle.chain_state.specs.Chain.{placement_in, StandsFor};
+ghost use Rattle.scan_chain.specs.Folding.{blocks_after_placement, blocks_after_frame, fold_input};
+ghost use Rattle.scan_chain.specs.Turns.{IsTakenIn, IsFoldResult, IsCauseOf, IsTurn, CountsFrames};
 
 use crate::cause::Cause;
-use crate::chain::Chain;
 use crate::stop::Stop;
 use block_codec::{Block, DecodeError, FrameError, Frames, Placement, block_digest, decode};
-use lc_base::{Digest, Memory, Source};
+use chain_state::Chain;
+use lc_base::{Digest, Memory};
+use lc_outside::Source;
 use std::alloc::Global;
 
 /// Where the frames of an input end.
@@ -39,6 +40,14 @@ enum Turn {
     Refused(Cause),
 }
 
+/// A frame is refused, and the chain is given up.
+fn refused(chain: Chain, cause: Cause) -> Result<Chain, Cause>
+    ensures { result ≡ Err cause }
+{
+    chain.give_up();
+    Err(cause)
+}
+
 /// A block that the chain holds is passed over, the next one is appended to the others, and every
 /// other one is refused.
 fn take_block(
@@ -53,12 +62,15 @@ fn take_block(
 {
     match chain.place(block, digest) {
         Placement::Known => Ok(Ok(chain)),
-        Placement::Next => Ok(Ok(chain.extended(alloc, block, digest)?)),
-        Placement::Fork { have } => Ok(Err(Cause::Fork(have))),
-        Placement::Full => Ok(Err(Cause::Full)),
-        Placement::Number { want } => Ok(Err(Cause::Number(want))),
-        Placement::Parent { want } => Ok(Err(Cause::Parent(want))),
-        Placement::Budget { sum } => Ok(Err(Cause::Budget(sum))),
+        Placement::Next => {
+            let (chain, _) = chain.extended(alloc, block, digest)?;
+            Ok(Ok(chain))
+        }
+        Placement::Fork { have } => Ok(refused(chain, Cause::Fork(have))),
+        Placement::Full => Ok(refused(chain, Cause::Full)),
+        Placement::Number { want } => Ok(refused(chain, Cause::Number(want))),
+        Placement::Parent { want } => Ok(refused(chain, Cause::Parent(want))),
+        Placement::Budget { sum } => Ok(refused(chain, Cause::Budget(sum))),
     }
 }
 
@@ -68,8 +80,11 @@ fn take_frame(alloc: Global, chain: Chain, frame: &[u8]) -> Result<Result<Chain,
 {
     match decode(alloc, frame) {
         Ok(block) => take_block(alloc, chain, &block, block_digest(frame)),
-        Err(DecodeError::Malformed { at }) => Ok(Err(Cause::Malformed(at))),
-        Err(DecodeError::Memory) => Err(Memory),
+        Err(DecodeError::Malformed { at }) => Ok(refused(chain, Cause::Malformed(at))),
+        Err(DecodeError::Memory) => {
+            chain.give_up();
+            Err(Memory)
+        }
     }
 }
 
@@ -103,7 +118,10 @@ fn look<I: Source>(
             Ok(chain) => Ok(Turn::Taken(chain, more)),
             Err(cause) => Ok(Turn::Refused(cause)),
         },
-        Err(error) => Ok(Turn::Refused(cause_of(error)?)),
+        Err(error) => {
+            chain.give_up();
+            Ok(Turn::Refused(cause_of(error)?))
+        }
     }
 }
 

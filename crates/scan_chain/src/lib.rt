@@ -2,11 +2,9 @@
 #![tactic(auto)]
 
 mod cause;
-mod chain;
 mod folding;
 mod stop;
 
 pub use cause::Cause;
-pub use chain::Chain;
 pub use folding::{Folded, fold};
 pub use stop::Stop;

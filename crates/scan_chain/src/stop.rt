@@ -2,7 +2,8 @@
 
 ghost use Rattle.std.specs.Prelude.{◌≡◌};
 
-use lc_base::{Failed, Memory};
+use lc_base::Memory;
+use lc_outside::Failed;
 use std::alloc::AllocError;
 
 /// Why a command stopped before its end.

@@ -1,23 +1,22 @@
-//! The chain of blocks that an input holds so far.
+//! A chain of blocks.
 
-ghost use Rattle.std.specs.Prelude.{◌≡◌, ◌<◌, ◌≤◌, [], length, map, IfOk, OnOk};
-ghost use Rattle.std.specs.List.{slice_get};
-ghost use Rattle.lc_base.specs.History.{scan};
+ghost use Rattle.std.specs.Prelude.{◌≡◌, List, [], ◌∷◌, ◌++◌, length, map, IfOk, OnOk};
+ghost use Rattle.lc_base.specs.History.{IsLawful, scan};
 ghost use Rattle.block_codec.specs.Spelling.{IsBlock};
-ghost use Rattle.block_codec.specs.Placement.{placement};
-ghost use Rattle.block_codec.specs.declared.limits.TheConstants.{MAX_BLOCKS, MAX_ROWS_BEFORE_BLOCK};
+ghost use Rattle.block_codec.specs.Placement.{digest_of};
+ghost use Rattle.block_codec.specs.declared.block.Block.{Block as Blocks};
 ghost use Rattle.world_state.specs.Rows.{entry_of};
 ghost use Rattle.world_state.specs.World.{newest_of, StandsForRows};
 ghost use Rattle.chain_exec.specs.BlockRows.{AreBlockRows};
 ghost use Rattle.chain_exec.specs.Compiled.{compiled_in};
 ghost use Rattle.chain_exec.specs.Fold.{block_effects};
 ghost use Rattle.chain_exec.specs.Running.{history_in, staged_in};
-ghost use Rattle.scan_chain.specs.Chain.{nothing_kept, IsAfter, last_digest};
+ghost use Rattle.chain_state.specs.Chain.{nothing_kept, placement_in, placement_kept, last_digest, HasRoom, IsAfter, StandsFor};
 
 use block_codec::{Block, Placement, place};
 use chain_exec::{BlockRun, run_block};
 use contract_check::Checked;
-use lc_base::{Answer, Digest, DigestList, HostError, Memory, Query};
+use lc_base::{Answer, Digest, DigestList, HostError, Memory, Query, RowList};
 use plain_rows::PlainRows;
 use std::alloc::Global;
 use std::marker::Model;
@@ -33,7 +32,7 @@ pub struct Chain {
 }
 
 impl Model for Chain {
-    ghost use Rattle.scan_chain.specs.Chain.{ChainState, IsKept};
+    ghost use Rattle.chain_state.specs.Chain.{ChainState, IsKept};
     ghost use Rattle.contract_tree.specs.contracts.tree.Contract as contracts;
     ghost use Rattle.std.specs.Coded.{codes};
 
@@ -71,6 +70,25 @@ fn block_run(
     }
 }
 
+/// Keeps the digest and the rows of a block after those of the others. On `Memory` only some of
+/// them may be kept.
+fn record(
+    digests: &mut DigestList,
+    digest: Digest,
+    rows: &mut PlainRows,
+    more: &RowList,
+) -> Result<(), Memory>
+    requires lawful { IsLawful (rows.old ++ more.now) }
+    ensures digests { OnOk result (digests.new ≡ digests.old ++ digest ∷ []) }
+    ensures rows { OnOk result (rows.new ≡ rows.old ++ more.now) }
+{
+    digests.push(digest)?;
+    rows.add(more)
+}
+
+/// Drops a world, whose many parts are dropped here alone.
+fn discard(_world: World<Checked>) {}
+
 impl Chain {
     /// No block yet. It takes no memory.
     pub fn new(alloc: Global) -> Chain
@@ -101,7 +119,9 @@ impl Chain {
     /// Where a block with this digest stands to the chain.
     pub fn place(&self, block: &Block, digest: Digest) -> Placement
         requires { IsBlock block.now }
-        ensures { result ≡ placement (length self.now.digests) (length self.now.rows) (slice_get self.now.digests block.now.number) (last_digest self.now.digests) block.now digest }
+        ensures placement { result ≡ placement_kept self.now block.now digest }
+        ensures stands { (blocks : List Blocks) → StandsFor self.now blocks → digest ≡ digest_of block.now → result ≡ placement_in compiled_in blocks block.now }
+        ensures room { result ≡ Placement.Next → HasRoom self.now block.now }
     {
         let have = self.digests.get(block.number as usize).copied();
         let rows = self.rows.as_slice().len() as u64;
@@ -118,27 +138,56 @@ impl Chain {
         }
     }
 
-    /// The chain with the next block after the others. On `Memory` the chain is given up.
-    pub fn extended(self, alloc: Global, block: &Block, digest: Digest) -> Result<Chain, Memory>
-        requires number { block.now.number ≡ length self.digests }
-        requires room { length self.digests < MAX_BLOCKS }
-        requires few_rows { length self.rows ≤ MAX_ROWS_BEFORE_BLOCK }
-        requires lawful { IsBlock block.now }
-        ensures { IfOk result (IsAfter self block.now digest) }
+    /// The chain with the next block after the others, and what this block did. On `Memory` the
+    /// chain is given up.
+    pub fn extended(
+        self,
+        alloc: Global,
+        block: &Block,
+        digest: Digest,
+    ) -> Result<(Chain, BlockRun), Memory>
+        requires room { HasRoom self block.now }
+        requires is_block { IsBlock block.now }
+        ensures after { IfOk result (λ done. IsAfter self block.now digest done.0 done.1) }
+        ensures stands { IfOk result (λ done. (blocks : List Blocks) → StandsFor self blocks → digest ≡ digest_of block.now → placement_in compiled_in blocks block.now ≡ Placement.Next → StandsFor done.0 (blocks ++ block.now ∷ [])) }
     {
         let Chain {
             mut digests,
             mut rows,
             mut world,
         } = self;
-        let run = block_run(alloc, &mut rows, &mut world, block)?;
+        let run = match block_run(alloc, &mut rows, &mut world, block) {
+            Ok(run) => run,
+            Err(Memory) => {
+                discard(world);
+                return Err(Memory);
+            }
+        };
         let world = world.commit()?;
-        digests.push(digest)?;
-        rows.add(&run.rows)?;
-        Ok(Chain {
-            digests,
-            rows,
+        match record(&mut digests, digest, &mut rows, &run.rows) {
+            Ok(()) => {
+                let chain = Chain {
+                    digests,
+                    rows,
+                    world,
+                };
+                Ok((chain, run))
+            }
+            Err(Memory) => {
+                discard(world);
+                Err(Memory)
+            }
+        }
+    }
+
+    /// Ends the chain. What it keeps has many parts; a function that ends it by this call, and not
+    /// where its scope ends, is checked in much less time.
+    pub fn give_up(self) {
+        let Chain {
+            digests: _digests,
+            rows: _rows,
             world,
-        })
+        } = self;
+        discard(world);
     }
 }

@@ -18,7 +18,7 @@ use Rattle.world_state.specs.World.{newest_of, StandsForRows}
 use Rattle.world_state.specs.declared.held.Held.{Held}
 use Rattle.chain_exec.specs.BlockRows.{AreBlockRows}
 use Rattle.chain_exec.proofs.TheLaws.{blocks_keep_lawful, blocks_keep_order}
-use Rattle.scan_chain.specs.Chain.{IsKept}
+use Rattle.chain_state.specs.Chain.{IsKept}
 
 -- ---- a block that is next has room
 
