@@ -1,0 +1,3 @@
+pub mod Json
+pub mod Transactions
+pub mod Reading

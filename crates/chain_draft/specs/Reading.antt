@@ -1,0 +1,11 @@
+-- What reading a part of a draft answers.
+use Rattle.std.specs.Prelude.{◌≡◌, Option, Some, None, Result, Ok, Err}
+use Rattle.chain_draft.specs.declared.read_error.ReadError.{ReadError}
+use Rattle.chain_draft.specs.declared.read_error.ReadError.TheVariants as errors
+
+-- What is read is this, and it has another shape exactly where there is none. Out of memory, nothing is
+-- said.
+abbrev pub Reads : {A : Type 0} → Result A ReadError → Option A → Type 0
+Reads (Ok value) found = found ≡ Some value
+Reads (Err errors.Shape) found = found ≡ None
+Reads (Err errors.Memory) found = Unit {0}

@@ -1,0 +1,134 @@
+//! The fields of transactions, read from JSON.
+
+ghost use Rattle.std.specs.Prelude.{◌≡◌, ◌≤◌, map, length, IfOk};
+ghost use Rattle.std.specs.Option.{option_map};
+ghost use Rattle.serde_json.specs.View.{view};
+ghost use Rattle.lc_base.specs.KeyBytes.{IsKey};
+ghost use Rattle.lc_base.specs.NameBytes.{IsName};
+ghost use Rattle.byte_fields.specs.Spelling.{IsValue};
+ghost use Rattle.block_codec.specs.declared.limits.TheConstants.{MAX_CALL_BUDGET, MAX_SOURCE_BYTES};
+ghost use Rattle.chain_draft.specs.Json.{items_in, member_count};
+ghost use Rattle.chain_draft.specs.Transactions.{key_in, name_in, source_in, value_in, budget_in, key_at, name_at};
+ghost use Rattle.chain_draft.specs.Reading.{Reads};
+
+use crate::read_error::ReadError;
+use block_codec::{MAX_CALL_BUDGET, MAX_SOURCE_BYTES};
+use lc_base::{Bytes, Key, Name, Text, TextError, Value};
+use serde_json::Value as Json;
+use std::alloc::Global;
+
+/// The items of a value that is an array.
+#[tactic(auto, using(crate::proofs::Views::items_listed))]
+pub fn items_in(json: &Json) -> Option<&[Json]>
+    ensures { option_map (λ items. map view items.now) result ≡ items_in (view json.now) }
+{
+    match json.as_array() {
+        Some(items) => Some(items.as_slice()),
+        None => None,
+    }
+}
+
+/// How many members a value has that is an object.
+#[tactic(auto, using(crate::proofs::Views::members_counted))]
+pub fn member_count(json: &Json) -> Option<usize>
+    ensures { result ≡ member_count (view json.now) }
+{
+    match json.as_object() {
+        Some(members) => Some(members.len()),
+        None => None,
+    }
+}
+
+/// A key.
+pub fn key_in(json: &Json) -> Result<Key, ReadError>
+    ensures read { Reads result (key_in (view json.now)) }
+    ensures lawful { IfOk result IsKey }
+{
+    let Some(text) = json.as_str() else {
+        return Err(ReadError::Shape);
+    };
+    match Key::new(text.as_bytes()) {
+        Ok(key) => Ok(key),
+        Err(_) => Err(ReadError::Shape),
+    }
+}
+
+/// A name.
+pub fn name_in(json: &Json) -> Result<Name, ReadError>
+    ensures read { Reads result (name_in (view json.now)) }
+    ensures lawful { IfOk result IsName }
+{
+    let Some(text) = json.as_str() else {
+        return Err(ReadError::Shape);
+    };
+    match Name::new(text.as_bytes()) {
+        Ok(name) => Ok(name),
+        Err(_) => Err(ReadError::Shape),
+    }
+}
+
+/// A source.
+pub fn source_in(alloc: Global, json: &Json) -> Result<Bytes, ReadError>
+    ensures read { Reads result (source_in (view json.now)) }
+    ensures short { IfOk result (λ source. length source ≤ MAX_SOURCE_BYTES) }
+{
+    let Some(text) = json.as_str() else {
+        return Err(ReadError::Shape);
+    };
+    let bytes = text.as_bytes();
+    if bytes.len() > MAX_SOURCE_BYTES {
+        return Err(ReadError::Shape);
+    }
+    Ok(Bytes::from_vec(Vec::from_slice(alloc, bytes)?))
+}
+
+/// A value.
+pub fn value_in(alloc: Global, json: &Json) -> Result<Value, ReadError>
+    ensures read { Reads result (value_in (view json.now)) }
+    ensures lawful { IfOk result IsValue }
+{
+    if let Some(number) = json.as_i64() {
+        return Ok(Value::Int(number));
+    }
+    let Some(text) = json.as_str() else {
+        return Err(ReadError::Shape);
+    };
+    match Text::new(alloc, text.as_bytes()) {
+        Ok(text) => Ok(Value::Text(text)),
+        Err(TextError::Memory) => Err(ReadError::Memory),
+        Err(TextError::Long | TextError::Byte(_)) => Err(ReadError::Shape),
+    }
+}
+
+/// A budget, in steps.
+pub fn budget_in(json: &Json) -> Result<u32, ReadError>
+    ensures read { Reads result (budget_in (view json.now)) }
+    ensures low { IfOk result (λ steps. steps ≤ MAX_CALL_BUDGET) }
+{
+    match json.as_u64() {
+        Some(steps) if steps <= u64::from(MAX_CALL_BUDGET) => Ok(steps as u32),
+        _ => Err(ReadError::Shape),
+    }
+}
+
+/// A key, as the member of this name.
+pub fn key_at(json: &Json, name: &str) -> Result<Key, ReadError>
+    ensures read { Reads result (key_at name.now (view json.now)) }
+    ensures lawful { IfOk result IsKey }
+{
+    match json.get(name) {
+        Some(member) => key_in(member),
+        None => Err(ReadError::Shape),
+    }
+}
+
+/// A name, as the member of this name.
+pub fn name_at(json: &Json, name: &str) -> Result<Name, ReadError>
+    ensures read { Reads result (name_at name.now (view json.now)) }
+    ensures lawful { IfOk result IsName }
+{
+    match json.get(name) {
+        Some(member) => name_in(member),
+        None => Err(ReadError::Shape),
+    }
+}

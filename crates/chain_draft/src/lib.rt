@@ -1,0 +1,10 @@
+//! The transactions of drafts, read from JSON.
+#![tactic(auto)]
+
+mod fields;
+mod read_error;
+mod transaction;
+
+pub use fields::items_in;
+pub use read_error::ReadError;
+pub use transaction::tx_in;

@@ -1,0 +1,5 @@
+pub mod Numbers
+pub mod Keys
+pub mod Repeated
+pub mod Small
+pub mod Generating

@@ -1,0 +1,92 @@
+-- The blocks that are made from a seed.
+use Rattle.std.specs.Prelude.{◌≡◌, ℕ, zero, suc, ◌+◌, ◌<◌, ◌≤◌, ◌==◌, if◌then◌else◌, List, [], ◌∷◌, ◌++◌, map, replicate, Option, Some, None}
+use Rattle.std.specs.List.{concat}
+use Rattle.lc_base.specs.declared.digest.Digest.{Digest}
+use Rattle.block_codec.specs.Spelling.{block_fields}
+use Rattle.block_codec.specs.Placement.{bytes_digest, digest_of, placement}
+use Rattle.block_codec.specs.declared.limits.TheConstants.{MAX_BLOCKS, MAX_ROWS_BEFORE_BLOCK}
+use Rattle.block_codec.specs.declared.placement.Placement.TheVariants.{Next}
+use Rattle.block_codec.specs.declared.block.Block.{Block}
+use Rattle.chain_gen.specs.Transactions.{txs_drawn}
+
+-- ---- one block after another
+
+-- A block of a number after its parent, and the state after its draws.
+unfoldable pub block_drawn : ℕ → Digest → ℕ → Block × ℕ
+block_drawn number parent state =
+    let txs = txs_drawn number state in
+    (record { number = number; parent = parent; txs = txs.0 }, txs.1)
+
+-- What was made so far: the blocks, the parent that the next one has, and where drawing stands.
+pub record MadeSoFar : Type 0 where
+  pub blocks : List Block
+  pub parent : Digest
+  pub state : ℕ
+
+-- 32 zero bytes, the parent of the first block.
+abbrev pub no_parent : Digest
+no_parent = record { 0 = replicate 32 0 }
+
+-- No block: drawing begins at the seed.
+abbrev pub none_made : ℕ → MadeSoFar
+none_made seed = record { blocks = []; parent = no_parent; state = seed }
+
+-- One more block, of this number: it is the parent of the next one.
+abbrev pub one_more_made : ℕ → MadeSoFar → MadeSoFar
+one_more_made number made =
+    let block = block_drawn number made.parent made.state in
+    record { blocks = made.blocks ++ block.0 ∷ []; parent = digest_of block.0; state = block.1 }
+
+-- The first blocks of a seed, as many as that.
+unfoldable pub made : ℕ → ℕ → MadeSoFar
+made seed zero = none_made seed
+made seed (suc count) = one_more_made count (made seed count)
+
+-- The bytes that spell a block.
+unfoldable pub spelling : Block → List ℕ
+spelling block = concat (block_fields block)
+
+-- So many blocks of a seed, each as the bytes that spell it.
+abbrev pub generated : ℕ → ℕ → List (List ℕ)
+generated count seed = map spelling (made seed count).blocks
+
+-- ---- a generator
+
+-- A generator: where drawing stands, and how many blocks were given, of how many.
+pub record Progress : Type 0 where
+  pub state : ℕ
+  pub given : ℕ
+  pub count : ℕ
+
+-- The generator with drawing at another state.
+abbrev pub standing_at : ℕ → Progress → Progress
+standing_at state gen = record { state = state; given = gen.given; count = gen.count }
+
+-- The bytes of a block, and the generator that has given it.
+abbrev pub given_block : Progress → Block × ℕ → List ℕ × Progress
+given_block gen block = (spelling block.0, record { state = block.1; given = gen.given + 1; count = gen.count })
+
+-- The next block, whose parent this is; none where all were given.
+abbrev pub next_block : Progress → Digest → Option (List ℕ × Progress)
+next_block gen parent =
+    if gen.given == gen.count then None
+    else Some (given_block gen (block_drawn gen.given parent gen.state))
+
+-- A generator that has given so many blocks of a seed.
+abbrev pub progress : ℕ → ℕ → ℕ → Progress
+progress seed count given = record { state = (made seed given).state; given = given; count = count }
+
+-- A generator that has given the first blocks of a seed, with their last one as parent, gives the
+-- one after them, if any, and then has given that too.
+abbrev pub GoesOn : ℕ → Progress → Option (List ℕ × Progress) → Type 0
+GoesOn seed gen None = gen.given ≡ gen.count
+GoesOn seed gen (Some next) =
+    (generated (gen.given + 1) seed ≡ generated gen.given seed ++ next.0 ∷ [])
+    × (bytes_digest next.0 ≡ (made seed (gen.given + 1)).parent)
+    × (next.1 ≡ progress seed gen.count (gen.given + 1))
+
+-- A block is the next one of each chain of its number of blocks that ends in its parent, as long as
+-- a chain has room.
+pub record IsPlaced (number : ℕ) (parent : Digest) (block : Block) : Type 0 where
+  pub next : number < MAX_BLOCKS → (rows : ℕ) → rows ≤ MAX_ROWS_BEFORE_BLOCK
+      → placement number rows None parent block (digest_of block) ≡ Next

@@ -1,0 +1,160 @@
+//! Blocks, one after another.
+
+ghost use Rattle.std.specs.Prelude.{◌≡◌, ℕ, ◌<◌, length, IfOk, IfSome};
+ghost use Rattle.block_codec.specs.Spelling.{Spells};
+ghost use Rattle.chain_gen.specs.Draws.{number_below, key_drawn};
+ghost use Rattle.chain_gen.specs.Generator.{block_drawn, generated, made, none_made, next_block, progress, spelling, standing_at, GoesOn, IsPlaced};
+
+use crate::draws::Draws;
+use crate::txs::txs_drawn;
+use block_codec::{Block, EncodeError, block_digest, encode};
+use lc_base::{Bytes, Digest, Key, Memory, TextList};
+use std::alloc::Global;
+use std::marker::Model;
+
+/// Makes the blocks of a chain, one after another, and draws what they hold.
+#[derive(Drop)]
+pub struct Gen {
+    state: u64,
+    given: u32,
+    count: u32,
+}
+
+impl Model for Gen {
+    ghost use Rattle.std.specs.Prelude.{◌≤◌};
+    ghost use Rattle.chain_gen.specs.Generator.{Progress};
+
+    ghost Value = { Progress };
+
+    ghost view = { λ gen. record { state = gen.state; given = gen.given; count = gen.count } };
+
+    ghost invariant = { λ gen. gen.given ≤ gen.count };
+}
+
+/// The bytes that spell a block.
+#[tactic(auto, unfolding(crate::specs::Generator::spelling))]
+fn spelled(alloc: Global, block: &Block) -> Result<Bytes, Memory>
+    requires { Spells (spelling block.now) block.now }
+    ensures bytes { IfOk result (λ bytes. bytes ≡ spelling block.now) }
+    ensures lawful { IfOk result (λ bytes. Spells bytes block.now) }
+{
+    match encode(alloc, block) {
+        Ok(bytes) => Ok(bytes),
+        Err(EncodeError::Limit) => unreachable!(),
+        Err(EncodeError::Memory) => Err(Memory),
+    }
+}
+
+/// The digest as it is. The prover learns of its length where its bytes are read.
+fn whole(digest: Digest) -> Digest
+    ensures same { result ≡ digest }
+    ensures whole { length digest.0 ≡ 32 }
+{
+    let _bytes = &digest.0[..];
+    digest
+}
+
+/// The bytes of a block that is drawn.
+#[tactic(auto, unfolding(crate::specs::Generator::block_drawn))]
+fn block_drawn(
+    alloc: Global,
+    draws: &mut Draws,
+    number: u32,
+    parent: Digest,
+) -> Result<Bytes, Memory>
+    ensures bytes { IfOk result (λ bytes. bytes ≡ spelling (block_drawn number parent draws.old).0) }
+    ensures lawful { IfOk result (λ bytes. Spells bytes (block_drawn number parent draws.old).0) }
+    ensures state { IfOk result (λ bytes. draws.new ≡ (block_drawn number parent draws.old).1) }
+{
+    let txs = txs_drawn(alloc, draws, number)?;
+    let block = Block {
+        number,
+        parent: whole(parent),
+        txs,
+    };
+    spelled(alloc, &block)
+}
+
+impl Gen {
+    /// Of so many blocks none was given yet, and drawing begins at the seed.
+    #[tactic(auto, unfolding(crate::specs::Generator::made))]
+    pub fn new(blocks: u32, seed: u32) -> Gen
+        ensures start { result ≡ progress seed blocks 0 }
+        ensures none { made seed 0 ≡ none_made seed }
+    {
+        Gen {
+            state: u64::from(seed),
+            given: 0,
+            count: blocks,
+        }
+    }
+
+    /// Draws a number below the bound; draws for blocks go on after it.
+    #[tactic(auto, unfolding(crate::specs::Draws::number_below))]
+    pub fn draw(&mut self, bound: u32) -> u32
+        requires { 0 < bound }
+        ensures number { result ≡ (number_below bound self.old.state).0 }
+        ensures state { self.new ≡ standing_at (number_below bound self.old.state).1 self.old }
+        ensures bound { result < bound }
+    {
+        let mut draws = Draws::new(self.state);
+        let number = draws.number_below(bound);
+        self.state = draws.state();
+        number
+    }
+
+    /// Draws a key, as blocks draw theirs; draws for blocks go on after it.
+    pub fn draw_key(&mut self) -> Key
+        ensures key { result ≡ (key_drawn self.old.state).0 }
+        ensures state { self.new ≡ standing_at (key_drawn self.old.state).1 self.old }
+    {
+        let mut draws = Draws::new(self.state);
+        let key = draws.key();
+        self.state = draws.state();
+        key
+    }
+
+    /// The bytes of the next block, whose parent is the argument, and the blocks after it; `None`
+    /// once all were given.
+    #[tactic(auto, using(crate::proofs::Small::drawn_is_placed))]
+    pub fn next(self, alloc: Global, parent: Digest) -> Result<Option<(Bytes, Gen)>, Memory>
+        ensures next { IfOk result (λ next. next ≡ next_block self parent) }
+        ensures lawful { IfOk result (λ next. IfSome next (λ next. Spells next.0 (block_drawn self.given parent self.state).0)) }
+        ensures placed { IsPlaced self.given parent (block_drawn self.given parent self.state).0 }
+        ensures goes_on { IfOk result (λ next. (seed : ℕ) → self ≡ progress seed self.count self.given → parent ≡ (made seed self.given).parent → GoesOn seed self next) }
+    {
+        if self.given == self.count {
+            return Ok(None);
+        }
+        let mut draws = Draws::new(self.state);
+        let bytes = block_drawn(alloc, &mut draws, self.given, parent)?;
+        Ok(Some((
+            bytes,
+            Gen {
+                state: draws.state(),
+                given: self.given + 1,
+                count: self.count,
+            },
+        )))
+    }
+}
+
+/// The bytes of so many blocks of a seed, in order.
+pub fn generated(alloc: Global, blocks: u32, seed: u32) -> Result<TextList, Memory>
+    ensures { IfOk result (λ texts. texts ≡ generated blocks seed) }
+{
+    let mut texts = TextList::new(alloc);
+    let mut generator = Gen::new(blocks, seed);
+    let mut parent = Digest([0; 32]);
+    for _ in 0..blocks {
+        match generator.next(alloc, parent)? {
+            Some((bytes, rest)) => {
+                parent = block_digest(bytes.as_bytes());
+                texts.push(bytes)?;
+                generator = rest;
+            }
+            None => unreachable!(),
+        }
+    }
+    Ok(texts)
+}

@@ -1,0 +1,8 @@
+use Rattle.serde_json.specs.View.{view}
+use Rattle.block_codec.specs.Spelling.{IsTx}
+use Rattle.chain_draft.specs.Transactions.{tx_in}
+use Rattle.chain_draft.proofs.Each.{Made}
+use Rattle.chain_pack.proofs.block.txs_at.Given as goal
+
+abbrev pub invariant-loop-item : goal.invariant-loop-item
+invariant-loop-item l = Made view tx_in IsTx l.items l.item-index l.txs

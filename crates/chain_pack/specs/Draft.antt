@@ -1,0 +1,86 @@
+-- Drafts, and the texts of the blocks that they are packed into.
+use Rattle.std.specs.Prelude.{ℕ, ◌+◌, nat_lt, if◌then◌else◌, List, [], ◌∷◌, length, replicate, Option, Some, None, Result, Ok, Err}
+use Rattle.std.specs.List.{concat}
+use Rattle.serde_json.specs.Data.{Data}
+use Rattle.lc_base.specs.declared.digest.Digest.{Digest}
+use Rattle.block_codec.specs.Spelling.{Spells, block_fields}
+use Rattle.block_codec.specs.Placement.{bytes_digest, block_budget}
+use Rattle.block_codec.specs.declared.limits.TheConstants.{MAX_BLOCK_BUDGET, MAX_BLOCK_BYTES, MAX_TXS}
+use Rattle.block_codec.specs.declared.block.Tx.{Tx}
+use Rattle.block_codec.specs.declared.block.Block.{Block}
+use Rattle.chain_draft.specs.Json.{json_in, items_in}
+use Rattle.chain_draft.specs.Transactions.{each, in_front, tx_in}
+use Rattle.chain_pack.specs.declared.error.PackError.{PackError}
+use Rattle.chain_pack.specs.declared.error.PackError.TheVariants.{Json, Top, Shape, BlockLimit, Memory}
+
+-- What an error says of the draft, which is nothing where memory ran out.
+abbrev pub pack_fault : PackError → Option PackError
+pack_fault Json = Some Json
+pack_fault Top = Some Top
+pack_fault (Shape block tx) = Some (Shape block tx)
+pack_fault (BlockLimit block) = Some (BlockLimit block)
+pack_fault Memory = None
+
+-- The transactions of the block of this number, or where the first item stands that is none.
+abbrev pub at_block : ℕ → Result (List Tx) ℕ → Result (List Tx) PackError
+at_block number (Ok txs) = Ok txs
+at_block number (Err index) = Err (Shape number index)
+
+-- At most `MAX_TXS` items, each a transaction.
+abbrev pub txs_of : ℕ → Option (List Data) → Result (List Tx) PackError
+txs_of number None = Err (BlockLimit number)
+txs_of number (Some items) = if nat_lt MAX_TXS (length items) then Err (BlockLimit number) else at_block number (each tx_in 0 items)
+
+-- The transactions of the block of this number: an array of them.
+abbrev pub txs_in : ℕ → Data → Result (List Tx) PackError
+txs_in number json = txs_of number (items_in json)
+
+-- The spelling of a block, whose budget is at most `MAX_BLOCK_BUDGET` and whose bytes are at most
+-- `MAX_BLOCK_BYTES`.
+abbrev pub text_of : Block → Result (List ℕ) PackError
+text_of block =
+    if nat_lt MAX_BLOCK_BUDGET (block_budget block) then Err (BlockLimit block.number)
+    else (if nat_lt MAX_BLOCK_BYTES (length (concat (block_fields block))) then Err (BlockLimit block.number)
+    else Ok (concat (block_fields block)))
+
+-- The text of the block of this number, parent and transactions.
+abbrev pub text_with : ℕ → Digest → Result (List Tx) PackError → Result (List ℕ) PackError
+text_with number parent (Ok txs) = text_of (record { number = number; parent = parent; txs = txs })
+text_with number parent (Err fault) = Err fault
+
+-- The text of the block of this number and parent.
+abbrev pub text_in : ℕ → Digest → Data → Result (List ℕ) PackError
+text_in number parent json = text_with number parent (txs_in number json)
+
+-- A text, and then those after it.
+abbrev pub then_texts : Result (List ℕ) PackError → (List ℕ → Result (List (List ℕ)) PackError) → Result (List (List ℕ)) PackError
+then_texts (Ok text) others = in_front text (others text)
+then_texts (Err fault) others = Err fault
+
+-- The texts of blocks, the first of this number and parent, and each of the others of the next
+-- number, its parent the digest of the block before. The first fault in this order decides.
+unfoldable pub texts_from : ℕ → Digest → List Data → Result (List (List ℕ)) PackError
+texts_from number parent [] = Ok []
+texts_from number parent (json ∷ others) = then_texts (text_in number parent json) (λ text. texts_from (number + 1) (bytes_digest text) others)
+
+-- 32 zero bytes, the parent of block 0.
+abbrev pub no_parent : Digest
+no_parent = record { 0 = replicate 32 0 }
+
+-- The texts of an array of blocks.
+abbrev pub texts_of : Option (List Data) → Result (List (List ℕ)) PackError
+texts_of None = Err Top
+texts_of (Some blocks) = texts_from 0 no_parent blocks
+
+-- The texts of the blocks of a JSON value.
+abbrev pub packed_of : Option Data → Result (List (List ℕ)) PackError
+packed_of None = Err Json
+packed_of (Some json) = texts_of (items_in json)
+
+-- The texts of the blocks of a draft, or its first fault.
+abbrev pub packed : List ℕ → Result (List (List ℕ)) PackError
+packed draft = packed_of (json_in draft)
+
+-- A text is that of a block.
+abbrev pub IsBlockText : List ℕ → Type 0
+IsBlockText text = (block : Block) × Spells text block

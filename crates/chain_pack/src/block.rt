@@ -1,0 +1,110 @@
+//! Blocks, read from JSON and spelled.
+
+ghost use Rattle.std.specs.Prelude.{◌≡◌, ◌≤◌, map, length, IfOk};
+ghost use Rattle.std.specs.List.{sum_by, AllByRecursion};
+ghost use Rattle.serde_json.specs.View.{view};
+ghost use Rattle.lc_base.specs.Answers.{Answers};
+ghost use Rattle.block_codec.specs.Spelling.{IsTx, IsBlock, Spells};
+ghost use Rattle.block_codec.specs.Placement.{tx_budget};
+ghost use Rattle.block_codec.specs.declared.limits.TheConstants.{MAX_TXS};
+ghost use Rattle.chain_draft.specs.Transactions.{each, tx_in};
+ghost use Rattle.chain_pack.specs.Draft.{pack_fault, at_block, txs_in, text_of, text_in, IsBlockText};
+
+use crate::error::PackError;
+use block_codec::{Block, EncodeError, MAX_BLOCK_BUDGET, MAX_TXS, Tx, TxList, encode};
+use chain_draft::{ReadError, items_in, tx_in};
+use lc_base::{Bytes, Digest, Memory};
+use serde_json::Value as Json;
+use std::alloc::Global;
+
+fn txs_at(alloc: Global, block: u32, items: &[Json]) -> Result<TxList, PackError>
+    requires { length items.now ≤ MAX_TXS }
+    ensures read { Answers (λ txs. txs) pack_fault result (at_block block (each tx_in 0 (map view items.now))) }
+    ensures few { IfOk result (λ txs. length txs ≤ MAX_TXS) }
+    ensures lawful { IfOk result (AllByRecursion IsTx) }
+{
+    let mut txs = TxList::new(alloc);
+    for item in items {
+        match tx_in(alloc, item) {
+            Ok(tx) => txs.push(tx)?,
+            Err(ReadError::Shape) => {
+                return Err(PackError::Shape {
+                    block,
+                    tx: txs.len() as u32,
+                });
+            }
+            Err(ReadError::Memory) => return Err(PackError::Memory),
+        }
+    }
+    Ok(txs)
+}
+
+fn txs_in(alloc: Global, block: u32, json: &Json) -> Result<TxList, PackError>
+    ensures read { Answers (λ txs. txs) pack_fault result (txs_in block (view json.now)) }
+    ensures few { IfOk result (λ txs. length txs ≤ MAX_TXS) }
+    ensures lawful { IfOk result (AllByRecursion IsTx) }
+{
+    match items_in(json) {
+        Some(items) if items.len() <= MAX_TXS as usize => txs_at(alloc, block, items),
+        _ => Err(PackError::BlockLimit { block }),
+    }
+}
+
+fn tx_budget(tx: &Tx) -> u32
+    ensures { result ≡ tx_budget tx.now }
+{
+    match tx {
+        Tx::Set { .. } | Tx::Deploy { .. } => 0,
+        Tx::Call { budget, .. } => *budget,
+    }
+}
+
+fn budget_sum(txs: &[Tx]) -> u64
+    requires { length txs.now ≤ MAX_TXS }
+    ensures { result ≡ sum_by tx_budget txs.now }
+{
+    txs.iter().map(|tx| u64::from(tx_budget(tx))).sum()
+}
+
+/// The same bytes, in no more room than they take.
+fn without_spare(alloc: Global, text: &Bytes) -> Result<Bytes, Memory>
+    ensures { IfOk result (λ bytes. bytes ≡ text.now) }
+{
+    Ok(Bytes::from_vec(Vec::from_slice(alloc, text.as_bytes())?))
+}
+
+#[tactic(auto, using(crate::proofs::Limits::is_long))]
+fn text_of(alloc: Global, block: &Block) -> Result<Bytes, PackError>
+    requires { IsBlock block.now }
+    ensures text { Answers (λ text. text) pack_fault result (text_of block.now) }
+    ensures spelled { IfOk result (λ text. Spells text block.now) }
+{
+    if budget_sum(block.txs.as_slice()) > MAX_BLOCK_BUDGET {
+        return Err(PackError::BlockLimit {
+            block: block.number,
+        });
+    }
+    match encode(alloc, block) {
+        Ok(text) => Ok(without_spare(alloc, &text)?),
+        Err(EncodeError::Limit) => Err(PackError::BlockLimit {
+            block: block.number,
+        }),
+        Err(EncodeError::Memory) => Err(PackError::Memory),
+    }
+}
+
+/// The text of the block of this number and parent.
+pub fn text_in(alloc: Global, number: u32, parent: Digest, json: &Json) -> Result<Bytes, PackError>
+    ensures text { Answers (λ text. text) pack_fault result (text_in number parent (view json.now)) }
+    ensures spelled { IfOk result IsBlockText }
+{
+    let txs = txs_in(alloc, number, json)?;
+    text_of(
+        alloc,
+        &Block {
+            number,
+            parent,
+            txs,
+        },
+    )
+}

@@ -1,0 +1,65 @@
+//! Whole drafts.
+
+ghost use Rattle.std.specs.Prelude.{◌≤◌, map, length, IfOk};
+ghost use Rattle.std.specs.Option.{ok_or};
+ghost use Rattle.std.specs.List.{AllByRecursion};
+ghost use Rattle.serde_json.specs.View.{view};
+ghost use Rattle.lc_base.specs.Answers.{Answers};
+ghost use Rattle.chain_draft.specs.Json.{json_in};
+ghost use Rattle.chain_pack.specs.Draft.{pack_fault, texts_from, no_parent, packed, IsBlockText};
+ghost use Rattle.chain_pack.specs.declared.draft.TheConstants.{MAX_PACKED_BLOCKS};
+
+use crate::block::text_in;
+use crate::error::PackError;
+use block_codec::block_digest;
+use chain_draft::items_in;
+use lc_base::{Digest, TextList};
+use serde_json::{Category, Value as Json};
+use std::alloc::Global;
+
+/// The greatest number of blocks that are packed: the numbers of blocks are of 32 bits.
+pub const MAX_PACKED_BLOCKS: usize = 4_294_967_296;
+
+#[tactic(auto, using(crate::proofs::Texts::found, crate::proofs::Texts::refused))]
+fn json_in(alloc: Global, draft: &[u8]) -> Result<Json, PackError>
+    ensures { Answers view pack_fault result (ok_or (json_in draft.now) PackError.Json) }
+{
+    match Json::from_slice(alloc, draft) {
+        Ok(json) => Ok(json),
+        Err(error) => match error.classify() {
+            Category::Memory => Err(PackError::Memory),
+            _ => Err(PackError::Json),
+        },
+    }
+}
+
+fn texts(alloc: Global, blocks: &[Json]) -> Result<TextList, PackError>
+    requires { length blocks.now ≤ MAX_PACKED_BLOCKS }
+    ensures texts { Answers (λ texts. texts) pack_fault result (texts_from 0 no_parent (map view blocks.now)) }
+    ensures spelled { IfOk result (AllByRecursion IsBlockText) }
+{
+    let mut texts = TextList::new(alloc);
+    let mut parent = Digest([0; 32]);
+    for block in blocks {
+        let text = text_in(alloc, texts.len() as u32, parent, block)?;
+        parent = block_digest(text.as_bytes());
+        texts.push(text)?;
+    }
+    Ok(texts)
+}
+
+/// The texts of the blocks of a draft.
+pub fn pack(alloc: Global, draft: &[u8]) -> Result<TextList, PackError>
+    ensures packed { Answers (λ texts. texts) pack_fault result (packed draft.now) }
+    // Each text is that of a block, and so no longer than one.
+    ensures spelled { IfOk result (AllByRecursion IsBlockText) }
+{
+    let json = json_in(alloc, draft)?;
+    let Some(blocks) = items_in(&json) else {
+        return Err(PackError::Top);
+    };
+    if blocks.len() > MAX_PACKED_BLOCKS {
+        return Err(PackError::Memory);
+    }
+    texts(alloc, blocks)
+}

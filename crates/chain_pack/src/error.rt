@@ -1,0 +1,39 @@
+//! Why a draft was not packed.
+
+ghost use Rattle.std.specs.Prelude.{◌≡◌};
+ghost use Rattle.chain_pack.specs.declared.error.PackError.TheVariants.{Memory as NoMemory};
+
+use lc_base::Memory;
+
+/// Why a draft was not packed.
+#[derive(Clone, Copy, Debug, PartialEq, Eq)]
+pub enum PackError {
+    /// It is no JSON.
+    Json,
+    /// It is no array.
+    Top,
+    /// An item of a block is no transaction.
+    Shape {
+        /// The index of the block, from 0.
+        block: u32,
+        /// The index of the item in the block, from 0.
+        tx: u32,
+    },
+    /// A block is no array, has more than `MAX_TXS` items, or has transactions whose budgets sum
+    /// up to more than `MAX_BLOCK_BUDGET` or whose block has more than `MAX_BLOCK_BYTES` bytes.
+    BlockLimit {
+        /// The index of the block, from 0.
+        block: u32,
+    },
+    /// Out of memory, or more than `MAX_PACKED_BLOCKS` blocks, which take more than 2 ^ 36 bytes of
+    /// memory.
+    Memory,
+}
+
+impl From<Memory> for PackError {
+    ghost from_gives = { λ _ error. error ≡ NoMemory };
+
+    fn from(_memory: Memory) -> PackError {
+        PackError::Memory
+    }
+}

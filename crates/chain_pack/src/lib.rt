@@ -1,0 +1,9 @@
+//! Drafts: JSON texts that people write, packed into the texts of blocks.
+#![tactic(auto)]
+
+mod block;
+mod draft;
+mod error;
+
+pub use draft::{MAX_PACKED_BLOCKS, pack};
+pub use error::PackError;
