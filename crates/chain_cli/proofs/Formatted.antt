@@ -11,9 +11,10 @@ use Rattle.contract_print.specs.Canonical.{contract_text}
 use Rattle.contract_print.proofs.RereadContracts.{reads_again}
 use Rattle.contract_print.proofs.WithoutOffsets.{one_text}
 use Rattle.chain_cli.specs.Texts.{last_line, lines_after, lines_of}
-use Rattle.chain_cli.specs.Output.{output_of, outcome_with, fmt_outcome, source_outcome, FitsInput, IsFmt, Long, Source, FormatsAgain}
-use Rattle.chain_cli.specs.declared.outcome.Ending.TheVariants as endings
-use Rattle.chain_cli.specs.declared.status.Status.TheVariants as statuses
+use Rattle.chain_lines.specs.Outcome.{outcome_with}
+use Rattle.chain_cli.specs.Output.{output_of, fmt_outcome, source_outcome, FitsInput, IsFmt, Long, Source, FormatsAgain}
+use Rattle.chain_lines.specs.declared.outcome.Ending.TheVariants as endings
+use Rattle.chain_lines.specs.declared.status.Status.TheVariants as statuses
 
 -- ---- the lines of a text, joined
 
@@ -46,14 +47,14 @@ told_again input functions reads good fits =
     subst (λ o. IsFmt (contract_text functions) (output_of o [])) told (Source fits (Ok again.0) again.1)
 
 by_fault : (input : List ℕ) (functions : List FunctionTree) (fault : Option Fault) → ReadsAs input functions → check_fault functions ≡ fault → (output_of (fmt_outcome functions fault) []).status ≡ statuses.Done
-    → FitsInput (concat (output_of (fmt_outcome functions fault) []).lines) → IsFmt (concat (output_of (fmt_outcome functions fault) []).lines) (output_of (fmt_outcome functions fault) [])
+    → FitsInput (concat (output_of (fmt_outcome functions fault) []).pieces) → IsFmt (concat (output_of (fmt_outcome functions fault) []).pieces) (output_of (fmt_outcome functions fault) [])
 by_fault input functions (Some fault) reads e done fits = absurd cc
 by_fault input functions None reads e done fits =
     let text : concat (lines_of (contract_text functions)) ≡ contract_text functions = text_joined (contract_text functions) in
     subst (λ (t : List ℕ). IsFmt t (output_of (outcome_with (lines_of (contract_text functions)) endings.Done) [])) (sym text) (told_again input functions reads e (subst FitsInput text fits))
 
 by_outcome : (input : List ℕ) (outcome : SourceOutcome) → IsOutcome input outcome → (output_of (source_outcome outcome) []).status ≡ statuses.Done
-    → FitsInput (concat (output_of (source_outcome outcome) []).lines) → IsFmt (concat (output_of (source_outcome outcome) []).lines) (output_of (source_outcome outcome) [])
+    → FitsInput (concat (output_of (source_outcome outcome) []).pieces) → IsFmt (concat (output_of (source_outcome outcome) []).pieces) (output_of (source_outcome outcome) [])
 by_outcome input (Ok functions) reads done fits = by_fault input functions (check_fault functions) reads refl done fits
 by_outcome input (Err fault) is done fits = absurd cc
 

@@ -1,8 +1,7 @@
-pub mod Commands
-pub mod Texts
-pub mod Telling
-pub mod Wholes
+pub mod Told
 pub mod Fmts
-pub mod Outputs
+pub mod Packs
+pub mod Generated
 pub mod OneOutput
+pub mod Outputs
 pub mod Formatted

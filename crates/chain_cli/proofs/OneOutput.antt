@@ -1,6 +1,5 @@
 -- Of an input of bytes, a command wants one output.
 use Rattle.std.proofs.Common.{◌≡◌, ℕ, zero, suc, ◌+◌, ◌-◌, ◌<◌, ◌≤◌, Bool, true, false, cond, eqb, ltb, List, [], length, take, drop, Option, Some, None, Result, Ok, Err, refl, ap, ◌∙◌, ◌⊎◌, inl, inr, subst, arith}
-use Rattle.std.specs.Prelude.{codes}
 use Rattle.std.specs.Int.{w32, from_be_bytes}
 use Rattle.std.proofs.lemmas.Bool.{cases_lt}
 use Rattle.lc_base.specs.declared.answer.Query.{Query}
@@ -15,15 +14,14 @@ use Rattle.block_codec.proofs.Decoders.{decoders_agree}
 use Rattle.block_codec.proofs.WholeBlocks.{decided}
 use Rattle.contract_parse.specs.Syntax.{Outcome as SourceOutcome, IsOutcome}
 use Rattle.contract_parse.proofs.Outcomes.{some_outcome, one_outcome}
-use Rattle.chain_cli.specs.declared.whole.TheConstants.{MAX_WHOLE_INPUT_BYTES}
+use Rattle.chain_lines.specs.declared.whole.TheConstants.{MAX_WHOLE_INPUT_BYTES}
 use Rattle.chain_exec.specs.Compiled.{Compiler, compiled_in}
 use Rattle.chain_exec.proofs.TheLaws.{one_compiler}
-use Rattle.scan_chain.specs.Chain.{blocks_after_frame}
-use Rattle.scan_chain.specs.Folding.{Fold, fold_after_frame, fold_step, fold_from, fold_input}
-use Rattle.chain_cli.specs.Output.{Output, output_of, scan_output, usage_output, bad_input, source_outcome, IsFmt, Long, Source, Wants, IsOneOutput}
+use Rattle.scan_chain.specs.Folding.{blocks_after_frame, Fold, fold_after_frame, fold_step, fold_from, fold_input}
+use Rattle.chain_cli.specs.Output.{Output, output_of, scan_output, usage_output, long_output, pack_output, gen_output, source_outcome, IsFmt, Long, Source, Wants, IsOneOutput}
 use Rattle.scan_chain.specs.declared.cause.Cause.{Cause}
-use Rattle.chain_cli.specs.declared.words.Command.{Command}
-use Rattle.chain_cli.specs.declared.words.Command.TheVariants.{Scan, Fmt}
+use Rattle.chain_words.specs.declared.words.Command.{Command}
+use Rattle.chain_words.specs.declared.words.Command.TheVariants.{Scan, Fmt, Pack, Gen}
 
 -- ---- the bytes of a frame
 
@@ -92,6 +90,25 @@ module _ (compile : Compiler) (a b : Decoder) (is_a : IsDecoder a) (is_b : IsDec
   fold_same (suc more) blocks input fits =
       step_same (fold_from a compile more) (fold_from b compile more) (fold_same more) (MAX_FRAMES - more) blocks input fits (frame_step (MAX_FRAMES - more) input) refl
 
+-- ---- an output that is wanted
+
+some_fmt : (input : List ℕ) → (output : Output) × IsFmt input output
+some_fmt input =
+    elim (cases_lt MAX_WHOLE_INPUT_BYTES (length input)) [
+      | inl long ↦ (long_output input, Long long)
+      | inr fits ↦ let found = some_outcome input in (output_of (source_outcome found.0) [], Source fits found.0 found.1)
+    ]
+
+-- a command, or that the words are none, wants an output
+pub some_output : (command : Option Command) (input : List ℕ) → (output : Output) × Wants command input output
+some_output None input = (usage_output input, refl)
+some_output (Some (Scan query)) input = (scan_output compiled_in query (fold_input block_in compiled_in input), (block_in, decided, compiled_in, one_compiler.is_compiler, refl))
+some_output (Some Fmt) input = some_fmt input
+some_output (Some Pack) input = (pack_output input, refl)
+some_output (Some (Gen generation)) input = (gen_output generation input, refl)
+
+-- ---- and no other
+
 one_scan : (query : Query) (input : List ℕ) → IsBytes input → IsOneOutput (Wants (Some (Scan query)) input)
 one_scan query input fits = record {
   output = scan_output compiled_in query (fold_input block_in compiled_in input);
@@ -108,7 +125,7 @@ one_usage input = record { output = usage_output input; wanted = refl; only = λ
 
 -- ---- the canonical text of a contract
 
-only_long : (input : List ℕ) → MAX_WHOLE_INPUT_BYTES < length input → (other : Output) → IsFmt input other → other ≡ output_of (bad_input (codes "long")) (drop (MAX_WHOLE_INPUT_BYTES + 1) input)
+only_long : (input : List ℕ) → MAX_WHOLE_INPUT_BYTES < length input → (other : Output) → IsFmt input other → other ≡ long_output input
 only_long input long _ (Long _) = refl
 only_long input long _ (Source fits outcome is) = absurd (omega (arith, long, fits))
 
@@ -119,7 +136,7 @@ only_source input outcome fits is _ (Source _ found i) = ap (λ (o : SourceOutco
 one_fmt : (input : List ℕ) → IsOneOutput (Wants (Some Fmt) input)
 one_fmt input =
     elim (cases_lt MAX_WHOLE_INPUT_BYTES (length input)) [
-      | inl long ↦ record { output = output_of (bad_input (codes "long")) (drop (MAX_WHOLE_INPUT_BYTES + 1) input); wanted = Long long; only = only_long input long }
+      | inl long ↦ record { output = long_output input; wanted = Long long; only = only_long input long }
       | inr fits ↦
           let found = some_outcome input in
           record { output = output_of (source_outcome found.0) []; wanted = Source fits found.0 found.1; only = only_source input found.0 fits found.1 }
@@ -129,3 +146,5 @@ pub one_output : (command : Option Command) (input : List ℕ) → IsBytes input
 one_output None input fits = one_usage input
 one_output (Some (Scan query)) input fits = one_scan query input fits
 one_output (Some Fmt) input fits = one_fmt input
+one_output (Some Pack) input fits = record { output = pack_output input; wanted = refl; only = λ other is. is }
+one_output (Some (Gen generation)) input fits = record { output = gen_output generation input; wanted = refl; only = λ other is. is }

@@ -1,8 +1,5 @@
-pub mod Words
 pub mod Texts
-pub mod Whole
-pub mod Lines
-pub mod Status
+pub mod Blocks
 pub mod Output
 pub mod Scanning
 pub mod Telling

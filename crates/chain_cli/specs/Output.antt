@@ -1,52 +1,51 @@
 -- What a command wants told of an input, how it ends, and what it leaves of the input.
-use Rattle.std.specs.Prelude.{◌≡◌, ℕ, ◌+◌, ◌-◌, ◌<◌, ◌≤◌, ◌==◌, nat_lt, if◌then◌else◌, List, [], ◌∷◌, length, drop, Option, Some, None, Ok, Err, codes}
+use Rattle.std.specs.Prelude.{◌≡◌, ℕ, ◌+◌, ◌-◌, ◌<◌, ◌≤◌, ◌==◌, nat_lt, Bool, true, false, if◌then◌else◌, List, [], ◌∷◌, length, drop, map, Option, Some, None, Ok, Err, codes}
 use Rattle.std.specs.List.{concat}
-use Rattle.lc_base.specs.Outside.{Tell, Told, ToldPrefix}
+use Rattle.lc_outside.specs.Outside.{Tell, Told, ToldPrefix}
 use Rattle.lc_base.specs.History.{scan}
 use Rattle.lc_base.specs.declared.answer.Query.{Query}
 use Rattle.block_codec.specs.Spelling.{Decoder, IsDecoder}
 use Rattle.block_codec.specs.declared.block.Block.{Block}
-use Rattle.chain_cli.specs.Lines.{usage_line, empty_line, head_line, refused_line, answer_lines, bad_input_line, syntax_cause, check_cause}
 use Rattle.contract_tree.specs.Tree.{FunctionTree}
 use Rattle.contract_parse.specs.Syntax.{Outcome as SourceOutcome, IsOutcome}
 use Rattle.contract_check.specs.Faults.{check_fault}
 use Rattle.contract_check.specs.declared.fault.Fault.{Fault}
 use Rattle.contract_print.specs.Canonical.{contract_text}
-use Rattle.chain_cli.specs.Texts.{lines_of}
-use Rattle.chain_cli.specs.declared.whole.TheConstants.{MAX_WHOLE_INPUT_BYTES}
-use Rattle.chain_cli.specs.declared.words.Command.{Command}
-use Rattle.chain_cli.specs.declared.words.Command.TheVariants.{Scan, Fmt}
 use Rattle.chain_exec.specs.Compiled.{Compiler, IsCompiler}
 use Rattle.chain_exec.specs.Replay.{replay}
 use Rattle.scan_chain.specs.Folding.{Fold, Whole, Refused, fold_input}
-use Rattle.chain_cli.specs.declared.outcome.Outcome.{Outcome}
-use Rattle.chain_cli.specs.declared.outcome.Ending.{Ending}
-use Rattle.chain_cli.specs.declared.outcome.Ending.TheVariants as endings
-use Rattle.chain_cli.specs.declared.status.Status.{Status}
-use Rattle.chain_cli.specs.declared.status.Status.TheVariants as statuses
+use Rattle.chain_pack.specs.Draft.{packed}
+use Rattle.chain_gen.specs.Generator.{generated}
+use Rattle.chain_words.specs.declared.words.Generation.{Generation}
+use Rattle.chain_words.specs.declared.words.Command.{Command}
+use Rattle.chain_words.specs.declared.words.Command.TheVariants.{Scan, Fmt, Pack, Gen}
+use Rattle.chain_lines.specs.Lines.{usage_line, empty_line, head_line, refused_line, answer_lines, syntax_cause, check_cause}
+use Rattle.chain_lines.specs.Outcome.{status_of, outcome_with, bad_input}
+use Rattle.chain_lines.specs.declared.whole.TheConstants.{MAX_WHOLE_INPUT_BYTES}
+use Rattle.chain_lines.specs.declared.outcome.Outcome.{Outcome}
+use Rattle.chain_lines.specs.declared.outcome.Ending.TheVariants as endings
+use Rattle.chain_lines.specs.declared.status.Status.{Status}
+use Rattle.chain_lines.specs.declared.status.Status.TheVariants as statuses
+use Rattle.chain_cli.specs.Texts.{lines_of}
+use Rattle.chain_cli.specs.Blocks.{frame, draft_outcome}
 
 -- ---- the commands
 
--- What is told, how the command ends, and what is left of the input.
+-- What is told, each piece by itself; how the command ends; and what is left of the input.
 pub record Output : Type 0 where
-  pub lines : List (List ℕ)
+  pub pieces : List (List ℕ)
   pub status : Status
   pub left : List ℕ
 
--- The status that an ending gives.
-abbrev pub status_of : Ending → Status
-status_of endings.Done = statuses.Done
-status_of endings.Refused = statuses.Refused
-status_of endings.Beyond = statuses.Beyond
-status_of endings.BadInput = statuses.BadInput
-
--- Some lines, and an ending.
-abbrev pub outcome_with : List (List ℕ) → Ending → Outcome
-outcome_with lines ending = record { lines = lines; ending = ending }
-
 -- An outcome, and what is left of the input.
 abbrev pub output_of : Outcome → List ℕ → Output
-output_of outcome left = record { lines = outcome.lines; status = status_of outcome.ending; left = left }
+output_of outcome left = record { pieces = outcome.pieces; status = status_of outcome.ending; left = left }
+
+-- Words that are no command give `usage`, and leave the input.
+abbrev pub usage_output : List ℕ → Output
+usage_output input = record { pieces = usage_line ∷ []; status = statuses.Usage; left = input }
+
+-- ---- a question over the blocks of an input
 
 -- The answer over the rows of a chain, where it is asked for up to one of its blocks.
 abbrev pub answer_outcome : Compiler → Query → List Block → Outcome
@@ -62,19 +61,15 @@ scan_output compile query (Whole blocks) = output_of (answer_outcome compile que
 scan_output compile query (Refused frame cause left) =
     output_of (outcome_with (refused_line frame cause ∷ []) endings.Refused) left
 
--- Words that are no command give `usage`, and leave the input.
-abbrev pub usage_output : List ℕ → Output
-usage_output input = record { lines = usage_line ∷ []; status = statuses.Usage; left = input }
-
--- ---- the canonical text of a contract
+-- ---- inputs that are read whole
 
 -- The input is short enough to be read whole.
 abbrev pub FitsInput : List ℕ → Type 0
 FitsInput input = length input ≤ MAX_WHOLE_INPUT_BYTES
 
--- An input that is not of its grammar, or too long.
-abbrev pub bad_input : List ℕ → Outcome
-bad_input cause = outcome_with (bad_input_line cause ∷ []) endings.BadInput
+-- What a command tells of an input that is too long: what follows the first byte too many is left.
+abbrev pub long_output : List ℕ → Output
+long_output input = output_of (bad_input (codes "long")) (drop (MAX_WHOLE_INPUT_BYTES + 1) input)
 
 -- What is told of functions: their canonical text, line by line, unless one of their names or kinds
 -- is invalid.
@@ -88,11 +83,9 @@ abbrev pub source_outcome : SourceOutcome → Outcome
 source_outcome (Ok functions) = fmt_outcome functions (check_fault functions)
 source_outcome (Err fault) = bad_input (syntax_cause fault.0 fault.1)
 
--- What `fmt` tells of an input: what is told of the source that it is, or that it is too long. Then
--- what follows the first byte too many is left.
+-- What `fmt` tells of an input: what is told of the source that it is, or that it is too long.
 pub data IsFmt (input : List ℕ) : Output → Type 0 where
-  Long : MAX_WHOLE_INPUT_BYTES < length input →
-      IsFmt input (output_of (bad_input (codes "long")) (drop (MAX_WHOLE_INPUT_BYTES + 1) input))
+  Long : MAX_WHOLE_INPUT_BYTES < length input → IsFmt input (long_output input)
   Source : FitsInput input → (outcome : SourceOutcome) → IsOutcome input outcome →
       IsFmt input (output_of (source_outcome outcome) [])
 
@@ -100,8 +93,21 @@ pub data IsFmt (input : List ℕ) : Output → Type 0 where
 -- enough to be read whole.
 abbrev pub FormatsAgain : List ℕ → Type 0
 FormatsAgain input =
-    (output : Output) → IsFmt input output → output.status ≡ statuses.Done → FitsInput (concat output.lines) →
-    IsFmt (concat output.lines) output
+    (output : Output) → IsFmt input output → output.status ≡ statuses.Done → FitsInput (concat output.pieces) →
+    IsFmt (concat output.pieces) output
+
+-- What `pack` tells of an input: what is told of the draft that it is, or that it is too long.
+abbrev pub pack_output : List ℕ → Output
+pack_output input =
+    if nat_lt MAX_WHOLE_INPUT_BYTES (length input) then long_output input
+    else output_of (draft_outcome (packed input)) []
+
+-- ---- blocks that are made
+
+-- What `gen` tells: the frame of each block. It leaves the input.
+abbrev pub gen_output : Generation → List ℕ → Output
+gen_output generation input =
+    record { pieces = map frame (generated generation.blocks generation.seed); status = statuses.Done; left = input }
 
 -- ---- what is wanted
 
@@ -112,6 +118,8 @@ Wants (Some (Scan query)) input output =
     (read : Decoder) × IsDecoder read × (compile : Compiler) × IsCompiler compile
     × (output ≡ scan_output compile query (fold_input read compile input))
 Wants (Some Fmt) input output = IsFmt input output
+Wants (Some Pack) input output = output ≡ pack_output input
+Wants (Some (Gen generation)) input output = output ≡ gen_output generation input
 
 -- There is an output that is wanted, and no other.
 pub record IsOneOutput (Wanted : Output → Type 0) : Type 0 where
@@ -119,11 +127,31 @@ pub record IsOneOutput (Wanted : Output → Type 0) : Type 0 where
   pub wanted : Wanted output
   pub only : (other : Output) → Wanted other → other ≡ output
 
+-- Whether a command, or words that are none, reads the input.
+abbrev pub reads_input : Option Command → Bool
+reads_input None = false
+reads_input (Some (Scan query)) = true
+reads_input (Some Fmt) = true
+reads_input (Some Pack) = true
+reads_input (Some (Gen generation)) = false
+
+-- Whether a command tells pieces while it makes others.
+abbrev pub tells_as_it_goes : Option Command → Bool
+tells_as_it_goes None = false
+tells_as_it_goes (Some (Scan query)) = false
+tells_as_it_goes (Some Fmt) = false
+tells_as_it_goes (Some Pack) = false
+tells_as_it_goes (Some (Gen generation)) = true
+
 -- What was told, the status and what is left are those of an output that is wanted. Where reading
--- failed or memory ran out, nothing was told; where the wire failed, a prefix of the lines.
+-- failed nothing was told; where memory ran out or the wire failed, a prefix of the pieces.
 abbrev pub Meets : Status → Option (List Tell) → Option (List Tell) → Option (List ℕ) → (Output → Type 0) → Type 0
 Meets statuses.Unreadable old new left Wanted = Told old new []
-Meets statuses.Memory old new left Wanted = Told old new []
-Meets statuses.Untold old new left Wanted = (output : Output) × Wanted output × ToldPrefix old new output.lines
+Meets statuses.Memory old new left Wanted = (output : Output) × Wanted output × ToldPrefix old new output.pieces
+Meets statuses.Untold old new left Wanted = (output : Output) × Wanted output × ToldPrefix old new output.pieces
 Meets status old new left Wanted =
-    (output : Output) × Wanted output × Told old new output.lines × (status ≡ output.status) × (left ≡ Some output.left)
+    (output : Output) × Wanted output × Told old new output.pieces × (status ≡ output.status) × (left ≡ Some output.left)
+
+-- Where memory ran out, nothing was told.
+abbrev pub IsSilent : Status → Option (List Tell) → Option (List Tell) → Type 0
+IsSilent status old new = status ≡ statuses.Memory → Told old new []

@@ -1,8 +1,8 @@
 -- What the commands of the program answer, for their definitions.
 use Rattle.std.specs.Prelude.{◌≡◌, ℕ, List, Option, Some}
+use Rattle.chain_words.specs.declared.words.Command.{Command}
+use Rattle.chain_lines.specs.declared.outcome.Outcome.{Outcome}
 use Rattle.chain_cli.specs.Output.{Output, output_of, IsFmt, Wants}
-use Rattle.chain_cli.specs.declared.words.Command.{Command}
-use Rattle.chain_cli.specs.declared.outcome.Outcome.{Outcome}
 
 -- An outcome, and what is left of the input, are the output.
 abbrev pub GivesOutput : Outcome → Option (List ℕ) → Output → Type 0

@@ -1,20 +1,45 @@
--- Telling lines.
+-- Telling pieces.
 use Rattle.std.specs.Prelude.{◌≡◌, ◌⊎◌, ℕ, ◌≤◌, List, [], Option, Result, Ok, Err}
-use Rattle.lc_base.specs.Outside.{Rose, Tell, Told, ToldPrefix}
-use Rattle.chain_cli.specs.declared.status.Status.{Status}
-use Rattle.chain_cli.specs.declared.status.Status.TheVariants.{Untold, Memory}
+use Rattle.lc_base.specs.Faults.{Rose}
+use Rattle.lc_outside.specs.Outside.{Tell, Tells, Told, ToldPrefix}
+use Rattle.scan_chain.specs.declared.stop.Stop.{Stop}
+use Rattle.scan_chain.specs.declared.stop.Stop.TheVariants as stops
+use Rattle.chain_lines.specs.Outcome.{status_of}
+use Rattle.chain_lines.specs.declared.outcome.Outcome.{Outcome}
+use Rattle.chain_lines.specs.declared.status.Status.{Status}
+use Rattle.chain_lines.specs.declared.status.Status.TheVariants.{Unreadable, Untold, Memory}
 
--- All lines are told, each by itself; where the wire fails, a prefix of them.
+-- All pieces are told, each by itself; where the wire fails, a prefix of them.
 abbrev pub TellsAll : {T E : Type 0} → Option (List Tell) → Option (List Tell) → List (List ℕ) → Result T E → Type 0
-TellsAll old new lines (Ok x) = Told old new lines
-TellsAll old new lines (Err e) = ToldPrefix old new lines
+TellsAll old new pieces (Ok x) = Told old new pieces
+TellsAll old new pieces (Err e) = ToldPrefix old new pieces
 
--- These lines were told, and the answer is this status; or a prefix of them was, where the wire
+-- These pieces were told, and the answer is this status; or a prefix of them was, where the wire
 -- failed; or nothing was told, where it is out of memory.
 abbrev pub IsAnswered : Status → Option (List Tell) → Option (List Tell) → Status → List (List ℕ) → Type 0
-IsAnswered Untold old new status lines = ToldPrefix old new lines
-IsAnswered Memory old new status lines = Told old new []
-IsAnswered answer old new status lines = Told old new lines × (answer ≡ status)
+IsAnswered Untold old new status pieces = ToldPrefix old new pieces
+IsAnswered Memory old new status pieces = Told old new []
+IsAnswered answer old new status pieces = Told old new pieces × (answer ≡ status)
+
+-- The same of a command that tells pieces while it makes others: out of memory, a prefix was told.
+abbrev pub IsAnsweredInPart : Status → Option (List Tell) → Option (List Tell) → Status → List (List ℕ) → Type 0
+IsAnsweredInPart Untold old new status pieces = ToldPrefix old new pieces
+IsAnsweredInPart Memory old new status pieces = ToldPrefix old new pieces
+IsAnsweredInPart answer old new status pieces = Told old new pieces × (answer ≡ status)
+
+-- A frame was told, or a prefix of it, where the wire failed; or nothing, where it is out of memory.
+-- There is no other answer.
+abbrev pub TellsFrame : ℕ → List ℕ → Option (List Tell) → Option (List Tell) → Result (Unit {0}) Status → Type 0
+TellsFrame at frame old new (Ok x) = Tells {E = Status} at frame old new (Ok x)
+TellsFrame at frame old new (Err Untold) = Tells {T = Unit {0}} at frame old new (Err Untold)
+TellsFrame at frame old new (Err Memory) = new ≡ old
+TellsFrame at frame old new (Err status) = ⊥
+
+-- What became of a command that was done, or that stopped before it told anything.
+abbrev pub AnswersResult : Result Outcome Stop → Status → Option (List Tell) → Option (List Tell) → Type 0
+AnswersResult (Ok outcome) answer old new = IsAnswered answer old new (status_of outcome.ending) outcome.pieces
+AnswersResult (Err stops.Fault) answer old new = (answer ≡ Unreadable) × Told old new []
+AnswersResult (Err stops.Memory) answer old new = (answer ≡ Memory) × Told old new []
 
 -- The answer is this status, or being out of memory, or a failure of the wire, whose count of
 -- faults then rose.

@@ -1,22 +1,22 @@
 //! The command `fmt`: the canonical text of a contract, or its first fault.
 
-ghost use Rattle.lc_base.specs.Outside.{HasCause};
+ghost use Rattle.lc_base.specs.Faults.{HasCause};
 ghost use Rattle.std.specs.Prelude.{◌≡◌, ◌≤◌, ℕ, List, [], ◌∷◌, ◌++◌, length, string_bytes, IfOk, IfSome, OnOk, IsErrOf};
 ghost use Rattle.contract_tree.specs.Tree.{contract_of};
 ghost use Rattle.contract_check.specs.Faults.{check_fault};
-ghost use Rattle.chain_cli.specs.declared.whole.TheConstants.{MAX_WHOLE_INPUT_BYTES};
-ghost use Rattle.chain_cli.specs.Lines.{syntax_word, syntax_cause, check_word, check_cause};
-ghost use Rattle.chain_cli.specs.Output.{bad_input, fmt_outcome, IsFmt, output_of};
+ghost use Rattle.chain_lines.specs.declared.whole.TheConstants.{MAX_WHOLE_INPUT_BYTES};
+ghost use Rattle.chain_lines.specs.Lines.{syntax_word, syntax_cause, check_word, check_cause};
+ghost use Rattle.chain_lines.specs.Outcome.{bad_input};
+ghost use Rattle.chain_cli.specs.Output.{fmt_outcome, IsFmt, output_of};
 ghost use Rattle.chain_cli.specs.Scanning.{IsFmtOutcome};
 ghost use Rattle.chain_cli.specs.Texts.{last_line, lines_after, lines_of};
 
-use crate::lines::bad_input_line;
-use crate::outcome::{Ending, Outcome};
-use crate::whole::read_whole;
+use chain_lines::{Ending, Outcome, read_whole};
 use contract_check::{CheckError, CheckKind, check};
 use contract_parse::{Contract, SyntaxError, SyntaxKind, parse};
 use contract_print::print;
-use lc_base::{Bytes, Memory, Seq, Source};
+use lc_base::{Bytes, Memory, Seq};
+use lc_outside::Source;
 use scan_chain::Stop;
 use std::alloc::{AllocError, Global};
 use std::mem;
@@ -59,13 +59,6 @@ fn lines_of(alloc: Global, text: &[u8]) -> Result<Seq<Bytes>, Memory>
     }
     put_rest(&mut lines, line)?;
     Ok(lines)
-}
-
-/// An input that is not of its grammar, or too long.
-fn bad_input(alloc: Global, cause: &str) -> Result<Outcome, Memory>
-    ensures { IfOk result (λ outcome. outcome ≡ bad_input cause.now) }
-{
-    Outcome::from_line(alloc, bad_input_line(alloc, cause)?, Ending::BadInput)
 }
 
 fn syntax_word(kind: SyntaxKind) -> &'static str
@@ -115,13 +108,13 @@ fn contract_outcome(alloc: Global, contract: Contract) -> Result<Outcome, Memory
         Ok(checked) => {
             let text = print(alloc, checked.contract())?;
             Ok(Outcome {
-                lines: lines_of(alloc, text.as_bytes())?,
+                pieces: lines_of(alloc, text.as_bytes())?,
                 ending: Ending::Done,
             })
         }
         Err(CheckError::Refused { at, kind }) => {
             let cause = check_cause(alloc, at, kind)?;
-            bad_input(alloc, cause.as_str())
+            Outcome::bad_input(alloc, cause.as_str())
         }
         Err(CheckError::Memory) => Err(Memory),
     }
@@ -139,7 +132,7 @@ fn source_outcome(alloc: Global, source: &[u8]) -> Result<Outcome, Memory>
         }
         Err(SyntaxError::Refused { at, kind }) => {
             let cause = syntax_cause(alloc, at, kind)?;
-            let outcome = bad_input(alloc, cause.as_str())?;
+            let outcome = Outcome::bad_input(alloc, cause.as_str())?;
             Ok(outcome)
         }
         Err(SyntaxError::Memory) => Err(Memory),
@@ -152,7 +145,7 @@ pub fn fmt<I: Source>(alloc: Global, source: &mut I) -> Result<Outcome, Stop>
     ensures cause { HasCause (I.source_faults source.old) (I.source_faults source.new) (IsErrOf result Stop.Fault) }
 {
     match read_whole(alloc, source)? {
-        None => Ok(bad_input(alloc, "long")?),
+        None => Ok(Outcome::bad_input(alloc, "long")?),
         Some(bytes) => Ok(source_outcome(alloc, bytes.as_bytes())?),
     }
 }

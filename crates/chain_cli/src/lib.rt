@@ -2,13 +2,8 @@
 #![tactic(auto)]
 
 mod fmt;
-mod lines;
-mod outcome;
+mod generating;
+mod packing;
 pub mod run;
 mod scan;
-mod status;
-mod whole;
-mod words;
-
-pub use status::Status;
-pub use whole::MAX_WHOLE_INPUT_BYTES;
+mod telling;

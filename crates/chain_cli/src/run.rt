@@ -1,69 +1,42 @@
 //! The top call: everything that the program does.
 
-ghost use Rattle.std.specs.Prelude.{◌≡◌, ℕ, List, [], ◌∷◌, Option, None, IfSome, IfOk, map, string_bytes, IsErrOf, IsErr};
-ghost use Rattle.lc_base.specs.Outside.{Rose, HasCause};
+ghost use Rattle.std.specs.Prelude.{◌≡◌, ℕ, List, [], Option, None, IfSome, map, string_bytes, true, false};
+ghost use Rattle.lc_base.specs.Faults.{Rose};
 ghost use Rattle.byte_fields.specs.Spelling.{IsBytes};
-ghost use Rattle.chain_cli.specs.declared.words.Command.{Command as Commands};
-ghost use Rattle.chain_cli.specs.Words.{IsCommand};
-ghost use Rattle.chain_cli.specs.Output.{status_of, FormatsAgain, Wants, IsOneOutput, Meets};
-ghost use Rattle.chain_cli.specs.Telling.{TellsAll, IsAnswered, EndsWith};
-ghost use Rattle.chain_cli.specs.Lines.{usage_line};
-ghost use Rattle.chain_cli.specs.Scanning.{WantsOutcome};
+ghost use Rattle.chain_words.specs.declared.words.Command.{Command as Commands};
+ghost use Rattle.chain_words.specs.Words.{IsCommand, IsOneCommand};
+ghost use Rattle.chain_cli.specs.Output.{FormatsAgain, Wants, IsOneOutput, Meets, IsSilent, reads_input, tells_as_it_goes};
 
 use crate::fmt::fmt;
-use crate::lines::usage_line;
-use crate::outcome::Outcome;
+use crate::generating::generate;
+use crate::packing::pack;
 use crate::scan::scan;
-use crate::status::Status;
-use crate::words::{Command, command_of};
-use lc_base::{Bytes, Failed, Memory, Source, Wire};
-use scan_chain::Stop;
+use crate::telling::{tell_result, tell_usage};
+use chain_lines::Status;
+use chain_words::{Command, command_of};
+use lc_outside::{Source, Wire};
 use std::alloc::Global;
 
-/// Tells each line by itself, in order.
-fn tell_all<M: Wire>(machine: &mut M, lines: &[Bytes]) -> Result<(), Failed>
-    ensures told { TellsAll (M.told machine.old) (M.told machine.new) lines.now result }
-    ensures cause { HasCause (M.wire_faults machine.old) (M.wire_faults machine.new) (IsErr result) }
-{
-    for line in lines {
-        machine.tell(line.as_bytes())?;
-    }
-    Ok(())
-}
-
-/// Tells the lines of an outcome, and answers its status.
-fn tell_outcome<M: Wire>(machine: &mut M, outcome: &Outcome) -> Status
-    ensures told { IsAnswered result (M.told machine.old) (M.told machine.new) (status_of outcome.now.ending) outcome.now.lines }
-    ensures ends { EndsWith (status_of outcome.now.ending) result (M.wire_faults machine.old) (M.wire_faults machine.new) }
-{
-    match tell_all(machine, outcome.lines.as_slice()) {
-        Ok(()) => outcome.ending.status(),
-        Err(Failed) => Status::Untold,
-    }
-}
-
-/// Tells `usage`.
-fn tell_usage<M: Wire>(alloc: Global, machine: &mut M) -> Status
-    ensures told { IsAnswered result (M.told machine.old) (M.told machine.new) Status.Usage (usage_line ∷ []) }
-    ensures ends { EndsWith Status.Usage result (M.wire_faults machine.old) (M.wire_faults machine.new) }
-{
-    match usage_line(alloc) {
-        Ok(line) => match tell_all(machine, &[line]) {
-            Ok(()) => Status::Usage,
-            Err(Failed) => Status::Untold,
-        },
-        Err(Memory) => Status::Memory,
-    }
-}
-
-/// What a command wants.
-fn outcome_of<I: Source>(alloc: Global, command: &Command, source: &mut I) -> Result<Outcome, Stop>
-    ensures outcome { IfSome (I.left source.old) (λ input. IfOk result (λ outcome. WantsOutcome command.now input outcome (I.left source.new))) }
-    ensures cause { HasCause (I.source_faults source.old) (I.source_faults source.new) (IsErrOf result Stop.Fault) }
+/// What the program does on a command, or on words that are none.
+fn run_command<I: Source, M: Wire>(
+    alloc: Global,
+    command: Option<Command>,
+    source: &mut I,
+    machine: &mut M,
+) -> Status
+    ensures output { IfSome (I.left source.old) (λ input. Meets result (M.told machine.old) (M.told machine.new) (I.left source.new) (Wants command input)) }
+    ensures unread { reads_input command ≡ false → (source.new ≡ source.old) × Meets result (M.told machine.old) (M.told machine.new) (Some []) (Wants command []) }
+    ensures silent { tells_as_it_goes command ≡ false → IsSilent result (M.told machine.old) (M.told machine.new) }
+    ensures usage { result ≡ Status.Usage → command ≡ None }
+    ensures unreadable { result ≡ Status.Unreadable → (reads_input command ≡ true) × Rose (I.source_faults source.old) (I.source_faults source.new) }
+    ensures untold { result ≡ Status.Untold → Rose (M.wire_faults machine.old) (M.wire_faults machine.new) }
 {
     match command {
-        Command::Scan(query) => scan(alloc, query, source),
-        Command::Fmt => fmt(alloc, source),
+        None => tell_usage(alloc, machine),
+        Some(Command::Scan(query)) => tell_result(machine, scan(alloc, &query, source)),
+        Some(Command::Fmt) => tell_result(machine, fmt(alloc, source)),
+        Some(Command::Pack) => tell_result(machine, pack(alloc, source)),
+        Some(Command::Gen(generation)) => generate(alloc, machine, &generation),
     }
 }
 
@@ -75,35 +48,36 @@ pub fn run<I: Source, M: Wire>(
     source: &mut I,
     machine: &mut M,
 ) -> Status
-    // The lines, the status and what is left of the input are those that the words and the input
+    // The words are one command, or none.
+    ensures command { (command : Option Commands) × IsOneCommand (map string_bytes words.now) command }
+    // What is told, the status and what is left of the input are those that the words and the input
     // want.
-    ensures output { IfSome (I.left source.old) (λ input.
-        (command : Option Commands) × IsCommand (map string_bytes words.now) command
-        × Meets result (M.told machine.old) (M.told machine.new) (I.left source.new)
-        (Wants command input)) }
+    ensures output { (command : Option Commands) → IsCommand (map string_bytes words.now) command
+        → IfSome (I.left source.old) (λ input. Meets result (M.told machine.old) (M.told machine.new)
+        (I.left source.new) (Wants command input)) }
     // A command and an input of bytes want one output.
     ensures one { (command : Option Commands) (input : List ℕ) → IsBytes input
         → IsOneOutput (Wants command input) }
     // The canonical text that `fmt` tells, it tells again of that text.
     ensures formats_again { (input : List ℕ) → FormatsAgain input }
-    // Whatever the source has left, `usage` comes exactly where the words are no command, and reads
-    // nothing.
+    // Whatever the source has left: a command that reads no input leaves it, and does what it does
+    // on an empty one;
+    ensures unread { (command : Option Commands) → IsCommand (map string_bytes words.now) command
+        → reads_input command ≡ false → (source.new ≡ source.old)
+        × Meets result (M.told machine.old) (M.told machine.new) (Some []) (Wants command []) }
+    // one that runs out of memory told nothing, unless it tells pieces while it makes others;
+    ensures silent { (command : Option Commands) → IsCommand (map string_bytes words.now) command
+        → tells_as_it_goes command ≡ false → IsSilent result (M.told machine.old) (M.told machine.new) }
+    // `usage` comes only where the words are no command;
     ensures usage { result ≡ Status.Usage → IsCommand (map string_bytes words.now) None }
-    ensures no_command { IsCommand (map string_bytes words.now) None → (source.new ≡ source.old)
-        × IsAnswered result (M.told machine.old) (M.told machine.new) Status.Usage
-        (usage_line ∷ []) }
-    // A source or a wire is blamed only where it failed.
+    // and a source or a wire is blamed only where it failed, a source in a command that reads it.
     ensures unreadable { result ≡ Status.Unreadable
-        → Rose (I.source_faults source.old) (I.source_faults source.new) }
+        → Rose (I.source_faults source.old) (I.source_faults source.new)
+        × ((command : Option Commands) → IsCommand (map string_bytes words.now) command
+        → reads_input command ≡ true) }
     ensures untold { result ≡ Status.Untold
         → Rose (M.wire_faults machine.old) (M.wire_faults machine.new) }
 {
-    match command_of(words) {
-        None => tell_usage(alloc, machine),
-        Some(command) => match outcome_of(alloc, &command, source) {
-            Ok(outcome) => tell_outcome(machine, &outcome),
-            Err(Stop::Fault) => Status::Unreadable,
-            Err(Stop::Memory) => Status::Memory,
-        },
-    }
+    let command = command_of(words);
+    run_command(alloc, command, source, machine)
 }

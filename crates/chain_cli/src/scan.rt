@@ -1,20 +1,22 @@
 //! The command `scan`: a question answered over the blocks of an input.
 
-ghost use Rattle.lc_base.specs.Outside.{HasCause};
+ghost use Rattle.lc_base.specs.Faults.{HasCause};
 ghost use Rattle.std.specs.Prelude.{◌≡◌, [], ◌∷◌, IfOk, IfSome, List, IsErrOf};
 ghost use Rattle.block_codec.specs.Reading.{block_in};
 ghost use Rattle.block_codec.specs.declared.block.Block.{Block as Blocks};
-ghost use Rattle.scan_chain.specs.Chain.{StandsFor};
-ghost use Rattle.chain_cli.specs.Output.{outcome_with, answer_outcome, scan_output};
+ghost use Rattle.chain_state.specs.Chain.{StandsFor};
+ghost use Rattle.chain_lines.specs.Outcome.{outcome_with};
+ghost use Rattle.chain_cli.specs.Output.{answer_outcome, scan_output};
 ghost use Rattle.chain_exec.specs.Compiled.{compiled_in};
 ghost use Rattle.scan_chain.specs.Folding.{fold_input};
 ghost use Rattle.chain_cli.specs.Scanning.{GivesOutput};
-ghost use Rattle.chain_cli.specs.Lines.{refused_line};
+ghost use Rattle.chain_lines.specs.Lines.{refused_line};
 
-use crate::lines::{answer_lines, empty_line, head_line, refused_line};
-use crate::outcome::{Ending, Outcome};
-use lc_base::{Memory, Query, Source};
-use scan_chain::{Cause, Chain, Folded, Stop, fold};
+use chain_lines::{Ending, Outcome, answer_lines, empty_line, head_line, refused_line};
+use chain_state::Chain;
+use lc_base::{Memory, Query};
+use lc_outside::Source;
+use scan_chain::{Cause, Folded, Stop, fold};
 use std::alloc::Global;
 
 /// A frame is refused.
@@ -37,7 +39,7 @@ fn answer_outcome(alloc: Global, query: &Query, chain: &mut Chain) -> Result<Out
     }
     let answer = chain.ask(query)?;
     Ok(Outcome {
-        lines: answer_lines(alloc, &answer)?,
+        pieces: answer_lines(alloc, &answer)?,
         ending: Ending::Done,
     })
 }
@@ -47,7 +49,9 @@ fn whole_outcome(alloc: Global, query: &Query, chain: Chain) -> Result<Outcome, 
     ensures { IfOk result (λ outcome. (blocks : List Blocks) → StandsFor chain blocks → outcome ≡ answer_outcome compiled_in query.now blocks) }
 {
     let mut chain = chain;
-    answer_outcome(alloc, query, &mut chain)
+    let outcome = answer_outcome(alloc, query, &mut chain);
+    chain.give_up();
+    outcome
 }
 
 /// The answer to a question over the blocks of an input.

@@ -1,9 +1,7 @@
 //! The base: texts of errors, the fakes of the outside, and the edges over streams.
 
-use lc_base::{
-    Failed, HostSource, HostWire, Key, MemSource, MemWire, Name, Room, Source, Text, TextError,
-    Wire,
-};
+use lc_base::{Key, Name, Text, TextError};
+use lc_outside::{Failed, HostSource, HostWire, MemSource, MemWire, Room, Source, Wire};
 use std::io::{self, ErrorKind, Read, Write};
 use std::test::*;
 

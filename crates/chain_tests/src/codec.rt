@@ -2,7 +2,8 @@
 
 use block_codec::{Block, FrameError, Frames, MAX_FRAMES, Tx, decode, encode};
 use digest_kit::TagHasher;
-use lc_base::{Key, MemSource, Value};
+use lc_base::{Key, Value};
+use lc_outside::MemSource;
 use std::alloc::Global;
 use std::test::*;
 

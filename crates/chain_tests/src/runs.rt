@@ -1,8 +1,8 @@
 //! Runs whose source or wire fails, whose input is very long, or of which each byte is changed.
 
 use chain_cli::run::run;
-use chain_cli::{MAX_WHOLE_INPUT_BYTES, Status};
-use lc_base::{MemSource, MemWire, Room};
+use chain_lines::{MAX_WHOLE_INPUT_BYTES, Status};
+use lc_outside::{MemSource, MemWire, Room};
 use std::alloc::Global;
 use std::test::Fail;
 
@@ -171,6 +171,37 @@ fn failing_calls_of_fmt(rt: HostRuntime) -> Result<(), Fail> {
     assert_eq!(rt; failing_pulls(rt.alloc(), "fmt", source, 5)?, 5);
     let lines = ["fn f() {\n", "  fail;\n", "}\n"];
     assert!(rt; is_cut_by_tells(rt.alloc(), "fmt", source, &lines)?);
+    Ok(())
+}
+
+#[test]
+fn failing_calls_of_pack(rt: HostRuntime) -> Result<(), Fail> {
+    // Seven bytes in pieces of five take two pulls, and the end of the input one.
+    let draft = b"[[],[]]";
+    assert_eq!(rt; failing_pulls(rt.alloc(), "pack", draft, 5)?, 3);
+    let done = run_over(rt.alloc(), "pack", draft, 4096, &[], &[])?;
+    assert_eq!(rt; done.status, Status::Done);
+    assert_eq!(rt; done.pieces, 2);
+    assert_eq!(rt; done.left, 0);
+    // A block without transactions has 39 bytes, and its frame four more.
+    let cut = run_over(rt.alloc(), "pack", draft, 4096, &[], &[1])?;
+    assert_eq!(rt; cut.status, Status::Untold);
+    assert_eq!(rt; done.told.len(), 2 * 43);
+    assert_eq!(rt; cut.told.len(), 43);
+    assert!(rt; done.told.starts_with(cut.told.as_slice()));
+    Ok(())
+}
+
+#[test]
+fn failing_calls_of_gen(rt: HostRuntime) -> Result<(), Fail> {
+    // It reads nothing, so a source that would fail is left as it was.
+    let one = run_over(rt.alloc(), "gen 1 7", &[1, 2, 3], 4096, &[0], &[])?;
+    assert_eq!(rt; one.status, Status::Done);
+    assert_eq!(rt; one.left, 3);
+    assert_eq!(rt; one.told.len(), 168);
+    let cut = run_over(rt.alloc(), "gen 3 7", &[], 4096, &[], &[1])?;
+    assert_eq!(rt; cut.status, Status::Untold);
+    assert_eq!(rt; cut.told.as_slice(), one.told.as_slice());
     Ok(())
 }
 

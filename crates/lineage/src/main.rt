@@ -1,9 +1,9 @@
 //! The program: it hands its words, standard input and standard output to `run`.
 #![tactic(auto)]
 
-use chain_cli::Status;
 use chain_cli::run::run;
-use lc_base::{HostSource, HostWire};
+use chain_lines::Status;
+use lc_outside::{HostSource, HostWire};
 use std::io::ErrorKind;
 use std::process::ExitCode;
 use std::{env, io};

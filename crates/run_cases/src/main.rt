@@ -1,11 +1,12 @@
 //! Runs cases, each a line `WORDS|PIECE|HEX` of standard input: the words of a command with a blank between them,
 //! the greatest number of bytes that its source gives at once, and its input in hex. For each case it prints the
-//! exit status and the words, and then what the run told.
+//! exit status and the words, and then what the run told: lines as they are, and other pieces, which are frames,
+//! each as a line `hex` with their bytes in hex.
 #![tactic(auto)]
 
 use anyhow::{Context, Result};
 use chain_cli::run::run;
-use lc_base::{MemSource, MemWire, Room};
+use lc_outside::{MemSource, MemWire, Room};
 use std::alloc::Global;
 use std::io::{self, BufRead, BufReader, BufWriter, Write};
 
@@ -43,6 +44,23 @@ fn case_of(alloc: Global, words: &str, piece: &str, input: &str) -> Result<Case>
     })
 }
 
+/// Whether a piece is a line, of printable bytes and a line end.
+fn is_line(piece: &[u8]) -> bool {
+    piece
+        .iter()
+        .all(|byte| *byte == b'\n' || (b' ' <= *byte && *byte <= b'~'))
+}
+
+fn print_piece<W: Write>(alloc: Global, out: &mut W, piece: &[u8]) -> Result<()> {
+    if is_line(piece) {
+        out.write_all(piece)?;
+    } else {
+        let digits = hex::encode(alloc, piece)?;
+        writeln!(out, "hex {digits}")?;
+    }
+    Ok(())
+}
+
 /// Runs a case, and prints what it told after its status and its words.
 fn run_case<W: Write>(alloc: Global, out: &mut W, words: &str, case: &Case) -> Result<()> {
     let piece = case.piece.max(1);
@@ -57,7 +75,7 @@ fn run_case<W: Write>(alloc: Global, out: &mut W, words: &str, case: &Case) -> R
     writeln!(out, "== {number} {words}")?;
     for i in 0..machine.told_count() {
         let (_, bytes) = machine.told_at(i).context("a piece that was told")?;
-        out.write_all(bytes)?;
+        print_piece(alloc, out, bytes)?;
     }
     Ok(())
 }

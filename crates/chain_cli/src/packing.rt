@@ -1,0 +1,84 @@
+//! The command `pack`: the block file of a draft, or its first fault.
+
+ghost use Rattle.std.specs.Prelude.{◌≡◌, map, IfOk, IfSome, IsErrOf};
+ghost use Rattle.lc_base.specs.Faults.{HasCause};
+ghost use Rattle.chain_pack.specs.Draft.{packed};
+ghost use Rattle.chain_cli.specs.Blocks.{frame, draft_outcome, TellsFault};
+ghost use Rattle.chain_cli.specs.Output.{pack_output};
+ghost use Rattle.chain_cli.specs.Scanning.{GivesOutput};
+
+use byte_fields::put_u32;
+use chain_lines::{Ending, Outcome, read_whole};
+use chain_pack::{PackError, pack as blocks_of};
+use lc_base::{Bytes, Memory, Seq, TextList};
+use lc_outside::Source;
+use scan_chain::Stop;
+use std::alloc::Global;
+
+/// The frame of a block: its length in four bytes, and its bytes. For a block whose length has no
+/// four bytes, which is longer than any block is, there is no memory.
+pub fn frame(alloc: Global, block: &[u8]) -> Result<Bytes, Memory>
+    ensures { IfOk result (λ bytes. bytes ≡ frame block.now) }
+{
+    let Ok(length) = u32::try_from(block.len()) else {
+        return Err(Memory);
+    };
+    let mut bytes = Vec::new(alloc);
+    put_u32(&mut bytes, length)?;
+    bytes.extend_from_slice(block)?;
+    Ok(Bytes::from_vec(bytes))
+}
+
+/// The frames of blocks.
+fn frames(alloc: Global, blocks: &[Bytes]) -> Result<Seq<Bytes>, Memory>
+    ensures { IfOk result (λ frames. frames ≡ map frame blocks.now) }
+{
+    let mut frames = Seq::new(alloc);
+    for block in blocks {
+        frames.push(frame(alloc, block.as_bytes())?)?;
+    }
+    Ok(frames)
+}
+
+/// What is told of a draft that is no list of blocks.
+fn refused(alloc: Global, error: &PackError) -> Result<Outcome, Memory>
+    ensures { IfOk result (TellsFault error.now) }
+{
+    match error {
+        PackError::Json => Outcome::bad_input(alloc, "json"),
+        PackError::Top => Outcome::bad_input(alloc, "top"),
+        PackError::Shape { block, tx } => {
+            let cause = format!(in alloc; "draft {block} {tx}")?;
+            Outcome::bad_input(alloc, cause.as_str())
+        }
+        PackError::BlockLimit { block } => {
+            let cause = format!(in alloc; "block {block}")?;
+            Outcome::bad_input(alloc, cause.as_str())
+        }
+        PackError::Memory => Err(Memory),
+    }
+}
+
+/// What is told of a draft that was read whole.
+fn draft_outcome(alloc: Global, draft: &[u8]) -> Result<Outcome, Memory>
+    ensures { IfOk result (λ outcome. outcome ≡ draft_outcome (packed draft.now)) }
+{
+    match blocks_of(alloc, draft) {
+        Ok(blocks) => Ok(Outcome {
+            pieces: frames(alloc, blocks.as_slice())?,
+            ending: Ending::Done,
+        }),
+        Err(error) => refused(alloc, &error),
+    }
+}
+
+/// The block file of the draft that the input is, or its first fault.
+pub fn pack<I: Source>(alloc: Global, source: &mut I) -> Result<Outcome, Stop>
+    ensures outcome { IfSome (I.left source.old) (λ input. IfOk result (λ outcome. GivesOutput outcome (I.left source.new) (pack_output input))) }
+    ensures cause { HasCause (I.source_faults source.old) (I.source_faults source.new) (IsErrOf result Stop.Fault) }
+{
+    match read_whole(alloc, source)? {
+        None => Ok(Outcome::bad_input(alloc, "long")?),
+        Some(bytes) => Ok(draft_outcome(alloc, bytes.as_bytes())?),
+    }
+}

@@ -1,0 +1,4 @@
+pub mod Whole
+pub mod Lines
+pub mod Status
+pub mod Outcome

@@ -1,0 +1,13 @@
+//! What commands have in common: inputs that are read whole, the lines that are told, and how the
+//! program ends.
+#![tactic(auto)]
+
+mod lines;
+mod outcome;
+mod status;
+mod whole;
+
+pub use lines::{answer_lines, bad_input_line, empty_line, head_line, refused_line, usage_line};
+pub use outcome::{Ending, Outcome};
+pub use status::Status;
+pub use whole::{MAX_WHOLE_INPUT_BYTES, read_whole};

@@ -1,0 +1,107 @@
+-- The words of commands.
+use Rattle.std.specs.Prelude.{◌≡◌, ℕ, ◌<◌, ◌≤◌, ◌^◌, Bool, true, false, ◌&&◌, ◌||◌, ◌==◌, nat_le, List, [], ◌∷◌, length, Option, Some, None, codes, decimal}
+use Rattle.lc_base.specs.KeyBytes.{IsKey}
+use Rattle.lc_base.specs.declared.answer.Kind.{Kind}
+use Rattle.lc_base.specs.declared.answer.Kind.TheVariants.{Hist, Back, Fwd}
+use Rattle.lc_base.specs.declared.answer.Query.{Query}
+use Rattle.chain_words.specs.declared.words.TheConstants.{MAX_GENERATED_BLOCKS}
+use Rattle.chain_words.specs.declared.words.Generation.{Generation}
+use Rattle.chain_words.specs.declared.words.Command.{Command}
+use Rattle.chain_words.specs.declared.words.Command.TheVariants.{Scan, Fmt, Pack, Gen}
+
+-- The word for what is asked.
+abbrev pub kind_word : Kind → List ℕ
+kind_word Hist = codes "hist"
+kind_word Back = codes "back"
+kind_word Fwd = codes "fwd"
+
+-- The words of a scan: scan KIND KEY BLOCK, BLOCK in decimal digits without a leading zero.
+abbrev pub scan_words : Query → List (List ℕ)
+scan_words query = codes "scan" ∷ kind_word query.kind ∷ query.key ∷ decimal query.at ∷ []
+
+-- A question that can be asked: about a key, at a block number of 32 bits.
+pub record IsQuery (query : Query) : Type 0 where
+  pub key_is_key : IsKey query.key
+  pub at_fits : query.at < 2 ^ 32
+
+-- The words of a generation: gen N SEED, both in decimal digits without a leading zero.
+abbrev pub gen_words : Generation → List (List ℕ)
+gen_words generation = codes "gen" ∷ decimal generation.blocks ∷ decimal generation.seed ∷ []
+
+-- As many blocks as may be made at once.
+abbrev pub IsCount : ℕ → Type 0
+IsCount blocks = (0 < blocks) × (blocks ≤ MAX_GENERATED_BLOCKS)
+
+-- A generation that can be made: of such a number of blocks, from a seed of 32 bits.
+pub record IsGeneration (generation : Generation) : Type 0 where
+  pub count : IsCount generation.blocks
+  pub seed_fits : generation.seed < 2 ^ 32
+
+-- The words of a command.
+abbrev pub command_words : Command → List (List ℕ)
+command_words (Scan query) = scan_words query
+command_words Fmt = codes "fmt" ∷ []
+command_words Pack = codes "pack" ∷ []
+command_words (Gen generation) = gen_words generation
+
+-- A command that can be given: a question that can be asked, a generation that can be made, or a
+-- word alone.
+abbrev pub CanBeGiven : Command → Type 0
+CanBeGiven (Scan query) = IsQuery query
+CanBeGiven Fmt = Unit {0}
+CanBeGiven Pack = Unit {0}
+CanBeGiven (Gen generation) = IsGeneration generation
+
+-- The command that the words are. They are none where no command has these words.
+abbrev pub IsCommand : List (List ℕ) → Option Command → Type 0
+IsCommand words (Some command) = CanBeGiven command × (words ≡ command_words command)
+IsCommand words None = (command : Command) → CanBeGiven command → words ≡ command_words command → ⊥
+
+-- The words are a command, or none, and no other.
+pub record IsOneCommand (words : List (List ℕ)) (command : Option Command) : Type 0 where
+  pub is_command : IsCommand words command
+  pub only : (other : Option Command) → IsCommand words other → other ≡ command
+
+-- ---- single commands
+
+-- The question of a scan, where the words are those of one.
+abbrev pub IsScan : List (List ℕ) → Option Query → Type 0
+IsScan words (Some query) = IsQuery query × (words ≡ scan_words query)
+IsScan words None = (query : Query) → IsQuery query → words ≡ scan_words query → ⊥
+
+-- The blocks of a generation, where the words are those of one.
+abbrev pub IsGen : List (List ℕ) → Option Generation → Type 0
+IsGen words (Some generation) = IsGeneration generation × (words ≡ gen_words generation)
+IsGen words None = (generation : Generation) → IsGeneration generation → words ≡ gen_words generation → ⊥
+
+-- Whether the words are this one alone.
+abbrev pub IsAlone : List ℕ → List (List ℕ) → Bool → Type 0
+IsAlone word words true = words ≡ word ∷ []
+IsAlone word words false = words ≡ word ∷ [] → ⊥
+
+-- ---- single words
+
+-- Whether a text is `0`, or begins with another digit.
+abbrev pub starts_as_number : List ℕ → Bool
+starts_as_number [] = false
+starts_as_number (first ∷ others) = first == 48 && length others == 0 || nat_le 49 first && nat_le first 57
+
+-- The number that a text writes; none where no number of 32 bits is written so.
+abbrev pub IsNumberOf : List ℕ → Option ℕ → Type 0
+IsNumberOf text (Some number) = (number < 2 ^ 32) × (text ≡ decimal number)
+IsNumberOf text None = (number : ℕ) → number < 2 ^ 32 → text ≡ decimal number → ⊥
+
+-- The number of blocks that a text writes; none where it writes none that may be made at once.
+abbrev pub IsCountOf : List ℕ → Option ℕ → Type 0
+IsCountOf text (Some blocks) = IsCount blocks × (text ≡ decimal blocks)
+IsCountOf text None = (blocks : ℕ) → IsCount blocks → text ≡ decimal blocks → ⊥
+
+-- The key that a text is; none where it is none.
+abbrev pub IsKeyOf : List ℕ → Option (List ℕ) → Type 0
+IsKeyOf text (Some key) = IsKey key × (text ≡ key)
+IsKeyOf text None = IsKey text → ⊥
+
+-- The kind that a text names; none where it names none.
+abbrev pub IsKindOf : List ℕ → Option Kind → Type 0
+IsKindOf text (Some kind) = text ≡ kind_word kind
+IsKindOf text None = (kind : Kind) → text ≡ kind_word kind → ⊥
