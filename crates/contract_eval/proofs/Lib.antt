@@ -1,4 +1,2 @@
-pub mod Loops
-pub mod Branches
 pub mod Arguments
 pub mod Called

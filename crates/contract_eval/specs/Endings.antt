@@ -1,27 +1,12 @@
--- How turns of a loop and functions end in the program, for their definition.
-use Rattle.std.specs.Prelude.{◌≡◌, List, Option, Some, None, Result, Ok, Err}
+-- How functions end in the program, for their definition.
+use Rattle.std.specs.Prelude.{◌≡◌, Result, Ok, Err}
 use Rattle.lc_base.specs.declared.host.HostError.{HostError}
 use Rattle.lc_base.specs.declared.host.HostError.TheVariants as hosts
 use Rattle.lc_base.specs.declared.tx_status.TxStatus.{TxStatus}
 use Rattle.lc_base.specs.declared.tx_status.TxStatus.TheVariants as statuses
-use Rattle.contract_meaning.specs.declared.variable.Variable.{Variable}
 use Rattle.contract_meaning.specs.declared.stop.Stop.{Stop}
 use Rattle.contract_meaning.specs.declared.stop.Stop.TheVariants as stops
-use Rattle.contract_meaning.specs.Steps.{Machine, Step, Done, Failed}
-use Rattle.contract_meaning.specs.Statements.{Goes, Returns, Turn, Again, Ended}
 use Rattle.contract_statements.specs.declared.flow.Flow.{Flow}
-use Rattle.contract_statements.specs.declared.flow.Flow.TheVariants as flows
-
--- The answer of a turn of a loop, and the variables and the machine after it, are those of the
--- step, unless it is out of memory, or the host failed. Where no flow is answered, another turn
--- comes.
-abbrev pub Turns : Step Turn → Result (Option Flow) Stop → List Variable → Machine → Type 0
-Turns step (Ok None) variables m = step ≡ Done (Again variables) m
-Turns step (Ok (Some flows.Goes)) variables m = step ≡ Done (Ended (Goes variables)) m
-Turns step (Ok (Some flows.Returns)) variables m = step ≡ Done (Ended Returns) m
-Turns step (Err (stops.Status status)) variables m = step ≡ Failed status m
-Turns step (Err stops.Fault) variables m = Unit {0}
-Turns step (Err stops.Memory) variables m = Unit {0}
 
 -- The status of a function that ended so, or why it has none.
 abbrev pub IsStatusOf : Result Flow Stop → Result TxStatus HostError → Type 0

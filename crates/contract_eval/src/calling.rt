@@ -12,7 +12,7 @@ ghost use Rattle.contract_meaning.specs.Scenes.{scene_of};
 ghost use Rattle.contract_meaning.specs.Calls.{is_of_kind, is_of_its_kind, are_arguments, bound, function_run, function_called, call_result};
 ghost use Rattle.contract_meaning.specs.Answers.{scene_in, place_in, IsFaithful};
 
-use crate::statement::statements;
+use contract_blocks::statements;
 use contract_check::Checked;
 use contract_meaning::{CallSite, Outcome, Stop, Variable};
 use contract_statements::Flow;

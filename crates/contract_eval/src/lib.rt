@@ -2,6 +2,5 @@
 #![tactic(auto)]
 
 mod calling;
-mod statement;
 
 pub use calling::call;

@@ -9,7 +9,7 @@ use Rattle.contract_meaning.specs.Statements.{Ending, Turn, Again, turns, after_
 use Rattle.contract_statements.specs.declared.flow.Flow.{Flow}
 use Rattle.contract_statements.specs.declared.flow.Flow.TheVariants as flows
 use Rattle.contract_statements.specs.Flows.{Flows}
-use Rattle.contract_eval.specs.Endings.{Turns}
+use Rattle.contract_blocks.specs.Turns.{Turns}
 
 -- one turn, and then the others
 next_turn : (n i : ℕ) (turn : List Variable → Machine → Step Turn) (variables : List Variable) (m : Machine) → i < n → turns (n - i) turn variables m ≡ and_then (turn variables m) (after_turn (turns (n - (i + 1)) turn))

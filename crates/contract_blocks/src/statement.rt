@@ -1,4 +1,4 @@
-//! What statements do.
+//! Statements in turn: branches, loops, and blocks, whose names end with them.
 
 ghost use Rattle.std.specs.Prelude.{◌≤◌, map, IfSome, IsErrOf};
 ghost use Rattle.lc_base.specs.Faults.{HasCause};
@@ -7,7 +7,7 @@ ghost use Rattle.contract_meaning.specs.Steps.{machine};
 ghost use Rattle.contract_meaning.specs.Statements.{statement_run, statements_run, block_run, branch_run, loop_turn, loop_run};
 ghost use Rattle.contract_meaning.specs.Answers.{scene_in, place_in, IsFaithful};
 ghost use Rattle.contract_statements.specs.Flows.{Flows};
-ghost use Rattle.contract_eval.specs.Endings.{Turns};
+ghost use Rattle.contract_blocks.specs.Turns.{Turns};
 
 use contract_meaning::{CallSite, Stop, Variable};
 use contract_statements::{
@@ -229,7 +229,7 @@ fn turns<C, H: Host>(
 
 /// Statements, one after another.
 #[cycle(statement)]
-pub(crate) fn statements<C, H: Host>(
+pub fn statements<C, H: Host>(
     alloc: Global,
     world: &World<C>,
     site: &CallSite,

@@ -5,7 +5,7 @@ use Rattle.contract_tree.specs.Tree.{tree_of, statement_of, statement_list}
 use Rattle.contract_meaning.specs.Answers.{scene_in, place_in, IsFaithful}
 use Rattle.contract_meaning.specs.Steps.{machine}
 use Rattle.contract_meaning.specs.Statements.{statements_run, turns, loop_turn, loop_run}
-use Rattle.contract_eval.proofs.statement.+statement.Given as goal
+use Rattle.contract_blocks.proofs.statement.+statement.Given as goal
 
 abbrev pub invariant-statements-loop-x : goal.invariant-statements-loop-x
 invariant-statements-loop-x g l =

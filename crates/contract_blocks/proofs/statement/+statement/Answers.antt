@@ -1,8 +1,8 @@
 use Rattle.std.proofs.Common.{◌≡◌, Some, ◌∙◌, arith}
-use Rattle.contract_eval.proofs.Branches.{if_flows, while_flows}
-use Rattle.contract_eval.proofs.Loops.{one_more, stops, ends}
+use Rattle.contract_blocks.proofs.Branches.{if_flows, while_flows}
+use Rattle.contract_blocks.proofs.Loops.{one_more, stops, ends}
 use Rattle.contract_values.proofs.ToldRows.{told_at, told_all}
-use Rattle.contract_eval.proofs.statement.+statement.Goals as goal
+use Rattle.contract_blocks.proofs.statement.+statement.Goals as goal
 
 pub statement-returns-in_ok-chosen-in-If-clause-step : goal.statement-returns-in_ok-chosen-in-If-clause-step
 statement-returns-in_ok-chosen-in-If-clause-step g t c =
