@@ -1,5 +1,5 @@
 -- Where a block stands to a chain.
-use Rattle.std.specs.Prelude.{ℕ, ◌==◌, ◌||◌, Bool, not, nat_lt, if◌then◌else◌, List, ◌∷◌, Option, Some, None}
+use Rattle.std.specs.Prelude.{ℕ, ◌==◌, ◌||◌, Bool, not, nat_lt, if◌then◌else◌, List, ◌∷◌, replicate, Option, Some, None}
 use Rattle.std.specs.List.{concat, sum_by}
 use Rattle.std.specs.Cmp.Lexicographic.{pointwise}
 use Rattle.sha2.specs.Sha256.{sha256}
@@ -20,6 +20,10 @@ bytes_digest bytes = record { 0 = sha256 (BLOCK_TAG ∷ bytes) }
 -- The digest of a block: that of its spelling.
 abbrev pub digest_of : Block → Digest
 digest_of block = bytes_digest (concat (block_fields block))
+
+-- 32 zero bytes, the parent of the first block.
+abbrev pub no_parent : Digest
+no_parent = record { 0 = replicate 32 0 }
 
 -- Whether two digests are the same.
 abbrev pub is_same_digest : Digest → Digest → Bool

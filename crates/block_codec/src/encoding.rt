@@ -2,17 +2,19 @@
 
 ghost use Rattle.std.specs.Prelude.{◌≡◌, ◌<◌, ◌≤◌, ◌∷◌, ◌++◌, [], List, ℕ, length, OnOk, IfOk, IsErrOf};
 ghost use Rattle.std.specs.List.{concat, flat_map, AllByRecursion};
-ghost use Rattle.lc_base.specs.KeyBytes.{IsKey};
-ghost use Rattle.lc_base.specs.NameBytes.{IsName};
+ghost use Rattle.lc_names.specs.KeyBytes.{IsKey};
+ghost use Rattle.lc_names.specs.NameBytes.{IsName};
 ghost use Rattle.block_codec.specs.declared.limits.TheConstants.{MAX_ARGS};
 ghost use Rattle.byte_fields.specs.Spelling.{string_fields, value_fields, IsValue};
 ghost use Rattle.block_codec.specs.Spelling.{IsSet, IsDeploy, IsCall, IsTx, IsBlock, Spells, set_fields, deploy_fields, invocation_fields, call_fields, tx_fields, block_fields};
 
 use crate::block::{Block, CALL, DEPLOY, SET, Tx, VERSION};
 use crate::limits::{MAX_ARGS, MAX_BLOCK_BYTES, MAX_CALL_BUDGET, MAX_SOURCE_BYTES, MAX_TXS};
-use byte_fields::{put_any_bytes, put_key, put_keys, put_name, put_u32, put_value, put_values};
+use byte_fields::{
+    put_any_bytes, put_key, put_keys, put_name, put_u8, put_u32, put_value, put_values,
+};
 use lc_base::{Bytes, Key, KeyList, MAX_DEPS, Memory, Name, Seq, Value};
-use std::alloc::{AllocError, AllocFailed, Global};
+use std::alloc::{AllocError, Global};
 
 /// Why a block was not written.
 #[derive(Clone, Copy, Debug, PartialEq, Eq)]
@@ -46,16 +48,6 @@ impl From<AllocError> for EncodeError {
     }
 }
 
-impl<T: Drop> From<AllocFailed<T>> for EncodeError {
-    ghost use Rattle.block_codec.specs.declared.encoding.EncodeError.TheVariants.{Memory};
-
-    ghost from_gives = { λ _ error. error ≡ Memory };
-
-    fn from(_error: AllocFailed<T>) -> EncodeError {
-        EncodeError::Memory
-    }
-}
-
 fn put_set(
     out: &mut Vec<u8>,
     sender: &Key,
@@ -73,7 +65,7 @@ fn put_set(
     put_key(out, sender)?;
     put_key(out, key)?;
     put_value(out, value)?;
-    out.push(deps.len() as u8)?;
+    put_u8(out, deps.len() as u8)?;
     put_keys(out, deps.as_slice())?;
     Ok(())
 }
@@ -113,7 +105,7 @@ fn put_invocation(
     put_key(out, sender)?;
     put_name(out, contract)?;
     put_name(out, function)?;
-    out.push(args.len() as u8)?;
+    put_u8(out, args.len() as u8)?;
     put_values(out, args.as_slice())
 }
 
@@ -149,7 +141,7 @@ fn put_tx(out: &mut Vec<u8>, tx: &Tx) -> Result<(), EncodeError>
             value,
             deps,
         } => {
-            out.push(SET)?;
+            put_u8(out, SET)?;
             put_set(out, sender, key, value, deps)
         }
         Tx::Deploy {
@@ -157,7 +149,7 @@ fn put_tx(out: &mut Vec<u8>, tx: &Tx) -> Result<(), EncodeError>
             name,
             source,
         } => {
-            out.push(DEPLOY)?;
+            put_u8(out, DEPLOY)?;
             put_deploy(out, sender, name, source)
         }
         Tx::Call {
@@ -167,7 +159,7 @@ fn put_tx(out: &mut Vec<u8>, tx: &Tx) -> Result<(), EncodeError>
             args,
             budget,
         } => {
-            out.push(CALL)?;
+            put_u8(out, CALL)?;
             put_call(out, sender, contract, function, args, *budget)
         }
     }
@@ -192,7 +184,7 @@ fn put_block(out: &mut Vec<u8>, block: &Block) -> Result<(), EncodeError>
     if block.txs.len() > MAX_TXS as usize {
         return Err(EncodeError::Limit);
     }
-    out.push(VERSION)?;
+    put_u8(out, VERSION)?;
     put_u32(out, block.number)?;
     out.extend_from_slice(&block.parent.0)?;
     out.extend_from_slice(&(block.txs.len() as u16).to_be_bytes())?;

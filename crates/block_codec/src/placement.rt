@@ -1,10 +1,8 @@
 //! Where a block stands to a chain.
 
-ghost use Rattle.std.specs.Prelude.{◌≡◌, ◌<◌, ◌≤◌, ◌↔◌, IsSome, length};
-ghost use Rattle.std.specs.List.{sum_by};
+ghost use Rattle.std.specs.Prelude.{◌≡◌, ◌<◌, ◌≤◌, ◌↔◌, IsSome};
 ghost use Rattle.block_codec.specs.Spelling.{IsBlock};
-ghost use Rattle.block_codec.specs.declared.limits.TheConstants.{MAX_TXS};
-ghost use Rattle.block_codec.specs.Placement.{bytes_digest, tx_budget, held_placement, new_placement, placement};
+ghost use Rattle.block_codec.specs.Placement.{bytes_digest, block_budget, tx_budget, held_placement, new_placement, placement};
 
 use crate::block::{Block, Tx};
 use crate::limits::{MAX_BLOCK_BUDGET, MAX_BLOCKS, MAX_ROWS_BEFORE_BLOCK};
@@ -13,6 +11,9 @@ use lc_base::Digest;
 
 /// The tag of a block among the texts that are hashed.
 pub const BLOCK_TAG: u8 = 0x07;
+
+/// 32 zero bytes, the parent of the first block.
+pub const NO_PARENT: Digest = Digest([0; 32]);
 
 /// Where a block stands to a chain.
 #[derive(Clone, Copy, Debug, PartialEq, Eq)]
@@ -61,10 +62,12 @@ fn tx_budget(tx: &Tx) -> u32
     }
 }
 
-fn budget_sum(txs: &[Tx]) -> u64
-    requires { length txs.now ≤ MAX_TXS }
-    ensures { result ≡ sum_by tx_budget txs.now }
+/// The budget of a block, in steps: the sum of its calls' budgets.
+pub fn block_budget(block: &Block) -> u64
+    requires { IsBlock block.now }
+    ensures { result ≡ block_budget block.now }
 {
+    let txs = block.txs.as_slice();
     txs.iter().map(|tx| u64::from(tx_budget(tx))).sum()
 }
 
@@ -81,7 +84,7 @@ fn new_placement(held: u32, rows: u64, parent: Digest, block: &Block) -> Placeme
     if block.parent != parent {
         return Placement::Parent { want: parent };
     }
-    let sum = budget_sum(block.txs.as_slice());
+    let sum = block_budget(block);
     if sum > MAX_BLOCK_BUDGET {
         return Placement::Budget { sum };
     }
@@ -89,7 +92,7 @@ fn new_placement(held: u32, rows: u64, parent: Digest, block: &Block) -> Placeme
 }
 
 /// Where a block with this digest stands to a chain of `held` blocks and so many rows. `have` is
-/// the digest of the held block of its number, `parent` that of the last block, or 32 zero bytes
+/// the digest of the held block of its number, `parent` that of the last block, or `NO_PARENT`
 /// where there is none. The cases are tested in the order of `Placement`, `Next` last.
 pub fn place(
     held: u32,

@@ -1,10 +1,11 @@
 //! A reader of fields, from the first byte to the last.
 
 ghost use Rattle.std.specs.Prelude.{◌≡◌, ◌≤◌, ◌==◌, ◌&&◌, nat_le, is_none, length};
-ghost use Rattle.lc_base.specs.KeyBytes.{bad_key_byte};
-ghost use Rattle.lc_base.specs.NameBytes.{bad_name_byte};
+ghost use Rattle.lc_names.specs.KeyBytes.{bad_key_byte};
+ghost use Rattle.lc_names.specs.NameBytes.{bad_name_byte};
 ghost use Rattle.lc_base.specs.TextBytes.{bad_text_byte};
-ghost use Rattle.lc_base.specs.declared.limits.TheConstants.{MAX_KEY_BYTES, MAX_NAME_BYTES, MAX_TEXT_BYTES};
+ghost use Rattle.lc_names.specs.declared.limits.TheConstants.{MAX_KEY_BYTES, MAX_NAME_BYTES};
+ghost use Rattle.lc_base.specs.declared.limits.TheConstants.{MAX_TEXT_BYTES};
 ghost use Rattle.std.specs.Int.{w16, w32, w64};
 ghost use Rattle.byte_fields.specs.Reading.{ruled_at, items_at, number_at, byte_at, bytes_at, key_at, name_at, any_bytes_at, text_at, int_at, value_at};
 ghost use Rattle.byte_fields.specs.Reader.{fault_left, error_left, Reads};

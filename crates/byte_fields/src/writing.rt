@@ -1,11 +1,11 @@
 //! Writing the fields that blocks, entries and proofs are spelled with. Where memory runs out, a
 //! part of a field may stand after what was written before.
 
-ghost use Rattle.std.specs.Prelude.{◌≡◌, ◌++◌, ◌^◌, ◌<◌, length, OnOk};
+ghost use Rattle.std.specs.Prelude.{◌≡◌, [], ◌∷◌, ◌++◌, ◌^◌, ◌<◌, length, OnOk};
 ghost use Rattle.std.specs.List.{concat, flat_map, AllByRecursion};
 ghost use Rattle.std.specs.Int.{w32, to_be_bytes};
-ghost use Rattle.lc_base.specs.KeyBytes.{IsKey};
-ghost use Rattle.lc_base.specs.NameBytes.{IsName};
+ghost use Rattle.lc_names.specs.KeyBytes.{IsKey};
+ghost use Rattle.lc_names.specs.NameBytes.{IsName};
 ghost use Rattle.lc_base.specs.TextBytes.{IsText};
 ghost use Rattle.byte_fields.specs.Spelling.{string_fields, value_fields, IsValue};
 
@@ -17,6 +17,14 @@ fn put_string(out: &mut Vec<u8>, bytes: &[u8]) -> Result<(), Memory>
 {
     out.extend_from_slice(&(bytes.len() as u16).to_be_bytes())?;
     out.extend_from_slice(bytes)?;
+    Ok(())
+}
+
+/// A number of one byte.
+pub fn put_u8(out: &mut Vec<u8>, number: u8) -> Result<(), Memory>
+    ensures written { OnOk result (out.new.items ≡ out.old.items ++ number ∷ []) }
+{
+    out.push(number)?;
     Ok(())
 }
 

@@ -7,7 +7,7 @@ ghost use Rattle.chain_cli.specs.Blocks.{frame};
 ghost use Rattle.chain_cli.specs.Telling.{IsAnsweredInPart, TellsFrame};
 
 use crate::packing::frame;
-use block_codec::block_digest;
+use block_codec::{NO_PARENT, block_digest};
 use chain_gen::Gen;
 use chain_lines::Status;
 use chain_words::Generation;
@@ -37,7 +37,7 @@ pub fn generate<M: Wire>(alloc: Global, machine: &mut M, generation: &Generation
     ensures untold { result ≡ Status.Untold → Rose (M.wire_faults machine.old) (M.wire_faults machine.new) }
 {
     let mut generator = Gen::new(generation.blocks, generation.seed);
-    let mut parent = Digest([0; 32]);
+    let mut parent = NO_PARENT;
     'turns: loop {
         match generator.next(alloc, parent) {
             Err(Memory) => return Status::Memory,

@@ -3,8 +3,8 @@
 ghost use Rattle.std.specs.Prelude.{◌≡◌, ◌≤◌, map, length, IfOk};
 ghost use Rattle.std.specs.Option.{option_map};
 ghost use Rattle.serde_json.specs.View.{view};
-ghost use Rattle.lc_base.specs.KeyBytes.{IsKey};
-ghost use Rattle.lc_base.specs.NameBytes.{IsName};
+ghost use Rattle.lc_names.specs.KeyBytes.{IsKey};
+ghost use Rattle.lc_names.specs.NameBytes.{IsName};
 ghost use Rattle.byte_fields.specs.Spelling.{IsValue};
 ghost use Rattle.block_codec.specs.declared.limits.TheConstants.{MAX_CALL_BUDGET, MAX_SOURCE_BYTES};
 ghost use Rattle.chain_draft.specs.Json.{items_in, member_count};

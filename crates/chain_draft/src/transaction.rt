@@ -5,7 +5,7 @@ ghost use Rattle.std.specs.Result.{result_ok};
 ghost use Rattle.std.specs.List.{AllByRecursion};
 ghost use Rattle.serde_json.specs.Find.{get};
 ghost use Rattle.serde_json.specs.View.{view};
-ghost use Rattle.lc_base.specs.KeyBytes.{IsKey};
+ghost use Rattle.lc_names.specs.KeyBytes.{IsKey};
 ghost use Rattle.lc_base.specs.declared.limits.TheConstants.{MAX_DEPS};
 ghost use Rattle.byte_fields.specs.Spelling.{IsValue};
 ghost use Rattle.block_codec.specs.Spelling.{IsTx};

@@ -3,8 +3,8 @@ use Rattle.std.proofs.Common.{◌≡◌, ℕ, ◌+◌, ◌∷◌, ◌++◌, [], 
 use Rattle.std.proofs.lemmas.List.{map-append}
 use native.Mathlib.Numerals.{unary_clauses}
 use Rattle.lc_base.specs.declared.digest.Digest.{Digest}
-use Rattle.block_codec.specs.Placement.{bytes_digest}
-use Rattle.chain_gen.specs.Generator.{Progress, GoesOn, no_parent, none_made, one_more_made, made, generated, spelling, block_drawn, given_block, progress}
+use Rattle.block_codec.specs.Placement.{bytes_digest, no_parent}
+use Rattle.chain_gen.specs.Generator.{Progress, GoesOn, none_made, one_more_made, made, generated, spelling, block_drawn, given_block, progress}
 
 made_more : (seed count : ℕ) → made seed (count + 1) ≡ one_more_made count (made seed count)
 unfolding made

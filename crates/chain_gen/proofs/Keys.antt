@@ -8,10 +8,10 @@ use Rattle.std.proofs.lemmas.Bool.Decides.{nat_tests}
 use Rattle.std.proofs.lemmas.List.Sums.{position_or_len_is}
 use Rattle.std.proofs.lemmas.Str.Parse.{digit_at}
 use Rattle.std.proofs.lemmas.Fmt.{decimal_is_IsNumeral, length-decimal-le}
-use Rattle.lc_base.specs.declared.limits.TheConstants.{MAX_KEY_BYTES}
-use Rattle.lc_base.specs.KeyBytes.{IsKey, is_key_byte, bad_key_byte}
-use Rattle.lc_base.specs.Key.{key_of, all_good}
-use Rattle.lc_base.specs.declared.key.KeyError.TheVariants.{Empty, Long, Byte}
+use Rattle.lc_names.specs.declared.limits.TheConstants.{MAX_KEY_BYTES}
+use Rattle.lc_names.specs.KeyBytes.{IsKey, is_key_byte, bad_key_byte}
+use Rattle.lc_names.specs.Key.{key_of, all_good}
+use Rattle.lc_names.specs.declared.key.KeyError.TheVariants.{Empty, Long, Byte}
 use Rattle.chain_gen.specs.Draws.{raw_key}
 
 -- what is a key is taken for one

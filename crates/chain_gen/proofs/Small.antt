@@ -8,8 +8,8 @@ use Rattle.std.proofs.lemmas.List.Sums.{sum_by-cons}
 use Rattle.std.specs.Int.{w16, to_be_bytes}
 use Rattle.std.specs.Cmp.Lexicographic.{bytes_decides}
 use Rattle.std.proofs.lemmas.Bool.{le-ltb, ne_eqb}
-use Rattle.lc_base.specs.KeyBytes.{IsKey}
-use Rattle.lc_base.specs.NameBytes.{IsName}
+use Rattle.lc_names.specs.KeyBytes.{IsKey}
+use Rattle.lc_names.specs.NameBytes.{IsName}
 use Rattle.lc_base.specs.declared.digest.Digest.{Digest}
 use Rattle.byte_fields.specs.Spelling.{string_fields, int_bytes}
 use Rattle.block_codec.specs.Spelling.{IsTx, tx_fields, Spells}

@@ -1,9 +1,9 @@
 -- The blocks that are made from a seed.
-use Rattle.std.specs.Prelude.{◌≡◌, ℕ, zero, suc, ◌+◌, ◌<◌, ◌≤◌, ◌==◌, if◌then◌else◌, List, [], ◌∷◌, ◌++◌, map, replicate, Option, Some, None}
+use Rattle.std.specs.Prelude.{◌≡◌, ℕ, zero, suc, ◌+◌, ◌<◌, ◌≤◌, ◌==◌, if◌then◌else◌, List, [], ◌∷◌, ◌++◌, map, Option, Some, None}
 use Rattle.std.specs.List.{concat}
 use Rattle.lc_base.specs.declared.digest.Digest.{Digest}
 use Rattle.block_codec.specs.Spelling.{block_fields}
-use Rattle.block_codec.specs.Placement.{bytes_digest, digest_of, placement}
+use Rattle.block_codec.specs.Placement.{bytes_digest, digest_of, no_parent, placement}
 use Rattle.block_codec.specs.declared.limits.TheConstants.{MAX_BLOCKS, MAX_ROWS_BEFORE_BLOCK}
 use Rattle.block_codec.specs.declared.placement.Placement.TheVariants.{Next}
 use Rattle.block_codec.specs.declared.block.Block.{Block}
@@ -22,10 +22,6 @@ pub record MadeSoFar : Type 0 where
   pub blocks : List Block
   pub parent : Digest
   pub state : ℕ
-
--- 32 zero bytes, the parent of the first block.
-abbrev pub no_parent : Digest
-no_parent = record { 0 = replicate 32 0 }
 
 -- No block: drawing begins at the seed.
 abbrev pub none_made : ℕ → MadeSoFar

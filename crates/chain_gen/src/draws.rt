@@ -1,7 +1,7 @@
 //! Numbers, drawn one after another.
 
 ghost use Rattle.std.specs.Prelude.{◌≡◌, ◌+◌, ◌<◌, ◌≤◌, ◌++◌, length, take};
-ghost use Rattle.lc_base.specs.KeyBytes.{IsKey};
+ghost use Rattle.lc_names.specs.KeyBytes.{IsKey};
 ghost use Rattle.chain_gen.specs.Draws.{next_state, number_below, number_of_key, key_drawn, raw_key};
 ghost use Rattle.chain_gen.specs.declared.limits.TheConstants.{MANY_KEYS};
 

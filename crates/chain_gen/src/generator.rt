@@ -7,7 +7,7 @@ ghost use Rattle.chain_gen.specs.Generator.{block_drawn, generated, made, none_m
 
 use crate::draws::Draws;
 use crate::txs::txs_drawn;
-use block_codec::{Block, EncodeError, block_digest, encode};
+use block_codec::{Block, EncodeError, NO_PARENT, block_digest, encode};
 use lc_base::{Bytes, Digest, Key, Memory, TextList};
 use std::alloc::Global;
 use std::marker::Model;
@@ -145,7 +145,7 @@ pub fn generated(alloc: Global, blocks: u32, seed: u32) -> Result<TextList, Memo
 {
     let mut texts = TextList::new(alloc);
     let mut generator = Gen::new(blocks, seed);
-    let mut parent = Digest([0; 32]);
+    let mut parent = NO_PARENT;
     for _ in 0..blocks {
         match generator.next(alloc, parent)? {
             Some((bytes, rest)) => {

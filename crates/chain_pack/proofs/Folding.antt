@@ -5,10 +5,10 @@ use Rattle.std.proofs.lemmas.List.{append-nil, drop_all}
 use Rattle.serde_json.specs.Data.{Data}
 use Rattle.lc_base.specs.Answers.{Answers}
 use Rattle.lc_base.specs.declared.digest.Digest.{Digest}
-use Rattle.block_codec.specs.Placement.{bytes_digest}
+use Rattle.block_codec.specs.Placement.{bytes_digest, no_parent}
 use Rattle.chain_pack.specs.declared.error.PackError.{PackError}
 use Rattle.chain_pack.specs.declared.error.PackError.TheVariants as errors
-use Rattle.chain_pack.specs.Draft.{pack_fault, text_in, texts_from, no_parent, IsBlockText}
+use Rattle.chain_pack.specs.Draft.{pack_fault, text_in, texts_from, IsBlockText}
 use Rattle.chain_draft.proofs.Each.{with_prefix, regroup, prefix_nil, next, length_more, all_more}
 
 -- The first blocks, so many, have these texts, and this is the parent of the next one.

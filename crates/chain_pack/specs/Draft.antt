@@ -1,10 +1,10 @@
 -- Drafts, and the texts of the blocks that they are packed into.
-use Rattle.std.specs.Prelude.{ℕ, ◌+◌, nat_lt, if◌then◌else◌, List, [], ◌∷◌, length, replicate, Option, Some, None, Result, Ok, Err}
+use Rattle.std.specs.Prelude.{ℕ, ◌+◌, nat_lt, if◌then◌else◌, List, [], ◌∷◌, length, Option, Some, None, Result, Ok, Err}
 use Rattle.std.specs.List.{concat}
 use Rattle.serde_json.specs.Data.{Data}
 use Rattle.lc_base.specs.declared.digest.Digest.{Digest}
 use Rattle.block_codec.specs.Spelling.{Spells, block_fields}
-use Rattle.block_codec.specs.Placement.{bytes_digest, block_budget}
+use Rattle.block_codec.specs.Placement.{bytes_digest, block_budget, no_parent}
 use Rattle.block_codec.specs.declared.limits.TheConstants.{MAX_BLOCK_BUDGET, MAX_BLOCK_BYTES, MAX_TXS}
 use Rattle.block_codec.specs.declared.block.Tx.{Tx}
 use Rattle.block_codec.specs.declared.block.Block.{Block}
@@ -62,10 +62,6 @@ then_texts (Err fault) others = Err fault
 unfoldable pub texts_from : ℕ → Digest → List Data → Result (List (List ℕ)) PackError
 texts_from number parent [] = Ok []
 texts_from number parent (json ∷ others) = then_texts (text_in number parent json) (λ text. texts_from (number + 1) (bytes_digest text) others)
-
--- 32 zero bytes, the parent of block 0.
-abbrev pub no_parent : Digest
-no_parent = record { 0 = replicate 32 0 }
 
 -- The texts of an array of blocks.
 abbrev pub texts_of : Option (List Data) → Result (List (List ℕ)) PackError

@@ -1,17 +1,16 @@
 //! Blocks, read from JSON and spelled.
 
 ghost use Rattle.std.specs.Prelude.{◌≡◌, ◌≤◌, map, length, IfOk};
-ghost use Rattle.std.specs.List.{sum_by, AllByRecursion};
+ghost use Rattle.std.specs.List.{AllByRecursion};
 ghost use Rattle.serde_json.specs.View.{view};
 ghost use Rattle.lc_base.specs.Answers.{Answers};
 ghost use Rattle.block_codec.specs.Spelling.{IsTx, IsBlock, Spells};
-ghost use Rattle.block_codec.specs.Placement.{tx_budget};
 ghost use Rattle.block_codec.specs.declared.limits.TheConstants.{MAX_TXS};
 ghost use Rattle.chain_draft.specs.Transactions.{each, tx_in};
 ghost use Rattle.chain_pack.specs.Draft.{pack_fault, at_block, txs_in, text_of, text_in, IsBlockText};
 
 use crate::error::PackError;
-use block_codec::{Block, EncodeError, MAX_BLOCK_BUDGET, MAX_TXS, Tx, TxList, encode};
+use block_codec::{Block, EncodeError, MAX_BLOCK_BUDGET, MAX_TXS, TxList, block_budget, encode};
 use chain_draft::{ReadError, items_in, tx_in};
 use lc_base::{Bytes, Digest, Memory};
 use serde_json::Value as Json;
@@ -50,22 +49,6 @@ fn txs_in(alloc: Global, block: u32, json: &Json) -> Result<TxList, PackError>
     }
 }
 
-fn tx_budget(tx: &Tx) -> u32
-    ensures { result ≡ tx_budget tx.now }
-{
-    match tx {
-        Tx::Set { .. } | Tx::Deploy { .. } => 0,
-        Tx::Call { budget, .. } => *budget,
-    }
-}
-
-fn budget_sum(txs: &[Tx]) -> u64
-    requires { length txs.now ≤ MAX_TXS }
-    ensures { result ≡ sum_by tx_budget txs.now }
-{
-    txs.iter().map(|tx| u64::from(tx_budget(tx))).sum()
-}
-
 /// The same bytes, in no more room than they take.
 fn without_spare(alloc: Global, text: &Bytes) -> Result<Bytes, Memory>
     ensures { IfOk result (λ bytes. bytes ≡ text.now) }
@@ -79,7 +62,7 @@ fn text_of(alloc: Global, block: &Block) -> Result<Bytes, PackError>
     ensures text { Answers (λ text. text) pack_fault result (text_of block.now) }
     ensures spelled { IfOk result (λ text. Spells text block.now) }
 {
-    if budget_sum(block.txs.as_slice()) > MAX_BLOCK_BUDGET {
+    if block_budget(block) > MAX_BLOCK_BUDGET {
         return Err(PackError::BlockLimit {
             block: block.number,
         });

@@ -6,14 +6,15 @@ ghost use Rattle.std.specs.List.{AllByRecursion};
 ghost use Rattle.serde_json.specs.View.{view};
 ghost use Rattle.lc_base.specs.Answers.{Answers};
 ghost use Rattle.chain_draft.specs.Json.{json_in};
-ghost use Rattle.chain_pack.specs.Draft.{pack_fault, texts_from, no_parent, packed, IsBlockText};
+ghost use Rattle.chain_pack.specs.Draft.{pack_fault, texts_from, packed, IsBlockText};
+ghost use Rattle.block_codec.specs.Placement.{no_parent};
 ghost use Rattle.chain_pack.specs.declared.draft.TheConstants.{MAX_PACKED_BLOCKS};
 
 use crate::block::text_in;
 use crate::error::PackError;
-use block_codec::block_digest;
+use block_codec::{NO_PARENT, block_digest};
 use chain_draft::items_in;
-use lc_base::{Digest, TextList};
+use lc_base::TextList;
 use serde_json::{Category, Value as Json};
 use std::alloc::Global;
 
@@ -39,7 +40,7 @@ fn texts(alloc: Global, blocks: &[Json]) -> Result<TextList, PackError>
     ensures spelled { IfOk result (AllByRecursion IsBlockText) }
 {
     let mut texts = TextList::new(alloc);
-    let mut parent = Digest([0; 32]);
+    let mut parent = NO_PARENT;
     for block in blocks {
         let text = text_in(alloc, texts.len() as u32, parent, block)?;
         parent = block_digest(text.as_bytes());

@@ -1,10 +1,10 @@
 -- Chains of blocks, and what is kept of them.
-use Rattle.std.specs.Prelude.{◌≡◌, ℕ, ◌-◌, ◌<◌, ◌≤◌, List, [], ◌∷◌, ◌++◌, length, map, replicate, unwrap_or, slice_get, slice_index_or, take}
+use Rattle.std.specs.Prelude.{◌≡◌, ℕ, ◌-◌, ◌<◌, ◌≤◌, List, [], ◌∷◌, ◌++◌, length, map, unwrap_or, slice_get, slice_index_or, take}
 use Rattle.std.specs.List.{All}
 use Rattle.lc_base.specs.History.{IsLawful}
 use Rattle.lc_base.specs.declared.digest.Digest.{Digest}
 use Rattle.lc_base.specs.declared.row.Row.{Row}
-use Rattle.block_codec.specs.Placement.{digest_of, placement}
+use Rattle.block_codec.specs.Placement.{digest_of, no_parent, placement}
 use Rattle.block_codec.specs.declared.limits.TheConstants.{MAX_BLOCKS, MAX_ROWS_BEFORE_BLOCK}
 use Rattle.block_codec.specs.declared.block.Block.{Block}
 use Rattle.block_codec.specs.declared.placement.Placement.{Placement}
@@ -18,10 +18,6 @@ use Rattle.chain_exec.specs.Effect.{History}
 use Rattle.chain_exec.specs.Fold.{block_effects}
 use Rattle.chain_exec.specs.Running.{codes_seen}
 use Rattle.chain_exec.specs.Replay.{history_after, replay}
-
--- 32 zero bytes, the parent of the first block.
-abbrev pub no_parent : Digest
-no_parent = record { 0 = replicate 32 0 }
 
 -- The last of some digests, or 32 zero bytes where there is none.
 abbrev pub last_digest : List Digest → Digest

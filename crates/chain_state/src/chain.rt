@@ -13,7 +13,7 @@ ghost use Rattle.chain_exec.specs.Fold.{block_effects};
 ghost use Rattle.chain_exec.specs.Running.{history_in, staged_in};
 ghost use Rattle.chain_state.specs.Chain.{nothing_kept, placement_in, placement_kept, last_digest, HasRoom, IsAfter, StandsFor};
 
-use block_codec::{Block, Placement, place};
+use block_codec::{Block, NO_PARENT, Placement, place};
 use chain_exec::{BlockRun, run_block};
 use contract_check::Checked;
 use lc_base::{Answer, Digest, DigestList, HostError, Memory, Query, RowList};
@@ -128,13 +128,13 @@ impl Chain {
         place(self.len(), rows, have, self.last_digest(), block, digest)
     }
 
-    /// The digest of the last block, or 32 zero bytes where there is none.
+    /// The digest of the last block, or `NO_PARENT` where there is none.
     fn last_digest(&self) -> Digest
         ensures { result ≡ last_digest self.now.digests }
     {
         match self.digests.as_slice().last() {
             Some(digest) => *digest,
-            None => Digest([0; 32]),
+            None => NO_PARENT,
         }
     }
 

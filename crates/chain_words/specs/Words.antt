@@ -1,6 +1,6 @@
 -- The words of commands.
 use Rattle.std.specs.Prelude.{◌≡◌, ℕ, ◌<◌, ◌≤◌, ◌^◌, Bool, true, false, ◌&&◌, ◌||◌, ◌==◌, nat_le, List, [], ◌∷◌, length, Option, Some, None, codes, decimal}
-use Rattle.lc_base.specs.KeyBytes.{IsKey}
+use Rattle.lc_names.specs.KeyBytes.{IsKey}
 use Rattle.lc_base.specs.declared.answer.Kind.{Kind}
 use Rattle.lc_base.specs.declared.answer.Kind.TheVariants.{Hist, Back, Fwd}
 use Rattle.lc_base.specs.declared.answer.Query.{Query}

@@ -2,12 +2,12 @@
 use Rattle.std.proofs.Common.{ℕ, ℤ, negsuc, pos, Bool, true, false, List, [], ◌∷◌, ◌++◌, Option, Some, None, Result, Ok, Err, refl, slice_get, int_div, int_rem, ◌+ℤ◌, ◌-ℤ◌, ◌*ℤ◌, neg_ℤ, if◌then◌else◌}
 use Rattle.std.specs.Prelude.{nat_lt}
 use Rattle.lc_base.specs.History.{scan}
-use Rattle.lc_base.specs.Key.{key_of}
+use Rattle.lc_names.specs.Key.{key_of}
 use Rattle.lc_base.specs.Parts.{question, version_in, list_in}
 use Rattle.lc_base.specs.Text.{joined_text}
 use Rattle.lc_base.specs.declared.answer.Kind.{Kind}
 use Rattle.lc_base.specs.declared.answer.Kind.TheVariants.{Hist}
-use Rattle.lc_base.specs.declared.key.KeyError.{KeyError}
+use Rattle.lc_names.specs.declared.key.KeyError.{KeyError}
 use Rattle.lc_base.specs.declared.row.Dep.{Dep}
 use Rattle.lc_base.specs.declared.row.Row.{Row}
 use Rattle.lc_base.specs.declared.row.Version.{Version}

@@ -2,7 +2,7 @@
 
 ghost use Rattle.std.specs.Prelude.{◌≡◌, ℕ, ◌+◌, ◌-◌, ◌<◌, ◌^◌, not, ◌==◌, List, [], ◌∷◌, length, take, drop, take_while, IfOk};
 ghost use Rattle.std.specs.List.{prefix_len};
-ghost use Rattle.lc_base.specs.NameBytes.{is_letter, is_name_byte};
+ghost use Rattle.lc_names.specs.NameBytes.{is_letter, is_name_byte};
 ghost use Rattle.contract_tokens.specs.Lexemes.{is_blank, is_digit, newline};
 ghost use Rattle.contract_tokens.specs.Pieces.{next_piece, nonempty_piece};
 

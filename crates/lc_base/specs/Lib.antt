@@ -1,10 +1,5 @@
 pub mod Answers
 pub mod Faults
-pub mod Padding
-pub mod KeyBytes
-pub mod Key
-pub mod NameBytes
-pub mod Name
 pub mod TextBytes
 pub mod Text
 pub mod History

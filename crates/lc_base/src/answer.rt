@@ -1,8 +1,8 @@
 //! Questions about a key at a block, and their answers.
 
-use crate::key::Key;
 use crate::list::DepList;
 use crate::value::Value;
+use lc_names::Key;
 
 /// What is asked of the version of a key.
 #[derive(Clone, Copy, Debug, PartialEq, Eq)]

@@ -7,8 +7,8 @@ ghost use Rattle.lc_base.specs.Parts.{question, version_in, count_in, item_in};
 ghost use Rattle.lc_base.specs.declared.row.Row.{Row};
 
 use crate::answer::Kind;
-use crate::key::Key;
 use crate::row::{Dep, Row, Version};
+use lc_names::Key;
 use std::alloc::Global;
 
 /// Why a host gave no answer.

@@ -1,10 +1,4 @@
-//! The limits of keys, names, texts and histories.
-
-/// The greatest number of bytes of a key.
-pub const MAX_KEY_BYTES: usize = 64;
-
-/// The greatest number of bytes of a name.
-pub const MAX_NAME_BYTES: usize = 16;
+//! The limits of texts and histories.
 
 /// The greatest number of bytes of a text.
 pub const MAX_TEXT_BYTES: usize = 1024;

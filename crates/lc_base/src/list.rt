@@ -4,10 +4,10 @@ ghost use Rattle.std.specs.Prelude.{◌≡◌, ◌==◌, [], ◌∷◌, ◌++◌
 ghost use Rattle.std.specs.Option.{option_copied};
 
 use crate::digest::Digest;
-use crate::key::Key;
 use crate::memory::Memory;
 use crate::row::{Dep, Row};
 use crate::value::Value;
+use lc_names::Key;
 use std::alloc::Global;
 use std::marker::Model;
 

@@ -6,9 +6,9 @@ ghost use Rattle.std.specs.Fmt.{signed_decimal};
 ghost use Rattle.lc_base.specs.Text.{IsTextOf, joined_text};
 ghost use Rattle.lc_base.specs.declared.text.TextError.TheVariants.{Memory};
 
-use crate::key::Key;
 use crate::limits::MAX_TEXT_BYTES;
 use crate::list::Duplicate;
+use lc_names::Key;
 use std::alloc::{AllocError, Global};
 use std::marker::Model;
 use thiserror::Error;

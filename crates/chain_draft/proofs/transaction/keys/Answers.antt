@@ -2,7 +2,7 @@ use Rattle.std.proofs.Common.{ap}
 use Rattle.std.specs.Result.{result_ok}
 use Rattle.std.proofs.lemmas.Result.{err_from_is_err_and}
 use Rattle.serde_json.specs.View.{view}
-use Rattle.lc_base.specs.KeyBytes.{IsKey}
+use Rattle.lc_names.specs.KeyBytes.{IsKey}
 use Rattle.chain_draft.specs.Transactions.{key_in}
 use Rattle.chain_draft.proofs.Each.{made_more, made_all, missed}
 use Rattle.chain_draft.proofs.transaction.keys.Goals as goal

@@ -1,5 +1,5 @@
 use Rattle.serde_json.specs.View.{view}
-use Rattle.lc_base.specs.KeyBytes.{IsKey}
+use Rattle.lc_names.specs.KeyBytes.{IsKey}
 use Rattle.chain_draft.specs.Transactions.{key_in}
 use Rattle.chain_draft.proofs.Each.{Made}
 use Rattle.chain_draft.proofs.transaction.keys.Given as goal

@@ -7,10 +7,10 @@ ghost use Rattle.std.specs.Cmp.Lexicographic.{pointwise, slice_cmp};
 ghost use Rattle.std.specs.Cmp.Rules.{comparing, hashing};
 ghost use Rattle.std.specs.Hash as fed;
 ghost use Rattle.std.proofs.Common.{rules};
-ghost use Rattle.lc_base.specs.NameBytes.{is_name_byte, starts_with_letter, foreign_byte, bad_name_byte, IsName};
-ghost use Rattle.lc_base.specs.Padding.{padded};
-ghost use Rattle.lc_base.specs.declared.limits.TheConstants.{MAX_NAME_BYTES};
-ghost use Rattle.lc_base.specs.Name.{name_of};
+ghost use Rattle.lc_names.specs.NameBytes.{is_name_byte, starts_with_letter, foreign_byte, bad_name_byte, IsName};
+ghost use Rattle.lc_names.specs.Padding.{padded};
+ghost use Rattle.lc_names.specs.declared.limits.TheConstants.{MAX_NAME_BYTES};
+ghost use Rattle.lc_names.specs.Name.{name_of};
 
 use crate::key::KeyError;
 use crate::limits::MAX_NAME_BYTES;
@@ -28,9 +28,9 @@ pub struct Name {
 impl Model for Name {
     ghost use Rattle.std.specs.Prelude.{◌≡◌, ◌≤◌, ℕ, List, take, length};
     ghost use Rattle.std.proofs.Common.{refl};
-    ghost use Rattle.lc_base.specs.NameBytes.{IsName};
-    ghost use Rattle.lc_base.specs.Padding.{padded, length_of_prefix};
-    ghost use Rattle.lc_base.specs.declared.limits.TheConstants.{MAX_NAME_BYTES};
+    ghost use Rattle.lc_names.specs.NameBytes.{IsName};
+    ghost use Rattle.lc_names.specs.Padding.{padded, length_of_prefix};
+    ghost use Rattle.lc_names.specs.declared.limits.TheConstants.{MAX_NAME_BYTES};
 
     ghost Value = { List ℕ };
 

@@ -1,7 +1,7 @@
 -- Bytes in an array that is longer than they are.
 use Rattle.std.proofs.Common.{◌≡◌, ◌-◌, ℕ, List, length, take, replicate, refl}
 use Rattle.std.proofs.lemmas.List.{take_at}
-use Rattle.lc_base.specs.Padding.{padded}
+use Rattle.lc_names.specs.Padding.{padded}
 
 -- The first bytes of the array, as many as there were, are the bytes.
 pub padded_prefix_is : (width : ℕ) (bytes : List ℕ) → take (length bytes) (padded width bytes) ≡ bytes

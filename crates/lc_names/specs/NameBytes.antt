@@ -1,6 +1,6 @@
 -- Names: 1 to 16 bytes of a-z 0-9 _, the first a letter
 use Rattle.std.specs.Prelude.{◌≡◌, ℕ, ◌<◌, ◌≤◌, Bool, true, ◌&&◌, ◌||◌, not, ◌==◌, nat_le, if◌then◌else◌, List, [], ◌∷◌, length, position, Option, Some, None}
-use Rattle.lc_base.specs.declared.limits.TheConstants.{MAX_NAME_BYTES}
+use Rattle.lc_names.specs.declared.limits.TheConstants.{MAX_NAME_BYTES}
 
 -- Whether the byte is a letter.
 abbrev pub is_letter : ℕ → Bool

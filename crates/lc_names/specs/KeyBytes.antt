@@ -1,6 +1,6 @@
 -- Keys: 1 to 64 bytes of a-z 0-9 . / _ -
 use Rattle.std.specs.Prelude.{◌≡◌, ℕ, ◌<◌, ◌≤◌, Bool, ◌&&◌, ◌||◌, not, ◌==◌, nat_le, List, length, position, Option, None}
-use Rattle.lc_base.specs.declared.limits.TheConstants.{MAX_KEY_BYTES}
+use Rattle.lc_names.specs.declared.limits.TheConstants.{MAX_KEY_BYTES}
 
 -- Whether a key may have this byte.
 abbrev pub is_key_byte : ℕ → Bool

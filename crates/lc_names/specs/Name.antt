@@ -1,10 +1,10 @@
 -- What `Name::new` answers.
 use Rattle.std.specs.Prelude.{ℕ, ◌==◌, nat_lt, if◌then◌else◌, List, length, Result, Err}
-use Rattle.lc_base.specs.NameBytes.{bad_name_byte}
-use Rattle.lc_base.specs.Key.{all_good}
-use Rattle.lc_base.specs.declared.key.KeyError.{KeyError}
-use Rattle.lc_base.specs.declared.key.KeyError.TheVariants.{Empty, Long, Byte}
-use Rattle.lc_base.specs.declared.limits.TheConstants.{MAX_NAME_BYTES}
+use Rattle.lc_names.specs.NameBytes.{bad_name_byte}
+use Rattle.lc_names.specs.Key.{all_good}
+use Rattle.lc_names.specs.declared.key.KeyError.{KeyError}
+use Rattle.lc_names.specs.declared.key.KeyError.TheVariants.{Empty, Long, Byte}
+use Rattle.lc_names.specs.declared.limits.TheConstants.{MAX_NAME_BYTES}
 
 -- The name that the bytes are, or why they are none: the length is tested first.
 abbrev pub name_of : List ℕ → Result (List ℕ) KeyError

@@ -7,10 +7,10 @@ ghost use Rattle.std.specs.Cmp.Lexicographic.{pointwise, slice_cmp};
 ghost use Rattle.std.specs.Cmp.Rules.{comparing, hashing};
 ghost use Rattle.std.specs.Hash as fed;
 ghost use Rattle.std.proofs.Common.{rules};
-ghost use Rattle.lc_base.specs.KeyBytes.{is_key_byte, bad_key_byte, IsKey};
-ghost use Rattle.lc_base.specs.Padding.{padded};
-ghost use Rattle.lc_base.specs.declared.limits.TheConstants.{MAX_KEY_BYTES};
-ghost use Rattle.lc_base.specs.Key.{key_of};
+ghost use Rattle.lc_names.specs.KeyBytes.{is_key_byte, bad_key_byte, IsKey};
+ghost use Rattle.lc_names.specs.Padding.{padded};
+ghost use Rattle.lc_names.specs.declared.limits.TheConstants.{MAX_KEY_BYTES};
+ghost use Rattle.lc_names.specs.Key.{key_of};
 
 use crate::limits::MAX_KEY_BYTES;
 use std::cmp::Ordering;
@@ -28,9 +28,9 @@ pub struct Key {
 impl Model for Key {
     ghost use Rattle.std.specs.Prelude.{◌≡◌, ◌≤◌, ℕ, List, take, length};
     ghost use Rattle.std.proofs.Common.{refl};
-    ghost use Rattle.lc_base.specs.KeyBytes.{IsKey};
-    ghost use Rattle.lc_base.specs.Padding.{padded, length_of_prefix};
-    ghost use Rattle.lc_base.specs.declared.limits.TheConstants.{MAX_KEY_BYTES};
+    ghost use Rattle.lc_names.specs.KeyBytes.{IsKey};
+    ghost use Rattle.lc_names.specs.Padding.{padded, length_of_prefix};
+    ghost use Rattle.lc_names.specs.declared.limits.TheConstants.{MAX_KEY_BYTES};
 
     ghost Value = { List ℕ };
 

@@ -1,9 +1,9 @@
 -- What `Key::new` answers.
 use Rattle.std.specs.Prelude.{ℕ, ◌==◌, nat_lt, if◌then◌else◌, List, length, Option, Some, None, Result, Ok, Err}
-use Rattle.lc_base.specs.KeyBytes.{bad_key_byte}
-use Rattle.lc_base.specs.declared.key.KeyError.{KeyError}
-use Rattle.lc_base.specs.declared.key.KeyError.TheVariants.{Empty, Long, Byte}
-use Rattle.lc_base.specs.declared.limits.TheConstants.{MAX_KEY_BYTES}
+use Rattle.lc_names.specs.KeyBytes.{bad_key_byte}
+use Rattle.lc_names.specs.declared.key.KeyError.{KeyError}
+use Rattle.lc_names.specs.declared.key.KeyError.TheVariants.{Empty, Long, Byte}
+use Rattle.lc_names.specs.declared.limits.TheConstants.{MAX_KEY_BYTES}
 
 -- The bytes, unless one of them is bad.
 abbrev pub all_good : {E : Type 0} → (ℕ → E) → List ℕ → Option ℕ → Result (List ℕ) E

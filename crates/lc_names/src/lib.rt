@@ -1,0 +1,10 @@
+//! Keys, and the names of contracts and of what stands in them.
+#![tactic(auto)]
+
+mod key;
+mod limits;
+mod name;
+
+pub use key::{Key, KeyError};
+pub use limits::{MAX_KEY_BYTES, MAX_NAME_BYTES};
+pub use name::{Name, is_name_byte};
