@@ -1,5 +1,5 @@
 -- Where a block stands to a chain.
-use Rattle.std.specs.Prelude.{ℕ, ◌==◌, ◌||◌, Bool, not, nat_lt, if◌then◌else◌, List, ◌∷◌, replicate, Option, Some, None}
+use Rattle.std.specs.Prelude.{ℕ, ◌-◌, ◌==◌, ◌||◌, Bool, not, nat_lt, if◌then◌else◌, List, ◌∷◌, length, map, replicate, unwrap_or, slice_get, Option, Some, None}
 use Rattle.std.specs.List.{concat, sum_by}
 use Rattle.std.specs.Cmp.Lexicographic.{pointwise}
 use Rattle.sha2.specs.Sha256.{sha256}
@@ -57,3 +57,13 @@ new_placement held rows parent block =
 abbrev pub placement : ℕ → ℕ → Option Digest → Digest → Block → Digest → Placement
 placement held rows (Some have) parent block digest = held_placement have digest
 placement held rows None parent block digest = new_placement held rows parent block
+
+-- The last of some digests, or 32 zero bytes where there is none.
+abbrev pub last_digest : List Digest → Digest
+last_digest digests = unwrap_or (slice_get digests (length digests - 1)) no_parent
+
+-- Where a block stands to a chain of these blocks and so many rows.
+abbrev pub placement_after : ℕ → List Block → Block → Placement
+placement_after rows blocks block =
+    let digests = map digest_of blocks in
+    placement (length blocks) rows (slice_get digests block.number) (last_digest digests) block (digest_of block)

@@ -5,7 +5,7 @@ use Rattle.std.proofs.lemmas.Bool.{cases_lt}
 use Rattle.std.proofs.lemmas.List.{length-map, map_push, map-append, length-append, take-append-le, take_at, get_or_append_left, get_or_push}
 use Rattle.lc_base.specs.declared.digest.Digest.{Digest}
 use Rattle.lc_base.specs.declared.row.Row.{Row}
-use Rattle.block_codec.specs.Placement.{digest_of, placement}
+use Rattle.block_codec.specs.Placement.{digest_of, last_digest, placement}
 use Rattle.block_codec.specs.declared.block.Block.{Block}
 use Rattle.block_codec.specs.declared.placement.Placement.TheVariants.{Next}
 use Rattle.contract_tree.specs.declared.tree.Contract.{Contract}
@@ -17,7 +17,7 @@ use Rattle.chain_exec.specs.Fold.{Staged, block_effects}
 use Rattle.chain_exec.specs.Replay.{with_staged, history_after}
 use Rattle.chain_exec.specs.Running.{code_seen, codes_seen, history_in, staged_in}
 use Rattle.chain_exec.proofs.TheLaws.{replay_grows}
-use Rattle.chain_state.specs.Chain.{ChainState, IsAfter, StandsFor, last_digest, placement_in, placement_kept, IsChain}
+use Rattle.chain_state.specs.Chain.{ChainState, IsAfter, StandsFor, placement_in, placement_kept, IsChain}
 
 -- what is kept tells where a block stands
 pub placed_as_kept : (kept : ChainState) (blocks : List Block) (block : Block) (digest : Digest) → StandsFor kept blocks → digest ≡ digest_of block

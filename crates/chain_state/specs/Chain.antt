@@ -1,10 +1,10 @@
 -- Chains of blocks, and what is kept of them.
-use Rattle.std.specs.Prelude.{◌≡◌, ℕ, ◌-◌, ◌<◌, ◌≤◌, List, [], ◌∷◌, ◌++◌, length, map, unwrap_or, slice_get, slice_index_or, take}
+use Rattle.std.specs.Prelude.{◌≡◌, ℕ, ◌<◌, ◌≤◌, List, [], ◌∷◌, ◌++◌, length, map, slice_get, slice_index_or, take}
 use Rattle.std.specs.List.{All}
 use Rattle.lc_base.specs.History.{IsLawful}
 use Rattle.lc_base.specs.declared.digest.Digest.{Digest}
 use Rattle.lc_base.specs.declared.row.Row.{Row}
-use Rattle.block_codec.specs.Placement.{digest_of, no_parent, placement}
+use Rattle.block_codec.specs.Placement.{digest_of, last_digest, placement, placement_after}
 use Rattle.block_codec.specs.declared.limits.TheConstants.{MAX_BLOCKS, MAX_ROWS_BEFORE_BLOCK}
 use Rattle.block_codec.specs.declared.block.Block.{Block}
 use Rattle.block_codec.specs.declared.placement.Placement.{Placement}
@@ -19,15 +19,9 @@ use Rattle.chain_exec.specs.Fold.{block_effects}
 use Rattle.chain_exec.specs.Running.{codes_seen}
 use Rattle.chain_exec.specs.Replay.{history_after, replay}
 
--- The last of some digests, or 32 zero bytes where there is none.
-abbrev pub last_digest : List Digest → Digest
-last_digest digests = unwrap_or (slice_get digests (length digests - 1)) no_parent
-
 -- Where a block stands to a chain of blocks.
 abbrev pub placement_in : Compiler → List Block → Block → Placement
-placement_in compile blocks block =
-    let digests = map digest_of blocks in
-    placement (length blocks) (length (replay compile blocks).rows) (slice_get digests block.number) (last_digest digests) block (digest_of block)
+placement_in compile blocks block = placement_after (length (replay compile blocks).rows) blocks block
 
 -- A chain: each of its blocks is the next one after those before it.
 abbrev pub IsChain : Compiler → List Block → Type 0

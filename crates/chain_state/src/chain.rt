@@ -3,7 +3,7 @@
 ghost use Rattle.std.specs.Prelude.{◌≡◌, List, [], ◌∷◌, ◌++◌, length, map, IfOk, OnOk};
 ghost use Rattle.lc_base.specs.History.{IsLawful, scan};
 ghost use Rattle.block_codec.specs.Spelling.{IsBlock};
-ghost use Rattle.block_codec.specs.Placement.{digest_of};
+ghost use Rattle.block_codec.specs.Placement.{digest_of, last_digest};
 ghost use Rattle.block_codec.specs.declared.block.Block.{Block as Blocks};
 ghost use Rattle.world_state.specs.Rows.{entry_of};
 ghost use Rattle.world_state.specs.World.{newest_of, StandsForRows};
@@ -11,7 +11,7 @@ ghost use Rattle.chain_exec.specs.BlockRows.{AreBlockRows};
 ghost use Rattle.chain_exec.specs.Compiled.{compiled_in};
 ghost use Rattle.chain_exec.specs.Fold.{block_effects};
 ghost use Rattle.chain_exec.specs.Running.{history_in, staged_in};
-ghost use Rattle.chain_state.specs.Chain.{nothing_kept, placement_in, placement_kept, last_digest, HasRoom, IsAfter, StandsFor};
+ghost use Rattle.chain_state.specs.Chain.{nothing_kept, placement_in, placement_kept, HasRoom, IsAfter, StandsFor};
 
 use block_codec::{Block, NO_PARENT, Placement, place};
 use chain_exec::{BlockRun, run_block};
