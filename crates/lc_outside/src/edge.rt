@@ -94,6 +94,22 @@ fn written<W: Write>(writer: &mut W, bytes: &[u8]) -> usize
     }
 }
 
+/// Writes until all bytes are taken. A write that fails, or that takes nothing, is a fault, and
+/// then some first bytes may have been taken.
+pub fn write_whole<W: Write>(writer: &mut W, bytes: &[u8]) -> Result<(), Failed>
+    ensures { Writes (W.contents writer.old) (W.contents writer.new) bytes.now result }
+{
+    let mut taken = 0;
+    while taken < bytes.len() {
+        let count = written(writer, &bytes[taken..]);
+        if count == 0 {
+            return Err(Failed);
+        }
+        taken += count;
+    }
+    Ok(())
+}
+
 impl<W: Write> Wire for HostWire<W> {
     /// Writes until all bytes are taken. A write that takes nothing is a fault.
     fn tell(&mut self, bytes: &[u8]) -> Result<(), Failed>
@@ -104,15 +120,12 @@ impl<W: Write> Wire for HostWire<W> {
         ensures writer { Writes (W.contents self.old.writer) (W.contents self.new.writer) bytes.now result }
         ensures faults { CountsFaults self.old.faults self.new.faults result }
     {
-        let mut told = 0;
-        while told < bytes.len() {
-            let count = written(&mut self.writer, &bytes[told..]);
-            if count == 0 {
+        match write_whole(&mut self.writer, bytes) {
+            Ok(()) => Ok(()),
+            Err(Failed) => {
                 self.faults = self.faults.saturating_add(1);
-                return Err(Failed);
+                Err(Failed)
             }
-            told += count;
         }
-        Ok(())
     }
 }

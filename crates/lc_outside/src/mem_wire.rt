@@ -19,7 +19,7 @@ use std::marker::Model;
 pub struct Room {
     /// The number of calls.
     pub calls: u32,
-    /// The number of bytes told.
+    /// The number of bytes told or written.
     pub bytes: u32,
 }
 

@@ -1,0 +1,129 @@
+-- A machine in memory: what its disk held at first, its calls, and what each call does.
+use Rattle.std.specs.Prelude.{◌≡◌, ℕ, ◌+◌, Bool, true, false, ◌&&◌, nat_le, nat_lt, MatchBool, List, [], ◌∷◌, ◌++◌, length, take, drop, Option, Some, Result, Ok, Err}
+use Rattle.lc_outside.specs.Disk.{DiskState}
+use Rattle.lc_outside.specs.Outside.{Tell}
+use Rattle.lc_outside.specs.Fakes.{is_failing, one_more}
+use Rattle.disk_model.specs.Disk.{settled, written, pended}
+
+-- ---- the calls, and what they leave
+
+-- A call that took a number, by what it did: bytes written at an offset; a write that failed, of an
+-- offset and a length; a sync; bytes told; or nothing, as of a read, or of a call that failed and is
+-- no write.
+pub data Call : Type 0 where
+  Wrote : ℕ → List ℕ → Call
+  FailedWrite : ℕ → ℕ → Call
+  Synced : Call
+  Told : List ℕ → Call
+  Idle : Call
+
+-- The disk after a call. A write that fails leaves the content as it was, with its range pending.
+abbrev pub after_call : DiskState → Call → DiskState
+after_call state (Wrote at bytes) = written at bytes state
+after_call state (FailedWrite at count) = pended at count state.content state
+after_call state Synced = settled state.content
+after_call state (Told bytes) = state
+after_call state Idle = state
+
+-- The disk after calls, one after the other.
+abbrev pub replayed : DiskState → List Call → DiskState
+replayed state [] = state
+replayed state (call ∷ calls) = replayed (after_call state call) calls
+
+-- The pieces told by calls, each with its number, where the first call has this number.
+abbrev pub tells_from : ℕ → List Call → List Tell
+tells_from number [] = []
+tells_from number (Told bytes ∷ calls) = record { at = number; bytes = bytes } ∷ tells_from (number + 1) calls
+tells_from number (call ∷ calls) = tells_from (number + 1) calls
+
+-- ---- the machine
+
+-- A machine in memory: what its disk held at first, with nothing pending, the calls that took a
+-- number, the bytes told or written so far, the room for both, the numbers of the calls that fail,
+-- and how many calls of the disk and how many tells failed.
+pub record MachineState : Type 0 where
+  pub first : List ℕ
+  pub calls : List Call
+  pub bytes : ℕ
+  pub room_calls : ℕ
+  pub room_bytes : ℕ
+  pub failing : List ℕ
+  pub disk_faults : ℕ
+  pub wire_faults : ℕ
+
+-- The present moment is the one after all calls.
+abbrev pub now_of : MachineState → ℕ
+now_of m = length m.calls
+
+-- The disk at a moment is what it was at first, and then the calls up to that moment.
+abbrev pub disk_of : MachineState → ℕ → Option DiskState
+disk_of m t = Some (replayed (settled m.first) (take t m.calls))
+
+-- The content now.
+abbrev pub content_now : MachineState → List ℕ
+content_now m = (replayed (settled m.first) m.calls).content
+
+-- What was told, each piece at the moment at which telling it began.
+abbrev pub tells_of : MachineState → List Tell
+tells_of m = tells_from 0 m.calls
+
+abbrev pub told_of : MachineState → Option (List Tell)
+told_of m = Some (tells_of m)
+
+-- ---- what a call does
+
+-- Whether a call of so many bytes, told or written, fits the room.
+abbrev pub has_room : MachineState → ℕ → Bool
+has_room m count = nat_lt (length m.calls) m.room_calls && nat_le (m.bytes + count) m.room_bytes
+
+-- Whether the next call that takes a number is to fail.
+abbrev pub is_next_failing : MachineState → Bool
+is_next_failing m = is_failing m.failing (length m.calls)
+
+-- One more call, of so many bytes told or written.
+abbrev pub with_call : Call → ℕ → MachineState → MachineState
+with_call call count m = record m { calls = m.calls ++ call ∷ []; bytes = m.bytes + count }
+
+-- One more call of the disk that failed.
+abbrev pub with_disk_fault : MachineState → MachineState
+with_disk_fault m = record m { disk_faults = one_more m.disk_faults }
+
+-- One more tell that failed.
+abbrev pub with_wire_fault : MachineState → MachineState
+with_wire_fault m = record m { wire_faults = one_more m.wire_faults }
+
+-- Whether a call of so many bytes is done, and what it then does, or what it does where it fails.
+-- Its fault is not yet counted.
+abbrev pub Attempts : ℕ → Call → Call → MachineState → MachineState → Bool → Type 0
+Attempts count done failed old new true = (has_room old count ≡ true) × (is_next_failing old ≡ false) × (new ≡ with_call done count old)
+Attempts count done failed old new false = MatchBool (has_room old count) ((is_next_failing old ≡ true) × (new ≡ with_call failed 0 old)) (new ≡ old)
+
+-- A call of so many bytes, by what it does where it is done and where it fails. One that does not
+-- fit the room changes nothing but the count of faults. One that fits takes a number; it fails
+-- exactly where that number is among the failing ones.
+abbrev pub Makes : {T E : Type 0} → ℕ → Call → Call → (MachineState → MachineState) → MachineState → MachineState → Result T E → Type 0
+Makes count done failed with_fault old new (Ok x) = (has_room old count ≡ true) × (is_next_failing old ≡ false) × (new ≡ with_call done count old)
+Makes count done failed with_fault old new (Err e) = MatchBool (has_room old count)
+    ((is_next_failing old ≡ true) × (new ≡ with_fault (with_call failed 0 old)))
+    (new ≡ with_fault old)
+
+-- A read or a question of the length changes nothing of disk and wire.
+abbrev pub MakesRead : {T E : Type 0} → MachineState → MachineState → Result T E → Type 0
+MakesRead old new result = Makes 0 Idle Idle with_disk_fault old new result
+
+-- A write that fails leaves the content as it was, with its range pending.
+abbrev pub MakesWrite : {T E : Type 0} → ℕ → List ℕ → MachineState → MachineState → Result T E → Type 0
+MakesWrite at bytes old new result = Makes (length bytes) (Wrote at bytes) (FailedWrite at (length bytes)) with_disk_fault old new result
+
+abbrev pub MakesSync : {T E : Type 0} → MachineState → MachineState → Result T E → Type 0
+MakesSync old new result = Makes 0 Synced Idle with_disk_fault old new result
+
+-- A tell that fails tells no byte.
+abbrev pub MakesTell : {T E : Type 0} → List ℕ → MachineState → MachineState → Result T E → Type 0
+MakesTell bytes old new result = Makes (length bytes) (Told bytes) Idle with_wire_fault old new result
+
+-- A read that is done puts the bytes into the prefix of the buffer, and leaves the rest of it. One
+-- that fails leaves it as it was.
+abbrev pub FillsBuffer : {E : Type 0} → ℕ → List ℕ → Result ℕ E → List ℕ → List ℕ → Type 0
+FillsBuffer at content (Ok n) before after = (n ≡ length (take (length before) (drop at content))) × (after ≡ take (length before) (drop at content) ++ drop n before)
+FillsBuffer at content (Err e) before after = after ≡ before

@@ -1,0 +1,54 @@
+//! The trait of a disk. As in `lc_outside`, a meaning is named by contracts alone, and where an
+//! object does not tell it, a clause on it says only that it stays untold.
+
+ghost use Rattle.std.specs.Prelude.{◌≡◌, ◌≤◌, ◌<◌, ◌+◌, ◌^◌, ℕ, List, length, take, drop, Some, IfOk, IfSome, IsErr};
+ghost use Rattle.lc_base.specs.Faults.{HasCause};
+ghost use Rattle.lc_outside.specs.Disk.{DiskState, Stays};
+ghost use Rattle.disk_model.specs.Disk.{IsImage, Writes, Syncs, content_of};
+
+use lc_outside::{Clock, Failed};
+
+/// Bytes that are kept. What is written is sure to be there after a crash only once a sync has
+/// answered `Ok` after it; until then a crash may leave any bytes in its place.
+/// No call changes what was told to the wire of the machine, or its count of faults.
+pub trait Disk: Clock {
+    /// The number of bytes of the content.
+    fn len(&mut self) -> Result<u64, Failed>
+        ensures len { IfOk result (λ n. IfSome (content_of (Self.disk self.old (Self.now self.old))) (λ content. n ≡ length content)) }
+        ensures disk { Stays Self.now Self.disk self.old self.new }
+        ensures told { Self.told self.new ≡ Self.told self.old }
+        ensures wire_faults { Self.wire_faults self.new ≡ Self.wire_faults self.old }
+        ensures cause { HasCause (Self.disk_faults self.old) (Self.disk_faults self.new) (IsErr result) };
+
+    /// Reads the bytes from an offset on, as many as the buffer holds or as there are, and answers
+    /// how many.
+    fn read_at(&mut self, at: u64, buffer: &mut [u8]) -> Result<usize, Failed>
+        ensures bound { IfOk result (λ n. n ≤ length buffer.new) }
+        ensures size { length buffer.new ≡ length buffer.old }
+        ensures bytes { IfOk result (λ n. IfSome (content_of (Self.disk self.old (Self.now self.old)))
+            (λ content. take n buffer.new ≡ take (length buffer.new) (drop at content))) }
+        ensures disk { Stays Self.now Self.disk self.old self.new }
+        ensures told { Self.told self.new ≡ Self.told self.old }
+        ensures wire_faults { Self.wire_faults self.new ≡ Self.wire_faults self.old }
+        ensures cause { HasCause (Self.disk_faults self.old) (Self.disk_faults self.new) (IsErr result) };
+
+    /// Writes the bytes over those from an offset on, and past the end. After `Failed` the range
+    /// may hold any bytes, or nothing has changed.
+    fn write_at(&mut self, at: u64, bytes: &[u8]) -> Result<(), Failed>
+        requires within { (content : List ℕ) → content_of (Self.disk self.old (Self.now self.old)) ≡ Some content → at ≤ length content }
+        requires fits { at + length bytes.now < 2 ^ 64 }
+        ensures disk { Writes Self.now Self.disk self.old self.new at bytes.now result }
+        ensures told { Self.told self.new ≡ Self.told self.old }
+        ensures wire_faults { Self.wire_faults self.new ≡ Self.wire_faults self.old }
+        ensures cause { HasCause (Self.disk_faults self.old) (Self.disk_faults self.new) (IsErr result) };
+
+    /// After `Ok` the content is all that a crash may leave; after `Failed` the disk is as it was.
+    fn sync(&mut self) -> Result<(), Failed>
+        ensures disk { Syncs Self.now Self.disk self.old self.new result }
+        ensures told { Self.told self.new ≡ Self.told self.old }
+        ensures wire_faults { Self.wire_faults self.new ≡ Self.wire_faults self.old }
+        ensures cause { HasCause (Self.disk_faults self.old) (Self.disk_faults self.new) (IsErr result) };
+
+    /// At each moment at which the disk is told, a crash may leave the content itself.
+    ghost sound: { (machine : Self) (t : ℕ) (state : DiskState) → Self.Clock.disk machine t ≡ Some state → IsImage state state.content };
+}
