@@ -1,0 +1,9 @@
+pub mod Records
+pub mod Stricter
+pub mod TornRecords
+pub mod TornHeads
+pub mod Resting
+pub mod NextRecord
+mod Turns
+mod Heads
+mod Chained

@@ -1,0 +1,6 @@
+pub mod Standing
+pub mod Log
+pub mod Stricter
+pub mod Steps
+pub mod Reading
+pub mod Start

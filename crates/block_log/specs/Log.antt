@@ -1,0 +1,130 @@
+-- What a log keeps, and how that agrees with the bytes on the disk.
+use Rattle.std.specs.Prelude.{◌≡◌, ◌⊎◌, ℕ, ◌+◌, ◌*◌, ◌≤◌, ◌==◌, Bool, true, false, MatchBool, List, [], ◌∷◌, ◌++◌, length, map, get_or, take, slice_get, Some, Result, Ok, Err}
+use Rattle.lc_base.specs.declared.digest.Digest.{Digest}
+use Rattle.block_codec.specs.Spelling.{IsBlock}
+use Rattle.block_codec.specs.Reading.{block_in}
+use Rattle.block_codec.specs.Placement.{bytes_digest, digest_of, no_parent, last_digest, new_placement, placement_after}
+use Rattle.block_codec.specs.declared.limits.TheConstants.{MAX_BLOCKS}
+use Rattle.block_codec.specs.declared.block.Block.{Block}
+use Rattle.block_codec.specs.declared.placement.Placement.TheVariants.{Next}
+use Rattle.block_log.specs.Standing.{Blank, NotALog, Damaged, Holds, Placer, NextBlock, next_block, blocks_in, standing, chain_of}
+use Rattle.block_log.specs.declared.layout.TheConstants.{FIRST_GATE, MAX_RECORD_BYTES}
+use Rattle.block_log.specs.declared.layout.Stored.{Stored}
+use Rattle.block_log.specs.declared.error.LogError.{LogError}
+use Rattle.block_log.specs.declared.error.LogError.TheVariants as errors
+
+-- ---- which block a log takes
+
+-- Where a block stands to those before it, for a log by itself: it runs no block, so it counts no
+-- row.
+abbrev pub log_placement : Placer
+log_placement = placement_after 0
+
+-- The next block, for a log by itself.
+abbrev pub next_in_log : NextBlock
+next_in_log = next_block block_in log_placement
+
+-- Only what is the next block for a log is the next one by this placement too. So it is where rows
+-- are counted.
+abbrev pub IsStricter : Placer → Type 0
+IsStricter place = (blocks : List Block) (block : Block) → place blocks block ≡ Next → log_placement blocks block ≡ Next
+
+-- ---- what a log keeps
+
+-- The offset of the closed gate after the last block; the number of blocks and the digest of the
+-- last one; whether there is a head to append to; and, where there is none, whether the first byte
+-- is 0, as creation leaves it first.
+pub record LogState : Type 0 where
+  pub gate : ℕ
+  pub count : ℕ
+  pub last : Digest
+  pub is_ready : Bool
+  pub is_begun : Bool
+
+-- Bounds of what a log keeps, by which every offset in it fits a u64; without a head it has no
+-- block.
+pub record IsKept (log : LogState) : Type 0 where
+  pub few : log.count ≤ MAX_BLOCKS
+  pub near : log.gate ≤ FIRST_GATE + log.count * MAX_RECORD_BYTES
+  pub no_block : log.is_ready ≡ false → (log.count ≡ 0) × (log.last ≡ no_parent)
+
+-- A log with a head keeps the number of the blocks, the digest of the last one and the closed gate
+-- that these bytes hold.
+pub record AgreesWithBlocks (log : LogState) (image : List ℕ) : Type 0 where
+  pub stored : List Stored
+  pub stands : standing next_in_log image ≡ Holds stored log.gate
+  pub count_is : log.count ≡ length stored
+  pub last_is : log.last ≡ last_digest (map digest_of (blocks_in stored))
+
+-- No log yet, and whether the first byte is 0.
+pub record IsBlank (is_begun : Bool) (image : List ℕ) : Type 0 where
+  pub stands : standing next_in_log image ≡ Blank
+  pub begun_is : is_begun ≡ (get_or image 0 1 == 0)
+
+-- A log without a head stands over bytes that are no log yet.
+abbrev pub AgreesWithBlank : LogState → List ℕ → Type 0
+AgreesWithBlank log image = IsBlank log.is_begun image
+
+-- A log agrees with the bytes on its disk.
+abbrev pub Agrees : LogState → List ℕ → Type 0
+Agrees log image = MatchBool log.is_ready (AgreesWithBlocks log image) (AgreesWithBlank log image)
+
+-- ---- what is started with
+
+-- Blocks as they were stored: each is the next one after those before it, and has its own digest.
+pub record AreStored (stored : List Stored) : Type 0 where
+  pub chained : (i : ℕ) (s : Stored) → slice_get stored i ≡ Some s → log_placement (take i (blocks_in stored)) s.block ≡ Next
+  pub digests_are : map (λ s. s.digest) stored ≡ map digest_of (blocks_in stored)
+  pub lawful : (i : ℕ) (s : Stored) → slice_get stored i ≡ Some s → IsBlock s.block
+
+-- A log holds the number of these blocks and the digest of the last one.
+pub record HoldsBlocks (log : LogState) (stored : List Stored) : Type 0 where
+  pub count_is : log.count ≡ length stored
+  pub last_is : log.last ≡ last_digest (map digest_of (blocks_in stored))
+
+-- What is started with on bytes that stand so: a log that agrees with them, and their blocks; or why
+-- there is no log.
+abbrev pub IsStarted : List ℕ → Result (LogState × List Stored) LogError → Type 0
+IsStarted image (Ok started) =
+    Agrees started.0 image × MatchBool started.0.is_ready (standing next_in_log image ≡ Holds started.1 started.0.gate) (started.1 ≡ [])
+IsStarted image (Err errors.NotALog) = standing next_in_log image ≡ NotALog
+IsStarted image (Err (errors.Damaged at before)) = standing next_in_log image ≡ Damaged before at
+IsStarted image (Err errors.DiskFault) = Unit {0}
+IsStarted image (Err errors.Memory) = Unit {0}
+
+-- Whether the disk is told or not: the blocks that are given are a chain, and the log holds their
+-- number and the last digest.
+abbrev pub GivesBlocks : Result (LogState × List Stored) LogError → Type 0
+GivesBlocks (Ok started) = AreStored started.1 × HoldsBlocks started.0 started.1
+GivesBlocks (Err (errors.Damaged at before)) = AreStored before
+GivesBlocks (Err errors.NotALog) = Unit {0}
+GivesBlocks (Err errors.DiskFault) = Unit {0}
+GivesBlocks (Err errors.Memory) = Unit {0}
+
+-- ---- what its calls do
+
+-- The log with a head, and no block.
+abbrev pub created : LogState → LogState
+created log = record { gate = FIRST_GATE; count = log.count; last = log.last; is_ready = true; is_begun = false }
+
+-- The log with one more block, of these bytes.
+abbrev pub appended : LogState → List ℕ → LogState
+appended log bytes = record { gate = log.gate + 5 + length bytes; count = log.count + 1; last = bytes_digest bytes; is_ready = true; is_begun = log.is_begun }
+
+-- These bytes are the next block of the log.
+pub record IsNextOf (log : LogState) (bytes : List ℕ) : Type 0 where
+  pub block : Block
+  pub decoded : block_in bytes ≡ Ok block
+  pub placed : new_placement log.count 0 log.last block ≡ Next
+
+-- By a placement that is stricter than the log's own, these bytes are the next block after those
+-- that the content stands for.
+pub record IsNextAfter (place : Placer) (content bytes : List ℕ) (blocks : List Block) (block : Block) : Type 0 where
+  pub stricter : IsStricter place
+  pub stands : chain_of (next_block block_in place) content ≡ Some blocks
+  pub decoded : block_in bytes ≡ Ok block
+  pub placed : place blocks block ≡ Next
+
+-- Bytes that stand for the blocks, or for these and one more.
+abbrev pub IsOldOrNew : NextBlock → List Block → Block → List ℕ → Type 0
+IsOldOrNew next blocks block image = (chain_of next image ≡ Some blocks) ⊎ (chain_of next image ≡ Some (blocks ++ block ∷ []))

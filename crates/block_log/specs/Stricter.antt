@@ -1,0 +1,23 @@
+-- What a log stands for by a placement that is stricter than its own.
+use Rattle.std.specs.Prelude.{Bool, if◌then◌else◌, List, [], ◌∷◌, ◌++◌}
+use Rattle.std.specs.Option.{is_some}
+use Rattle.block_codec.specs.declared.block.Block.{Block}
+use Rattle.block_log.specs.declared.layout.Stored.{Stored}
+use Rattle.block_log.specs.Standing.{Standing, Blank, NotALog, Damaged, Holds, Placer, if_next, blocks_in}
+
+-- Whether a block is the next one after those that are stored.
+abbrev pub is_next_by : Placer → List Stored → Block → Bool
+is_next_by place held block = is_some (if_next block (place (blocks_in held) block))
+
+-- Stored blocks, taken one by one after others as long as each is the next one; then they end so. At
+-- the first that is not the next one the log is damaged, at the gate of its record.
+unfoldable pub restood : Placer → List Stored → List Stored → (List Stored → Standing) → Standing
+restood place held [] end = end held
+restood place held (s ∷ more) end = if is_next_by place held s.block then restood place (held ++ s ∷ []) more end else Damaged held s.place
+
+-- What bytes stand for by this placement, from what they stand for by the log's own.
+abbrev pub restanding : Placer → Standing → Standing
+restanding place Blank = Blank
+restanding place NotALog = NotALog
+restanding place (Damaged stored gate) = restood place [] stored (λ held. Damaged held gate)
+restanding place (Holds stored gate) = restood place [] stored (λ held. Holds held gate)

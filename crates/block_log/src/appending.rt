@@ -1,0 +1,86 @@
+//! Appending to a log.
+
+ghost use Rattle.std.specs.Prelude.{◌≡◌, ◌≤◌, ◌+◌, true, List, ℕ, [], ◌∷◌, ◌++◌, length, take, Some, IfOk, IsErr};
+ghost use Rattle.std.specs.Option.{is_some};
+ghost use Rattle.lc_base.specs.Faults.{HasCause};
+ghost use Rattle.disk_model.specs.Disk.{Keeps, Rests, content_of};
+ghost use Rattle.block_codec.specs.Reading.{block_in};
+ghost use Rattle.block_codec.specs.declared.block.Block.{Block};
+ghost use Rattle.block_codec.specs.declared.limits.TheConstants.{MAX_BLOCK_BYTES};
+ghost use Rattle.block_log.specs.declared.layout.TheConstants.{MAX_RECORD_BYTES};
+ghost use Rattle.block_log.specs.Standing.{Placer, next_block, chain_of};
+ghost use Rattle.block_log.specs.Log.{Agrees, IsNextOf, IsNextAfter, IsOldOrNew, appended};
+ghost use Rattle.block_log.specs.Steps.{record_bytes};
+
+use crate::error::DiskFault;
+use crate::layout::{CLOSED_GATE, OPEN_GATE};
+use crate::log::Log;
+use crate::steps::write_through;
+use block_codec::block_digest;
+use disk_model::Disk;
+
+// Joins a record at the start of a slice.
+#[tactic(auto, unfolding(crate::specs::Steps::record_bytes))]
+fn join_record(slice: &mut [u8], bytes: &[u8])
+    requires short { length bytes.now ≤ MAX_BLOCK_BYTES }
+    requires fits { length bytes.now + 5 ≤ length slice.old }
+    ensures record { take (length bytes.now + 5) slice.new ≡ record_bytes bytes.now }
+    ensures size { length slice.new ≡ length slice.old }
+{
+    let size = (bytes.len() as u32).to_be_bytes();
+    slice[..4].copy_from_slice(&size);
+    slice[4..4 + bytes.len()].copy_from_slice(bytes);
+    slice[4 + bytes.len()] = CLOSED_GATE;
+}
+
+// Joins a record at the start of the buffer of a log.
+fn fill(buffer: &mut Vec<u8>, bytes: &[u8])
+    requires short { length bytes.now ≤ MAX_BLOCK_BYTES }
+    requires room { length buffer.old.items ≡ MAX_RECORD_BYTES }
+    ensures record { take (length bytes.now + 5) buffer.new.items ≡ record_bytes bytes.now }
+    ensures room { length buffer.new.items ≡ MAX_RECORD_BYTES }
+{
+    join_record(buffer, bytes);
+}
+
+impl Log {
+    /// Appends the next block, of these bytes, in two steps of a write and a sync each: it writes
+    /// the record after the closed gate, with a closed gate after it, and opens the gate. It takes
+    /// no memory.
+    pub fn append<M: Disk>(self, machine: &mut M, bytes: &[u8]) -> Result<Log, DiskFault>
+        requires ready { self.is_ready ≡ true }
+        requires agrees { Rests (M.disk machine.old (M.now machine.old)) (Agrees self) }
+        requires next { IsNextOf self bytes.now }
+        ensures appended { IfOk result (λ log. log ≡ appended self bytes.now) }
+        ensures agrees { IfOk result (λ log. Rests (M.disk machine.new (M.now machine.new)) (Agrees log)) }
+        // A crash at any moment of the call leaves the chain from before it, or that with the block.
+        ensures images { (place : Placer) (content : List ℕ) (blocks : List Block) (block : Block) → content_of (M.disk machine.old (M.now machine.old)) ≡ Some content
+            → IsNextAfter place content bytes.now blocks block → Keeps M.now M.disk machine.old machine.new (IsOldOrNew (next_block block_in place) blocks block) }
+        ensures added { IfOk result (λ log. (place : Placer) (content : List ℕ) (blocks : List Block) (block : Block) → content_of (M.disk machine.old (M.now machine.old)) ≡ Some content
+            → IsNextAfter place content bytes.now blocks block
+            → Rests (M.disk machine.new (M.now machine.new)) (λ image. chain_of (next_block block_in place) image ≡ Some (blocks ++ block ∷ []))) }
+        ensures still_told { IfOk result (λ log. is_some (M.disk machine.new (M.now machine.new)) ≡ is_some (M.disk machine.old (M.now machine.old))) }
+        ensures told { M.told machine.new ≡ M.told machine.old }
+        ensures wire_faults { M.wire_faults machine.new ≡ M.wire_faults machine.old }
+        ensures cause { HasCause (M.disk_faults machine.old) (M.disk_faults machine.new) (IsErr result) }
+    {
+        let Log {
+            mut buffer,
+            gate,
+            count,
+            is_begun,
+            ..
+        } = self;
+        fill(&mut buffer, bytes);
+        write_through(machine, gate + 1, &buffer[..bytes.len() + 5])?;
+        write_through(machine, gate, &[OPEN_GATE])?;
+        Ok(Log {
+            buffer,
+            gate: gate + 5 + bytes.len() as u64,
+            count: count + 1,
+            last: block_digest(bytes),
+            is_ready: true,
+            is_begun,
+        })
+    }
+}

@@ -1,0 +1,78 @@
+//! Making the head of a log.
+
+ghost use Rattle.std.specs.Prelude.{◌≡◌, false, List, ℕ, [], Some, IfOk, OnOk, IsErr};
+ghost use Rattle.std.specs.Option.{is_some};
+ghost use Rattle.lc_base.specs.Faults.{HasCause};
+ghost use Rattle.disk_model.specs.Disk.{Keeps, Rests, content_of};
+ghost use Rattle.block_log.specs.Standing.{NextBlock, chain_of};
+ghost use Rattle.block_log.specs.Log.{Agrees, IsBlank, created};
+ghost use Rattle.block_log.specs.Steps.{HasClosedHead, IsPrepared, HasNoBlock};
+
+use crate::error::DiskFault;
+use crate::layout::{CLOSED_GATE, FIRST_GATE, MAGIC, OPEN_GATE};
+use crate::log::Log;
+use crate::steps::write_through;
+use disk_model::Disk;
+
+// The first step. Without it the magic might come to stand after an open head gate, before a gate
+// that is not written yet.
+fn close_head<M: Disk>(machine: &mut M, is_begun: bool) -> Result<(), DiskFault>
+    requires blank { Rests (M.disk machine.old (M.now machine.old)) (IsBlank is_begun) }
+    ensures closed { OnOk result (Rests (M.disk machine.new (M.now machine.new)) HasClosedHead) }
+    ensures images { (content : List ℕ) → content_of (M.disk machine.old (M.now machine.old)) ≡ Some content → Keeps M.now M.disk machine.old machine.new HasNoBlock }
+    ensures still_told { OnOk result (is_some (M.disk machine.new (M.now machine.new)) ≡ is_some (M.disk machine.old (M.now machine.old))) }
+    ensures told { M.told machine.new ≡ M.told machine.old }
+    ensures wire_faults { M.wire_faults machine.new ≡ M.wire_faults machine.old }
+    ensures cause { HasCause (M.disk_faults machine.old) (M.disk_faults machine.new) (IsErr result) }
+{
+    if is_begun {
+        return Ok(());
+    }
+    write_through(machine, 0, &[CLOSED_GATE])
+}
+
+// The first two steps.
+fn prepare<M: Disk>(machine: &mut M, is_begun: bool) -> Result<(), DiskFault>
+    requires blank { Rests (M.disk machine.old (M.now machine.old)) (IsBlank is_begun) }
+    ensures prepared { OnOk result (Rests (M.disk machine.new (M.now machine.new)) IsPrepared) }
+    ensures images { (content : List ℕ) → content_of (M.disk machine.old (M.now machine.old)) ≡ Some content → Keeps M.now M.disk machine.old machine.new HasNoBlock }
+    ensures still_told { OnOk result (is_some (M.disk machine.new (M.now machine.new)) ≡ is_some (M.disk machine.old (M.now machine.old))) }
+    ensures told { M.told machine.new ≡ M.told machine.old }
+    ensures wire_faults { M.wire_faults machine.new ≡ M.wire_faults machine.old }
+    ensures cause { HasCause (M.disk_faults machine.old) (M.disk_faults machine.new) (IsErr result) }
+{
+    close_head(machine, is_begun)?;
+    let mut head = [CLOSED_GATE; MAGIC.len() + 1];
+    head[..MAGIC.len()].copy_from_slice(&MAGIC);
+    write_through(machine, 1, &head)
+}
+
+impl Log {
+    /// Makes the head of a log where there is none, in three steps of a write and a sync each: it
+    /// closes the head gate (left out where the first byte is 0 already), writes the magic and the
+    /// closed gate of the first record, and opens the head gate. It takes no memory.
+    pub fn create<M: Disk>(self, machine: &mut M) -> Result<Log, DiskFault>
+        requires headless { self.is_ready ≡ false }
+        requires agrees { Rests (M.disk machine.old (M.now machine.old)) (Agrees self) }
+        ensures created { IfOk result (λ log. log ≡ created self) }
+        ensures agrees { IfOk result (λ log. Rests (M.disk machine.new (M.now machine.new)) (Agrees log)) }
+        // A crash at any moment of the call leaves no block, whatever block comes next.
+        ensures images { (next : NextBlock) (content : List ℕ) → content_of (M.disk machine.old (M.now machine.old)) ≡ Some content
+            → Keeps M.now M.disk machine.old machine.new (λ image. chain_of next image ≡ Some []) }
+        ensures empty { IfOk result (λ log. (next : NextBlock) → Rests (M.disk machine.new (M.now machine.new)) (λ image. chain_of next image ≡ Some [])) }
+        // Where it has answered Ok the disk is told as it was at entry.
+        ensures still_told { IfOk result (λ log. is_some (M.disk machine.new (M.now machine.new)) ≡ is_some (M.disk machine.old (M.now machine.old))) }
+        ensures told { M.told machine.new ≡ M.told machine.old }
+        ensures wire_faults { M.wire_faults machine.new ≡ M.wire_faults machine.old }
+        ensures cause { HasCause (M.disk_faults machine.old) (M.disk_faults machine.new) (IsErr result) }
+    {
+        prepare(machine, self.is_begun)?;
+        write_through(machine, 0, &[OPEN_GATE])?;
+        Ok(Log {
+            gate: FIRST_GATE,
+            is_ready: true,
+            is_begun: false,
+            ..self
+        })
+    }
+}

@@ -1,0 +1,33 @@
+//! How a log is laid out: a head gate, the magic, and records, each after a gate of its own.
+
+use block_codec::{Block, MAX_BLOCK_BYTES};
+use lc_base::{Digest, Seq};
+
+/// A gate is open where it is this byte; every other byte is closed.
+pub const OPEN_GATE: u8 = 0xA5;
+
+/// A closed gate, as it is written.
+pub const CLOSED_GATE: u8 = 0x00;
+
+/// The bytes after the head gate: `LCLOG1` and a line end.
+pub(crate) const MAGIC: [u8; 7] = *b"LCLOG1\n";
+
+/// The offset of the gate of the first record, after the head gate and the magic.
+pub const FIRST_GATE: u64 = 8;
+
+/// The greatest number of bytes of a record: its length in four bytes, a block, and the gate of the
+/// next record.
+pub const MAX_RECORD_BYTES: usize = MAX_BLOCK_BYTES + 5;
+
+/// A block of the log.
+#[derive(Debug, Drop)]
+pub struct Stored {
+    /// The offset of the gate of its record.
+    pub place: u64,
+    /// Its digest.
+    pub digest: Digest,
+    pub block: Block,
+}
+
+/// The blocks of a log, in order.
+pub type StoredList = Seq<Stored>;

@@ -1,0 +1,15 @@
+//! A log of blocks on a disk, each behind a gate that is opened once its bytes are sure to be there.
+#![tactic(auto)]
+
+mod appending;
+mod creation;
+mod error;
+mod layout;
+mod log;
+mod reading;
+mod start;
+mod steps;
+
+pub use error::{DiskFault, LogError};
+pub use layout::{MAX_RECORD_BYTES, Stored, StoredList};
+pub use log::Log;

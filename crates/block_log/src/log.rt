@@ -1,0 +1,41 @@
+//! A log over the bytes of a disk.
+
+ghost use Rattle.std.specs.Prelude.{◌≡◌};
+ghost use Rattle.block_log.specs.Log.{LogState};
+
+use lc_base::Digest;
+use std::marker::Model;
+
+/// A log: where its next block goes, and what that block comes after. It keeps the buffer in which
+/// records are joined, so that appending takes no memory.
+#[derive(Drop)]
+pub struct Log {
+    pub(crate) buffer: Vec<u8>,
+    pub(crate) gate: u64,
+    pub(crate) count: u32,
+    pub(crate) last: Digest,
+    pub(crate) is_ready: bool,
+    pub(crate) is_begun: bool,
+}
+
+impl Model for Log {
+    ghost use Rattle.std.specs.Prelude.{◌≡◌, length};
+    ghost use Rattle.block_log.specs.Log.{LogState, IsKept};
+    ghost use Rattle.block_log.specs.declared.layout.TheConstants.{MAX_RECORD_BYTES};
+
+    ghost Value = { LogState };
+
+    ghost view = { λ log. record { gate = log.gate; count = log.count; last = log.last; is_ready = log.is_ready; is_begun = log.is_begun } };
+
+    ghost invariant = { λ log. (length log.buffer.items ≡ MAX_RECORD_BYTES) × IsKept (record { gate = log.gate; count = log.count; last = log.last; is_ready = log.is_ready; is_begun = log.is_begun }) };
+}
+
+impl Log {
+    /// Whether it has a head, so that blocks can be appended; it has none where the disk held no log
+    /// and `create` was not called.
+    pub fn ready(&self) -> bool
+        ensures { result ≡ self.now.is_ready }
+    {
+        self.is_ready
+    }
+}

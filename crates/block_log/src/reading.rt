@@ -1,0 +1,193 @@
+//! Reading the head of a log, and one record.
+
+ghost use Rattle.std.specs.Prelude.{◌≡◌, ℕ, ◌+◌, ◌^◌, ◌≤◌, ◌<◌, ◌==◌, List, length, take, drop, get_or, Some, IfOk, IsErr};
+ghost use Rattle.lc_base.specs.Faults.{HasCause};
+ghost use Rattle.lc_outside.specs.Disk.{Stays};
+ghost use Rattle.disk_model.specs.Disk.{content_of};
+ghost use Rattle.block_codec.specs.declared.limits.TheConstants.{MAX_BLOCK_BYTES};
+ghost use Rattle.block_log.specs.declared.layout.TheConstants.{MAX_RECORD_BYTES};
+ghost use Rattle.block_log.specs.Standing.{is_log, is_blank};
+ghost use Rattle.block_log.specs.Reading.{has_magic, head_of, sized_record, opened_record, gate_of, record_of, record_size, IsBuffered, IsBody};
+
+use crate::layout::{CLOSED_GATE, FIRST_GATE, MAGIC, OPEN_GATE};
+use block_codec::MAX_BLOCK_BYTES;
+use disk_model::Disk;
+use lc_outside::Failed;
+
+/// The number of bytes by which a log is told from other bytes.
+const HEAD_BYTES: usize = FIRST_GATE as usize + 1;
+
+/// The number of bytes of a gate and of the length after it.
+pub(crate) const PREFIX_BYTES: usize = 5;
+
+/// What bytes are by their head.
+#[derive(Clone, Copy)]
+pub(crate) enum Head {
+    Log,
+    /// No log yet; and whether the first byte is 0.
+    Blank { is_begun: bool },
+    /// Something else than a log.
+    Other,
+}
+
+/// What stands at a gate.
+#[derive(Clone, Copy)]
+pub(crate) enum Record {
+    /// The gate is closed.
+    Closed,
+    /// The gate is open, and no whole record follows it.
+    Broken,
+    /// The gate is open, and a record follows it whose block has so many bytes.
+    Open { size: usize },
+}
+
+/// The byte at an index, or another past the end.
+fn byte_or(bytes: &[u8], index: usize, other: u8) -> u8
+    ensures { result ≡ get_or bytes.now index other }
+{
+    bytes.get(index).copied().unwrap_or(other)
+}
+
+/// Whether the magic and the gate of the first record are there.
+fn has_magic(image: &[u8]) -> bool
+    ensures { result ≡ has_magic image.now }
+{
+    image.len() >= HEAD_BYTES && image[1..].starts_with(&MAGIC)
+}
+
+fn is_log(image: &[u8]) -> bool
+    ensures { result ≡ is_log image.now }
+{
+    has_magic(image) && byte_or(image, 0, CLOSED_GATE) == OPEN_GATE
+}
+
+fn is_blank(image: &[u8]) -> bool
+    ensures { result ≡ is_blank image.now }
+{
+    image.len() <= 1
+        || byte_or(image, 0, 1) == 0
+        || (has_magic(image)
+            && byte_or(image, 0, OPEN_GATE) != OPEN_GATE
+            && byte_or(image, FIRST_GATE as usize, OPEN_GATE) != OPEN_GATE)
+}
+
+#[tactic(auto, unfolding(crate::specs::Reading::head_of))]
+fn head_in(image: &[u8]) -> Head
+    ensures { result ≡ head_of image.now }
+{
+    if is_log(image) {
+        Head::Log
+    } else if is_blank(image) {
+        Head::Blank {
+            is_begun: byte_or(image, 0, 1) == 0,
+        }
+    } else {
+        Head::Other
+    }
+}
+
+/// What the bytes of the disk are by their head.
+#[tactic(auto, using(crate::proofs::Heads::head_prefix))]
+pub(crate) fn read_head<M: Disk>(machine: &mut M) -> Result<Head, Failed>
+    ensures head { (content : List ℕ) → content_of (M.disk machine.old (M.now machine.old)) ≡ Some content → IfOk result (λ head. head ≡ head_of content) }
+    ensures disk { Stays M.now M.disk machine.old machine.new }
+    ensures told { M.told machine.new ≡ M.told machine.old }
+    ensures wire_faults { M.wire_faults machine.new ≡ M.wire_faults machine.old }
+    ensures cause { HasCause (M.disk_faults machine.old) (M.disk_faults machine.new) (IsErr result) }
+{
+    let mut image = [0; HEAD_BYTES];
+    let count = machine.read_at(0, &mut image)?;
+    Ok(head_in(&image[..count]))
+}
+
+/// A record whose block has so many bytes, where a block may have them.
+fn sized(size: u32) -> Record
+    ensures { result ≡ sized_record size }
+{
+    let size = size as usize;
+    if size >= 1 && size <= MAX_BLOCK_BYTES {
+        Record::Open { size }
+    } else {
+        Record::Broken
+    }
+}
+
+/// What the gate and the length at the start of these bytes say.
+#[tactic(auto, unfolding(crate::specs::Reading::gate_of))]
+fn gate_in(bytes: &[u8]) -> Record
+    ensures { result ≡ gate_of bytes.now }
+{
+    match bytes {
+        [] => Record::Broken,
+        [gate, ..] if *gate != OPEN_GATE => Record::Closed,
+        [_, a, b, c, d, ..] => sized(u32::from_be_bytes([*a, *b, *c, *d])),
+        _ => Record::Broken,
+    }
+}
+
+/// What the gate at this offset and the length after it say.
+#[tactic(auto, using(crate::proofs::Turns::gate_prefix, crate::proofs::Turns::gate_small))]
+fn read_gate<M: Disk>(machine: &mut M, at: u64) -> Result<Record, Failed>
+    ensures gate { (content : List ℕ) → content_of (M.disk machine.old (M.now machine.old)) ≡ Some content → IfOk result (λ found. found ≡ gate_of (drop at content)) }
+    ensures small { IfOk result (λ found. record_size found ≤ MAX_BLOCK_BYTES) }
+    ensures disk { Stays M.now M.disk machine.old machine.new }
+    ensures told { M.told machine.new ≡ M.told machine.old }
+    ensures wire_faults { M.wire_faults machine.new ≡ M.wire_faults machine.old }
+    ensures cause { HasCause (M.disk_faults machine.old) (M.disk_faults machine.new) (IsErr result) }
+{
+    let mut prefix = [0; PREFIX_BYTES];
+    let count = machine.read_at(at, &mut prefix)?;
+    Ok(gate_in(&prefix[..count]))
+}
+
+/// Reads the bytes of the block of a record, whose gate is at this offset, to the front of the
+/// buffer. It answers whether all of them are there, and at least one more.
+fn read_body<M: Disk>(
+    machine: &mut M,
+    buffer: &mut [u8],
+    gate: u64,
+    size: usize,
+) -> Result<bool, Failed>
+    requires room { size < length buffer.old }
+    requires fits { gate + 5 < 2 ^ 64 }
+    ensures body { (content : List ℕ) → content_of (M.disk machine.old (M.now machine.old)) ≡ Some content → IfOk result (λ is_whole. IsBody is_whole size buffer.new (drop 5 (drop gate content))) }
+    ensures room { length buffer.new ≡ length buffer.old }
+    ensures disk { Stays M.now M.disk machine.old machine.new }
+    ensures told { M.told machine.new ≡ M.told machine.old }
+    ensures wire_faults { M.wire_faults machine.new ≡ M.wire_faults machine.old }
+    ensures cause { HasCause (M.disk_faults machine.old) (M.disk_faults machine.new) (IsErr result) }
+{
+    let count = machine.read_at(gate + PREFIX_BYTES as u64, &mut buffer[..size + 1])?;
+    Ok(count > size)
+}
+
+/// Reads what stands at the gate at this offset; the block of a record to the front of the buffer.
+#[tactic(auto, unfolding(crate::specs::Reading::record_of))]
+pub(crate) fn read_record<M: Disk>(
+    machine: &mut M,
+    buffer: &mut [u8],
+    gate: u64,
+) -> Result<Record, Failed>
+    requires room { length buffer.old ≡ MAX_RECORD_BYTES }
+    requires fits { gate + 5 < 2 ^ 64 }
+    ensures found { (content : List ℕ) → content_of (M.disk machine.old (M.now machine.old)) ≡ Some content → IfOk result (λ found. found ≡ record_of (drop gate content)) }
+    ensures buffered { (content : List ℕ) → content_of (M.disk machine.old (M.now machine.old)) ≡ Some content → IfOk result (λ found. IsBuffered found buffer.new (drop 5 (drop gate content))) }
+    ensures small { IfOk result (λ found. record_size found ≤ MAX_BLOCK_BYTES) }
+    ensures room { length buffer.new ≡ length buffer.old }
+    ensures disk { Stays M.now M.disk machine.old machine.new }
+    ensures told { M.told machine.new ≡ M.told machine.old }
+    ensures wire_faults { M.wire_faults machine.new ≡ M.wire_faults machine.old }
+    ensures cause { HasCause (M.disk_faults machine.old) (M.disk_faults machine.new) (IsErr result) }
+{
+    match read_gate(machine, gate)? {
+        Record::Closed => Ok(Record::Closed),
+        Record::Broken => Ok(Record::Broken),
+        Record::Open { size } => {
+            if read_body(machine, buffer, gate, size)? {
+                Ok(Record::Open { size })
+            } else {
+                Ok(Record::Broken)
+            }
+        }
+    }
+}
