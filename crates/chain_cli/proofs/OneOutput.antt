@@ -1,5 +1,5 @@
 -- Of an input of bytes, a command wants one output.
-use Rattle.std.proofs.Common.{◌≡◌, ℕ, zero, suc, ◌+◌, ◌-◌, ◌<◌, ◌≤◌, Bool, true, false, cond, eqb, ltb, List, [], length, take, drop, Option, Some, None, Result, Ok, Err, refl, ap, ◌∙◌, ◌⊎◌, inl, inr, subst, arith}
+use Rattle.std.proofs.Common.{◌≡◌, ℕ, zero, suc, ◌+◌, ◌-◌, ◌<◌, ◌≤◌, Bool, true, false, cond, eqb, ltb, List, [], ◌∷◌, ◌++◌, length, take, drop, Option, Some, None, Result, Ok, Err, refl, ap, ◌∙◌, ◌⊎◌, inl, inr, subst, arith}
 use Rattle.std.specs.Int.{w32, from_be_bytes}
 use Rattle.std.proofs.lemmas.Bool.{cases_lt}
 use Rattle.lc_base.specs.declared.answer.Query.{Query}
@@ -17,9 +17,10 @@ use Rattle.contract_parse.proofs.Outcomes.{some_outcome, one_outcome}
 use Rattle.chain_lines.specs.declared.whole.TheConstants.{MAX_WHOLE_INPUT_BYTES}
 use Rattle.chain_exec.specs.Compiled.{Compiler, compiled_in}
 use Rattle.chain_exec.proofs.TheLaws.{one_compiler}
-use Rattle.scan_chain.specs.Folding.{blocks_after_frame, Fold, fold_after_frame, fold_step, fold_from, fold_input}
+use Rattle.chain_state.specs.Judging.{Taken, judged, added_by}
+use Rattle.chain_state.specs.declared.refusal.Refusal.{Refusal}
+use Rattle.scan_chain.specs.Folding.{Fold, taken_before, fold_after_frame, fold_step, fold_from, fold_input}
 use Rattle.chain_cli.specs.Output.{Output, output_of, scan_output, usage_output, long_output, pack_output, gen_output, source_outcome, IsFmt, Long, Source, Wants, IsOneOutput}
-use Rattle.scan_chain.specs.declared.cause.Cause.{Cause}
 use Rattle.chain_words.specs.declared.words.Command.{Command}
 use Rattle.chain_words.specs.declared.words.Command.TheVariants.{Scan, Fmt, Pack, Gen}
 
@@ -67,10 +68,10 @@ frame_bytes taken input frame rest fits e =
 
 -- ---- the fold, by two decoders that are right
 
-next_same : (f g : List Block → List ℕ → Fold) → ((blocks : List Block) (input : List ℕ) → IsBytes input → f blocks input ≡ g blocks input) → (taken : ℕ) (rest : List ℕ) → IsBytes rest → (r : Result (List Block) Cause)
-    → fold_after_frame f taken rest r ≡ fold_after_frame g taken rest r
-next_same f g same taken rest fits (Ok blocks) = same blocks rest fits
-next_same f g same taken rest fits (Err cause) = refl
+next_same : (f g : List Block → List ℕ → Fold) → ((blocks : List Block) (input : List ℕ) → IsBytes input → f blocks input ≡ g blocks input) → (taken : ℕ) (blocks : List Block) (rest : List ℕ) → IsBytes rest → (r : Result Taken Refusal)
+    → fold_after_frame f taken blocks rest r ≡ fold_after_frame g taken blocks rest r
+next_same f g same taken blocks rest fits (Ok frame) = ap (taken_before (frame ∷ [])) (same (blocks ++ added_by frame) rest fits)
+next_same f g same taken blocks rest fits (Err refusal) = refl
 
 module _ (compile : Compiler) (a b : Decoder) (is_a : IsDecoder a) (is_b : IsDecoder b) where
   step_same : (f g : List Block → List ℕ → Fold) → ((blocks : List Block) (input : List ℕ) → IsBytes input → f blocks input ≡ g blocks input) → (taken : ℕ) (blocks : List Block) (input : List ℕ) → IsBytes input
@@ -81,8 +82,8 @@ module _ (compile : Compiler) (a b : Decoder) (is_a : IsDecoder a) (is_b : IsDec
   step_same f g same taken blocks input fits Many e = refl
   step_same f g same taken blocks input fits (Frame frame rest) e =
       let bytes = frame_bytes taken input frame rest fits e in
-      ap (λ (r : Result Block ℕ). fold_after_frame f taken rest (blocks_after_frame compile blocks r)) (decoders_agree a b is_a is_b frame bytes.0)
-      ∙ next_same f g same taken rest bytes.1 (blocks_after_frame compile blocks (b frame))
+      ap (λ (r : Result Block ℕ). fold_after_frame f taken blocks rest (judged compile blocks r)) (decoders_agree a b is_a is_b frame bytes.0)
+      ∙ next_same f g same taken blocks rest bytes.1 (judged compile blocks (b frame))
 
   fold_same : (more : ℕ) (blocks : List Block) (input : List ℕ) → IsBytes input → fold_from a compile more blocks input ≡ fold_from b compile more blocks input
   unfolding fold_from

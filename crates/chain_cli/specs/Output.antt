@@ -13,7 +13,8 @@ use Rattle.contract_check.specs.declared.fault.Fault.{Fault}
 use Rattle.contract_print.specs.Canonical.{contract_text}
 use Rattle.chain_exec.specs.Compiled.{Compiler, IsCompiler}
 use Rattle.chain_exec.specs.Replay.{replay}
-use Rattle.scan_chain.specs.Folding.{Fold, Whole, Refused, fold_input}
+use Rattle.chain_state.specs.Judging.{added_by_all}
+use Rattle.scan_chain.specs.Folding.{Fold, FoldEnd, Whole, Refused, fold_input}
 use Rattle.chain_pack.specs.Draft.{packed}
 use Rattle.chain_gen.specs.Generator.{generated}
 use Rattle.chain_words.specs.declared.words.Generation.{Generation}
@@ -55,11 +56,14 @@ answer_outcome compile query blocks =
     then outcome_with (answer_lines (scan (replay compile blocks).rows query)) endings.Done
     else outcome_with (head_line (length blocks - 1) ∷ []) endings.Beyond)
 
+-- What `scan` tells of blocks, where the frames end so.
+abbrev pub scan_outcome : Compiler → Query → List Block → FoldEnd → Outcome
+scan_outcome compile query blocks Whole = answer_outcome compile query blocks
+scan_outcome compile query blocks (Refused frame cause) = outcome_with (refused_line frame cause ∷ []) endings.Refused
+
 -- What `scan` tells: a refused frame decides, wherever it stands.
 abbrev pub scan_output : Compiler → Query → Fold → Output
-scan_output compile query (Whole blocks) = output_of (answer_outcome compile query blocks) []
-scan_output compile query (Refused frame cause left) =
-    output_of (outcome_with (refused_line frame cause ∷ []) endings.Refused) left
+scan_output compile query fold = output_of (scan_outcome compile query (added_by_all fold.taken) fold.end) fold.left
 
 -- ---- inputs that are read whole
 

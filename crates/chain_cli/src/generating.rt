@@ -11,7 +11,7 @@ use block_codec::{NO_PARENT, block_digest};
 use chain_gen::Gen;
 use chain_lines::Status;
 use chain_words::Generation;
-use lc_base::{Digest, Memory};
+use lc_base::Memory;
 use lc_outside::{Failed, Wire};
 use std::alloc::Global;
 

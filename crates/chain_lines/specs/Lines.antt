@@ -12,6 +12,8 @@ use Rattle.contract_check.specs.declared.fault.Fault.{Fault}
 use Rattle.contract_check.specs.declared.fault.CheckKind.{CheckKind}
 use Rattle.contract_check.specs.declared.fault.CheckKind.TheVariants as checks
 use Rattle.hex.specs.Hex.{encode_lower}
+use Rattle.chain_state.specs.declared.refusal.Refusal.{Refusal}
+use Rattle.chain_state.specs.declared.refusal.Refusal.TheVariants as refusals
 use Rattle.scan_chain.specs.declared.cause.Cause.{Cause}
 use Rattle.scan_chain.specs.declared.cause.Cause.TheVariants as causes
 
@@ -47,17 +49,21 @@ empty_line = line (codes "beyond empty")
 abbrev pub head_line : ℕ → List ℕ
 head_line head = line (codes "beyond head " ++ decimal head)
 
+-- Why a chain refuses bytes.
+abbrev pub refusal_text : Refusal → List ℕ
+refusal_text (refusals.Malformed offset) = codes "malformed " ++ decimal offset
+refusal_text (refusals.Fork have) = codes "fork " ++ encode_lower have.0
+refusal_text refusals.Full = codes "full"
+refusal_text (refusals.Number want) = codes "number " ++ decimal want
+refusal_text (refusals.Parent want) = codes "parent " ++ encode_lower want.0
+refusal_text (refusals.Budget sum) = codes "budget " ++ decimal sum
+
 -- Why a frame is refused.
 abbrev pub cause_text : Cause → List ℕ
 cause_text causes.Truncated = codes "truncated"
 cause_text (causes.Length count) = codes "length " ++ decimal count
 cause_text causes.Many = codes "many"
-cause_text (causes.Malformed offset) = codes "malformed " ++ decimal offset
-cause_text (causes.Fork have) = codes "fork " ++ encode_lower have.0
-cause_text causes.Full = codes "full"
-cause_text (causes.Number want) = codes "number " ++ decimal want
-cause_text (causes.Parent want) = codes "parent " ++ encode_lower want.0
-cause_text (causes.Budget sum) = codes "budget " ++ decimal sum
+cause_text (causes.Block refusal) = refusal_text refusal
 
 -- Which frame of the input was refused, from 0, and why.
 abbrev pub refused_line : ℕ → Cause → List ℕ

@@ -2,9 +2,10 @@
 
 ghost use Rattle.std.specs.Prelude.{◌≡◌, [], ◌∷◌, ◌++◌, codes, decimal, map, string_bytes, IfOk};
 ghost use Rattle.std.specs.Fmt.{signed_decimal};
-ghost use Rattle.chain_lines.specs.Lines.{usage_line, empty_line, head_line, cause_text, refused_line, value_text, dep_line, answer_lines, bad_input_line, line};
+ghost use Rattle.chain_lines.specs.Lines.{usage_line, empty_line, head_line, refusal_text, cause_text, refused_line, value_text, dep_line, answer_lines, bad_input_line, line};
 ghost use Rattle.hex.specs.Hex.{encode_lower};
 
+use chain_state::Refusal;
 use lc_base::{Answer, Bytes, Dep, DepList, Digest, Memory, Seq, Value};
 use scan_chain::Cause;
 use std::alloc::{AllocError, Global};
@@ -49,6 +50,20 @@ fn digest_text(alloc: Global, word: &str, digest: &Digest) -> Result<String, All
     Ok(text)
 }
 
+/// Why a chain refuses bytes.
+fn refusal_text(alloc: Global, refusal: &Refusal) -> Result<String, AllocError>
+    ensures { IfOk result (λ text. string_bytes text ≡ refusal_text refusal.now) }
+{
+    match refusal {
+        Refusal::Malformed(offset) => format!(in alloc; "malformed {offset}"),
+        Refusal::Fork(have) => digest_text(alloc, "fork ", have),
+        Refusal::Full => String::from_str(alloc, "full"),
+        Refusal::Number(want) => format!(in alloc; "number {want}"),
+        Refusal::Parent(want) => digest_text(alloc, "parent ", want),
+        Refusal::Budget(sum) => format!(in alloc; "budget {sum}"),
+    }
+}
+
 /// Why a frame is refused.
 fn cause_text(alloc: Global, cause: &Cause) -> Result<String, AllocError>
     ensures { IfOk result (λ text. string_bytes text ≡ cause_text cause.now) }
@@ -57,12 +72,7 @@ fn cause_text(alloc: Global, cause: &Cause) -> Result<String, AllocError>
         Cause::Truncated => String::from_str(alloc, "truncated"),
         Cause::Length(count) => format!(in alloc; "length {count}"),
         Cause::Many => String::from_str(alloc, "many"),
-        Cause::Malformed(offset) => format!(in alloc; "malformed {offset}"),
-        Cause::Fork(have) => digest_text(alloc, "fork ", have),
-        Cause::Full => String::from_str(alloc, "full"),
-        Cause::Number(want) => format!(in alloc; "number {want}"),
-        Cause::Parent(want) => digest_text(alloc, "parent ", want),
-        Cause::Budget(sum) => format!(in alloc; "budget {sum}"),
+        Cause::Block(refusal) => refusal_text(alloc, refusal),
     }
 }
 

@@ -1,2 +1,3 @@
 mod Kept
 mod Chains
+pub mod Judgements

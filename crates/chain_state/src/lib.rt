@@ -2,5 +2,9 @@
 #![tactic(auto)]
 
 mod chain;
+mod judging;
+mod refusal;
 
 pub use chain::Chain;
+pub use judging::Judged;
+pub use refusal::Refusal;

@@ -4,55 +4,53 @@ use Rattle.block_codec.specs.Frames.{FrameStep, End, Truncated, Length, Many, Fr
 use Rattle.block_codec.specs.Spelling.{Decoder}
 use Rattle.block_codec.specs.declared.limits.TheConstants.{MAX_FRAMES}
 use Rattle.block_codec.specs.declared.block.Block.{Block}
-use Rattle.block_codec.specs.declared.placement.Placement.{Placement}
-use Rattle.block_codec.specs.declared.placement.Placement.TheVariants as placements
 use Rattle.chain_exec.specs.Compiled.{Compiler}
-use Rattle.chain_state.specs.Chain.{placement_in}
+use Rattle.chain_state.specs.Judging.{Taken, judged, added_by}
+use Rattle.chain_state.specs.declared.refusal.Refusal.{Refusal}
 use Rattle.scan_chain.specs.declared.cause.Cause.{Cause}
 use Rattle.scan_chain.specs.declared.cause.Cause.TheVariants as causes
 
--- A block that the chain holds is passed over, the next one is appended to the others, and every
--- other one is refused.
-abbrev pub blocks_after_placement : List Block → Block → Placement → Result (List Block) Cause
-blocks_after_placement blocks block placements.Known = Ok blocks
-blocks_after_placement blocks block placements.Next = Ok (blocks ++ block ∷ [])
-blocks_after_placement blocks block (placements.Fork have) = Err (causes.Fork have)
-blocks_after_placement blocks block placements.Full = Err causes.Full
-blocks_after_placement blocks block (placements.Number want) = Err (causes.Number want)
-blocks_after_placement blocks block (placements.Parent want) = Err (causes.Parent want)
-blocks_after_placement blocks block (placements.Budget sum) = Err (causes.Budget sum)
+-- Where the frames of an input end: with all of them taken into a chain, or with one refused: its
+-- number, from 0, and why.
+pub data FoldEnd : Type 0 where
+  Whole : FoldEnd
+  Refused : ℕ → Cause → FoldEnd
 
--- What the bytes of a frame spell decides: a block, or the offset at which they are invalid.
-abbrev pub blocks_after_frame : Compiler → List Block → Result Block ℕ → Result (List Block) Cause
-blocks_after_frame compile blocks (Ok block) = blocks_after_placement blocks block (placement_in compile blocks block)
-blocks_after_frame compile blocks (Err offset) = Err (causes.Malformed offset)
+-- What becomes of the frames of an input: what those are that were taken, in order; where they end;
+-- and what follows what was taken of the input.
+pub record Fold : Type 0 where
+  pub taken : List Taken
+  pub end : FoldEnd
+  pub left : List ℕ
 
--- Where the frames of an input end: with all of them taken into a chain, or with one refused. Then
--- its number is told, from 0, why it is refused, and what follows what was taken of the input.
-pub data Fold : Type 0 where
-  Whole : List Block → Fold
-  Refused : ℕ → Cause → List ℕ → Fold
+-- No further frame is taken.
+abbrev pub ends_at : FoldEnd → List ℕ → Fold
+ends_at end left = record { taken = []; end = end; left = left }
 
--- The fold goes on by `next` where a frame was taken in, and ends where it is refused.
-abbrev pub fold_after_frame : (List Block → List ℕ → Fold) → ℕ → List ℕ → Result (List Block) Cause → Fold
-fold_after_frame next taken rest (Ok blocks) = next blocks rest
-fold_after_frame next taken rest (Err cause) = Refused taken cause rest
+-- Some frames taken before the others.
+abbrev pub taken_before : List Taken → Fold → Fold
+taken_before taken fold = record { taken = taken ++ fold.taken; end = fold.end; left = fold.left }
+
+-- The fold goes on by `next` where a frame was taken, and ends where it is refused.
+abbrev pub fold_after_frame : (List Block → List ℕ → Fold) → ℕ → List Block → List ℕ → Result Taken Refusal → Fold
+fold_after_frame next count blocks rest (Ok frame) = taken_before (frame ∷ []) (next (blocks ++ added_by frame) rest)
+fold_after_frame next count blocks rest (Err refusal) = ends_at (Refused count (causes.Block refusal)) rest
 
 -- One step of the fold, by what stands at the start of the input, after so many frames were taken;
 -- `read` says what the bytes of a frame spell, `compile` what the sources of contracts are.
 abbrev pub fold_step : Decoder → Compiler → (List Block → List ℕ → Fold) → ℕ → List Block → List ℕ → FrameStep → Fold
-fold_step read compile next taken blocks input End = Whole blocks
-fold_step read compile next taken blocks input Truncated = Refused taken causes.Truncated []
-fold_step read compile next taken blocks input (Length count) = Refused taken (causes.Length count) (drop 4 input)
-fold_step read compile next taken blocks input Many = Refused taken causes.Many (drop 4 input)
-fold_step read compile next taken blocks input (Frame frame rest) =
-    fold_after_frame next taken rest (blocks_after_frame compile blocks (read frame))
+fold_step read compile next count blocks input End = ends_at Whole []
+fold_step read compile next count blocks input Truncated = ends_at (Refused count causes.Truncated) []
+fold_step read compile next count blocks input (Length size) = ends_at (Refused count (causes.Length size)) (drop 4 input)
+fold_step read compile next count blocks input Many = ends_at (Refused count causes.Many) (drop 4 input)
+fold_step read compile next count blocks input (Frame frame rest) =
+    fold_after_frame next count blocks rest (judged compile blocks (read frame))
 
 -- The frames of an input, taken one by one after those blocks. `more` is how often to look at the
 -- start of the input: an input has at most MAX_FRAMES frames, so looking once more than that
 -- reaches its end.
 unfoldable pub fold_from : Decoder → Compiler → ℕ → List Block → List ℕ → Fold
-fold_from read compile zero blocks input = Whole blocks
+fold_from read compile zero blocks input = ends_at Whole []
 fold_from read compile (suc more) blocks input =
     fold_step read compile (fold_from read compile more) (MAX_FRAMES - more) blocks input (frame_step (MAX_FRAMES - more) input)
 

@@ -1,5 +1,5 @@
 -- What the program's fold over the frames of an input answers, for its definition.
-use Rattle.std.specs.Prelude.{◌≡◌, ℕ, ◌+◌, ◌≤◌, List, [], Option, Some, Result, Ok, Err}
+use Rattle.std.specs.Prelude.{◌≡◌, ℕ, ◌+◌, ◌≤◌, List, [], ◌∷◌, ◌++◌, Option, Some, Result, Ok, Err}
 use Rattle.block_codec.specs.Frames.{frame_step}
 use Rattle.block_codec.specs.Reading.{block_in}
 use Rattle.block_codec.specs.declared.limits.TheConstants.{MAX_FRAMES}
@@ -8,7 +8,9 @@ use Rattle.block_codec.specs.declared.frames.FrameError.{FrameError}
 use Rattle.block_codec.specs.declared.frames.FrameError.TheVariants as frames
 use Rattle.chain_exec.specs.Compiled.{compiled_in}
 use Rattle.chain_state.specs.Chain.{ChainState, StandsFor}
-use Rattle.scan_chain.specs.Folding.{Fold, Whole, Refused, fold_step}
+use Rattle.chain_state.specs.Judging.{Taken, added_by, added_by_all}
+use Rattle.chain_state.specs.declared.refusal.Refusal.{Refusal}
+use Rattle.scan_chain.specs.Folding.{Fold, Whole, Refused, ends_at, taken_before, fold_step}
 use Rattle.scan_chain.specs.declared.cause.Cause.{Cause}
 use Rattle.scan_chain.specs.declared.cause.Cause.TheVariants as causes
 use Rattle.scan_chain.specs.declared.folding.Folded.{Folded}
@@ -18,17 +20,17 @@ use Rattle.scan_chain.specs.declared.folding.Turn.TheVariants as turns
 use Rattle.scan_chain.specs.declared.stop.Stop.{Stop}
 use Rattle.scan_chain.specs.declared.stop.Stop.TheVariants.{Fault, Memory}
 
--- The fold is found where it ends, with a chain that stands for its blocks, and what follows is
--- left.
+-- The fold is found where it ends, with a chain that stands for the blocks that it adds, and what
+-- follows is left.
 abbrev pub IsFoldResult : Folded → Option (List ℕ) → Fold → Type 0
-IsFoldResult (found.Whole chain) left fold = (blocks : List Block) × (fold ≡ Whole blocks) × StandsFor chain blocks × (left ≡ Some [])
-IsFoldResult (found.Refused frame cause) left fold = (rest : List ℕ) × (fold ≡ Refused frame cause rest) × (left ≡ Some rest)
+IsFoldResult (found.Whole chain) left fold = (fold.end ≡ Whole) × StandsFor chain (added_by_all fold.taken) × (left ≡ Some fold.left)
+IsFoldResult (found.Refused frame cause) left fold = (fold.end ≡ Refused frame cause) × (left ≡ Some fold.left)
 
--- What became of a chain on a frame: it stands for the blocks that are wanted, or the frame is
--- refused for the wanted cause.
-abbrev pub IsTakenIn : Result ChainState Cause → Result (List Block) Cause → Type 0
-IsTakenIn (Ok kept) wanted = (blocks : List Block) × (wanted ≡ Ok blocks) × StandsFor kept blocks
-IsTakenIn (Err cause) wanted = wanted ≡ Err cause
+-- What became of a chain of blocks on a frame: it stands for these and those that the frame adds, or
+-- the frame is refused as it is judged.
+abbrev pub IsTakenIn : List Block → Result ChainState Refusal → Result Taken Refusal → Type 0
+IsTakenIn blocks (Ok kept) judgement = (frame : Taken) × (judgement ≡ Ok frame) × StandsFor kept (blocks ++ added_by frame)
+IsTakenIn blocks (Err refusal) judgement = judgement ≡ Err refusal
 
 -- What an error of the frames says of the input, or that it says nothing.
 abbrev pub IsCauseOf : FrameError → Result Cause Stop → Type 0
@@ -48,11 +50,12 @@ step_at_start next taken blocks input = fold_step block_in compiled_in next take
 -- that it has ended, a chain with the frame taken in and what follows it, or why the frame is
 -- refused and what follows what was taken.
 abbrev pub FindsTurn : ChainState → ℕ → List Block → List ℕ → Option (List ℕ) → Turn → Type 0
-FindsTurn chain taken blocks input left (turns.Ended same) = (same ≡ chain) × (left ≡ Some []) × ((next : List Block → List ℕ → Fold) → step_at_start next taken blocks input ≡ Whole blocks)
+FindsTurn chain taken blocks input left (turns.Ended same) = (same ≡ chain) × (left ≡ Some []) × ((next : List Block → List ℕ → Fold) → step_at_start next taken blocks input ≡ ends_at Whole [])
 FindsTurn chain taken blocks input left (turns.Taken longer more) =
-    (more_blocks : List Block) × (rest : List ℕ) × StandsFor longer more_blocks × (left ≡ Some rest) × ((next : List Block → List ℕ → Fold) → step_at_start next taken blocks input ≡ next more_blocks rest)
+    (frame : Taken) × (rest : List ℕ) × StandsFor longer (blocks ++ added_by frame) × (left ≡ Some rest)
+    × ((next : List Block → List ℕ → Fold) → step_at_start next taken blocks input ≡ taken_before (frame ∷ []) (next (blocks ++ added_by frame) rest))
 FindsTurn chain taken blocks input left (turns.Refused cause) =
-    (rest : List ℕ) × (left ≡ Some rest) × ((next : List Block → List ℕ → Fold) → step_at_start next taken blocks input ≡ Refused taken cause rest)
+    (rest : List ℕ) × (left ≡ Some rest) × ((next : List Block → List ℕ → Fold) → step_at_start next taken blocks input ≡ ends_at (Refused taken cause) rest)
 
 -- The same, whatever blocks the chain stands for.
 abbrev pub IsTurn : ChainState → ℕ → List ℕ → Option (List ℕ) → Turn → Type 0

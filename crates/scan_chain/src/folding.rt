@@ -3,20 +3,19 @@
 ghost use Rattle.lc_base.specs.Faults.{HasCause};
 ghost use Rattle.std.specs.Prelude.{◌≡◌, [], IfOk, IfSome, List, IsErrOf};
 ghost use Rattle.lc_base.specs.Faults.{Rose};
-ghost use Rattle.block_codec.specs.Spelling.{IsBlock};
-ghost use Rattle.block_codec.specs.Placement.{digest_of};
 ghost use Rattle.block_codec.specs.Reading.{block_in};
 ghost use Rattle.block_codec.specs.declared.block.Block.{Block as Blocks};
 ghost use Rattle.chain_exec.specs.Compiled.{compiled_in};
-ghost use Rattle.chain_state.specs.Chain.{placement_in, StandsFor};
-ghost use Rattle.scan_chain.specs.Folding.{blocks_after_placement, blocks_after_frame, fold_input};
+ghost use Rattle.chain_state.specs.Chain.{StandsFor};
+ghost use Rattle.chain_state.specs.Judging.{judged};
+ghost use Rattle.scan_chain.specs.Folding.{fold_input};
 ghost use Rattle.scan_chain.specs.Turns.{IsTakenIn, IsFoldResult, IsCauseOf, IsTurn, CountsFrames};
 
 use crate::cause::Cause;
 use crate::stop::Stop;
-use block_codec::{Block, DecodeError, FrameError, Frames, Placement, block_digest, decode};
-use chain_state::Chain;
-use lc_base::{Digest, Memory};
+use block_codec::{FrameError, Frames};
+use chain_state::{Chain, Judged, Refusal};
+use lc_base::Memory;
 use lc_outside::Source;
 use std::alloc::Global;
 
@@ -40,48 +39,21 @@ enum Turn {
     Refused(Cause),
 }
 
-/// A frame is refused, and the chain is given up.
-fn refused(chain: Chain, cause: Cause) -> Result<Chain, Cause>
-    ensures { result ≡ Err cause }
+/// A frame as what its bytes are to the chain.
+fn take_frame(alloc: Global, chain: Chain, frame: &[u8]) -> Result<Result<Chain, Refusal>, Memory>
+    ensures { IfOk result (λ taken. (blocks : List Blocks) → StandsFor chain blocks → IsTakenIn blocks taken (judged compiled_in blocks (block_in frame.now))) }
 {
-    chain.give_up();
-    Err(cause)
-}
-
-/// A block that the chain holds is passed over, the next one is appended to the others, and every
-/// other one is refused.
-fn take_block(
-    alloc: Global,
-    chain: Chain,
-    block: &Block,
-    digest: Digest,
-) -> Result<Result<Chain, Cause>, Memory>
-    requires lawful { IsBlock block.now }
-    requires digest { digest ≡ digest_of block.now }
-    ensures { IfOk result (λ taken. (blocks : List Blocks) → StandsFor chain blocks → IsTakenIn taken (blocks_after_placement blocks block.now (placement_in compiled_in blocks block.now))) }
-{
-    match chain.place(block, digest) {
-        Placement::Known => Ok(Ok(chain)),
-        Placement::Next => {
-            let (chain, _) = chain.extended(alloc, block, digest)?;
+    match chain.judge(alloc, frame) {
+        Ok(Judged::Known { .. }) => Ok(Ok(chain)),
+        Ok(Judged::Next { block, digest }) => {
+            let (chain, _) = chain.extended(alloc, &block, digest)?;
             Ok(Ok(chain))
         }
-        Placement::Fork { have } => Ok(refused(chain, Cause::Fork(have))),
-        Placement::Full => Ok(refused(chain, Cause::Full)),
-        Placement::Number { want } => Ok(refused(chain, Cause::Number(want))),
-        Placement::Parent { want } => Ok(refused(chain, Cause::Parent(want))),
-        Placement::Budget { sum } => Ok(refused(chain, Cause::Budget(sum))),
-    }
-}
-
-/// What the bytes of a frame spell decides.
-fn take_frame(alloc: Global, chain: Chain, frame: &[u8]) -> Result<Result<Chain, Cause>, Memory>
-    ensures { IfOk result (λ taken. (blocks : List Blocks) → StandsFor chain blocks → IsTakenIn taken (blocks_after_frame compiled_in blocks (block_in frame.now))) }
-{
-    match decode(alloc, frame) {
-        Ok(block) => take_block(alloc, chain, &block, block_digest(frame)),
-        Err(DecodeError::Malformed { at }) => Ok(refused(chain, Cause::Malformed(at))),
-        Err(DecodeError::Memory) => {
+        Ok(Judged::Refused(refusal)) => {
+            chain.give_up();
+            Ok(Err(refusal))
+        }
+        Err(Memory) => {
             chain.give_up();
             Err(Memory)
         }
@@ -116,7 +88,7 @@ fn look<I: Source>(
         Ok(None) => Ok(Turn::Ended(chain)),
         Ok(Some((frame, more))) => match take_frame(alloc, chain, frame.as_bytes())? {
             Ok(chain) => Ok(Turn::Taken(chain, more)),
-            Err(cause) => Ok(Turn::Refused(cause)),
+            Err(refusal) => Ok(Turn::Refused(Cause::Block(refusal))),
         },
         Err(error) => {
             chain.give_up();
