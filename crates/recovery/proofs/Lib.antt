@@ -1,0 +1,5 @@
+pub mod Placing
+pub mod Replaying
+pub mod Created
+pub mod Started
+pub mod Nodes

@@ -1,0 +1,81 @@
+-- A node with one more block, and a node that takes none.
+use Rattle.std.proofs.Common.{◌≡◌, inl, ℕ, ◌+◌, ◌-◌, List, [], ◌∷◌, ◌++◌, length, Option, Some, None, Result, Ok, Err, refl, sym, ap, ◌∙◌, arith}
+use Rattle.std.specs.Prelude.{slice_get, unwrap_or}
+use Rattle.std.proofs.lemmas.List.{length-append, get_or_push}
+use Rattle.std.proofs.lemmas.Option.{unwrap_or-slice_get}
+use Rattle.lc_base.specs.declared.digest.Digest.{Digest}
+use Rattle.byte_fields.specs.Spelling.{IsBytes}
+use Rattle.block_codec.specs.Placement.{bytes_digest, no_parent, last_digest}
+use Rattle.block_codec.proofs.WholeBlocks.{decided}
+use Rattle.chain_exec.specs.declared.block.BlockRun.{BlockRun}
+use Rattle.std.specs.Option.{is_some}
+use Rattle.lc_outside.specs.Disk.{DiskState}
+use Rattle.disk_model.specs.Disk.{Keeps, Rests, content_of}
+use Rattle.block_codec.specs.Reading.{block_in}
+use Rattle.block_codec.specs.declared.block.Block.{Block}
+use Rattle.block_log.specs.Log.{LogState, Agrees, IsNextAfter}
+use Rattle.block_log.proofs.Resting.{rests_at, rests_keeps}
+use Rattle.chain_exec.specs.Compiled.{compiled_in}
+use Rattle.chain_state.specs.Chain.{ChainState, IsAfter, StandsFor, placement_in}
+use Rattle.chain_state.specs.Judging.{Taken, Added, judged, IsNextBlock}
+use Rattle.chain_state.specs.declared.refusal.Refusal.{Refusal}
+use Rattle.chain_state.proofs.Judgements.{added_is_next}
+use Rattle.recovery.specs.Node.{NodeState, AreOfOneChain, HoldsChain, IsNodeOf, IsStepOf, chain_in}
+use Rattle.recovery.proofs.Placing.{stricter}
+
+rests_weaker : (P Q : List ℕ → Type 0) (state : Option DiskState) → Rests state P → ((c : List ℕ) → P c → Q c) → Rests state Q
+rests_weaker P Q None rests leads = tt
+rests_weaker P Q (Some s) rests leads = (rests.0, leads s.content rests.1)
+
+-- the log of a node agrees with its disk
+pub agrees : (node : NodeState) (state : Option DiskState) (blocks : List Block) → IsNodeOf node state blocks → Rests state (Agrees node.log)
+agrees node state blocks is = rests_weaker (HoldsChain node.log blocks) (Agrees node.log) state is.log (λ c holds. holds.agrees)
+
+-- bytes that are judged to be added are the next block after those that the content stands for
+pub next_after : (node : NodeState) (state : Option DiskState) (blocks : List Block) (content bytes : List ℕ) (block : Block) → IsNodeOf node state blocks → content_of state ≡ Some content → block_in bytes ≡ Ok block
+    → judged compiled_in blocks (block_in bytes) ≡ Ok (Added block) → IsNextAfter (placement_in compiled_in) content bytes blocks block
+next_after node state blocks content bytes block is told decoded judgement = record {
+  stricter = stricter compiled_in;
+  stands = (rests_at (HoldsChain node.log blocks) state content is.log told).1.stands;
+  decoded = decoded;
+  placed = added_is_next compiled_in blocks (block_in bytes) block block decoded judgement;
+}
+
+held_step : (blocks : List Block) (judgement : Result Taken Refusal) (image : List ℕ) → chain_in image ≡ Some blocks → IsStepOf blocks judgement image
+held_step blocks (Ok frame) image is = inl is
+held_step blocks (Err refusal) image is = is
+
+-- a node that leaves its disk as it is
+pub still : {D : Type 0} (now : D → ℕ) (disk : D → ℕ → Option DiskState) (old : D) (node : NodeState) (blocks : List Block) (content : List ℕ) (judgement : Result Taken Refusal)
+    → IsNodeOf node (disk old (now old)) blocks → content_of (disk old (now old)) ≡ Some content → Keeps now disk old old (IsStepOf blocks judgement)
+still now disk old node blocks content judgement is told =
+    let here = rests_at (HoldsChain node.log blocks) (disk old (now old)) content is.log told in
+    rests_keeps now disk old (IsStepOf blocks judgement) content here.0 (held_step blocks judgement content here.1.stands)
+
+-- a node after its next block was stored
+pub longer_node : (node : NodeState) (state new : Option DiskState) (blocks : List Block) (block : Block) (chain : ChainState) (log : LogState) → IsNodeOf node state blocks → StandsFor chain (blocks ++ block ∷ [])
+    → is_some new ≡ is_some state → Rests new (Agrees log) → ((content : List ℕ) → content_of state ≡ Some content → Rests new (λ image. chain_in image ≡ Some (blocks ++ block ∷ [])))
+    → IsNodeOf (record { chain = chain; log = log }) new (blocks ++ block ∷ [])
+longer_node node state new blocks block chain log is stands still agrees added = record { kept = stands; log = both state new still agrees added }
+  where
+    both : (state new : Option DiskState) → is_some new ≡ is_some state → Rests new (Agrees log) → ((content : List ℕ) → content_of state ≡ Some content → Rests new (λ image. chain_in image ≡ Some (blocks ++ block ∷ [])))
+        → Rests new (HoldsChain log (blocks ++ block ∷ []))
+    both None None still agrees added = tt
+    both None (Some n) still agrees added = absurd (cc still)
+    both (Some s) None still agrees added = tt
+    both (Some s) (Some n) still agrees added = (agrees.0, record { agrees = agrees.1; stands = (added s.content refl).1 })
+
+-- ---- what a longer node keeps
+
+last_of : (digests : List Digest) (digest : Digest) → last_digest (digests ++ digest ∷ []) ≡ digest
+last_of digests digest =
+    let size : length (digests ++ digest ∷ []) - 1 ≡ length digests = omega (arith, length-append digests (digest ∷ [])) in
+    ap (λ (i : ℕ). unwrap_or (slice_get (digests ++ digest ∷ []) i) no_parent) size
+    ∙ unwrap_or-slice_get (digests ++ digest ∷ []) (length digests) no_parent ∙ get_or_push digests digest no_parent (length digests) refl
+
+pub one_more : (chain longer : ChainState) (log new : LogState) (bytes : List ℕ) (block : Block) (digest : Digest) (run : BlockRun) → IsBytes bytes → AreOfOneChain chain log → IsNextBlock chain bytes block digest → IsAfter chain block digest longer run
+    → new.count ≡ log.count + 1 → new.last ≡ bytes_digest bytes → AreOfOneChain longer new
+one_more chain longer log new bytes block digest run fits one next after count last = record {
+  count_is = omega (arith, count, one.count_is, ap (length {A = Digest}) after.digests, length-append chain.digests (digest ∷ []));
+  last_is = last ∙ ap bytes_digest (decided.found bytes block fits next.decoded).spelled ∙ sym next.digest_is ∙ sym (last_of chain.digests digest) ∙ ap last_digest (sym after.digests);
+}

@@ -1,0 +1,27 @@
+use Rattle.std.proofs.Common.{sym, subst, Result}
+use Rattle.disk_model.specs.Disk.{Keeps}
+use Rattle.block_codec.specs.Reading.{block_in}
+use Rattle.chain_exec.specs.Compiled.{compiled_in}
+use Rattle.chain_state.specs.Chain.{StandsFor}
+use Rattle.chain_state.specs.Judging.{Taken, judged}
+use Rattle.chain_state.specs.declared.refusal.Refusal.{Refusal}
+use Rattle.chain_state.proofs.Judgements.{added}
+use Rattle.recovery.specs.Node.{NodeState, IsStepOf}
+use Rattle.recovery.proofs.Nodes.{still}
+use Rattle.recovery.proofs.node.Node.append.Goals as goal
+
+pub returns-in-Ok-Known-clause-images : goal.returns-in-Ok-Known-clause-images
+returns-in-Ok-Known-clause-images g c blocks content is told = still g.M.Clock.now g.M.Clock.disk c.args.machine.now c.args.self blocks content (judged compiled_in blocks (block_in c.args.bytes.now)) is told
+
+pub returns-in-Ok-Next-clause-images : goal.returns-in-Ok-Next-clause-images
+returns-in-Ok-Next-clause-images g c blocks content is told =
+    let kept : StandsFor c.self.inside.chain blocks = subst (λ (n : NodeState). StandsFor n.chain blocks) (sym c.self.view_is) is.kept in
+    let a =
+    added compiled_in blocks c.self.inside.chain c.args.bytes.now c.in-Ok-Next.field-0 c.in-Ok-Next.block c.in-Ok-Next.digest c.in-Ok-Next.field-0-is (c.in-Ok-Next.ensures.judged blocks kept) c.in-Ok-Next.ensures.next in
+    subst (λ (j : Result Taken Refusal). Keeps g.M.Clock.now g.M.Clock.disk c.args.machine.now c.add.new.machine (IsStepOf blocks j)) (sym a.judgement) (c.add.ensures.images blocks content is told a.judgement)
+
+pub returns-in-Ok-Refused-clause-images : goal.returns-in-Ok-Refused-clause-images
+returns-in-Ok-Refused-clause-images g c blocks content is told = still g.M.Clock.now g.M.Clock.disk c.args.machine.now c.args.self blocks content (judged compiled_in blocks (block_in c.args.bytes.now)) is told
+
+pub returns-in-Err-clause-images : goal.returns-in-Err-clause-images
+returns-in-Err-clause-images g c blocks content is told = still g.M.Clock.now g.M.Clock.disk c.args.machine.now c.args.self blocks content (judged compiled_in blocks (block_in c.args.bytes.now)) is told

@@ -1,0 +1,115 @@
+-- The chain of a log's blocks, and the log.
+use Rattle.std.specs.Prelude.{◌≡◌, ◌⊎◌, ℕ, Bool, true, false, List, ◌++◌, length, Option, Some, None, Result, Ok, Err}
+use Rattle.lc_outside.specs.Disk.{DiskState}
+use Rattle.disk_model.specs.Disk.{Rests}
+use Rattle.block_codec.specs.Reading.{block_in}
+use Rattle.block_codec.specs.Placement.{last_digest}
+use Rattle.block_codec.specs.declared.block.Block.{Block}
+use Rattle.block_log.specs.Standing.{Standing, NotALog, Damaged, NextBlock, next_block, blocks_of, chain_of}
+use Rattle.block_log.specs.Log.{LogState, Agrees}
+use Rattle.block_log.specs.declared.layout.Stored.{Stored}
+use Rattle.chain_exec.specs.Compiled.{compiled_in}
+use Rattle.chain_exec.specs.Fold.{block_effects}
+use Rattle.chain_exec.specs.Replay.{replay}
+use Rattle.chain_state.specs.Chain.{ChainState, StandsFor, placement_in}
+use Rattle.chain_state.specs.Judging.{Taken, Known, Added, added_by}
+use Rattle.chain_state.specs.declared.refusal.Refusal.{Refusal}
+use Rattle.recovery.specs.declared.errors.StartError.{StartError}
+use Rattle.recovery.specs.declared.errors.StartError.TheVariants as starts
+use Rattle.recovery.specs.declared.errors.AppendError.{AppendError}
+use Rattle.recovery.specs.declared.errors.AppendError.TheVariants as errors
+use Rattle.recovery.specs.declared.node.Appended.{Appended}
+use Rattle.recovery.specs.declared.node.Appended.TheVariants as appendeds
+
+-- What a node keeps.
+pub record NodeState : Type 0 where
+  pub chain : ChainState
+  pub log : LogState
+
+-- The log holds the number of the chain's blocks and the digest of the last one.
+pub record AreOfOneChain (chain : ChainState) (log : LogState) : Type 0 where
+  pub count_is : log.count ≡ length chain.digests
+  pub last_is : log.last ≡ last_digest chain.digests
+
+-- The next block of a chain, after the rows that its blocks wrote.
+abbrev pub next_in_chain : NextBlock
+next_in_chain = next_block block_in (placement_in compiled_in)
+
+-- The chain that the bytes of a log stand for, rows counted.
+abbrev pub chain_in : List ℕ → Option (List Block)
+chain_in image = chain_of next_in_chain image
+
+-- The bytes on the disk are those that the log agrees with, and stand for these blocks.
+pub record HoldsChain (log : LogState) (blocks : List Block) (image : List ℕ) : Type 0 where
+  pub agrees : Agrees log image
+  pub stands : chain_in image ≡ Some blocks
+
+-- A node of these blocks: its chain stands for them, and where the disk is told nothing is pending,
+-- and its content stands for them.
+pub record IsNodeOf (node : NodeState) (state : Option DiskState) (blocks : List Block) : Type 0 where
+  pub kept : StandsFor node.chain blocks
+  pub log : Rests state (HoldsChain node.log blocks)
+
+-- What is started with on bytes that stand so: a node of their blocks, or why there is none.
+abbrev pub IsNodeStarted : Option DiskState → Standing → Result NodeState StartError → Type 0
+IsNodeStarted state stands (Ok node) = (blocks : List Block) × (blocks_of stands ≡ Some blocks) × IsNodeOf node state blocks
+IsNodeStarted state stands (Err starts.NotALog) = stands ≡ NotALog
+IsNodeStarted state stands (Err (starts.Damaged at)) = (before : List Stored) × (stands ≡ Damaged before at)
+IsNodeStarted state stands (Err starts.DiskFault) = Unit {0}
+IsNodeStarted state stands (Err starts.Memory) = Unit {0}
+
+-- ---- one more block
+
+-- What a crash may leave while bytes that are judged so are taken: the chain from before, or that with
+-- the block that they add.
+abbrev pub IsStepOf : List Block → Result Taken Refusal → List ℕ → Type 0
+IsStepOf blocks (Ok frame) image = (chain_in image ≡ Some blocks) ⊎ (chain_in image ≡ Some (blocks ++ added_by frame))
+IsStepOf blocks (Err refusal) image = chain_in image ≡ Some blocks
+
+-- What is told of bytes that are judged so. A block that is held already leaves the node as it was;
+-- of one that was added the rows and the receipts are told.
+abbrev pub IsAppended : NodeState → List Block → Result Taken Refusal → NodeState → Appended → Type 0
+IsAppended old blocks judgement node (appendeds.Known number) =
+    (block : Block) × (judgement ≡ Ok (Known block)) × (number ≡ block.number) × (node ≡ old)
+IsAppended old blocks judgement node (appendeds.Added number rows receipts) =
+    (block : Block) × (judgement ≡ Ok (Added block)) × (number ≡ block.number)
+    × (rows ≡ length (block_effects compiled_in (replay compiled_in blocks) block).rows)
+    × (receipts ≡ (block_effects compiled_in (replay compiled_in blocks) block).receipts)
+
+-- The chain after bytes that are judged so.
+abbrev pub blocks_after : List Block → Result Taken Refusal → List Block
+blocks_after blocks (Ok frame) = blocks ++ added_by frame
+blocks_after blocks (Err refusal) = blocks
+
+-- What is handed back where bytes that are judged so were not taken: the node as it was where they
+-- are refused, and none otherwise.
+abbrev pub IsHandedBack : NodeState → Option DiskState → List Block → Result Taken Refusal → Option NodeState → AppendError → Type 0
+IsHandedBack old state blocks judgement back (errors.Refused refusal) = (judgement ≡ Err refusal) × (back ≡ Some old) × IsNodeOf old state blocks
+IsHandedBack old state blocks judgement back errors.DiskFault = back ≡ None
+IsHandedBack old state blocks judgement back errors.Memory = back ≡ None
+
+-- What is answered to bytes that are judged so.
+abbrev pub IsAppendAnswer : NodeState → Option DiskState → List Block → Result Taken Refusal → Result (NodeState × Appended) (Option NodeState × AppendError) → Type 0
+IsAppendAnswer old state blocks judgement (Ok done) = IsAppended old blocks judgement done.0 done.1 × IsNodeOf done.0 state (blocks_after blocks judgement)
+IsAppendAnswer old state blocks judgement (Err back) = IsHandedBack old state blocks judgement back.0 back.1
+
+-- Whether a block was added.
+abbrev pub was_added : Appended → Bool
+was_added (appendeds.Known number) = false
+was_added (appendeds.Added number rows receipts) = true
+
+-- Whether the disk failed.
+abbrev pub is_fault : AppendError → Bool
+is_fault (errors.Refused refusal) = false
+is_fault errors.DiskFault = true
+is_fault errors.Memory = false
+
+-- Whether the disk was reached for: a block was added, or the disk failed.
+abbrev pub reaches_disk : {N B : Type 0} → Result (N × Appended) (B × AppendError) → Bool
+reaches_disk (Ok done) = was_added done.1
+reaches_disk (Err back) = is_fault back.1
+
+-- The answer blames the disk.
+abbrev pub IsDiskFault : {N B : Type 0} → Result N (B × AppendError) → Type 0
+IsDiskFault (Ok done) = ⊥
+IsDiskFault (Err back) = is_fault back.1 ≡ true

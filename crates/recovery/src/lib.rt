@@ -1,0 +1,11 @@
+//! A chain of blocks over the log that holds them.
+#![tactic(auto)]
+
+mod appending;
+mod errors;
+mod node;
+mod restoring;
+mod storing;
+
+pub use errors::{AppendError, StartError};
+pub use node::{Appended, Node};

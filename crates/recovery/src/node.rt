@@ -1,0 +1,112 @@
+//! A node: the chain of the blocks that a log holds, and the log.
+
+ghost use Rattle.std.specs.Prelude.{◌≡◌, ℕ, List, length, Some, IfOk, IsErrOf};
+ghost use Rattle.lc_base.specs.Faults.{HasCause};
+ghost use Rattle.lc_base.specs.History.{scan};
+ghost use Rattle.lc_outside.specs.Disk.{Stays};
+ghost use Rattle.disk_model.specs.Disk.{IsSettled, content_of};
+ghost use Rattle.block_codec.specs.declared.block.Block.{Block as Blocks};
+ghost use Rattle.block_log.specs.Standing.{standing};
+ghost use Rattle.recovery.specs.Node.{IsNodeOf, IsNodeStarted, next_in_chain};
+
+use crate::errors::StartError;
+use crate::restoring::restore;
+use block_log::{Log, LogError};
+use chain_exec::ReceiptList;
+use chain_state::Chain;
+use disk_model::Disk;
+use lc_base::{Answer, Memory, Query};
+use std::alloc::Global;
+use std::marker::Model;
+
+/// The chain of the blocks that a log holds, and the log.
+#[derive(Drop)]
+pub struct Node {
+    pub(crate) chain: Chain,
+    pub(crate) log: Log,
+}
+
+impl Model for Node {
+    ghost use Rattle.recovery.specs.Node.{NodeState, AreOfOneChain};
+    ghost use Rattle.contract_tree.specs.contracts.tree.Contract as contracts;
+    ghost use Rattle.std.specs.Coded.{codes};
+
+    ghost Value = { NodeState };
+
+    ghost coded = { Prim.hlevel (codes, contracts.the_row.coded) };
+
+    ghost view = { λ node. record { chain = node.chain; log = node.log } };
+
+    ghost invariant = { λ node. AreOfOneChain node.chain node.log };
+}
+
+/// What became of a block that was not refused.
+#[derive(Drop)]
+pub enum Appended {
+    /// The chain holds it already, at this number.
+    Known {
+        number: u32,
+    },
+    /// It was stored at this number. It wrote so many rows, and each of its transactions ended so.
+    Added {
+        number: u32,
+        rows: u32,
+        receipts: ReceiptList,
+    },
+}
+
+impl Node {
+    /// The node of the log on a disk. It writes nothing.
+    pub fn start<M: Disk>(alloc: Global, machine: &mut M) -> Result<Node, StartError>
+        requires settled { IsSettled (M.disk machine.old (M.now machine.old)) }
+        // The node is that of the chain that the content stands for, or it stands for none.
+        ensures answer { (content : List ℕ) → content_of (M.disk machine.old (M.now machine.old)) ≡ Some content
+            → IsNodeStarted (M.disk machine.new (M.now machine.new)) (standing next_in_chain content) result }
+        // Whether the disk is told or not, it is the node of some blocks.
+        ensures blocks { IfOk result (λ node. (blocks : List Blocks) × IsNodeOf node (M.disk machine.new (M.now machine.new)) blocks) }
+        ensures disk { Stays M.now M.disk machine.old machine.new }
+        ensures told { M.told machine.new ≡ M.told machine.old }
+        ensures wire_faults { M.wire_faults machine.new ≡ M.wire_faults machine.old }
+        ensures cause { HasCause (M.disk_faults machine.old) (M.disk_faults machine.new) (IsErrOf result StartError.DiskFault) }
+    {
+        match Log::start(alloc, machine) {
+            Ok((log, stored)) => match restore(alloc, stored.as_slice()) {
+                Ok(Ok(chain)) => Ok(Node { chain, log }),
+                Ok(Err(at)) => Err(StartError::Damaged { at }),
+                Err(Memory) => Err(StartError::Memory),
+            },
+            Err(LogError::NotALog) => Err(StartError::NotALog),
+            Err(LogError::Damaged { at, before }) => match restore(alloc, before.as_slice()) {
+                Ok(Ok(chain)) => {
+                    chain.give_up();
+                    Err(StartError::Damaged { at })
+                }
+                Ok(Err(at)) => Err(StartError::Damaged { at }),
+                Err(Memory) => Err(StartError::Memory),
+            },
+            Err(LogError::DiskFault) => Err(StartError::DiskFault),
+            Err(LogError::Memory) => Err(StartError::Memory),
+        }
+    }
+
+    /// The number of its blocks, at most `MAX_BLOCKS`.
+    pub fn blocks(&self) -> u32
+        ensures { result ≡ length self.now.chain.digests }
+    {
+        self.chain.len()
+    }
+
+    /// The answer to a question over the rows of its chain.
+    pub fn ask(&mut self, query: &Query) -> Result<Answer, Memory>
+        ensures answer { IfOk result (λ answer. answer ≡ scan self.old.chain.rows query.now) }
+        ensures unchanged { self.new ≡ self.old }
+    {
+        self.chain.ask(query)
+    }
+
+    /// Ends the node.
+    pub fn give_up(self) {
+        let Node { chain, log: _log } = self;
+        chain.give_up();
+    }
+}
