@@ -2,8 +2,6 @@
 #![tactic(auto)]
 
 #[cfg(test)]
-mod base;
+mod edges;
 #[cfg(test)]
-mod codec;
-#[cfg(test)]
-mod runs;
+mod texts;

@@ -1,23 +1,18 @@
-//! Runs block files, each a line `NAME|HEX` of standard input: the name of a case, and the bytes of
-//! its file. For each case it prints the name, for each block how many rows it wrote, and for each
-//! transaction the number of its status and its cost.
-#![tactic(auto)]
+//! Cases of block files: what each of their blocks did, which no command prints.
 
 ghost use Rattle.std.specs.Prelude.{IfOk};
 ghost use Rattle.block_codec.specs.Spelling.{IsBlock};
 ghost use Rattle.chain_state.specs.Chain.{IsAfter};
 
-use anyhow::{Context, Result, bail};
+use crate::streams::source_of;
+use anyhow::{Result, bail};
 use block_codec::{Block, Frames, MAX_FRAMES, Placement, block_digest, decode};
 use chain_exec::BlockRun;
 use chain_state::Chain;
 use lc_base::{Digest, Memory};
 use lc_outside::MemSource;
 use std::alloc::Global;
-use std::io::{self, BufRead, BufReader, BufWriter, Write};
-
-/// The greatest number of bytes that a source gives at once.
-const PIECE: usize = 4096;
+use std::io::Write;
 
 /// Prints what a block did.
 fn print_run<W: Write>(out: &mut W, number: u32, run: &BlockRun) -> Result<()> {
@@ -84,24 +79,16 @@ fn run_frames<W: Write>(alloc: Global, out: &mut W, source: &mut MemSource) -> R
     Ok(())
 }
 
-/// Runs the case of a line, after its name.
-fn run_case<W: Write>(alloc: Global, out: &mut W, line: &str) -> Result<()> {
-    let (name, file) = line.split_once('|').context("a case without a file")?;
-    writeln!(out, "== {name}")?;
-    let file = hex::decode(alloc, file)?;
-    let mut source = MemSource::new(alloc, &file, PIECE, &[])
-        .ok()
-        .context("no memory for the input")?;
+/// Runs the blocks of a file, which must be a chain from none, and prints the words of the case and
+/// then for each block how many rows it wrote, and for each transaction its status and its cost.
+pub fn run_blocks<W: Write>(
+    alloc: Global,
+    out: &mut W,
+    words: &str,
+    piece: &str,
+    input: &str,
+) -> Result<()> {
+    writeln!(out, "== {words}")?;
+    let mut source = source_of(alloc, piece, input, "")?;
     run_frames(alloc, out, &mut source)
-}
-
-fn main(rt: HostRuntime) -> Result<()> {
-    let alloc = rt.alloc();
-    let mut out = BufWriter::new(alloc, io::writer(&rt))?;
-    for line in BufReader::new(alloc, rt.reader())?.lines(alloc) {
-        let line = line?;
-        run_case(alloc, &mut out, line.as_str())?;
-    }
-    out.flush()?;
-    Ok(())
 }
