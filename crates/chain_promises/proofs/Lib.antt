@@ -1,0 +1,3 @@
+pub mod Tellings
+pub mod Sure
+pub mod Runs
