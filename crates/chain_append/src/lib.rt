@@ -1,0 +1,12 @@
+//! The command `append`: the frames of an input are taken into the chain of a log, one after
+//! another.
+#![tactic(auto)]
+
+mod appending;
+mod ending;
+mod lines;
+mod taking;
+mod telling;
+
+pub use appending::append;
+pub use ending::{AppendEnd, AppendStop};
