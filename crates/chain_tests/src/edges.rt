@@ -1,7 +1,10 @@
-//! The edges over streams that fail once and then go on.
+//! The edges: streams that fail once and then go on, and a file.
 
+use disk_model::{Disk, FileMachine};
 use lc_outside::{Failed, HostSource, HostWire, Source, Wire};
+use std::fs;
 use std::io::{self, ErrorKind, Read, Write};
+use std::test::Fail;
 
 /// A reader of the bytes `ab`, one at each read, of which the second read fails.
 #[derive(Drop)]
@@ -67,4 +70,49 @@ fn edge_of_a_writer(rt: HostRuntime) {
     let mut wire = HostWire::new(TakesOne { writes: 0 });
     assert_eq!(rt; wire.tell(b"ab"), Err(Failed));
     assert_eq!(rt; wire.tell(b"cd"), Ok(()));
+}
+
+/// A file of the present folder, which is not there before the test and after it.
+const FILE: &str = "chain_tests.file";
+
+/// Writes the file, and tells a line. Before, it is a disk of length 0, which has nothing to sync.
+fn write_file(rt: &HostRuntime, told: &mut Vec<u8>) -> Result<u64, Failed> {
+    let mut machine = FileMachine::new(rt, FILE, told);
+    let before = machine.len()?;
+    machine.sync()?;
+    machine.write_at(0, b"abcdef")?;
+    machine.sync()?;
+    machine.write_at(4, b"xyz")?;
+    machine.tell(b"line\n")?;
+    Ok(before)
+}
+
+/// The length of the file, and how many bytes were read into the buffer from its fourth on.
+fn read_file(rt: &HostRuntime, buffer: &mut [u8]) -> Result<(u64, usize), Failed> {
+    let mut told: Vec<u8> = Vec::new(rt.alloc());
+    let mut machine = FileMachine::new(rt, FILE, &mut told);
+    let len = machine.len()?;
+    let count = machine.read_at(3, buffer)?;
+    Ok((len, count))
+}
+
+#[test]
+fn edge_of_a_file(rt: HostRuntime) -> Result<(), Fail> {
+    let mut told = Vec::new(rt.alloc());
+    assert_eq!(rt; write_file(&rt, &mut told), Ok(0));
+    assert_eq!(rt; told.as_slice(), b"line\n".as_slice());
+    // Another machine finds what the first one wrote, and no more.
+    let mut buffer = [0; 8];
+    assert_eq!(rt; read_file(&rt, &mut buffer), Ok((7, 4)));
+    assert_eq!(rt; buffer, *b"dxyz\0\0\0\0");
+    fs::remove_file(&rt, FILE)?;
+    Ok(())
+}
+
+#[test]
+fn folder_in_place_of_a_file(rt: HostRuntime) {
+    let mut told: Vec<u8> = Vec::new(rt.alloc());
+    let mut machine = FileMachine::new(&rt, ".", &mut told);
+    assert_eq!(rt; machine.len(), Err(Failed));
+    assert_eq!(rt; machine.write_at(0, b"a"), Err(Failed));
 }
