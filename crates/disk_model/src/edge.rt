@@ -32,8 +32,26 @@ struct HostFile<'a> {
     is_folder_synced: bool,
 }
 
+/// Moves a file to a descriptor of 3 or more, as a clone's is. A standard stream that was closed
+/// when the program started leaves its descriptor free for the first file that is opened, and what
+/// is told would go over the file.
+fn apart_from_streams(file: File) -> Result<Option<File>, Failed> {
+    match file.try_clone() {
+        Ok(clone) => Ok(Some(clone)),
+        Err(_) => Err(Failed),
+    }
+}
+
+fn open_for_reading(rt: &HostRuntime, path: &str) -> Result<Option<File>, Failed> {
+    match File::open(rt, path) {
+        Ok(file) => apart_from_streams(file),
+        Err(_) => Err(Failed),
+    }
+}
+
 /// Opens the file at a path and leaves what is in it; `None` where there is no such file and it is
-/// not to be made.
+/// not to be made. A file that may not be written is opened for reading alone, and a write is then a
+/// fault.
 fn open_file(rt: &HostRuntime, path: &str, make: bool) -> Result<Option<File>, Failed> {
     match OpenOptions::new()
         .read(true)
@@ -41,14 +59,15 @@ fn open_file(rt: &HostRuntime, path: &str, make: bool) -> Result<Option<File>, F
         .create(make)
         .open(rt, path)
     {
-        Ok(file) => Ok(Some(file)),
-        Err(e) => {
-            if e.kind() == ErrorKind::NotFound && !make {
-                Ok(None)
-            } else {
-                Err(Failed)
+        Ok(file) => apart_from_streams(file),
+        Err(_) if make => Err(Failed),
+        Err(e) => match e.kind() {
+            ErrorKind::NotFound => Ok(None),
+            ErrorKind::PermissionDenied | ErrorKind::ReadOnlyFilesystem => {
+                open_for_reading(rt, path)
             }
-        }
+            _ => Err(Failed),
+        },
     }
 }
 
