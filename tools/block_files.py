@@ -84,10 +84,10 @@ def calls(contract, function, args, budget, status, cost, sender="u"):
 
 def block_file(blocks):
     """The frames of blocks from the number 0 on, each with the digest of the one before."""
-    file, parent = b"", bytes(32)
+    frames, parent = [], bytes(32)
     for block_number, txs in enumerate(map(list, blocks)):
         block = b"\1" + number(block_number, 4) + parent + number(len(txs), 2)
         block += b"".join(tx.bytes for tx in txs)
         parent = hashlib.sha256(b"\7" + block).digest()
-        file += number(len(block), 4) + block
-    return file
+        frames.append(number(len(block), 4) + block)
+    return b"".join(frames)

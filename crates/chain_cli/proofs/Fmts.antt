@@ -5,8 +5,8 @@ use Rattle.contract_parse.specs.Syntax.{Outcome as SourceOutcome, IsOutcome}
 use Rattle.chain_lines.specs.declared.whole.TheConstants.{MAX_WHOLE_INPUT_BYTES}
 use Rattle.chain_lines.specs.declared.outcome.Outcome.{Outcome}
 use Rattle.chain_lines.specs.Outcome.{bad_input}
-use Rattle.chain_cli.specs.Output.{IsFmt, Long, Source, output_of, source_outcome}
-use Rattle.chain_cli.specs.Scanning.{IsFmtOutcome}
+use Rattle.chain_output.specs.Output.{IsFmt, Long, Source, output_of, source_outcome}
+use Rattle.chain_output.specs.Scanning.{IsFmtOutcome}
 use Rattle.chain_lines.specs.Whole.{IsWholeInput}
 
 -- the outcome of a source that was read whole

@@ -1,5 +1,5 @@
 -- The canonical text that `fmt` tells is told again of that text.
-use Rattle.std.proofs.Common.{◌≡◌, ℕ, Bool, true, false, cond, eqb, List, [], ◌∷◌, ◌++◌, Option, Some, None, Ok, Err, refl, sym, ap, ◌∙◌, subst, append_assoc}
+use Rattle.std.proofs.Common.{◌≡◌, ℕ, Bool, true, false, cond, eqb, List, [], ◌∷◌, ◌++◌, Option, Some, None, Ok, Err, refl, sym, ap, ◌∙◌, subst, map, append_assoc}
 use Rattle.std.specs.List.{concat}
 use Rattle.contract_tree.specs.Tree.{FunctionTree}
 use Rattle.contract_parse.specs.Syntax.{Outcome as SourceOutcome, IsOutcome, ReadsAs}
@@ -10,9 +10,10 @@ use Rattle.contract_check.proofs.WithoutOffsets.{kinded_anywhere}
 use Rattle.contract_print.specs.Canonical.{contract_text}
 use Rattle.contract_print.proofs.RereadContracts.{reads_again}
 use Rattle.contract_print.proofs.WithoutOffsets.{one_text}
-use Rattle.chain_cli.specs.Texts.{last_line, lines_after, lines_of}
+use Rattle.chain_promises.specs.Promises.{Line, plain}
+use Rattle.chain_output.specs.Texts.{last_line, lines_after, lines_of}
 use Rattle.chain_lines.specs.Outcome.{outcome_with}
-use Rattle.chain_cli.specs.Output.{output_of, fmt_outcome, source_outcome, FitsInput, IsFmt, Long, Source, FormatsAgain}
+use Rattle.chain_output.specs.Output.{output_of, fmt_outcome, source_outcome, told_bytes, FitsInput, IsFmt, Long, Source, FormatsAgain}
 use Rattle.chain_lines.specs.declared.outcome.Ending.TheVariants as endings
 use Rattle.chain_lines.specs.declared.status.Status.TheVariants as statuses
 
@@ -34,6 +35,11 @@ lines_joined begun (byte ∷ bytes) = joined_by (eqb byte 10) begun bytes byte (
 text_joined : (text : List ℕ) → concat (lines_of text) ≡ text
 text_joined text = lines_joined [] text
 
+-- lines that promise nothing have these texts
+plain_texts : (lines : List (List ℕ)) → map (λ (line : Line). line.text) (map plain lines) ≡ lines
+plain_texts [] = refl
+plain_texts (line ∷ lines) = ap (λ (others : List (List ℕ)). line ∷ others) (plain_texts lines)
+
 -- ---- the text of functions that are well kinded
 
 told_again : (input : List ℕ) (functions : List FunctionTree) → ReadsAs input functions → check_fault functions ≡ None → FitsInput (contract_text functions)
@@ -47,14 +53,15 @@ told_again input functions reads good fits =
     subst (λ o. IsFmt (contract_text functions) (output_of o [])) told (Source fits (Ok again.0) again.1)
 
 by_fault : (input : List ℕ) (functions : List FunctionTree) (fault : Option Fault) → ReadsAs input functions → check_fault functions ≡ fault → (output_of (fmt_outcome functions fault) []).status ≡ statuses.Done
-    → FitsInput (concat (output_of (fmt_outcome functions fault) []).pieces) → IsFmt (concat (output_of (fmt_outcome functions fault) []).pieces) (output_of (fmt_outcome functions fault) [])
+    → FitsInput (told_bytes (output_of (fmt_outcome functions fault) [])) → IsFmt (told_bytes (output_of (fmt_outcome functions fault) [])) (output_of (fmt_outcome functions fault) [])
 by_fault input functions (Some fault) reads e done fits = absurd cc
 by_fault input functions None reads e done fits =
-    let text : concat (lines_of (contract_text functions)) ≡ contract_text functions = text_joined (contract_text functions) in
+    let lines : List (List ℕ) = lines_of (contract_text functions) in
+    let text : told_bytes (output_of (outcome_with lines endings.Done) []) ≡ contract_text functions = ap concat (plain_texts lines) ∙ text_joined (contract_text functions) in
     subst (λ (t : List ℕ). IsFmt t (output_of (outcome_with (lines_of (contract_text functions)) endings.Done) [])) (sym text) (told_again input functions reads e (subst FitsInput text fits))
 
 by_outcome : (input : List ℕ) (outcome : SourceOutcome) → IsOutcome input outcome → (output_of (source_outcome outcome) []).status ≡ statuses.Done
-    → FitsInput (concat (output_of (source_outcome outcome) []).pieces) → IsFmt (concat (output_of (source_outcome outcome) []).pieces) (output_of (source_outcome outcome) [])
+    → FitsInput (told_bytes (output_of (source_outcome outcome) [])) → IsFmt (told_bytes (output_of (source_outcome outcome) [])) (output_of (source_outcome outcome) [])
 by_outcome input (Ok functions) reads done fits = by_fault input functions (check_fault functions) reads refl done fits
 by_outcome input (Err fault) is done fits = absurd cc
 

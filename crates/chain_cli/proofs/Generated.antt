@@ -1,17 +1,18 @@
 -- Blocks that are told one after another, as they are made.
-use Rattle.std.proofs.Common.{◌≡◌, ℕ, zero, suc, ◌+◌, ◌-◌, ◌<◌, ◌≤◌, Bool, true, false, cond, eqb, List, [], ◌∷◌, ◌++◌, length, get_or, take, map, Option, Some, None, Err, refl, sym, ap, ◌∙◌, subst, arith, append_assoc}
-use Rattle.std.proofs.lemmas.List.{append-nil, map-append, map_push, length-map, length-append, take_at}
-use Rattle.std.proofs.Math.Seq.{get_or-append_seam}
+use Rattle.std.proofs.Common.{◌≡◌, ℕ, zero, suc, ◌+◌, ◌-◌, ◌<◌, ◌≤◌, Bool, true, false, cond, eqb, List, [], ◌∷◌, ◌++◌, length, map, Option, Some, None, refl, sym, ap, ◌∙◌, subst, arith, append_assoc}
+use Rattle.std.proofs.lemmas.List.{append-nil, map-append, map_push, length-append}
 use Rattle.std.proofs.lemmas.Bool.Decides.{nat_tests}
-use Rattle.lc_outside.specs.Outside.{Tell, Tells, Told, ToldPrefix, with_tells}
-use Rattle.lc_outside.proofs.Telling.{told_more, told_less, told_prefix}
+use Rattle.lc_outside.specs.Disk.{DiskState, Stays}
+use Rattle.lc_outside.specs.Outside.{Tell}
+use Rattle.disk_model.proofs.Moments.{stays_here, stays_on}
+use Rattle.block_log.specs.Standing.{NextBlock}
+use Rattle.chain_promises.specs.Promises.{plain, Telling}
+use Rattle.chain_promises.proofs.Tellings.{none_to_tell}
 use Rattle.lc_base.specs.declared.digest.Digest.{Digest}
-use Rattle.block_codec.specs.Placement.{bytes_digest}
-use Rattle.chain_gen.specs.Generator.{Progress, made, generated, spelling, block_drawn, given_block, next_block, progress, GoesOn}
-use Rattle.chain_lines.specs.declared.status.Status.{Status}
-use Rattle.chain_lines.specs.declared.status.Status.TheVariants as statuses
-use Rattle.chain_cli.specs.Telling.{IsAnsweredInPart, TellsFrame}
-use Rattle.chain_cli.specs.Blocks.{frame}
+use Rattle.block_codec.specs.Placement.{bytes_digest, no_parent}
+use Rattle.chain_gen.specs.Generator.{Progress, MadeSoFar, none_made, made, generated, spelling, block_drawn, given_block, next_block, progress, GoesOn}
+use Rattle.chain_output.specs.Blocks.{frame}
+use Rattle.chain_output.proofs.Plain.{plain_more, plain_cut}
 
 -- the frames of the first blocks of a seed
 abbrev pub frames_of : ℕ → ℕ → List (List ℕ)
@@ -48,27 +49,21 @@ split_at seed count whole within =
     let sum : count + (whole - count) ≡ whole = omega (arith, within) in
     subst (λ (n : ℕ). (rest : List (List ℕ)) × (generated n seed ≡ generated count seed ++ rest)) sum (after seed count (whole - count))
 
-first_frames : (seed count whole : ℕ) → count ≤ whole → take count (frames_of whole seed) ≡ frames_of count seed
-first_frames seed count whole within =
+-- all frames are the first ones and others
+frames_split : (seed count whole : ℕ) → count ≤ whole → (rest : List (List ℕ)) × (frames_of whole seed ≡ frames_of count seed ++ rest)
+frames_split seed count whole within =
     let split = split_at seed count whole within in
-    ap (λ (blocks : List (List ℕ)). take count (map frame blocks)) split.1
-    ∙ ap (take count) (map-append frame (generated count seed) split.0)
-    ∙ take_at (frames_of count seed) (map frame split.0) count (length-map (generated count seed) frame ∙ counted seed count)
+    (map frame split.0, ap (map frame) split.1 ∙ map-append frame (generated count seed) split.0)
 
 -- ---- the loop
 
--- so far the frames of some first blocks were told, and the faults have not become fewer
-pub record IsGenerating (first now : Option (List Tell)) (faults_first faults_now seed count : ℕ) (gen : Progress) (parent : Digest) : Type 0 where
+-- so far the frames of some first blocks were told, and the disk is as it was
+pub record IsGenerating {D : Type 0} (now : D → ℕ) (disk : D → ℕ → Option DiskState) (told : D → Option (List Tell)) (first machine : D) (seed count : ℕ) (gen : Progress) (parent : Digest) : Type 0 where
   pub is_progress : gen ≡ progress seed count gen.given
   pub within : gen.given ≤ count
   pub is_parent : parent ≡ (made seed gen.given).parent
-  pub told : Told first now (frames_of gen.given seed)
-  pub later : faults_first ≤ faults_now
-
--- memory ran out
-pub prefix_told : (first now : Option (List Tell)) (faults_first faults_now seed count : ℕ) (gen : Progress) (parent : Digest) → IsGenerating first now faults_first faults_now seed count gen parent → ToldPrefix first now (frames_of count seed)
-prefix_told first now faults_first faults_now seed count gen parent is =
-    told_prefix first now (frames_of count seed) gen.given (subst (Told first now) (sym (first_frames seed gen.given count is.within)) is.told)
+  pub stays : Stays now disk first machine
+  pub lines : (next : NextBlock) → Telling next now disk told first machine (map plain (frames_of gen.given seed)) true
 
 -- what a block that is given next tells of the generator
 record GivesNext (seed count : ℕ) (gen more : Progress) (block : List ℕ) : Type 0 where
@@ -81,75 +76,74 @@ not_all : (ended : Bool) (next : List ℕ × Progress) (gen : Progress) (other :
 not_all true next gen other is found = absurd cc
 not_all false next gen other is found = refl
 
-gives_next : (first now : Option (List Tell)) (faults_first faults_now seed count : ℕ) (gen more : Progress) (parent : Digest) (block : List ℕ) → IsGenerating first now faults_first faults_now seed count gen parent
-    → Some (block, more) ≡ next_block gen parent → ((s : ℕ) → gen ≡ progress s gen.count gen.given → parent ≡ (made s gen.given).parent → GoesOn s gen (Some (block, more))) → GivesNext seed count gen more block
-gives_next first now faults_first faults_now seed count gen more parent block is found goes_on =
-    let count_is : gen.count ≡ count = ap (λ (p : Progress). p.count) is.is_progress in
-    let some : eqb gen.given gen.count ≡ false = not_all (eqb gen.given gen.count) (block, more) gen (Some (given_block gen (block_drawn gen.given parent gen.state))) refl found in
-    record {
-      room = grind (arith, nat_tests, some, count_is, is.within);
-      count_is = count_is;
-      goes_on = goes_on seed (is.is_progress ∙ ap (λ (n : ℕ). progress seed n gen.given) (sym count_is)) is.is_parent;
-    }
+-- none were drawn first
+none_framed : (seed : ℕ) → frames_of 0 seed ≡ []
+unfolding made
+none_framed seed = refl
 
--- one more block
-pub next_told : (first before now : Option (List Tell)) (faults_first faults_before faults_now seed count at : ℕ) (gen more : Progress) (parent digest : Digest) (block piece hashed : List ℕ)
-    → IsGenerating first before faults_first faults_before seed count gen parent → Some (block, more) ≡ next_block gen parent
-    → ((s : ℕ) → gen ≡ progress s gen.count gen.given → parent ≡ (made s gen.given).parent → GoesOn s gen (Some (block, more)))
-    → piece ≡ block → hashed ≡ block → digest ≡ bytes_digest hashed
-    → now ≡ with_tells before (record { at = at; bytes = frame piece } ∷ []) → faults_before ≤ faults_now
-    → IsGenerating first now faults_first faults_now seed count more digest
-next_told first before now faults_first faults_before faults_now seed count at gen more parent digest block piece hashed is found on piece_is hashed_is digest_is tells later =
-    let gives = gives_next first before faults_first faults_before seed count gen more parent block is found on in
-    let more_is : more ≡ progress seed gen.count (gen.given + 1) = gives.goes_on.2 in
-    let given_is : more.given ≡ gen.given + 1 = ap (λ (p : Progress). p.given) more_is in
-    let grows : generated (gen.given + 1) seed ≡ generated gen.given seed ++ block ∷ [] = gives.goes_on.0 in
-    let here : now ≡ with_tells before (record { at = at; bytes = frame block } ∷ []) = tells ∙ ap (λ (bytes : List ℕ). with_tells before (record { at = at; bytes = frame bytes } ∷ [])) piece_is in
-    record {
-      is_progress = more_is ∙ ap (λ (n : ℕ). progress seed n (gen.given + 1)) gives.count_is ∙ ap (progress seed count) (sym given_is);
-      within = omega (arith, given_is, gives.room);
-      is_parent = digest_is ∙ ap bytes_digest hashed_is ∙ gives.goes_on.1 ∙ ap (λ (n : ℕ). (made seed n).parent) (sym given_is);
-      told = subst (λ (n : ℕ). Told first now (frames_of n seed)) (sym given_is)
-          (subst (Told first now) (sym (ap (map frame) grows ∙ map_push frame (generated gen.given seed) block)) (told_more first before now at (frames_of gen.given seed) (frame block) is.told here));
-      later = omega (arith, is.later, later);
-    }
+module _ {D : Type 0} (now : D → ℕ) (disk : D → ℕ → Option DiskState) (told : D → Option (List Tell)) where
+  -- none were told yet
+  pub begins : (first : D) (seed count : ℕ) (gen : Progress) (parent : Digest) → gen ≡ progress seed count 0 → made seed 0 ≡ none_made seed → parent ≡ no_parent → IsGenerating now disk told first first seed count gen parent
+  begins first seed count gen parent start none is =
+      let given_is : gen.given ≡ 0 = ap (λ (p : Progress). p.given) start in
+      record {
+        is_progress = start ∙ ap (progress seed count) (sym given_is);
+        within = omega (arith, given_is);
+        is_parent = is ∙ sym (ap (λ (m : MadeSoFar). m.parent) none) ∙ ap (λ (n : ℕ). (made seed n).parent) (sym given_is);
+        stays = stays_here now disk first;
+        lines = λ next. subst (λ (n : ℕ). Telling next now disk told first first (map plain (frames_of n seed)) true) (sym given_is)
+            (subst (λ (pieces : List (List ℕ)). Telling next now disk told first first (map plain pieces) true) (sym (none_framed seed)) (none_to_tell next now disk told first first true refl));
+      }
 
--- a frame that was not told whole
-cut_told : (first before now : Option (List Tell)) (faults_first faults_before seed count at : ℕ) (gen more : Progress) (parent : Digest) (block : List ℕ)
-    → IsGenerating first before faults_first faults_before seed count gen parent → GivesNext seed count gen more block
-    → Tells {T = Unit {0}} at (frame block) before now (Err statuses.Untold) → ToldPrefix first now (frames_of count seed)
-cut_told first before now faults_first faults_before seed count at gen more parent block is gives cut =
-    let split = split_at seed (gen.given + 1) count (omega (arith, gives.room)) in
-    let whole : generated count seed ≡ generated gen.given seed ++ block ∷ split.0 =
-    split.1 ∙ ap (λ (blocks : List (List ℕ)). blocks ++ split.0) gives.goes_on.0 ∙ append_assoc (generated gen.given seed) (block ∷ []) split.0 in
-    let frames : frames_of count seed ≡ frames_of gen.given seed ++ frame block ∷ map frame split.0 = ap (map frame) whole ∙ map-append frame (generated gen.given seed) (block ∷ split.0) in
-    let size : length (frames_of gen.given seed) ≡ gen.given = length-map (generated gen.given seed) frame ∙ counted seed gen.given in
-    let here : get_or (frames_of count seed) gen.given [] ≡ frame block =
-    ap (λ (pieces : List (List ℕ)). get_or pieces gen.given []) frames
-    ∙ ap (λ (n : ℕ). get_or (frames_of gen.given seed ++ frame block ∷ map frame split.0) n []) (sym size)
-    ∙ get_or-append_seam (frames_of gen.given seed) (frame block) (map frame split.0) [] in
-    let long : length (frames_of count seed) ≡ count = length-map (generated count seed) frame ∙ counted seed count in
-    told_less (Unit {0}) first before now at (frames_of count seed) gen.given statuses.Untold (omega (arith, long, gives.room)) (subst (Told first before) (sym (first_frames seed gen.given count is.within)) is.told)
-    (subst (λ (bytes : List ℕ). Tells {T = Unit {0}} at bytes before now (Err statuses.Untold)) (sym here) cut)
+  gives_next : (first machine : D) (seed count : ℕ) (gen more : Progress) (parent : Digest) (block : List ℕ) → IsGenerating now disk told first machine seed count gen parent
+      → Some (block, more) ≡ next_block gen parent → ((s : ℕ) → gen ≡ progress s gen.count gen.given → parent ≡ (made s gen.given).parent → GoesOn s gen (Some (block, more))) → GivesNext seed count gen more block
+  gives_next first machine seed count gen more parent block is found goes_on =
+      let count_is : gen.count ≡ count = ap (λ (p : Progress). p.count) is.is_progress in
+      let some : eqb gen.given gen.count ≡ false = not_all (eqb gen.given gen.count) (block, more) gen (Some (given_block gen (block_drawn gen.given parent gen.state))) refl found in
+      record {
+        room = grind (arith, nat_tests, some, count_is, is.within);
+        count_is = count_is;
+        goes_on = goes_on seed (is.is_progress ∙ ap (λ (n : ℕ). progress seed n gen.given) (sym count_is)) is.is_parent;
+      }
 
-by_status : (status : Status) (first before now : Option (List Tell)) (faults_first faults_before seed count at : ℕ) (gen more : Progress) (parent : Digest) (block : List ℕ)
-    → IsGenerating first before faults_first faults_before seed count gen parent → GivesNext seed count gen more block
-    → TellsFrame at (frame block) before now (Err status) → IsAnsweredInPart status first now statuses.Done (frames_of count seed)
-by_status statuses.Done first before now faults_first faults_before seed count at gen more parent block is gives cut = absurd cut
-by_status statuses.Usage first before now faults_first faults_before seed count at gen more parent block is gives cut = absurd cut
-by_status statuses.Unreadable first before now faults_first faults_before seed count at gen more parent block is gives cut = absurd cut
-by_status statuses.Untold first before now faults_first faults_before seed count at gen more parent block is gives cut = cut_told first before now faults_first faults_before seed count at gen more parent block is gives cut
-by_status statuses.Memory first before now faults_first faults_before seed count at gen more parent block is gives cut =
-    subst (λ (told : Option (List Tell)). ToldPrefix first told (frames_of count seed)) (sym cut) (prefix_told first before faults_first faults_before seed count gen parent is)
-by_status statuses.Refused first before now faults_first faults_before seed count at gen more parent block is gives cut = absurd cut
-by_status statuses.Beyond first before now faults_first faults_before seed count at gen more parent block is gives cut = absurd cut
-by_status statuses.BadInput first before now faults_first faults_before seed count at gen more parent block is gives cut = absurd cut
+  -- some were told, and no more
+  pub prefix_told : (first machine : D) (seed count : ℕ) (gen : Progress) (parent : Digest) → IsGenerating now disk told first machine seed count gen parent
+      → (next : NextBlock) → Telling next now disk told first machine (map plain (frames_of count seed)) false
+  prefix_told first machine seed count gen parent is next =
+      let split = frames_split seed gen.given count is.within in
+      subst (λ (pieces : List (List ℕ)). Telling next now disk told first machine (map plain pieces) false) (sym split.1) (plain_cut now disk told next first machine (frames_of gen.given seed) split.0 true (is.lines next))
 
--- a frame that could not be told
-pub last_told : (status : Status) (first before now : Option (List Tell)) (faults_first faults_before seed count at : ℕ) (gen more : Progress) (parent : Digest) (block piece : List ℕ)
-    → IsGenerating first before faults_first faults_before seed count gen parent → Some (block, more) ≡ next_block gen parent
-    → ((s : ℕ) → gen ≡ progress s gen.count gen.given → parent ≡ (made s gen.given).parent → GoesOn s gen (Some (block, more)))
-    → piece ≡ block → TellsFrame at (frame piece) before now (Err status) → IsAnsweredInPart status first now statuses.Done (frames_of count seed)
-last_told status first before now faults_first faults_before seed count at gen more parent block piece is found on piece_is cut =
-    by_status status first before now faults_first faults_before seed count at gen more parent block is (gives_next first before faults_first faults_before seed count gen more parent block is found on)
-    (subst (λ (bytes : List ℕ). TellsFrame at (frame bytes) before now (Err status)) piece_is cut)
+  -- one more block
+  pub next_told : (first before after : D) (seed count : ℕ) (gen more : Progress) (parent digest : Digest) (block piece hashed : List ℕ)
+      → IsGenerating now disk told first before seed count gen parent → Some (block, more) ≡ next_block gen parent
+      → ((s : ℕ) → gen ≡ progress s gen.count gen.given → parent ≡ (made s gen.given).parent → GoesOn s gen (Some (block, more)))
+      → piece ≡ block → hashed ≡ block → digest ≡ bytes_digest hashed → Stays now disk before after → ((next : NextBlock) → Telling next now disk told before after (plain (frame piece) ∷ []) true)
+      → IsGenerating now disk told first after seed count more digest
+  next_told first before after seed count gen more parent digest block piece hashed is found on piece_is hashed_is digest_is stays tells =
+      let gives = gives_next first before seed count gen more parent block is found on in
+      let more_is : more ≡ progress seed gen.count (gen.given + 1) = gives.goes_on.2 in
+      let given_is : more.given ≡ gen.given + 1 = ap (λ (p : Progress). p.given) more_is in
+      let grows : frames_of (gen.given + 1) seed ≡ frames_of gen.given seed ++ frame block ∷ [] = ap (map frame) gives.goes_on.0 ∙ map_push frame (generated gen.given seed) block in
+      record {
+        is_progress = more_is ∙ ap (λ (n : ℕ). progress seed n (gen.given + 1)) gives.count_is ∙ ap (progress seed count) (sym given_is);
+        within = omega (arith, given_is, gives.room);
+        is_parent = digest_is ∙ ap bytes_digest hashed_is ∙ gives.goes_on.1 ∙ ap (λ (n : ℕ). (made seed n).parent) (sym given_is);
+        stays = stays_on now disk first before after is.stays stays;
+        lines = λ next. subst (λ (n : ℕ). Telling next now disk told first after (map plain (frames_of n seed)) true) (sym given_is)
+            (subst (λ (pieces : List (List ℕ)). Telling next now disk told first after (map plain pieces) true) (sym grows)
+            (plain_more now disk told next first before after (frames_of gen.given seed) (frame block) true (is.lines next) stays (subst (λ (bytes : List ℕ). Telling next now disk told before after (plain (frame bytes) ∷ []) true) piece_is (tells next))));
+      }
+
+  -- a frame that was not told whole
+  pub last_told : (first before after : D) (seed count : ℕ) (gen more : Progress) (parent : Digest) (block piece : List ℕ)
+      → IsGenerating now disk told first before seed count gen parent → Some (block, more) ≡ next_block gen parent
+      → ((s : ℕ) → gen ≡ progress s gen.count gen.given → parent ≡ (made s gen.given).parent → GoesOn s gen (Some (block, more)))
+      → piece ≡ block → Stays now disk before after → ((next : NextBlock) → Telling next now disk told before after (plain (frame piece) ∷ []) false)
+      → (next : NextBlock) → Telling next now disk told first after (map plain (frames_of count seed)) false
+  last_told first before after seed count gen more parent block piece is found on piece_is stays tells next =
+      let gives = gives_next first before seed count gen more parent block is found on in
+      let grows : frames_of (gen.given + 1) seed ≡ frames_of gen.given seed ++ frame block ∷ [] = ap (map frame) gives.goes_on.0 ∙ map_push frame (generated gen.given seed) block in
+      let split = frames_split seed (gen.given + 1) count (omega (arith, gives.room)) in
+      subst (λ (pieces : List (List ℕ)). Telling next now disk told first after (map plain pieces) false) (sym (split.1 ∙ ap (λ (pieces : List (List ℕ)). pieces ++ split.0) grows))
+      (plain_cut now disk told next first after (frames_of gen.given seed ++ frame block ∷ []) split.0 false
+      (plain_more now disk told next first before after (frames_of gen.given seed) (frame block) false (is.lines next) stays (subst (λ (bytes : List ℕ). Telling next now disk told before after (plain (frame bytes) ∷ []) false) piece_is (tells next))))

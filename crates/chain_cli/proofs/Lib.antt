@@ -1,7 +1,6 @@
-pub mod Told
 pub mod Fmts
 pub mod Packs
 pub mod Generated
 pub mod OneOutput
-pub mod Outputs
 pub mod Formatted
+pub mod Runs

@@ -1,11 +1,15 @@
--- Of an input of bytes, a command wants one output.
-use Rattle.std.proofs.Common.{◌≡◌, ℕ, zero, suc, ◌+◌, ◌-◌, ◌<◌, ◌≤◌, Bool, true, false, cond, eqb, ltb, List, [], ◌∷◌, ◌++◌, length, take, drop, Option, Some, None, Result, Ok, Err, refl, ap, ◌∙◌, ◌⊎◌, inl, inr, subst, arith}
+-- Of an input of bytes and a disk of bytes, a command wants one output.
+use Rattle.std.proofs.Common.{◌≡◌, ℕ, zero, suc, ◌+◌, ◌-◌, ◌<◌, ◌≤◌, Bool, true, false, cond, eqb, ltb, leb, ◌&&◌, List, [], ◌∷◌, ◌++◌, length, take, drop, Option, Some, None, Result, Ok, Err, refl, sym, ap, ◌∙◌, ◌⊎◌, inl, inr, subst, arith}
 use Rattle.std.specs.Int.{w32, from_be_bytes}
 use Rattle.std.proofs.lemmas.Bool.{cases_lt}
-use Rattle.lc_base.specs.declared.answer.Query.{Query}
 use Rattle.byte_fields.specs.Spelling.{IsBytes}
 use Rattle.byte_fields.proofs.Pieces.{IsBytes-drop, IsBytes-take}
-use Rattle.block_codec.specs.declared.limits.TheConstants.{MAX_FRAMES}
+use Rattle.block_codec.specs.declared.limits.TheConstants.{MAX_FRAMES, MAX_BLOCK_BYTES, MAX_BLOCKS}
+use Rattle.block_codec.specs.Placement.{digest_of}
+use Rattle.block_log.specs.declared.layout.TheConstants.{OPEN_GATE, FIRST_GATE}
+use Rattle.block_log.specs.declared.layout.Stored.{Stored}
+use Rattle.block_log.specs.Standing.{Standing, Blank, NotALog, Damaged, Holds, Placer, next_decoded, next_block, blocks_in, after_record, record_at, records_at, is_log, is_blank, standing}
+use Rattle.chain_state.specs.Chain.{placement_in}
 use Rattle.block_codec.specs.declared.block.Block.{Block}
 use Rattle.block_codec.specs.Frames.{FrameStep, End, Truncated, Length, Many, Frame, frame_of, sized_frame, frame_step}
 use Rattle.block_codec.specs.Reading.{block_in}
@@ -20,9 +24,9 @@ use Rattle.chain_exec.proofs.TheLaws.{one_compiler}
 use Rattle.chain_state.specs.Judging.{Taken, judged, added_by}
 use Rattle.chain_state.specs.declared.refusal.Refusal.{Refusal}
 use Rattle.scan_chain.specs.Folding.{Fold, taken_before, fold_after_frame, fold_step, fold_from, fold_input}
-use Rattle.chain_cli.specs.Output.{Output, output_of, scan_output, usage_output, long_output, pack_output, gen_output, source_outcome, IsFmt, Long, Source, Wants, IsOneOutput}
+use Rattle.chain_output.specs.Output.{Output, output_of, scan_output, usage_output, long_output, pack_output, gen_output, append_output, ask_output, on_log, next_by, source_outcome, IsFmt, Long, Source, Wants, IsWanted, IsOneOutput}
 use Rattle.chain_words.specs.declared.words.Command.{Command}
-use Rattle.chain_words.specs.declared.words.Command.TheVariants.{Scan, Fmt, Pack, Gen}
+use Rattle.chain_words.specs.declared.words.Command.TheVariants.{Scan, Fmt, Pack, Gen, Append, Ask}
 
 -- ---- the bytes of a frame
 
@@ -91,6 +95,41 @@ module _ (compile : Compiler) (a b : Decoder) (is_a : IsDecoder a) (is_b : IsDec
   fold_same (suc more) blocks input fits =
       step_same (fold_from a compile more) (fold_from b compile more) (fold_same more) (MAX_FRAMES - more) blocks input fits (frame_step (MAX_FRAMES - more) input) refl
 
+-- ---- the records of a log, by two decoders that are right
+
+after_same : (f g : ℕ → List Stored → List ℕ → Standing) → ((gate : ℕ) (stored : List Stored) (bytes : List ℕ) → IsBytes bytes → f gate stored bytes ≡ g gate stored bytes)
+    → (gate size : ℕ) (stored : List Stored) (rest : List ℕ) (block : Option Block) → IsBytes rest → after_record f gate size stored rest block ≡ after_record g gate size stored rest block
+after_same f g same gate size stored rest None fits = refl
+after_same f g same gate size stored rest (Some block) fits = same (gate + 5 + size) (stored ++ record { place = gate; digest = digest_of block; block = block } ∷ []) rest fits
+
+either : {A : Type 0} (b : Bool) (x y z : A) → x ≡ y → cond b x z ≡ cond b y z
+either true x y z same = same
+either false x y z same = refl
+
+module _ (place : Placer) (a b : Decoder) (is_a : IsDecoder a) (is_b : IsDecoder b) where
+  next_block_same : (blocks : List Block) (bytes : List ℕ) → IsBytes bytes → next_block a place blocks bytes ≡ next_block b place blocks bytes
+  next_block_same blocks bytes fits = ap (next_decoded place blocks) (decoders_agree a b is_a is_b bytes fits)
+
+  record_same : (f g : ℕ → List Stored → List ℕ → Standing) → ((gate : ℕ) (stored : List Stored) (bytes : List ℕ) → IsBytes bytes → f gate stored bytes ≡ g gate stored bytes)
+      → (gate size : ℕ) (stored : List Stored) (bytes : List ℕ) → IsBytes bytes → record_at (next_block a place) f gate size stored bytes ≡ record_at (next_block b place) g gate size stored bytes
+  record_same f g same gate size stored bytes fits =
+      either (leb 1 size && leb size MAX_BLOCK_BYTES && ltb size (length bytes)) _ _ (Damaged stored gate)
+      (ap (after_record f gate size stored (drop size bytes)) (next_block_same (blocks_in stored) (take size bytes) (IsBytes-take size bytes fits))
+      ∙ after_same f g same gate size stored (drop size bytes) (next_block b place (blocks_in stored) (take size bytes)) (IsBytes-drop size bytes fits))
+
+  records_same : (count gate : ℕ) (stored : List Stored) (bytes : List ℕ) → IsBytes bytes → records_at (next_block a place) count gate stored bytes ≡ records_at (next_block b place) count gate stored bytes
+  unfolding records_at
+  records_same zero gate stored bytes fits = refl
+  records_same (suc count) gate stored [] fits = refl
+  records_same (suc count) gate stored (byte ∷ bytes) fits =
+      let rest : IsBytes bytes = IsBytes-drop 1 (byte ∷ bytes) fits in
+      either (eqb byte OPEN_GATE) _ _ (Holds stored gate)
+      (record_same (records_at (next_block a place) count) (records_at (next_block b place) count) (records_same count) gate (from_be_bytes w32 (take 4 bytes)) stored (drop 4 bytes) (IsBytes-drop 4 bytes rest))
+
+  standing_same : (image : List ℕ) → IsBytes image → standing (next_block a place) image ≡ standing (next_block b place) image
+  unfolding standing
+  standing_same image fits = either (is_log image) _ _ (cond (is_blank image) Blank NotALog) (records_same (MAX_BLOCKS + 1) FIRST_GATE [] (drop FIRST_GATE image) (IsBytes-drop FIRST_GATE image fits))
+
 -- ---- an output that is wanted
 
 some_fmt : (input : List ℕ) → (output : Output) × IsFmt input output
@@ -101,30 +140,22 @@ some_fmt input =
     ]
 
 -- a command, or that the words are none, wants an output
-pub some_output : (command : Option Command) (input : List ℕ) → (output : Output) × Wants command input output
-some_output None input = (usage_output input, refl)
-some_output (Some (Scan query)) input = (scan_output compiled_in query (fold_input block_in compiled_in input), (block_in, decided, compiled_in, one_compiler.is_compiler, refl))
-some_output (Some Fmt) input = some_fmt input
-some_output (Some Pack) input = (pack_output input, refl)
-some_output (Some (Gen generation)) input = (gen_output generation input, refl)
+pub some_output : (command : Option Command) (input content : List ℕ) → (output : Output) × Wants block_in compiled_in command input content output
+some_output None input content = (usage_output input, refl)
+some_output (Some (Scan query)) input content = (scan_output compiled_in query (fold_input block_in compiled_in input), refl)
+some_output (Some Fmt) input content = some_fmt input
+some_output (Some Pack) input content = (pack_output input, refl)
+some_output (Some (Gen generation)) input content = (gen_output generation input, refl)
+some_output (Some Append) input content = (on_log (λ blocks. append_output compiled_in blocks (fold_from block_in compiled_in (MAX_FRAMES + 1) blocks input)) input (standing (next_by block_in compiled_in) content), refl)
+some_output (Some (Ask kind key at)) input content = (on_log (ask_output compiled_in kind key at input) input (standing (next_by block_in compiled_in) content), refl)
 
 -- ---- and no other
 
-one_scan : (query : Query) (input : List ℕ) → IsBytes input → IsOneOutput (Wants (Some (Scan query)) input)
-one_scan query input fits = record {
-  output = scan_output compiled_in query (fold_input block_in compiled_in input);
-  wanted = (block_in, decided, compiled_in, one_compiler.is_compiler, refl);
-  only = λ other is.
-      let read : Decoder = is.0 in
-      let compile : Compiler = is.2 in
-      is.4 ∙ ap (scan_output compile query) (fold_same compile read block_in is.1 decided (MAX_FRAMES + 1) [] input fits)
-      ∙ ap (λ (c : Compiler). scan_output c query (fold_input block_in c input)) (one_compiler.only compile is.3);
-}
-
-one_usage : (input : List ℕ) → IsOneOutput (Wants None input)
-one_usage input = record { output = usage_output input; wanted = refl; only = λ other is. is }
-
--- ---- the canonical text of a contract
+on_log_same : (over other : List Block → Output) (input : List ℕ) → ((blocks : List Block) → over blocks ≡ other blocks) → (stands : Standing) → on_log over input stands ≡ on_log other input stands
+on_log_same over other input same Blank = same []
+on_log_same over other input same NotALog = refl
+on_log_same over other input same (Damaged before at) = refl
+on_log_same over other input same (Holds stored gate) = same (blocks_in stored)
 
 only_long : (input : List ℕ) → MAX_WHOLE_INPUT_BYTES < length input → (other : Output) → IsFmt input other → other ≡ long_output input
 only_long input long _ (Long _) = refl
@@ -134,18 +165,38 @@ only_source : (input : List ℕ) (outcome : SourceOutcome) → length input ≤ 
 only_source input outcome fits is _ (Long long) = absurd (omega (arith, long, fits))
 only_source input outcome fits is _ (Source _ found i) = ap (λ (o : SourceOutcome). output_of (source_outcome o) []) (one_outcome input found outcome i is)
 
-one_fmt : (input : List ℕ) → IsOneOutput (Wants (Some Fmt) input)
-one_fmt input =
+only_fmt : (input : List ℕ) (other : Output) → IsFmt input other → other ≡ (some_fmt input).0
+only_fmt input other is =
     elim (cases_lt MAX_WHOLE_INPUT_BYTES (length input)) [
-      | inl long ↦ record { output = long_output input; wanted = Long long; only = only_long input long }
+      | inl long ↦ only_long input long other is ∙ sym (only_long input long (some_fmt input).0 (some_fmt input).1)
       | inr fits ↦
           let found = some_outcome input in
-          record { output = output_of (source_outcome found.0) []; wanted = Source fits found.0 found.1; only = only_source input found.0 fits found.1 }
+          only_source input found.0 fits found.1 other is ∙ sym (only_source input found.0 fits found.1 (some_fmt input).0 (some_fmt input).1)
     ]
 
-pub one_output : (command : Option Command) (input : List ℕ) → IsBytes input → IsOneOutput (Wants command input)
-one_output None input fits = one_usage input
-one_output (Some (Scan query)) input fits = one_scan query input fits
-one_output (Some Fmt) input fits = one_fmt input
-one_output (Some Pack) input fits = record { output = pack_output input; wanted = refl; only = λ other is. is }
-one_output (Some (Gen generation)) input fits = record { output = gen_output generation input; wanted = refl; only = λ other is. is }
+-- by whatever decoder that is right, what is wanted of bytes is one
+same_output : (read : Decoder) (compile : Compiler) → IsDecoder read → compile ≡ compiled_in → (command : Option Command) (input content : List ℕ) → IsBytes input → IsBytes content
+    → (other : Output) → Wants read compile command input content other → other ≡ (some_output command input content).0
+unfolding some_output
+same_output read compile is_read compile_is None input content fits whole other is = is
+same_output read compile is_read compile_is (Some (Scan query)) input content fits whole other is =
+    is ∙ ap (λ (c : Compiler). scan_output c query (fold_input read c input)) compile_is
+    ∙ ap (scan_output compiled_in query) (fold_same compiled_in read block_in is_read decided (MAX_FRAMES + 1) [] input fits)
+same_output read compile is_read compile_is (Some Fmt) input content fits whole other is = only_fmt input other is
+same_output read compile is_read compile_is (Some Pack) input content fits whole other is = is
+same_output read compile is_read compile_is (Some (Gen generation)) input content fits whole other is = is
+same_output read compile is_read compile_is (Some Append) input content fits whole other is =
+    is ∙ ap (λ (c : Compiler). on_log (λ blocks. append_output c blocks (fold_from read c (MAX_FRAMES + 1) blocks input)) input (standing (next_by read c) content)) compile_is
+    ∙ ap (on_log (λ blocks. append_output compiled_in blocks (fold_from read compiled_in (MAX_FRAMES + 1) blocks input)) input) (standing_same (placement_in compiled_in) read block_in is_read decided content whole)
+    ∙ on_log_same (λ blocks. append_output compiled_in blocks (fold_from read compiled_in (MAX_FRAMES + 1) blocks input)) (λ blocks. append_output compiled_in blocks (fold_from block_in compiled_in (MAX_FRAMES + 1) blocks input)) input
+    (λ blocks. ap (append_output compiled_in blocks) (fold_same compiled_in read block_in is_read decided (MAX_FRAMES + 1) blocks input fits)) (standing (next_by block_in compiled_in) content)
+same_output read compile is_read compile_is (Some (Ask kind key at)) input content fits whole other is =
+    is ∙ ap (λ (c : Compiler). on_log (ask_output c kind key at input) input (standing (next_by read c) content)) compile_is
+    ∙ ap (on_log (ask_output compiled_in kind key at input) input) (standing_same (placement_in compiled_in) read block_in is_read decided content whole)
+
+pub one_output : (command : Option Command) (input content : List ℕ) → IsBytes input → IsBytes content → IsOneOutput (IsWanted command input content)
+one_output command input content fits whole = record {
+  output = (some_output command input content).0;
+  wanted = (block_in, decided, compiled_in, one_compiler.is_compiler, (some_output command input content).1);
+  only = λ other is. same_output is.0 is.2 is.1 (one_compiler.only is.2 is.3) command input content fits whole other is.4;
+}

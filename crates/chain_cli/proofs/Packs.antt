@@ -8,9 +8,9 @@ use Rattle.chain_lines.specs.Outcome.{bad_input}
 use Rattle.chain_lines.specs.Whole.{IsWholeInput}
 use Rattle.chain_lines.specs.declared.whole.TheConstants.{MAX_WHOLE_INPUT_BYTES}
 use Rattle.chain_lines.specs.declared.outcome.Outcome.{Outcome}
-use Rattle.chain_cli.specs.Blocks.{draft_cause, draft_outcome, TellsFault}
-use Rattle.chain_cli.specs.Output.{Output, output_of, long_output, pack_output}
-use Rattle.chain_cli.specs.Scanning.{GivesOutput}
+use Rattle.chain_output.specs.Blocks.{draft_cause, draft_outcome, TellsFault}
+use Rattle.chain_output.specs.Output.{Output, output_of, long_output, pack_output}
+use Rattle.chain_output.specs.Scanning.{GivesOutput}
 
 by_length : (long : Bool) (input : List ℕ) → ltb MAX_WHOLE_INPUT_BYTES (length input) ≡ long → pack_output input ≡ cond long (long_output input) (output_of (draft_outcome (packed input)) [])
 by_length long input is = ap (λ (b : Bool). cond b (long_output input) (output_of (draft_outcome (packed input)) [])) is

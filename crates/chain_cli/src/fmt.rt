@@ -7,9 +7,9 @@ ghost use Rattle.contract_check.specs.Faults.{check_fault};
 ghost use Rattle.chain_lines.specs.declared.whole.TheConstants.{MAX_WHOLE_INPUT_BYTES};
 ghost use Rattle.chain_lines.specs.Lines.{syntax_word, syntax_cause, check_word, check_cause};
 ghost use Rattle.chain_lines.specs.Outcome.{bad_input};
-ghost use Rattle.chain_cli.specs.Output.{fmt_outcome, IsFmt, output_of};
-ghost use Rattle.chain_cli.specs.Scanning.{IsFmtOutcome};
-ghost use Rattle.chain_cli.specs.Texts.{last_line, lines_after, lines_of};
+ghost use Rattle.chain_output.specs.Output.{fmt_outcome, IsFmt, output_of};
+ghost use Rattle.chain_output.specs.Scanning.{IsFmtOutcome};
+ghost use Rattle.chain_output.specs.Texts.{last_line, lines_after, lines_of};
 
 use chain_lines::{Ending, Outcome, read_whole};
 use contract_check::{CheckError, CheckKind, check};

@@ -1,51 +1,65 @@
 //! The command `gen`: blocks that are drawn from a seed.
 
-ghost use Rattle.std.specs.Prelude.{◌≡◌, map, IsErrOf};
-ghost use Rattle.lc_base.specs.Faults.{HasCause, Rose};
+ghost use Rattle.std.specs.Prelude.{◌≡◌, [], ◌∷◌, map, is_ok, IfOk, IsErrOf};
+ghost use Rattle.lc_base.specs.Faults.{HasCause};
+ghost use Rattle.lc_outside.specs.Disk.{Stays};
+ghost use Rattle.block_log.specs.Standing.{NextBlock};
 ghost use Rattle.chain_gen.specs.Generator.{generated};
-ghost use Rattle.chain_cli.specs.Blocks.{frame};
-ghost use Rattle.chain_cli.specs.Telling.{IsAnsweredInPart, TellsFrame};
+ghost use Rattle.chain_promises.specs.Promises.{plain, Telling};
+ghost use Rattle.chain_output.specs.Blocks.{frame};
 
 use crate::packing::frame;
 use block_codec::{NO_PARENT, block_digest};
 use chain_gen::Gen;
-use chain_lines::Status;
+use chain_lines::Ending;
+use chain_output::RunStop;
 use chain_words::Generation;
 use lc_base::Memory;
 use lc_outside::{Failed, Wire};
 use std::alloc::Global;
 
 /// Tells the frame of a block.
-fn tell_frame<M: Wire>(alloc: Global, machine: &mut M, block: &[u8]) -> Result<(), Status>
-    ensures told { TellsFrame (M.now machine.old) (frame block.now) (M.told machine.old) (M.told machine.new) result }
-    ensures cause { HasCause (M.wire_faults machine.old) (M.wire_faults machine.new) (IsErrOf result Status.Untold) }
+fn tell_frame<M: Wire>(alloc: Global, machine: &mut M, block: &[u8]) -> Result<(), RunStop>
+    ensures lines { (next : NextBlock) → Telling next M.now M.disk M.told machine.old machine.new (plain (frame block.now) ∷ []) (is_ok result) }
+    ensures reads { IsErrOf result RunStop.Unreadable → ⊥ }
+    ensures writes { IsErrOf result RunStop.DiskFault → ⊥ }
+    ensures disk { Stays M.now M.disk machine.old machine.new }
+    ensures disk_faults { M.disk_faults machine.new ≡ M.disk_faults machine.old }
+    ensures cause { HasCause (M.wire_faults machine.old) (M.wire_faults machine.new) (IsErrOf result RunStop.Untold) }
 {
-    let Ok(frame) = frame(alloc, block) else {
-        return Err(Status::Memory);
-    };
-    match machine.tell(frame.as_bytes()) {
-        Ok(()) => Ok(()),
-        Err(Failed) => Err(Status::Untold),
+    match frame(alloc, block) {
+        Ok(frame) => match machine.tell(frame.as_bytes()) {
+            Ok(()) => Ok(()),
+            Err(Failed) => Err(RunStop::Untold),
+        },
+        Err(Memory) => Err(RunStop::Memory),
     }
 }
 
 /// Tells the frame of each block, one after another, as it is made.
-pub fn generate<M: Wire>(alloc: Global, machine: &mut M, generation: &Generation) -> Status
-    ensures told { IsAnsweredInPart result (M.told machine.old) (M.told machine.new) Status.Done (map frame (generated generation.now.blocks generation.now.seed)) }
-    ensures no_usage { result ≡ Status.Usage → ⊥ }
-    ensures no_source { result ≡ Status.Unreadable → ⊥ }
-    ensures untold { result ≡ Status.Untold → Rose (M.wire_faults machine.old) (M.wire_faults machine.new) }
+pub fn generate<M: Wire>(
+    alloc: Global,
+    machine: &mut M,
+    generation: &Generation,
+) -> Result<Ending, RunStop>
+    ensures lines { (next : NextBlock) → Telling next M.now M.disk M.told machine.old machine.new (map plain (map frame (generated generation.now.blocks generation.now.seed))) (is_ok result) }
+    ensures ending { IfOk result (λ ending. ending ≡ Ending.Done) }
+    ensures reads { IsErrOf result RunStop.Unreadable → ⊥ }
+    ensures writes { IsErrOf result RunStop.DiskFault → ⊥ }
+    ensures disk { Stays M.now M.disk machine.old machine.new }
+    ensures disk_faults { M.disk_faults machine.new ≡ M.disk_faults machine.old }
+    ensures cause { HasCause (M.wire_faults machine.old) (M.wire_faults machine.new) (IsErrOf result RunStop.Untold) }
 {
     let mut generator = Gen::new(generation.blocks, generation.seed);
     let mut parent = NO_PARENT;
     'turns: loop {
         match generator.next(alloc, parent) {
-            Err(Memory) => return Status::Memory,
-            Ok(None) => return Status::Done,
+            Err(Memory) => return Err(RunStop::Memory),
+            Ok(None) => return Ok(Ending::Done),
             Ok(Some((block, more))) => {
                 match tell_frame(alloc, machine, block.as_bytes()) {
                     Ok(()) => {}
-                    Err(status) => return status,
+                    Err(stop) => return Err(stop),
                 }
                 parent = block_digest(block.as_bytes());
                 generator = more;

@@ -3,7 +3,7 @@
 
 mod fmt;
 mod generating;
+mod over_log;
 mod packing;
 pub mod run;
 mod scan;
-mod telling;

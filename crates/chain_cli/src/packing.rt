@@ -3,9 +3,9 @@
 ghost use Rattle.std.specs.Prelude.{◌≡◌, map, IfOk, IfSome, IsErrOf};
 ghost use Rattle.lc_base.specs.Faults.{HasCause};
 ghost use Rattle.chain_pack.specs.Draft.{packed};
-ghost use Rattle.chain_cli.specs.Blocks.{frame, draft_outcome, TellsFault};
-ghost use Rattle.chain_cli.specs.Output.{pack_output};
-ghost use Rattle.chain_cli.specs.Scanning.{GivesOutput};
+ghost use Rattle.chain_output.specs.Blocks.{frame, draft_outcome, TellsFault};
+ghost use Rattle.chain_output.specs.Output.{pack_output};
+ghost use Rattle.chain_output.specs.Scanning.{GivesOutput};
 
 use byte_fields::put_u32;
 use chain_lines::{Ending, Outcome, read_whole};

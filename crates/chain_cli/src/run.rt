@@ -1,83 +1,137 @@
 //! The top call: everything that the program does.
 
-ghost use Rattle.std.specs.Prelude.{◌≡◌, ℕ, List, [], Option, None, IfSome, map, string_bytes, true, false};
-ghost use Rattle.lc_base.specs.Faults.{Rose};
+ghost use Rattle.std.specs.Prelude.{◌≡◌, ℕ, List, Option, Some, None, map, string_bytes, true, false, IsErrOf};
+ghost use Rattle.lc_base.specs.Faults.{HasCause, Rose};
+ghost use Rattle.lc_outside.specs.Disk.{Stays};
+ghost use Rattle.disk_model.specs.Disk.{IsSettled};
 ghost use Rattle.byte_fields.specs.Spelling.{IsBytes};
+ghost use Rattle.block_codec.specs.Reading.{block_in};
+ghost use Rattle.block_codec.specs.Spelling.{Decoder, IsDecoder};
+ghost use Rattle.chain_exec.specs.Compiled.{Compiler, IsCompiler, compiled_in};
 ghost use Rattle.chain_words.specs.declared.words.Command.{Command as Commands};
 ghost use Rattle.chain_words.specs.Words.{IsCommand, IsOneCommand};
-ghost use Rattle.chain_cli.specs.Output.{FormatsAgain, Wants, IsOneOutput, Meets, IsSilent, reads_input, tells_as_it_goes};
+ghost use Rattle.chain_output.specs.Output.{FormatsAgain, IsWanted, IsOneOutput, reads_input, uses_disk, changes_log, tells_as_it_goes};
+ghost use Rattle.chain_output.specs.Running.{IsRun, IsSilent};
+ghost use Rattle.chain_output.specs.Telling.{status_of_result};
 
 use crate::fmt::fmt;
 use crate::generating::generate;
+use crate::over_log::{append, ask};
 use crate::packing::pack;
 use crate::scan::scan;
-use crate::telling::{tell_result, tell_usage};
-use chain_lines::Status;
+use chain_lines::{Ending, Status};
+use chain_output::{RunStop, tell_result, tell_usage};
 use chain_words::{Command, command_of};
+use disk_model::Disk;
 use lc_outside::{Source, Wire};
 use std::alloc::Global;
 
+/// Does what a command is for.
+fn run_command<I: Source, M: Disk + Wire>(
+    alloc: Global,
+    command: &Command,
+    source: &mut I,
+    machine: &mut M,
+) -> Result<Ending, RunStop>
+    requires settled { IsSettled (M.disk machine.old (M.now machine.old)) }
+    ensures run { IsRun M.now M.disk M.told machine.old machine.new (status_of_result result) (I.left source.old) (I.left source.new) block_in compiled_in (Some command.now) }
+    ensures untouched { changes_log (Some command.now) ≡ false → Stays M.now M.disk machine.old machine.new }
+    ensures silent { tells_as_it_goes (Some command.now) ≡ false → IsSilent (status_of_result result) (M.told machine.old) (M.told machine.new) }
+    ensures unread { reads_input (Some command.now) ≡ false → source.new ≡ source.old }
+    ensures reads { IsErrOf result RunStop.Unreadable → reads_input (Some command.now) ≡ true }
+    ensures writes { IsErrOf result RunStop.DiskFault → uses_disk (Some command.now) ≡ true }
+    ensures unreadable { HasCause (I.source_faults source.old) (I.source_faults source.new) (IsErrOf result RunStop.Unreadable) }
+    ensures untold { HasCause (M.wire_faults machine.old) (M.wire_faults machine.new) (IsErrOf result RunStop.Untold) }
+    ensures disk_fault { HasCause (M.disk_faults machine.old) (M.disk_faults machine.new) (IsErrOf result RunStop.DiskFault) }
+{
+    match command {
+        Command::Scan(query) => tell_result(machine, scan(alloc, query, source)),
+        Command::Fmt => tell_result(machine, fmt(alloc, source)),
+        Command::Pack => tell_result(machine, pack(alloc, source)),
+        Command::Gen(generation) => generate(alloc, machine, generation),
+        Command::Append => append(alloc, source, machine),
+        Command::Ask { kind, key, at } => ask(alloc, *kind, *key, *at, machine),
+    }
+}
+
 /// What the program does on a command, or on words that are none.
-fn run_command<I: Source, M: Wire>(
+fn run_words<I: Source, M: Disk + Wire>(
     alloc: Global,
     command: Option<Command>,
     source: &mut I,
     machine: &mut M,
 ) -> Status
-    ensures output { IfSome (I.left source.old) (λ input. Meets result (M.told machine.old) (M.told machine.new) (I.left source.new) (Wants command input)) }
-    ensures unread { reads_input command ≡ false → (source.new ≡ source.old) × Meets result (M.told machine.old) (M.told machine.new) (Some []) (Wants command []) }
+    requires settled { IsSettled (M.disk machine.old (M.now machine.old)) }
+    ensures run { IsRun M.now M.disk M.told machine.old machine.new result (I.left source.old) (I.left source.new) block_in compiled_in command }
+    ensures untouched { changes_log command ≡ false → Stays M.now M.disk machine.old machine.new }
     ensures silent { tells_as_it_goes command ≡ false → IsSilent result (M.told machine.old) (M.told machine.new) }
+    ensures unread { reads_input command ≡ false → source.new ≡ source.old }
     ensures usage { result ≡ Status.Usage → command ≡ None }
     ensures unreadable { result ≡ Status.Unreadable → (reads_input command ≡ true) × Rose (I.source_faults source.old) (I.source_faults source.new) }
     ensures untold { result ≡ Status.Untold → Rose (M.wire_faults machine.old) (M.wire_faults machine.new) }
+    ensures disk_fault { result ≡ Status.DiskFault → (uses_disk command ≡ true) × Rose (M.disk_faults machine.old) (M.disk_faults machine.new) }
 {
     match command {
-        None => tell_usage(alloc, machine),
-        Some(Command::Scan(query)) => tell_result(machine, scan(alloc, &query, source)),
-        Some(Command::Fmt) => tell_result(machine, fmt(alloc, source)),
-        Some(Command::Pack) => tell_result(machine, pack(alloc, source)),
-        Some(Command::Gen(generation)) => generate(alloc, machine, &generation),
+        None => match tell_usage(alloc, machine) {
+            Ok(()) => Status::Usage,
+            Err(stop) => stop.status(),
+        },
+        Some(command) => match run_command(alloc, &command, source, machine) {
+            Ok(ending) => ending.status(),
+            Err(stop) => stop.status(),
+        },
     }
 }
 
-/// Everything that the program does: it reads the words and the input, and tells the lines.
-#[tactic(auto, using(crate::proofs::OneOutput::one_output, crate::proofs::Formatted::formats_again))]
-pub fn run<I: Source, M: Wire>(
+/// Everything that the program does: it reads the words, the input and the disk, tells the lines, and
+/// appends to the log.
+#[tactic(auto, using(crate::proofs::OneOutput::one_output, crate::proofs::Formatted::formats_again, block_codec::proofs::WholeBlocks::decided, chain_exec::proofs::TheLaws::one_compiler))]
+pub fn run<I: Source, M: Disk + Wire>(
     alloc: Global,
     words: &[String],
     source: &mut I,
     machine: &mut M,
 ) -> Status
+    // Where the machine tells its disk, nothing is pending.
+    requires settled { IsSettled (M.disk machine.old (M.now machine.old)) }
     // The words are one command, or none.
     ensures command { (command : Option Commands) × IsOneCommand (map string_bytes words.now) command }
-    // What is told, the status and what is left of the input are those that the words and the input
-    // want.
-    ensures output { (command : Option Commands) → IsCommand (map string_bytes words.now) command
-        → IfSome (I.left source.old) (λ input. Meets result (M.told machine.old) (M.told machine.new)
-        (I.left source.new) (Wants command input)) }
-    // A command and an input of bytes want one output.
-    ensures one { (command : Option Commands) (input : List ℕ) → IsBytes input
-        → IsOneOutput (Wants command input) }
+    // What is told, the status, what is left of the input, and what a crash at any moment may leave of
+    // the log, are those that the words, the input and the content of the disk want.
+    ensures output { (read : Decoder) × IsDecoder read × ((compile : Compiler) × IsCompiler compile
+        × ((command : Option Commands) → IsCommand (map string_bytes words.now) command
+        → IsRun M.now M.disk M.told machine.old machine.new result (I.left source.old) (I.left source.new) read compile command)) }
+    // A command, an input of bytes and a disk of bytes want one output.
+    ensures one { (command : Option Commands) (input content : List ℕ) → IsBytes input → IsBytes content
+        → IsOneOutput (IsWanted command input content) }
     // The canonical text that `fmt` tells, it tells again of that text.
     ensures formats_again { (input : List ℕ) → FormatsAgain input }
-    // Whatever the source has left: a command that reads no input leaves it, and does what it does
-    // on an empty one;
+    // Whatever the source has left and the disk holds: a command that does not change the log leaves
+    // the disk as it is;
+    ensures untouched { (command : Option Commands) → IsCommand (map string_bytes words.now) command
+        → changes_log command ≡ false → Stays M.now M.disk machine.old machine.new }
+    // one that reads no input leaves the source as it is;
     ensures unread { (command : Option Commands) → IsCommand (map string_bytes words.now) command
-        → reads_input command ≡ false → (source.new ≡ source.old)
-        × Meets result (M.told machine.old) (M.told machine.new) (Some []) (Wants command []) }
-    // one that runs out of memory told nothing, unless it tells pieces while it makes others;
+        → reads_input command ≡ false → source.new ≡ source.old }
+    // one that could not read, or that runs out of memory, told nothing, unless it tells lines while it
+    // makes others;
     ensures silent { (command : Option Commands) → IsCommand (map string_bytes words.now) command
         → tells_as_it_goes command ≡ false → IsSilent result (M.told machine.old) (M.told machine.new) }
     // `usage` comes only where the words are no command;
     ensures usage { result ≡ Status.Usage → IsCommand (map string_bytes words.now) None }
-    // and a source or a wire is blamed only where it failed, a source in a command that reads it.
+    // and a source, a wire or a disk is blamed only where it failed, a source in a command that reads
+    // it, and a disk in one that uses it.
     ensures unreadable { result ≡ Status.Unreadable
         → Rose (I.source_faults source.old) (I.source_faults source.new)
         × ((command : Option Commands) → IsCommand (map string_bytes words.now) command
         → reads_input command ≡ true) }
     ensures untold { result ≡ Status.Untold
         → Rose (M.wire_faults machine.old) (M.wire_faults machine.new) }
+    ensures disk_fault { result ≡ Status.DiskFault
+        → Rose (M.disk_faults machine.old) (M.disk_faults machine.new)
+        × ((command : Option Commands) → IsCommand (map string_bytes words.now) command
+        → uses_disk command ≡ true) }
 {
     let command = command_of(words);
-    run_command(alloc, command, source, machine)
+    run_words(alloc, command, source, machine)
 }

@@ -6,10 +6,10 @@ ghost use Rattle.block_codec.specs.Reading.{block_in};
 ghost use Rattle.block_codec.specs.declared.block.Block.{Block as Blocks};
 ghost use Rattle.chain_state.specs.Chain.{StandsFor};
 ghost use Rattle.chain_lines.specs.Outcome.{outcome_with};
-ghost use Rattle.chain_cli.specs.Output.{answer_outcome, scan_output};
+ghost use Rattle.chain_output.specs.Output.{answer_outcome, scan_output};
 ghost use Rattle.chain_exec.specs.Compiled.{compiled_in};
 ghost use Rattle.scan_chain.specs.Folding.{fold_input};
-ghost use Rattle.chain_cli.specs.Scanning.{GivesOutput};
+ghost use Rattle.chain_output.specs.Scanning.{GivesOutput};
 ghost use Rattle.chain_lines.specs.Lines.{refused_line};
 
 use chain_lines::{Ending, Outcome, answer_lines, empty_line, head_line, refused_line};

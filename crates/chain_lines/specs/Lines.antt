@@ -75,6 +75,18 @@ refused_line frame cause = line (codes "refused frame " ++ decimal frame ++ code
 abbrev pub bad_input_line : List ℕ → List ℕ
 bad_input_line cause = line (codes "badinput " ++ cause)
 
+-- ---- disks that hold no chain
+
+-- The disk holds something else than a log.
+abbrev pub not_a_log_line : List ℕ
+not_a_log_line = line (codes "not a log")
+
+-- The log is damaged: the gate at this offset has no record of the chain's next block.
+abbrev pub damaged_line : ℕ → List ℕ
+damaged_line at = line (codes "damaged at " ++ decimal at)
+
+-- ---- what is wrong with contracts
+
 -- What is wrong with a source.
 abbrev pub syntax_word : SyntaxKind → List ℕ
 syntax_word syntax.Byte = codes "byte"

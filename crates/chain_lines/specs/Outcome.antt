@@ -13,6 +13,8 @@ status_of endings.Done = statuses.Done
 status_of endings.Refused = statuses.Refused
 status_of endings.Beyond = statuses.Beyond
 status_of endings.BadInput = statuses.BadInput
+status_of endings.NotALog = statuses.NotALog
+status_of endings.Damaged = statuses.Damaged
 
 -- Some pieces, and an ending.
 abbrev pub outcome_with : List (List ℕ) → Ending → Outcome

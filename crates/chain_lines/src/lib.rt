@@ -7,7 +7,10 @@ mod outcome;
 mod status;
 mod whole;
 
-pub use lines::{answer_lines, bad_input_line, empty_line, head_line, refused_line, usage_line};
+pub use lines::{
+    answer_lines, bad_input_line, damaged_line, empty_line, head_line, not_a_log_line,
+    refused_line, usage_line,
+};
 pub use outcome::{Ending, Outcome};
 pub use status::Status;
 pub use whole::{MAX_WHOLE_INPUT_BYTES, read_whole};

@@ -2,7 +2,7 @@
 
 ghost use Rattle.std.specs.Prelude.{◌≡◌, [], ◌∷◌, ◌++◌, codes, decimal, map, string_bytes, IfOk};
 ghost use Rattle.std.specs.Fmt.{signed_decimal};
-ghost use Rattle.chain_lines.specs.Lines.{usage_line, empty_line, head_line, refusal_text, cause_text, refused_line, value_text, dep_line, answer_lines, bad_input_line, line};
+ghost use Rattle.chain_lines.specs.Lines.{usage_line, empty_line, head_line, refusal_text, cause_text, refused_line, value_text, dep_line, answer_lines, bad_input_line, not_a_log_line, damaged_line, line};
 ghost use Rattle.hex.specs.Hex.{encode_lower};
 
 use chain_state::Refusal;
@@ -96,6 +96,21 @@ pub fn bad_input_line(alloc: Global, cause: &str) -> Result<Bytes, Memory>
     ensures { IfOk result (λ bytes. bytes ≡ bad_input_line cause.now) }
 {
     let text = format!(in alloc; "badinput {cause}")?;
+    line(alloc, text.as_str())
+}
+
+/// The disk holds something else than a log.
+pub fn not_a_log_line(alloc: Global) -> Result<Bytes, Memory>
+    ensures { IfOk result (λ bytes. bytes ≡ not_a_log_line) }
+{
+    line(alloc, "not a log")
+}
+
+/// The log is damaged at this offset.
+pub fn damaged_line(alloc: Global, at: u64) -> Result<Bytes, Memory>
+    ensures { IfOk result (λ bytes. bytes ≡ damaged_line at) }
+{
+    let text = format!(in alloc; "damaged at {at}")?;
     line(alloc, text.as_str())
 }
 

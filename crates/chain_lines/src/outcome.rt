@@ -15,6 +15,8 @@ pub enum Ending {
     Refused,
     Beyond,
     BadInput,
+    NotALog,
+    Damaged,
 }
 
 /// What a command tells, and how it ends.
@@ -53,6 +55,8 @@ impl Ending {
             Ending::Refused => Status::Refused,
             Ending::Beyond => Status::Beyond,
             Ending::BadInput => Status::BadInput,
+            Ending::NotALog => Status::NotALog,
+            Ending::Damaged => Status::Damaged,
         }
     }
 }

@@ -14,8 +14,14 @@ pub enum Status {
     Unreadable,
     /// The wire failed.
     Untold,
+    /// A call of the disk failed.
+    DiskFault,
     /// Out of memory.
     Memory,
+    /// The disk holds something else than a log.
+    NotALog,
+    /// The log is damaged.
+    Damaged,
     /// A frame of the input is refused.
     Refused,
     /// A block past the head of the chain was asked for.
@@ -34,7 +40,10 @@ impl Status {
             Status::Usage => 1,
             Status::Unreadable => 2,
             Status::Untold => 3,
+            Status::DiskFault => 4,
             Status::Memory => 5,
+            Status::NotALog => 6,
+            Status::Damaged => 7,
             Status::Refused => 8,
             Status::Beyond => 9,
             Status::BadInput => 11,

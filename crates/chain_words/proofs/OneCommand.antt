@@ -1,14 +1,14 @@
 -- Words are one command, or none.
 use Rattle.std.proofs.Common.{◌≡◌, ℕ, ◌<◌, ◌^◌, List, [], ◌∷◌, Option, Some, None, refl, sym, ap, ◌∙◌, arith}
-use Rattle.std.specs.Prelude.{decimal}
+use Rattle.std.specs.Prelude.{decimal, codes}
 use Rattle.std.proofs.lemmas.Fmt.{decimal_injective}
 use Rattle.lc_base.specs.declared.answer.Kind.{Kind}
 use Rattle.lc_base.specs.declared.answer.Kind.TheVariants.{Hist, Back, Fwd}
 use Rattle.lc_base.specs.declared.answer.Query.{Query}
 use Rattle.chain_words.specs.declared.words.Generation.{Generation}
 use Rattle.chain_words.specs.declared.words.Command.{Command}
-use Rattle.chain_words.specs.declared.words.Command.TheVariants.{Scan, Fmt, Pack, Gen}
-use Rattle.chain_words.specs.Words.{kind_word, scan_words, gen_words, command_words, IsQuery, IsGeneration, CanBeGiven, IsCommand, IsOneCommand}
+use Rattle.chain_words.specs.declared.words.Command.TheVariants.{Scan, Fmt, Pack, Gen, Append, Ask}
+use Rattle.chain_words.specs.Words.{kind_word, scan_words, gen_words, ask_words, command_words, IsQuery, IsGeneration, Fits, CanBeGiven, IsCommand, IsOneCommand}
 
 one_number : (m n : ℕ) → m < 2 ^ 32 → n < 2 ^ 32 → decimal m ≡ decimal n → m ≡ n
 one_number m n small fits same = decimal_injective m n (omega (arith, small)) (omega (arith, fits)) same
@@ -47,23 +47,71 @@ one_generation a b is_a is_b same =
     let seed_is = one_number a.seed b.seed is_a.seed_fits is_b.seed_fits seeds in
     ap (λ (n : ℕ). record { blocks = n; seed = a.seed }) blocks_are ∙ ap (λ (n : ℕ). record { blocks = b.blocks; seed = n }) seed_is
 
+-- the words of no other command are those of a question over the log
+no_gen : (kind : Kind) (key : List ℕ) (at : Option ℕ) (generation : Generation) → ask_words kind key at ≡ gen_words generation → ⊥
+no_gen kind key None generation same = absurd cc
+no_gen Hist key (Some at) generation same = let words : codes "hist" ≡ codes "gen" = cc in let first : 104 ≡ 103 = ap first_byte words in absurd (omega (arith, first))
+no_gen Back key (Some at) generation same = let words : codes "back" ≡ codes "gen" = cc in let first : 98 ≡ 103 = ap first_byte words in absurd (omega (arith, first))
+no_gen Fwd key (Some at) generation same = let words : codes "fwd" ≡ codes "gen" = cc in let first : 102 ≡ 103 = ap first_byte words in absurd (omega (arith, first))
+
+no_scan : (kind : Kind) (key : List ℕ) (at : Option ℕ) (query : Query) → ask_words kind key at ≡ scan_words query → ⊥
+no_scan kind key None query same = absurd cc
+no_scan kind key (Some at) query same = absurd cc
+
+no_word : (kind : Kind) (key : List ℕ) (at : Option ℕ) (word : List ℕ) → ask_words kind key at ≡ word ∷ [] → ⊥
+no_word kind key None word same = absurd cc
+no_word kind key (Some at) word same = absurd cc
+
+one_at : (a b : Option ℕ) → Fits a → Fits b → (k l : Kind) (x y : List ℕ) → ask_words k x a ≡ ask_words l y b → (k ≡ l) × (x ≡ y) × (a ≡ b)
+one_at None None is_a is_b k l x y same = (one_kind k l cc, cc, refl)
+one_at None (Some n) is_a is_b k l x y same = absurd cc
+one_at (Some m) None is_a is_b k l x y same = absurd cc
+one_at (Some m) (Some n) is_a is_b k l x y same =
+    let numbers : decimal m ≡ decimal n = cc in
+    (one_kind k l cc, cc, ap Some (one_number m n is_a is_b numbers))
+
+one_ask : (k l : Kind) (x y : List ℕ) (a b : Option ℕ) → Fits a → Fits b → ask_words k x a ≡ ask_words l y b → Ask k x a ≡ Ask l y b
+one_ask k l x y a b is_a is_b same =
+    let all = one_at a b is_a is_b k l x y same in
+    ap (λ (kind : Kind). Ask kind x a) all.0 ∙ ap (λ (key : List ℕ). Ask l key a) all.1 ∙ ap (λ (at : Option ℕ). Ask l y at) all.2
+
 one_given : (a b : Command) → CanBeGiven a → CanBeGiven b → command_words a ≡ command_words b → a ≡ b
-one_given (Scan q) (Scan r) is_a is_b same = ap Scan (one_query q r is_a is_b same)
-one_given (Scan q) Fmt is_a is_b same = absurd cc
-one_given (Scan q) Pack is_a is_b same = absurd cc
-one_given (Scan q) (Gen g) is_a is_b same = absurd cc
-one_given Fmt (Scan r) is_a is_b same = absurd cc
+one_given (Scan a) (Scan b) is_a is_b same = ap Scan (one_query a b is_a is_b same)
+one_given (Scan a) Fmt is_a is_b same = absurd cc
+one_given (Scan a) Pack is_a is_b same = absurd cc
+one_given (Scan a) (Gen b) is_a is_b same = absurd cc
+one_given (Scan a) Append is_a is_b same = absurd cc
+one_given (Scan a) (Ask bk by bt) is_a is_b same = absurd (no_scan bk by bt a (sym same))
+one_given Fmt (Scan b) is_a is_b same = absurd cc
 one_given Fmt Fmt is_a is_b same = refl
 one_given Fmt Pack is_a is_b same = absurd cc
-one_given Fmt (Gen g) is_a is_b same = absurd cc
-one_given Pack (Scan r) is_a is_b same = absurd cc
+one_given Fmt (Gen b) is_a is_b same = absurd cc
+one_given Fmt Append is_a is_b same = absurd cc
+one_given Fmt (Ask bk by bt) is_a is_b same = absurd (no_word bk by bt _ (sym same))
+one_given Pack (Scan b) is_a is_b same = absurd cc
 one_given Pack Fmt is_a is_b same = absurd cc
 one_given Pack Pack is_a is_b same = refl
-one_given Pack (Gen g) is_a is_b same = absurd cc
-one_given (Gen g) (Scan r) is_a is_b same = absurd cc
-one_given (Gen g) Fmt is_a is_b same = absurd cc
-one_given (Gen g) Pack is_a is_b same = absurd cc
-one_given (Gen g) (Gen h) is_a is_b same = ap Gen (one_generation g h is_a is_b same)
+one_given Pack (Gen b) is_a is_b same = absurd cc
+one_given Pack Append is_a is_b same = absurd cc
+one_given Pack (Ask bk by bt) is_a is_b same = absurd (no_word bk by bt _ (sym same))
+one_given (Gen a) (Scan b) is_a is_b same = absurd cc
+one_given (Gen a) Fmt is_a is_b same = absurd cc
+one_given (Gen a) Pack is_a is_b same = absurd cc
+one_given (Gen a) (Gen b) is_a is_b same = ap Gen (one_generation a b is_a is_b same)
+one_given (Gen a) Append is_a is_b same = absurd cc
+one_given (Gen a) (Ask bk by bt) is_a is_b same = absurd (no_gen bk by bt a (sym same))
+one_given Append (Scan b) is_a is_b same = absurd cc
+one_given Append Fmt is_a is_b same = absurd cc
+one_given Append Pack is_a is_b same = absurd cc
+one_given Append (Gen b) is_a is_b same = absurd cc
+one_given Append Append is_a is_b same = refl
+one_given Append (Ask bk by bt) is_a is_b same = absurd (no_word bk by bt _ (sym same))
+one_given (Ask ak ay at) (Scan b) is_a is_b same = absurd (no_scan ak ay at b same)
+one_given (Ask ak ay at) Fmt is_a is_b same = absurd (no_word ak ay at _ same)
+one_given (Ask ak ay at) Pack is_a is_b same = absurd (no_word ak ay at _ same)
+one_given (Ask ak ay at) (Gen b) is_a is_b same = absurd (no_gen ak ay at b same)
+one_given (Ask ak ay at) Append is_a is_b same = absurd (no_word ak ay at _ same)
+one_given (Ask ak ay at) (Ask bk by bt) is_a is_b same = one_ask ak bk ay by at bt is_a.1 is_b.1 same
 
 only_one : (words : List (List ℕ)) (command other : Option Command) → IsCommand words command → IsCommand words other → other ≡ command
 only_one words None None is_a is_b = refl

@@ -7,7 +7,7 @@ use Rattle.lc_base.specs.declared.answer.Query.{Query}
 use Rattle.chain_words.specs.declared.words.TheConstants.{MAX_GENERATED_BLOCKS}
 use Rattle.chain_words.specs.declared.words.Generation.{Generation}
 use Rattle.chain_words.specs.declared.words.Command.{Command}
-use Rattle.chain_words.specs.declared.words.Command.TheVariants.{Scan, Fmt, Pack, Gen}
+use Rattle.chain_words.specs.declared.words.Command.TheVariants.{Scan, Fmt, Pack, Gen, Append, Ask}
 
 -- The word for what is asked.
 abbrev pub kind_word : Kind → List ℕ
@@ -37,20 +37,35 @@ pub record IsGeneration (generation : Generation) : Type 0 where
   pub count : IsCount generation.blocks
   pub seed_fits : generation.seed < 2 ^ 32
 
+-- The words of a question over the log: KIND KEY, or KIND KEY BLOCK, BLOCK in decimal digits without
+-- a leading zero.
+abbrev pub ask_words : Kind → List ℕ → Option ℕ → List (List ℕ)
+ask_words kind key None = kind_word kind ∷ key ∷ []
+ask_words kind key (Some at) = kind_word kind ∷ key ∷ decimal at ∷ []
+
+-- The block number of a question over the log has 32 bits, where one is given.
+abbrev pub Fits : Option ℕ → Type 0
+Fits None = Unit {0}
+Fits (Some at) = at < 2 ^ 32
+
 -- The words of a command.
 abbrev pub command_words : Command → List (List ℕ)
 command_words (Scan query) = scan_words query
 command_words Fmt = codes "fmt" ∷ []
 command_words Pack = codes "pack" ∷ []
 command_words (Gen generation) = gen_words generation
+command_words Append = codes "append" ∷ []
+command_words (Ask kind key at) = ask_words kind key at
 
--- A command that can be given: a question that can be asked, a generation that can be made, or a
--- word alone.
+-- A command that can be given: a question that can be asked, over the input or over the log; a
+-- generation that can be made; or a word alone.
 abbrev pub CanBeGiven : Command → Type 0
 CanBeGiven (Scan query) = IsQuery query
 CanBeGiven Fmt = Unit {0}
 CanBeGiven Pack = Unit {0}
 CanBeGiven (Gen generation) = IsGeneration generation
+CanBeGiven Append = Unit {0}
+CanBeGiven (Ask kind key at) = IsKey key × Fits at
 
 -- The command that the words are. They are none where no command has these words.
 abbrev pub IsCommand : List (List ℕ) → Option Command → Type 0
@@ -73,6 +88,11 @@ IsScan words None = (query : Query) → IsQuery query → words ≡ scan_words q
 abbrev pub IsGen : List (List ℕ) → Option Generation → Type 0
 IsGen words (Some generation) = IsGeneration generation × (words ≡ gen_words generation)
 IsGen words None = (generation : Generation) → IsGeneration generation → words ≡ gen_words generation → ⊥
+
+-- The command of a question over the log, where the words are those of one.
+abbrev pub IsAsk : List (List ℕ) → Option Command → Type 0
+IsAsk words (Some command) = CanBeGiven command × (words ≡ command_words command)
+IsAsk words None = (kind : Kind) (key : List ℕ) (at : Option ℕ) → IsKey key → Fits at → words ≡ ask_words kind key at → ⊥
 
 -- Whether the words are this one alone.
 abbrev pub IsAlone : List ℕ → List (List ℕ) → Bool → Type 0

@@ -1,7 +1,7 @@
 //! The words of commands.
 
 ghost use Rattle.std.specs.Prelude.{◌≡◌, ◌↔◌, IsTrue, map, string_bytes, codes};
-ghost use Rattle.chain_words.specs.Words.{IsCommand, IsOneCommand, IsScan, IsGen, IsAlone, IsKindOf, IsKeyOf, IsNumberOf, IsCount, IsCountOf, starts_as_number};
+ghost use Rattle.chain_words.specs.Words.{IsCommand, IsOneCommand, IsScan, IsGen, IsAsk, IsAlone, IsKindOf, IsKeyOf, IsNumberOf, IsCount, IsCountOf, starts_as_number};
 
 use lc_base::{Key, Kind, Query};
 
@@ -28,6 +28,15 @@ pub enum Command {
     Pack,
     /// `gen N SEED`: tell a block file of N blocks.
     Gen(Generation),
+    /// `append`: take the blocks of the input into the chain of the log.
+    Append,
+    /// `KIND KEY` or `KIND KEY BLOCK`: answer a question over the blocks of the log, up to the last
+    /// one where no BLOCK is given.
+    Ask {
+        kind: Kind,
+        key: Key,
+        at: Option<u32>,
+    },
 }
 
 /// Whether the text is `0`, or begins with another digit.
@@ -139,6 +148,37 @@ fn generation_of(words: &[String]) -> Option<Generation>
     }
 }
 
+/// The question of the command `KIND KEY` or `KIND KEY BLOCK`; `None` exactly where the words are no
+/// such command.
+fn ask_of(words: &[String]) -> Option<Command>
+    ensures { IsAsk (map string_bytes words.now) result }
+{
+    match words {
+        [kind, key] => {
+            let kind = kind_of(kind.as_str())?;
+            let key = key_of(key.as_str())?;
+            Some(Command::Ask {
+                kind,
+                key,
+                at: None,
+            })
+        }
+        [kind, key, at] => {
+            let kind = kind_of(kind.as_str())?;
+            let key = key_of(key.as_str())?;
+            match number_of(at.as_str()) {
+                Some(at) => Some(Command::Ask {
+                    kind,
+                    key,
+                    at: Some(at),
+                }),
+                None => None,
+            }
+        }
+        _ => None,
+    }
+}
+
 fn is_text(text: &str, word: &str) -> bool
     ensures { IsTrue result ↔ (text.now ≡ word.now) }
 {
@@ -176,11 +216,14 @@ fn found(words: &[String]) -> Option<Command>
     if is_alone(words, "pack") {
         return Some(Command::Pack);
     }
+    if is_alone(words, "append") {
+        return Some(Command::Append);
+    }
     if let Some(generation) = generation_of(words) {
         return Some(Command::Gen(generation));
     }
     match query_of(words) {
         Some(query) => Some(Command::Scan(query)),
-        None => None,
+        None => ask_of(words),
     }
 }

@@ -1,12 +1,16 @@
-//! The program: it hands its words, standard input and standard output to `run`.
+//! The program: it hands its words, standard input, standard output and the log to `run`.
 #![tactic(auto)]
 
 use chain_cli::run::run;
 use chain_lines::Status;
-use lc_outside::{HostSource, HostWire};
+use disk_model::FileMachine;
+use lc_outside::HostSource;
 use std::io::ErrorKind;
 use std::process::ExitCode;
 use std::{env, io};
+
+/// The file of the log, in the present folder.
+const LOG_FILE: &str = "chain.log";
 
 /// The words after the program's name.
 fn words_of(rt: &HostRuntime) -> io::Result<Vec<String>> {
@@ -19,7 +23,7 @@ fn words_of(rt: &HostRuntime) -> io::Result<Vec<String>> {
 
 fn run_over_host(rt: &HostRuntime, words: &[String]) -> Status {
     let mut source = HostSource::new(rt.stdin());
-    let mut machine = HostWire::new(rt.stdout());
+    let mut machine = FileMachine::new(rt, LOG_FILE, rt.stdout());
     run(rt.alloc(), words, &mut source, &mut machine)
 }
 

@@ -1,11 +1,33 @@
-//! Cases of commands: the words and the input of one, its status, and what it told.
+//! Cases of commands: the words and the input of one, its status, what it told, and what became of
+//! the log.
 
-use crate::streams::{source_of, wire_of};
+use crate::streams::{bytes_of, machine_of, source_of};
 use anyhow::{Context, Result};
 use chain_cli::run::run;
-use lc_outside::{MemSource, MemWire};
+use disk_model::MemMachine;
 use std::alloc::Global;
 use std::io::Write;
+
+/// The calls of a case that fail: numbers with a comma between two.
+#[derive(Clone, Copy)]
+pub struct Failing<'a> {
+    /// Of the source.
+    pub pulls: &'a str,
+    /// Of the machine, over its disk and its wire.
+    pub calls: &'a str,
+}
+
+/// A case of a command, by the fields of its line.
+#[derive(Clone, Copy)]
+pub struct Case<'a> {
+    pub words: &'a str,
+    /// The greatest number of bytes that the source gives at once.
+    pub piece: &'a str,
+    pub input: &'a str,
+    pub failing: Option<Failing<'a>>,
+    /// What the disk holds before.
+    pub image: Option<&'a str>,
+}
 
 /// The words of a text with a blank between them.
 fn words_of(alloc: Global, text: &str) -> Result<Vec<String>> {
@@ -36,61 +58,53 @@ fn print_piece<W: Write>(alloc: Global, out: &mut W, piece: &[u8]) -> Result<()>
     Ok(())
 }
 
-/// Runs a command over streams, and gives the number of its status.
-fn status_over(
-    alloc: Global,
-    words: &str,
-    source: &mut MemSource,
-    wire: &mut MemWire,
-) -> Result<u8> {
-    let words = words_of(alloc, words)?;
-    Ok(run(alloc, &words, source, wire).number())
-}
-
-/// Prints what a wire was told, piece by piece.
-fn print_told<W: Write>(alloc: Global, out: &mut W, wire: &MemWire) -> Result<()> {
-    for i in 0..wire.told_count() {
-        let (_, bytes) = wire.told_at(i).context("a piece that was told")?;
+/// Prints what a machine was told, piece by piece.
+fn print_told<W: Write>(alloc: Global, out: &mut W, machine: &MemMachine) -> Result<()> {
+    for i in 0..machine.told_count() {
+        let (_, bytes) = machine.told_at(i).context("a piece that was told")?;
         print_piece(alloc, out, bytes)?;
     }
     Ok(())
 }
 
-/// Runs a command over streams, and prints its status and words, then what it told, and then, if
-/// that is asked for, how many bytes of the input are left.
-fn run_over<W: Write>(
+/// Prints what the disk of a machine holds, in hex, or that it is what it held before.
+fn print_log<W: Write>(
     alloc: Global,
     out: &mut W,
-    words: &str,
-    source: &mut MemSource,
-    wire: &mut MemWire,
-    shows_left: bool,
+    before: &[u8],
+    machine: &MemMachine,
 ) -> Result<()> {
-    let number = status_over(alloc, words, source, wire)?;
-    writeln!(out, "== {number} {words}")?;
-    print_told(alloc, out, wire)?;
-    if shows_left {
-        let left = source.rest().len();
-        writeln!(out, "left {left}")?;
+    let after = machine.image();
+    if after == before {
+        writeln!(out, "log same")?;
+    } else {
+        let digits = hex::encode(alloc, after)?;
+        writeln!(out, "log {digits}")?;
     }
     Ok(())
 }
 
-/// Runs a command over an input. Where the calls that fail are given, as `PULLS|TELLS`, what is left
-/// of the input is printed too.
-pub fn run_command<W: Write>(
-    alloc: Global,
-    out: &mut W,
-    words: &str,
-    piece: &str,
-    input: &str,
-    failing: Option<&str>,
-) -> Result<()> {
-    let (pulls, tells) = match failing {
+/// Runs a command, and prints its status and words, and what it told. Then, where the case says which
+/// calls fail, how many bytes of the input are left; and where it says what the disk held, what it
+/// holds.
+pub fn run_command<W: Write>(alloc: Global, out: &mut W, case: &Case<'_>) -> Result<()> {
+    let (pulls, calls) = match case.failing {
         None => ("", ""),
-        Some(failing) => failing.split_once('|').context("a case without tells")?,
+        Some(Failing { pulls, calls }) => (pulls, calls),
     };
-    let mut source = source_of(alloc, piece, input, pulls)?;
-    let mut wire = wire_of(alloc, tells)?;
-    run_over(alloc, out, words, &mut source, &mut wire, failing.is_some())
+    let image = bytes_of(alloc, case.image.unwrap_or(""))?;
+    let mut source = source_of(alloc, case.piece, case.input, pulls)?;
+    let mut machine = machine_of(alloc, &image, calls)?;
+    let words = words_of(alloc, case.words)?;
+    let number = run(alloc, &words, &mut source, &mut machine).number();
+    writeln!(out, "== {number} {}", case.words)?;
+    print_told(alloc, out, &machine)?;
+    if case.failing.is_some() {
+        let left = source.rest().len();
+        writeln!(out, "left {left}")?;
+    }
+    if case.image.is_some() {
+        print_log(alloc, out, &image, &machine)?;
+    }
+    Ok(())
 }

@@ -6,13 +6,38 @@ mod command;
 mod streams;
 
 use crate::blocks::run_blocks;
-use crate::command::run_command;
+use crate::command::{Case, Failing, run_command};
 use anyhow::{Context, Result};
 use std::alloc::Global;
 use std::io::{self, BufRead, BufReader, BufWriter, Write};
 
 /// What the words of a case begin with whose blocks are run one by one.
 const BLOCKS: &str = "blocks ";
+
+/// A case of a command; `rest` is what follows its words and its piece in the line.
+fn case_of<'a>(words: &'a str, piece: &'a str, rest: &'a str) -> Result<Case<'a>> {
+    let Some((input, failing)) = rest.split_once('|') else {
+        return Ok(Case {
+            words,
+            piece,
+            input: rest,
+            failing: None,
+            image: None,
+        });
+    };
+    let (pulls, calls) = failing.split_once('|').context("a case without calls")?;
+    let (calls, image) = match calls.split_once('|') {
+        None => (calls, None),
+        Some((calls, image)) => (calls, Some(image)),
+    };
+    Ok(Case {
+        words,
+        piece,
+        input,
+        failing: Some(Failing { pulls, calls }),
+        image,
+    })
+}
 
 /// Runs the case of a line.
 fn run_line<W: Write>(alloc: Global, out: &mut W, line: &str) -> Result<()> {
@@ -21,10 +46,7 @@ fn run_line<W: Write>(alloc: Global, out: &mut W, line: &str) -> Result<()> {
     if words.starts_with(BLOCKS) {
         return run_blocks(alloc, out, words, piece, rest);
     }
-    match rest.split_once('|') {
-        None => run_command(alloc, out, words, piece, rest, None),
-        Some((input, failing)) => run_command(alloc, out, words, piece, input, Some(failing)),
-    }
+    run_command(alloc, out, &case_of(words, piece, rest)?)
 }
 
 fn main(rt: HostRuntime) -> Result<()> {

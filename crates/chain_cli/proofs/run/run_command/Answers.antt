@@ -1,33 +1,29 @@
-use Rattle.std.proofs.Common.{refl}
-use Rattle.chain_words.specs.declared.words.Command.TheVariants.{Scan, Fmt, Pack}
-use Rattle.chain_cli.proofs.Outputs.{scan_wanted, pack_wanted, reading_output, usage_output_is, usage_unread, gen_output_is, gen_unread}
+use Rattle.recovery.specs.Node.{next_in_chain}
+use Rattle.chain_output.specs.Telling.{status_of_result}
+use Rattle.chain_cli.proofs.Runs.{scan_run, fmt_run, pack_run, gen_run, of_command}
 use Rattle.chain_cli.proofs.run.run_command.Goals as goal
 
-pub returns-in-None-clause-output : goal.returns-in-None-clause-output
-returns-in-None-clause-output g c = usage_output_is (g.I.Source.left c.args.source.now) c.args.command _ (g.M.Clock.told c.args.machine.now) (g.M.Clock.told c.tell_usage.new.machine) c.in-None.is c.tell_usage.ensures.told
+pub returns-in-Scan-clause-run : goal.returns-in-Scan-clause-run
+returns-in-Scan-clause-run g c =
+    of_command g.M.Clock.now g.M.Clock.disk g.M.Clock.told c.args.machine.now c.tell_result.new.machine (status_of_result c.tell_result.result) (g.I.Source.left c.args.source.now) (g.I.Source.left c.scan.new.source) c.args.command.now _ c.in-Scan.is
+    (scan_run g.M.Clock.now g.M.Clock.disk g.M.Clock.told c.args.machine.now c.tell_result.new.machine c.in-Scan.query c.scan.result c.tell_result.result (g.I.Source.left c.args.source.now) (g.I.Source.left c.scan.new.source) c.requires.settled c.tell_result.ensures.disk (c.tell_result.ensures.says next_in_chain) c.scan.ensures.outcome)
 
-pub returns-in-None-clause-unread : goal.returns-in-None-clause-unread
-returns-in-None-clause-unread g c = λ reads. (refl, usage_unread c.args.command c.tell_usage.result (g.M.Clock.told c.args.machine.now) (g.M.Clock.told c.tell_usage.new.machine) c.in-None.is c.tell_usage.ensures.told)
+pub returns-in-Fmt-clause-run : goal.returns-in-Fmt-clause-run
+returns-in-Fmt-clause-run g c =
+    of_command g.M.Clock.now g.M.Clock.disk g.M.Clock.told c.args.machine.now c.tell_result-in-Fmt.new.machine (status_of_result c.tell_result-in-Fmt.result) (g.I.Source.left c.args.source.now) (g.I.Source.left c.fmt.new.source) c.args.command.now _ c.in-Fmt.is
+    (fmt_run g.M.Clock.now g.M.Clock.disk g.M.Clock.told c.args.machine.now c.tell_result-in-Fmt.new.machine c.fmt.result c.tell_result-in-Fmt.result (g.I.Source.left c.args.source.now) (g.I.Source.left c.fmt.new.source) c.requires.settled c.tell_result-in-Fmt.ensures.disk (c.tell_result-in-Fmt.ensures.says next_in_chain) c.fmt.ensures.outcome)
 
-pub returns-in-Some-Scan-clause-output : goal.returns-in-Some-Scan-clause-output
-returns-in-Some-Scan-clause-output g c =
-    reading_output (g.I.Source.left c.args.source.now) (g.I.Source.left c.scan.new.source) c.args.command c.in-Some-Scan.field-0 (Scan c.in-Some-Scan.query) c.scan.result _ (g.M.Clock.told c.args.machine.now) (g.M.Clock.told c.tell_result.new.machine) c.in-Some-Scan.is c.in-Some-Scan.field-0-is
-    (scan_wanted (g.I.Source.left c.args.source.now) (g.I.Source.left c.scan.new.source) c.in-Some-Scan.query c.scan.result c.scan.ensures.outcome) c.tell_result.ensures.told
+pub returns-in-Pack-clause-run : goal.returns-in-Pack-clause-run
+returns-in-Pack-clause-run g c =
+    of_command g.M.Clock.now g.M.Clock.disk g.M.Clock.told c.args.machine.now c.tell_result-in-Pack.new.machine (status_of_result c.tell_result-in-Pack.result) (g.I.Source.left c.args.source.now) (g.I.Source.left c.pack.new.source) c.args.command.now _ c.in-Pack.is
+    (pack_run g.M.Clock.now g.M.Clock.disk g.M.Clock.told c.args.machine.now c.tell_result-in-Pack.new.machine c.pack.result c.tell_result-in-Pack.result (g.I.Source.left c.args.source.now) (g.I.Source.left c.pack.new.source) c.requires.settled c.tell_result-in-Pack.ensures.disk (c.tell_result-in-Pack.ensures.says next_in_chain) c.pack.ensures.outcome)
 
-pub returns-in-Some-Fmt-clause-output : goal.returns-in-Some-Fmt-clause-output
-returns-in-Some-Fmt-clause-output g c =
-    reading_output (g.I.Source.left c.args.source.now) (g.I.Source.left c.fmt.new.source) c.args.command c.in-Some-Fmt.field-0 Fmt c.fmt.result _ (g.M.Clock.told c.args.machine.now) (g.M.Clock.told c.tell_result-in-Some-Fmt.new.machine) c.in-Some-Fmt.is c.in-Some-Fmt.field-0-is
-    c.fmt.ensures.outcome c.tell_result-in-Some-Fmt.ensures.told
+pub returns-in-Gen-clause-run : goal.returns-in-Gen-clause-run
+returns-in-Gen-clause-run g c =
+    of_command g.M.Clock.now g.M.Clock.disk g.M.Clock.told c.args.machine.now c.generate.new.machine (status_of_result c.generate.result) (g.I.Source.left c.args.source.now) (g.I.Source.left c.args.source.now) c.args.command.now _ c.in-Gen.is
+    (gen_run g.M.Clock.now g.M.Clock.disk g.M.Clock.told c.args.machine.now c.generate.new.machine c.in-Gen.generation c.generate.result (g.I.Source.left c.args.source.now) c.requires.settled c.generate.ensures.disk (c.generate.ensures.lines next_in_chain) c.generate.ensures.ending)
 
-pub returns-in-Some-Pack-clause-output : goal.returns-in-Some-Pack-clause-output
-returns-in-Some-Pack-clause-output g c =
-    reading_output (g.I.Source.left c.args.source.now) (g.I.Source.left c.pack.new.source) c.args.command c.in-Some-Pack.field-0 Pack c.pack.result _ (g.M.Clock.told c.args.machine.now) (g.M.Clock.told c.tell_result-in-Some-Pack.new.machine) c.in-Some-Pack.is c.in-Some-Pack.field-0-is
-    (pack_wanted (g.I.Source.left c.args.source.now) (g.I.Source.left c.pack.new.source) c.pack.result c.pack.ensures.outcome) c.tell_result-in-Some-Pack.ensures.told
-
-pub returns-in-Some-Gen-clause-output : goal.returns-in-Some-Gen-clause-output
-returns-in-Some-Gen-clause-output g c =
-    gen_output_is (g.I.Source.left c.args.source.now) c.args.command c.in-Some-Gen.field-0 c.in-Some-Gen.generation _ (g.M.Clock.told c.args.machine.now) (g.M.Clock.told c.generate.new.machine) c.in-Some-Gen.is c.in-Some-Gen.field-0-is c.generate.ensures.told
-
-pub returns-in-Some-Gen-clause-unread : goal.returns-in-Some-Gen-clause-unread
-returns-in-Some-Gen-clause-unread g c =
-    λ reads. (refl, gen_unread c.args.command c.in-Some-Gen.field-0 c.in-Some-Gen.generation c.generate.result (g.M.Clock.told c.args.machine.now) (g.M.Clock.told c.generate.new.machine) c.in-Some-Gen.is c.in-Some-Gen.field-0-is c.generate.ensures.told)
+pub returns-in-Ask-clause-run : goal.returns-in-Ask-clause-run
+returns-in-Ask-clause-run g c =
+    of_command g.M.Clock.now g.M.Clock.disk g.M.Clock.told c.args.machine.now c.ask.new.machine (status_of_result c.ask.result) (g.I.Source.left c.args.source.now) (g.I.Source.left c.args.source.now) c.args.command.now _ c.in-Ask.is
+    (c.ask.ensures.run (g.I.Source.left c.args.source.now))

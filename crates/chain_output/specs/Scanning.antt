@@ -1,8 +1,7 @@
 -- What the commands of the program answer, for their definitions.
 use Rattle.std.specs.Prelude.{◌≡◌, ℕ, List, Option, Some}
-use Rattle.chain_words.specs.declared.words.Command.{Command}
 use Rattle.chain_lines.specs.declared.outcome.Outcome.{Outcome}
-use Rattle.chain_cli.specs.Output.{Output, output_of, IsFmt, Wants}
+use Rattle.chain_output.specs.Output.{Output, output_of, IsFmt}
 
 -- An outcome, and what is left of the input, are the output.
 abbrev pub GivesOutput : Outcome → Option (List ℕ) → Output → Type 0
@@ -11,7 +10,3 @@ GivesOutput outcome left output = (output ≡ output_of outcome output.left) × 
 -- An outcome, and what is left of the input, are what `fmt` tells of it.
 abbrev pub IsFmtOutcome : Outcome → Option (List ℕ) → List ℕ → Type 0
 IsFmtOutcome outcome left input = (rest : List ℕ) × (left ≡ Some rest) × IsFmt input (output_of outcome rest)
-
--- An outcome, and what is left of the input, are an output that the command wants.
-abbrev pub WantsOutcome : Command → List ℕ → Outcome → Option (List ℕ) → Type 0
-WantsOutcome command input outcome left = (rest : List ℕ) × (left ≡ Some rest) × Wants (Some command) input (output_of outcome rest)

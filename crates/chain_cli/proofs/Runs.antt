@@ -1,0 +1,397 @@
+-- Whole runs do what is wanted of them.
+use Rattle.std.proofs.Common.{◌≡◌, ℕ, ◌+◌, Bool, true, false, cond, List, [], ◌∷◌, ◌++◌, map, Option, Some, None, Result, Ok, Err, refl, sym, ap, ◌∙◌, subst}
+use Rattle.std.specs.Prelude.{IfOk, IfSome, is_ok}
+use Rattle.std.specs.Option.{is_some}
+use Rattle.std.proofs.lemmas.List.{append-nil}
+use Rattle.lc_outside.specs.Disk.{DiskState, Stays}
+use Rattle.lc_outside.specs.Outside.{Tell}
+use Rattle.disk_model.specs.Disk.{IsSettled, Keeps, Rests, content_of}
+use Rattle.disk_model.proofs.Moments.{then_keeps, weaker, stays_on}
+use Rattle.lc_base.specs.declared.answer.Kind.{Kind}
+use Rattle.lc_base.specs.declared.answer.Query.{Query}
+use Rattle.block_codec.specs.Reading.{block_in}
+use Rattle.block_codec.specs.declared.block.Block.{Block}
+use Rattle.block_codec.specs.declared.limits.TheConstants.{MAX_FRAMES}
+use Rattle.block_log.specs.Standing.{Standing, Blank, NotALog, Damaged, Holds, NextBlock, blocks_of, blocks_in, chain_of, standing}
+use Rattle.chain_exec.specs.Compiled.{compiled_in}
+use Rattle.chain_state.specs.Chain.{StandsFor}
+use Rattle.chain_state.specs.Judging.{added_by_all}
+use Rattle.scan_chain.specs.Folding.{Fold, FoldEnd, fold_from, fold_input}
+use Rattle.scan_chain.specs.declared.stop.Stop.{Stop}
+use Rattle.scan_chain.specs.declared.stop.Stop.TheVariants as reads
+use Rattle.recovery.specs.Node.{NodeState, IsNodeOf, IsNodeStarted, next_in_chain}
+use Rattle.recovery.specs.declared.errors.StartError.{StartError}
+use Rattle.recovery.specs.declared.errors.StartError.TheVariants as starts
+use Rattle.chain_promises.specs.Promises.{plain, Change, NoChange, Appends, Telling, IsPartly, MayLeave, IsChanged}
+use Rattle.chain_promises.proofs.Tellings.{none_told, still, told_since}
+use Rattle.chain_append.specs.Appending.{AppendsAll, HasEnded as Appended, IsTold, fold_lines, fold_end}
+use Rattle.chain_append.specs.declared.ending.AppendEnd.{AppendEnd}
+use Rattle.chain_append.specs.declared.ending.AppendStop.{AppendStop}
+use Rattle.chain_append.proofs.Frames.{rests_each}
+use Rattle.chain_gen.specs.Generator.{generated}
+use Rattle.chain_words.specs.declared.words.Generation.{Generation}
+use Rattle.chain_words.specs.declared.words.Command.{Command}
+use Rattle.chain_words.specs.declared.words.Command.TheVariants.{Scan, Fmt, Pack, Gen, Append, Ask}
+use Rattle.chain_lines.specs.Lines.{usage_line, not_a_log_line, damaged_line}
+use Rattle.chain_lines.specs.Outcome.{status_of, outcome_with}
+use Rattle.chain_lines.specs.declared.outcome.Outcome.{Outcome}
+use Rattle.chain_lines.specs.declared.outcome.Ending.{Ending}
+use Rattle.chain_lines.specs.declared.outcome.Ending.TheVariants as endings
+use Rattle.chain_lines.specs.declared.status.Status.{Status}
+use Rattle.chain_output.specs.Blocks.{frame}
+use Rattle.chain_output.specs.Output.{Output, output_of, usage_output, scan_output, pack_output, gen_output, append_output, ask_output, answer_outcome, at_or_last, on_log, fold_ending, IsFmt, Long, Source}
+use Rattle.chain_output.specs.Running.{came_to_end, leaves, appends_none, Meets, IsGiven, IsRun}
+use Rattle.chain_output.specs.Scanning.{GivesOutput, IsFmtOutcome}
+use Rattle.chain_output.specs.Telling.{status_of_stop, status_of_result, status_of_usage, append_stop, append_answer, Says, StopsSilent, TellsResult, TellsStart}
+use Rattle.chain_output.specs.declared.stop.RunStop.{RunStop}
+use Rattle.chain_output.specs.declared.stop.RunStop.TheVariants as stops
+use Rattle.chain_cli.proofs.OneOutput.{some_output}
+
+-- ---- statuses
+
+ending_ends : (ending : Ending) → came_to_end (status_of ending) ≡ true
+ending_ends endings.Done = refl
+ending_ends endings.Refused = refl
+ending_ends endings.Beyond = refl
+ending_ends endings.BadInput = refl
+ending_ends endings.NotALog = refl
+ending_ends endings.Damaged = refl
+
+stop_stops : (stop : RunStop) → came_to_end (status_of_stop stop) ≡ false
+stop_stops stops.Unreadable = refl
+stop_stops stops.Untold = refl
+stop_stops stops.DiskFault = refl
+stop_stops stops.Memory = refl
+
+-- ---- what is given
+
+told_input : (left : Option (List ℕ)) (input : List ℕ) → IsGiven true left input → left ≡ Some input
+told_input None input given = absurd given
+told_input (Some bytes) input given = ap Some given
+
+left_same : (left : Option (List ℕ)) (input : List ℕ) → IsGiven false left input → left ≡ leaves left input
+left_same None input given = refl
+left_same (Some bytes) input given = ap Some given
+
+left_read : (left : Option (List ℕ)) (input rest : List ℕ) → left ≡ Some input → Some rest ≡ leaves left rest
+left_read left input rest is = sym (ap (λ (o : Option (List ℕ)). leaves o rest) is)
+
+rests_given : (uses : Bool) (state : Option DiskState) (content : List ℕ) → IsSettled state → IsGiven uses (content_of state) content → Rests state (λ c. c ≡ content)
+rests_given uses None content rests given = tt
+rests_given true (Some s) content rests given = (rests, given)
+rests_given false (Some s) content rests given = (rests, given)
+
+told_disk : (state : Option DiskState) (content : List ℕ) → IsGiven true (content_of state) content → IsTold state
+told_disk None content given = absurd given
+told_disk (Some s) content given = refl
+
+given_here : (P : List ℕ → Type 0) (left : Option (List ℕ)) (input : List ℕ) → left ≡ Some input → IfSome left P → P input
+given_here P left input is holds = subst (λ (o : Option (List ℕ)). IfSome o P) is holds
+
+-- ---- changes
+
+same_may_leave : (content : List ℕ) (what : Change) (c : List ℕ) → what ≡ NoChange → c ≡ content → MayLeave next_in_chain content what c
+same_may_leave content what c is same = subst (λ (x : Change). MayLeave next_in_chain content x c) (sym is) same
+
+log_may_leave : (content : List ℕ) (blocks added : List Block) (c : List ℕ) → chain_of next_in_chain content ≡ Some blocks → c ≡ content → MayLeave next_in_chain content (Appends added) c
+log_may_leave content blocks added c is same = (blocks, is, (0, ap (chain_of next_in_chain) same ∙ is ∙ ap Some (sym (append-nil blocks))))
+
+-- what `append` gives over the blocks of the log
+abbrev appended : List ℕ → List Block → Output
+appended input blocks = append_output compiled_in blocks (fold_from block_in compiled_in (MAX_FRAMES + 1) blocks input)
+
+append_may_leave : (content input : List ℕ) (stands : Standing) → standing next_in_chain content ≡ stands → (c : List ℕ) → c ≡ content → MayLeave next_in_chain content (on_log (appended input) input stands).change c
+append_may_leave content input Blank is c same = log_may_leave content [] (added_by_all (fold_from block_in compiled_in (MAX_FRAMES + 1) [] input).taken) c (ap blocks_of is) same
+append_may_leave content input NotALog is c same = same
+append_may_leave content input (Damaged before at) is c same = same
+append_may_leave content input (Holds stored gate) is c same = log_may_leave content (blocks_in stored) (added_by_all (fold_from block_in compiled_in (MAX_FRAMES + 1) (blocks_in stored) input).taken) c (ap blocks_of is) same
+
+ask_no_change : (kind : Kind) (key : List ℕ) (at : Option ℕ) (input : List ℕ) (stands : Standing) → (on_log (ask_output compiled_in kind key at input) input stands).change ≡ NoChange
+ask_no_change kind key at input Blank = refl
+ask_no_change kind key at input NotALog = refl
+ask_no_change kind key at input (Damaged before at_gate) = refl
+ask_no_change kind key at input (Holds stored gate) = refl
+
+fmt_no_change : (input : List ℕ) (output : Output) → IsFmt input output → output.change ≡ NoChange
+fmt_no_change input _ (Long long) = refl
+fmt_no_change input _ (Source fits outcome is) = refl
+
+-- what a command wants over the blocks of the log
+on_log_blocks : (over : List Block → Output) (input : List ℕ) (stands : Standing) (blocks : List Block) → blocks_of stands ≡ Some blocks → on_log over input stands ≡ over blocks
+on_log_blocks over input Blank blocks is = let same : [] ≡ blocks = cc is in ap over same
+on_log_blocks over input NotALog blocks is = absurd (cc is)
+on_log_blocks over input (Damaged before at) blocks is = absurd (cc is)
+on_log_blocks over input (Holds stored gate) blocks is = let same : blocks_in stored ≡ blocks = cc is in ap over same
+
+-- a change that appends none, for blocks that are appended
+no_blocks : (added : List Block) → appends_none (Appends added) ≡ true → added ≡ []
+no_blocks [] none = refl
+no_blocks (block ∷ blocks) none = absurd (cc none)
+
+-- an outcome that is so for blocks that are so, for these blocks
+of_blocks : {E : Type 0} (found : Result Outcome E) (P : List Block → Type 0) (answer : List Block → Outcome) → IfOk found (λ outcome. (blocks : List Block) → P blocks → outcome ≡ answer blocks) → (blocks : List Block) → P blocks → IfOk found (λ outcome. outcome ≡ answer blocks)
+of_blocks (Ok outcome) P answer is blocks p = is blocks p
+of_blocks (Err e) P answer is blocks p = tt
+
+module _ {D : Type 0} (now : D → ℕ) (disk : D → ℕ → Option DiskState) (told : D → Option (List Tell)) where
+  -- ---- outcomes that were made, or for which there was no memory
+
+  pub made_ok : {E : Type 0} (next : NextBlock) (old new : D) (found : Result Outcome E) (outcome wanted : Outcome) (result : Result Ending RunStop) → found ≡ Ok outcome → Says next now disk told old new outcome result → IfOk found (λ o. o ≡ wanted) → Says next now disk told old new wanted result
+  made_ok next old new found outcome wanted result is says made = subst (λ (o : Outcome). Says next now disk told old new o result) (subst (λ r. IfOk r (λ o. o ≡ wanted)) is made) says
+
+  pub made_err : (next : NextBlock) (old new : D) (wanted : Outcome) (stop : RunStop) → told new ≡ told old → Says next now disk told old new wanted (Err stop)
+  made_err next old new wanted stop same = record { lines = none_told next now disk told old new (map plain wanted.pieces) same; ending = tt }
+
+  -- ---- commands that leave the disk as it is
+
+  content_stays : (old new : D) (content : List ℕ) → Rests (disk old (now old)) (λ c. c ≡ content) → Stays now disk old new → Keeps now disk old new (λ c. c ≡ content)
+  content_stays old new content rests stays = still next_in_chain now disk told old new (λ c. c ≡ content) (rests_each (disk old (now old)) (λ c. c ≡ content) rests) stays
+
+  quiet_images : (old new : D) (content : List ℕ) (change : Change) → Rests (disk old (now old)) (λ c. c ≡ content) → Stays now disk old new → ((c : List ℕ) → c ≡ content → MayLeave next_in_chain content change c) → Keeps now disk old new (MayLeave next_in_chain content change)
+  quiet_images old new content what rests stays leads = weaker now disk old new (λ c. c ≡ content) (MayLeave next_in_chain content what) (content_stays old new content rests stays) leads
+
+  said_met : (old new : D) (content : List ℕ) (outcome : Outcome) (result : Result Ending RunStop) (left_old left_new : Option (List ℕ)) (rest : List ℕ) → Rests (disk old (now old)) (λ c. c ≡ content) → Stays now disk old new → Says next_in_chain now disk told old new outcome result
+      → left_new ≡ leaves left_old rest → Meets next_in_chain now disk told old new (status_of_result result) left_old left_new content (output_of outcome rest)
+  said_met old new content outcome (Ok ending) left_old left_new rest rests stays says left =
+      let ends : came_to_end (status_of ending) ≡ true = ending_ends ending in
+      record {
+        lines = subst (λ (all : Bool). Telling next_in_chain now disk told old new (map plain outcome.pieces) all) (sym ends) says.lines;
+        images = content_stays old new content rests stays;
+        unwritten = λ e none. stays;
+        ended = λ e. record { status_is = ap status_of says.ending; left_is = left; log = subst (λ (o : Option DiskState). Rests o (λ c. c ≡ content)) (sym stays.last) rests };
+      }
+  said_met old new content outcome (Err stop) left_old left_new rest rests stays says left =
+      let halts = stop_stops stop in
+      record {
+        lines = subst (λ (all : Bool). Telling next_in_chain now disk told old new (map plain outcome.pieces) all) (sym halts) says.lines;
+        images = content_stays old new content rests stays;
+        unwritten = λ e none. stays;
+        ended = λ e. absurd (cc (halts, e));
+      }
+
+  -- nothing was told
+  silent_met : (old new : D) (content : List ℕ) (output : Output) (stop : RunStop) (result : Result Ending RunStop) (left_old left_new : Option (List ℕ)) → Keeps now disk old new (MayLeave next_in_chain content output.change) → StopsSilent told old new stop result
+      → Meets next_in_chain now disk told old new (status_of_result result) left_old left_new content output
+  silent_met old new content output stop result left_old left_new images is =
+      let halts : came_to_end (status_of_result result) ≡ false = ap (λ (r : Result Ending RunStop). came_to_end (status_of_result r)) is.stop_is ∙ stop_stops stop in
+      record {
+        lines = subst (λ (all : Bool). Telling next_in_chain now disk told old new output.lines all) (sym halts) (none_told next_in_chain now disk told old new output.lines is.silent);
+        images = images;
+        unwritten = λ e none. absurd (cc (halts, e));
+        ended = λ e. absurd (cc (halts, e));
+      }
+
+  says_since : (old mid new : D) (outcome : Outcome) (result : Result Ending RunStop) → told mid ≡ told old → Says next_in_chain now disk told mid new outcome result → Says next_in_chain now disk told old new outcome result
+  says_since old mid new outcome result same says = record { lines = told_since next_in_chain now disk told old mid new (map plain outcome.pieces) (is_ok result) same says.lines; ending = says.ending }
+
+  -- ---- words that are no command, and `gen`
+
+  usage_met : {T : Type 0} (old new : D) (result : Result T RunStop) (left : Option (List ℕ)) (input content : List ℕ) → Rests (disk old (now old)) (λ c. c ≡ content) → Stays now disk old new → left ≡ leaves left input
+      → Telling next_in_chain now disk told old new (plain usage_line ∷ []) (is_ok result) → Meets next_in_chain now disk told old new (status_of_usage result) left left content (usage_output input)
+  usage_met old new (Ok x) left input content rests stays left_is lines = record {
+    lines = lines;
+    images = content_stays old new content rests stays;
+    unwritten = λ e none. stays;
+    ended = λ e. record { status_is = refl; left_is = left_is; log = subst (λ (o : Option DiskState). Rests o (λ c. c ≡ content)) (sym stays.last) rests };
+  }
+  usage_met old new (Err stop) left input content rests stays left_is lines =
+      let halts = stop_stops stop in
+      record {
+        lines = subst (λ (all : Bool). Telling next_in_chain now disk told old new (plain usage_line ∷ []) all) (sym halts) lines;
+        images = content_stays old new content rests stays;
+        unwritten = λ e none. stays;
+        ended = λ e. absurd (cc (halts, e));
+      }
+
+  pub usage_run : {T : Type 0} (old new : D) (result : Result T RunStop) (left : Option (List ℕ)) → IsSettled (disk old (now old)) → Stays now disk old new → Telling next_in_chain now disk told old new (plain usage_line ∷ []) (is_ok result)
+      → IsRun now disk told old new (status_of_usage result) left left block_in compiled_in None
+  usage_run old new result left settled stays lines input content given_input given =
+      (usage_output input, refl, usage_met old new result left input content (rests_given false (disk old (now old)) content settled given) stays (left_same left input given_input) lines)
+
+  pub gen_run : (old new : D) (generation : Generation) (result : Result Ending RunStop) (left : Option (List ℕ)) → IsSettled (disk old (now old)) → Stays now disk old new
+      → Telling next_in_chain now disk told old new (map plain (map frame (generated generation.blocks generation.seed))) (is_ok result) → IfOk result (λ ending. ending ≡ endings.Done)
+      → IsRun now disk told old new (status_of_result result) left left block_in compiled_in (Some (Gen generation))
+  gen_run old new generation result left settled stays lines ending input content given_input given = (
+    gen_output generation input,
+    refl,
+    said_met old new content (outcome_with (map frame (generated generation.blocks generation.seed)) endings.Done) result left left input (rests_given false (disk old (now old)) content settled given) stays (record { lines = lines; ending = ending }) (left_same left input given_input),
+  )
+
+  -- ---- commands that read an input
+
+  reading_met : (old new : D) (Wanted : Output → Type 0) (some : Output) → Wanted some → some.change ≡ NoChange → (found : Result Outcome Stop) (result : Result Ending RunStop) (left_old left_new : Option (List ℕ)) (input content : List ℕ)
+      → Rests (disk old (now old)) (λ c. c ≡ content) → Stays now disk old new → left_old ≡ Some input → TellsResult next_in_chain now disk told old new found result
+      → IfOk found (λ outcome. (rest : List ℕ) × (left_new ≡ Some rest) × Wanted (output_of outcome rest))
+      → (output : Output) × Wanted output × Meets next_in_chain now disk told old new (status_of_result result) left_old left_new content output
+  reading_met old new Wanted some wanted none (Ok outcome) result left_old left_new input content rests stays left_is says (rest, left, is) = (
+    output_of outcome rest,
+    is,
+    said_met old new content outcome result left_old left_new rest rests stays says (left ∙ left_read left_old input rest left_is),
+  )
+  reading_met old new Wanted some wanted none (Err reads.Fault) result left_old left_new input content rests stays left_is says is = (
+    some,
+    wanted,
+    silent_met old new content some stops.Unreadable result left_old left_new (quiet_images old new content some.change rests stays (λ c same. same_may_leave content some.change c none same)) says,
+  )
+  reading_met old new Wanted some wanted none (Err reads.Memory) result left_old left_new input content rests stays left_is says is = (
+    some,
+    wanted,
+    silent_met old new content some stops.Memory result left_old left_new (quiet_images old new content some.change rests stays (λ c same. same_may_leave content some.change c none same)) says,
+  )
+
+  gives : (found : Result Outcome Stop) (left_new : Option (List ℕ)) (wanted : Output) → IfOk found (λ outcome. GivesOutput outcome left_new wanted) → IfOk found (λ outcome. (rest : List ℕ) × (left_new ≡ Some rest) × (output_of outcome rest ≡ wanted))
+  gives (Ok outcome) left_new wanted (is, left) = (wanted.left, left, sym is)
+  gives (Err stop) left_new wanted is = tt
+
+  pub scan_run : (old new : D) (query : Query) (found : Result Outcome Stop) (result : Result Ending RunStop) (left_old left_new : Option (List ℕ)) → IsSettled (disk old (now old)) → Stays now disk old new → TellsResult next_in_chain now disk told old new found result
+      → IfSome left_old (λ input. IfOk found (λ outcome. GivesOutput outcome left_new (scan_output compiled_in query (fold_input block_in compiled_in input))))
+      → IsRun now disk told old new (status_of_result result) left_old left_new block_in compiled_in (Some (Scan query))
+  scan_run old new query found result left_old left_new settled stays says is input content given_input given =
+      let wanted = scan_output compiled_in query (fold_input block_in compiled_in input) in
+      let left_is = told_input left_old input given_input in
+      reading_met old new (λ o. o ≡ wanted) wanted refl refl found result left_old left_new input content (rests_given false (disk old (now old)) content settled given) stays left_is says
+      (gives found left_new wanted (given_here (λ input. IfOk found (λ outcome. GivesOutput outcome left_new (scan_output compiled_in query (fold_input block_in compiled_in input)))) left_old input left_is is))
+
+  pack_no_change : (long : Bool) (a b : Output) → a.change ≡ NoChange → b.change ≡ NoChange → (cond long a b).change ≡ NoChange
+  pack_no_change true a b is_a is_b = is_a
+  pack_no_change false a b is_a is_b = is_b
+
+  pub pack_run : (old new : D) (found : Result Outcome Stop) (result : Result Ending RunStop) (left_old left_new : Option (List ℕ)) → IsSettled (disk old (now old)) → Stays now disk old new → TellsResult next_in_chain now disk told old new found result
+      → IfSome left_old (λ input. IfOk found (λ outcome. GivesOutput outcome left_new (pack_output input))) → IsRun now disk told old new (status_of_result result) left_old left_new block_in compiled_in (Some Pack)
+  pack_run old new found result left_old left_new settled stays says is input content given_input given =
+      let left_is = told_input left_old input given_input in
+      reading_met old new (λ o. o ≡ pack_output input) (pack_output input) refl (pack_no_change _ _ _ refl refl) found result left_old left_new input content (rests_given false (disk old (now old)) content settled given) stays left_is says
+      (gives found left_new (pack_output input) (given_here (λ input. IfOk found (λ outcome. GivesOutput outcome left_new (pack_output input))) left_old input left_is is))
+
+  pub fmt_run : (old new : D) (found : Result Outcome Stop) (result : Result Ending RunStop) (left_old left_new : Option (List ℕ)) → IsSettled (disk old (now old)) → Stays now disk old new → TellsResult next_in_chain now disk told old new found result
+      → IfSome left_old (λ input. IfOk found (λ outcome. IsFmtOutcome outcome left_new input)) → IsRun now disk told old new (status_of_result result) left_old left_new block_in compiled_in (Some Fmt)
+  fmt_run old new found result left_old left_new settled stays says is input content given_input given =
+      let left_is = told_input left_old input given_input in
+      let some = some_output (Some Fmt) input content in
+      reading_met old new (IsFmt input) some.0 some.1 (fmt_no_change input some.0 some.1) found result left_old left_new input content (rests_given false (disk old (now old)) content settled given) stays left_is says
+      (given_here (λ input. IfOk found (λ outcome. IsFmtOutcome outcome left_new input)) left_old input left_is is)
+
+  -- ---- disks that hold no chain
+
+  -- nothing was told before, or that there is no chain
+  start_met : (old mid new : D) (over : List Block → Output) (state : Option DiskState) (error : StartError) (result : Result Ending RunStop) (left_old left_new : Option (List ℕ)) (input content : List ℕ)
+      → Rests (disk old (now old)) (λ c. c ≡ content) → Stays now disk old new → told mid ≡ told old → left_new ≡ leaves left_old input → ((c : List ℕ) → c ≡ content → MayLeave next_in_chain content (on_log over input (standing next_in_chain content)).change c)
+      → IsNodeStarted state (standing next_in_chain content) (Err error) → TellsStart next_in_chain now disk told mid new error result
+      → Meets next_in_chain now disk told old new (status_of_result result) left_old left_new content (on_log over input (standing next_in_chain content))
+  start_met old mid new over state starts.NotALog result left_old left_new input content rests stays same left leads is says =
+      subst (λ (stands : Standing). Meets next_in_chain now disk told old new (status_of_result result) left_old left_new content (on_log over input stands)) (sym is)
+      (said_met old new content (outcome_with (not_a_log_line ∷ []) endings.NotALog) result left_old left_new input rests stays (says_since old mid new (outcome_with (not_a_log_line ∷ []) endings.NotALog) result same says) left)
+  start_met old mid new over state (starts.Damaged at) result left_old left_new input content rests stays same left leads (before, is) says =
+      subst (λ (stands : Standing). Meets next_in_chain now disk told old new (status_of_result result) left_old left_new content (on_log over input stands)) (sym is)
+      (said_met old new content (outcome_with (damaged_line at ∷ []) endings.Damaged) result left_old left_new input rests stays (says_since old mid new (outcome_with (damaged_line at ∷ []) endings.Damaged) result same says) left)
+  start_met old mid new over state starts.DiskFault result left_old left_new input content rests stays same left leads is says =
+      let output = on_log over input (standing next_in_chain content) in
+      silent_met old new content output stops.DiskFault result left_old left_new (quiet_images old new content output.change rests stays leads) (record { stop_is = says.stop_is; silent = says.silent ∙ same })
+  start_met old mid new over state starts.Memory result left_old left_new input content rests stays same left leads is says =
+      let output = on_log over input (standing next_in_chain content) in
+      silent_met old new content output stops.Memory result left_old left_new (quiet_images old new content output.change rests stays leads) (record { stop_is = says.stop_is; silent = says.silent ∙ same })
+
+  -- ---- questions over the log
+
+  pub ask_refused : (old mid new : D) (kind : Kind) (key : List ℕ) (at : Option ℕ) (error : StartError) (result : Result Ending RunStop) (left : Option (List ℕ)) → IsSettled (disk old (now old)) → Stays now disk old mid → told mid ≡ told old
+      → ((content : List ℕ) → content_of (disk old (now old)) ≡ Some content → IsNodeStarted (disk mid (now mid)) (standing next_in_chain content) (Err error)) → Stays now disk mid new → TellsStart next_in_chain now disk told mid new error result
+      → IsRun now disk told old new (status_of_result result) left left block_in compiled_in (Some (Ask kind key at))
+  ask_refused old mid new kind key at error result left settled begins same started stays says input content given_input given = (
+    on_log (ask_output compiled_in kind key at input) input (standing next_in_chain content),
+    refl,
+    start_met old mid new (ask_output compiled_in kind key at input) (disk mid (now mid)) error result left left input content (rests_given true (disk old (now old)) content settled given) (stays_on now disk old mid new begins stays) same (left_same left input given_input)
+        (λ c at_c. same_may_leave content _ c (ask_no_change kind key at input (standing next_in_chain content)) at_c) (started content (told_input (content_of (disk old (now old))) content given)) says,
+  )
+
+  pub ask_run : {E : Type 0} (old mid new : D) (kind : Kind) (key : List ℕ) (at : Option ℕ) (node : NodeState) (found : Result Outcome E) (result : Result Ending RunStop) (left : Option (List ℕ)) → IsSettled (disk old (now old)) → Stays now disk old mid → told mid ≡ told old
+      → ((content : List ℕ) → content_of (disk old (now old)) ≡ Some content → IsNodeStarted (disk mid (now mid)) (standing next_in_chain content) (Ok node))
+      → IfOk found (λ outcome. (blocks : List Block) → StandsFor node.chain blocks → outcome ≡ answer_outcome compiled_in (record { kind = kind; key = key; at = at_or_last at blocks }) blocks)
+      → Stays now disk mid new → ((wanted : Outcome) → IfOk found (λ outcome. outcome ≡ wanted) → Says next_in_chain now disk told mid new wanted result)
+      → IsRun now disk told old new (status_of_result result) left left block_in compiled_in (Some (Ask kind key at))
+  ask_run old mid new kind key at node found result left settled begins same started answers stays says input content given_input given =
+      let s = started content (told_input (content_of (disk old (now old))) content given) in
+      let answer : List Block → Outcome = λ blocks. answer_outcome compiled_in (record { kind = kind; key = key; at = at_or_last at blocks }) blocks in (
+        output_of (answer s.0) input,
+        sym (on_log_blocks (ask_output compiled_in kind key at input) input (standing next_in_chain content) s.0 s.1),
+        said_met old new content (answer s.0) result left left input (rests_given true (disk old (now old)) content settled given) (stays_on now disk old mid new begins stays)
+            (says_since old mid new (answer s.0) result same (says (answer s.0) (of_blocks found (StandsFor node.chain) answer answers s.0 s.2.kept))) (left_same left input given_input),
+      )
+
+  -- ---- `append`
+
+  pub append_refused : (old mid new : D) (error : StartError) (result : Result Ending RunStop) (left : Option (List ℕ)) → IsSettled (disk old (now old)) → Stays now disk old mid → told mid ≡ told old
+      → ((content : List ℕ) → content_of (disk old (now old)) ≡ Some content → IsNodeStarted (disk mid (now mid)) (standing next_in_chain content) (Err error)) → Stays now disk mid new → TellsStart next_in_chain now disk told mid new error result
+      → IsRun now disk told old new (status_of_result result) left left block_in compiled_in (Some Append)
+  append_refused old mid new error result left settled begins same started stays says input content given_input given =
+      let left_is = told_input left input given_input in (
+        on_log (appended input) input (standing next_in_chain content),
+        refl,
+        start_met old mid new (appended input) (disk mid (now mid)) error result left left input content (rests_given true (disk old (now old)) content settled given) (stays_on now disk old mid new begins stays) same (left_is ∙ left_read left input input left_is)
+            (append_may_leave content input (standing next_in_chain content) refl) (started content (told_input (content_of (disk old (now old))) content given)) says,
+      )
+
+  changed : (state : Option DiskState) (content : List ℕ) (blocks added : List Block) → chain_of next_in_chain content ≡ Some blocks → Rests state (λ image. chain_of next_in_chain image ≡ Some (blocks ++ added)) → Rests state (IsChanged next_in_chain content (Appends added))
+  changed None content blocks added is rests = tt
+  changed (Some s) content blocks added is rests = (rests.0, (blocks, is, rests.1))
+
+  append_met : (old mid new : D) (content : List ℕ) (blocks : List Block) (fold : Fold) (answer : Result AppendEnd AppendStop) (left_old left_new : Option (List ℕ)) (input : List ℕ) → left_old ≡ Some input → chain_of next_in_chain content ≡ Some blocks → Stays now disk old mid
+      → Keeps now disk old new (MayLeave next_in_chain content (Appends (added_by_all fold.taken))) → Telling next_in_chain now disk told old new (fold_lines compiled_in blocks fold) (is_ok answer)
+      → (is_ok answer ≡ true → added_by_all fold.taken ≡ [] → Stays now disk mid new) → IfOk answer (Appended (disk new (now new)) left_new blocks fold)
+      → Meets next_in_chain now disk told old new (status_of_result (append_answer answer)) left_old left_new content (append_output compiled_in blocks fold)
+  append_met old mid new content blocks fold (Ok end) left_old left_new input left_is is begins images lines unwritten ended =
+      let ends : came_to_end (status_of (fold_ending (fold_end end))) ≡ true = ending_ends (fold_ending (fold_end end)) in
+      record {
+        lines = subst (λ (all : Bool). Telling next_in_chain now disk told old new (fold_lines compiled_in blocks fold) all) (sym ends) lines;
+        images = images;
+        unwritten = λ e none. stays_on now disk old mid new begins (unwritten refl (no_blocks (added_by_all fold.taken) none));
+        ended = λ e. record {
+          status_is = ap (λ (x : FoldEnd). status_of (fold_ending x)) ended.end_is;
+          left_is = ended.left_is ∙ left_read left_old input fold.left left_is;
+          log = changed (disk new (now new)) content blocks (added_by_all fold.taken) is ended.log;
+        };
+      }
+  append_met old mid new content blocks fold (Err stop) left_old left_new input left_is is begins images lines unwritten ended =
+      let halts = stop_stops (append_stop stop) in
+      record {
+        lines = subst (λ (all : Bool). Telling next_in_chain now disk told old new (fold_lines compiled_in blocks fold) all) (sym halts) lines;
+        images = images;
+        unwritten = λ e none. absurd (cc (halts, e));
+        ended = λ e. absurd (cc (halts, e));
+      }
+
+  append_run : (old mid new : D) (node : NodeState) (answer : Result AppendEnd AppendStop) (left_old left_new : Option (List ℕ)) → IsSettled (disk old (now old)) → Stays now disk old mid → told mid ≡ told old
+      → ((content : List ℕ) → content_of (disk old (now old)) ≡ Some content → IsNodeStarted (disk mid (now mid)) (standing next_in_chain content) (Ok node))
+      → ((blocks : List Block) (input : List ℕ) → IsNodeOf node (disk mid (now mid)) blocks → left_old ≡ Some input → AppendsAll now disk told mid new left_new blocks (fold_from block_in compiled_in (MAX_FRAMES + 1) blocks input) answer)
+      → IsRun now disk told old new (status_of_result (append_answer answer)) left_old left_new block_in compiled_in (Some Append)
+  append_run old mid new node answer left_old left_new settled begins same started all input content given_input given =
+      let left_is = told_input left_old input given_input in
+      let s = started content (told_input (content_of (disk old (now old))) content given) in
+      let blocks : List Block = s.0 in
+      let fold : Fold = fold_from block_in compiled_in (MAX_FRAMES + 1) blocks input in
+      let appends = all blocks input s.2 left_is in
+      let here : IsTold (disk mid (now mid)) = ap is_some begins.last ∙ told_disk (disk old (now old)) content given in
+      let rests = rests_given true (disk old (now old)) content settled given in
+      let images : Keeps now disk old new (MayLeave next_in_chain content (Appends (added_by_all fold.taken))) =
+      then_keeps now disk old mid new (MayLeave next_in_chain content (Appends (added_by_all fold.taken))) (quiet_images old mid content (Appends (added_by_all fold.taken)) rests begins (λ c at. log_may_leave content blocks (added_by_all fold.taken) c s.1 at))
+      (weaker now disk mid new (IsPartly next_in_chain blocks (added_by_all fold.taken)) (MayLeave next_in_chain content (Appends (added_by_all fold.taken))) (appends.images here) (λ c at. (blocks, s.1, at))) in (
+        append_output compiled_in blocks fold,
+        sym (on_log_blocks (appended input) input (standing next_in_chain content) blocks s.1),
+        append_met old mid new content blocks fold answer left_old left_new input left_is s.1 begins images (told_since next_in_chain now disk told old mid new (fold_lines compiled_in blocks fold) (is_ok answer) same (appends.lines here)) appends.unwritten appends.ended,
+      )
+
+  pub append_run_is : (old mid new : D) (node : NodeState) (answer : Result AppendEnd AppendStop) (result : Result Ending RunStop) (left_old left_new : Option (List ℕ)) → result ≡ append_answer answer → IsSettled (disk old (now old)) → Stays now disk old mid → told mid ≡ told old
+      → ((content : List ℕ) → content_of (disk old (now old)) ≡ Some content → IsNodeStarted (disk mid (now mid)) (standing next_in_chain content) (Ok node))
+      → ((blocks : List Block) (input : List ℕ) → IsNodeOf node (disk mid (now mid)) blocks → left_old ≡ Some input → AppendsAll now disk told mid new left_new blocks (fold_from block_in compiled_in (MAX_FRAMES + 1) blocks input) answer)
+      → IsRun now disk told old new (status_of_result result) left_old left_new block_in compiled_in (Some Append)
+  append_run_is old mid new node answer result left_old left_new is settled begins same started all =
+      subst (λ (r : Result Ending RunStop). IsRun now disk told old new (status_of_result r) left_old left_new block_in compiled_in (Some Append)) (sym is) (append_run old mid new node answer left_old left_new settled begins same started all)
+
+  -- ---- whole runs
+
+  pub of_command : (old new : D) (status : Status) (left_old left_new : Option (List ℕ)) (command given : Command) → command ≡ given → IsRun now disk told old new status left_old left_new block_in compiled_in (Some given) → IsRun now disk told old new status left_old left_new block_in compiled_in (Some command)
+  of_command old new status left_old left_new command given is run = subst (λ (c : Command). IsRun now disk told old new status left_old left_new block_in compiled_in (Some c)) (sym is) run
+
+  pub with_status : (old new : D) (status answer : Status) (left_old left_new : Option (List ℕ)) (given command : Option Command) → status ≡ answer → command ≡ given → IsRun now disk told old new status left_old left_new block_in compiled_in given
+      → IsRun now disk told old new answer left_old left_new block_in compiled_in command
+  with_status old new status answer left_old left_new given command is same run =
+      subst (λ (c : Option Command). IsRun now disk told old new answer left_old left_new block_in compiled_in c) (sym same) (subst (λ (s : Status). IsRun now disk told old new s left_old left_new block_in compiled_in given) is run)

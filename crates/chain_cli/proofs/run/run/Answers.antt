@@ -1,0 +1,19 @@
+use Rattle.std.proofs.Common.{refl}
+use Rattle.block_codec.specs.Reading.{block_in}
+use Rattle.block_codec.proofs.WholeBlocks.{decided}
+use Rattle.chain_exec.specs.Compiled.{compiled_in}
+use Rattle.chain_exec.proofs.TheLaws.{one_compiler}
+use Rattle.chain_cli.proofs.Runs.{with_status}
+use Rattle.chain_cli.proofs.run.run.Goals as goal
+
+pub returns-clause-output : goal.returns-clause-output
+returns-clause-output g c = (
+  block_in,
+  decided,
+  (
+    compiled_in,
+    one_compiler.is_compiler,
+    λ command is. with_status g.M.Clock.now g.M.Clock.disk g.M.Clock.told c.args.machine.now c.run_words.new.machine c.run_words.result c.run_words.result (g.I.Source.left c.args.source.now) (g.I.Source.left c.run_words.new.source) c.command_of-command.result command
+        refl (c.command_of-command.ensures.only command is) c.run_words.ensures.run,
+  ),
+)

@@ -1,0 +1,175 @@
+//! The commands over the log: `append`, and the questions `hist`, `back` and `fwd`.
+
+ghost use Rattle.std.specs.Prelude.{◌≡◌, ℕ, List, [], ◌∷◌, Option, Some, IfOk, IsErrOf};
+ghost use Rattle.lc_base.specs.Faults.{HasCause};
+ghost use Rattle.lc_outside.specs.Disk.{Stays};
+ghost use Rattle.disk_model.specs.Disk.{IsSettled};
+ghost use Rattle.block_codec.specs.Reading.{block_in};
+ghost use Rattle.block_codec.specs.declared.block.Block.{Block as Blocks};
+ghost use Rattle.block_log.specs.Standing.{NextBlock};
+ghost use Rattle.chain_exec.specs.Compiled.{compiled_in};
+ghost use Rattle.chain_state.specs.Chain.{StandsFor};
+ghost use Rattle.recovery.specs.declared.errors.StartError.TheVariants as starts;
+ghost use Rattle.chain_lines.specs.Lines.{not_a_log_line, damaged_line};
+ghost use Rattle.chain_lines.specs.Outcome.{outcome_with};
+ghost use Rattle.chain_lines.specs.declared.outcome.Outcome.{Outcome as Outcomes};
+ghost use Rattle.chain_words.specs.declared.words.Command.TheVariants.{Append, Ask};
+ghost use Rattle.chain_output.specs.Output.{answer_outcome, at_or_last};
+ghost use Rattle.chain_output.specs.Running.{IsRun, IsSilent};
+ghost use Rattle.chain_output.specs.Telling.{Says, TellsStart, append_answer, status_of_result};
+
+use chain_append::{AppendEnd, AppendStop, append as append_frames};
+use chain_lines::{
+    Ending, Outcome, answer_lines, damaged_line, empty_line, head_line, not_a_log_line,
+};
+use chain_output::{RunStop, tell_outcome};
+use disk_model::Disk;
+use lc_base::{Key, Kind, Memory, Query};
+use lc_outside::{Source, Wire};
+use recovery::{Node, StartError};
+use std::alloc::Global;
+
+/// The disk holds something else than a log.
+fn not_a_log(alloc: Global) -> Result<Outcome, Memory>
+    ensures { IfOk result (λ outcome. outcome ≡ outcome_with (not_a_log_line ∷ []) Ending.NotALog) }
+{
+    Outcome::from_line(alloc, not_a_log_line(alloc)?, Ending::NotALog)
+}
+
+/// The log is damaged at this offset.
+fn damaged(alloc: Global, at: u64) -> Result<Outcome, Memory>
+    ensures { IfOk result (λ outcome. outcome ≡ outcome_with (damaged_line at ∷ []) Ending.Damaged) }
+{
+    Outcome::from_line(alloc, damaged_line(alloc, at)?, Ending::Damaged)
+}
+
+/// Tells an outcome, unless there was no memory for it.
+fn tell_made<M: Wire>(machine: &mut M, outcome: Result<Outcome, Memory>) -> Result<Ending, RunStop>
+    ensures says { (next : NextBlock) (wanted : Outcomes) → IfOk outcome (λ o. o ≡ wanted) → Says next M.now M.disk M.told machine.old machine.new wanted result }
+    ensures silent { IsSilent (status_of_result result) (M.told machine.old) (M.told machine.new) }
+    ensures reads { IsErrOf result RunStop.Unreadable → ⊥ }
+    ensures writes { IsErrOf result RunStop.DiskFault → ⊥ }
+    ensures disk { Stays M.now M.disk machine.old machine.new }
+    ensures disk_faults { M.disk_faults machine.new ≡ M.disk_faults machine.old }
+    ensures cause { HasCause (M.wire_faults machine.old) (M.wire_faults machine.new) (IsErrOf result RunStop.Untold) }
+{
+    match outcome {
+        Ok(outcome) => tell_outcome(machine, &outcome),
+        Err(Memory) => Err(RunStop::Memory),
+    }
+}
+
+/// Tells that there is no node to start with, or says why the disk was not read.
+fn tell_start<M: Wire>(alloc: Global, machine: &mut M, error: StartError) -> Result<Ending, RunStop>
+    ensures says { (next : NextBlock) → TellsStart next M.now M.disk M.told machine.old machine.new error result }
+    ensures silent { IsSilent (status_of_result result) (M.told machine.old) (M.told machine.new) }
+    ensures reads { IsErrOf result RunStop.Unreadable → ⊥ }
+    ensures disk_fault { IsErrOf result RunStop.DiskFault → error ≡ starts.DiskFault }
+    ensures disk { Stays M.now M.disk machine.old machine.new }
+    ensures disk_faults { M.disk_faults machine.new ≡ M.disk_faults machine.old }
+    ensures cause { HasCause (M.wire_faults machine.old) (M.wire_faults machine.new) (IsErrOf result RunStop.Untold) }
+{
+    match error {
+        StartError::NotALog => tell_made(machine, not_a_log(alloc)),
+        StartError::Damaged { at } => tell_made(machine, damaged(alloc, at)),
+        StartError::DiskFault => Err(RunStop::DiskFault),
+        StartError::Memory => Err(RunStop::Memory),
+    }
+}
+
+/// How a command ends that appended.
+fn append_answer(answer: Result<AppendEnd, AppendStop>) -> Result<Ending, RunStop>
+    ensures { result ≡ append_answer answer }
+{
+    match answer {
+        Ok(AppendEnd::Whole) => Ok(Ending::Done),
+        Ok(AppendEnd::Refused { .. }) => Ok(Ending::Refused),
+        Err(AppendStop::Unreadable) => Err(RunStop::Unreadable),
+        Err(AppendStop::Untold) => Err(RunStop::Untold),
+        Err(AppendStop::DiskFault) => Err(RunStop::DiskFault),
+        Err(AppendStop::Memory) => Err(RunStop::Memory),
+    }
+}
+
+/// Takes the blocks of the input into the chain of the log, and tells of each.
+pub fn append<I: Source, M: Disk + Wire>(
+    alloc: Global,
+    source: &mut I,
+    machine: &mut M,
+) -> Result<Ending, RunStop>
+    requires settled { IsSettled (M.disk machine.old (M.now machine.old)) }
+    ensures run { IsRun M.now M.disk M.told machine.old machine.new (status_of_result result) (I.left source.old) (I.left source.new) block_in compiled_in (Some Append) }
+    ensures unreadable { HasCause (I.source_faults source.old) (I.source_faults source.new) (IsErrOf result RunStop.Unreadable) }
+    ensures disk_fault { HasCause (M.disk_faults machine.old) (M.disk_faults machine.new) (IsErrOf result RunStop.DiskFault) }
+    ensures untold { HasCause (M.wire_faults machine.old) (M.wire_faults machine.new) (IsErrOf result RunStop.Untold) }
+{
+    match Node::start(alloc, machine) {
+        Ok(node) => append_answer(append_frames(alloc, source, machine, node)),
+        Err(error) => tell_start(alloc, machine, error),
+    }
+}
+
+/// The answer over the rows of a node's chain, if it is asked for up to one of its blocks; where none
+/// is named, up to the last one.
+fn answer(
+    alloc: Global,
+    kind: Kind,
+    key: Key,
+    at: Option<u32>,
+    node: &mut Node,
+) -> Result<Outcome, Memory>
+    ensures { IfOk result (λ outcome. (blocks : List Blocks) → StandsFor node.old.chain blocks → outcome ≡ answer_outcome compiled_in (record { kind = kind; key = key; at = at_or_last at blocks }) blocks) }
+{
+    let count = node.blocks();
+    if count == 0 {
+        return Outcome::from_line(alloc, empty_line(alloc)?, Ending::Beyond);
+    }
+    let at = at.unwrap_or(count - 1);
+    if at >= count {
+        return Outcome::from_line(alloc, head_line(alloc, count - 1)?, Ending::Beyond);
+    }
+    let query = Query { kind, key, at };
+    let answer = node.ask(&query)?;
+    Ok(Outcome {
+        pieces: answer_lines(alloc, &answer)?,
+        ending: Ending::Done,
+    })
+}
+
+/// The same of a node that is given up.
+fn last_answer(
+    alloc: Global,
+    kind: Kind,
+    key: Key,
+    at: Option<u32>,
+    node: Node,
+) -> Result<Outcome, Memory>
+    ensures { IfOk result (λ outcome. (blocks : List Blocks) → StandsFor node.chain blocks → outcome ≡ answer_outcome compiled_in (record { kind = kind; key = key; at = at_or_last at blocks }) blocks) }
+{
+    let mut node = node;
+    let outcome = answer(alloc, kind, key, at, &mut node);
+    node.give_up();
+    outcome
+}
+
+/// Tells the answer to a question over the blocks of the log.
+pub fn ask<M: Disk + Wire>(
+    alloc: Global,
+    kind: Kind,
+    key: Key,
+    at: Option<u32>,
+    machine: &mut M,
+) -> Result<Ending, RunStop>
+    requires settled { IsSettled (M.disk machine.old (M.now machine.old)) }
+    ensures run { (left : Option (List ℕ)) → IsRun M.now M.disk M.told machine.old machine.new (status_of_result result) left left block_in compiled_in (Some (Ask kind key at)) }
+    ensures silent { IsSilent (status_of_result result) (M.told machine.old) (M.told machine.new) }
+    ensures reads { IsErrOf result RunStop.Unreadable → ⊥ }
+    ensures disk { Stays M.now M.disk machine.old machine.new }
+    ensures disk_fault { HasCause (M.disk_faults machine.old) (M.disk_faults machine.new) (IsErrOf result RunStop.DiskFault) }
+    ensures untold { HasCause (M.wire_faults machine.old) (M.wire_faults machine.new) (IsErrOf result RunStop.Untold) }
+{
+    match Node::start(alloc, machine) {
+        Ok(node) => tell_made(machine, last_answer(alloc, kind, key, at, node)),
+        Err(error) => tell_start(alloc, machine, error),
+    }
+}

@@ -1,0 +1,230 @@
+-- What a command wants told of an input and of the content of the disk, how it ends, what it leaves of
+-- the input, and what it does to the log.
+use Rattle.std.specs.Prelude.{◌≡◌, ℕ, ◌+◌, ◌-◌, ◌<◌, ◌≤◌, ◌==◌, nat_lt, Bool, true, false, if◌then◌else◌, List, [], ◌∷◌, length, drop, map, Option, Some, None, Ok, Err, codes}
+use Rattle.std.specs.List.{concat}
+use Rattle.lc_base.specs.History.{scan}
+use Rattle.lc_base.specs.declared.answer.Kind.{Kind}
+use Rattle.lc_base.specs.declared.answer.Query.{Query}
+use Rattle.block_codec.specs.Spelling.{Decoder, IsDecoder}
+use Rattle.block_codec.specs.declared.block.Block.{Block}
+use Rattle.block_codec.specs.declared.limits.TheConstants.{MAX_FRAMES}
+use Rattle.block_log.specs.Standing.{Standing, Blank, NotALog, Damaged, Holds, NextBlock, next_block, blocks_in, standing}
+use Rattle.contract_tree.specs.Tree.{FunctionTree}
+use Rattle.contract_parse.specs.Syntax.{Outcome as SourceOutcome, IsOutcome}
+use Rattle.contract_check.specs.Faults.{check_fault}
+use Rattle.contract_check.specs.declared.fault.Fault.{Fault}
+use Rattle.contract_print.specs.Canonical.{contract_text}
+use Rattle.chain_exec.specs.Compiled.{Compiler, IsCompiler}
+use Rattle.chain_exec.specs.Replay.{replay}
+use Rattle.chain_state.specs.Chain.{placement_in}
+use Rattle.chain_state.specs.Judging.{added_by_all}
+use Rattle.scan_chain.specs.Folding.{Fold, FoldEnd, Whole, Refused, fold_from, fold_input}
+use Rattle.chain_promises.specs.Promises.{Line, plain, Change, NoChange, Appends}
+use Rattle.chain_append.specs.Appending.{fold_lines}
+use Rattle.chain_pack.specs.Draft.{packed}
+use Rattle.chain_gen.specs.Generator.{generated}
+use Rattle.chain_words.specs.declared.words.Generation.{Generation}
+use Rattle.chain_words.specs.declared.words.Command.{Command}
+use Rattle.chain_words.specs.declared.words.Command.TheVariants.{Scan, Fmt, Pack, Gen, Append, Ask}
+use Rattle.chain_lines.specs.Lines.{usage_line, empty_line, head_line, refused_line, answer_lines, syntax_cause, check_cause, not_a_log_line, damaged_line}
+use Rattle.chain_lines.specs.Outcome.{status_of, outcome_with, bad_input}
+use Rattle.chain_lines.specs.declared.whole.TheConstants.{MAX_WHOLE_INPUT_BYTES}
+use Rattle.chain_lines.specs.declared.outcome.Outcome.{Outcome}
+use Rattle.chain_lines.specs.declared.outcome.Ending.{Ending}
+use Rattle.chain_lines.specs.declared.outcome.Ending.TheVariants as endings
+use Rattle.chain_lines.specs.declared.status.Status.{Status}
+use Rattle.chain_lines.specs.declared.status.Status.TheVariants as statuses
+use Rattle.chain_output.specs.Texts.{lines_of}
+use Rattle.chain_output.specs.Blocks.{frame, draft_outcome}
+
+-- ---- outputs
+
+-- What is told, each line by itself, and what each promises of the log; how the command ends; what is
+-- left of the input; and what becomes of the log. A frame that is told is a line that promises nothing.
+pub record Output : Type 0 where
+  pub lines : List Line
+  pub status : Status
+  pub left : List ℕ
+  pub change : Change
+
+-- The bytes that are told.
+abbrev pub told_bytes : Output → List ℕ
+told_bytes output = concat (map (λ line. line.text) output.lines)
+
+-- An outcome, and what is left of the input. It promises nothing, and the log stays as it is.
+abbrev pub output_of : Outcome → List ℕ → Output
+output_of outcome left = record { lines = map plain outcome.pieces; status = status_of outcome.ending; left = left; change = NoChange }
+
+-- Words that are no command give `usage`, and leave the input.
+abbrev pub usage_output : List ℕ → Output
+usage_output input = record { lines = plain usage_line ∷ []; status = statuses.Usage; left = input; change = NoChange }
+
+-- ---- a question over the blocks of an input
+
+-- The answer over the rows of a chain, where it is asked for up to one of its blocks.
+abbrev pub answer_outcome : Compiler → Query → List Block → Outcome
+answer_outcome compile query blocks =
+    if length blocks == 0 then outcome_with (empty_line ∷ []) endings.Beyond
+    else (if nat_lt query.at (length blocks)
+    then outcome_with (answer_lines (scan (replay compile blocks).rows query)) endings.Done
+    else outcome_with (head_line (length blocks - 1) ∷ []) endings.Beyond)
+
+-- What `scan` tells of blocks, where the frames end so.
+abbrev pub scan_outcome : Compiler → Query → List Block → FoldEnd → Outcome
+scan_outcome compile query blocks Whole = answer_outcome compile query blocks
+scan_outcome compile query blocks (Refused frame cause) = outcome_with (refused_line frame cause ∷ []) endings.Refused
+
+-- What `scan` tells: a refused frame decides, wherever it stands.
+abbrev pub scan_output : Compiler → Query → Fold → Output
+scan_output compile query fold = output_of (scan_outcome compile query (added_by_all fold.taken) fold.end) fold.left
+
+-- ---- inputs that are read whole
+
+-- The input is short enough to be read whole.
+abbrev pub FitsInput : List ℕ → Type 0
+FitsInput input = length input ≤ MAX_WHOLE_INPUT_BYTES
+
+-- What a command tells of an input that is too long: what follows the first byte too many is left.
+abbrev pub long_output : List ℕ → Output
+long_output input = output_of (bad_input (codes "long")) (drop (MAX_WHOLE_INPUT_BYTES + 1) input)
+
+-- What is told of functions: their canonical text, line by line, unless one of their names or kinds
+-- is invalid.
+abbrev pub fmt_outcome : List FunctionTree → Option Fault → Outcome
+fmt_outcome functions (Some fault) = bad_input (check_cause fault)
+fmt_outcome functions None = outcome_with (lines_of (contract_text functions)) endings.Done
+
+-- What is told of a source: the first fault of its syntax, or what is told of the functions that it
+-- reads as.
+abbrev pub source_outcome : SourceOutcome → Outcome
+source_outcome (Ok functions) = fmt_outcome functions (check_fault functions)
+source_outcome (Err fault) = bad_input (syntax_cause fault.0 fault.1)
+
+-- What `fmt` tells of an input: what is told of the source that it is, or that it is too long.
+pub data IsFmt (input : List ℕ) : Output → Type 0 where
+  Long : MAX_WHOLE_INPUT_BYTES < length input → IsFmt input (long_output input)
+  Source : FitsInput input → (outcome : SourceOutcome) → IsOutcome input outcome →
+      IsFmt input (output_of (source_outcome outcome) [])
+
+-- What `fmt` tells of an input without a fault, it tells of what it told, where that is short
+-- enough to be read whole.
+abbrev pub FormatsAgain : List ℕ → Type 0
+FormatsAgain input =
+    (output : Output) → IsFmt input output → output.status ≡ statuses.Done → FitsInput (told_bytes output) →
+    IsFmt (told_bytes output) output
+
+-- What `pack` tells of an input: what is told of the draft that it is, or that it is too long.
+abbrev pub pack_output : List ℕ → Output
+pack_output input =
+    if nat_lt MAX_WHOLE_INPUT_BYTES (length input) then long_output input
+    else output_of (draft_outcome (packed input)) []
+
+-- ---- blocks that are made
+
+-- What `gen` tells: the frame of each block. It leaves the input.
+abbrev pub gen_output : Generation → List ℕ → Output
+gen_output generation input =
+    record { lines = map plain (map frame (generated generation.blocks generation.seed)); status = statuses.Done; left = input; change = NoChange }
+
+-- ---- the log
+
+-- The next block of a chain, by a decoder and a compiler.
+abbrev pub next_by : Decoder → Compiler → NextBlock
+next_by read compile = next_block read (placement_in compile)
+
+-- A command over the blocks that the bytes on the disk stand for. Where they are something else than a
+-- log, or damaged, this is told, and the input and the disk stay as they are.
+abbrev pub on_log : (List Block → Output) → List ℕ → Standing → Output
+on_log over input Blank = over []
+on_log over input NotALog = output_of (outcome_with (not_a_log_line ∷ []) endings.NotALog) input
+on_log over input (Damaged before at) = output_of (outcome_with (damaged_line at ∷ []) endings.Damaged) input
+on_log over input (Holds stored gate) = over (blocks_in stored)
+
+-- How `append` ends, by where the frames end.
+abbrev pub fold_ending : FoldEnd → Ending
+fold_ending Whole = endings.Done
+fold_ending (Refused frame cause) = endings.Refused
+
+-- What `append` gives of the frames of an input, from these blocks on: a line of each frame that was
+-- taken, and one of a refusal. The blocks that are added are appended to the log.
+abbrev pub append_output : Compiler → List Block → Fold → Output
+append_output compile blocks fold =
+    record { lines = fold_lines compile blocks fold; status = status_of (fold_ending fold.end); left = fold.left; change = Appends (added_by_all fold.taken) }
+
+-- The block that a question names, or else the last one.
+abbrev pub at_or_last : Option ℕ → List Block → ℕ
+at_or_last (Some at) blocks = at
+at_or_last None blocks = length blocks - 1
+
+-- The answer to a question over the blocks of the log. It leaves the input.
+abbrev pub ask_output : Compiler → Kind → List ℕ → Option ℕ → List ℕ → List Block → Output
+ask_output compile kind key at input blocks =
+    output_of (answer_outcome compile (record { kind = kind; key = key; at = at_or_last at blocks }) blocks) input
+
+-- ---- what is wanted
+
+-- A command, or that the words are none, wants this output of an input and of the content of the disk,
+-- by a decoder and a compiler.
+abbrev pub Wants : Decoder → Compiler → Option Command → List ℕ → List ℕ → Output → Type 0
+Wants read compile None input content output = output ≡ usage_output input
+Wants read compile (Some (Scan query)) input content output = output ≡ scan_output compile query (fold_input read compile input)
+Wants read compile (Some Fmt) input content output = IsFmt input output
+Wants read compile (Some Pack) input content output = output ≡ pack_output input
+Wants read compile (Some (Gen generation)) input content output = output ≡ gen_output generation input
+Wants read compile (Some Append) input content output =
+    output ≡ on_log (λ blocks. append_output compile blocks (fold_from read compile (MAX_FRAMES + 1) blocks input)) input (standing (next_by read compile) content)
+Wants read compile (Some (Ask kind key at)) input content output =
+    output ≡ on_log (ask_output compile kind key at input) input (standing (next_by read compile) content)
+
+-- An output is wanted, by a decoder and a compiler that are right.
+abbrev pub IsWanted : Option Command → List ℕ → List ℕ → Output → Type 0
+IsWanted command input content output =
+    (read : Decoder) × IsDecoder read × (compile : Compiler) × IsCompiler compile × Wants read compile command input content output
+
+-- There is an output that is wanted, and no other.
+pub record IsOneOutput (Wanted : Output → Type 0) : Type 0 where
+  pub output : Output
+  pub wanted : Wanted output
+  pub only : (other : Output) → Wanted other → other ≡ output
+
+-- ---- what a command uses
+
+-- Whether a command, or words that are none, reads the input.
+abbrev pub reads_input : Option Command → Bool
+reads_input None = false
+reads_input (Some (Scan query)) = true
+reads_input (Some Fmt) = true
+reads_input (Some Pack) = true
+reads_input (Some (Gen generation)) = false
+reads_input (Some Append) = true
+reads_input (Some (Ask kind key at)) = false
+
+-- Whether it uses the disk.
+abbrev pub uses_disk : Option Command → Bool
+uses_disk None = false
+uses_disk (Some (Scan query)) = false
+uses_disk (Some Fmt) = false
+uses_disk (Some Pack) = false
+uses_disk (Some (Gen generation)) = false
+uses_disk (Some Append) = true
+uses_disk (Some (Ask kind key at)) = true
+
+-- Whether it may change the log.
+abbrev pub changes_log : Option Command → Bool
+changes_log None = false
+changes_log (Some (Scan query)) = false
+changes_log (Some Fmt) = false
+changes_log (Some Pack) = false
+changes_log (Some (Gen generation)) = false
+changes_log (Some Append) = true
+changes_log (Some (Ask kind key at)) = false
+
+-- Whether it tells lines while it makes others.
+abbrev pub tells_as_it_goes : Option Command → Bool
+tells_as_it_goes None = false
+tells_as_it_goes (Some (Scan query)) = false
+tells_as_it_goes (Some Fmt) = false
+tells_as_it_goes (Some Pack) = false
+tells_as_it_goes (Some (Gen generation)) = true
+tells_as_it_goes (Some Append) = true
+tells_as_it_goes (Some (Ask kind key at)) = false

@@ -1,0 +1,87 @@
+//! Telling what a command has to tell.
+
+ghost use Rattle.std.specs.Prelude.{◌≡◌, [], ◌∷◌, map, is_ok, IfErr, IsErr, IsErrOf, Err};
+ghost use Rattle.lc_base.specs.Faults.{HasCause};
+ghost use Rattle.lc_outside.specs.Disk.{Stays};
+ghost use Rattle.block_log.specs.Standing.{NextBlock};
+ghost use Rattle.scan_chain.specs.declared.stop.Stop.TheVariants as stops;
+ghost use Rattle.chain_promises.specs.Promises.{plain, Telling};
+ghost use Rattle.chain_lines.specs.Lines.{usage_line};
+ghost use Rattle.chain_output.specs.Running.{IsSilent};
+ghost use Rattle.chain_output.specs.Telling.{Says, TellsResult, status_of_result, status_of_usage};
+
+use crate::stop::RunStop;
+use chain_lines::{Ending, Outcome, usage_line};
+use lc_base::{Bytes, Memory};
+use lc_outside::{Failed, Wire};
+use scan_chain::Stop;
+use std::alloc::Global;
+
+/// Tells each piece by itself, in order.
+fn tell_all<M: Wire>(machine: &mut M, pieces: &[Bytes]) -> Result<(), Failed>
+    ensures lines { (next : NextBlock) → Telling next M.now M.disk M.told machine.old machine.new (map plain pieces.now) (is_ok result) }
+    ensures disk { Stays M.now M.disk machine.old machine.new }
+    ensures disk_faults { M.disk_faults machine.new ≡ M.disk_faults machine.old }
+    ensures cause { HasCause (M.wire_faults machine.old) (M.wire_faults machine.new) (IsErr result) }
+{
+    for piece in pieces {
+        match machine.tell(piece.as_bytes()) {
+            Ok(()) => {}
+            Err(Failed) => return Err(Failed),
+        }
+    }
+    Ok(())
+}
+
+/// Tells the pieces of an outcome.
+pub fn tell_outcome<M: Wire>(machine: &mut M, outcome: &Outcome) -> Result<Ending, RunStop>
+    ensures says { (next : NextBlock) → Says next M.now M.disk M.told machine.old machine.new outcome.now result }
+    ensures stop { IfErr result (λ stop. stop ≡ RunStop.Untold) }
+    ensures disk { Stays M.now M.disk machine.old machine.new }
+    ensures disk_faults { M.disk_faults machine.new ≡ M.disk_faults machine.old }
+    ensures cause { HasCause (M.wire_faults machine.old) (M.wire_faults machine.new) (IsErrOf result RunStop.Untold) }
+{
+    match tell_all(machine, outcome.pieces.as_slice()) {
+        Ok(()) => Ok(outcome.ending),
+        Err(Failed) => Err(RunStop::Untold),
+    }
+}
+
+/// Tells the outcome of a command, or says why it stopped before it told anything.
+pub fn tell_result<M: Wire>(
+    machine: &mut M,
+    outcome: Result<Outcome, Stop>,
+) -> Result<Ending, RunStop>
+    ensures says { (next : NextBlock) → TellsResult next M.now M.disk M.told machine.old machine.new outcome result }
+    ensures silent { IsSilent (status_of_result result) (M.told machine.old) (M.told machine.new) }
+    ensures unreadable { IsErrOf result RunStop.Unreadable → outcome ≡ Err stops.Fault }
+    ensures writes { IsErrOf result RunStop.DiskFault → ⊥ }
+    ensures disk { Stays M.now M.disk machine.old machine.new }
+    ensures disk_faults { M.disk_faults machine.new ≡ M.disk_faults machine.old }
+    ensures cause { HasCause (M.wire_faults machine.old) (M.wire_faults machine.new) (IsErrOf result RunStop.Untold) }
+{
+    match outcome {
+        Ok(outcome) => tell_outcome(machine, &outcome),
+        Err(Stop::Fault) => Err(RunStop::Unreadable),
+        Err(Stop::Memory) => Err(RunStop::Memory),
+    }
+}
+
+/// Tells `usage`.
+pub fn tell_usage<M: Wire>(alloc: Global, machine: &mut M) -> Result<(), RunStop>
+    ensures lines { (next : NextBlock) → Telling next M.now M.disk M.told machine.old machine.new (plain usage_line ∷ []) (is_ok result) }
+    ensures silent { IsSilent (status_of_usage result) (M.told machine.old) (M.told machine.new) }
+    ensures reads { IsErrOf result RunStop.Unreadable → ⊥ }
+    ensures writes { IsErrOf result RunStop.DiskFault → ⊥ }
+    ensures disk { Stays M.now M.disk machine.old machine.new }
+    ensures disk_faults { M.disk_faults machine.new ≡ M.disk_faults machine.old }
+    ensures cause { HasCause (M.wire_faults machine.old) (M.wire_faults machine.new) (IsErrOf result RunStop.Untold) }
+{
+    match usage_line(alloc) {
+        Ok(line) => match tell_all(machine, &[line]) {
+            Ok(()) => Ok(()),
+            Err(Failed) => Err(RunStop::Untold),
+        },
+        Err(Memory) => Err(RunStop::Memory),
+    }
+}
