@@ -10,7 +10,7 @@ ghost use Rattle.block_codec.specs.Decoding.{fault_offset};
 
 use crate::block::{Block, CALL, DEPLOY, SET, Tx, TxList, VERSION};
 use crate::limits::{MAX_ARGS, MAX_BLOCK_BYTES, MAX_CALL_BUDGET, MAX_SOURCE_BYTES, MAX_TXS};
-use byte_fields::{Fault, FieldError, Reader};
+use byte_fields::{Fault, ReadError, Reader};
 use lc_base::{Digest, KeyList, MAX_DEPS, Seq, Value};
 use std::alloc::Global;
 
@@ -28,7 +28,7 @@ pub enum DecodeError {
 }
 
 #[tactic(auto, unfolding(crate::specs::Reading::dep_keys_at))]
-fn dep_keys(alloc: Global, reader: &mut Reader) -> Result<KeyList, FieldError>
+fn dep_keys(alloc: Global, reader: &mut Reader) -> Result<KeyList, ReadError>
     ensures { Reads error_left result (dep_keys_at reader.old) reader.new }
 {
     let count = reader.byte_at_most(MAX_DEPS as u8)?;
@@ -36,7 +36,7 @@ fn dep_keys(alloc: Global, reader: &mut Reader) -> Result<KeyList, FieldError>
 }
 
 #[tactic(auto, unfolding(crate::specs::Reading::set_at))]
-fn set(alloc: Global, reader: &mut Reader) -> Result<Tx, FieldError>
+fn set(alloc: Global, reader: &mut Reader) -> Result<Tx, ReadError>
     ensures { Reads error_left result (set_at reader.old) reader.new }
 {
     let sender = reader.key()?;
@@ -52,7 +52,7 @@ fn set(alloc: Global, reader: &mut Reader) -> Result<Tx, FieldError>
 }
 
 #[tactic(auto, unfolding(crate::specs::Reading::deploy_at))]
-fn deploy(alloc: Global, reader: &mut Reader) -> Result<Tx, FieldError>
+fn deploy(alloc: Global, reader: &mut Reader) -> Result<Tx, ReadError>
     ensures { Reads error_left result (deploy_at reader.old) reader.new }
 {
     let sender = reader.key()?;
@@ -66,7 +66,7 @@ fn deploy(alloc: Global, reader: &mut Reader) -> Result<Tx, FieldError>
 }
 
 #[tactic(auto, unfolding(crate::specs::Reading::args_at))]
-fn args(alloc: Global, reader: &mut Reader) -> Result<Seq<Value>, FieldError>
+fn args(alloc: Global, reader: &mut Reader) -> Result<Seq<Value>, ReadError>
     ensures { Reads error_left result (args_at reader.old) reader.new }
 {
     let count = reader.byte_at_most(MAX_ARGS as u8)?;
@@ -74,7 +74,7 @@ fn args(alloc: Global, reader: &mut Reader) -> Result<Seq<Value>, FieldError>
 }
 
 #[tactic(auto, unfolding(crate::specs::Reading::call_at))]
-fn call(alloc: Global, reader: &mut Reader) -> Result<Tx, FieldError>
+fn call(alloc: Global, reader: &mut Reader) -> Result<Tx, ReadError>
     ensures { Reads error_left result (call_at reader.old) reader.new }
 {
     let sender = reader.key()?;
@@ -92,7 +92,7 @@ fn call(alloc: Global, reader: &mut Reader) -> Result<Tx, FieldError>
 }
 
 #[tactic(auto, unfolding(crate::specs::Reading::tx_at))]
-fn tx(alloc: Global, reader: &mut Reader) -> Result<Tx, FieldError>
+fn tx(alloc: Global, reader: &mut Reader) -> Result<Tx, ReadError>
     ensures { Reads error_left result (tx_at reader.old) reader.new }
 {
     let left = reader.left();
@@ -100,11 +100,11 @@ fn tx(alloc: Global, reader: &mut Reader) -> Result<Tx, FieldError>
         SET => set(alloc, reader),
         DEPLOY => deploy(alloc, reader),
         CALL => call(alloc, reader),
-        _ => Err(FieldError::Fault(Fault { left })),
+        _ => Err(ReadError::Fault(Fault { left })),
     }
 }
 
-fn counted_txs(alloc: Global, reader: &mut Reader, count: u16) -> Result<TxList, FieldError>
+fn counted_txs(alloc: Global, reader: &mut Reader, count: u16) -> Result<TxList, ReadError>
     ensures { Reads error_left result (items_at tx_at count reader.old) reader.new }
 {
     let mut txs = TxList::new(alloc);
@@ -116,7 +116,7 @@ fn counted_txs(alloc: Global, reader: &mut Reader, count: u16) -> Result<TxList,
 }
 
 #[tactic(auto, unfolding(crate::specs::Reading::txs_at))]
-fn txs(alloc: Global, reader: &mut Reader) -> Result<TxList, FieldError>
+fn txs(alloc: Global, reader: &mut Reader) -> Result<TxList, ReadError>
     ensures { Reads error_left result (txs_at reader.old) reader.new }
 {
     let count = reader.u16_at_most(MAX_TXS)?;
@@ -124,7 +124,7 @@ fn txs(alloc: Global, reader: &mut Reader) -> Result<TxList, FieldError>
 }
 
 #[tactic(auto, unfolding(crate::specs::Reading::block_at))]
-fn block(alloc: Global, reader: &mut Reader) -> Result<Block, FieldError>
+fn block(alloc: Global, reader: &mut Reader) -> Result<Block, ReadError>
     ensures { Reads error_left result (block_at reader.old) reader.new }
 {
     reader.byte_that_is(VERSION)?;
@@ -139,14 +139,14 @@ fn block(alloc: Global, reader: &mut Reader) -> Result<Block, FieldError>
 }
 
 #[tactic(auto, unfolding(crate::specs::Reading::whole_block))]
-fn whole_block(alloc: Global, bytes: &[u8]) -> Result<Block, FieldError>
+fn whole_block(alloc: Global, bytes: &[u8]) -> Result<Block, ReadError>
     ensures { Answers (λ block. block) error_left result (whole_block bytes.now) }
 {
     let mut reader = Reader::new(bytes);
     let block = block(alloc, &mut reader)?;
     let left = reader.left();
     if left > 0 {
-        return Err(FieldError::Fault(Fault { left }));
+        return Err(ReadError::Fault(Fault { left }));
     }
     Ok(block)
 }
@@ -161,10 +161,10 @@ fn block_in(alloc: Global, bytes: &[u8]) -> Result<Block, DecodeError>
             at: MAX_BLOCK_BYTES,
         }),
         Ok(block) => Ok(block),
-        Err(FieldError::Fault(fault)) => Err(DecodeError::Malformed {
+        Err(ReadError::Fault(fault)) => Err(DecodeError::Malformed {
             at: (bytes.len() - fault.left).min(MAX_BLOCK_BYTES),
         }),
-        Err(FieldError::Memory) => Err(DecodeError::Memory),
+        Err(ReadError::Memory) => Err(DecodeError::Memory),
     }
 }
 

@@ -57,10 +57,17 @@ letters_good p good n =
     let whole : position_or_len p letters ≡ length letters = position_or_len_is p letters (length letters) 0 (omega arith) (λ k lt. ap p (get_or-replicate n k 97 0 (omega (arith, lt, length-replicate {A = ℕ} n 97))) ∙ good) (λ lt. absurd (omega arith)) in
     rw (whole, le-ltb (length letters) (length letters) (omega arith)) refl
 
+key_good : (n : ℕ) → bad_key_byte (replicate n 97) ≡ None
+key_good = letters_good (λ byte. not (is_key_byte byte)) refl
+
 pub key_field : IsField key_at string_fields IsKey
 unfolding key_at
-key_field = renamed (string_field 1 MAX_KEY_BYTES bad_key_byte (omega arith) (omega arith) (letters_good (λ byte. not (is_key_byte byte)) refl))
+key_field = renamed (string_field 1 MAX_KEY_BYTES bad_key_byte (omega arith) (omega arith) key_good)
     (λ bytes is. record { some = is.long; short = is.short; good = is.good }) (λ bytes is. record { long = is.some; short = is.short; good = is.good }) (λ bytes is. refl)
+
+-- a key, or the empty string
+pub key_or_none_field : IsField (string_at 0 MAX_KEY_BYTES bad_key_byte) string_fields (IsString 0 MAX_KEY_BYTES bad_key_byte)
+key_or_none_field = string_field 0 MAX_KEY_BYTES bad_key_byte (omega arith) (omega arith) key_good
 
 name_good : (n : ℕ) → bad_name_byte (replicate n 97) ≡ None
 name_good zero = refl

@@ -1,12 +1,12 @@
 -- Reading items one after the other, as a loop does.
 use Rattle.std.proofs.Common.{◌≡◌, ℕ, suc, ◌+◌, ◌-◌, ◌<◌, ◌≤◌, List, [], ◌∷◌, ◌++◌, Result, Ok, Err, refl, sym, ap, ◌∙◌, append_assoc, arith}
 use Rattle.std.proofs.lemmas.List.{append-nil}
-use Rattle.byte_fields.specs.declared.fault.FieldError.{FieldError}
-use Rattle.byte_fields.specs.declared.fault.FieldError.TheVariants as errors
+use Rattle.byte_fields.specs.declared.fault.ReadError.{ReadError}
+use Rattle.byte_fields.specs.declared.fault.ReadError.TheVariants as errors
 use Rattle.byte_fields.specs.Reader.{error_left, Reads}
 use Rattle.byte_fields.specs.Reading.{Field, ◌>>=◌, items_at}
 
-abbrev failed : (A : Type 0) → FieldError → Result A FieldError
+abbrev failed : (A : Type 0) → ReadError → Result A ReadError
 failed A error = Err error
 
 -- what was read before, and what is still read
@@ -41,7 +41,7 @@ is_done {A} item prefix count i bytes total le so_far =
     sym so_far ∙ one
 
 -- the same of an item that takes memory
-pub ends_kept : {A : Type 0} (item : List ℕ → Field A) (prefix : List A) (count i : ℕ) (bytes : List ℕ) (error : FieldError) (rest : List ℕ) (total : Field (List A)) → i < count → Reads error_left (failed A error) (item bytes) rest
+pub ends_kept : {A : Type 0} (item : List ℕ → Field A) (prefix : List A) (count i : ℕ) (bytes : List ℕ) (error : ReadError) (rest : List ℕ) (total : Field (List A)) → i < count → Reads error_left (failed A error) (item bytes) rest
     → with_prefix prefix (items_at item (count - i) bytes) ≡ total → Reads error_left (failed (List A) error) total rest
 ends_kept item prefix count i bytes (errors.Fault fault) rest total lt read so_far = ends item prefix count i bytes fault.left total lt read so_far
 ends_kept item prefix count i bytes errors.Memory rest total lt read so_far = tt

@@ -10,7 +10,7 @@ pub record Written {A : Type 0} (fields : A → List (List ℕ)) (Is : A → Typ
   pub bytes : new ≡ old ++ concat (flat_map fields items)
   pub lawful : AllByRecursion Is items
 
-all_more : {A : Type 0} (Is : A → Type 0) (xs : List A) (x : A) → AllByRecursion Is xs → Is x → AllByRecursion Is (xs ++ x ∷ [])
+pub all_more : {A : Type 0} (Is : A → Type 0) (xs : List A) (x : A) → AllByRecursion Is xs → Is x → AllByRecursion Is (xs ++ x ∷ [])
 all_more Is [] x all is = (is, tt)
 all_more Is (y ∷ ys) x all is = (all.0, all_more Is ys x all.1 is)
 
@@ -22,15 +22,23 @@ all_at Is (y ∷ ys) (suc i) x lt e all = all_at Is ys i x (omega arith) e all.1
 pub written_none : {A : Type 0} (fields : A → List (List ℕ)) (Is : A → Type 0) (old : List ℕ) → Written fields Is old old []
 written_none fields Is old = record { bytes = sym (append-nil old); lawful = tt }
 
+-- the fields of one item more
+pub one_item_more : {A : Type 0} (fields : A → List (List ℕ)) (xs : List A) (i : ℕ) (x : A) → i < length xs → x ≡ get_or xs i x → concat (flat_map fields (take (i + 1) xs)) ≡ concat (flat_map fields (take i xs)) ++ concat (fields x)
+one_item_more {A} fields xs i x lt e =
+    let taken : take (i + 1) xs ≡ take i xs ++ x ∷ [] = take_more xs i x lt ∙ ap (λ (y : A). take i xs ++ y ∷ []) (sym e) in
+    ap (λ (ys : List A). concat (flat_map fields ys)) taken
+    ∙ ap concat (flat_map-append fields (take i xs) (x ∷ []) ∙ ap (λ (t : List (List ℕ)). flat_map fields (take i xs) ++ t) (append-nil (fields x))) ∙ concat-append (flat_map fields (take i xs)) (fields x)
+
 pub written_more : {A : Type 0} (fields : A → List (List ℕ)) (Is : A → Type 0) (old new newer : List ℕ) (xs : List A) (i : ℕ) (x : A) → i < length xs → x ≡ get_or xs i x → newer ≡ new ++ concat (fields x) → Is x
     → Written fields Is old new (take i xs) → Written fields Is old newer (take (i + 1) xs)
 written_more {A} fields Is old new newer xs i x lt e put is so_far =
     let taken : take (i + 1) xs ≡ take i xs ++ x ∷ [] = take_more xs i x lt ∙ ap (λ (y : A). take i xs ++ y ∷ []) (sym e) in
-    let one : concat (flat_map fields (take i xs ++ x ∷ [])) ≡ concat (flat_map fields (take i xs)) ++ concat (fields x) =
-    ap concat (flat_map-append fields (take i xs) (x ∷ []) ∙ ap (λ (t : List (List ℕ)). flat_map fields (take i xs) ++ t) (append-nil (fields x))) ∙ concat-append (flat_map fields (take i xs)) (fields x) in
-    let bytes : newer ≡ old ++ concat (flat_map fields (take i xs ++ x ∷ [])) =
-    put ∙ ap (λ (t : List ℕ). t ++ concat (fields x)) so_far.bytes ∙ append_assoc old (concat (flat_map fields (take i xs))) (concat (fields x)) ∙ ap (λ (t : List ℕ). old ++ t) (sym one) in
-    subst (Written fields Is old newer) (sym taken) (record { bytes = bytes; lawful = all_more Is (take i xs) x so_far.lawful is })
+    record {
+      bytes =
+          put ∙ ap (λ (t : List ℕ). t ++ concat (fields x)) so_far.bytes ∙ append_assoc old (concat (flat_map fields (take i xs))) (concat (fields x))
+          ∙ ap (λ (t : List ℕ). old ++ t) (sym (one_item_more fields xs i x lt e));
+      lawful = subst (AllByRecursion Is) (sym taken) (all_more Is (take i xs) x so_far.lawful is);
+    }
 
 pub written_all : {A : Type 0} (fields : A → List (List ℕ)) (Is : A → Type 0) (old new : List ℕ) (xs : List A) (i : ℕ) → length xs ≤ i → Written fields Is old new (take i xs) → Written fields Is old new xs
 written_all fields Is old new xs i le so_far = subst (Written fields Is old new) (take_all i xs le) so_far

@@ -1,5 +1,5 @@
 -- Reading fields from left to right, up to the first that is cut short or breaks its rule.
-use Rattle.std.specs.Prelude.{ℕ, zero, suc, ℤ, Bool, nat_lt, nat_le, ◌==◌, ◌&&◌, is_none, if◌then◌else◌, List, [], ◌∷◌, length, take, drop, Option, Result, Ok, Err}
+use Rattle.std.specs.Prelude.{ℕ, zero, suc, ℤ, Bool, nat_lt, nat_le, ◌==◌, ◌&&◌, is_none, if◌then◌else◌, List, [], ◌∷◌, length, take, drop, Option, Some, None, Result, Ok, Err}
 use Rattle.std.specs.Int.{Width, w16, w64, byte_len, from_be_bytes, cast_signed}
 use Rattle.lc_names.specs.KeyBytes.{bad_key_byte}
 use Rattle.lc_names.specs.NameBytes.{bad_name_byte}
@@ -81,6 +81,15 @@ string_at low high bad = bind_at (ruled_at (λ n. nat_le low n && nat_le n high)
 -- A key.
 unfoldable pub key_at : List ℕ → Field (List ℕ)
 key_at = string_at 1 MAX_KEY_BYTES bad_key_byte
+
+-- The key that bytes are, or none where there are no bytes.
+abbrev pub key_unless_empty : List ℕ → Option (List ℕ)
+key_unless_empty [] = None
+key_unless_empty (byte ∷ bytes) = Some (byte ∷ bytes)
+
+-- A key, or none, which the empty string stands for.
+unfoldable pub key_or_empty_at : List ℕ → Field (Option (List ℕ))
+key_or_empty_at = made_at key_unless_empty (string_at 0 MAX_KEY_BYTES bad_key_byte)
 
 -- A name.
 unfoldable pub name_at : List ℕ → Field (List ℕ)

@@ -1,7 +1,7 @@
 //! Why a field could not be read.
 
 ghost use Rattle.std.specs.Prelude.{◌≡◌};
-ghost use Rattle.byte_fields.specs.declared.fault.FieldError.TheVariants.{Fault as AtFault, Memory as NoMemory};
+ghost use Rattle.byte_fields.specs.declared.fault.ReadError.TheVariants.{Fault as AtFault, Memory as NoMemory};
 
 use lc_base::Memory;
 use std::alloc::{AllocError, AllocFailed};
@@ -15,41 +15,41 @@ pub struct Fault {
 
 /// Why a field was not read into memory.
 #[derive(Clone, Copy, Debug, PartialEq, Eq)]
-pub enum FieldError {
+pub enum ReadError {
     /// It is invalid.
     Fault(Fault),
     /// Out of memory.
     Memory,
 }
 
-impl From<Fault> for FieldError {
+impl From<Fault> for ReadError {
     ghost from_gives = { λ fault error. error ≡ AtFault fault };
 
-    fn from(fault: Fault) -> FieldError {
-        FieldError::Fault(fault)
+    fn from(fault: Fault) -> ReadError {
+        ReadError::Fault(fault)
     }
 }
 
-impl From<Memory> for FieldError {
+impl From<Memory> for ReadError {
     ghost from_gives = { λ _ error. error ≡ NoMemory };
 
-    fn from(_memory: Memory) -> FieldError {
-        FieldError::Memory
+    fn from(_memory: Memory) -> ReadError {
+        ReadError::Memory
     }
 }
 
-impl From<AllocError> for FieldError {
+impl From<AllocError> for ReadError {
     ghost from_gives = { λ _ error. error ≡ NoMemory };
 
-    fn from(_error: AllocError) -> FieldError {
-        FieldError::Memory
+    fn from(_error: AllocError) -> ReadError {
+        ReadError::Memory
     }
 }
 
-impl<T: Drop> From<AllocFailed<T>> for FieldError {
+impl<T: Drop> From<AllocFailed<T>> for ReadError {
     ghost from_gives = { λ _ error. error ≡ NoMemory };
 
-    fn from(_error: AllocFailed<T>) -> FieldError {
-        FieldError::Memory
+    fn from(_error: AllocFailed<T>) -> ReadError {
+        ReadError::Memory
     }
 }

@@ -7,16 +7,23 @@ ghost use Rattle.lc_base.specs.TextBytes.{bad_text_byte};
 ghost use Rattle.lc_names.specs.declared.limits.TheConstants.{MAX_KEY_BYTES, MAX_NAME_BYTES};
 ghost use Rattle.lc_base.specs.declared.limits.TheConstants.{MAX_TEXT_BYTES};
 ghost use Rattle.std.specs.Int.{w16, w32, w64};
-ghost use Rattle.byte_fields.specs.Reading.{ruled_at, items_at, number_at, byte_at, bytes_at, key_at, name_at, any_bytes_at, text_at, int_at, value_at};
-ghost use Rattle.byte_fields.specs.Reader.{fault_left, error_left, Reads};
+ghost use Rattle.byte_fields.specs.Reading.{ruled_at, items_at, number_at, byte_at, bytes_at, key_at, name_at, any_bytes_at, text_at, key_or_empty_at, int_at, value_at};
+ghost use Rattle.byte_fields.specs.Reader.{fault_left, error_left, Reads, ReadsAs, value_seen};
 
-use crate::fault::{Fault, FieldError};
+use crate::fault::{Fault, ReadError};
+use crate::value_view::ValueView;
 use lc_base::{
     Bytes, Key, KeyList, MAX_KEY_BYTES, MAX_NAME_BYTES, MAX_TEXT_BYTES, Name, Seq, Text, TextError,
-    Value,
+    Value, is_text_byte,
 };
 use std::alloc::Global;
 use std::marker::Model;
+
+fn bad_text_byte(bytes: &[u8]) -> Option<usize>
+    ensures { result ≡ bad_text_byte bytes.now }
+{
+    bytes.iter().position(|byte| !is_text_byte(*byte))
+}
 
 /// The bytes that are still to be read. After an error it is not said how many are left.
 #[derive(Drop)]
@@ -45,6 +52,13 @@ impl<'a> Reader<'a> {
         ensures { result ≡ length self.now }
     {
         self.rest.len()
+    }
+
+    /// The bytes that are left, without reading them.
+    pub fn rest(&self) -> &'a [u8]
+        ensures { result.now ≡ self.now }
+    {
+        self.rest
     }
 
     /// The fault of a field that begins here.
@@ -159,6 +173,20 @@ impl<'a> Reader<'a> {
         Ok(number)
     }
 
+    /// So many bytes, where they lie.
+    #[tactic(auto, unfolding(crate::specs::Reading::bytes_at))]
+    pub fn bytes(&mut self, count: usize) -> Result<&'a [u8], Fault>
+        ensures { ReadsAs (λ bytes. bytes.now) fault_left result (bytes_at count self.old) self.new }
+    {
+        match self.rest.split_at_checked(count) {
+            None => Err(self.fault()),
+            Some((prefix, rest)) => {
+                self.rest = rest;
+                Ok(prefix)
+            }
+        }
+    }
+
     /// The bytes of a digest.
     #[tactic(auto, unfolding(crate::specs::Reading::bytes_at))]
     pub fn digest_bytes(&mut self) -> Result<[u8; 32], Fault>
@@ -211,6 +239,17 @@ impl<'a> Reader<'a> {
         self.key_of(length)
     }
 
+    /// A key, or none where the string is empty: its length in two bytes, and its bytes.
+    #[tactic(auto, unfolding(crate::specs::Reading::key_or_empty_at, crate::specs::Reading::string_at, crate::specs::Reading::bytes_at))]
+    pub fn key_or_empty(&mut self) -> Result<Option<Key>, Fault>
+        ensures { Reads fault_left result (key_or_empty_at self.old) self.new }
+    {
+        match self.length_between(0, MAX_KEY_BYTES as u16)? {
+            0 => Ok(None),
+            length => Ok(Some(self.key_of(length)?)),
+        }
+    }
+
     #[tactic(auto, unfolding(crate::specs::Reading::bytes_at))]
     fn name_of(&mut self, length: usize) -> Result<Name, Fault>
         requires { (1 ≤ length) × (length ≤ MAX_NAME_BYTES) }
@@ -238,11 +277,11 @@ impl<'a> Reader<'a> {
     }
 
     #[tactic(auto, unfolding(crate::specs::Reading::bytes_at))]
-    fn bytes_of(&mut self, alloc: Global, length: usize) -> Result<Bytes, FieldError>
+    fn bytes_of(&mut self, alloc: Global, length: usize) -> Result<Bytes, ReadError>
         ensures { Reads error_left result (bytes_at length self.old) self.new }
     {
         match self.rest.split_at_checked(length) {
-            None => Err(FieldError::Fault(self.fault())),
+            None => Err(ReadError::Fault(self.fault())),
             Some((prefix, rest)) => {
                 let mut bytes = Vec::with_capacity(alloc, length)?;
                 bytes.extend_from_slice(prefix)?;
@@ -254,7 +293,7 @@ impl<'a> Reader<'a> {
 
     /// A string of any bytes, at most so many: its length in two bytes, and its bytes.
     #[tactic(auto, unfolding(crate::specs::Reading::any_bytes_at))]
-    pub fn any_bytes(&mut self, alloc: Global, greatest: u16) -> Result<Bytes, FieldError>
+    pub fn any_bytes(&mut self, alloc: Global, greatest: u16) -> Result<Bytes, ReadError>
         ensures { Reads error_left result (any_bytes_at greatest self.old) self.new }
     {
         let length = self.u16_at_most(greatest)?;
@@ -262,15 +301,15 @@ impl<'a> Reader<'a> {
     }
 
     #[tactic(auto, unfolding(crate::specs::Reading::bytes_at))]
-    fn text_of(&mut self, alloc: Global, length: usize) -> Result<Text, FieldError>
+    fn text_of(&mut self, alloc: Global, length: usize) -> Result<Text, ReadError>
         requires { length ≤ MAX_TEXT_BYTES }
         ensures { Reads error_left result (ruled_at (λ bytes. is_none (bad_text_byte bytes)) (bytes_at length) self.old) self.new }
     {
         match self.rest.split_at_checked(length) {
-            None => Err(FieldError::Fault(self.fault())),
+            None => Err(ReadError::Fault(self.fault())),
             Some((prefix, rest)) => match Text::new(alloc, prefix) {
-                Err(TextError::Memory) => Err(FieldError::Memory),
-                Err(_) => Err(FieldError::Fault(self.fault())),
+                Err(TextError::Memory) => Err(ReadError::Memory),
+                Err(_) => Err(ReadError::Fault(self.fault())),
                 Ok(text) => {
                     self.rest = rest;
                     Ok(text)
@@ -281,11 +320,33 @@ impl<'a> Reader<'a> {
 
     /// A text: its length in two bytes, and its bytes.
     #[tactic(auto, unfolding(crate::specs::Reading::text_at, crate::specs::Reading::string_at))]
-    pub fn text(&mut self, alloc: Global) -> Result<Text, FieldError>
+    pub fn text(&mut self, alloc: Global) -> Result<Text, ReadError>
         ensures { Reads error_left result (text_at self.old) self.new }
     {
         let length = self.length_between(0, MAX_TEXT_BYTES as u16)?;
         self.text_of(alloc, length)
+    }
+
+    #[tactic(auto, unfolding(crate::specs::Reading::bytes_at))]
+    fn text_bytes_of(&mut self, length: usize) -> Result<&'a [u8], Fault>
+        ensures { ReadsAs (λ bytes. bytes.now) fault_left result (ruled_at (λ bytes. is_none (bad_text_byte bytes)) (bytes_at length) self.old) self.new }
+    {
+        match self.rest.split_at_checked(length) {
+            Some((prefix, rest)) if bad_text_byte(prefix).is_none() => {
+                self.rest = rest;
+                Ok(prefix)
+            }
+            _ => Err(self.fault()),
+        }
+    }
+
+    /// The bytes of a text, where they lie: its length in two bytes, and these.
+    #[tactic(auto, unfolding(crate::specs::Reading::text_at, crate::specs::Reading::string_at))]
+    pub fn text_bytes(&mut self) -> Result<&'a [u8], Fault>
+        ensures { ReadsAs (λ bytes. bytes.now) fault_left result (text_at self.old) self.new }
+    {
+        let length = self.length_between(0, MAX_TEXT_BYTES as u16)?;
+        self.text_bytes_of(length)
     }
 
     /// An int: eight bytes in two's complement, the most significant first.
@@ -299,19 +360,32 @@ impl<'a> Reader<'a> {
 
     /// A value: the byte 0 and an int, or the byte 1 and a text.
     #[tactic(auto, unfolding(crate::specs::Reading::value_at))]
-    pub fn value(&mut self, alloc: Global) -> Result<Value, FieldError>
+    pub fn value(&mut self, alloc: Global) -> Result<Value, ReadError>
         ensures { Reads error_left result (value_at self.old) self.new }
     {
         let fault = self.fault();
         match self.byte()? {
             0 => Ok(Value::Int(self.int()?)),
             1 => Ok(Value::Text(self.text(alloc)?)),
-            _ => Err(FieldError::Fault(fault)),
+            _ => Err(ReadError::Fault(fault)),
+        }
+    }
+
+    /// A value, whose text stays where it lies: the byte 0 and an int, or the byte 1 and a text.
+    #[tactic(auto, unfolding(crate::specs::Reading::value_at))]
+    pub fn value_view(&mut self) -> Result<ValueView<'a>, Fault>
+        ensures { ReadsAs value_seen fault_left result (value_at self.old) self.new }
+    {
+        let fault = self.fault();
+        match self.byte()? {
+            0 => Ok(ValueView::Int(self.int()?)),
+            1 => Ok(ValueView::Text(self.text_bytes()?)),
+            _ => Err(fault),
         }
     }
 
     /// So many keys, one after another.
-    pub fn keys(&mut self, alloc: Global, count: u8) -> Result<KeyList, FieldError>
+    pub fn keys(&mut self, alloc: Global, count: u8) -> Result<KeyList, ReadError>
         ensures { Reads error_left result (items_at key_at count self.old) self.new }
     {
         let mut keys = KeyList::new(alloc);
@@ -323,7 +397,7 @@ impl<'a> Reader<'a> {
     }
 
     /// So many values, one after another.
-    pub fn values(&mut self, alloc: Global, count: u8) -> Result<Seq<Value>, FieldError>
+    pub fn values(&mut self, alloc: Global, count: u8) -> Result<Seq<Value>, ReadError>
         ensures { Reads error_left result (items_at value_at count self.old) self.new }
     {
         let mut values = Seq::new(alloc);

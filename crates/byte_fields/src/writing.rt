@@ -3,13 +3,13 @@
 
 ghost use Rattle.std.specs.Prelude.{◌≡◌, [], ◌∷◌, ◌++◌, ◌^◌, ◌<◌, length, OnOk};
 ghost use Rattle.std.specs.List.{concat, flat_map, AllByRecursion};
-ghost use Rattle.std.specs.Int.{w32, to_be_bytes};
+ghost use Rattle.std.specs.Int.{w16, w32, w64, to_be_bytes};
 ghost use Rattle.lc_names.specs.KeyBytes.{IsKey};
 ghost use Rattle.lc_names.specs.NameBytes.{IsName};
 ghost use Rattle.lc_base.specs.TextBytes.{IsText};
 ghost use Rattle.byte_fields.specs.Spelling.{string_fields, value_fields, IsValue};
 
-use lc_base::{Bytes, Key, Memory, Name, Text, Value};
+use lc_base::{Bytes, Digest, Key, Memory, Name, Text, Value};
 
 fn put_string(out: &mut Vec<u8>, bytes: &[u8]) -> Result<(), Memory>
     requires { length bytes.now < 2 ^ 16 }
@@ -28,11 +28,36 @@ pub fn put_u8(out: &mut Vec<u8>, number: u8) -> Result<(), Memory>
     Ok(())
 }
 
+/// A number of two bytes, the more significant first.
+pub fn put_u16(out: &mut Vec<u8>, number: u16) -> Result<(), Memory>
+    ensures written { OnOk result (out.new.items ≡ out.old.items ++ to_be_bytes w16 number) }
+{
+    out.extend_from_slice(&number.to_be_bytes())?;
+    Ok(())
+}
+
 /// A number of four bytes, the most significant first.
 pub fn put_u32(out: &mut Vec<u8>, number: u32) -> Result<(), Memory>
     ensures written { OnOk result (out.new.items ≡ out.old.items ++ to_be_bytes w32 number) }
 {
     out.extend_from_slice(&number.to_be_bytes())?;
+    Ok(())
+}
+
+/// A number of eight bytes, the most significant first.
+pub fn put_u64(out: &mut Vec<u8>, number: u64) -> Result<(), Memory>
+    ensures written { OnOk result (out.new.items ≡ out.old.items ++ to_be_bytes w64 number) }
+{
+    out.extend_from_slice(&number.to_be_bytes())?;
+    Ok(())
+}
+
+/// The 32 bytes of a digest.
+pub fn put_digest(out: &mut Vec<u8>, digest: &Digest) -> Result<(), Memory>
+    ensures written { OnOk result (out.new.items ≡ out.old.items ++ digest.now.0) }
+    ensures lawful { OnOk result (length digest.now.0 ≡ 32) }
+{
+    out.extend_from_slice(&digest.0)?;
     Ok(())
 }
 

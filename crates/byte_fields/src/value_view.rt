@@ -1,0 +1,8 @@
+//! Values that are read without being copied.
+
+/// A value whose text lies in the bytes that it was read from.
+#[derive(Clone, Copy, Debug)]
+pub enum ValueView<'a> {
+    Int(i64),
+    Text(&'a [u8]),
+}
