@@ -1,0 +1,18 @@
+use Rattle.std.proofs.Common.{◌∙◌, ◌<◌, arith, length}
+use Rattle.std.proofs.lemmas.List.{take_all}
+use Rattle.merkle_tree.proofs.Raising.{items_same, room_more}
+use Rattle.merkle_tree.proofs.growth.make_room.Goals as goal
+
+pub returns-in_err-reserve-clause-same : goal.returns-in_err-reserve-clause-same
+returns-in_err-reserve-clause-same c =
+    items_same c.loop-level.levels c.loop-level.level-index c.reserve.new.self c.level-item.result (omega arith) c.reserve.ensures.items ∙ c.loop-level.invariant.0
+
+pub loop-level-preserved : goal.loop-level-preserved
+loop-level-preserved c =
+    let below : c.loop-level.level-index < length c.loop-level.levels = omega arith in (
+      items_same c.loop-level.levels c.loop-level.level-index c.reserve.new.self c.level-item.result below c.reserve.ensures.items ∙ c.loop-level.invariant.0,
+      room_more c.loop-level.levels c.loop-level.level-index c.reserve.new.self below (omega (arith, c.in_ok-reserve.ensures.ok)) c.loop-level.invariant.1,
+    )
+
+pub returns-clause-room : goal.returns-clause-room
+returns-clause-room c = rw (take_all c.loop-level.level-index c.loop-level.levels (omega arith)) at c.loop-level.invariant.1

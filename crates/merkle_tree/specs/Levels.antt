@@ -1,0 +1,84 @@
+-- The levels of a tree, each the pairs of the one below; a last hash without a partner goes up as
+-- it is.
+use Rattle.std.specs.Prelude.{◌≡◌, ◌<◌, ◌≤◌, ℕ, zero, suc, ◌/◌, List, [], ◌∷◌, ◌++◌, length, map, slice_set, slice_index_or, Vec, vec_len, vec_capacity}
+use Rattle.std.specs.Global.{Global}
+use Rattle.sha2.specs.Sha256.{sha256}
+use Rattle.lc_base.specs.declared.digest.Digest.{Digest}
+use Rattle.merkle_tree.specs.Tree.{node_hash}
+use Rattle.merkle_tree.specs.declared.limits.TheConstants.{MAX_HEIGHT, MAX_LEAVES}
+
+-- ---- what they are
+
+-- The SHA-256 digest of a text.
+abbrev pub digest_of : List ℕ → Digest
+digest_of text = record { 0 = sha256 text }
+
+-- The digest of a node.
+abbrev pub join : Digest → Digest → Digest
+join left right = record { 0 = node_hash left.0 right.0 }
+
+-- A level, from the one below.
+abbrev pub pair_up : List Digest → List Digest
+pair_up [] = []
+pair_up (x ∷ []) = x ∷ []
+pair_up (x ∷ y ∷ level) = join x y ∷ pair_up level
+
+-- The hashes of leaves, and j levels above them.
+unfoldable pub levels_over : ℕ → List Digest → List (List Digest)
+levels_over zero hashes = hashes ∷ []
+levels_over (suc j) hashes = hashes ∷ levels_over j (pair_up hashes)
+
+-- The lowest level: the hashes of the leaves.
+abbrev pub leaf_level : List (List Digest) → List Digest
+leaf_level [] = []
+leaf_level (level ∷ above) = level
+
+-- The hashes in some vectors.
+abbrev pub hashes_in : List (Vec Digest Global) → List (List Digest)
+hashes_in levels = map (λ (level : Vec Digest Global). level.items) levels
+
+-- All levels over some leaves.
+pub record AreLevels (levels : List (List Digest)) : Type 0 where
+  pub pairs : levels ≡ levels_over MAX_HEIGHT (leaf_level levels)
+  pub few : length (leaf_level levels) ≤ MAX_LEAVES
+
+-- ---- how they change
+
+-- The hash over place m of a level; `none` where there is none.
+abbrev pub hash_over : List Digest → ℕ → Digest → Digest
+hash_over level m none = slice_index_or (pair_up level) (m / 2) none
+
+-- Levels after a hash was set at place m of the lowest.
+unfoldable pub set_through : ℕ → Digest → List (List Digest) → List (List Digest)
+set_through m hash [] = []
+set_through m hash (level ∷ above) = slice_set level m hash ∷ set_through (m / 2) (hash_over (slice_set level m hash) m hash) above
+
+-- A hash in the place of another, or one past the end.
+abbrev pub put : List Digest → ℕ → Digest → List Digest
+put [] m hash = hash ∷ []
+put (x ∷ level) zero hash = hash ∷ level
+put (x ∷ level) (suc m) hash = x ∷ put level m hash
+
+-- Levels after a hash was put at place m of the lowest.
+unfoldable pub put_through : ℕ → Digest → List (List Digest) → List (List Digest)
+put_through m hash [] = []
+put_through m hash (level ∷ above) = put level m hash ∷ put_through (m / 2) (hash_over (put level m hash) m hash) above
+
+-- Room for one more hash.
+abbrev pub HasRoom : Vec Digest Global → Type 0
+HasRoom level = vec_len level < vec_capacity level
+
+-- ---- what is read from them
+
+-- The hash beside place m, where there is one.
+abbrev pub sibling : List Digest → ℕ → List Digest
+sibling [] m = []
+sibling (x ∷ []) m = []
+sibling (x ∷ y ∷ level) zero = y ∷ []
+sibling (x ∷ y ∷ level) (suc zero) = x ∷ []
+sibling (x ∷ y ∷ level) (suc (suc m)) = sibling level m
+
+-- The hashes beside the way up from place m, from the lowest level upward.
+unfoldable pub siblings_up : ℕ → List (List Digest) → List Digest
+siblings_up m [] = []
+siblings_up m (level ∷ above) = sibling level m ++ siblings_up (m / 2) above
