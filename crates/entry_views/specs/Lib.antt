@@ -1,0 +1,4 @@
+pub mod Reading
+pub mod Items
+pub mod Standing
+pub mod Placed

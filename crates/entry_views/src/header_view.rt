@@ -1,0 +1,176 @@
+//! Headers as they stand in bytes.
+
+ghost use Rattle.std.specs.Prelude.{◌≡◌, ℕ, Ok, IfOk, IfErr};
+ghost use Rattle.byte_fields.specs.Reader.{fault_left, Reads};
+ghost use Rattle.prov_entry.specs.Spelling.{IsHeader, header_fields};
+ghost use Rattle.prov_entry.specs.declared.entry.Header.{Header};
+ghost use Rattle.entry_views.specs.Reading.{header_at};
+ghost use Rattle.entry_views.specs.Placed.{IsSpelled};
+ghost use Rattle.entry_views.specs.Standing.{StandsAt, IsInvalidAt, read_from};
+
+use crate::fault::{FieldError, tail};
+use crate::link_view::{LinkView, counted_links};
+use byte_fields::{Fault, Reader};
+use lc_base::{Digest, Key};
+use std::marker::Model;
+
+#[derive(Drop)]
+struct HeaderFields<'p> {
+    key: Key,
+    block: u32,
+    tx: u16,
+    body: Digest,
+    closed: u64,
+    closed_digest: Digest,
+    links: LinkView<'p>,
+}
+
+impl<'p> Model for HeaderFields<'p> {
+    ghost use Rattle.prov_entry.specs.declared.entry.Header.{Header};
+
+    ghost Value = { Header };
+
+    ghost view = { λ fields. record { key = fields.key; block = fields.block; tx = fields.tx; body = fields.body; closed = fields.closed; closed_digest = fields.closed_digest; links = fields.links } };
+}
+
+/// A header that stands in bytes.
+#[derive(Drop)]
+pub struct HeaderView<'p> {
+    fields: HeaderFields<'p>,
+    bytes: &'p [u8],
+    end: usize,
+}
+
+impl<'p> Model for HeaderView<'p> {
+    ghost use Rattle.prov_entry.specs.declared.entry.Header.{Header};
+    ghost use Rattle.prov_entry.specs.Spelling.{IsHeader, header_fields};
+    ghost use Rattle.entry_views.specs.Placed.{Placed, IsSpelled};
+
+    ghost Value = { Placed Header };
+
+    ghost view = { λ header. record { value = header.fields; end = header.end } };
+
+    ghost invariant = { λ header. IsSpelled header_fields IsHeader header.fields header.bytes.now };
+}
+
+impl<'p> HeaderView<'p> {
+    pub fn key(&self) -> Key
+        ensures { result ≡ self.now.value.key }
+    {
+        self.fields.key
+    }
+
+    /// The number of its block.
+    pub fn block(&self) -> u32
+        ensures { result ≡ self.now.value.block }
+    {
+        self.fields.block
+    }
+
+    /// The index of its transaction in the block, from 0.
+    pub fn tx(&self) -> u16
+        ensures { result ≡ self.now.value.tx }
+    {
+        self.fields.tx
+    }
+
+    /// The digest of its body.
+    pub fn body(&self) -> Digest
+        ensures { result ≡ self.now.value.body }
+    {
+        self.fields.body
+    }
+
+    /// How many versions were derived from the version of the key before this one, up to the end of
+    /// this block; 0 for a first version.
+    pub fn closed(&self) -> u64
+        ensures { result ≡ self.now.value.closed }
+    {
+        self.fields.closed
+    }
+
+    /// The digest of these, as a forward list.
+    pub fn closed_digest(&self) -> Digest
+        ensures { result ≡ self.now.value.closed_digest }
+    {
+        self.fields.closed_digest
+    }
+
+    /// Its links, one for each level from 0.
+    pub fn links(&self) -> LinkView<'p>
+        ensures { result ≡ self.now.value.links }
+    {
+        self.fields.links.again()
+    }
+
+    /// The bytes that it was read from, which are its fields.
+    pub fn bytes(&self) -> &'p [u8]
+        ensures spelled { IsSpelled header_fields IsHeader self.now.value result.now }
+    {
+        self.bytes
+    }
+
+    /// The offset after its last byte.
+    pub fn end(&self) -> usize
+        ensures { result ≡ self.now.end }
+    {
+        self.end
+    }
+}
+
+#[tactic(auto, unfolding(crate::specs::Reading::header_at))]
+fn header_fields<'p>(reader: &mut Reader<'p>) -> Result<HeaderFields<'p>, Fault>
+    ensures { Reads fault_left result (header_at reader.old) reader.new }
+{
+    let key = reader.key()?;
+    let block = reader.u32()?;
+    let tx = reader.u16()?;
+    let body = Digest(reader.digest_bytes()?);
+    let closed = reader.u64()?;
+    let closed_digest = Digest(reader.digest_bytes()?);
+    let links = counted_links(reader)?;
+    Ok(HeaderFields {
+        key,
+        block,
+        tx,
+        body,
+        closed,
+        closed_digest,
+        links,
+    })
+}
+
+fn header_from<'p>(bytes: &'p [u8], at: usize) -> Result<HeaderView<'p>, FieldError>
+    ensures { result ≡ read_from header_at bytes.now at }
+{
+    let rest = tail(bytes, at);
+    let mut reader = Reader::new(rest);
+    match header_fields(&mut reader) {
+        Ok(fields) => {
+            let length = rest.len() - reader.left();
+            Ok(HeaderView {
+                fields,
+                bytes: &rest[..length],
+                end: at + length,
+            })
+        }
+        Err(fault) => Err(FieldError {
+            at: at + (rest.len() - fault.left),
+        }),
+    }
+}
+
+/// The header that stands in the bytes from the offset `at` on, without the byte before it where it is
+/// hashed. An error exactly where none stands there.
+pub fn read_header<'p>(bytes: &'p [u8], at: usize) -> Result<HeaderView<'p>, FieldError>
+    // What is read stands there.
+    ensures found { IfOk result (λ header. StandsAt header_fields IsHeader bytes.now at header.value header.end) }
+    // What stands there is read.
+    ensures only { (header : Header) (end : ℕ) → StandsAt header_fields IsHeader bytes.now at header end → result ≡ Ok (record { value = header; end = end }) }
+    // A fault is told at its offset.
+    ensures fault { IfErr result (λ error. IsInvalidAt header_fields IsHeader bytes.now at error.at) }
+    // What stands there is said by a function, and that is the answer.
+    ensures exact { result ≡ read_from header_at bytes.now at }
+{
+    header_from(bytes, at)
+}

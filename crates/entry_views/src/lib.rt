@@ -1,0 +1,20 @@
+//! Headers, bodies and leaves as they stand in bytes, read without being copied.
+#![tactic(auto)]
+
+mod body_dep_view;
+mod body_view;
+mod fault;
+mod header_view;
+mod laws;
+mod leaf_view;
+mod limits;
+mod link_view;
+
+pub use body_dep_view::BodyDepView;
+pub use body_view::{BodyView, read_body};
+pub use byte_fields::ValueView;
+pub use fault::FieldError;
+pub use header_view::{HeaderView, read_header};
+pub use laws::{fields_determine_a_body, fields_determine_a_header, fields_determine_a_leaf};
+pub use leaf_view::{LeafView, read_leaf};
+pub use link_view::LinkView;

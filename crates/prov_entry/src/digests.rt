@@ -1,0 +1,153 @@
+//! Digests of headers, bodies and leaves, hashed piece by piece. None of these calls takes memory.
+
+ghost use Rattle.std.specs.Prelude.{◌≡◌, ◌^◌, ◌<◌, ◌≤◌, length};
+ghost use Rattle.std.specs.List.{concat, flat_map, AllByRecursion};
+ghost use Rattle.sha2.specs.Sha256.{sha256};
+ghost use Rattle.lc_names.specs.KeyBytes.{IsKey};
+ghost use Rattle.lc_base.specs.declared.limits.TheConstants.{MAX_DEPS};
+ghost use Rattle.byte_fields.specs.Spelling.{string_fields, value_fields, IsValue};
+ghost use Rattle.merkle_tree.specs.Tree.{leaf_text};
+ghost use Rattle.prov_entry.specs.declared.limits.TheConstants.{MAX_LINKS};
+ghost use Rattle.prov_entry.specs.Digests.{Adds};
+ghost use Rattle.prov_entry.specs.Spelling.{IsLink, IsHeader, IsBodyDep, IsBody, IsKeyIfAny, IsLeaf, link_fields, body_dep_fields, key_or_empty, next_fields, header_text, body_text, leaf_bytes};
+
+use crate::entry::{Body, BodyDep, Header, Leaf, Link};
+use crate::limits::{BODY, HEADER};
+use digest_kit::TagHasher;
+use lc_base::{Digest, Key, Value};
+use merkle_tree::LEAF;
+
+fn add_string(hasher: &mut TagHasher, bytes: &[u8])
+    requires { length bytes.now < 2 ^ 16 }
+    ensures { Adds hasher.old hasher.new (concat (string_fields bytes.now)) }
+{
+    hasher.add(&(bytes.len() as u16).to_be_bytes());
+    hasher.add(bytes);
+}
+
+fn add_key(hasher: &mut TagHasher, key: &Key)
+    ensures added { Adds hasher.old hasher.new (concat (string_fields key.now)) }
+    ensures lawful { IsKey key.now }
+{
+    add_string(hasher, key.as_bytes());
+}
+
+fn add_value(hasher: &mut TagHasher, value: &Value)
+    ensures added { Adds hasher.old hasher.new (concat (value_fields value.now)) }
+    ensures lawful { IsValue value.now }
+{
+    match value {
+        Value::Int(number) => {
+            hasher.add(&[0]);
+            hasher.add(&number.to_be_bytes());
+        }
+        Value::Text(text) => {
+            hasher.add(&[1]);
+            add_string(hasher, text.as_bytes());
+        }
+    }
+}
+
+fn add_link(hasher: &mut TagHasher, link: &Link)
+    ensures added { Adds hasher.old hasher.new (concat (link_fields link.now)) }
+    ensures lawful { IsLink link.now }
+{
+    hasher.add(&link.block.to_be_bytes());
+    hasher.add(&link.digest.0);
+}
+
+fn add_links(hasher: &mut TagHasher, links: &[Link])
+    ensures added { Adds hasher.old hasher.new (concat (flat_map link_fields links.now)) }
+    ensures lawful { AllByRecursion IsLink links.now }
+{
+    for link in links {
+        add_link(hasher, link);
+    }
+}
+
+/// The digest of a header's text.
+pub fn header_digest(header: &Header) -> Digest
+    requires { length header.now.links ≤ MAX_LINKS }
+    ensures digest { result.0 ≡ sha256 (header_text header.now) }
+    ensures lawful { IsHeader header.now }
+{
+    let mut hasher = TagHasher::new(HEADER);
+    add_key(&mut hasher, &header.key);
+    hasher.add(&header.block.to_be_bytes());
+    hasher.add(&header.tx.to_be_bytes());
+    hasher.add(&header.body.0);
+    hasher.add(&header.closed.to_be_bytes());
+    hasher.add(&header.closed_digest.0);
+    hasher.add(&[header.links.len() as u8]);
+    add_links(&mut hasher, header.links.as_slice());
+    hasher.finish()
+}
+
+fn add_body_dep(hasher: &mut TagHasher, dep: &BodyDep)
+    ensures added { Adds hasher.old hasher.new (concat (body_dep_fields dep.now)) }
+    ensures lawful { IsBodyDep dep.now }
+{
+    add_key(hasher, &dep.key);
+    hasher.add(&dep.block.to_be_bytes());
+    hasher.add(&dep.digest.0);
+}
+
+fn add_body_deps(hasher: &mut TagHasher, deps: &[BodyDep])
+    ensures added { Adds hasher.old hasher.new (concat (flat_map body_dep_fields deps.now)) }
+    ensures lawful { AllByRecursion IsBodyDep deps.now }
+{
+    for dep in deps {
+        add_body_dep(hasher, dep);
+    }
+}
+
+/// The digest of a body's text.
+pub fn body_digest(body: &Body) -> Digest
+    requires { length body.now.deps ≤ MAX_DEPS }
+    ensures digest { result.0 ≡ sha256 (body_text body.now) }
+    ensures lawful { IsBody body.now }
+{
+    let mut hasher = TagHasher::new(BODY);
+    add_value(&mut hasher, &body.value);
+    hasher.add(&[body.deps.len() as u8]);
+    add_body_deps(&mut hasher, body.deps.as_slice());
+    hasher.finish()
+}
+
+fn add_key_or_empty(hasher: &mut TagHasher, key: &Option<Key>)
+    ensures added { Adds hasher.old hasher.new (concat (string_fields (key_or_empty key.now))) }
+    ensures lawful { IsKeyIfAny key.now }
+{
+    match key {
+        None => add_string(hasher, &[]),
+        Some(key) => add_key(hasher, key),
+    }
+}
+
+fn add_next(hasher: &mut TagHasher, next: &Option<Key>)
+    ensures added { Adds hasher.old hasher.new (concat (next_fields next.now)) }
+    ensures lawful { IsKeyIfAny next.now }
+{
+    match next {
+        None => hasher.add(&[0]),
+        Some(key) => {
+            hasher.add(&[1]);
+            add_key(hasher, key);
+        }
+    }
+}
+
+/// The hash of a leaf, as the tree over all leaves has it (RFC 6962, section 2.1).
+pub fn leaf_digest(leaf: &Leaf) -> Digest
+    ensures digest { result.0 ≡ sha256 (leaf_text (leaf_bytes leaf.now)) }
+    ensures lawful { IsLeaf leaf.now }
+{
+    let mut hasher = TagHasher::new(LEAF);
+    add_key_or_empty(&mut hasher, &leaf.key);
+    add_next(&mut hasher, &leaf.next);
+    hasher.add(&leaf.newest_block.to_be_bytes());
+    hasher.add(&leaf.newest.0);
+    hasher.add(&leaf.open_count.to_be_bytes());
+    hasher.add(&leaf.open_digest.0);
+    hasher.finish()
+}

@@ -1,0 +1,93 @@
+//! Headers, bodies and leaves.
+
+use lc_base::{Digest, Duplicate, Key, Memory, Seq, Value};
+use std::alloc::Global;
+
+/// A link from a version to an older one of its key.
+#[derive(Clone, Copy, Debug, PartialEq, Eq)]
+pub struct Link {
+    /// The block of the older version.
+    pub block: u32,
+    /// The digest of its header.
+    pub digest: Digest,
+}
+
+impl Duplicate for Link {
+    ghost use Rattle.std.specs.Prelude.{◌≡◌, Ok};
+
+    fn copy(&self, _alloc: Global) -> Result<Link, Memory>
+        ensures { result ≡ Ok self.now }
+    {
+        Ok(*self)
+    }
+}
+
+/// Links, one for each level from 0.
+pub type LinkList = Seq<Link>;
+
+/// What is hashed of a version: where it stands, and what it names by digests.
+#[derive(Debug, Drop)]
+pub struct Header {
+    pub key: Key,
+    /// The number of its block.
+    pub block: u32,
+    /// The index of its transaction in the block, from 0.
+    pub tx: u16,
+    /// The digest of its body.
+    pub body: Digest,
+    /// How many versions were derived from the version of the key before this one, up to the end of
+    /// this block; 0 for a first version.
+    pub closed: u64,
+    /// The digest of these, as a forward list.
+    pub closed_digest: Digest,
+    /// At most `MAX_LINKS`.
+    pub links: LinkList,
+}
+
+/// A version that another was derived from, with the digest of its header.
+#[derive(Clone, Copy, Debug, PartialEq, Eq)]
+pub struct BodyDep {
+    pub key: Key,
+    /// The number of its block.
+    pub block: u32,
+    /// The digest of its header.
+    pub digest: Digest,
+}
+
+impl Duplicate for BodyDep {
+    ghost use Rattle.std.specs.Prelude.{◌≡◌, Ok};
+
+    fn copy(&self, _alloc: Global) -> Result<BodyDep, Memory>
+        ensures { result ≡ Ok self.now }
+    {
+        Ok(*self)
+    }
+}
+
+/// The dependencies of a body.
+pub type BodyDepList = Seq<BodyDep>;
+
+/// The value of a version, and what it was derived from.
+#[derive(Debug, Drop)]
+pub struct Body {
+    pub value: Value,
+    /// At most `MAX_DEPS`.
+    pub deps: BodyDepList,
+}
+
+/// What the tree over all keys has of a key, or of the sentinel, which stands before all keys.
+#[derive(Clone, Copy, Debug, PartialEq, Eq)]
+pub struct Leaf {
+    /// None for the sentinel.
+    pub key: Option<Key>,
+    /// The least key that is greater and has a leaf; none where there is no greater one.
+    pub next: Option<Key>,
+    /// The block of the newest version; 0 for the sentinel.
+    pub newest_block: u32,
+    /// The digest of its header; zeros for the sentinel.
+    pub newest: Digest,
+    /// How many versions were derived from the newest one so far; 0 for the sentinel.
+    pub open_count: u64,
+    /// The digest of these, as a forward list.
+    pub open_digest: Digest,
+}

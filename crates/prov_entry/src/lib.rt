@@ -1,0 +1,14 @@
+//! The texts that are hashed of versions, of forward lists and of the leaves over all keys.
+#![tactic(auto)]
+
+mod digests;
+mod entry;
+mod forward;
+mod limits;
+mod writing;
+
+pub use digests::{body_digest, header_digest, leaf_digest};
+pub use entry::{Body, BodyDep, BodyDepList, Header, Leaf, Link, LinkList};
+pub use forward::{no_uses, with_use};
+pub use limits::{BODY, FORWARD_LINK, FORWARD_START, HEADER, MAX_LINKS, ROOT};
+pub use writing::{write_body, write_header, write_leaf};

@@ -1,0 +1,120 @@
+//! Writing headers, bodies and leaves as their fields, without the byte that stands before them
+//! where they are hashed.
+
+ghost use Rattle.std.specs.Prelude.{◌≡◌, ◌≤◌, ◌++◌, length, IfOk, OnOk};
+ghost use Rattle.std.specs.List.{concat, flat_map, AllByRecursion};
+ghost use Rattle.lc_base.specs.declared.limits.TheConstants.{MAX_DEPS};
+ghost use Rattle.prov_entry.specs.declared.limits.TheConstants.{MAX_LINKS};
+ghost use Rattle.prov_entry.specs.Spelling.{IsLink, IsHeader, IsBodyDep, IsBody, IsKeyIfAny, IsLeaf, link_fields, header_fields, body_dep_fields, body_fields, key_or_empty, next_fields, leaf_bytes};
+ghost use Rattle.byte_fields.specs.Spelling.{string_fields};
+
+use crate::entry::{Body, BodyDep, Header, Leaf, Link};
+use byte_fields::{put_digest, put_key, put_u8, put_u16, put_u32, put_u64, put_value};
+use lc_base::{Bytes, Key, Memory};
+use std::alloc::Global;
+
+fn put_link(out: &mut Vec<u8>, link: &Link) -> Result<(), Memory>
+    ensures written { OnOk result (out.new.items ≡ out.old.items ++ concat (link_fields link.now)) }
+    ensures lawful { OnOk result (IsLink link.now) }
+{
+    put_u32(out, link.block)?;
+    put_digest(out, &link.digest)
+}
+
+fn put_links(out: &mut Vec<u8>, links: &[Link]) -> Result<(), Memory>
+    ensures written { OnOk result (out.new.items ≡ out.old.items ++ concat (flat_map link_fields links.now)) }
+    ensures lawful { OnOk result (AllByRecursion IsLink links.now) }
+{
+    for link in links {
+        put_link(out, link)?;
+    }
+    Ok(())
+}
+
+/// The fields of a header, the first one first.
+pub fn write_header(alloc: Global, header: &Header) -> Result<Bytes, Memory>
+    requires { length header.now.links ≤ MAX_LINKS }
+    ensures spelled { IfOk result (λ bytes. bytes ≡ concat (header_fields header.now)) }
+    ensures lawful { IfOk result (λ bytes. IsHeader header.now) }
+{
+    let mut out = Vec::new(alloc);
+    put_key(&mut out, &header.key)?;
+    put_u32(&mut out, header.block)?;
+    put_u16(&mut out, header.tx)?;
+    put_digest(&mut out, &header.body)?;
+    put_u64(&mut out, header.closed)?;
+    put_digest(&mut out, &header.closed_digest)?;
+    put_u8(&mut out, header.links.len() as u8)?;
+    put_links(&mut out, header.links.as_slice())?;
+    Ok(Bytes::from_vec(out))
+}
+
+fn put_body_dep(out: &mut Vec<u8>, dep: &BodyDep) -> Result<(), Memory>
+    ensures written { OnOk result (out.new.items ≡ out.old.items ++ concat (body_dep_fields dep.now)) }
+    ensures lawful { OnOk result (IsBodyDep dep.now) }
+{
+    put_key(out, &dep.key)?;
+    put_u32(out, dep.block)?;
+    put_digest(out, &dep.digest)
+}
+
+fn put_body_deps(out: &mut Vec<u8>, deps: &[BodyDep]) -> Result<(), Memory>
+    ensures written { OnOk result (out.new.items ≡ out.old.items ++ concat (flat_map body_dep_fields deps.now)) }
+    ensures lawful { OnOk result (AllByRecursion IsBodyDep deps.now) }
+{
+    for dep in deps {
+        put_body_dep(out, dep)?;
+    }
+    Ok(())
+}
+
+/// The fields of a body, the first one first.
+pub fn write_body(alloc: Global, body: &Body) -> Result<Bytes, Memory>
+    requires { length body.now.deps ≤ MAX_DEPS }
+    ensures spelled { IfOk result (λ bytes. bytes ≡ concat (body_fields body.now)) }
+    ensures lawful { IfOk result (λ bytes. IsBody body.now) }
+{
+    let mut out = Vec::new(alloc);
+    put_value(&mut out, &body.value)?;
+    put_u8(&mut out, body.deps.len() as u8)?;
+    put_body_deps(&mut out, body.deps.as_slice())?;
+    Ok(Bytes::from_vec(out))
+}
+
+fn put_key_or_empty(out: &mut Vec<u8>, key: &Option<Key>) -> Result<(), Memory>
+    ensures written { OnOk result (out.new.items ≡ out.old.items ++ concat (string_fields (key_or_empty key.now))) }
+    ensures lawful { OnOk result (IsKeyIfAny key.now) }
+{
+    match key {
+        None => put_u16(out, 0),
+        Some(key) => put_key(out, key),
+    }
+}
+
+fn put_next(out: &mut Vec<u8>, next: &Option<Key>) -> Result<(), Memory>
+    ensures written { OnOk result (out.new.items ≡ out.old.items ++ concat (next_fields next.now)) }
+    ensures lawful { OnOk result (IsKeyIfAny next.now) }
+{
+    match next {
+        None => put_u8(out, 0),
+        Some(key) => {
+            put_u8(out, 1)?;
+            put_key(out, key)
+        }
+    }
+}
+
+/// The fields of a leaf, the first one first.
+pub fn write_leaf(alloc: Global, leaf: &Leaf) -> Result<Bytes, Memory>
+    ensures spelled { IfOk result (λ bytes. bytes ≡ leaf_bytes leaf.now) }
+    ensures lawful { IfOk result (λ bytes. IsLeaf leaf.now) }
+{
+    let mut out = Vec::new(alloc);
+    put_key_or_empty(&mut out, &leaf.key)?;
+    put_next(&mut out, &leaf.next)?;
+    put_u32(&mut out, leaf.newest_block)?;
+    put_digest(&mut out, &leaf.newest)?;
+    put_u64(&mut out, leaf.open_count)?;
+    put_digest(&mut out, &leaf.open_digest)?;
+    Ok(Bytes::from_vec(out))
+}
