@@ -1,0 +1,8 @@
+pub mod Lists
+pub mod Growing
+pub mod Keys
+pub mod Headers
+pub mod NextKeys
+pub mod UpToBlock
+pub mod ClosedLists
+pub mod Walking
