@@ -1,0 +1,56 @@
+-- Leaves that are threaded: each names the next greater key.
+use Rattle.std.specs.Prelude.{◌≡◌, ◌==◌, ◌<◌, ℕ, Bool, false, List, [], ◌∷◌, ◌++◌, length, map, replicate, position, slice_index_or, Option, Some, None}
+use Rattle.std.specs.Cmp.Lexicographic.{pointwise}
+use Rattle.merkle_tree.specs.Tree.{leaf_text}
+use Rattle.prov_entry.specs.declared.entry.Leaf.{Leaf}
+use Rattle.prov_entry.specs.Spelling.{key_or_empty, leaf_bytes}
+use Rattle.history_root.specs.Naming.{digest_of_uses}
+use Rattle.history_root.specs.Root.{next_key}
+
+-- The key of a leaf. The sentinel's is the empty string, which is smaller than every key.
+abbrev pub leaf_key : Leaf → List ℕ
+leaf_key leaf = key_or_empty leaf.key
+
+-- The keys of some leaves, in the order of the leaves.
+abbrev pub leaf_keys : List Leaf → List (List ℕ)
+leaf_keys leaves = map leaf_key leaves
+
+-- Whether it is this key.
+abbrev pub is_this : List ℕ → Option (List ℕ) → Bool
+is_this key None = false
+is_this key (Some other) = pointwise ◌==◌ key other
+
+-- The index of the leaf of a key, from 0; none where no leaf has it.
+abbrev pub index_of : List Leaf → List ℕ → Option ℕ
+index_of leaves key = position (is_this key) (map (λ (leaf : Leaf). leaf.key) leaves)
+
+-- A leaf with the next greater of these keys.
+abbrev pub with_next : List (List ℕ) → Leaf → Leaf
+with_next keys leaf = record leaf { next = next_key keys (leaf_key leaf) }
+
+-- Leaves, each with the next greater key among theirs.
+abbrev pub threaded : List Leaf → List Leaf
+threaded leaves = map (with_next (leaf_keys leaves)) leaves
+
+-- The leaf of a key that has no version yet.
+abbrev pub fresh_leaf : List ℕ → Leaf
+fresh_leaf key = record {
+  key = Some key;
+  next = None;
+  newest_block = 0;
+  newest = record { 0 = replicate 32 0 };
+  open_count = 0;
+  open_digest = digest_of_uses [];
+}
+
+-- Leaves with one more for a key, at the end.
+abbrev pub with_leaf_of : List Leaf → List ℕ → List Leaf
+with_leaf_of leaves key = threaded (leaves ++ fresh_leaf key ∷ [])
+
+-- The texts of some leaves.
+abbrev pub leaf_texts : List Leaf → List (List ℕ)
+leaf_texts leaves = map (λ (leaf : Leaf). leaf_text (leaf_bytes leaf)) leaves
+
+-- No two of these keys are equal.
+abbrev pub AreApart : List (List ℕ) → Type 0
+AreApart keys = (i j : ℕ) → i < length keys → j < length keys → slice_index_or keys i [] ≡ slice_index_or keys j [] → i ≡ j

@@ -1,0 +1,4 @@
+pub mod Leaves
+pub mod Covering
+pub mod Order
+pub mod Laws
