@@ -4,4 +4,8 @@
 #[cfg(test)]
 mod edges;
 #[cfg(test)]
+mod entries;
+#[cfg(test)]
 mod texts;
+#[cfg(test)]
+mod trees;
