@@ -1,0 +1,55 @@
+-- The lists of keys, and what changes one of them.
+use Rattle.std.proofs.Common.{◌≡◌, ◌≢◌, ◌∙◌, ℕ, ◌<◌, List, [], ◌∷◌, ◌++◌, length, get_or, set, map, Option, Some, None, false, refl, sym, ap, arith}
+use Rattle.std.specs.Prelude.{slice_get, slice_set, slice_index_or}
+use Rattle.std.specs.List.{AllPairs}
+use Rattle.std.proofs.lemmas.List.{get_or-map, length-map}
+use Rattle.std.proofs.lemmas.Option.{slice_get_within, get_or_from_slice_get}
+use Rattle.lc_base.specs.declared.row.Dep.{Dep}
+use Rattle.prov_entry.specs.declared.entry.Leaf.{Leaf}
+use Rattle.history_root.specs.Root.{is_among}
+use Rattle.forward_links.specs.Lists.{list_at, with_use_at, emptied_at}
+use Rattle.lineage_index.specs.Growth.{changed}
+use Rattle.lineage_index.specs.Heads.{AreLists, IsKeyIndex}
+use Rattle.lineage_index.proofs.ByKey.{set_at_key, changed_nowhere, same_everywhere}
+
+-- the value at the index of a key
+pub value_at : {A : Type 0} (f : List ℕ → A) (keys : List (List ℕ)) (key : List ℕ) (i : ℕ) (d : A) → slice_get keys i ≡ Some key → (i < length (map f keys)) × (slice_index_or (map f keys) i d ≡ f key)
+value_at f keys key i d at =
+    let within = slice_get_within keys i key at in
+    (omega (arith, within, length-map keys f), get_or-map f keys i key d within ∙ ap f (get_or_from_slice_get keys i key key at))
+
+-- the value of a key is set
+pub value_set : {A : Type 0} (f : List ℕ → A) (keys : List (List ℕ)) (key : List ℕ) (i : ℕ) (x : A) → AllPairs ◌≢◌ keys → slice_get keys i ≡ Some key → slice_set (map f keys) i x ≡ map (changed f key x) keys
+value_set f keys key i x apart at = set_at_key f keys key i x key apart (slice_get_within keys i key at) (get_or_from_slice_get keys i key key at)
+
+pub lists_within : (tree : List Leaf) (lists : List (List Dep)) (keys : List (List ℕ)) (list : List ℕ → List Dep) (key : List ℕ) (i : ℕ) → AreLists tree lists keys list → slice_get keys i ≡ Some key → i < length lists
+lists_within tree lists keys list key i a at = rw a.lists_are ((value_at list keys key i [] at).0)
+
+pub use_added : (tree : List Leaf) (lists : List (List Dep)) (keys : List (List ℕ)) (list : List ℕ → List Dep) (key : List ℕ) (i : ℕ) (user : Dep) → AreLists tree lists keys list → slice_get keys i ≡ Some key
+    → AreLists tree (with_use_at lists i user) keys (changed list key (list key ++ user ∷ []))
+use_added tree lists keys list key i user a at = record {
+  apart = a.apart;
+  entry = a.entry;
+  leaves_are = a.leaves_are;
+  lists_are =
+      ap (λ (ls : List (List Dep)). with_use_at ls i user) a.lists_are
+      ∙ ap (λ (l : List Dep). slice_set (map list keys) i (l ++ user ∷ [])) (value_at list keys key i [] at).1
+      ∙ value_set list keys key i (list key ++ user ∷ []) a.apart at;
+}
+
+pub use_nowhere : (tree : List Leaf) (lists : List (List Dep)) (keys : List (List ℕ)) (list : List ℕ → List Dep) (key : List ℕ) (x : List Dep) → AreLists tree lists keys list → is_among keys key ≡ false
+    → AreLists tree lists keys (changed list key x)
+use_nowhere tree lists keys list key x a none = record {
+  apart = a.apart;
+  entry = a.entry;
+  leaves_are = a.leaves_are;
+  lists_are = a.lists_are ∙ sym (changed_nowhere list key x keys none);
+}
+
+pub lists_same : (tree : List Leaf) (lists : List (List Dep)) (keys : List (List ℕ)) (f g : List ℕ → List Dep) → AreLists tree lists keys f → ((key : List ℕ) → f key ≡ g key) → AreLists tree lists keys g
+lists_same tree lists keys f g a same = record {
+  apart = a.apart;
+  entry = a.entry;
+  leaves_are = a.leaves_are;
+  lists_are = a.lists_are ∙ same_everywhere f g keys same;
+}

@@ -1,0 +1,150 @@
+-- One row more becomes the newest version of its key.
+use Rattle.std.proofs.Common.{◌≡◌, ◌∙◌, ℕ, ◌+◌, ◌<◌, ◌≤◌, Bool, true, false, ◌==◌, if◌then◌else◌, List, [], ◌∷◌, ◌++◌, length, map, Option, Some, None, refl, sym, ap, subst, arith, inl, inr}
+use Rattle.std.specs.Prelude.{slice_get, zero, suc}
+use Rattle.std.specs.Option.{is_some, option_or}
+use Rattle.std.specs.Cmp.Lexicographic.{pointwise}
+use Rattle.std.proofs.lemmas.List.{append-nil, append_assoc, length-map, length-append}
+use Rattle.std.proofs.lemmas.List.Sums.{fold-append}
+use Rattle.std.proofs.lemmas.Bool.{cases_Bool}
+use Rattle.lc_base.specs.declared.row.Row.{Row}
+use Rattle.lc_base.specs.declared.row.Dep.{Dep}
+use Rattle.lc_base.specs.History.{newest}
+use Rattle.version_links.specs.declared.versions.VersionRef.{VersionRef}
+use Rattle.version_links.specs.Versions.{newest_index, version_after, versions_after, versions_of}
+use Rattle.version_links.proofs.Threads.{versions_more, newest_more, newest_found, newest_below}
+use Rattle.prov_entry.specs.declared.entry.Leaf.{Leaf}
+use Rattle.history_root.specs.Root.{is_among, with_key, keys_of}
+use Rattle.history_root.proofs.Lists.{not_both, option_cases}
+use Rattle.history_root.proofs.Keys.{same_key, among_is_some, keys_append, keys_short}
+use Rattle.history_root.proofs.Growing.{newest_append}
+use Rattle.lineage_index.specs.Growth.{Grows, Entry, changed, settled, held}
+use Rattle.lineage_index.specs.Heads.{KeyStates, AreHeads, leaves_with, with_version, with_key_more, with_version_more, newest_of, fresh_entry, newest_at, index_or_zero, open_list}
+use Rattle.lineage_index.specs.Settling.{entry_or_fresh, settling, AreSettled}
+use Rattle.lineage_index.proofs.ByKey.{same_everywhere}
+use Rattle.lineage_index.proofs.KeyLeaves.{leaves_same}
+use Rattle.lineage_index.proofs.KeptStates.{version_new, version_old, as_many}
+use Rattle.lineage_index.proofs.ClosedLists.{one_key_more, settled_all}
+
+-- states that say the same of each key
+pub heads_same : (tree : List Leaf) (lists : List (List Dep)) (newest : List ℕ) (s t : KeyStates) → AreHeads tree lists newest s → s.keys ≡ t.keys → ((key : List ℕ) → s.entry key ≡ t.entry key) → ((key : List ℕ) → s.list key ≡ t.list key)
+    → ((key : List ℕ) → s.index key ≡ t.index key) → AreHeads tree lists newest t
+heads_same tree lists newest s t a keys entry list index = record {
+  apart = rw (← keys) a.apart;
+  leaves_are = a.leaves_are ∙ leaves_same s.keys s.entry t.entry entry ∙ ap (λ (ks : List (List ℕ)). leaves_with ks t.entry) keys;
+  lists_are = a.lists_are ∙ same_everywhere s.list t.list s.keys list ∙ ap (map t.list) keys;
+  newest_are = a.newest_are ∙ same_everywhere s.index t.index s.keys index ∙ ap (map t.index) keys;
+}
+
+-- ---- what is known of the newest row
+
+found_there : (rows : List Row) (index : ℕ) (o : Option Row) → index < length rows → slice_get rows index ≡ o → (row : Row) × (o ≡ Some row)
+found_there [] index o l e = absurd (omega (arith, l))
+found_there (row ∷ rows) zero o l e = (row, sym e)
+found_there (row ∷ rows) (suc index) o l e = found_there rows index o (omega (arith, l)) e
+
+-- the row at the index of the newest one
+pub row_there : (rows : List Row) (key : List ℕ) (index : ℕ) → newest_index rows key ≡ Some index → (row : Row) × (newest rows key ≡ Some row) × (slice_get rows index ≡ Some row)
+row_there rows key index e =
+    let found : slice_get rows index ≡ newest rows key = (let all = newest_found rows key in rw e at all) in
+    let within : index < length rows = (let low = newest_below rows key in rw e at low) in
+    let there = found_there rows index (newest rows key) within found in
+    (there.0, there.1, found ∙ there.1)
+
+-- the index of the newest row of a key is there where the key is
+pub index_there : (rows : List Row) (key : List ℕ) → is_among (keys_of rows) key ≡ true → newest_index rows key ≡ Some (newest_at rows key)
+index_there rows key t = go (newest_index rows key) refl
+  where
+    go : (o : Option ℕ) → newest_index rows key ≡ o → newest_index rows key ≡ Some (newest_at rows key)
+    go None e =
+        let none : newest rows key ≡ None = (let all = newest_found rows key in rw e at all) in
+        let off : is_among (keys_of rows) key ≡ false = among_is_some rows key ∙ rw none refl in
+        absurd (not_both (is_among (keys_of rows) key) t off)
+    go (Some index) e = e ∙ ap (λ (o : Option ℕ). Some (index_or_zero o)) (sym e)
+
+pub index_nowhere : (rows : List Row) (key : List ℕ) → is_among (keys_of rows) key ≡ false → newest_index rows key ≡ None
+index_nowhere rows key f = go (newest_index rows key) refl
+  where
+    go : (o : Option ℕ) → newest_index rows key ≡ o → newest_index rows key ≡ None
+    go None e = e
+    go (Some index) e =
+        let there = row_there rows key index e in
+        let on : is_among (keys_of rows) key ≡ true = among_is_some rows key ∙ rw there.1 refl in
+        absurd (not_both (is_among (keys_of rows) key) on f)
+
+pub index_of_states : (rows : List Row) (list : List ℕ → List Dep) (done : List Row) (key : List ℕ) → newest_of (settling rows list done) key ≡ newest_index (rows ++ done) key
+index_of_states rows list done key = elim (cases_Bool (is_among (keys_of (rows ++ done)) key)) [
+  | inl t ↦ rw t (sym (index_there (rows ++ done) key t))
+  | inr f ↦ rw f (sym (index_nowhere (rows ++ done) key f))
+]
+
+-- ---- one row more
+
+keys_more : (rows done : List Row) (row : Row) → keys_of (rows ++ (done ++ row ∷ [])) ≡ with_key (keys_of (rows ++ done)) row
+keys_more rows done row = ap keys_of (sym (append_assoc rows done (row ∷ []))) ∙ keys_append (rows ++ done) (row ∷ [])
+
+not_before : (rows done : List Row) (key : List ℕ) → is_among (keys_of (rows ++ done)) key ≡ false → is_among (keys_of rows) key ≡ false
+not_before rows done key none = among_is_some rows key ∙ go (newest done key) (newest rows key) (sym (ap is_some (newest_append rows done key)) ∙ sym (among_is_some (rows ++ done) key) ∙ none)
+  where
+    go : (a b : Option Row) → is_some (option_or a b) ≡ false → is_some b ≡ false
+    go None b e = e
+    go (Some row) b e = cc
+
+fresh_stays : (rows done : List Row) (new key : List ℕ) → is_among (keys_of (rows ++ done)) new ≡ false → changed (entry_or_fresh rows) new fresh_entry key ≡ entry_or_fresh rows key
+fresh_stays rows done new key none = elim (cases_Bool (pointwise ◌==◌ new key)) [
+  | inl t ↦
+      let same : new ≡ key = same_key new key t in
+      let off : is_among (keys_of rows) key ≡ false = ap (is_among (keys_of rows)) (sym same) ∙ not_before rows done new none in
+      rw (t, off) refl
+  | inr f ↦ rw f refl
+]
+
+index_more : (rows done : List Row) (row : Row) (key : List ℕ) → changed (newest_at (rows ++ done)) row.key (length (rows ++ done)) key ≡ newest_at (rows ++ (done ++ row ∷ [])) key
+index_more rows done row key =
+    let more : newest_index (rows ++ (done ++ row ∷ [])) key ≡ (if pointwise ◌==◌ row.key key then Some (length (rows ++ done)) else newest_index (rows ++ done) key) =
+    ap (λ (rs : List Row). newest_index rs key) (sym (append_assoc rows done (row ∷ []))) ∙ newest_more (rows ++ done) row key in
+    elim (cases_Bool (pointwise ◌==◌ row.key key)) [
+      | inl t ↦ let is : newest_index (rows ++ (done ++ row ∷ [])) key ≡ Some (length (rows ++ done)) = more ∙ rw t refl in rw t (sym (ap index_or_zero is))
+      | inr f ↦ let is : newest_index (rows ++ (done ++ row ∷ [])) key ≡ newest_index (rows ++ done) key = more ∙ rw f refl in rw f (sym (ap index_or_zero is))
+    ]
+
+states_more : (rows done : List Row) (list : List ℕ → List Dep) (row : Row) (tree : List Leaf) (lists : List (List Dep)) (newest : List ℕ) → AreHeads tree lists newest (with_version (settling rows list done) row.key (length (rows ++ done)))
+    → AreHeads tree lists newest (settling rows list (done ++ row ∷ []))
+states_more rows done list row tree lists newest a = elim (cases_Bool (is_among (keys_of (rows ++ done)) row.key)) [
+  | inl t ↦ heads_same tree lists newest (with_version_more (settling rows list done) row.key (length (rows ++ done))) (settling rows list (done ++ row ∷ []))
+      (subst (λ (s : KeyStates). AreHeads tree lists newest s) (version_old (settling rows list done) row.key (length (rows ++ done)) t).0 a)
+      (sym (keys_more rows done row ∙ rw t refl)) (λ key. refl) (λ key. one_key_more list done row key) (λ key. index_more rows done row key)
+  | inr f ↦ heads_same tree lists newest (with_key_more (settling rows list done) row.key (length (rows ++ done))) (settling rows list (done ++ row ∷ []))
+      (subst (λ (s : KeyStates). AreHeads tree lists newest s) (version_new (settling rows list done) row.key (length (rows ++ done)) f).0 a)
+      (sym (keys_more rows done row ∙ rw f refl)) (λ key. fresh_stays rows done row.key key f) (λ key. one_key_more list done row key) (λ key. index_more rows done row key)
+]
+
+versions_long : (before rows : List Row) → length (versions_after before rows) ≡ length rows
+versions_long before [] = refl
+versions_long before (row ∷ rows) = let rest = versions_long (before ++ row ∷ []) rows in omega (arith, rest)
+
+-- there are as many versions as rows
+pub as_many_versions : (rows : List Row) → length (versions_of rows) ≡ length rows
+unfolding versions_of
+as_many_versions rows = versions_long [] rows
+
+pub settled_long : (rows done : List Row) (list : List ℕ → List Dep) (tree : List Leaf) (lists : List (List Dep)) (newest : List ℕ) (versions : List VersionRef) → AreSettled rows done list tree lists newest versions
+    → (length versions ≡ length (rows ++ done)) × (length newest ≤ length versions)
+settled_long rows done list tree lists newest versions a =
+    let long : length versions ≡ length (rows ++ done) = ap length a.versions_are ∙ as_many_versions (rows ++ done) in
+    let many = as_many tree lists newest (settling rows list done) a.heads in
+    let short = keys_short [] (rows ++ done) in
+    (long, omega (arith, long, many.1, short))
+
+pub settled_more : (rows done : List Row) (list : List ℕ → List Dep) (row : Row) (tree new_tree : List Leaf) (lists new_lists : List (List Dep)) (newest new_newest : List ℕ) (versions : List VersionRef) (index : ℕ) (previous : Option ℕ)
+    → AreSettled rows done list tree lists newest versions → index ≡ length versions → AreHeads new_tree new_lists new_newest (with_version (settling rows list done) row.key index) → previous ≡ newest_of (settling rows list done) row.key
+    → AreSettled rows (done ++ row ∷ []) list new_tree new_lists new_newest (versions ++ record { block = row.block; previous = previous } ∷ [])
+settled_more rows done list row tree new_tree lists new_lists newest new_newest versions index previous a at heads before =
+    let long = settled_long rows done list tree lists newest versions a in
+    let version : VersionRef = record { block = row.block; previous = previous } in
+    let is : version ≡ version_after (rows ++ done) row = ap (λ (p : Option ℕ). let v : VersionRef = record { block = row.block; previous = p } in v) (before ∙ index_of_states rows list done row.key) in
+    record {
+      heads = states_more rows done list row new_tree new_lists new_newest (subst (λ (i : ℕ). AreHeads new_tree new_lists new_newest (with_version (settling rows list done) row.key i)) (at ∙ long.0) heads);
+      versions_are =
+          ap (λ (vs : List VersionRef). vs ++ version ∷ []) a.versions_are ∙ ap (λ (v : VersionRef). versions_of (rows ++ done) ++ v ∷ []) is
+          ∙ sym (versions_more (rows ++ done) row) ∙ ap versions_of (append_assoc rows done (row ∷ []));
+    }

@@ -1,0 +1,113 @@
+-- How what is kept of the keys of a history grows with a block. `rows` are those of the blocks
+-- before, and `more` rows of the block.
+use Rattle.std.specs.Prelude.{◌≡◌, ◌≢◌, ℕ, ◌<◌, ◌==◌, Bool, if◌then◌else◌, List, [], ◌∷◌, ◌++◌, length, map, Option, Some, None}
+use Rattle.std.specs.List.{list_any, flat_map, fold, All, AllPairs}
+use Rattle.std.specs.Cmp.Lexicographic.{pointwise}
+use Rattle.lc_base.specs.declared.digest.Digest.{Digest}
+use Rattle.lc_base.specs.declared.row.Row.{Row}
+use Rattle.lc_base.specs.declared.row.Dep.{Dep}
+use Rattle.lc_base.specs.History.{IsLawful, newest, uses, version_of}
+use Rattle.prov_entry.specs.declared.entry.BodyDep.{BodyDep}
+use Rattle.prov_entry.specs.declared.entry.Leaf.{Leaf}
+use Rattle.history_root.specs.Naming.{uses_of, digest_of_uses, header_digest}
+use Rattle.history_root.specs.Root.{block_of, is_among, next_key}
+
+-- ---- what holds of a block
+
+-- Lawful rows of blocks before n, and rows of block n behind them, lawful together.
+pub record Grows (rows new : List Row) (n : ℕ) : Type 0 where
+  pub lawful_before : IsLawful rows
+  pub before : All (λ (row : Row). row.block < n) rows
+  pub now : All (λ (row : Row). row.block ≡ n) new
+  pub lawful : IsLawful (rows ++ new)
+
+-- ---- one value for each key
+
+-- A function of keys, changed at one key.
+abbrev pub changed : {A : Type 0} → (List ℕ → A) → List ℕ → A → List ℕ → A
+changed f key x other = if pointwise ◌==◌ key other then x else f other
+
+-- ---- forward lists
+
+-- The uses, among these rows and more, of the newest version of a key among these rows; none where
+-- there is none.
+abbrev pub held : List Row → List Row → List ℕ → List Dep
+held rows more key = uses_of (rows ++ more) key (newest rows key)
+
+-- Whether a dependency is on a version of the key.
+abbrev pub is_on_key : List ℕ → Dep → Bool
+is_on_key key dep = pointwise ◌==◌ dep.key key
+
+-- The list of a key after these dependencies were added to the lists of their keys, with this version
+-- as what was derived from them.
+abbrev pub used : (List ℕ → List Dep) → Dep → List Dep → List ℕ → List Dep
+used list user deps key = if list_any (is_on_key key) deps then list key ++ user ∷ [] else list key
+
+-- The list of a key after the dependencies of a row were added.
+abbrev pub used_by_row : (List ℕ → List Dep) → Row → List ℕ → List Dep
+used_by_row list row = used list (version_of row) row.deps
+
+-- The list of a key after the dependencies of these rows were added.
+abbrev pub used_by : (List ℕ → List Dep) → List Row → List ℕ → List Dep
+used_by list rows = fold used_by_row list rows
+
+-- No two of a row's dependencies are on one key.
+abbrev pub HaveDistinctKeys : List Dep → Type 0
+HaveDistinctKeys deps = AllPairs (λ (a b : Dep). a.key ≢ b.key) deps
+
+-- Whether a row is a version of the key.
+abbrev pub is_of_key : List ℕ → Row → Bool
+is_of_key key row = pointwise ◌==◌ row.key key
+
+-- The list of a key after these rows closed the lists of their keys.
+abbrev pub settled : (List ℕ → List Dep) → List Row → List ℕ → List Dep
+settled list done key = if list_any (is_of_key key) done then [] else list key
+
+-- ---- header digests
+
+-- The versions of these rows, with these digests of their headers.
+abbrev pub named_from : List Row → List Digest → List BodyDep
+named_from [] digests = []
+named_from (row ∷ rows) [] = []
+named_from (row ∷ rows) (digest ∷ digests) = record { key = row.key; block = row.block; digest = digest } ∷ named_from rows digests
+
+-- ---- leaves
+
+-- What a leaf has of a key, but for the next key.
+pub record Entry : Type 0 where
+  pub newest_block : ℕ
+  pub newest : Digest
+  pub open_count : ℕ
+  pub open_digest : Digest
+
+-- The entry of a key of a history.
+abbrev pub entry_of : List Row → List ℕ → Entry
+entry_of rows key = record {
+  newest_block = block_of (newest rows key);
+  newest = header_digest rows key (block_of (newest rows key));
+  open_count = length (uses rows key (block_of (newest rows key)));
+  open_digest = digest_of_uses (uses rows key (block_of (newest rows key)));
+}
+
+-- The leaf of a key, among these keys, with this entry.
+abbrev pub leaf_with : List (List ℕ) → List ℕ → Entry → Leaf
+leaf_with keys key entry = record {
+  key = Some key;
+  next = next_key keys key;
+  newest_block = entry.newest_block;
+  newest = entry.newest;
+  open_count = entry.open_count;
+  open_digest = entry.open_digest;
+}
+
+-- The keys of a row: its own, and those that it depends on.
+abbrev pub keys_of_row : Row → List (List ℕ)
+keys_of_row row = row.key ∷ map (λ (dep : Dep). dep.key) row.deps
+
+-- The keys whose entries a block changes, one after another.
+abbrev pub keys_touched : List Row → List (List ℕ)
+keys_touched new = flat_map keys_of_row new
+
+-- The entry of a key after those of some keys were made new.
+abbrev pub renewed : (List ℕ → Entry) → (List ℕ → Entry) → List (List ℕ) → List ℕ → Entry
+renewed old new done key = if is_among done key then new key else old key

@@ -1,0 +1,95 @@
+-- What is kept of the newest version of each key.
+use Rattle.std.specs.Prelude.{◌≡◌, ◌≢◌, ℕ, List, [], ◌∷◌, ◌++◌, map, replicate, slice_get, false, if◌then◌else◌, Option, Some, None}
+use Rattle.std.specs.List.{AllPairs}
+use Rattle.lc_base.specs.declared.digest.Digest.{Digest}
+use Rattle.lc_base.specs.declared.row.Row.{Row}
+use Rattle.lc_base.specs.declared.row.Dep.{Dep}
+use Rattle.lc_base.specs.History.{newest}
+use Rattle.version_links.specs.Versions.{newest_index}
+use Rattle.prov_entry.specs.declared.entry.Leaf.{Leaf}
+use Rattle.history_root.specs.Naming.{digest_of_uses, uses_of}
+use Rattle.history_root.specs.Root.{sentinel, is_among, keys_of}
+use Rattle.lineage_index.specs.Growth.{Entry, leaf_with, entry_of, changed}
+
+-- The leaves of some keys, with an entry for each, and the sentinel before them.
+abbrev pub leaves_with : List (List ℕ) → (List ℕ → Entry) → List Leaf
+leaves_with keys entry = sentinel keys ∷ map (λ (key : List ℕ). leaf_with keys key (entry key)) keys
+
+-- The entry of a key without versions.
+abbrev pub fresh_entry : Entry
+fresh_entry = record { newest_block = 0; newest = record { 0 = replicate 32 0 }; open_count = 0; open_digest = digest_of_uses [] }
+
+-- An index, 0 where there is none.
+abbrev pub index_or_zero : Option ℕ → ℕ
+index_or_zero None = 0
+index_or_zero (Some index) = index
+
+-- The index of the newest row of a key.
+abbrev pub newest_at : List Row → List ℕ → ℕ
+newest_at rows key = index_or_zero (newest_index rows key)
+
+-- The forward list of the newest version of a key, which is open.
+abbrev pub open_list : List Row → List ℕ → List Dep
+open_list rows key = uses_of rows key (newest rows key)
+
+-- The index of a key among these keys; none where it is not among them.
+abbrev pub IsKeyIndex : List (List ℕ) → List ℕ → Option ℕ → Type 0
+IsKeyIndex keys key None = is_among keys key ≡ false
+IsKeyIndex keys key (Some index) = slice_get keys index ≡ Some key
+
+-- Lists of some keys, each key once, in the order of their leaves.
+pub record AreLists (tree : List Leaf) (lists : List (List Dep)) (keys : List (List ℕ)) (list : List ℕ → List Dep) : Type 0 where
+  pub apart : AllPairs ◌≢◌ keys
+  pub entry : List ℕ → Entry
+  pub leaves_are : tree ≡ leaves_with keys entry
+  pub lists_are : lists ≡ map list keys
+
+-- The list of a key, where the key is among these.
+abbrev pub list_if_there : List (List ℕ) → (List ℕ → List Dep) → List ℕ → Option (List Dep)
+list_if_there keys list key = if is_among keys key then Some (list key) else None
+
+-- ---- all that is kept of keys
+
+-- Some keys, and of each its entry, its open list, and the index of its newest row.
+pub record KeyStates : Type 0 where
+  pub keys : List (List ℕ)
+  pub entry : List ℕ → Entry
+  pub list : List ℕ → List Dep
+  pub index : List ℕ → ℕ
+
+-- Leaves, lists and indexes are those of some keys, each key once.
+pub record AreHeads (tree : List Leaf) (lists : List (List Dep)) (newest : List ℕ) (states : KeyStates) : Type 0 where
+  pub apart : AllPairs ◌≢◌ states.keys
+  pub leaves_are : tree ≡ leaves_with states.keys states.entry
+  pub lists_are : lists ≡ map states.list states.keys
+  pub newest_are : newest ≡ map states.index states.keys
+
+-- With one key more, which has an empty list, and whose newest row is the one at this index.
+abbrev pub with_key_more : KeyStates → List ℕ → ℕ → KeyStates
+with_key_more states key row = record {
+  keys = states.keys ++ key ∷ [];
+  entry = changed states.entry key fresh_entry;
+  list = changed states.list key [];
+  index = changed states.index key row;
+}
+
+-- The same of a key that was there before; its leaf stays.
+abbrev pub with_version_more : KeyStates → List ℕ → ℕ → KeyStates
+with_version_more states key row = record {
+  keys = states.keys;
+  entry = states.entry;
+  list = changed states.list key [];
+  index = changed states.index key row;
+}
+
+-- After a new version of a key, whose row is the one at this index.
+abbrev pub with_version : KeyStates → List ℕ → ℕ → KeyStates
+with_version states key row = if is_among states.keys key then with_version_more states key row else with_key_more states key row
+
+-- The index of the newest row of a key, where the key is there.
+abbrev pub newest_of : KeyStates → List ℕ → Option ℕ
+newest_of states key = if is_among states.keys key then Some (states.index key) else None
+
+-- The states of the keys of a history.
+abbrev pub states_of : List Row → KeyStates
+states_of rows = record { keys = keys_of rows; entry = entry_of rows; list = open_list rows; index = newest_at rows }

@@ -1,0 +1,69 @@
+//! The uses of a block's rows, added to the open lists of the keys that they depend on.
+
+ghost use Rattle.std.specs.Prelude.{◌≡◌, ◌++◌, ◌∷◌, [], ℕ, List, OnOk};
+ghost use Rattle.std.specs.List.{All};
+ghost use Rattle.lc_base.specs.declared.row.Dep.{Dep};
+ghost use Rattle.lc_base.specs.declared.row.Row.{Row};
+ghost use Rattle.lineage_index.specs.Growth.{changed, used, used_by_row, used_by, HaveDistinctKeys};
+ghost use Rattle.lineage_index.specs.Heads.{AreLists};
+
+use crate::heads::index_of;
+use forward_links::OpenLists;
+use lc_base::{Dep, Memory, Row};
+use state_tree::Tree;
+
+/// Adds a use to the list of the key of a dependency.
+fn add_use(tree: &Tree, lists: &mut OpenLists, dep: &Dep, user: &Dep) -> Result<(), Memory>
+    requires { (keys : List (List ℕ)) × (list : List ℕ → List Dep) × AreLists tree.now lists.old keys list }
+    ensures { (keys : List (List ℕ)) (list : List ℕ → List Dep) → AreLists tree.now lists.old keys list
+        → OnOk result (AreLists tree.now lists.new keys (changed list dep.now.key (list dep.now.key ++ user.now ∷ []))) }
+{
+    match index_of(tree, &dep.key) {
+        None => Ok(()),
+        Some(index) => lists.add(index, *user),
+    }
+}
+
+/// Adds a use to the list of the key of each dependency.
+fn add_use_to_each(
+    tree: &Tree,
+    lists: &mut OpenLists,
+    deps: &[Dep],
+    user: &Dep,
+) -> Result<(), Memory>
+    requires distinct { HaveDistinctKeys deps.now }
+    requires lists { (keys : List (List ℕ)) × (list : List ℕ → List Dep) × AreLists tree.now lists.old keys list }
+    ensures { (keys : List (List ℕ)) (list : List ℕ → List Dep) → AreLists tree.now lists.old keys list
+        → OnOk result (AreLists tree.now lists.new keys (used list user.now deps.now)) }
+{
+    for dep in deps {
+        add_use(tree, lists, dep, user)?;
+    }
+    Ok(())
+}
+
+fn add_uses_of_row(tree: &Tree, lists: &mut OpenLists, row: &Row) -> Result<(), Memory>
+    requires distinct { HaveDistinctKeys row.now.deps }
+    requires lists { (keys : List (List ℕ)) × (list : List ℕ → List Dep) × AreLists tree.now lists.old keys list }
+    ensures { (keys : List (List ℕ)) (list : List ℕ → List Dep) → AreLists tree.now lists.old keys list
+        → OnOk result (AreLists tree.now lists.new keys (used_by_row list row.now)) }
+{
+    let user = Dep {
+        key: row.key,
+        block: row.block,
+    };
+    add_use_to_each(tree, lists, row.deps.as_slice(), &user)
+}
+
+/// Adds the uses of these rows, row by row, to the lists of the keys that they depend on.
+pub(crate) fn add_uses(tree: &Tree, lists: &mut OpenLists, rows: &[Row]) -> Result<(), Memory>
+    requires distinct { All (λ (row : Row). HaveDistinctKeys row.deps) rows.now }
+    requires lists { (keys : List (List ℕ)) × (list : List ℕ → List Dep) × AreLists tree.now lists.old keys list }
+    ensures { (keys : List (List ℕ)) (list : List ℕ → List Dep) → AreLists tree.now lists.old keys list
+        → OnOk result (AreLists tree.now lists.new keys (used_by list rows.now)) }
+{
+    for row in rows {
+        add_uses_of_row(tree, lists, row)?;
+    }
+    Ok(())
+}
