@@ -1,0 +1,2 @@
+pub mod LedgerSteps
+pub mod Keeping

@@ -1,0 +1,18 @@
+-- All that a lineage keeps.
+use Rattle.std.specs.Prelude.{◌≡◌, List, length, map}
+use Rattle.lc_base.specs.declared.digest.Digest.{Digest}
+use Rattle.lc_base.specs.declared.row.Row.{Row}
+use Rattle.lineage_index.specs.Index.{IsIndexOf}
+use Rattle.lineage_index.specs.declared.index.LineageIndex.{LineageIndex}
+use Rattle.merkle_dag.specs.declared.kept.Kept.{Kept}
+use Rattle.merkle_dag.specs.Ledger.{IsLedger, roots_of}
+
+-- Rows and digests of a ledger, with the index over the rows and the roots of all blocks.
+pub record Keeps (rows : List Row) (index : LineageIndex) (digests roots : List Digest) : Type 0 where
+  pub ledger : IsLedger rows digests
+  pub index_is : IsIndexOf rows (length digests) index
+  pub roots_are : map (λ (root : Digest). root.0) roots ≡ roots_of rows digests
+
+-- All parts belong together.
+abbrev pub IsWhole : Kept → Type 0
+IsWhole kept = Keeps kept.rows kept.index kept.digests.items kept.roots.items

@@ -1,0 +1,27 @@
+-- A ledger: the rows of a history, and the digests of its blocks.
+use Rattle.std.specs.Prelude.{◌≡◌, ℕ, ◌<◌, ◌≤◌, ◌+◌, List, length, map, Option, MatchOption}
+use Rattle.std.specs.List.{All, range_with_len}
+use Rattle.lc_base.specs.declared.digest.Digest.{Digest}
+use Rattle.lc_base.specs.declared.row.Row.{Row}
+use Rattle.lc_base.specs.History.{IsLawful}
+use Rattle.history_root.specs.Root.{root_of}
+use Rattle.merkle_dag.specs.declared.limits.TheConstants.{MAX_BLOCKS}
+
+-- Rows, and the digests of their blocks.
+pub record Ledger : Type 0 where
+  pub rows : List Row
+  pub digests : List Digest
+
+-- The rows are a lawful history of blocks that have a digest, of which there are not too many.
+pub record IsLedger (rows : List Row) (digests : List Digest) : Type 0 where
+  pub lawful : IsLawful rows
+  pub within : All (λ (row : Row). row.block < length digests) rows
+  pub few : length digests ≤ MAX_BLOCKS
+
+-- The roots of all blocks.
+abbrev pub roots_of : List Row → List Digest → List (List ℕ)
+roots_of rows digests = map (root_of rows digests) (range_with_len 0 (length digests))
+
+-- The number of the last block; none where there is no block.
+abbrev pub IsHead : List Digest → Option ℕ → Type 0
+IsHead digests head = MatchOption head (length digests ≡ 0) (λ last. last + 1 ≡ length digests)

@@ -1,0 +1,11 @@
+//! The lineage of a ledger: the rows of its blocks, with the digest and the root of each block.
+#![tactic(auto)]
+
+mod host;
+mod kept;
+mod limits;
+mod lineage;
+mod root;
+
+pub use limits::MAX_BLOCKS;
+pub use lineage::{DagError, Lineage};

@@ -1,0 +1,179 @@
+//! The lineage of a ledger.
+
+ghost use Rattle.std.specs.Prelude.{◌≡◌, ◌≤◌, ◌<◌, ◌+◌, ◌++◌, ◌∷◌, [], length, slice_get, IfOk, MatchOption};
+ghost use Rattle.std.specs.List.{All};
+ghost use Rattle.std.specs.Option.{option_copied};
+ghost use Rattle.lc_base.specs.History.{IsLawful, latest, scan};
+ghost use Rattle.lc_base.specs.declared.row.Row.{Row};
+ghost use Rattle.history_root.specs.Root.{root_of, leaves};
+ghost use Rattle.lineage_index.specs.Index.{newest_uses};
+ghost use Rattle.merkle_dag.specs.declared.limits.TheConstants.{MAX_BLOCKS};
+ghost use Rattle.merkle_dag.specs.Ledger.{Ledger, IsLedger, IsHead};
+
+use crate::kept::{Kept, discard, grow};
+use lc_base::{Answer, DepList, Digest, Key, Memory, Query, Row, RowList};
+use lineage_index::LineageIndex;
+use plain_rows::PlainRows;
+use state_tree::Tree;
+use std::alloc::{AllocError, AllocFailed, Global};
+use std::marker::Model;
+
+/// Why a lineage did not take a block.
+#[derive(Clone, Copy, Debug, PartialEq, Eq)]
+pub enum DagError {
+    /// Out of memory.
+    Memory,
+}
+
+impl From<Memory> for DagError {
+    fn from(_memory: Memory) -> DagError {
+        DagError::Memory
+    }
+}
+
+impl From<AllocError> for DagError {
+    fn from(_error: AllocError) -> DagError {
+        DagError::Memory
+    }
+}
+
+impl<T: Drop> From<AllocFailed<T>> for DagError {
+    fn from(_error: AllocFailed<T>) -> DagError {
+        DagError::Memory
+    }
+}
+
+/// The rows of all blocks, and the digest and the root of each block.
+#[derive(Drop)]
+pub struct Lineage {
+    pub(crate) kept: Kept,
+}
+
+// Contracts see the rows, and the digests of the blocks.
+impl Model for Lineage {
+    ghost use Rattle.merkle_dag.specs.Ledger.{Ledger};
+    ghost use Rattle.merkle_dag.specs.Kept.{IsWhole};
+
+    ghost Value = { Ledger };
+
+    ghost view = { λ lineage. record { rows = lineage.kept.rows; digests = lineage.kept.digests.items } };
+
+    ghost invariant = { λ lineage. IsWhole lineage.kept };
+}
+
+impl Lineage {
+    /// The lineage without a block.
+    #[tactic(auto, using(crate::proofs::Keeping::ledger_none, crate::proofs::Keeping::roots_none))]
+    pub fn new(alloc: Global) -> Result<Lineage, Memory>
+        ensures { IfOk result (λ lineage. lineage ≡ record { rows = []; digests = [] }) }
+    {
+        let index = LineageIndex::new(alloc)?;
+        let kept = Kept {
+            rows: PlainRows::new(alloc),
+            index,
+            digests: Vec::new(alloc),
+            roots: Vec::new(alloc),
+        };
+        Ok(Lineage { kept })
+    }
+
+    /// Adds a block: its number, its digest and its rows. It gives the lineage with the block, and
+    /// the root at the block. On `Memory` the lineage is given up.
+    pub fn add_block(
+        self,
+        number: u32,
+        digest: Digest,
+        rows: &RowList,
+    ) -> Result<(Lineage, Digest), DagError>
+        requires next { number ≡ length self.digests }
+        requires low { number < MAX_BLOCKS }
+        requires block { All (λ (row : Row). row.block ≡ number) rows.now }
+        requires lawful { IsLawful (self.rows ++ rows.now) }
+        ensures kept { IfOk result (λ pair. pair.0 ≡ record { rows = self.rows ++ rows.now; digests = self.digests ++ digest ∷ [] }) }
+        ensures root { IfOk result (λ pair. pair.1.0 ≡ root_of (self.rows ++ rows.now) (self.digests ++ digest ∷ []) number) }
+    {
+        let Lineage { mut kept } = self;
+        match grow(&mut kept, number, digest, rows) {
+            Ok(root) => Ok((Lineage { kept }, root)),
+            Err(Memory) => {
+                discard(kept);
+                Err(DagError::Memory)
+            }
+        }
+    }
+
+    /// Ends the lineage. What it keeps has many parts; a function that ends it by this call, and not
+    /// where its scope ends, is checked in much less time.
+    pub fn give_up(self) {
+        discard(self.kept);
+    }
+
+    /// The number of the last block; `None` exactly where there is no block.
+    pub fn head(&self) -> Option<u32>
+        ensures { IsHead self.now.digests result }
+    {
+        if self.kept.digests.is_empty() {
+            return None;
+        }
+        Some((self.kept.digests.len() - 1) as u32)
+    }
+
+    /// The root at a block; `None` exactly past the last one.
+    pub fn root(&self, at: u32) -> Option<Digest>
+        ensures { MatchOption result (length self.now.digests ≤ at) (λ root. (at < length self.now.digests) × (root.0 ≡ root_of self.now.rows self.now.digests at)) }
+    {
+        digest_at(&self.kept.roots, at)
+    }
+
+    /// The digest that a block was added with; `None` exactly past the last one.
+    pub fn digest(&self, at: u32) -> Option<Digest>
+        ensures { result ≡ slice_get self.now.digests at }
+    {
+        digest_at(&self.kept.digests, at)
+    }
+
+    /// The rows of all blocks, in order: a lawful history of blocks up to the last one.
+    pub fn rows(&self) -> &[Row]
+        ensures rows { result.now ≡ self.now.rows }
+        ensures ledger { IsLedger self.now.rows self.now.digests }
+    {
+        self.kept.rows.as_slice()
+    }
+
+    /// The answer to a question over all rows. `Memory` changes nothing either.
+    pub fn ask(&mut self, query: &Query) -> Result<Answer, Memory>
+        ensures answer { IfOk result (λ answer. answer ≡ scan self.old.rows query.now) }
+        ensures unchanged { self.new ≡ self.old }
+    {
+        self.kept.rows.ask(query)
+    }
+
+    /// The last version of a key in the blocks up to `at`. It goes back over the versions of the key
+    /// alone.
+    pub fn latest(&self, key: &Key, at: u32) -> Option<&Row>
+        ensures { option_copied result ≡ latest self.now.rows key.now at }
+    {
+        self.kept.index.latest(self.kept.rows.as_slice(), key, at)
+    }
+
+    /// The leaves at the last block.
+    pub fn tree(&self) -> &Tree
+        ensures { result.now ≡ leaves self.now.rows }
+    {
+        self.kept.index.tree()
+    }
+
+    /// What was derived from the newest version of a key, in the order of the rows; `None` exactly
+    /// where the key has no version.
+    pub fn open_list(&self, key: &Key) -> Option<&DepList>
+        ensures { option_copied result ≡ newest_uses self.now.rows key.now }
+    {
+        self.kept.index.open_list(key)
+    }
+}
+
+fn digest_at(digests: &[Digest], at: u32) -> Option<Digest>
+    ensures { result ≡ slice_get digests.now at }
+{
+    digests.get(at as usize).copied()
+}

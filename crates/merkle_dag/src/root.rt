@@ -1,0 +1,32 @@
+//! The root of a block. It takes no memory.
+
+ghost use Rattle.std.specs.Prelude.{◌≡◌, ◌∷◌, ◌++◌};
+ghost use Rattle.std.specs.Int.{w32, to_be_bytes};
+ghost use Rattle.sha2.specs.Sha256.{sha256};
+ghost use Rattle.prov_entry.specs.declared.limits.TheConstants.{ROOT};
+ghost use Rattle.history_root.specs.Root.{root_text};
+
+use digest_kit::TagHasher;
+use lc_base::Digest;
+use prov_entry::ROOT;
+use state_tree::Tree;
+
+/// The digest of the text of a root: the block, its digest, the number of leaves, and their tree
+/// hash.
+fn root_digest(block: u32, digest: &Digest, leaf_count: u32, tree_hash: &Digest) -> Digest
+    ensures { result.0 ≡ sha256 (ROOT ∷ to_be_bytes w32 block ++ digest.now.0 ++ to_be_bytes w32 leaf_count ++ tree_hash.now.0) }
+{
+    let mut hasher = TagHasher::new(ROOT);
+    hasher.add(&block.to_be_bytes());
+    hasher.add(&digest.0);
+    hasher.add(&leaf_count.to_be_bytes());
+    hasher.add(&tree_hash.0);
+    hasher.finish()
+}
+
+/// The root of a block over the leaves of a tree.
+pub(crate) fn root_of_tree(tree: &Tree, block: u32, digest: &Digest) -> Digest
+    ensures { result.0 ≡ sha256 (root_text block digest.now.0 tree.now) }
+{
+    root_digest(block, digest, tree.count(), &tree.root_hash())
+}
