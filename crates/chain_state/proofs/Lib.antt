@@ -1,3 +1,3 @@
-mod Kept
-mod Chains
+pub mod Kept
+pub mod Chains
 pub mod Judgements

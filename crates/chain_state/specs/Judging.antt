@@ -58,6 +58,12 @@ IfNext (judgements.Known number) P = Unit {0}
 IfNext (judgements.Next block digest) P = P block digest
 IfNext (judgements.Refused refusal) P = Unit {0}
 
+-- It is this block with its digest, and this is where the next block stands.
+pub record IsPlacedBlock (block : Block) (digest : Digest) (placement : Placement) (next : Block) (next_digest : Digest) : Type 0 where
+  pub block_is : next ≡ block
+  pub digest_is : next_digest ≡ digest
+  pub is_next : placement ≡ placements.Next
+
 -- Bytes spell this block, which has this digest and is the next one of what is kept.
 pub record IsNextBlock (kept : ChainState) (bytes : List ℕ) (block : Block) (digest : Digest) : Type 0 where
   pub decoded : block_in bytes ≡ Ok block

@@ -2,12 +2,10 @@
 
 ghost use Rattle.std.specs.Prelude.{◌≡◌, List, IfOk};
 ghost use Rattle.block_codec.specs.Reading.{block_in};
-ghost use Rattle.block_codec.specs.Spelling.{IsBlock};
-ghost use Rattle.block_codec.specs.Placement.{digest_of};
 ghost use Rattle.block_codec.specs.declared.block.Block.{Block as Blocks};
 ghost use Rattle.chain_exec.specs.Compiled.{compiled_in};
-ghost use Rattle.chain_state.specs.Chain.{placement_in, placement_kept, HasRoom, StandsFor};
-ghost use Rattle.chain_state.specs.Judging.{judged, judged_by_placement, IsJudged, IfNext, IsNextBlock};
+ghost use Rattle.chain_state.specs.Chain.{StandsFor};
+ghost use Rattle.chain_state.specs.Judging.{judged, judged_by_placement, IsJudged, IsPlacedBlock, IfNext, IsNextBlock};
 
 use crate::chain::Chain;
 use crate::refusal::Refusal;
@@ -26,34 +24,36 @@ pub enum Judged {
     Refused(Refusal),
 }
 
-impl Chain {
-    /// What a block is to the chain.
-    fn judge_block(&self, block: Block, digest: Digest) -> Judged
-        requires lawful { IsBlock block }
-        requires digest { digest ≡ digest_of block }
-        ensures judged { (blocks : List Blocks) → StandsFor self.now blocks → IsJudged result (judged_by_placement block (placement_in compiled_in blocks block)) }
-        ensures next { IfNext result (λ next next_digest. (next ≡ block) × (next_digest ≡ digest) × HasRoom self.now block × (placement_kept self.now block digest ≡ Placement.Next)) }
-    {
-        match self.place(&block, digest) {
-            Placement::Known => Judged::Known {
-                number: block.number,
-            },
-            Placement::Next => Judged::Next { block, digest },
-            Placement::Fork { have } => Judged::Refused(Refusal::Fork(have)),
-            Placement::Full => Judged::Refused(Refusal::Full),
-            Placement::Number { want } => Judged::Refused(Refusal::Number(want)),
-            Placement::Parent { want } => Judged::Refused(Refusal::Parent(want)),
-            Placement::Budget { sum } => Judged::Refused(Refusal::Budget(sum)),
-        }
+/// What a block with this digest is to a chain to which it stands so.
+pub fn judge_block(block: Block, digest: Digest, placement: Placement) -> Judged
+    ensures judged { IsJudged result (judged_by_placement block placement) }
+    ensures next { IfNext result (IsPlacedBlock block digest placement) }
+{
+    match placement {
+        Placement::Known => Judged::Known {
+            number: block.number,
+        },
+        Placement::Next => Judged::Next { block, digest },
+        Placement::Fork { have } => Judged::Refused(Refusal::Fork(have)),
+        Placement::Full => Judged::Refused(Refusal::Full),
+        Placement::Number { want } => Judged::Refused(Refusal::Number(want)),
+        Placement::Parent { want } => Judged::Refused(Refusal::Parent(want)),
+        Placement::Budget { sum } => Judged::Refused(Refusal::Budget(sum)),
     }
+}
 
+impl Chain {
     /// What some bytes are to the chain.
     pub fn judge(&self, alloc: Global, bytes: &[u8]) -> Result<Judged, Memory>
         ensures judged { IfOk result (λ answer. (blocks : List Blocks) → StandsFor self.now blocks → IsJudged answer (judged compiled_in blocks (block_in bytes.now))) }
         ensures next { IfOk result (λ answer. IfNext answer (IsNextBlock self.now bytes.now)) }
     {
         match decode(alloc, bytes) {
-            Ok(block) => Ok(self.judge_block(block, block_digest(bytes))),
+            Ok(block) => {
+                let digest = block_digest(bytes);
+                let placement = self.place(&block, digest);
+                Ok(judge_block(block, digest, placement))
+            }
             Err(DecodeError::Malformed { at }) => Ok(Judged::Refused(Refusal::Malformed(at))),
             Err(DecodeError::Memory) => Err(Memory),
         }

@@ -6,5 +6,5 @@ mod judging;
 mod refusal;
 
 pub use chain::Chain;
-pub use judging::Judged;
+pub use judging::{Judged, judge_block};
 pub use refusal::Refusal;
