@@ -1,0 +1,8 @@
+//! A chain of blocks that keeps the lineage of its rows, and with it the root of each block.
+#![tactic(auto)]
+
+mod chain;
+mod extending;
+mod judging;
+
+pub use chain::LineageChain;
