@@ -1,12 +1,14 @@
 """Cases of logs: what commands tell over what a disk holds, and what becomes of it.
 
-What is expected is worked out by hand from docs/formats.md and docs/log.md.
+What is expected is worked out by hand from docs/formats.md and docs/log.md, but for roots, which
+tools/root_cases.py works out from the rows that are written here.
 """
 import dataclasses
 import hashlib
 
 import block_files
 from block_files import CONFLICT, OK, calls, deploys, number, sets
+from root_cases import Row, roots
 
 OPEN = b"\xa5"
 CLOSED = b"\0"
@@ -28,7 +30,10 @@ BEYOND = 9
 
 SET_FILE = block_files.block_file([[sets("raw/a", 5)]])
 SET_LOG = HEAD + OPEN + SET_FILE + CLOSED
-SET_LINE = "block 0 rows 1 status 0\n"
+SET_ROWS = [Row("raw/a", 0, 0, 5, [])]
+SET_LINE = f"block 0 rows 1 status 0 root {roots([SET_FILE], SET_ROWS)[0]}\n"
+# A block after that one.
+SECOND_ROWS = [*SET_ROWS, Row("raw/b", 1, 0, 1, [])]
 SET_ANSWER = "block 0 tx 0 int 5\n"
 HIST = "hist raw/a 0"
 
@@ -93,11 +98,12 @@ BANK = (
     'fn begin() { put "bank/n" = get_int("raw/a"); } fn add(d: int) { let n = get_int("bank/n");'
     ' put "bank/n" = n + d; put "bank/log" = d from "bank/n"; }'
 )
-# Blocks, the lines of `append`, and questions with their answers.
+# Blocks, the lines of `append` but for the roots, the rows, and questions with their answers.
 CHAINS = [
     (
         [[sets("raw/a", 1), sets("raw/a", 2, status=CONFLICT)]],
-        ["block 0 rows 1 status 0,1\n"],
+        ["block 0 rows 1 status 0,1"],
+        [Row("raw/a", 0, 0, 1, [])],
         {"hist raw/a": "block 0 tx 0 int 1\n", "hist raw/b": "none\n"},
     ),
     (
@@ -105,7 +111,8 @@ CHAINS = [
             [sets("raw/a", 1), sets("raw/b", 2, ["raw/a"], status=CONFLICT)],
             [sets("raw/b", 2, ["raw/a"])],
         ],
-        ["block 0 rows 1 status 0,1\n", "block 1 rows 1 status 0\n"],
+        ["block 0 rows 1 status 0,1", "block 1 rows 1 status 0"],
+        [Row("raw/a", 0, 0, 1, []), Row("raw/b", 1, 0, 2, [("raw/a", 0)])],
         {
             "back raw/b": "block 1 deps 1\nraw/a 0\n",
             "back raw/b 1": "block 1 deps 1\nraw/a 0\n",
@@ -126,10 +133,17 @@ CHAINS = [
             [sets("raw/b", "x", ["raw/a", "raw/a", "raw/z"])],
         ],
         [
-            "block 0 rows 1 status 0,0\n",
-            "block 1 rows 1 status 0\n",
-            "block 2 rows 2 status 0,1\n",
-            "block 3 rows 1 status 0\n",
+            "block 0 rows 1 status 0,0",
+            "block 1 rows 1 status 0",
+            "block 2 rows 2 status 0,1",
+            "block 3 rows 1 status 0",
+        ],
+        [
+            Row("raw/a", 0, 1, 5, []),
+            Row("bank/n", 1, 0, 5, [("raw/a", 0)]),
+            Row("bank/n", 2, 0, 8, [("bank/n", 1)]),
+            Row("bank/log", 2, 0, 3, [("bank/n", 1)]),
+            Row("raw/b", 3, 0, "x", [("raw/a", 0)]),
         ],
         {
             "hist bank/n": "block 2 tx 0 int 8\n",
@@ -142,7 +156,8 @@ CHAINS = [
     # A block without transactions, and one that sets a text.
     (
         [[], [sets("raw/a", "t")]],
-        ["block 0 rows 0 status -\n", "block 1 rows 1 status 0\n"],
+        ["block 0 rows 0 status -", "block 1 rows 1 status 0"],
+        [Row("raw/a", 1, 0, "t", [])],
         {"hist raw/a": "block 1 tx 0 text t\n", "hist raw/a 0": "none\n"},
     ),
 ]
@@ -150,10 +165,12 @@ CHAINS = [
 
 def chains():
     """Chains that are appended to an empty disk, at once and block by block, and asked about."""
-    for blocks, lines, questions in CHAINS:
+    for blocks, plain, rows, questions in CHAINS:
         file = block_files.block_file(blocks)
         frames = frames_of(file)
         log = log_of(file)
+        told_roots = roots(frames, rows)
+        lines = [f"{line} root {root}\n" for line, root in zip(plain, told_roots)]
         yield LogCase("append", b"", "".join(lines), after=log, file=file)
         before, held = b"", b""
         for frame, line in zip(frames, lines):
@@ -168,8 +185,13 @@ def chains():
         )
         for question, answer in questions.items():
             yield LogCase(question, log, answer)
+        for at, root in enumerate(told_roots):
+            yield LogCase(f"root {at}", log, f"root {at} {root}\n")
         head = len(blocks) - 1
+        yield LogCase("root", log, f"root {head} {told_roots[head]}\n", file=file, left=len(file))
         beyond = f"beyond head {head}\n"
+        yield LogCase(f"root {head + 1}", log, beyond, BEYOND)
+        yield LogCase("root 4294967295", log, beyond, BEYOND)
         yield LogCase(f"hist raw/a {head + 1}", log, beyond, BEYOND)
         yield LogCase("fwd raw/a 4294967295", log, beyond, BEYOND)
 
@@ -270,6 +292,7 @@ def wrong_logs():
     """Commands over them: nothing is read, and nothing is written."""
     for image, told, status in wrong_images():
         yield LogCase(HIST, image, told, status)
+        yield LogCase("root", image, told, status)
         yield LogCase("append", image, told, status, file=SET_FILE, left=len(SET_FILE))
 
 
@@ -376,9 +399,10 @@ def failing_calls():
     )
     yield LogCase("append", SET_LOG, "", UNREADABLE, file=SET_FILE, left=size, pulls="0")
     # The first call of a question reads the head.
-    yield LogCase(HIST, SET_LOG, "", DISK_FAULT, calls="0")
-    yield LogCase(HIST, b"", "", DISK_FAULT, calls="0")
-    yield LogCase(HIST, b"", "", UNTOLD, calls="1")
+    for question in [HIST, "root"]:
+        yield LogCase(question, SET_LOG, "", DISK_FAULT, calls="0")
+        yield LogCase(question, b"", "", DISK_FAULT, calls="0")
+        yield LogCase(question, b"", "", UNTOLD, calls="1")
     # Without a disk call: the first call tells.
     yield LogCase("scan " + HIST, SET_LOG, "", UNTOLD, file=SET_FILE, calls="0")
     yield LogCase("scan " + HIST, b"hello", SET_ANSWER, file=SET_FILE)
@@ -389,7 +413,8 @@ def failing_pulls():
     stays, and so does what was stored."""
     second = block(1, bytes.fromhex(digest(SET_FILE)), [sets("raw/b", 1)])
     file = SET_FILE + second
-    lines = SET_LINE + "block 1 rows 1 status 0\n"
+    root = roots(frames_of(file), SECOND_ROWS)[1]
+    lines = f"{SET_LINE}block 1 rows 1 status 0 root {root}\n"
     for pull in range(len(file) + 1):
         told, after = "", b""
         if pull >= len(SET_FILE):
@@ -407,10 +432,13 @@ def failing_pulls():
 
 def words():
     """Words over a log that are no command: nothing is read."""
-    for text in ["append x", "hist", "hist RAW 0", "hist raw/a 00", "back raw/a 0 0"]:
+    questions = ["hist", "hist RAW 0", "hist raw/a 00", "back raw/a 0 0"]
+    for text in ["append x", *questions, "root 00", "root x", "root -1", "root 0 0", "root 4294967296"]:
         yield LogCase(text, SET_LOG, "usage\n", 1, file=SET_FILE, left=len(SET_FILE))
     for kind in ["hist", "back", "fwd"]:
         yield LogCase(f"{kind} raw/a", b"", "beyond empty\n", BEYOND)
+    for text in ["root", "root 0", "root 7"]:
+        yield LogCase(text, b"", "beyond empty\n", BEYOND)
 
 
 def log_cases():

@@ -42,12 +42,12 @@ rests_each state P rests s image is at =
 pub took : (old node : NodeState) (appended : Appended) (blocks : List Block) (judgement : Result Taken Refusal) → IsAppended old blocks judgement node appended
     → (frame : Taken) × (judgement ≡ Ok frame) × (appended_text appended ≡ (line_of compiled_in blocks frame).text)
 took old node (appendeds.Known number) blocks judgement (block, is, number_is, same) = (Known block, is, rw number_is refl)
-took old node (appendeds.Added number rows receipts) blocks judgement (block, is, number_is, rows_is, receipts_are) = (Added block, is, rw (number_is, rows_is, receipts_are) refl)
+took old node (appendeds.Added number rows receipts root) blocks judgement (block, is, number_is, rows_is, receipts_are, root_is) = (Added block, is, rw (number_is, rows_is, receipts_are, root_is) refl)
 
 -- a block that is not added is told of as one that is held
 not_added : (old node : NodeState) (appended : Appended) (blocks : List Block) (judgement : Result Taken Refusal) → IsAppended old blocks judgement node appended → added_for judgement ≡ [] → was_added appended ≡ false
 not_added old node (appendeds.Known number) blocks judgement is none = refl
-not_added old node (appendeds.Added number rows receipts) blocks judgement (block, is, number_is, rows_is, receipts_are) none = absurd (cc (sym (ap added_for is) ∙ none))
+not_added old node (appendeds.Added number rows receipts root) blocks judgement (block, is, number_is, rows_is, receipts_are, root_is) none = absurd (cc (sym (ap added_for is) ∙ none))
 
 module _ {D : Type 0} (now : D → ℕ) (disk : D → ℕ → Option DiskState) (told : D → Option (List Tell)) where
   -- a disk that was told stays told

@@ -9,6 +9,7 @@ use Rattle.chain_exec.specs.Compiled.{Compiler, compiled_in}
 use Rattle.chain_exec.specs.Fold.{block_effects}
 use Rattle.chain_exec.specs.Replay.{replay}
 use Rattle.chain_state.specs.Judging.{Taken, Known, Added, added_by, added_by_all}
+use Rattle.lineage_chain.specs.Roots.{root_in}
 use Rattle.chain_lines.specs.Lines.{refused_line}
 use Rattle.scan_chain.specs.Folding.{Fold, FoldEnd, Whole, Refused}
 use Rattle.recovery.specs.Node.{next_in_chain, chain_in}
@@ -24,7 +25,7 @@ abbrev pub line_of : Compiler → List Block → Taken → Line
 line_of compile blocks (Known block) = record { text = known_line block.number; promise = Holds block.number (slice_index_or blocks block.number block) }
 line_of compile blocks (Added block) =
     let effects = block_effects compile (replay compile blocks) block in
-    record { text = block_line block.number (length effects.rows) effects.receipts; promise = Holds block.number block }
+    record { text = block_line block.number (length effects.rows) effects.receipts (root_in compile (blocks ++ block ∷ []) block.number); promise = Holds block.number block }
 
 -- The lines of frames that were taken, one after another, into a chain of these blocks.
 abbrev pub lines_of : Compiler → List Block → List Taken → List Line

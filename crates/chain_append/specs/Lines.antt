@@ -2,6 +2,7 @@
 use Rattle.std.specs.Prelude.{ℕ, List, [], ◌∷◌, ◌++◌, map, codes, decimal}
 use Rattle.std.specs.List.{join_with_byte}
 use Rattle.lc_base.specs.TxStatus.{tx_status_number}
+use Rattle.hex.specs.Hex.{encode_lower}
 use Rattle.chain_exec.specs.declared.receipt.Receipt.{Receipt}
 use Rattle.chain_lines.specs.Lines.{line}
 use Rattle.chain_append.specs.declared.lines.TheConstants.{COMMA}
@@ -19,7 +20,8 @@ abbrev pub statuses_text : List Receipt → List ℕ
 statuses_text [] = codes "-"
 statuses_text (receipt ∷ others) = join_with_byte COMMA (map status_text (receipt ∷ others))
 
--- The block of this number was appended: how many rows it wrote, and how its transactions ended.
-abbrev pub block_line : ℕ → ℕ → List Receipt → List ℕ
-block_line number rows receipts =
-    line (codes "block " ++ decimal number ++ codes " rows " ++ decimal rows ++ codes " status " ++ statuses_text receipts)
+-- The block of this number was appended: how many rows it wrote, how its transactions ended, and the
+-- root at it.
+abbrev pub block_line : ℕ → ℕ → List Receipt → List ℕ → List ℕ
+block_line number rows receipts root =
+    line (codes "block " ++ decimal number ++ codes " rows " ++ decimal rows ++ codes " status " ++ statuses_text receipts ++ codes " root " ++ encode_lower root)

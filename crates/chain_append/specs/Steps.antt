@@ -23,7 +23,7 @@ use Rattle.chain_append.specs.declared.ending.AppendStop.TheVariants as stops
 -- The line of a block that was not refused.
 abbrev pub appended_text : Appended → List ℕ
 appended_text (appendeds.Known number) = known_line number
-appended_text (appendeds.Added number rows receipts) = block_line number rows receipts
+appended_text (appendeds.Added number rows receipts root) = block_line number rows receipts root.0
 
 -- What an error of the frames says of the input, or that it says nothing.
 abbrev pub IsCauseOf : FrameError → Result Cause AppendStop → Type 0

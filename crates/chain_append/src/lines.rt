@@ -7,7 +7,7 @@ ghost use Rattle.chain_append.specs.Steps.{appended_text};
 ghost use Rattle.chain_append.specs.declared.lines.TheConstants.{COMMA};
 
 use chain_exec::Receipt;
-use lc_base::{Bytes, Memory};
+use lc_base::{Bytes, Digest, Memory};
 use recovery::Appended;
 use std::alloc::{AllocError, Global};
 
@@ -56,13 +56,23 @@ fn statuses_text(alloc: Global, receipts: &[Receipt]) -> Result<Vec<u8>, AllocEr
     with_statuses(alloc, first.into_bytes(), &receipts[1..])
 }
 
-/// The block of this number was stored: how many rows it wrote, and how its transactions ended.
-fn block_line(alloc: Global, number: u32, rows: u32, receipts: &[Receipt]) -> Result<Bytes, Memory>
-    ensures { IfOk result (λ bytes. bytes ≡ block_line number rows receipts.now) }
+/// The block of this number was stored: how many rows it wrote, how its transactions ended, and the
+/// root at it.
+fn block_line(
+    alloc: Global,
+    number: u32,
+    rows: u32,
+    receipts: &[Receipt],
+    root: &Digest,
+) -> Result<Bytes, Memory>
+    ensures { IfOk result (λ bytes. bytes ≡ block_line number rows receipts.now root.now.0) }
 {
     let statuses = statuses_text(alloc, receipts)?;
+    let root = hex::encode(alloc, root.0.as_slice())?;
     let mut bytes = format!(in alloc; "block {number} rows {rows} status ")?.into_bytes();
     bytes.extend_from_slice(statuses.as_slice())?;
+    bytes.extend_from_slice(b" root ")?;
+    bytes.extend_from_slice(root.as_bytes())?;
     bytes.push(b'\n')?;
     Ok(Bytes::from_vec(bytes))
 }
@@ -77,6 +87,7 @@ pub fn appended_line(alloc: Global, appended: &Appended) -> Result<Bytes, Memory
             number,
             rows,
             receipts,
-        } => block_line(alloc, *number, *rows, receipts.as_slice()),
+            root,
+        } => block_line(alloc, *number, *rows, receipts.as_slice(), root),
     }
 }

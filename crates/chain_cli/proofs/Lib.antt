@@ -4,3 +4,4 @@ pub mod Generated
 pub mod OneOutput
 pub mod Formatted
 pub mod Runs
+pub mod Asked

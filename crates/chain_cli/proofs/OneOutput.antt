@@ -24,9 +24,9 @@ use Rattle.chain_exec.proofs.TheLaws.{one_compiler}
 use Rattle.chain_state.specs.Judging.{Taken, judged, added_by}
 use Rattle.chain_state.specs.declared.refusal.Refusal.{Refusal}
 use Rattle.scan_chain.specs.Folding.{Fold, taken_before, fold_after_frame, fold_step, fold_from, fold_input}
-use Rattle.chain_output.specs.Output.{Output, output_of, scan_output, usage_output, long_output, pack_output, gen_output, append_output, ask_output, on_log, next_by, source_outcome, IsFmt, Long, Source, Wants, IsWanted, IsOneOutput}
+use Rattle.chain_output.specs.Output.{Output, output_of, scan_output, usage_output, long_output, pack_output, gen_output, append_output, root_output, ask_output, on_log, next_by, source_outcome, IsFmt, Long, Source, Wants, IsWanted, IsOneOutput}
 use Rattle.chain_words.specs.declared.words.Command.{Command}
-use Rattle.chain_words.specs.declared.words.Command.TheVariants.{Scan, Fmt, Pack, Gen, Append, Ask}
+use Rattle.chain_words.specs.declared.words.Command.TheVariants.{Scan, Fmt, Pack, Gen, Append, Root, Ask}
 
 -- ---- the bytes of a frame
 
@@ -147,6 +147,7 @@ some_output (Some Fmt) input content = some_fmt input
 some_output (Some Pack) input content = (pack_output input, refl)
 some_output (Some (Gen generation)) input content = (gen_output generation input, refl)
 some_output (Some Append) input content = (on_log (λ blocks. append_output compiled_in blocks (fold_from block_in compiled_in (MAX_FRAMES + 1) blocks input)) input (standing (next_by block_in compiled_in) content), refl)
+some_output (Some (Root at)) input content = (on_log (root_output compiled_in at input) input (standing (next_by block_in compiled_in) content), refl)
 some_output (Some (Ask kind key at)) input content = (on_log (ask_output compiled_in kind key at input) input (standing (next_by block_in compiled_in) content), refl)
 
 -- ---- and no other
@@ -190,6 +191,9 @@ same_output read compile is_read compile_is (Some Append) input content fits who
     ∙ ap (on_log (λ blocks. append_output compiled_in blocks (fold_from read compiled_in (MAX_FRAMES + 1) blocks input)) input) (standing_same (placement_in compiled_in) read block_in is_read decided content whole)
     ∙ on_log_same (λ blocks. append_output compiled_in blocks (fold_from read compiled_in (MAX_FRAMES + 1) blocks input)) (λ blocks. append_output compiled_in blocks (fold_from block_in compiled_in (MAX_FRAMES + 1) blocks input)) input
     (λ blocks. ap (append_output compiled_in blocks) (fold_same compiled_in read block_in is_read decided (MAX_FRAMES + 1) blocks input fits)) (standing (next_by block_in compiled_in) content)
+same_output read compile is_read compile_is (Some (Root at)) input content fits whole other is =
+    is ∙ ap (λ (c : Compiler). on_log (root_output c at input) input (standing (next_by read c) content)) compile_is
+    ∙ ap (on_log (root_output compiled_in at input) input) (standing_same (placement_in compiled_in) read block_in is_read decided content whole)
 same_output read compile is_read compile_is (Some (Ask kind key at)) input content fits whole other is =
     is ∙ ap (λ (c : Compiler). on_log (ask_output c kind key at input) input (standing (next_by read c) content)) compile_is
     ∙ ap (on_log (ask_output compiled_in kind key at input) input) (standing_same (placement_in compiled_in) read block_in is_read decided content whole)

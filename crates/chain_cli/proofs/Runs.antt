@@ -7,7 +7,6 @@ use Rattle.lc_outside.specs.Disk.{DiskState, Stays}
 use Rattle.lc_outside.specs.Outside.{Tell}
 use Rattle.disk_model.specs.Disk.{IsSettled, Keeps, Rests, content_of}
 use Rattle.disk_model.proofs.Moments.{then_keeps, weaker, stays_on}
-use Rattle.lc_base.specs.declared.answer.Kind.{Kind}
 use Rattle.lc_base.specs.declared.answer.Query.{Query}
 use Rattle.block_codec.specs.Reading.{block_in}
 use Rattle.block_codec.specs.declared.block.Block.{Block}
@@ -31,7 +30,7 @@ use Rattle.chain_append.proofs.Frames.{rests_each}
 use Rattle.chain_gen.specs.Generator.{generated}
 use Rattle.chain_words.specs.declared.words.Generation.{Generation}
 use Rattle.chain_words.specs.declared.words.Command.{Command}
-use Rattle.chain_words.specs.declared.words.Command.TheVariants.{Scan, Fmt, Pack, Gen, Append, Ask}
+use Rattle.chain_words.specs.declared.words.Command.TheVariants.{Scan, Fmt, Pack, Gen, Append, Root, Ask}
 use Rattle.chain_lines.specs.Lines.{usage_line, not_a_log_line, damaged_line}
 use Rattle.chain_lines.specs.Outcome.{status_of, outcome_with}
 use Rattle.chain_lines.specs.declared.outcome.Outcome.{Outcome}
@@ -39,7 +38,7 @@ use Rattle.chain_lines.specs.declared.outcome.Ending.{Ending}
 use Rattle.chain_lines.specs.declared.outcome.Ending.TheVariants as endings
 use Rattle.chain_lines.specs.declared.status.Status.{Status}
 use Rattle.chain_output.specs.Blocks.{frame}
-use Rattle.chain_output.specs.Output.{Output, output_of, usage_output, scan_output, pack_output, gen_output, append_output, ask_output, answer_outcome, at_or_last, on_log, fold_ending, IsFmt, Long, Source}
+use Rattle.chain_output.specs.Output.{Output, output_of, usage_output, scan_output, pack_output, gen_output, append_output, ask_output, answer_outcome, root_outcome, at_or_last, on_log, fold_ending, IsFmt, Long, Source}
 use Rattle.chain_output.specs.Running.{came_to_end, leaves, appends_none, Meets, IsGiven, IsRun}
 use Rattle.chain_output.specs.Scanning.{GivesOutput, IsFmtOutcome}
 use Rattle.chain_output.specs.Telling.{status_of_stop, status_of_result, status_of_usage, append_stop, append_answer, Says, StopsSilent, TellsResult, TellsStart}
@@ -106,11 +105,15 @@ append_may_leave content input NotALog is c same = same
 append_may_leave content input (Damaged before at) is c same = same
 append_may_leave content input (Holds stored gate) is c same = log_may_leave content (blocks_in stored) (added_by_all (fold_from block_in compiled_in (MAX_FRAMES + 1) (blocks_in stored) input).taken) c (ap blocks_of is) same
 
-ask_no_change : (kind : Kind) (key : List ℕ) (at : Option ℕ) (input : List ℕ) (stands : Standing) → (on_log (ask_output compiled_in kind key at input) input stands).change ≡ NoChange
-ask_no_change kind key at input Blank = refl
-ask_no_change kind key at input NotALog = refl
-ask_no_change kind key at input (Damaged before at_gate) = refl
-ask_no_change kind key at input (Holds stored gate) = refl
+-- what is asked of the blocks of the log
+abbrev asked : (List Block → Outcome) → List ℕ → List Block → Output
+asked over input blocks = output_of (over blocks) input
+
+asked_no_change : (over : List Block → Outcome) (input : List ℕ) (stands : Standing) → (on_log (asked over input) input stands).change ≡ NoChange
+asked_no_change over input Blank = refl
+asked_no_change over input NotALog = refl
+asked_no_change over input (Damaged before at_gate) = refl
+asked_no_change over input (Holds stored gate) = refl
 
 fmt_no_change : (input : List ℕ) (output : Output) → IsFmt input output → output.change ≡ NoChange
 fmt_no_change input _ (Long long) = refl
@@ -293,28 +296,32 @@ module _ {D : Type 0} (now : D → ℕ) (disk : D → ℕ → Option DiskState) 
 
   -- ---- questions over the log
 
-  pub ask_refused : (old mid new : D) (kind : Kind) (key : List ℕ) (at : Option ℕ) (error : StartError) (result : Result Ending RunStop) (left : Option (List ℕ)) → IsSettled (disk old (now old)) → Stays now disk old mid → told mid ≡ told old
+  -- an output over the blocks of the log, and a run that does what it says
+  abbrev Answered : (List Block → Outcome) → D → D → Status → Option (List ℕ) → List ℕ → List ℕ → Type 0
+  Answered over old new status left input content =
+      (output : Output) × (output ≡ on_log (asked over input) input (standing next_in_chain content)) × Meets next_in_chain now disk told old new status left left content output
+
+  pub asked_refused : (old mid new : D) (over : List Block → Outcome) (error : StartError) (result : Result Ending RunStop) (left : Option (List ℕ)) → IsSettled (disk old (now old)) → Stays now disk old mid → told mid ≡ told old
       → ((content : List ℕ) → content_of (disk old (now old)) ≡ Some content → IsNodeStarted (disk mid (now mid)) (standing next_in_chain content) (Err error)) → Stays now disk mid new → TellsStart next_in_chain now disk told mid new error result
-      → IsRun now disk told old new (status_of_result result) left left block_in compiled_in (Some (Ask kind key at))
-  ask_refused old mid new kind key at error result left settled begins same started stays says input content given_input given = (
-    on_log (ask_output compiled_in kind key at input) input (standing next_in_chain content),
+      → (input content : List ℕ) → IsGiven false left input → IsGiven true (content_of (disk old (now old))) content → Answered over old new (status_of_result result) left input content
+  asked_refused old mid new over error result left settled begins same started stays says input content given_input given = (
+    on_log (asked over input) input (standing next_in_chain content),
     refl,
-    start_met old mid new (ask_output compiled_in kind key at input) (disk mid (now mid)) error result left left input content (rests_given true (disk old (now old)) content settled given) (stays_on now disk old mid new begins stays) same (left_same left input given_input)
-        (λ c at_c. same_may_leave content _ c (ask_no_change kind key at input (standing next_in_chain content)) at_c) (started content (told_input (content_of (disk old (now old))) content given)) says,
+    start_met old mid new (asked over input) (disk mid (now mid)) error result left left input content (rests_given true (disk old (now old)) content settled given) (stays_on now disk old mid new begins stays) same (left_same left input given_input)
+        (λ c at_c. same_may_leave content _ c (asked_no_change over input (standing next_in_chain content)) at_c) (started content (told_input (content_of (disk old (now old))) content given)) says,
   )
 
-  pub ask_run : {E : Type 0} (old mid new : D) (kind : Kind) (key : List ℕ) (at : Option ℕ) (node : NodeState) (found : Result Outcome E) (result : Result Ending RunStop) (left : Option (List ℕ)) → IsSettled (disk old (now old)) → Stays now disk old mid → told mid ≡ told old
+  pub asked_run : {E : Type 0} (old mid new : D) (over : List Block → Outcome) (node : NodeState) (found : Result Outcome E) (result : Result Ending RunStop) (left : Option (List ℕ)) → IsSettled (disk old (now old)) → Stays now disk old mid → told mid ≡ told old
       → ((content : List ℕ) → content_of (disk old (now old)) ≡ Some content → IsNodeStarted (disk mid (now mid)) (standing next_in_chain content) (Ok node))
-      → IfOk found (λ outcome. (blocks : List Block) → StandsFor node.chain blocks → outcome ≡ answer_outcome compiled_in (record { kind = kind; key = key; at = at_or_last at blocks }) blocks)
+      → IfOk found (λ outcome. (blocks : List Block) → StandsFor node.chain blocks → outcome ≡ over blocks)
       → Stays now disk mid new → ((wanted : Outcome) → IfOk found (λ outcome. outcome ≡ wanted) → Says next_in_chain now disk told mid new wanted result)
-      → IsRun now disk told old new (status_of_result result) left left block_in compiled_in (Some (Ask kind key at))
-  ask_run old mid new kind key at node found result left settled begins same started answers stays says input content given_input given =
-      let s = started content (told_input (content_of (disk old (now old))) content given) in
-      let answer : List Block → Outcome = λ blocks. answer_outcome compiled_in (record { kind = kind; key = key; at = at_or_last at blocks }) blocks in (
-        output_of (answer s.0) input,
-        sym (on_log_blocks (ask_output compiled_in kind key at input) input (standing next_in_chain content) s.0 s.1),
-        said_met old new content (answer s.0) result left left input (rests_given true (disk old (now old)) content settled given) (stays_on now disk old mid new begins stays)
-            (says_since old mid new (answer s.0) result same (says (answer s.0) (of_blocks found (StandsFor node.chain) answer answers s.0 s.2.kept))) (left_same left input given_input),
+      → (input content : List ℕ) → IsGiven false left input → IsGiven true (content_of (disk old (now old))) content → Answered over old new (status_of_result result) left input content
+  asked_run old mid new over node found result left settled begins same started answers stays says input content given_input given =
+      let s = started content (told_input (content_of (disk old (now old))) content given) in (
+        asked over input s.0,
+        sym (on_log_blocks (asked over input) input (standing next_in_chain content) s.0 s.1),
+        said_met old new content (over s.0) result left left input (rests_given true (disk old (now old)) content settled given) (stays_on now disk old mid new begins stays)
+            (says_since old mid new (over s.0) result same (says (over s.0) (of_blocks found (StandsFor node.chain) over answers s.0 s.2.kept))) (left_same left input given_input),
       )
 
   -- ---- `append`

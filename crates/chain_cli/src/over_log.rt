@@ -1,4 +1,4 @@
-//! The commands over the log: `append`, and the questions `hist`, `back` and `fwd`.
+//! The commands over the log: `append`, `root`, and the questions `hist`, `back` and `fwd`.
 
 ghost use Rattle.std.specs.Prelude.{◌≡◌, ℕ, List, [], ◌∷◌, Option, Some, IfOk, IsErrOf};
 ghost use Rattle.lc_base.specs.Faults.{HasCause};
@@ -13,19 +13,20 @@ ghost use Rattle.recovery.specs.declared.errors.StartError.TheVariants as starts
 ghost use Rattle.chain_lines.specs.Lines.{not_a_log_line, damaged_line};
 ghost use Rattle.chain_lines.specs.Outcome.{outcome_with};
 ghost use Rattle.chain_lines.specs.declared.outcome.Outcome.{Outcome as Outcomes};
-ghost use Rattle.chain_words.specs.declared.words.Command.TheVariants.{Append, Ask};
-ghost use Rattle.chain_output.specs.Output.{answer_outcome, at_or_last};
+ghost use Rattle.chain_words.specs.declared.words.Command.TheVariants.{Append, Root, Ask};
+ghost use Rattle.chain_output.specs.Output.{beyond_outcome, answer_outcome, root_outcome, at_or_last};
 ghost use Rattle.chain_output.specs.Running.{IsRun, IsSilent};
 ghost use Rattle.chain_output.specs.Telling.{Says, TellsStart, append_answer, status_of_result};
 
 use chain_append::{AppendEnd, AppendStop, append as append_frames};
 use chain_lines::{
-    Ending, Outcome, answer_lines, damaged_line, empty_line, head_line, not_a_log_line,
+    Ending, Outcome, answer_lines, damaged_line, empty_line, head_line, not_a_log_line, root_line,
 };
 use chain_output::{RunStop, tell_outcome};
 use disk_model::Disk;
 use lc_base::{Key, Kind, Memory, Query};
 use lc_outside::{Source, Wire};
+use prov_query::AskError;
 use recovery::{Node, StartError};
 use std::alloc::Global;
 
@@ -109,6 +110,16 @@ pub fn append<I: Source, M: Disk + Wire>(
     }
 }
 
+/// A block past the head was asked for, or there is none.
+fn beyond(alloc: Global, head: Option<u32>) -> Result<Outcome, Memory>
+    ensures { IfOk result (λ outcome. outcome ≡ beyond_outcome head) }
+{
+    match head {
+        None => Outcome::from_line(alloc, empty_line(alloc)?, Ending::Beyond),
+        Some(head) => Outcome::from_line(alloc, head_line(alloc, head)?, Ending::Beyond),
+    }
+}
+
 /// The answer over the rows of a node's chain, if it is asked for up to one of its blocks; where none
 /// is named, up to the last one.
 fn answer(
@@ -120,20 +131,15 @@ fn answer(
 ) -> Result<Outcome, Memory>
     ensures { IfOk result (λ outcome. (blocks : List Blocks) → StandsFor node.old.chain blocks → outcome ≡ answer_outcome compiled_in (record { kind = kind; key = key; at = at_or_last at blocks }) blocks) }
 {
-    let count = node.blocks();
-    if count == 0 {
-        return Outcome::from_line(alloc, empty_line(alloc)?, Ending::Beyond);
+    let at = at.unwrap_or(node.blocks().saturating_sub(1));
+    match node.ask(&Query { kind, key, at }) {
+        Ok(answer) => Ok(Outcome {
+            pieces: answer_lines(alloc, &answer)?,
+            ending: Ending::Done,
+        }),
+        Err(AskError::Beyond { head }) => beyond(alloc, head),
+        Err(AskError::Memory) => Err(Memory),
     }
-    let at = at.unwrap_or(count - 1);
-    if at >= count {
-        return Outcome::from_line(alloc, head_line(alloc, count - 1)?, Ending::Beyond);
-    }
-    let query = Query { kind, key, at };
-    let answer = node.ask(&query)?;
-    Ok(Outcome {
-        pieces: answer_lines(alloc, &answer)?,
-        ending: Ending::Done,
-    })
 }
 
 /// The same of a node that is given up.
@@ -170,6 +176,50 @@ pub fn ask<M: Disk + Wire>(
 {
     match Node::start(alloc, machine) {
         Ok(node) => tell_made(machine, last_answer(alloc, kind, key, at, node)),
+        Err(error) => tell_start(alloc, machine, error),
+    }
+}
+
+/// The root at a block of a node's chain; where none is named, at the last one.
+fn root_outcome(alloc: Global, at: Option<u32>, node: &Node) -> Result<Outcome, Memory>
+    ensures { IfOk result (λ outcome. (blocks : List Blocks) → StandsFor node.now.chain blocks → outcome ≡ root_outcome compiled_in (at_or_last at blocks) blocks) }
+{
+    let count = node.blocks();
+    if count == 0 {
+        return beyond(alloc, None);
+    }
+    let at = at.unwrap_or(count - 1);
+    match node.root(at) {
+        Some(root) => Outcome::from_line(alloc, root_line(alloc, at, &root)?, Ending::Done),
+        None => beyond(alloc, Some(count - 1)),
+    }
+}
+
+/// The same of a node that is given up.
+fn last_root(alloc: Global, at: Option<u32>, node: Node) -> Result<Outcome, Memory>
+    ensures { IfOk result (λ outcome. (blocks : List Blocks) → StandsFor node.chain blocks → outcome ≡ root_outcome compiled_in (at_or_last at blocks) blocks) }
+{
+    let outcome = root_outcome(alloc, at, &node);
+    node.give_up();
+    outcome
+}
+
+/// Tells the root at a block of the log.
+pub fn root<M: Disk + Wire>(
+    alloc: Global,
+    at: Option<u32>,
+    machine: &mut M,
+) -> Result<Ending, RunStop>
+    requires settled { IsSettled (M.disk machine.old (M.now machine.old)) }
+    ensures run { (left : Option (List ℕ)) → IsRun M.now M.disk M.told machine.old machine.new (status_of_result result) left left block_in compiled_in (Some (Root at)) }
+    ensures silent { IsSilent (status_of_result result) (M.told machine.old) (M.told machine.new) }
+    ensures reads { IsErrOf result RunStop.Unreadable → ⊥ }
+    ensures disk { Stays M.now M.disk machine.old machine.new }
+    ensures disk_fault { HasCause (M.disk_faults machine.old) (M.disk_faults machine.new) (IsErrOf result RunStop.DiskFault) }
+    ensures untold { HasCause (M.wire_faults machine.old) (M.wire_faults machine.new) (IsErrOf result RunStop.Untold) }
+{
+    match Node::start(alloc, machine) {
+        Ok(node) => tell_made(machine, last_root(alloc, at, node)),
         Err(error) => tell_start(alloc, machine, error),
     }
 }

@@ -16,7 +16,7 @@ ghost use Rattle.chain_output.specs.Telling.{status_of_result};
 
 use crate::fmt::fmt;
 use crate::generating::generate;
-use crate::over_log::{append, ask};
+use crate::over_log::{append, ask, root};
 use crate::packing::pack;
 use crate::scan::scan;
 use chain_lines::{Ending, Status};
@@ -50,6 +50,7 @@ fn run_command<I: Source, M: Disk + Wire>(
         Command::Pack => tell_result(machine, pack(alloc, source)),
         Command::Gen(generation) => generate(alloc, machine, generation),
         Command::Append => append(alloc, source, machine),
+        Command::Root(at) => root(alloc, *at, machine),
         Command::Ask { kind, key, at } => ask(alloc, *kind, *key, *at, machine),
     }
 }

@@ -49,6 +49,10 @@ empty_line = line (codes "beyond empty")
 abbrev pub head_line : ℕ → List ℕ
 head_line head = line (codes "beyond head " ++ decimal head)
 
+-- The root at a block.
+abbrev pub root_line : ℕ → List ℕ → List ℕ
+root_line number root = line (codes "root " ++ decimal number ++ codes " " ++ encode_lower root)
+
 -- Why a chain refuses bytes.
 abbrev pub refusal_text : Refusal → List ℕ
 refusal_text (refusals.Malformed offset) = codes "malformed " ++ decimal offset

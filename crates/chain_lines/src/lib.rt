@@ -9,7 +9,7 @@ mod whole;
 
 pub use lines::{
     answer_lines, bad_input_line, damaged_line, empty_line, head_line, not_a_log_line,
-    refused_line, usage_line,
+    refused_line, root_line, usage_line,
 };
 pub use outcome::{Ending, Outcome};
 pub use status::Status;

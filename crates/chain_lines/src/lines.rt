@@ -2,7 +2,7 @@
 
 ghost use Rattle.std.specs.Prelude.{◌≡◌, [], ◌∷◌, ◌++◌, codes, decimal, map, string_bytes, IfOk};
 ghost use Rattle.std.specs.Fmt.{signed_decimal};
-ghost use Rattle.chain_lines.specs.Lines.{usage_line, empty_line, head_line, refusal_text, cause_text, refused_line, value_text, dep_line, answer_lines, bad_input_line, not_a_log_line, damaged_line, line};
+ghost use Rattle.chain_lines.specs.Lines.{usage_line, empty_line, head_line, refusal_text, cause_text, refused_line, value_text, dep_line, answer_lines, bad_input_line, not_a_log_line, damaged_line, root_line, line};
 ghost use Rattle.hex.specs.Hex.{encode_lower};
 
 use chain_state::Refusal;
@@ -48,6 +48,15 @@ fn digest_text(alloc: Global, word: &str, digest: &Digest) -> Result<String, All
     let hex = hex::encode(alloc, digest.0.as_slice())?;
     text.push_str(hex.as_str())?;
     Ok(text)
+}
+
+/// The root at the block of this number.
+pub fn root_line(alloc: Global, number: u32, root: &Digest) -> Result<Bytes, Memory>
+    ensures { IfOk result (λ bytes. bytes ≡ root_line number root.now.0) }
+{
+    let head = format!(in alloc; "root {number} ")?;
+    let text = digest_text(alloc, head.as_str(), root)?;
+    line(alloc, text.as_str())
 }
 
 /// Why a chain refuses bytes.

@@ -18,6 +18,7 @@ use Rattle.chain_exec.specs.Compiled.{Compiler, IsCompiler}
 use Rattle.chain_exec.specs.Replay.{replay}
 use Rattle.chain_state.specs.Chain.{placement_in}
 use Rattle.chain_state.specs.Judging.{added_by_all}
+use Rattle.lineage_chain.specs.Roots.{root_in}
 use Rattle.scan_chain.specs.Folding.{Fold, FoldEnd, Whole, Refused, fold_from, fold_input}
 use Rattle.chain_promises.specs.Promises.{Line, plain, Change, NoChange, Appends}
 use Rattle.chain_append.specs.Appending.{fold_lines}
@@ -25,8 +26,8 @@ use Rattle.chain_pack.specs.Draft.{packed}
 use Rattle.chain_gen.specs.Generator.{generated}
 use Rattle.chain_words.specs.declared.words.Generation.{Generation}
 use Rattle.chain_words.specs.declared.words.Command.{Command}
-use Rattle.chain_words.specs.declared.words.Command.TheVariants.{Scan, Fmt, Pack, Gen, Append, Ask}
-use Rattle.chain_lines.specs.Lines.{usage_line, empty_line, head_line, refused_line, answer_lines, syntax_cause, check_cause, not_a_log_line, damaged_line}
+use Rattle.chain_words.specs.declared.words.Command.TheVariants.{Scan, Fmt, Pack, Gen, Append, Root, Ask}
+use Rattle.chain_lines.specs.Lines.{usage_line, empty_line, head_line, root_line, refused_line, answer_lines, syntax_cause, check_cause, not_a_log_line, damaged_line}
 use Rattle.chain_lines.specs.Outcome.{status_of, outcome_with, bad_input}
 use Rattle.chain_lines.specs.declared.whole.TheConstants.{MAX_WHOLE_INPUT_BYTES}
 use Rattle.chain_lines.specs.declared.outcome.Outcome.{Outcome}
@@ -61,13 +62,20 @@ usage_output input = record { lines = plain usage_line ∷ []; status = statuses
 
 -- ---- a question over the blocks of an input
 
+-- What is told where a block past the head is asked for, or where there is none.
+abbrev pub beyond_outcome : Option ℕ → Outcome
+beyond_outcome None = outcome_with (empty_line ∷ []) endings.Beyond
+beyond_outcome (Some head) = outcome_with (head_line head ∷ []) endings.Beyond
+
+-- What is told where a block of a chain is asked for: these lines, where the chain has the block.
+abbrev pub outcome_at : ℕ → List Block → List (List ℕ) → Outcome
+outcome_at at blocks lines =
+    if length blocks == 0 then beyond_outcome None
+    else (if nat_lt at (length blocks) then outcome_with lines endings.Done else beyond_outcome (Some (length blocks - 1)))
+
 -- The answer over the rows of a chain, where it is asked for up to one of its blocks.
 abbrev pub answer_outcome : Compiler → Query → List Block → Outcome
-answer_outcome compile query blocks =
-    if length blocks == 0 then outcome_with (empty_line ∷ []) endings.Beyond
-    else (if nat_lt query.at (length blocks)
-    then outcome_with (answer_lines (scan (replay compile blocks).rows query)) endings.Done
-    else outcome_with (head_line (length blocks - 1) ∷ []) endings.Beyond)
+answer_outcome compile query blocks = outcome_at query.at blocks (answer_lines (scan (replay compile blocks).rows query))
 
 -- What `scan` tells of blocks, where the frames end so.
 abbrev pub scan_outcome : Compiler → Query → List Block → FoldEnd → Outcome
@@ -161,6 +169,14 @@ abbrev pub ask_output : Compiler → Kind → List ℕ → Option ℕ → List �
 ask_output compile kind key at input blocks =
     output_of (answer_outcome compile (record { kind = kind; key = key; at = at_or_last at blocks }) blocks) input
 
+-- The root at a block of a chain, where it has this block.
+abbrev pub root_outcome : Compiler → ℕ → List Block → Outcome
+root_outcome compile at blocks = outcome_at at blocks (root_line at (root_in compile blocks at) ∷ [])
+
+-- The root at a block of the log. It leaves the input.
+abbrev pub root_output : Compiler → Option ℕ → List ℕ → List Block → Output
+root_output compile at input blocks = output_of (root_outcome compile (at_or_last at blocks) blocks) input
+
 -- ---- what is wanted
 
 -- A command, or that the words are none, wants this output of an input and of the content of the disk,
@@ -173,6 +189,8 @@ Wants read compile (Some Pack) input content output = output ≡ pack_output inp
 Wants read compile (Some (Gen generation)) input content output = output ≡ gen_output generation input
 Wants read compile (Some Append) input content output =
     output ≡ on_log (λ blocks. append_output compile blocks (fold_from read compile (MAX_FRAMES + 1) blocks input)) input (standing (next_by read compile) content)
+Wants read compile (Some (Root at)) input content output =
+    output ≡ on_log (root_output compile at input) input (standing (next_by read compile) content)
 Wants read compile (Some (Ask kind key at)) input content output =
     output ≡ on_log (ask_output compile kind key at input) input (standing (next_by read compile) content)
 
@@ -197,6 +215,7 @@ reads_input (Some Fmt) = true
 reads_input (Some Pack) = true
 reads_input (Some (Gen generation)) = false
 reads_input (Some Append) = true
+reads_input (Some (Root at)) = false
 reads_input (Some (Ask kind key at)) = false
 
 -- Whether it uses the disk.
@@ -207,6 +226,7 @@ uses_disk (Some Fmt) = false
 uses_disk (Some Pack) = false
 uses_disk (Some (Gen generation)) = false
 uses_disk (Some Append) = true
+uses_disk (Some (Root at)) = true
 uses_disk (Some (Ask kind key at)) = true
 
 -- Whether it may change the log.
@@ -217,6 +237,7 @@ changes_log (Some Fmt) = false
 changes_log (Some Pack) = false
 changes_log (Some (Gen generation)) = false
 changes_log (Some Append) = true
+changes_log (Some (Root at)) = false
 changes_log (Some (Ask kind key at)) = false
 
 -- Whether it tells lines while it makes others.
@@ -227,4 +248,5 @@ tells_as_it_goes (Some Fmt) = false
 tells_as_it_goes (Some Pack) = false
 tells_as_it_goes (Some (Gen generation)) = true
 tells_as_it_goes (Some Append) = true
+tells_as_it_goes (Some (Root at)) = false
 tells_as_it_goes (Some (Ask kind key at)) = false

@@ -7,8 +7,8 @@ use Rattle.lc_base.specs.declared.answer.Kind.TheVariants.{Hist, Back, Fwd}
 use Rattle.lc_base.specs.declared.answer.Query.{Query}
 use Rattle.chain_words.specs.declared.words.Generation.{Generation}
 use Rattle.chain_words.specs.declared.words.Command.{Command}
-use Rattle.chain_words.specs.declared.words.Command.TheVariants.{Scan, Fmt, Pack, Gen, Append, Ask}
-use Rattle.chain_words.specs.Words.{kind_word, scan_words, gen_words, ask_words, command_words, IsQuery, IsGeneration, Fits, CanBeGiven, IsCommand, IsOneCommand}
+use Rattle.chain_words.specs.declared.words.Command.TheVariants.{Scan, Fmt, Pack, Gen, Append, Root, Ask}
+use Rattle.chain_words.specs.Words.{kind_word, scan_words, gen_words, ask_words, root_words, command_words, IsQuery, IsGeneration, Fits, CanBeGiven, IsCommand, IsOneCommand}
 
 one_number : (m n : ℕ) → m < 2 ^ 32 → n < 2 ^ 32 → decimal m ≡ decimal n → m ≡ n
 one_number m n small fits same = decimal_injective m n (omega (arith, small)) (omega (arith, fits)) same
@@ -62,6 +62,33 @@ no_word : (kind : Kind) (key : List ℕ) (at : Option ℕ) (word : List ℕ) →
 no_word kind key None word same = absurd cc
 no_word kind key (Some at) word same = absurd cc
 
+no_root : (kind : Kind) (key : List ℕ) (at other : Option ℕ) → ask_words kind key at ≡ root_words other → ⊥
+no_root kind key None None same = absurd cc
+no_root Hist key None (Some n) same = let words : codes "hist" ≡ codes "root" = cc in let first : 104 ≡ 114 = ap first_byte words in absurd (omega (arith, first))
+no_root Back key None (Some n) same = let words : codes "back" ≡ codes "root" = cc in let first : 98 ≡ 114 = ap first_byte words in absurd (omega (arith, first))
+no_root Fwd key None (Some n) same = let words : codes "fwd" ≡ codes "root" = cc in let first : 102 ≡ 114 = ap first_byte words in absurd (omega (arith, first))
+no_root kind key (Some at) None same = absurd cc
+no_root kind key (Some at) (Some n) same = absurd cc
+
+-- the words for a root are those of no other command
+root_scan : (at : Option ℕ) (query : Query) → root_words at ≡ scan_words query → ⊥
+root_scan None query same = absurd cc
+root_scan (Some n) query same = absurd cc
+
+root_gen : (at : Option ℕ) (generation : Generation) → root_words at ≡ gen_words generation → ⊥
+root_gen None generation same = absurd cc
+root_gen (Some n) generation same = absurd cc
+
+root_alone : (at : Option ℕ) (word : List ℕ) → root_words at ≡ word ∷ [] → 114 ≡ first_byte word
+root_alone None word same = let words : codes "root" ≡ word = cc in ap first_byte words
+root_alone (Some n) word same = absurd cc
+
+one_root : (a b : Option ℕ) → Fits a → Fits b → root_words a ≡ root_words b → a ≡ b
+one_root None None is_a is_b same = refl
+one_root None (Some n) is_a is_b same = absurd cc
+one_root (Some m) None is_a is_b same = absurd cc
+one_root (Some m) (Some n) is_a is_b same = let numbers : decimal m ≡ decimal n = cc in ap Some (one_number m n is_a is_b numbers)
+
 one_at : (a b : Option ℕ) → Fits a → Fits b → (k l : Kind) (x y : List ℕ) → ask_words k x a ≡ ask_words l y b → (k ≡ l) × (x ≡ y) × (a ≡ b)
 one_at None None is_a is_b k l x y same = (one_kind k l cc, cc, refl)
 one_at None (Some n) is_a is_b k l x y same = absurd cc
@@ -81,36 +108,49 @@ one_given (Scan a) Fmt is_a is_b same = absurd cc
 one_given (Scan a) Pack is_a is_b same = absurd cc
 one_given (Scan a) (Gen b) is_a is_b same = absurd cc
 one_given (Scan a) Append is_a is_b same = absurd cc
+one_given (Scan a) (Root b) is_a is_b same = absurd (root_scan b a (sym same))
 one_given (Scan a) (Ask bk by bt) is_a is_b same = absurd (no_scan bk by bt a (sym same))
 one_given Fmt (Scan b) is_a is_b same = absurd cc
 one_given Fmt Fmt is_a is_b same = refl
 one_given Fmt Pack is_a is_b same = absurd cc
 one_given Fmt (Gen b) is_a is_b same = absurd cc
 one_given Fmt Append is_a is_b same = absurd cc
+one_given Fmt (Root b) is_a is_b same = let first : 114 ≡ 102 = root_alone b (codes "fmt") (sym same) in absurd (omega (arith, first))
 one_given Fmt (Ask bk by bt) is_a is_b same = absurd (no_word bk by bt _ (sym same))
 one_given Pack (Scan b) is_a is_b same = absurd cc
 one_given Pack Fmt is_a is_b same = absurd cc
 one_given Pack Pack is_a is_b same = refl
 one_given Pack (Gen b) is_a is_b same = absurd cc
 one_given Pack Append is_a is_b same = absurd cc
+one_given Pack (Root b) is_a is_b same = let first : 114 ≡ 112 = root_alone b (codes "pack") (sym same) in absurd (omega (arith, first))
 one_given Pack (Ask bk by bt) is_a is_b same = absurd (no_word bk by bt _ (sym same))
 one_given (Gen a) (Scan b) is_a is_b same = absurd cc
 one_given (Gen a) Fmt is_a is_b same = absurd cc
 one_given (Gen a) Pack is_a is_b same = absurd cc
 one_given (Gen a) (Gen b) is_a is_b same = ap Gen (one_generation a b is_a is_b same)
 one_given (Gen a) Append is_a is_b same = absurd cc
+one_given (Gen a) (Root b) is_a is_b same = absurd (root_gen b a (sym same))
 one_given (Gen a) (Ask bk by bt) is_a is_b same = absurd (no_gen bk by bt a (sym same))
 one_given Append (Scan b) is_a is_b same = absurd cc
 one_given Append Fmt is_a is_b same = absurd cc
 one_given Append Pack is_a is_b same = absurd cc
 one_given Append (Gen b) is_a is_b same = absurd cc
 one_given Append Append is_a is_b same = refl
+one_given Append (Root b) is_a is_b same = let first : 114 ≡ 97 = root_alone b (codes "append") (sym same) in absurd (omega (arith, first))
 one_given Append (Ask bk by bt) is_a is_b same = absurd (no_word bk by bt _ (sym same))
+one_given (Root a) (Scan b) is_a is_b same = absurd (root_scan a b same)
+one_given (Root a) Fmt is_a is_b same = let first : 114 ≡ 102 = root_alone a (codes "fmt") same in absurd (omega (arith, first))
+one_given (Root a) Pack is_a is_b same = let first : 114 ≡ 112 = root_alone a (codes "pack") same in absurd (omega (arith, first))
+one_given (Root a) (Gen b) is_a is_b same = absurd (root_gen a b same)
+one_given (Root a) Append is_a is_b same = let first : 114 ≡ 97 = root_alone a (codes "append") same in absurd (omega (arith, first))
+one_given (Root a) (Root b) is_a is_b same = ap Root (one_root a b is_a is_b same)
+one_given (Root a) (Ask bk by bt) is_a is_b same = absurd (no_root bk by bt a (sym same))
 one_given (Ask ak ay at) (Scan b) is_a is_b same = absurd (no_scan ak ay at b same)
 one_given (Ask ak ay at) Fmt is_a is_b same = absurd (no_word ak ay at _ same)
 one_given (Ask ak ay at) Pack is_a is_b same = absurd (no_word ak ay at _ same)
 one_given (Ask ak ay at) (Gen b) is_a is_b same = absurd (no_gen ak ay at b same)
 one_given (Ask ak ay at) Append is_a is_b same = absurd (no_word ak ay at _ same)
+one_given (Ask ak ay at) (Root b) is_a is_b same = absurd (no_root ak ay at b same)
 one_given (Ask ak ay at) (Ask bk by bt) is_a is_b same = one_ask ak bk ay by at bt is_a.1 is_b.1 same
 
 only_one : (words : List (List ℕ)) (command other : Option Command) → IsCommand words command → IsCommand words other → other ≡ command

@@ -7,7 +7,7 @@ use Rattle.lc_base.specs.declared.answer.Query.{Query}
 use Rattle.chain_words.specs.declared.words.TheConstants.{MAX_GENERATED_BLOCKS}
 use Rattle.chain_words.specs.declared.words.Generation.{Generation}
 use Rattle.chain_words.specs.declared.words.Command.{Command}
-use Rattle.chain_words.specs.declared.words.Command.TheVariants.{Scan, Fmt, Pack, Gen, Append, Ask}
+use Rattle.chain_words.specs.declared.words.Command.TheVariants.{Scan, Fmt, Pack, Gen, Append, Root, Ask}
 
 -- The word for what is asked.
 abbrev pub kind_word : Kind → List ℕ
@@ -43,6 +43,11 @@ abbrev pub ask_words : Kind → List ℕ → Option ℕ → List (List ℕ)
 ask_words kind key None = kind_word kind ∷ key ∷ []
 ask_words kind key (Some at) = kind_word kind ∷ key ∷ decimal at ∷ []
 
+-- The words for a root: root, or root BLOCK, BLOCK in decimal digits without a leading zero.
+abbrev pub root_words : Option ℕ → List (List ℕ)
+root_words None = codes "root" ∷ []
+root_words (Some at) = codes "root" ∷ decimal at ∷ []
+
 -- The block number of a question over the log has 32 bits, where one is given.
 abbrev pub Fits : Option ℕ → Type 0
 Fits None = Unit {0}
@@ -55,16 +60,18 @@ command_words Fmt = codes "fmt" ∷ []
 command_words Pack = codes "pack" ∷ []
 command_words (Gen generation) = gen_words generation
 command_words Append = codes "append" ∷ []
+command_words (Root at) = root_words at
 command_words (Ask kind key at) = ask_words kind key at
 
 -- A command that can be given: a question that can be asked, over the input or over the log; a
--- generation that can be made; or a word alone.
+-- generation that can be made; a root of a block; or a word alone.
 abbrev pub CanBeGiven : Command → Type 0
 CanBeGiven (Scan query) = IsQuery query
 CanBeGiven Fmt = Unit {0}
 CanBeGiven Pack = Unit {0}
 CanBeGiven (Gen generation) = IsGeneration generation
 CanBeGiven Append = Unit {0}
+CanBeGiven (Root at) = Fits at
 CanBeGiven (Ask kind key at) = IsKey key × Fits at
 
 -- The command that the words are. They are none where no command has these words.
@@ -93,6 +100,11 @@ IsGen words None = (generation : Generation) → IsGeneration generation → wor
 abbrev pub IsAsk : List (List ℕ) → Option Command → Type 0
 IsAsk words (Some command) = CanBeGiven command × (words ≡ command_words command)
 IsAsk words None = (kind : Kind) (key : List ℕ) (at : Option ℕ) → IsKey key → Fits at → words ≡ ask_words kind key at → ⊥
+
+-- The command for a root, where the words are those of one.
+abbrev pub IsRoot : List (List ℕ) → Option Command → Type 0
+IsRoot words (Some command) = CanBeGiven command × (words ≡ command_words command)
+IsRoot words None = (at : Option ℕ) → Fits at → words ≡ root_words at → ⊥
 
 -- Whether the words are this one alone.
 abbrev pub IsAlone : List ℕ → List (List ℕ) → Bool → Type 0

@@ -1,7 +1,7 @@
 //! The words of commands.
 
 ghost use Rattle.std.specs.Prelude.{◌≡◌, ◌↔◌, IsTrue, map, string_bytes, codes};
-ghost use Rattle.chain_words.specs.Words.{IsCommand, IsOneCommand, IsScan, IsGen, IsAsk, IsAlone, IsKindOf, IsKeyOf, IsNumberOf, IsCount, IsCountOf, starts_as_number};
+ghost use Rattle.chain_words.specs.Words.{IsCommand, IsOneCommand, IsScan, IsGen, IsAsk, IsRoot, IsAlone, IsKindOf, IsKeyOf, IsNumberOf, IsCount, IsCountOf, starts_as_number};
 
 use lc_base::{Key, Kind, Query};
 
@@ -30,6 +30,9 @@ pub enum Command {
     Gen(Generation),
     /// `append`: take the blocks of the input into the chain of the log.
     Append,
+    /// `root` or `root BLOCK`: tell the root at a block of the log, the last one where no BLOCK is
+    /// given.
+    Root(Option<u32>),
     /// `KIND KEY` or `KIND KEY BLOCK`: answer a question over the blocks of the log, up to the last
     /// one where no BLOCK is given.
     Ask {
@@ -179,6 +182,37 @@ fn ask_of(words: &[String]) -> Option<Command>
     }
 }
 
+fn is_root(text: &str) -> bool
+    ensures { IsTrue result ↔ (text.now ≡ codes "root") }
+{
+    text == "root"
+}
+
+/// The block of the command `root` or `root BLOCK`; `None` exactly where the words are no such
+/// command.
+fn root_of(words: &[String]) -> Option<Command>
+    ensures { IsRoot (map string_bytes words.now) result }
+{
+    match words {
+        [word] => {
+            if !is_root(word.as_str()) {
+                return None;
+            }
+            Some(Command::Root(None))
+        }
+        [word, at] => {
+            if !is_root(word.as_str()) {
+                return None;
+            }
+            match number_of(at.as_str()) {
+                Some(at) => Some(Command::Root(Some(at))),
+                None => None,
+            }
+        }
+        _ => None,
+    }
+}
+
 fn is_text(text: &str, word: &str) -> bool
     ensures { IsTrue result ↔ (text.now ≡ word.now) }
 {
@@ -222,8 +256,11 @@ fn found(words: &[String]) -> Option<Command>
     if let Some(generation) = generation_of(words) {
         return Some(Command::Gen(generation));
     }
-    match query_of(words) {
-        Some(query) => Some(Command::Scan(query)),
+    if let Some(query) = query_of(words) {
+        return Some(Command::Scan(query));
+    }
+    match root_of(words) {
+        Some(command) => Some(command),
         None => ask_of(words),
     }
 }

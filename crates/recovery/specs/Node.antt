@@ -1,5 +1,5 @@
 -- The chain of a log's blocks, and the log.
-use Rattle.std.specs.Prelude.{◌≡◌, ◌⊎◌, ℕ, Bool, true, false, List, ◌++◌, length, Option, Some, None, Result, Ok, Err}
+use Rattle.std.specs.Prelude.{◌≡◌, ◌⊎◌, ℕ, Bool, true, false, List, [], ◌∷◌, ◌++◌, length, Option, Some, None, Result, Ok, Err}
 use Rattle.lc_outside.specs.Disk.{DiskState}
 use Rattle.disk_model.specs.Disk.{Rests}
 use Rattle.block_codec.specs.Reading.{block_in}
@@ -14,6 +14,7 @@ use Rattle.chain_exec.specs.Replay.{replay}
 use Rattle.chain_state.specs.Chain.{ChainState, StandsFor, placement_in}
 use Rattle.chain_state.specs.Judging.{Taken, Known, Added, added_by}
 use Rattle.chain_state.specs.declared.refusal.Refusal.{Refusal}
+use Rattle.lineage_chain.specs.Roots.{root_in}
 use Rattle.recovery.specs.declared.errors.StartError.{StartError}
 use Rattle.recovery.specs.declared.errors.StartError.TheVariants as starts
 use Rattle.recovery.specs.declared.errors.AppendError.{AppendError}
@@ -67,14 +68,15 @@ IsStepOf blocks (Ok frame) image = (chain_in image ≡ Some blocks) ⊎ (chain_i
 IsStepOf blocks (Err refusal) image = chain_in image ≡ Some blocks
 
 -- What is told of bytes that are judged so. A block that is held already leaves the node as it was;
--- of one that was added the rows and the receipts are told.
+-- of one that was added the rows, the receipts, and the root at it are told.
 abbrev pub IsAppended : NodeState → List Block → Result Taken Refusal → NodeState → Appended → Type 0
 IsAppended old blocks judgement node (appendeds.Known number) =
     (block : Block) × (judgement ≡ Ok (Known block)) × (number ≡ block.number) × (node ≡ old)
-IsAppended old blocks judgement node (appendeds.Added number rows receipts) =
+IsAppended old blocks judgement node (appendeds.Added number rows receipts root) =
     (block : Block) × (judgement ≡ Ok (Added block)) × (number ≡ block.number)
     × (rows ≡ length (block_effects compiled_in (replay compiled_in blocks) block).rows)
     × (receipts ≡ (block_effects compiled_in (replay compiled_in blocks) block).receipts)
+    × (root.0 ≡ root_in compiled_in (blocks ++ block ∷ []) block.number)
 
 -- The chain after bytes that are judged so.
 abbrev pub blocks_after : List Block → Result Taken Refusal → List Block
@@ -96,7 +98,7 @@ IsAppendAnswer old state blocks judgement (Err back) = IsHandedBack old state bl
 -- Whether a block was added.
 abbrev pub was_added : Appended → Bool
 was_added (appendeds.Known number) = false
-was_added (appendeds.Added number rows receipts) = true
+was_added (appendeds.Added number rows receipts root) = true
 
 -- Whether the disk failed.
 abbrev pub is_fault : AppendError → Bool

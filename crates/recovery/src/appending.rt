@@ -41,7 +41,7 @@ impl Node {
         ensures cause { HasCause (M.disk_faults machine.old) (M.disk_faults machine.new) (IsDiskFault result) }
     {
         let Node { chain, log } = self;
-        let (chain, run) = match chain.extended(alloc, block, digest) {
+        let (chain, run, root) = match chain.extended(alloc, block, digest) {
             Ok(done) => done,
             Err(Memory) => return Err((None, AppendError::Memory)),
         };
@@ -51,6 +51,7 @@ impl Node {
                     number: block.number,
                     rows: run.rows.len() as u32,
                     receipts: run.receipts,
+                    root,
                 };
                 Ok((Node { chain, log }, added))
             }

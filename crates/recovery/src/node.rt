@@ -1,28 +1,33 @@
 //! A node: the chain of the blocks that a log holds, and the log.
 
-ghost use Rattle.std.specs.Prelude.{◌≡◌, ℕ, List, length, Some, IfOk, IsErrOf};
+ghost use Rattle.std.specs.Prelude.{◌≡◌, ◌<◌, ◌≤◌, ℕ, List, length, slice_get, Some, IfOk, IsErrOf, MatchOption};
 ghost use Rattle.lc_base.specs.Faults.{HasCause};
-ghost use Rattle.lc_base.specs.History.{scan};
 ghost use Rattle.lc_outside.specs.Disk.{Stays};
 ghost use Rattle.disk_model.specs.Disk.{IsSettled, content_of};
 ghost use Rattle.block_codec.specs.declared.block.Block.{Block as Blocks};
 ghost use Rattle.block_log.specs.Standing.{standing};
+ghost use Rattle.chain_exec.specs.Compiled.{compiled_in};
+ghost use Rattle.chain_state.specs.Chain.{StandsFor};
+ghost use Rattle.prov_query.specs.Asking.{IsAnswered};
+ghost use Rattle.lineage_chain.specs.Roots.{ledger_kept, root_in};
 ghost use Rattle.recovery.specs.Node.{IsNodeOf, IsNodeStarted, next_in_chain};
 
 use crate::errors::StartError;
 use crate::restoring::restore;
 use block_log::{Log, LogError};
 use chain_exec::ReceiptList;
-use chain_state::Chain;
 use disk_model::Disk;
-use lc_base::{Answer, Memory, Query};
+use lc_base::{Answer, Digest, Memory, Query};
+use lineage_chain::LineageChain;
+use merkle_dag::Lineage;
+use prov_query::AskError;
 use std::alloc::Global;
 use std::marker::Model;
 
 /// The chain of the blocks that a log holds, and the log.
 #[derive(Drop)]
 pub struct Node {
-    pub(crate) chain: Chain,
+    pub(crate) chain: LineageChain,
     pub(crate) log: Log,
 }
 
@@ -47,11 +52,13 @@ pub enum Appended {
     Known {
         number: u32,
     },
-    /// It was stored at this number. It wrote so many rows, and each of its transactions ended so.
+    /// It was stored at this number. It wrote so many rows, each of its transactions ended so, and
+    /// this is the root at it.
     Added {
         number: u32,
         rows: u32,
         receipts: ReceiptList,
+        root: Digest,
     },
 }
 
@@ -96,9 +103,38 @@ impl Node {
         self.chain.len()
     }
 
-    /// The answer to a question over the rows of its chain.
-    pub fn ask(&mut self, query: &Query) -> Result<Answer, Memory>
-        ensures answer { IfOk result (λ answer. answer ≡ scan self.old.chain.rows query.now) }
+    /// The digest of a block; `None` exactly past the last one.
+    pub fn digest(&self, at: u32) -> Option<Digest>
+        ensures { result ≡ slice_get self.now.chain.digests at }
+    {
+        self.chain.digest(at)
+    }
+
+    /// The root at a block; `None` exactly past the last one.
+    pub fn root(&self, at: u32) -> Option<Digest>
+        ensures { (blocks : List Blocks) → StandsFor self.now.chain blocks → MatchOption result (length blocks ≤ at) (λ root. (at < length blocks) × (root.0 ≡ root_in compiled_in blocks at)) }
+    {
+        self.chain.root(at)
+    }
+
+    /// The lineage of its chain.
+    pub fn lineage(&self) -> &Lineage
+        ensures { result.now ≡ ledger_kept self.now.chain }
+    {
+        self.chain.lineage()
+    }
+
+    /// The lineage of its chain alone, for a command that appends no more.
+    pub fn into_lineage(self) -> Lineage
+        ensures { result ≡ ledger_kept self.chain }
+    {
+        let Node { chain, log: _log } = self;
+        chain.into_lineage()
+    }
+
+    /// The answer to a question over the rows of its chain, if it is asked up to one of its blocks.
+    pub fn ask(&mut self, query: &Query) -> Result<Answer, AskError>
+        ensures answer { IsAnswered (ledger_kept self.old.chain) query.now result }
         ensures unchanged { self.new ≡ self.old }
     {
         self.chain.ask(query)

@@ -27,3 +27,8 @@ pub returns-in-Ask-clause-run : goal.returns-in-Ask-clause-run
 returns-in-Ask-clause-run g c =
     of_command g.M.Clock.now g.M.Clock.disk g.M.Clock.told c.args.machine.now c.ask.new.machine (status_of_result c.ask.result) (g.I.Source.left c.args.source.now) (g.I.Source.left c.args.source.now) c.args.command.now _ c.in-Ask.is
     (c.ask.ensures.run (g.I.Source.left c.args.source.now))
+
+pub returns-in-Root-clause-run : goal.returns-in-Root-clause-run
+returns-in-Root-clause-run g c =
+    of_command g.M.Clock.now g.M.Clock.disk g.M.Clock.told c.args.machine.now c.root.new.machine (status_of_result c.root.result) (g.I.Source.left c.args.source.now) (g.I.Source.left c.args.source.now) c.args.command.now _ c.in-Root.is
+    (c.root.ensures.run (g.I.Source.left c.args.source.now))

@@ -2,7 +2,7 @@ use Rattle.recovery.proofs.Replaying.{restored_none, is_lawful, restored_more, r
 use Rattle.recovery.proofs.restoring.restore.Goals as goal
 
 pub loop-one-init : goal.loop-one-init
-loop-one-init c = rw c.new-chain.ensures (restored_none c.args.stored.now)
+loop-one-init c = rw c.in_ok-chain.ensures (restored_none c.args.stored.now)
 
 pub place-requires : goal.place-requires
 place-requires c = is_lawful c.args.stored.now c.requires c.loop-one.one-index c.one-item.result c.loop-one-test.true c.one-item.is

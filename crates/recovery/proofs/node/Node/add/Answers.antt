@@ -35,7 +35,7 @@ returns-in-Ok-store-clause-answer g c blocks is judgement =
     let after = c.in-Ok.ensures.after in
     let rows = after.rows ∙ ap (λ (h : History). (block_effects compiled_in h c.args.block.now).rows) inner.kept.history_is in
     let receipts = after.receipts ∙ ap (λ (h : History). (block_effects compiled_in h c.args.block.now).receipts) inner.kept.history_is in (
-      (c.args.block.now, refl, refl, c.len.ensures ∙ ap (length {A = Row}) rows, receipts),
+      (c.args.block.now, refl, refl, c.len.ensures ∙ ap (length {A = Row}) rows, receipts, c.in-Ok.ensures.root_in blocks inner.kept c.requires.next.digest_is placed),
       longer_node (the_view c.self.inside) (g.M.Clock.disk c.args.machine.now (g.M.Clock.now c.args.machine.now)) (g.M.Clock.disk c.store.new.machine (g.M.Clock.now c.store.new.machine)) blocks c.args.block.now c.in-Ok.done.0 c.in-Ok-store.log
           inner (c.in-Ok.ensures.stands blocks inner.kept c.requires.next.digest_is placed) c.in-Ok-store.ensures.still_told c.in-Ok-store.ensures.agrees
           (λ content told. c.in-Ok-store.ensures.added (placement_in compiled_in) content blocks c.args.block.now told

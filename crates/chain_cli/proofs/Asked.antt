@@ -1,0 +1,64 @@
+-- What is told where a block of a chain is asked for.
+use Rattle.std.proofs.Common.{◌≡◌, ℕ, ◌-◌, ◌<◌, ◌≤◌, Bool, true, false, cond, ltb, List, [], ◌∷◌, length, map, Option, Some, None, Result, Ok, Err, sym, ap, subst, ◌∙◌, arith}
+use Rattle.std.specs.Prelude.{MatchOption}
+use Rattle.std.proofs.lemmas.Bool.{ne_eqb, eq-eqb, lt-ltb, le-ltb}
+use Rattle.std.proofs.lemmas.List.{length-map}
+use Rattle.lc_base.specs.declared.digest.Digest.{Digest}
+use Rattle.lc_base.specs.declared.answer.Answer.{Answer}
+use Rattle.lc_base.specs.declared.answer.Query.{Query}
+use Rattle.lc_base.specs.History.{scan}
+use Rattle.block_codec.specs.Placement.{digest_of}
+use Rattle.block_codec.specs.declared.block.Block.{Block}
+use Rattle.chain_exec.specs.Compiled.{compiled_in}
+use Rattle.chain_exec.specs.Effect.{History}
+use Rattle.chain_state.specs.Chain.{ChainState, StandsFor}
+use Rattle.merkle_dag.specs.Ledger.{IsHead}
+use Rattle.lineage_chain.specs.Roots.{root_in}
+use Rattle.chain_lines.specs.Lines.{answer_lines, root_line}
+use Rattle.chain_lines.specs.Outcome.{outcome_with}
+use Rattle.chain_lines.specs.declared.outcome.Outcome.{Outcome}
+use Rattle.chain_lines.specs.declared.outcome.Ending.TheVariants as endings
+use Rattle.chain_output.specs.Output.{beyond_outcome, outcome_at, answer_outcome, root_outcome}
+
+-- ---- a block that a chain has, and one that it does not have
+
+abbrev unless_empty : Bool → ℕ → List Block → List (List ℕ) → Outcome
+unless_empty empty at blocks lines = cond empty (beyond_outcome None) (cond (ltb at (length blocks)) (outcome_with lines endings.Done) (beyond_outcome (Some (length blocks - 1))))
+
+abbrev where_it_has : Bool → List Block → List (List ℕ) → Outcome
+where_it_has has blocks lines = cond has (outcome_with lines endings.Done) (beyond_outcome (Some (length blocks - 1)))
+
+told_of : (at : ℕ) (blocks : List Block) (lines : List (List ℕ)) → at < length blocks → outcome_at at blocks lines ≡ outcome_with lines endings.Done
+told_of at blocks lines within =
+    ap (λ (empty : Bool). unless_empty empty at blocks lines) (ne_eqb (length blocks) 0 (λ none. omega (arith, within, none)))
+    ∙ ap (λ (has : Bool). where_it_has has blocks lines) (lt-ltb at (length blocks) within)
+
+told_beyond : (at : ℕ) (blocks : List Block) (lines : List (List ℕ)) (digests : List Digest) (head : Option ℕ) → IsHead digests head → length digests ≤ at → length digests ≡ length blocks → outcome_at at blocks lines ≡ beyond_outcome head
+told_beyond at blocks lines digests None none past count = ap (λ (empty : Bool). unless_empty empty at blocks lines) (eq-eqb (length blocks) 0 (sym count ∙ none))
+told_beyond at blocks lines digests (Some head) last past count =
+    ap (λ (empty : Bool). unless_empty empty at blocks lines) (ne_eqb (length blocks) 0 (λ none. omega (arith, last, count, none)))
+    ∙ ap (λ (has : Bool). where_it_has has blocks lines) (le-ltb at (length blocks) (omega (arith, last, past, count)))
+    ∙ ap (λ (n : ℕ). beyond_outcome (Some n)) (omega (arith, last, count))
+
+-- ---- of a chain that stands for blocks
+
+as_many : (kept : ChainState) (blocks : List Block) → StandsFor kept blocks → length kept.digests ≡ length blocks
+as_many kept blocks stands = ap (length {A = Digest}) stands.digests_are ∙ length-map blocks digest_of
+
+pub answer_is : (kept : ChainState) (blocks : List Block) (query : Query) (answer : Answer) (lines : List (List ℕ)) → StandsFor kept blocks → query.at < length kept.digests → answer ≡ scan kept.rows query → lines ≡ answer_lines answer
+    → outcome_with lines endings.Done ≡ answer_outcome compiled_in query blocks
+answer_is kept blocks query answer lines stands within is told =
+    ap (λ (ls : List (List ℕ)). outcome_with ls endings.Done) (told ∙ ap answer_lines (is ∙ ap (λ (h : History). scan h.rows query) stands.history_is))
+    ∙ sym (told_of query.at blocks _ (subst (λ (n : ℕ). query.at < n) (as_many kept blocks stands) within))
+
+pub answer_beyond : (kept : ChainState) (blocks : List Block) (query : Query) (head : Option ℕ) (outcome : Outcome) → StandsFor kept blocks → IsHead kept.digests head → length kept.digests ≤ query.at → outcome ≡ beyond_outcome head
+    → outcome ≡ answer_outcome compiled_in query blocks
+answer_beyond kept blocks query head outcome stands is_head past told = told ∙ sym (told_beyond query.at blocks _ kept.digests head is_head past (as_many kept blocks stands))
+
+pub root_is : (blocks : List Block) (at : ℕ) (root : List ℕ) (line : List ℕ) (outcome : Outcome) → at < length blocks → root ≡ root_in compiled_in blocks at → line ≡ root_line at root → outcome ≡ outcome_with (line ∷ []) endings.Done
+    → outcome ≡ root_outcome compiled_in at blocks
+root_is blocks at root line outcome within is told made =
+    made ∙ ap (λ (l : List ℕ). outcome_with (l ∷ []) endings.Done) (told ∙ ap (root_line at) is) ∙ sym (told_of at blocks _ within)
+
+pub root_beyond : (kept : ChainState) (blocks : List Block) (at : ℕ) (head : Option ℕ) (outcome : Outcome) → StandsFor kept blocks → IsHead kept.digests head → length kept.digests ≤ at → outcome ≡ beyond_outcome head → outcome ≡ root_outcome compiled_in at blocks
+root_beyond kept blocks at head outcome stands is_head past told = told ∙ sym (told_beyond at blocks _ kept.digests head is_head past (as_many kept blocks stands))

@@ -1,0 +1,17 @@
+use Rattle.recovery.specs.Node.{next_in_chain}
+use Rattle.chain_exec.specs.Compiled.{compiled_in}
+use Rattle.chain_output.specs.Output.{root_outcome, at_or_last}
+use Rattle.chain_cli.proofs.Runs.{asked_run, asked_refused}
+use Rattle.chain_cli.proofs.over_log.root.Goals as goal
+
+pub returns-in-Ok-clause-run : goal.returns-in-Ok-clause-run
+returns-in-Ok-clause-run g c left =
+    asked_run g.M.Clock.now g.M.Clock.disk g.M.Clock.told c.args.machine.now c.start.new.machine c.tell_made.new.machine (λ blocks. root_outcome compiled_in (at_or_last c.args.at blocks) blocks)
+    c.in-Ok.node c.last_root.result c.tell_made.result left
+    c.requires.settled c.start.ensures.disk c.start.ensures.told c.in-Ok.ensures.answer c.last_root.ensures c.tell_made.ensures.disk (c.tell_made.ensures.says next_in_chain)
+
+pub returns-in-Err-clause-run : goal.returns-in-Err-clause-run
+returns-in-Err-clause-run g c left =
+    asked_refused g.M.Clock.now g.M.Clock.disk g.M.Clock.told c.args.machine.now c.start.new.machine c.tell_start.new.machine (λ blocks. root_outcome compiled_in (at_or_last c.args.at blocks) blocks)
+    c.in-Err.error c.tell_start.result left
+    c.requires.settled c.start.ensures.disk c.start.ensures.told c.in-Err.ensures.answer c.tell_start.ensures.disk (c.tell_start.ensures.says next_in_chain)
