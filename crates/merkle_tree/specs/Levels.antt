@@ -1,11 +1,14 @@
 -- The levels of a tree, each the pairs of the one below; a last hash without a partner goes up as
 -- it is.
 use Rattle.std.specs.Prelude.{◌≡◌, ◌<◌, ◌≤◌, ℕ, zero, suc, ◌/◌, List, [], ◌∷◌, ◌++◌, length, map, slice_set, slice_index_or, Vec, vec_len, vec_capacity}
+use Rattle.std.specs.List.{fold}
 use Rattle.std.specs.Global.{Global}
 use Rattle.sha2.specs.Sha256.{sha256}
 use Rattle.lc_base.specs.declared.digest.Digest.{Digest}
 use Rattle.merkle_tree.specs.Tree.{node_hash}
 use Rattle.merkle_tree.specs.declared.limits.TheConstants.{MAX_HEIGHT, MAX_LEAVES}
+use Rattle.merkle_tree.specs.declared.setting_all.TheConstants.{NO_HASH}
+use Rattle.merkle_tree.specs.declared.setting_all.HashAt.{HashAt}
 
 -- ---- what they are
 
@@ -52,6 +55,27 @@ hash_over level m none = slice_index_or (pair_up level) (m / 2) none
 unfoldable pub set_through : ℕ → Digest → List (List Digest) → List (List Digest)
 set_through m hash [] = []
 set_through m hash (level ∷ above) = slice_set level m hash ∷ set_through (m / 2) (hash_over (slice_set level m hash) m hash) above
+
+-- A level after some hashes were set, one after another.
+abbrev pub set_each : List Digest → List HashAt → List Digest
+set_each level hashes = fold (λ (level : List Digest) (one : HashAt). slice_set level one.index one.hash) level hashes
+
+-- The hash over one in a level, and its place.
+abbrev pub over_one : List Digest → HashAt → HashAt
+over_one level one = record { index = one.index / 2; hash = hash_over level one.index NO_HASH }
+
+-- The hashes over some in a level, and their places.
+abbrev pub over_each : List Digest → List HashAt → List HashAt
+over_each level hashes = map (over_one level) hashes
+
+-- The hash is the one over its place.
+abbrev pub StandsOver : List Digest → HashAt → Type 0
+StandsOver level one = one.hash ≡ slice_index_or (pair_up level) one.index NO_HASH
+
+-- Levels after some hashes were set in the lowest, one after another.
+unfoldable pub set_all_through : List HashAt → List (List Digest) → List (List Digest)
+set_all_through hashes [] = []
+set_all_through hashes (level ∷ above) = set_each level hashes ∷ set_all_through (over_each (set_each level hashes) hashes) above
 
 -- A hash in the place of another, or one past the end.
 abbrev pub put : List Digest → ℕ → Digest → List Digest

@@ -1,16 +1,18 @@
 //! A tree that is changed leaf by leaf.
 
-ghost use Rattle.std.specs.Prelude.{◌≡◌, ◌<◌, [], ◌∷◌, ◌++◌, ℕ, List, length, map, slice_set, OnOk, OnErr, IfOk};
+ghost use Rattle.std.specs.Prelude.{◌≡◌, ◌<◌, [], ◌∷◌, ◌++◌, ℕ, List, length, map, slice_set, OnOk, OnErr, IfOk, All};
 ghost use Rattle.merkle_tree.specs.Tree.{tree_hash, audit_path};
 ghost use Rattle.merkle_tree.specs.Climbing.{bytes_of};
-ghost use Rattle.merkle_tree.specs.Levels.{digest_of};
+ghost use Rattle.merkle_tree.specs.Levels.{digest_of, set_each};
 ghost use Rattle.merkle_tree.specs.declared.limits.TheConstants.{MAX_LEAVES};
+ghost use Rattle.merkle_tree.specs.declared.setting_all.HashAt.{HashAt};
 
 use crate::growth::{make_room, put_through};
 use crate::hash::empty_hash;
 use crate::limits::MAX_HEIGHT;
 use crate::reading::siblings_up;
 use crate::setting::set_through;
+use crate::setting_all::{HashAt, set_all_through};
 use lc_base::{Digest, DigestList, Memory};
 use std::alloc::Global;
 use std::marker::Model;
@@ -71,6 +73,15 @@ impl Levels {
         ensures { self.new ≡ slice_set self.old index hash }
     {
         set_through(self.levels.as_mut_slice(), index as usize, hash);
+    }
+
+    /// Sets the hashes of some leaves, one after another, and then those of the nodes over them. Where
+    /// the indexes ascend, each node is hashed once. It takes no memory.
+    pub fn set_all(&mut self, hashes: Vec<HashAt>)
+        requires { All (λ (one : HashAt). one.index < length self.old) hashes.items }
+        ensures { self.new ≡ set_each self.old hashes.items }
+    {
+        set_all_through(self.levels.as_mut_slice(), hashes);
     }
 
     /// The tree hash (RFC 6962, section 2.1). It takes no memory.

@@ -10,6 +10,7 @@ mod limits;
 mod plain;
 mod reading;
 mod setting;
+mod setting_all;
 
 pub use climbing::{audit_length, root_from_leaf};
 pub use hash::{empty_hash, leaf_hash, node_hash};
@@ -20,3 +21,4 @@ pub use laws::{
 pub use levels::Levels;
 pub use limits::{LEAF, MAX_HEIGHT, MAX_LEAVES, NODE};
 pub use plain::tree_hash;
+pub use setting_all::HashAt;

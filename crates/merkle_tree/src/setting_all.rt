@@ -1,0 +1,67 @@
+//! The levels after the hashes of some leaves were set together. It takes no memory.
+
+ghost use Rattle.std.specs.Prelude.{◌≡◌, IfSome};
+ghost use Rattle.merkle_tree.specs.Levels.{set_each, over_one, over_each, StandsOver, set_all_through, hashes_in};
+
+use crate::setting::hash_over;
+use lc_base::Digest;
+
+/// What is taken for the hash over a place past the end of a level.
+const NO_HASH: Digest = Digest([0; 32]);
+
+/// A hash, and its place in a level, from 0.
+#[derive(Clone, Copy, Debug, PartialEq, Eq)]
+pub struct HashAt {
+    pub index: u32,
+    pub hash: Digest,
+}
+
+/// Sets some hashes, one after another. Past the end of the level nothing is set.
+fn set_each(level: &mut [Digest], hashes: &[HashAt])
+    ensures { level.new ≡ set_each level.old hashes.now }
+{
+    for one in hashes {
+        let place = one.index as usize;
+        if place < level.len() {
+            level[place] = one.hash;
+        }
+    }
+}
+
+/// The hash over one, with its place. It is the one before where that has this place, so that
+/// neighbours are hashed once.
+fn over_one(level: &[Digest], one: &HashAt, before: &Option<HashAt>) -> HashAt
+    requires { IfSome before.now (StandsOver level.now) }
+    ensures { result ≡ over_one level.now one.now }
+{
+    let index = one.index / 2;
+    match before {
+        Some(other) if other.index == index => *other,
+        _ => HashAt {
+            index,
+            hash: hash_over(level, one.index as usize, NO_HASH),
+        },
+    }
+}
+
+/// Puts the hash over each in its place.
+fn raise_each(level: &[Digest], hashes: &mut [HashAt])
+    ensures { hashes.new ≡ over_each level.now hashes.old }
+{
+    let mut before = None;
+    for one in hashes.iter_mut() {
+        *one = over_one(level, one, &before);
+        before = Some(*one);
+    }
+}
+
+/// Sets the hashes of some leaves, one after another, and those over them.
+pub(crate) fn set_all_through(levels: &mut [Vec<Digest>], hashes: Vec<HashAt>)
+    ensures { hashes_in levels.new ≡ set_all_through hashes.items (hashes_in levels.old) }
+{
+    let mut over = hashes;
+    for level in levels.iter_mut() {
+        set_each(level.as_mut_slice(), over.as_slice());
+        raise_each(level.as_slice(), over.as_mut_slice());
+    }
+}
