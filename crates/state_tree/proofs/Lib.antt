@@ -2,3 +2,4 @@ pub mod Keys
 pub mod Positions
 pub mod Covered
 pub mod Threads
+pub mod Together

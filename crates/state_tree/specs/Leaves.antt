@@ -1,11 +1,15 @@
 -- Leaves that are threaded: each names the next greater key.
-use Rattle.std.specs.Prelude.{◌≡◌, ◌==◌, ◌<◌, ℕ, Bool, false, List, [], ◌∷◌, ◌++◌, length, map, replicate, position, slice_index_or, Option, Some, None}
+use Rattle.std.specs.Prelude.{◌≡◌, ◌==◌, ◌<◌, ℕ, Bool, false, List, [], ◌∷◌, ◌++◌, length, map, replicate, position, slice_index_or, slice_set, Option, Some, None}
+use Rattle.std.specs.List.{fold}
 use Rattle.std.specs.Cmp.Lexicographic.{pointwise}
+use Rattle.lc_base.specs.declared.digest.Digest.{Digest}
 use Rattle.merkle_tree.specs.Tree.{leaf_text}
+use Rattle.merkle_tree.specs.Levels.{digest_of}
 use Rattle.prov_entry.specs.declared.entry.Leaf.{Leaf}
 use Rattle.prov_entry.specs.Spelling.{key_or_empty, leaf_bytes}
 use Rattle.history_root.specs.Naming.{digest_of_uses}
-use Rattle.history_root.specs.Root.{next_key}
+use Rattle.history_root.specs.Root.{next_key, sentinel}
+use Rattle.state_tree.specs.declared.states.LeafState.{LeafState}
 
 -- The key of a leaf. The sentinel's is the empty string, which is smaller than every key.
 abbrev pub leaf_key : Leaf → List ℕ
@@ -47,9 +51,30 @@ fresh_leaf key = record {
 abbrev pub with_leaf_of : List Leaf → List ℕ → List Leaf
 with_leaf_of leaves key = threaded (leaves ++ fresh_leaf key ∷ [])
 
+-- A leaf that says this of the versions of its key.
+abbrev pub saying : Leaf → LeafState → Leaf
+saying leaf state = record leaf {
+  newest_block = state.newest_block;
+  newest = state.newest;
+  open_count = state.open_count;
+  open_digest = state.open_digest;
+}
+
+-- Leaves, of which the one at the index says this.
+abbrev pub with_state : List Leaf → LeafState → List Leaf
+with_state leaves state = slice_set leaves state.index (saying (slice_index_or leaves state.index (sentinel [])) state)
+
+-- Leaves after some of them say this, one after another.
+abbrev pub with_states : List Leaf → List LeafState → List Leaf
+with_states leaves states = fold with_state leaves states
+
 -- The texts of some leaves.
 abbrev pub leaf_texts : List Leaf → List (List ℕ)
 leaf_texts leaves = map (λ (leaf : Leaf). leaf_text (leaf_bytes leaf)) leaves
+
+-- The hashes of some leaves.
+abbrev pub leaf_hashes : List Leaf → List Digest
+leaf_hashes leaves = map digest_of (leaf_texts leaves)
 
 -- No two of these keys are equal.
 abbrev pub AreApart : List (List ℕ) → Type 0

@@ -1,13 +1,15 @@
 -- What the tree keeps beside its leaves.
-use Rattle.std.specs.Prelude.{◌≡◌, ◌≤◌, false, ℕ, List, map, length, Option, Some, None, IsSome, slice_get}
+use Rattle.std.specs.Prelude.{◌≡◌, ◌<◌, ◌≤◌, false, ℕ, List, length, Option, Some, None, IsSome, slice_get}
+use Rattle.std.specs.List.{All}
 use Rattle.std.specs.Ordering.{nat_cmp}
 use Rattle.std.specs.Cmp.Lexicographic.{slice_cmp}
 use Rattle.std.specs.BTreeMap.{BTreeMap, get}
 use Rattle.lc_base.specs.declared.digest.Digest.{Digest}
-use Rattle.merkle_tree.specs.Levels.{digest_of}
+use Rattle.merkle_tree.specs.declared.setting_all.HashAt.{HashAt}
+use Rattle.merkle_tree.specs.Levels.{set_each}
 use Rattle.prov_entry.specs.declared.entry.Leaf.{Leaf}
 use Rattle.history_root.specs.Root.{is_below}
-use Rattle.state_tree.specs.Leaves.{index_of, threaded, leaf_keys, leaf_texts, AreApart}
+use Rattle.state_tree.specs.Leaves.{index_of, threaded, leaf_keys, leaf_hashes, AreApart}
 use Rattle.merkle_tree.specs.declared.limits.TheConstants.{MAX_LEAVES}
 
 -- The index that is kept for a key.
@@ -34,5 +36,10 @@ pub record IsTree (leaves : List Leaf) (order : BTreeMap (List ℕ) ℕ) (hashes
   pub apart : AreApart (leaf_keys leaves)
   pub threads : leaves ≡ threaded leaves
   pub indexes : (key : List ℕ) → kept_for order key ≡ index_of leaves key
-  pub hashed : map digest_of (leaf_texts leaves) ≡ hashes
+  pub hashed : leaf_hashes leaves ≡ hashes
   pub few : length leaves ≤ MAX_LEAVES
+
+-- With these hashes set one after another, the hashes of the first leaves are those of the last.
+pub record Renews (first last : List Leaf) (hashes : List HashAt) : Type 0 where
+  pub renewed : leaf_hashes last ≡ set_each (leaf_hashes first) hashes
+  pub below : All (λ (one : HashAt). one.index < length first) hashes

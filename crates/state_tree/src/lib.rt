@@ -5,7 +5,10 @@ mod growth;
 mod hashing;
 mod laws;
 mod order;
+mod setting;
+mod states;
 mod tree;
 
 pub use laws::coverings_are_unique;
+pub use states::LeafState;
 pub use tree::Tree;

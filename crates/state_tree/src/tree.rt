@@ -1,17 +1,21 @@
 //! The leaves of the newest versions of all keys.
 
 ghost use Rattle.std.specs.Prelude.{◌≡◌, ◌<◌, ◌+◌, ℕ, List, [], ◌∷◌, length, slice_get, slice_set, Some, None, OnOk, OnErr, IfOk};
+ghost use Rattle.std.specs.List.{All};
 ghost use Rattle.merkle_tree.specs.Tree.{audit_path};
 ghost use Rattle.merkle_tree.specs.Climbing.{bytes_of};
 ghost use Rattle.prov_entry.specs.declared.entry.Leaf.{Leaf};
 ghost use Rattle.history_root.specs.Root.{sentinel, leaves_hash};
-ghost use Rattle.state_tree.specs.Leaves.{index_of, with_leaf_of, threaded, leaf_keys, leaf_texts, AreApart};
+ghost use Rattle.state_tree.specs.declared.states.LeafState.{LeafState};
+ghost use Rattle.state_tree.specs.Leaves.{index_of, with_leaf_of, with_states, threaded, leaf_keys, leaf_texts, AreApart};
 ghost use Rattle.state_tree.specs.Covering.{Covers};
 ghost use Rattle.merkle_tree.specs.declared.limits.TheConstants.{MAX_LEAVES};
 
 use crate::growth::{add_leaf, fresh_leaf, sentinel, with_next};
 use crate::hashing::hash_of;
 use crate::order::last_up_to;
+use crate::setting::set_states;
+use crate::states::LeafState;
 use lc_base::{Digest, DigestList, Key, Memory};
 use merkle_tree::Levels;
 use prov_entry::Leaf;
@@ -138,6 +142,20 @@ impl Tree {
         };
         self.levels.set(index, hash_of(&leaf));
         self.leaves[index as usize] = leaf;
+    }
+
+    /// Sets what some leaves say of the versions of their keys, one after another. Where the indexes
+    /// ascend, each node over them is hashed once. Out of memory, the tree stays as it was.
+    pub fn set_leaves(&mut self, states: &[LeafState]) -> Result<(), Memory>
+        requires own { All (λ (state : LeafState). 0 < state.index) states.now }
+        requires below { All (λ (state : LeafState). state.index < length self.old) states.now }
+        ensures ok { OnOk result (self.new ≡ with_states self.old states.now) }
+        ensures err { OnErr result (self.new ≡ self.old) }
+    {
+        let alloc = *self.leaves.allocator();
+        let hashes = set_states(alloc, self.leaves.as_mut_slice(), states)?;
+        self.levels.set_all(hashes);
+        Ok(())
     }
 
     /// The tree hash of the leaves (RFC 6962, section 2.1). It takes no memory.
