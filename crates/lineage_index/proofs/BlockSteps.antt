@@ -1,10 +1,10 @@
 -- What is kept, step by step through a block.
-use Rattle.std.proofs.Common.{◌≡◌, ◌∙◌, ℕ, suc, ◌+◌, ◌<◌, ◌≤◌, Bool, true, false, ◌==◌, ◌||◌, if◌then◌else◌, List, [], ◌∷◌, ◌++◌, length, map, Option, Some, None, refl, sym, ap, subst, arith, inl, inr}
-use Rattle.std.specs.List.{list_any, flat_map, All, AllPairs, AllByRecursion}
+use Rattle.std.proofs.Common.{◌≡◌, ◌∙◌, ℕ, suc, ◌+◌, ◌<◌, ◌≤◌, true, false, ◌==◌, ◌||◌, List, [], ◌∷◌, ◌++◌, length, map, refl, sym, ap, arith, inl, inr}
+use Rattle.std.specs.List.{list_any, All, AllByRecursion}
 use Rattle.std.specs.Option.{is_some}
 use Rattle.std.specs.Cmp.Lexicographic.{pointwise}
 use Rattle.std.proofs.lemmas.List.{append-nil, length-append, length-map}
-use Rattle.std.proofs.lemmas.List.Elements.{recursion_from_All, All-from_recursion}
+use Rattle.std.proofs.lemmas.List.Elements.{All-from_recursion}
 use Rattle.std.proofs.lemmas.List.Folds.{list_any-append}
 use Rattle.std.proofs.lemmas.Bool.{cases_Bool}
 use Rattle.lc_base.specs.declared.digest.Digest.{Digest}
@@ -16,17 +16,18 @@ use Rattle.version_links.specs.declared.versions.VersionRef.{VersionRef}
 use Rattle.version_links.specs.Versions.{versions_of}
 use Rattle.prov_entry.specs.declared.entry.Leaf.{Leaf}
 use Rattle.history_root.specs.Naming.{named_before}
-use Rattle.history_root.specs.Root.{is_among, keys_of, sentinel}
-use Rattle.history_root.proofs.Lists.{all_weaker, all_append, map_on, option_cases, not_both, some_last, or_true}
-use Rattle.history_root.proofs.Keys.{among_is_some, all_among, key_is_key}
+use Rattle.history_root.specs.Root.{is_among, keys_of}
+use Rattle.history_root.proofs.Lists.{all_weaker, all_append, option_cases, not_both, some_last, or_true}
+use Rattle.history_root.proofs.Keys.{among_is_some, all_among}
 use Rattle.history_root.proofs.Growing.{newest_append}
-use Rattle.lineage_index.specs.Growth.{Grows, Entry, entry_of, leaf_with, held, used_by, HaveDistinctKeys, renewed, keys_touched, keys_of_row, is_of_key, named_from}
-use Rattle.lineage_index.specs.Heads.{KeyStates, AreHeads, AreLists, leaves_with, states_of, newest_at, open_list}
-use Rattle.lineage_index.specs.Headers.{using, AreUsing, digest_of_new}
+use Rattle.lineage_index.specs.Growth.{Grows, Entry, entry_of, held, used_by, HaveDistinctKeys, renewed, keys_touched, keys_of_row, is_of_key, named_from}
+use Rattle.lineage_index.specs.Heads.{KeyStates, AreHeads, AreLists, states_of, newest_at, open_list}
+use Rattle.lineage_index.specs.Headers.{AreUsing, digest_of_new}
 use Rattle.lineage_index.specs.Settling.{entry_or_fresh, settling, AreSettled, renewing, AreRecords, AreRenewing}
 use Rattle.lineage_index.specs.Blocks.{IsKept}
 use Rattle.lineage_index.proofs.Blocks.{IsOnNewest, new_deps, rows_before, rows_now, deps_on_newest}
 use Rattle.lineage_index.proofs.Using.{distinct_keys, all_uses, used_same, held_first}
+use Rattle.lineage_index.proofs.KeyLeaves.{leaves_on}
 use Rattle.lineage_index.proofs.KeyLists.{lists_same}
 use Rattle.lineage_index.proofs.KeptStates.{lists_of_heads, heads_with_lists}
 use Rattle.lineage_index.proofs.HeaderDigests.{named_grows}
@@ -65,13 +66,6 @@ uses_added rows new n tree lists more newest_rows versions headers g k a = recor
 }
 
 -- ---- the newest versions
-
-leaves_on : (keys : List (List ℕ)) (f g : List ℕ → Entry) → AllByRecursion (λ (key : List ℕ). f key ≡ g key) keys → leaves_with keys f ≡ leaves_with keys g
-leaves_on keys f g same = ap (λ (leaves : List Leaf). sentinel keys ∷ leaves) (go keys same)
-  where
-    go : (ks : List (List ℕ)) → AllByRecursion (λ (key : List ℕ). f key ≡ g key) ks → map (λ (key : List ℕ). leaf_with keys key (f key)) ks ≡ map (λ (key : List ℕ). leaf_with keys key (g key)) ks
-    go [] h = refl
-    go (key ∷ ks) h = let rest = go ks h.1 in rw (h.0, rest) refl
 
 entries_there : (rows : List Row) → AllByRecursion (λ (key : List ℕ). entry_of rows key ≡ entry_or_fresh rows key) (keys_of rows)
 entries_there rows = all_weaker (λ (key : List ℕ). is_among (keys_of rows) key ≡ true) (λ (key : List ℕ). entry_of rows key ≡ entry_or_fresh rows key) (λ key t. there key t) (keys_of rows) (all_among (keys_of rows))

@@ -1,18 +1,18 @@
 -- The leaves of some keys: where a key's leaf stands, a leaf that is set, and one more key.
-use Rattle.std.proofs.Common.{◌≡◌, ◌≢◌, ◌∙◌, ◌⊎◌, ℕ, zero, suc, ◌+◌, ◌-◌, ◌<◌, Bool, true, false, ◌==◌, ◌||◌, List, [], ◌∷◌, ◌++◌, length, get_or, set, map, Option, Some, None, refl, sym, ap, arith, inl, inr}
+use Rattle.std.proofs.Common.{◌≡◌, ◌≢◌, ◌∙◌, ℕ, suc, ◌+◌, ◌-◌, ◌<◌, false, ◌==◌, List, [], ◌∷◌, ◌++◌, length, get_or, map, Option, Some, None, refl, sym, ap, arith, inl, inr}
 use Rattle.std.specs.Prelude.{slice_get, position, slice_set}
-use Rattle.std.specs.List.{list_any, AllPairs, AllByRecursion, position_from}
+use Rattle.std.specs.List.{AllPairs, AllByRecursion, position_from}
 use Rattle.std.specs.Option.{option_map}
 use Rattle.std.specs.Cmp.Lexicographic.{pointwise}
 use Rattle.std.proofs.lemmas.Bool.{cases_Bool}
 use Rattle.std.proofs.lemmas.List.{map-append, length-map, get_or-map}
-use Rattle.std.proofs.lemmas.Option.{slice_get-get_or, same_Some, none-some}
+use Rattle.std.proofs.lemmas.Option.{slice_get-get_or}
 use Rattle.std.proofs.lemmas.Iterator.Adapters.{position_from-zero}
 use Rattle.prov_entry.specs.declared.entry.Leaf.{Leaf}
 use Rattle.history_root.specs.Root.{is_among, sentinel, next_key, is_below}
-use Rattle.history_root.proofs.Lists.{all_weaker, map_map, map_on, not_both}
+use Rattle.history_root.proofs.Lists.{map_map, map_on, not_both}
 use Rattle.history_root.proofs.Keys.{same_key, key_is_key}
-use Rattle.state_tree.specs.Leaves.{index_of, is_this, leaf_key, leaf_keys, with_next, threaded, fresh_leaf, with_leaf_of}
+use Rattle.state_tree.specs.Leaves.{index_of, is_this, leaf_key, leaf_keys, with_next, fresh_leaf, with_leaf_of}
 use Rattle.lineage_index.specs.Growth.{Entry, leaf_with, changed}
 use Rattle.lineage_index.specs.Heads.{leaves_with, fresh_entry, IsKeyIndex}
 use Rattle.lineage_index.proofs.ByKey.{set_at_key, push_key, differ, changed_here, changed_there}
@@ -137,19 +137,13 @@ place_found tree keys entry key o is found =
     let e : index_of (leaves_with keys entry) key ≡ o = ap (λ (leaves : List Leaf). index_of leaves key) (sym is) ∙ sym found in
     rw (← e) (leaf_place keys entry key)
 
--- a key that is not among them has no leaf to change
-pub leaf_nowhere : (keys : List (List ℕ)) (entry : List ℕ → Entry) (key : List ℕ) (x : Entry) → is_among keys key ≡ false → leaves_with keys (changed entry key x) ≡ leaves_with keys entry
-leaf_nowhere keys entry key x none = ap (λ (leaves : List Leaf). sentinel keys ∷ leaves) (go keys none)
+-- entries that are equal at the keys
+pub leaves_on : (keys : List (List ℕ)) (f g : List ℕ → Entry) → AllByRecursion (λ (key : List ℕ). f key ≡ g key) keys → leaves_with keys f ≡ leaves_with keys g
+leaves_on keys f g same = ap (λ (leaves : List Leaf). sentinel keys ∷ leaves) (go keys same)
   where
-    go : (ks : List (List ℕ)) → is_among ks key ≡ false → map (λ (k : List ℕ). leaf_with keys k (changed entry key x k)) ks ≡ map (λ (k : List ℕ). leaf_with keys k (entry k)) ks
-    go [] e = refl
-    go (k ∷ ks) e = elim (cases_Bool (pointwise ◌==◌ k key)) [
-      | inl t ↦ let there : is_among (k ∷ ks) key ≡ true = rw t refl in absurd (not_both (is_among (k ∷ ks) key) there e)
-      | inr f ↦
-          let rest : is_among ks key ≡ false = rw f at e in
-          let off : pointwise ◌==◌ key k ≡ false = differ key k (λ same. not_both (pointwise ◌==◌ k key) (rw same (key_is_key k)) f) in
-          rw off (ap (λ (leaves : List Leaf). leaf_with keys k (entry k) ∷ leaves) (go ks rest))
-    ]
+    go : (ks : List (List ℕ)) → AllByRecursion (λ (key : List ℕ). f key ≡ g key) ks → map (λ (key : List ℕ). leaf_with keys key (f key)) ks ≡ map (λ (key : List ℕ). leaf_with keys key (g key)) ks
+    go [] h = refl
+    go (key ∷ ks) h = let rest = go ks h.1 in rw (h.0, rest) refl
 
 pub leaves_same : (keys : List (List ℕ)) (f g : List ℕ → Entry) → ((key : List ℕ) → f key ≡ g key) → leaves_with keys f ≡ leaves_with keys g
 leaves_same keys f g same = ap (λ (leaves : List Leaf). sentinel keys ∷ leaves) (go keys)

@@ -11,6 +11,7 @@ pub mod OldVersions
 pub mod KeptStates
 pub mod Settled
 pub mod Renewed
+pub mod LeafStates
 pub mod Touched
 pub mod NewHeaders
 pub mod BlockSteps

@@ -1,35 +1,31 @@
--- A leaf that is made anew has the entry of its key.
-use Rattle.std.proofs.Common.{◌≡◌, ◌∙◌, ℕ, zero, suc, ◌+◌, ◌<◌, true, false, ◌==◌, List, [], ◌∷◌, ◌++◌, length, get_or, take, map, Option, Some, None, refl, sym, ap, subst, arith}
-use Rattle.std.specs.Prelude.{slice_get, slice_set, slice_index_or}
-use Rattle.std.specs.List.{All, AllByRecursion}
-use Rattle.std.proofs.lemmas.List.{append-nil, append_assoc}
+-- What a leaf is to say is the entry of its key.
+use Rattle.std.proofs.Common.{◌≡◌, ◌∙◌, ℕ, zero, suc, ◌-◌, ◌<◌, List, [], ◌∷◌, ◌++◌, length, get_or, take, Option, Some, sym, ap, arith}
+use Rattle.std.specs.Prelude.{slice_get}
+use Rattle.std.proofs.lemmas.List.{append-nil, append_assoc, length-map}
 use Rattle.std.proofs.lemmas.List.Elements.{recursion_from_All}
-use Rattle.std.proofs.lemmas.Option.{none-some, same_Some, slice_get_within, get_or_from_slice_get}
+use Rattle.std.proofs.lemmas.Option.{none-some, same_Some, slice_get_within, slice_get-get_or, get_or_from_slice_get}
 use Rattle.lc_base.specs.declared.digest.Digest.{Digest}
 use Rattle.lc_base.specs.declared.row.Row.{Row}
 use Rattle.lc_base.specs.declared.row.Dep.{Dep}
 use Rattle.lc_base.specs.History.{newest, uses}
 use Rattle.version_links.specs.declared.versions.VersionRef.{VersionRef}
-use Rattle.version_links.specs.Versions.{newest_index, version_after, versions_after, versions_of}
-use Rattle.version_links.proofs.Threads.{newest_below}
-use Rattle.prov_entry.specs.declared.entry.Leaf.{Leaf}
+use Rattle.version_links.specs.Versions.{version_after, versions_after, versions_of}
 use Rattle.prov_entry.specs.declared.entry.BodyDep.{BodyDep}
 use Rattle.prov_entry.specs.ForwardLists.{uses_digest}
-use Rattle.history_root.specs.Naming.{uses_of, digest_of_uses, digest_among, header_digest, named_before}
+use Rattle.history_root.specs.Naming.{uses_of, digest_of_uses, digest_among, header_digest}
 use Rattle.history_root.specs.NamingLaws.{digest_of_row}
-use Rattle.history_root.specs.Root.{is_among, keys_of, block_of}
+use Rattle.history_root.specs.Root.{keys_of, block_of}
 use Rattle.history_root.proofs.Lists.{all_contained}
 use Rattle.history_root.proofs.Headers.{row_is_named, newest_has, newest_is_key}
 use Rattle.forward_links.specs.Lists.{list_at}
-use Rattle.lineage_index.specs.Growth.{Entry, entry_of, leaf_with, changed, renewed, named_from}
-use Rattle.lineage_index.specs.Heads.{KeyStates, AreHeads, leaves_with, newest_at, open_list}
-use Rattle.lineage_index.specs.Settling.{renewing, AreRecords, AreRenewing}
-use Rattle.lineage_index.proofs.KeyLeaves.{leaf_at, leaf_set, leaf_nowhere, leaves_same}
+use Rattle.lineage_index.specs.Growth.{Entry, entry_of, named_from}
+use Rattle.lineage_index.specs.Heads.{newest_at, open_list}
+use Rattle.lineage_index.specs.Settling.{AreRecords}
+use Rattle.lineage_index.specs.Leaves.{IsLeafIndex, key_at, told, state_of, AreBesideLeaves}
 use Rattle.lineage_index.proofs.KeyLists.{value_at}
 use Rattle.lineage_index.proofs.KeptStates.{index_among}
 use Rattle.lineage_index.proofs.HeaderDigests.{digest_at_index}
-use Rattle.lineage_index.proofs.Settled.{row_there, index_there, heads_same, as_many_versions}
-use Rattle.lineage_index.proofs.Entries.{one_more_renewed}
+use Rattle.lineage_index.proofs.Settled.{row_there, index_there, as_many_versions}
 
 -- the version at the index of a row
 version_is : (before rows : List Row) (i : ℕ) (row : Row) → slice_get rows i ≡ Some row → slice_get (versions_after before rows) i ≡ Some (version_after (before ++ take i rows) row)
@@ -48,11 +44,11 @@ version_read rows i row e = version_is [] rows i row e
 -- ---- what is read for the entry of a key
 
 -- The index of the newest row of a key, with the row.
-pub newest_read : (rows : List Row) (entry : List ℕ → Entry) (done : List (List ℕ)) (tree : List Leaf) (lists : List (List Dep)) (newest_rows : List ℕ) (versions : List VersionRef) (headers : List Digest) (key : List ℕ) (i at : ℕ)
-    → AreRenewing rows entry done tree lists newest_rows versions headers → slice_get (keys_of rows) i ≡ Some key → slice_get newest_rows i ≡ Some at
+newest_read : (rows : List Row) (lists : List (List Dep)) (newest_rows : List ℕ) (versions : List VersionRef) (headers : List Digest) (key : List ℕ) (i at : ℕ)
+    → AreBesideLeaves rows lists newest_rows versions headers → slice_get (keys_of rows) i ≡ Some key → slice_get newest_rows i ≡ Some at
     → (row : Row) × (newest rows key ≡ Some row) × (slice_get rows at ≡ Some row)
-newest_read rows entry done tree lists newest_rows versions headers key i at a place read =
-    let is : at ≡ newest_at rows key = sym (get_or_from_slice_get newest_rows i at at read) ∙ ap (λ (is : List ℕ). get_or is i at) a.heads.newest_are ∙ (value_at (newest_at rows) (keys_of rows) key i at place).1 in
+newest_read rows lists newest_rows versions headers key i at a place read =
+    let is : at ≡ newest_at rows key = sym (get_or_from_slice_get newest_rows i at at read) ∙ ap (λ (is : List ℕ). get_or is i at) a.newest_are ∙ (value_at (newest_at rows) (keys_of rows) key i at place).1 in
     row_there rows key at (index_there rows key (index_among (keys_of rows) key i place) ∙ ap (λ (n : ℕ). Some n) (sym is))
 
 block_read : (rows : List Row) (versions : List VersionRef) (headers : List Digest) (at : ℕ) (row : Row) (version : VersionRef) → AreRecords rows versions headers → slice_get rows at ≡ Some row → slice_get versions at ≡ Some version → version.block ≡ row.block
@@ -73,7 +69,7 @@ digest_read rows versions headers key at row digest r newest_is there read =
     let of_row : digest ≡ digest_of_row rows row = sym named ∙ ap (λ (names : List BodyDep). digest_among names row.key row.block) (sym r.named) ∙ row_is_named rows row r.block r.lawful has low in
     of_row ∙ sym (ap (λ (k : List ℕ). header_digest rows k row.block) (sym same) ∙ row_is_named rows row (suc row.block) r.lawful has (omega arith))
 
--- ---- the leaf that is set
+-- ---- what a leaf is to say
 
 entry_is : (rows : List Row) (key : List ℕ) (row : Row) (block : ℕ) (digest : Digest) (list : List Dep) (count : ℕ) (list_digest : Digest) → newest rows key ≡ Some row → block ≡ row.block → digest ≡ header_digest rows key row.block → list ≡ open_list rows key
     → count ≡ length list → list_digest.0 ≡ uses_digest list → record { newest_block = block; newest = digest; open_count = count; open_digest = list_digest } ≡ entry_of rows key
@@ -90,57 +86,37 @@ entry_is rows key row block digest list count list_digest newest_is block_is dig
     parts : (a b : ℕ) (c d : Digest) (e f : ℕ) (g h : Digest) → a ≡ b → c ≡ d → e ≡ f → g ≡ h → (let x : Entry = record { newest_block = a; newest = c; open_count = e; open_digest = g } in x) ≡ record { newest_block = b; newest = d; open_count = f; open_digest = h }
     parts a b c d e f g h p q r s = cc
 
-pub leaf_renewed : (rows : List Row) (entry : List ℕ → Entry) (done : List (List ℕ)) (tree : List Leaf) (lists : List (List Dep)) (newest_rows : List ℕ) (versions : List VersionRef) (headers : List Digest) (key : List ℕ) (i at : ℕ) (version : VersionRef) (digest : Digest) (count : ℕ) (list_digest : Digest)
-    → AreRenewing rows entry done tree lists newest_rows versions headers → slice_get (keys_of rows) i ≡ Some key → slice_get newest_rows i ≡ Some at → slice_get versions at ≡ Some version → slice_get headers at ≡ Some digest
-    → count ≡ length (list_at lists i) → list_digest.0 ≡ uses_digest (list_at lists i)
-    → (leaf : Leaf) × (slice_get tree (1 + i) ≡ Some leaf) × AreRenewing rows entry (done ++ key ∷ []) (slice_set tree (1 + i) (record leaf { newest_block = version.block; newest = digest; open_count = count; open_digest = list_digest })) lists newest_rows versions headers
-leaf_renewed rows entry done tree lists newest_rows versions headers key i at version digest count list_digest a place read version_read header_read count_is digest_is =
+-- The key of a leaf stands at the index before.
+pub key_there : (keys : List (List ℕ)) (index : ℕ) → IsLeafIndex keys index → slice_get keys (index - 1) ≡ Some (key_at keys index)
+key_there keys index at = slice_get-get_or keys (index - 1) [] (omega (arith, at))
+
+-- It is told the entry of its key.
+pub state_told : (rows : List Row) (lists : List (List Dep)) (newest_rows : List ℕ) (versions : List VersionRef) (headers : List Digest) (index at : ℕ) (version : VersionRef) (digest : Digest) (count : ℕ) (list_digest : Digest)
+    → AreBesideLeaves rows lists newest_rows versions headers → IsLeafIndex (keys_of rows) index → slice_get newest_rows (index - 1) ≡ Some at → slice_get versions at ≡ Some version → slice_get headers at ≡ Some digest
+    → count ≡ length (list_at lists (index - 1)) → list_digest.0 ≡ uses_digest (list_at lists (index - 1))
+    → record { index = index; newest_block = version.block; newest = digest; open_count = count; open_digest = list_digest } ≡ state_of rows index
+state_told rows lists newest_rows versions headers index at version digest count list_digest a within read version_read header_read count_is digest_is =
     let keys = keys_of rows in
-    let states = renewing rows entry done in
-    let row = newest_read rows entry done tree lists newest_rows versions headers key i at a place read in
-    let list_is : list_at lists i ≡ open_list rows key = ap (λ (ls : List (List Dep)). list_at ls i) a.heads.lists_are ∙ (value_at (open_list rows) keys key i [] place).1 in
-    let new : Entry = record { newest_block = version.block; newest = digest; open_count = count; open_digest = list_digest } in
-    let is : new ≡ entry_of rows key = entry_is rows key row.0 version.block digest (list_at lists i) count list_digest row.1
-    (block_read rows versions headers at row.0 version a.records row.2 version_read) (digest_read rows versions headers key at row.0 digest a.records row.1 row.2 header_read) list_is count_is digest_is in
-    let within = slice_get_within keys i key place in
-    let key_is : get_or keys i key ≡ key = get_or_from_slice_get keys i key key place in
-    let old_leaf : Leaf = leaf_with keys key (states.entry key) in
-    let found : slice_get tree (1 + i) ≡ Some old_leaf = ap (λ (leaves : List Leaf). slice_get leaves (1 + i)) a.heads.leaves_are ∙ leaf_at keys states.entry i key within ∙ ap (λ (k : List ℕ). Some (leaf_with keys k (states.entry k))) key_is in
-    let set_is : slice_set tree (1 + i) (leaf_with keys key new) ≡ leaves_with keys (changed states.entry key (entry_of rows key)) =
-    ap (λ (leaves : List Leaf). slice_set leaves (1 + i) (leaf_with keys key new)) a.heads.leaves_are ∙ leaf_set keys states.entry key i new key a.heads.apart within key_is
-    ∙ ap (λ (x : Entry). leaves_with keys (changed states.entry key x)) is in (
-      old_leaf,
-      found,
-      record {
-        records = a.records;
-        heads = record {
-          apart = a.heads.apart;
-          leaves_are = set_is ∙ leaves_same keys (changed states.entry key (entry_of rows key)) (renewed entry (entry_of rows) (done ++ key ∷ [])) (λ k. one_more_renewed entry (entry_of rows) done key k);
-          lists_are = a.heads.lists_are;
-          newest_are = a.heads.newest_are;
-        };
-      },
-    )
+    let i = index - 1 in
+    let key = key_at keys index in
+    let place = key_there keys index within in
+    let row = newest_read rows lists newest_rows versions headers key i at a place read in
+    let list_is : list_at lists i ≡ open_list rows key = ap (λ (ls : List (List Dep)). list_at ls i) a.lists_are ∙ (value_at (open_list rows) keys key i [] place).1 in
+    ap (told index) (entry_is rows key row.0 version.block digest (list_at lists i) count list_digest row.1
+    (block_read rows versions headers at row.0 version a.records row.2 version_read) (digest_read rows versions headers key at row.0 digest a.records row.1 row.2 header_read) list_is count_is digest_is)
 
-pub leaf_missing : (rows : List Row) (entry : List ℕ → Entry) (done : List (List ℕ)) (tree : List Leaf) (lists : List (List Dep)) (newest_rows : List ℕ) (versions : List VersionRef) (headers : List Digest) (key : List ℕ)
-    → AreRenewing rows entry done tree lists newest_rows versions headers → is_among (keys_of rows) key ≡ false → AreRenewing rows entry (done ++ key ∷ []) tree lists newest_rows versions headers
-leaf_missing rows entry done tree lists newest_rows versions headers key a none = record {
-  records = a.records;
-  heads = record {
-    apart = a.heads.apart;
-    leaves_are =
-        a.heads.leaves_are ∙ sym (leaf_nowhere (keys_of rows) (renewed entry (entry_of rows) done) key (entry_of rows key) none)
-        ∙ leaves_same (keys_of rows) (changed (renewed entry (entry_of rows) done) key (entry_of rows key)) (renewed entry (entry_of rows) (done ++ key ∷ [])) (λ k. one_more_renewed entry (entry_of rows) done key k);
-    lists_are = a.heads.lists_are;
-    newest_are = a.heads.newest_are;
-  };
-}
+-- What is read for it is there.
+pub read_within : (rows : List Row) (lists : List (List Dep)) (newest_rows : List ℕ) (versions : List VersionRef) (headers : List Digest) (index : ℕ)
+    → AreBesideLeaves rows lists newest_rows versions headers → IsLeafIndex (keys_of rows) index → (index - 1 < length newest_rows) × (index - 1 < length lists)
+read_within rows lists newest_rows versions headers index a within = (
+  omega (arith, within, ap length a.newest_are, length-map (keys_of rows) (newest_at rows)),
+  omega (arith, within, ap length a.lists_are, length-map (keys_of rows) (open_list rows)),
+)
 
--- the index of a row is within the versions and the digests
-pub read_within : (rows : List Row) (entry : List ℕ → Entry) (done : List (List ℕ)) (tree : List Leaf) (lists : List (List Dep)) (newest_rows : List ℕ) (versions : List VersionRef) (headers : List Digest) (key : List ℕ) (i at : ℕ)
-    → AreRenewing rows entry done tree lists newest_rows versions headers → slice_get (keys_of rows) i ≡ Some key → slice_get newest_rows i ≡ Some at → (at < length versions) × (at < length headers)
-read_within rows entry done tree lists newest_rows versions headers key i at a place read =
-    let row = newest_read rows entry done tree lists newest_rows versions headers key i at a place read in
-    let within = slice_get_within rows at row.0 row.2 in
+pub row_within : (rows : List Row) (lists : List (List Dep)) (newest_rows : List ℕ) (versions : List VersionRef) (headers : List Digest) (index at : ℕ)
+    → AreBesideLeaves rows lists newest_rows versions headers → IsLeafIndex (keys_of rows) index → slice_get newest_rows (index - 1) ≡ Some at → (at < length versions) × (at < length headers)
+row_within rows lists newest_rows versions headers index at a within read =
+    let row = newest_read rows lists newest_rows versions headers (key_at (keys_of rows) index) (index - 1) at a (key_there (keys_of rows) index within) read in
+    let below = slice_get_within rows at row.0 row.2 in
     let long : length versions ≡ length rows = ap length a.records.versions_are ∙ as_many_versions rows in
-    (omega (arith, within, long), omega (arith, within, a.records.long))
+    (omega (arith, below, long), omega (arith, below, a.records.long))

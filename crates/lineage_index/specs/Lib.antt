@@ -2,6 +2,7 @@ pub mod Growth
 pub mod Linking
 pub mod Heads
 pub mod Settling
+pub mod Leaves
 pub mod Headers
 pub mod Blocks
 pub mod Index

@@ -34,6 +34,6 @@ pub(crate) fn advance(
     let fresh = new_headers(alloc, tree, lists, newest, versions, headers, new)?;
     settle_rows(tree, lists, newest, versions, new)?;
     headers.extend_from_slice(&fresh)?;
-    renew_leaves(tree, lists, newest, versions, headers, new);
+    renew_leaves(alloc, tree, lists, newest, versions, headers, new)?;
     Ok(())
 }

@@ -1,15 +1,18 @@
 //! The leaves of the keys that a block touches, made anew.
 
-ghost use Rattle.std.specs.Prelude.{◌≡◌, ◌<◌, ◌++◌, ◌∷◌, [], ℕ, List, length, map, slice_get, Some};
+ghost use Rattle.std.specs.Prelude.{◌≡◌, ◌<◌, [], ℕ, List, length, map, slice_get, Some, OnOk, IfOk};
+ghost use Rattle.std.specs.List.{All};
 ghost use Rattle.lc_base.specs.declared.row.Row.{Row};
-ghost use Rattle.lc_base.specs.declared.row.Dep.{Dep};
-ghost use Rattle.lineage_index.specs.Growth.{Entry, keys_of_row, keys_touched};
+ghost use Rattle.history_root.specs.Root.{keys_of};
+ghost use Rattle.lineage_index.specs.Growth.{Entry, keys_touched};
+ghost use Rattle.lineage_index.specs.Leaves.{AreBesideLeaves, IsLeafIndex, state_of};
 ghost use Rattle.lineage_index.specs.Settling.{AreRenewing};
 
-use crate::heads::index_of;
+use crate::indexes::touched_indexes;
 use forward_links::OpenLists;
-use lc_base::{Dep, Digest, Key, Row};
-use state_tree::Tree;
+use lc_base::{Digest, Memory, Row};
+use state_tree::{LeafState, Tree};
+use std::alloc::Global;
 use version_links::VersionRef;
 
 /// The index of the newest row of the key at an index.
@@ -34,75 +37,67 @@ fn digest_at(headers: &[Digest], index: u32) -> Digest
     headers[index as usize]
 }
 
-/// Sets the leaf of a key by what is kept of its newest version.
-fn renew_leaf(
-    tree: &mut Tree,
+/// What the leaf at an index is to say, by what is kept of the newest version of its key.
+fn leaf_state(
     lists: &OpenLists,
     newest: &[u32],
     versions: &[VersionRef],
     headers: &[Digest],
-    key: &Key,
-)
-    requires { (rows : List Row) × (entry : List ℕ → Entry) × (done : List (List ℕ)) × AreRenewing rows entry done tree.old lists.now newest.now versions.now headers.now }
-    ensures { (rows : List Row) (entry : List ℕ → Entry) (done : List (List ℕ)) → AreRenewing rows entry done tree.old lists.now newest.now versions.now headers.now
-        → AreRenewing rows entry (done ++ key.now ∷ []) tree.new lists.now newest.now versions.now headers.now }
+    index: u32,
+) -> LeafState
+    requires { (rows : List Row) × AreBesideLeaves rows lists.now newest.now versions.now headers.now × IsLeafIndex (keys_of rows) index }
+    ensures { (rows : List Row) → AreBesideLeaves rows lists.now newest.now versions.now headers.now → IsLeafIndex (keys_of rows) index
+        → result ≡ state_of rows index }
 {
-    if let Some(index) = index_of(tree, key) {
-        let row = newest_at(newest, index);
-        let (count, digest) = lists.peek(index);
-        let block = version_at(versions, row).block;
-        tree.set_leaf(index + 1, block, digest_at(headers, row), count, digest);
+    let key = index - 1;
+    let row = newest_at(newest, key);
+    let (open_count, open_digest) = lists.peek(key);
+    LeafState {
+        index,
+        newest_block: version_at(versions, row).block,
+        newest: digest_at(headers, row),
+        open_count,
+        open_digest,
     }
 }
 
-fn renew_leaves_of_deps(
-    tree: &mut Tree,
+/// What the leaves at these indexes are to say, by what is kept of the newest versions of their keys.
+fn leaf_states(
+    alloc: Global,
     lists: &OpenLists,
     newest: &[u32],
     versions: &[VersionRef],
     headers: &[Digest],
-    deps: &[Dep],
-)
-    requires { (rows : List Row) × (entry : List ℕ → Entry) × (done : List (List ℕ)) × AreRenewing rows entry done tree.old lists.now newest.now versions.now headers.now }
-    ensures { (rows : List Row) (entry : List ℕ → Entry) (done : List (List ℕ)) → AreRenewing rows entry done tree.old lists.now newest.now versions.now headers.now
-        → AreRenewing rows entry (done ++ map (λ (dep : Dep). dep.key) deps.now) tree.new lists.now newest.now versions.now headers.now }
+    indexes: &[u32],
+) -> Result<Vec<LeafState>, Memory>
+    requires { (rows : List Row) × AreBesideLeaves rows lists.now newest.now versions.now headers.now × All (IsLeafIndex (keys_of rows)) indexes.now }
+    ensures { (rows : List Row) → AreBesideLeaves rows lists.now newest.now versions.now headers.now → All (IsLeafIndex (keys_of rows)) indexes.now
+        → IfOk result (λ states. states.items ≡ map (state_of rows) indexes.now) }
 {
-    for dep in deps {
-        renew_leaf(tree, lists, newest, versions, headers, &dep.key);
+    let mut states = Vec::new(alloc);
+    for index in indexes {
+        states.push(leaf_state(lists, newest, versions, headers, *index))?;
     }
+    Ok(states)
 }
 
-fn renew_leaves_of_row(
-    tree: &mut Tree,
-    lists: &OpenLists,
-    newest: &[u32],
-    versions: &[VersionRef],
-    headers: &[Digest],
-    row: &Row,
-)
-    requires { (rows : List Row) × (entry : List ℕ → Entry) × (done : List (List ℕ)) × AreRenewing rows entry done tree.old lists.now newest.now versions.now headers.now }
-    ensures { (rows : List Row) (entry : List ℕ → Entry) (done : List (List ℕ)) → AreRenewing rows entry done tree.old lists.now newest.now versions.now headers.now
-        → AreRenewing rows entry (done ++ keys_of_row row.now) tree.new lists.now newest.now versions.now headers.now }
-{
-    renew_leaf(tree, lists, newest, versions, headers, &row.key);
-    renew_leaves_of_deps(tree, lists, newest, versions, headers, row.deps.as_slice());
-}
-
-/// Sets the leaves of all keys that the rows of a block touch: of their own keys, and of those that
-/// they depend on.
+/// Sets the leaves of all keys that the rows of a block touch, together: of their own keys, and of
+/// those that they depend on.
 pub(crate) fn renew_leaves(
+    alloc: Global,
     tree: &mut Tree,
     lists: &OpenLists,
     newest: &[u32],
     versions: &[VersionRef],
     headers: &[Digest],
     new: &[Row],
-)
+) -> Result<(), Memory>
     requires { (rows : List Row) × (entry : List ℕ → Entry) × AreRenewing rows entry [] tree.old lists.now newest.now versions.now headers.now }
     ensures { (rows : List Row) (entry : List ℕ → Entry) → AreRenewing rows entry [] tree.old lists.now newest.now versions.now headers.now
-        → AreRenewing rows entry (keys_touched new.now) tree.new lists.now newest.now versions.now headers.now }
+        → OnOk result (AreRenewing rows entry (keys_touched new.now) tree.new lists.now newest.now versions.now headers.now) }
 {
-    for row in new {
-        renew_leaves_of_row(tree, lists, newest, versions, headers, row);
-    }
+    let indexes = touched_indexes(alloc, tree, new)?;
+    let states = leaf_states(alloc, lists, newest, versions, headers, &indexes)?;
+    tree.set_leaves(&states)?;
+    Ok(())
 }

@@ -6,6 +6,7 @@ mod advancing;
 mod headers;
 mod heads;
 mod index;
+mod indexes;
 mod latest;
 mod leaves;
 mod linking;

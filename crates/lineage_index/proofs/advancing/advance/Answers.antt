@@ -63,7 +63,7 @@ returns c rows n g k =
     let longer : c.extend_from_slice.new.self.items ≡ c.args.headers.now.items ++ c.in_ok-fresh.fresh.items = c.in_ok-extend_from_slice.ensures.items ∙ ap (λ (more : List Digest). c.args.headers.now.items ++ more) c.deref-4.ensures.value in
     let renewing_here = renewing_at (rows ++ c.args.new.now) (entry_or_fresh rows) [] c.settle_rows.new.tree c.settle_rows.new.lists c.deref-5.result.now c.settle_rows.new.newest.items c.deref-6.result.now c.settle_rows.new.versions.items
     c.deref-7.result.now (c.args.headers.now.items ++ c.in_ok-fresh.fresh.items) begun.0 c.deref-5.ensures.value c.deref-6.ensures.value (c.deref-7.ensures.value ∙ longer) in
-    let renewed = c.renew_leaves.ensures (rows ++ c.args.new.now) (entry_or_fresh rows) renewing_here in
+    let renewed = c.in_ok-renew_leaves.ensures (rows ++ c.args.new.now) (entry_or_fresh rows) renewing_here in
     let records = records_at (rows ++ c.args.new.now) (n + 1) c.settle_rows.new.versions.items c.extend_from_slice.new.self.items (c.args.headers.now.items ++ c.in_ok-fresh.fresh.items) (begun.0.records, begun.1) longer in
     block_kept rows c.args.new.now n c.renew_leaves.new.tree c.settle_rows.new.lists c.settle_rows.new.newest.items c.settle_rows.new.versions.items c.extend_from_slice.new.self.items g records.0 records.1
     (heads_at c.renew_leaves.new.tree c.settle_rows.new.lists c.settle_rows.new.newest.items c.deref-5.result.now (renewing (rows ++ c.args.new.now) (entry_or_fresh rows) (keys_touched c.args.new.now)) renewed.heads (sym c.deref-5.ensures.value))

@@ -1,23 +1,43 @@
-use Rattle.std.proofs.Common.{List, subst, take, arith}
-use Rattle.std.proofs.lemmas.List.{take_all}
-use Rattle.lc_base.specs.declared.row.Row.{Row}
+use Rattle.std.proofs.Common.{◌∙◌, List, [], ap, map, subst, sym}
+use Rattle.std.specs.List.{All}
+use Rattle.history_root.specs.Root.{keys_of}
+use Rattle.state_tree.specs.declared.states.LeafState.{LeafState}
+use Rattle.state_tree.specs.Leaves.{with_states}
 use Rattle.lineage_index.specs.Growth.{keys_touched}
-use Rattle.lineage_index.specs.Settling.{AreRenewing}
-use Rattle.lineage_index.proofs.Touched.{one_row_touched}
+use Rattle.lineage_index.specs.Leaves.{IsLeafIndex, state_of}
+use Rattle.lineage_index.proofs.LeafStates.{beside_leaves, touched_within, states_within, leaves_renewed}
 use Rattle.lineage_index.proofs.leaves.renew_leaves.Goals as goal
 
-pub renew_leaves_of_row-requires : goal.renew_leaves_of_row-requires
-renew_leaves_of_row-requires c =
-    let given = c.requires in
-    (given.0, given.1, keys_touched (take c.loop-row.row-index c.args.new.now), c.loop-row.invariant given.0 given.1 given.2)
+pub leaf_states-requires : goal.leaf_states-requires
+leaf_states-requires c =
+    let given = c.requires in (
+      given.0,
+      beside_leaves given.0 given.1 [] c.args.tree.now c.args.lists.now c.args.newest.now c.args.versions.now c.args.headers.now given.2,
+      subst (All (IsLeafIndex (keys_of given.0))) (sym c.deref.ensures.value)
+          (touched_within given.0 given.1 c.args.tree.now c.args.lists.now c.args.newest.now c.args.versions.now c.args.headers.now (keys_touched c.args.new.now) c.in_ok-indexes.indexes.items given.2 c.in_ok-indexes.ensures.all),
+    )
 
-pub loop-row-preserved : goal.loop-row-preserved
-loop-row-preserved c rows entry a =
-    subst (λ keys. AreRenewing rows entry keys c.renew_leaves_of_row.new.tree c.args.lists.now c.args.newest.now c.args.versions.now c.args.headers.now)
-    (one_row_touched c.args.new.now c.loop-row.row-index c.row-item.result c.loop-row-test.true c.row-item.is)
-    (c.renew_leaves_of_row.ensures rows entry (keys_touched (take c.loop-row.row-index c.args.new.now)) (c.loop-row.invariant rows entry a))
+pub set_leaves-requires-clause-own : goal.set_leaves-requires-clause-own
+set_leaves-requires-clause-own c =
+    let given = c.requires in
+    let within = subst (All (IsLeafIndex (keys_of given.0))) (sym c.deref.ensures.value)
+    (touched_within given.0 given.1 c.args.tree.now c.args.lists.now c.args.newest.now c.args.versions.now c.args.headers.now (keys_touched c.args.new.now) c.in_ok-indexes.indexes.items given.2 c.in_ok-indexes.ensures.all) in
+    (states_within given.0 given.1 c.args.tree.now c.args.lists.now c.args.newest.now c.args.versions.now c.args.headers.now c.deref.result.now c.deref-2.result.now given.2 within
+    (c.deref-2.ensures.value ∙ c.in_ok-states.ensures given.0 (beside_leaves given.0 given.1 [] c.args.tree.now c.args.lists.now c.args.newest.now c.args.versions.now c.args.headers.now given.2) within)).0
+
+pub set_leaves-requires-clause-below : goal.set_leaves-requires-clause-below
+set_leaves-requires-clause-below c =
+    let given = c.requires in
+    let within = subst (All (IsLeafIndex (keys_of given.0))) (sym c.deref.ensures.value)
+    (touched_within given.0 given.1 c.args.tree.now c.args.lists.now c.args.newest.now c.args.versions.now c.args.headers.now (keys_touched c.args.new.now) c.in_ok-indexes.indexes.items given.2 c.in_ok-indexes.ensures.all) in
+    (states_within given.0 given.1 c.args.tree.now c.args.lists.now c.args.newest.now c.args.versions.now c.args.headers.now c.deref.result.now c.deref-2.result.now given.2 within
+    (c.deref-2.ensures.value ∙ c.in_ok-states.ensures given.0 (beside_leaves given.0 given.1 [] c.args.tree.now c.args.lists.now c.args.newest.now c.args.versions.now c.args.headers.now given.2) within)).1
 
 pub returns : goal.returns
 returns c rows entry a =
-    subst (λ (new : List Row). AreRenewing rows entry (keys_touched new) c.loop-row.tree c.args.lists.now c.args.newest.now c.args.versions.now c.args.headers.now)
-    (take_all c.loop-row.row-index c.args.new.now (omega (arith, c.loop-row-test.false))) (c.loop-row.invariant rows entry a)
+    let within = subst (All (IsLeafIndex (keys_of rows))) (sym c.deref.ensures.value)
+    (touched_within rows entry c.args.tree.now c.args.lists.now c.args.newest.now c.args.versions.now c.args.headers.now (keys_touched c.args.new.now) c.in_ok-indexes.indexes.items a c.in_ok-indexes.ensures.all) in
+    let states = c.deref-2.ensures.value ∙ c.in_ok-states.ensures rows (beside_leaves rows entry [] c.args.tree.now c.args.lists.now c.args.newest.now c.args.versions.now c.args.headers.now a) within
+    ∙ ap (map (state_of rows)) c.deref.ensures.value in
+    leaves_renewed rows entry c.args.tree.now c.set_leaves.new.self c.args.lists.now c.args.newest.now c.args.versions.now c.args.headers.now (keys_touched c.args.new.now) c.in_ok-indexes.indexes.items a c.in_ok-indexes.ensures.all
+    (c.in_ok-set_leaves.ensures.ok ∙ ap (λ (states : List LeafState). with_states c.args.tree.now states) states)

@@ -1,0 +1,146 @@
+-- Leaves that are told the entries of their keys, in any order.
+use Rattle.std.proofs.Common.{◌≡◌, ◌≢◌, ◌∙◌, ℕ, ◌+◌, ◌-◌, ◌<◌, Bool, true, false, ◌==◌, ◌||◌, if◌then◌else◌, List, [], ◌∷◌, ◌++◌, length, get_or, map, Some, None, refl, sym, ap, subst, arith, inl, inr}
+use Rattle.std.specs.Prelude.{slice_set}
+use Rattle.std.specs.List.{All, AllPairs, AllByRecursion}
+use Rattle.std.specs.List.Sorted.{IsPermutation}
+use Rattle.std.specs.Cmp.Lexicographic.{pointwise}
+use Rattle.std.proofs.lemmas.List.{append-nil, append_assoc}
+use Rattle.std.proofs.lemmas.List.Elements.{All-from_recursion, recursion_from_All}
+use Rattle.std.proofs.lemmas.List.Sorted.{All-permutation, IsPermutation-map, list_any-IsPermutation}
+use Rattle.std.proofs.lemmas.Option.{get_or_from_slice_get}
+use Rattle.lc_base.specs.declared.digest.Digest.{Digest}
+use Rattle.lc_base.specs.declared.row.Row.{Row}
+use Rattle.lc_base.specs.declared.row.Dep.{Dep}
+use Rattle.version_links.specs.declared.versions.VersionRef.{VersionRef}
+use Rattle.prov_entry.specs.declared.entry.Leaf.{Leaf}
+use Rattle.history_root.specs.Root.{is_among, keys_of, sentinel}
+use Rattle.history_root.proofs.Lists.{all_weaker, all_map, all_filter_map, not_both, option_cases}
+use Rattle.history_root.proofs.Keys.{all_among}
+use Rattle.state_tree.specs.declared.states.LeafState.{LeafState}
+use Rattle.state_tree.specs.Leaves.{index_of, with_state, with_states}
+use Rattle.lineage_index.specs.Growth.{Entry, entry_of, leaf_with, changed, renewed}
+use Rattle.lineage_index.specs.Heads.{leaves_with}
+use Rattle.lineage_index.specs.Settling.{renewing, AreRenewing}
+use Rattle.lineage_index.specs.Leaves.{leaf_indexes, IsLeafIndex, key_at, told, state_of, AreBesideLeaves}
+use Rattle.lineage_index.proofs.ByKey.{differ}
+use Rattle.lineage_index.proofs.KeyLeaves.{IsPlace, leaf_place, leaf_at, leaf_set, leaves_same, leaves_on}
+use Rattle.lineage_index.proofs.KeptStates.{as_many}
+use Rattle.lineage_index.proofs.Entries.{one_more_renewed}
+
+-- ---- the indexes of keys
+
+-- The index of a key is that of its leaf.
+index_says : (keys : List (List ℕ)) (entry : List ℕ → Entry) (key : List ℕ) (index : ℕ) → index_of (leaves_with keys entry) key ≡ Some index → IsLeafIndex keys index × (key_at keys index ≡ key)
+index_says keys entry key index is =
+    let place = subst (IsPlace keys key 1) is (leaf_place keys entry key) in
+    let before : index - 1 ≡ place.0 = omega (arith, place.1) in
+    ((omega (arith, place.1), omega (arith, place.1, place.2)), ap (λ (i : ℕ). get_or keys i []) before ∙ place.3 [])
+
+-- A key without an index is not among them.
+index_missing : (keys : List (List ℕ)) (entry : List ℕ → Entry) (key : List ℕ) → index_of (leaves_with keys entry) key ≡ None → is_among keys key ≡ false
+index_missing keys entry key is = subst (IsPlace keys key 1) is (leaf_place keys entry key)
+
+indexes_within : (keys : List (List ℕ)) (entry : List ℕ → Entry) (touched : List (List ℕ)) → All (IsLeafIndex keys) (leaf_indexes (leaves_with keys entry) touched)
+indexes_within keys entry touched =
+    All-from_recursion (IsLeafIndex keys) (leaf_indexes (leaves_with keys entry) touched)
+    (all_filter_map (IsLeafIndex keys) (index_of (leaves_with keys entry)) touched (λ key index is. (index_says keys entry key index is).0))
+
+-- A key that has a leaf is touched exactly where its index is there.
+touched_there : (keys : List (List ℕ)) (entry : List ℕ → Entry) (touched : List (List ℕ)) (key : List ℕ) → is_among keys key ≡ true
+    → is_among (map (key_at keys) (leaf_indexes (leaves_with keys entry) touched)) key ≡ is_among touched key
+touched_there keys entry [] key there = refl
+touched_there keys entry (first ∷ touched) key there = elim (option_cases (index_of (leaves_with keys entry) first)) [
+  | inl none ↦
+      let off : pointwise ◌==◌ first key ≡ false = differ first key (λ e. not_both (is_among keys key) there (ap (is_among keys) (sym e) ∙ index_missing keys entry first none)) in
+      rw (none, off) (touched_there keys entry touched key there)
+  | inr s ↦
+      let says = index_says keys entry first s.0 s.1 in
+      rw (s.1, says.1) (ap (λ (b : Bool). pointwise ◌==◌ first key || b) (touched_there keys entry touched key there))
+]
+
+-- The order of the indexes doesn't matter.
+entries_alike : (keys : List (List ℕ)) (entry old new : List ℕ → Entry) (touched : List (List ℕ)) (indexes : List ℕ) → IsPermutation (leaf_indexes (leaves_with keys entry) touched) indexes
+    → leaves_with keys (renewed old new (map (key_at keys) indexes)) ≡ leaves_with keys (renewed old new touched)
+entries_alike keys entry old new touched indexes same = leaves_on keys (renewed old new (map (key_at keys) indexes)) (renewed old new touched)
+    (all_weaker (λ (key : List ℕ). is_among keys key ≡ true) (λ (key : List ℕ). renewed old new (map (key_at keys) indexes) key ≡ renewed old new touched key) (λ key there. alike key there) keys (all_among keys))
+  where
+    among : (key : List ℕ) → is_among keys key ≡ true → is_among (map (key_at keys) indexes) key ≡ is_among touched key
+    among key there =
+        sym (list_any-IsPermutation (λ (other : List ℕ). pointwise ◌==◌ other key) (map (key_at keys) (leaf_indexes (leaves_with keys entry) touched)) (map (key_at keys) indexes)
+        (IsPermutation-map (key_at keys) (leaf_indexes (leaves_with keys entry) touched) indexes same))
+        ∙ touched_there keys entry touched key there
+
+    alike : (key : List ℕ) → is_among keys key ≡ true → renewed old new (map (key_at keys) indexes) key ≡ renewed old new touched key
+    alike key there = ap (λ (b : Bool). if b then new key else old key) (among key there)
+
+-- ---- leaves that are told entries
+
+leaf_told : (keys : List (List ℕ)) (entry : List ℕ → Entry) (index : ℕ) (new : Entry) → AllPairs ◌≢◌ keys → IsLeafIndex keys index
+    → with_state (leaves_with keys entry) (told index new) ≡ leaves_with keys (changed entry (key_at keys index) new)
+leaf_told keys entry index new apart within =
+    let j = index - 1 in
+    let l : j < length keys = omega (arith, within) in
+    let next : index ≡ 1 + j = omega (arith, within) in
+    let at = get_or_from_slice_get (leaves_with keys entry) (1 + j) (leaf_with keys (key_at keys index) (entry (key_at keys index))) (sentinel []) (leaf_at keys entry j [] l) in
+    ap (λ (i : ℕ). with_state (leaves_with keys entry) (told i new)) next
+    ∙ ap (λ (leaf : Leaf). slice_set (leaves_with keys entry) (1 + j) (record leaf { newest_block = new.newest_block; newest = new.newest; open_count = new.open_count; open_digest = new.open_digest })) at
+    ∙ leaf_set keys entry (key_at keys index) j new [] apart l refl
+
+leaves_told : (keys : List (List ℕ)) (old new : List ℕ → Entry) (done : List (List ℕ)) (indexes : List ℕ) → AllPairs ◌≢◌ keys → AllByRecursion (IsLeafIndex keys) indexes
+    → with_states (leaves_with keys (renewed old new done)) (map (λ (index : ℕ). told index (new (key_at keys index))) indexes) ≡ leaves_with keys (renewed old new (done ++ map (key_at keys) indexes))
+leaves_told keys old new done [] apart within = ap (λ (ks : List (List ℕ)). leaves_with keys (renewed old new ks)) (sym (append-nil done))
+leaves_told keys old new done (index ∷ indexes) apart within =
+    let key = key_at keys index in
+    ap (λ (leaves : List Leaf). with_states leaves (map (λ (index : ℕ). told index (new (key_at keys index))) indexes))
+    (leaf_told keys (renewed old new done) index (new key) apart within.0
+    ∙ leaves_same keys (changed (renewed old new done) key (new key)) (renewed old new (done ++ key ∷ [])) (λ k. one_more_renewed old new done key k))
+    ∙ leaves_told keys old new (done ++ key ∷ []) indexes apart within.1
+    ∙ ap (λ (ks : List (List ℕ)). leaves_with keys (renewed old new ks)) (append_assoc done (key ∷ []) (map (key_at keys) indexes))
+
+-- ---- the keys that a block touches
+
+pub beside_leaves : (rows : List Row) (entry : List ℕ → Entry) (done : List (List ℕ)) (tree : List Leaf) (lists : List (List Dep)) (newest : List ℕ) (versions : List VersionRef) (headers : List Digest)
+    → AreRenewing rows entry done tree lists newest versions headers → AreBesideLeaves rows lists newest versions headers
+beside_leaves rows entry done tree lists newest versions headers a = record { records = a.records; lists_are = a.heads.lists_are; newest_are = a.heads.newest_are }
+
+pub touched_within : (rows : List Row) (entry : List ℕ → Entry) (tree : List Leaf) (lists : List (List Dep)) (newest : List ℕ) (versions : List VersionRef) (headers : List Digest) (touched : List (List ℕ)) (indexes : List ℕ)
+    → AreRenewing rows entry [] tree lists newest versions headers → IsPermutation (leaf_indexes tree touched) indexes → All (IsLeafIndex (keys_of rows)) indexes
+touched_within rows entry tree lists newest versions headers touched indexes a same =
+    let there = subst (λ (leaves : List Leaf). IsPermutation (leaf_indexes leaves touched) indexes) a.heads.leaves_are same in
+    All-permutation (IsLeafIndex (keys_of rows)) (leaf_indexes (leaves_with (keys_of rows) (renewed entry (entry_of rows) [])) touched) indexes there (indexes_within (keys_of rows) (renewed entry (entry_of rows) []) touched)
+
+-- What is told is for leaves of the tree.
+pub states_within : (rows : List Row) (entry : List ℕ → Entry) (tree : List Leaf) (lists : List (List Dep)) (newest : List ℕ) (versions : List VersionRef) (headers : List Digest) (indexes : List ℕ) (states : List LeafState)
+    → AreRenewing rows entry [] tree lists newest versions headers → All (IsLeafIndex (keys_of rows)) indexes → states ≡ map (state_of rows) indexes
+    → All (λ (state : LeafState). 0 < state.index) states × All (λ (state : LeafState). state.index < length tree) states
+states_within rows entry tree lists newest versions headers indexes states a within is =
+    let many = as_many tree lists newest (renewing rows entry []) a.heads in
+    let each = recursion_from_All (IsLeafIndex (keys_of rows)) indexes within in (
+      subst (All (λ (state : LeafState). 0 < state.index)) (sym is) (All-from_recursion (λ (state : LeafState). 0 < state.index) (map (state_of rows) indexes)
+          (all_map (λ (state : LeafState). 0 < state.index) (state_of rows) indexes
+          (all_weaker (IsLeafIndex (keys_of rows)) (λ (index : ℕ). 0 < index) (λ index h. h.0) indexes each))),
+      subst (All (λ (state : LeafState). state.index < length tree)) (sym is) (All-from_recursion (λ (state : LeafState). state.index < length tree) (map (state_of rows) indexes)
+          (all_map (λ (state : LeafState). state.index < length tree) (state_of rows) indexes
+          (all_weaker (IsLeafIndex (keys_of rows)) (λ (index : ℕ). index < length tree) (λ index h. omega (arith, h.1, many.1, many.2)) indexes each))),
+    )
+
+-- Told what a history says, the leaves of the keys that are touched are made anew.
+pub leaves_renewed : (rows : List Row) (entry : List ℕ → Entry) (tree after : List Leaf) (lists : List (List Dep)) (newest : List ℕ) (versions : List VersionRef) (headers : List Digest) (touched : List (List ℕ)) (indexes : List ℕ)
+    → AreRenewing rows entry [] tree lists newest versions headers → IsPermutation (leaf_indexes tree touched) indexes → after ≡ with_states tree (map (state_of rows) indexes)
+    → AreRenewing rows entry touched after lists newest versions headers
+leaves_renewed rows entry tree after lists newest versions headers touched indexes a same is =
+    let keys = keys_of rows in
+    let within = recursion_from_All (IsLeafIndex keys) indexes (touched_within rows entry tree lists newest versions headers touched indexes a same) in
+    let there = subst (λ (leaves : List Leaf). IsPermutation (leaf_indexes leaves touched) indexes) a.heads.leaves_are same in
+    record {
+      records = a.records;
+      heads = record {
+        apart = a.heads.apart;
+        leaves_are =
+            is ∙ ap (λ (leaves : List Leaf). with_states leaves (map (state_of rows) indexes)) a.heads.leaves_are
+            ∙ leaves_told keys entry (entry_of rows) [] indexes a.heads.apart within
+            ∙ entries_alike keys (renewed entry (entry_of rows) []) entry (entry_of rows) touched indexes there;
+        lists_are = a.heads.lists_are;
+        newest_are = a.heads.newest_are;
+      };
+    }

@@ -1,0 +1,46 @@
+-- What the leaves of the keys that a block touches are to say.
+use Rattle.std.specs.Prelude.{◌≡◌, ℕ, ◌-◌, ◌<◌, ◌≤◌, List, [], length, map, slice_index_or}
+use Rattle.std.specs.List.{filter_map}
+use Rattle.lc_base.specs.declared.digest.Digest.{Digest}
+use Rattle.lc_base.specs.declared.row.Row.{Row}
+use Rattle.lc_base.specs.declared.row.Dep.{Dep}
+use Rattle.version_links.specs.declared.versions.VersionRef.{VersionRef}
+use Rattle.prov_entry.specs.declared.entry.Leaf.{Leaf}
+use Rattle.history_root.specs.Root.{keys_of}
+use Rattle.state_tree.specs.declared.states.LeafState.{LeafState}
+use Rattle.state_tree.specs.Leaves.{index_of}
+use Rattle.lineage_index.specs.Growth.{Entry, entry_of}
+use Rattle.lineage_index.specs.Heads.{newest_at, open_list}
+use Rattle.lineage_index.specs.Settling.{AreRecords}
+
+-- The indexes of the leaves of some keys, one after another; a key without a leaf has none.
+abbrev pub leaf_indexes : List Leaf → List (List ℕ) → List ℕ
+leaf_indexes tree keys = filter_map (index_of tree) keys
+
+-- The index is that of the leaf of one of these keys: the sentinel's is 0.
+abbrev pub IsLeafIndex : List (List ℕ) → ℕ → Type 0
+IsLeafIndex keys index = (0 < index) × (index ≤ length keys)
+
+-- The key whose leaf has this index.
+abbrev pub key_at : List (List ℕ) → ℕ → List ℕ
+key_at keys index = slice_index_or keys (index - 1) []
+
+-- The entry of a key, as it is told to the leaf at an index.
+abbrev pub told : ℕ → Entry → LeafState
+told index entry = record {
+  index = index;
+  newest_block = entry.newest_block;
+  newest = entry.newest;
+  open_count = entry.open_count;
+  open_digest = entry.open_digest;
+}
+
+-- What the leaf at an index is to say, by the history.
+abbrev pub state_of : List Row → ℕ → LeafState
+state_of rows index = told index (entry_of rows (key_at (keys_of rows) index))
+
+-- What is kept of the rows of a history, and beside the leaves of its keys.
+pub record AreBesideLeaves (rows : List Row) (lists : List (List Dep)) (newest : List ℕ) (versions : List VersionRef) (headers : List Digest) : Type 0 where
+  pub records : AreRecords rows versions headers
+  pub lists_are : lists ≡ map (open_list rows) (keys_of rows)
+  pub newest_are : newest ≡ map (newest_at rows) (keys_of rows)
