@@ -12,7 +12,6 @@ use Rattle.lineage_index.specs.Index.{IsIndexOf}
 use Rattle.lineage_index.specs.declared.index.LineageIndex.{LineageIndex}
 use Rattle.merkle_dag.specs.declared.limits.TheConstants.{MAX_BLOCKS}
 use Rattle.merkle_dag.specs.Ledger.{IsLedger, roots_of}
-use Rattle.merkle_dag.specs.Kept.{Keeps}
 use Rattle.merkle_dag.proofs.LedgerSteps.{grows_from, roots_after, ledger_after, root_now}
 
 pub ledger_none : IsLedger [] []

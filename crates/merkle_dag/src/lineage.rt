@@ -1,9 +1,11 @@
 //! The lineage of a ledger.
 
-ghost use Rattle.std.specs.Prelude.{◌≡◌, ◌≤◌, ◌<◌, ◌+◌, ◌++◌, ◌∷◌, [], length, slice_get, IfOk, MatchOption};
+ghost use Rattle.std.specs.Prelude.{◌≡◌, ◌≤◌, ◌<◌, ◌+◌, ◌^◌, ◌++◌, ◌∷◌, [], length, slice_get, Some, IfOk, IfSome, MatchOption};
 ghost use Rattle.std.specs.List.{All};
 ghost use Rattle.std.specs.Option.{option_copied};
 ghost use Rattle.lc_base.specs.History.{IsLawful, latest, scan};
+ghost use Rattle.lc_base.specs.Parts.{question, list_in};
+ghost use Rattle.lc_base.specs.declared.limits.TheConstants.{MAX_DEPS};
 ghost use Rattle.lc_base.specs.declared.row.Row.{Row};
 ghost use Rattle.history_root.specs.Root.{root_of, leaves};
 ghost use Rattle.lineage_index.specs.Index.{newest_uses};
@@ -11,7 +13,7 @@ ghost use Rattle.merkle_dag.specs.declared.limits.TheConstants.{MAX_BLOCKS};
 ghost use Rattle.merkle_dag.specs.Ledger.{Ledger, IsLedger, IsHead};
 
 use crate::kept::{Kept, discard, grow};
-use lc_base::{Answer, DepList, Digest, Key, Memory, Query, Row, RowList};
+use lc_base::{Answer, DepList, Digest, Key, Kind, Memory, Query, Row, RowList};
 use lineage_index::LineageIndex;
 use plain_rows::PlainRows;
 use state_tree::Tree;
@@ -151,7 +153,8 @@ impl Lineage {
     /// The last version of a key in the blocks up to `at`. It goes back over the versions of the key
     /// alone.
     pub fn latest(&self, key: &Key, at: u32) -> Option<&Row>
-        ensures { option_copied result ≡ latest self.now.rows key.now at }
+        ensures latest { option_copied result ≡ latest self.now.rows key.now at }
+        ensures few { IfSome (option_copied result) (λ row. length row.deps ≤ MAX_DEPS) }
     {
         self.kept.index.latest(self.kept.rows.as_slice(), key, at)
     }
@@ -169,6 +172,19 @@ impl Lineage {
         ensures { option_copied result ≡ newest_uses self.now.rows key.now }
     {
         self.kept.index.open_list(key)
+    }
+
+    /// What was derived from the version of a key in the blocks up to `at`, where that is the key's
+    /// newest version, so that its list is still open.
+    pub(crate) fn open_uses(&self, key: &Key, at: u32) -> Option<&DepList>
+        ensures uses { IfSome (option_copied result) (λ uses. list_in (scan self.now.rows (question Kind.Fwd key.now at)) ≡ Some uses) }
+        ensures few { IfSome (option_copied result) (λ uses. length uses < 2 ^ 63) }
+    {
+        let rows = self.kept.rows.as_slice();
+        match self.kept.index.latest(rows, key, u32::MAX) {
+            Some(newest) if newest.block <= at => self.kept.index.open_list(key),
+            _ => None,
+        }
     }
 }
 
