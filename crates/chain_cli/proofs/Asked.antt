@@ -1,24 +1,21 @@
 -- What is told where a block of a chain is asked for.
-use Rattle.std.proofs.Common.{◌≡◌, ℕ, ◌-◌, ◌<◌, ◌≤◌, Bool, true, false, cond, ltb, List, [], ◌∷◌, length, map, Option, Some, None, Result, Ok, Err, sym, ap, subst, ◌∙◌, arith}
-use Rattle.std.specs.Prelude.{MatchOption}
+use Rattle.std.proofs.Common.{◌≡◌, ℕ, ◌-◌, ◌<◌, ◌≤◌, Bool, cond, ltb, List, [], ◌∷◌, length, Option, Some, None, Result, Ok, Err, refl, sym, ap, ◌∙◌, arith}
+use Rattle.std.specs.Prelude.{IfOk, unwrap_or}
 use Rattle.std.proofs.lemmas.Bool.{ne_eqb, eq-eqb, lt-ltb, le-ltb}
 use Rattle.std.proofs.lemmas.List.{length-map}
+use Rattle.lc_base.specs.declared.answer.Kind.{Kind}
 use Rattle.lc_base.specs.declared.digest.Digest.{Digest}
-use Rattle.lc_base.specs.declared.answer.Answer.{Answer}
-use Rattle.lc_base.specs.declared.answer.Query.{Query}
-use Rattle.lc_base.specs.History.{scan}
 use Rattle.block_codec.specs.Placement.{digest_of}
 use Rattle.block_codec.specs.declared.block.Block.{Block}
 use Rattle.chain_exec.specs.Compiled.{compiled_in}
-use Rattle.chain_exec.specs.Effect.{History}
 use Rattle.chain_state.specs.Chain.{ChainState, StandsFor}
 use Rattle.merkle_dag.specs.Ledger.{IsHead}
 use Rattle.lineage_chain.specs.Roots.{root_in}
-use Rattle.chain_lines.specs.Lines.{answer_lines, root_line}
+use Rattle.chain_lines.specs.Lines.{root_line}
 use Rattle.chain_lines.specs.Outcome.{outcome_with}
 use Rattle.chain_lines.specs.declared.outcome.Outcome.{Outcome}
 use Rattle.chain_lines.specs.declared.outcome.Ending.TheVariants as endings
-use Rattle.chain_output.specs.Output.{beyond_outcome, outcome_at, answer_outcome, root_outcome}
+use Rattle.chain_output.specs.Output.{beyond_outcome, outcome_at, answer_outcome, root_outcome, at_or_last}
 
 -- ---- a block that a chain has, and one that it does not have
 
@@ -45,15 +42,16 @@ told_beyond at blocks lines digests (Some head) last past count =
 as_many : (kept : ChainState) (blocks : List Block) → StandsFor kept blocks → length kept.digests ≡ length blocks
 as_many kept blocks stands = ap (length {A = Digest}) stands.digests_are ∙ length-map blocks digest_of
 
-pub answer_is : (kept : ChainState) (blocks : List Block) (query : Query) (answer : Answer) (lines : List (List ℕ)) → StandsFor kept blocks → query.at < length kept.digests → answer ≡ scan kept.rows query → lines ≡ answer_lines answer
-    → outcome_with lines endings.Done ≡ answer_outcome compiled_in query blocks
-answer_is kept blocks query answer lines stands within is told =
-    ap (λ (ls : List (List ℕ)). outcome_with ls endings.Done) (told ∙ ap answer_lines (is ∙ ap (λ (h : History). scan h.rows query) stands.history_is))
-    ∙ sym (told_of query.at blocks _ (subst (λ (n : ℕ). query.at < n) (as_many kept blocks stands) within))
+at_is : (kept : ChainState) (blocks : List Block) (at : Option ℕ) → StandsFor kept blocks → unwrap_or at (length kept.digests - 1) ≡ at_or_last at blocks
+at_is kept blocks None stands = ap (λ (n : ℕ). n - 1) (as_many kept blocks stands)
+at_is kept blocks (Some at) stands = refl
 
-pub answer_beyond : (kept : ChainState) (blocks : List Block) (query : Query) (head : Option ℕ) (outcome : Outcome) → StandsFor kept blocks → IsHead kept.digests head → length kept.digests ≤ query.at → outcome ≡ beyond_outcome head
-    → outcome ≡ answer_outcome compiled_in query blocks
-answer_beyond kept blocks query head outcome stands is_head past told = told ∙ sym (told_beyond query.at blocks _ kept.digests head is_head past (as_many kept blocks stands))
+-- where no block is named, the last one is asked for
+pub last_asked : {E : Type 0} (told : Result Outcome E) (kept : ChainState) (kind : Kind) (key : List ℕ) (at : Option ℕ) (asked : ℕ) → asked ≡ unwrap_or at (length kept.digests - 1)
+    → IfOk told (λ outcome. (blocks : List Block) → StandsFor kept blocks → outcome ≡ answer_outcome compiled_in (record { kind = kind; key = key; at = asked }) blocks)
+    → IfOk told (λ outcome. (blocks : List Block) → StandsFor kept blocks → outcome ≡ answer_outcome compiled_in (record { kind = kind; key = key; at = at_or_last at blocks }) blocks)
+last_asked (Ok outcome) kept kind key at asked is answers = λ blocks stands. answers blocks stands ∙ ap (λ (n : ℕ). answer_outcome compiled_in (record { kind = kind; key = key; at = n }) blocks) (is ∙ at_is kept blocks at stands)
+last_asked (Err e) kept kind key at asked is answers = tt
 
 pub root_is : (blocks : List Block) (at : ℕ) (root : List ℕ) (line : List ℕ) (outcome : Outcome) → at < length blocks → root ≡ root_in compiled_in blocks at → line ≡ root_line at root → outcome ≡ outcome_with (line ∷ []) endings.Done
     → outcome ≡ root_outcome compiled_in at blocks

@@ -13,12 +13,12 @@ use Rattle.block_codec.specs.declared.block.Block.{Block}
 use Rattle.block_codec.specs.declared.limits.TheConstants.{MAX_FRAMES}
 use Rattle.block_log.specs.Standing.{Standing, Blank, NotALog, Damaged, Holds, NextBlock, blocks_of, blocks_in, chain_of, standing}
 use Rattle.chain_exec.specs.Compiled.{compiled_in}
-use Rattle.chain_state.specs.Chain.{StandsFor}
+use Rattle.chain_state.specs.Chain.{ChainState, StandsFor}
 use Rattle.chain_state.specs.Judging.{added_by_all}
 use Rattle.scan_chain.specs.Folding.{Fold, FoldEnd, fold_from, fold_input}
 use Rattle.scan_chain.specs.declared.stop.Stop.{Stop}
 use Rattle.scan_chain.specs.declared.stop.Stop.TheVariants as reads
-use Rattle.recovery.specs.Node.{NodeState, IsNodeOf, IsNodeStarted, next_in_chain}
+use Rattle.recovery.specs.Node.{NodeState, IsNodeOf, IsNodeStarted, IsChainStored, IsNoStart, next_in_chain}
 use Rattle.recovery.specs.declared.errors.StartError.{StartError}
 use Rattle.recovery.specs.declared.errors.StartError.TheVariants as starts
 use Rattle.chain_promises.specs.Promises.{plain, Change, NoChange, Appends, Telling, IsPartly, MayLeave, IsChanged}
@@ -30,7 +30,7 @@ use Rattle.chain_append.proofs.Frames.{rests_each}
 use Rattle.chain_gen.specs.Generator.{generated}
 use Rattle.chain_words.specs.declared.words.Generation.{Generation}
 use Rattle.chain_words.specs.declared.words.Command.{Command}
-use Rattle.chain_words.specs.declared.words.Command.TheVariants.{Scan, Fmt, Pack, Gen, Append, Root, Ask}
+use Rattle.chain_words.specs.declared.words.Command.TheVariants.{Scan, Fmt, Pack, Gen, Append}
 use Rattle.chain_lines.specs.Lines.{usage_line, not_a_log_line, damaged_line}
 use Rattle.chain_lines.specs.Outcome.{status_of, outcome_with}
 use Rattle.chain_lines.specs.declared.outcome.Outcome.{Outcome}
@@ -38,7 +38,7 @@ use Rattle.chain_lines.specs.declared.outcome.Ending.{Ending}
 use Rattle.chain_lines.specs.declared.outcome.Ending.TheVariants as endings
 use Rattle.chain_lines.specs.declared.status.Status.{Status}
 use Rattle.chain_output.specs.Blocks.{frame}
-use Rattle.chain_output.specs.Output.{Output, output_of, usage_output, scan_output, pack_output, gen_output, append_output, ask_output, answer_outcome, root_outcome, at_or_last, on_log, fold_ending, IsFmt, Long, Source}
+use Rattle.chain_output.specs.Output.{Output, output_of, usage_output, scan_output, pack_output, gen_output, append_output, on_log, fold_ending, IsFmt, Long, Source}
 use Rattle.chain_output.specs.Running.{came_to_end, leaves, appends_none, Meets, IsGiven, IsRun}
 use Rattle.chain_output.specs.Scanning.{GivesOutput, IsFmtOutcome}
 use Rattle.chain_output.specs.Telling.{status_of_stop, status_of_result, status_of_usage, append_stop, append_answer, Says, StopsSilent, TellsResult, TellsStart}
@@ -135,6 +135,10 @@ no_blocks (block ∷ blocks) none = absurd (cc none)
 of_blocks : {E : Type 0} (found : Result Outcome E) (P : List Block → Type 0) (answer : List Block → Outcome) → IfOk found (λ outcome. (blocks : List Block) → P blocks → outcome ≡ answer blocks) → (blocks : List Block) → P blocks → IfOk found (λ outcome. outcome ≡ answer blocks)
 of_blocks (Ok outcome) P answer is blocks p = is blocks p
 of_blocks (Err e) P answer is blocks p = tt
+
+-- the chain of a node
+pub chain_of_node : (state : Option DiskState) (node : NodeState) (stands : Standing) → IsNodeStarted state stands (Ok node) → IsChainStored stands (Ok node.chain)
+chain_of_node state node stands started = (started.0, started.1, started.2.kept)
 
 module _ {D : Type 0} (now : D → ℕ) (disk : D → ℕ → Option DiskState) (told : D → Option (List Tell)) where
   -- ---- outcomes that were made, or for which there was no memory
@@ -277,20 +281,20 @@ module _ {D : Type 0} (now : D → ℕ) (disk : D → ℕ → Option DiskState) 
   -- ---- disks that hold no chain
 
   -- nothing was told before, or that there is no chain
-  start_met : (old mid new : D) (over : List Block → Output) (state : Option DiskState) (error : StartError) (result : Result Ending RunStop) (left_old left_new : Option (List ℕ)) (input content : List ℕ)
+  start_met : (old mid new : D) (over : List Block → Output) (error : StartError) (result : Result Ending RunStop) (left_old left_new : Option (List ℕ)) (input content : List ℕ)
       → Rests (disk old (now old)) (λ c. c ≡ content) → Stays now disk old new → told mid ≡ told old → left_new ≡ leaves left_old input → ((c : List ℕ) → c ≡ content → MayLeave next_in_chain content (on_log over input (standing next_in_chain content)).change c)
-      → IsNodeStarted state (standing next_in_chain content) (Err error) → TellsStart next_in_chain now disk told mid new error result
+      → IsNoStart (standing next_in_chain content) error → TellsStart next_in_chain now disk told mid new error result
       → Meets next_in_chain now disk told old new (status_of_result result) left_old left_new content (on_log over input (standing next_in_chain content))
-  start_met old mid new over state starts.NotALog result left_old left_new input content rests stays same left leads is says =
+  start_met old mid new over starts.NotALog result left_old left_new input content rests stays same left leads is says =
       subst (λ (stands : Standing). Meets next_in_chain now disk told old new (status_of_result result) left_old left_new content (on_log over input stands)) (sym is)
       (said_met old new content (outcome_with (not_a_log_line ∷ []) endings.NotALog) result left_old left_new input rests stays (says_since old mid new (outcome_with (not_a_log_line ∷ []) endings.NotALog) result same says) left)
-  start_met old mid new over state (starts.Damaged at) result left_old left_new input content rests stays same left leads (before, is) says =
+  start_met old mid new over (starts.Damaged at) result left_old left_new input content rests stays same left leads (before, is) says =
       subst (λ (stands : Standing). Meets next_in_chain now disk told old new (status_of_result result) left_old left_new content (on_log over input stands)) (sym is)
       (said_met old new content (outcome_with (damaged_line at ∷ []) endings.Damaged) result left_old left_new input rests stays (says_since old mid new (outcome_with (damaged_line at ∷ []) endings.Damaged) result same says) left)
-  start_met old mid new over state starts.DiskFault result left_old left_new input content rests stays same left leads is says =
+  start_met old mid new over starts.DiskFault result left_old left_new input content rests stays same left leads is says =
       let output = on_log over input (standing next_in_chain content) in
       silent_met old new content output stops.DiskFault result left_old left_new (quiet_images old new content output.change rests stays leads) (record { stop_is = says.stop_is; silent = says.silent ∙ same })
-  start_met old mid new over state starts.Memory result left_old left_new input content rests stays same left leads is says =
+  start_met old mid new over starts.Memory result left_old left_new input content rests stays same left leads is says =
       let output = on_log over input (standing next_in_chain content) in
       silent_met old new content output stops.Memory result left_old left_new (quiet_images old new content output.change rests stays leads) (record { stop_is = says.stop_is; silent = says.silent ∙ same })
 
@@ -302,38 +306,38 @@ module _ {D : Type 0} (now : D → ℕ) (disk : D → ℕ → Option DiskState) 
       (output : Output) × (output ≡ on_log (asked over input) input (standing next_in_chain content)) × Meets next_in_chain now disk told old new status left left content output
 
   pub asked_refused : (old mid new : D) (over : List Block → Outcome) (error : StartError) (result : Result Ending RunStop) (left : Option (List ℕ)) → IsSettled (disk old (now old)) → Stays now disk old mid → told mid ≡ told old
-      → ((content : List ℕ) → content_of (disk old (now old)) ≡ Some content → IsNodeStarted (disk mid (now mid)) (standing next_in_chain content) (Err error)) → Stays now disk mid new → TellsStart next_in_chain now disk told mid new error result
+      → ((content : List ℕ) → content_of (disk old (now old)) ≡ Some content → IsNoStart (standing next_in_chain content) error) → Stays now disk mid new → TellsStart next_in_chain now disk told mid new error result
       → (input content : List ℕ) → IsGiven false left input → IsGiven true (content_of (disk old (now old))) content → Answered over old new (status_of_result result) left input content
   asked_refused old mid new over error result left settled begins same started stays says input content given_input given = (
     on_log (asked over input) input (standing next_in_chain content),
     refl,
-    start_met old mid new (asked over input) (disk mid (now mid)) error result left left input content (rests_given true (disk old (now old)) content settled given) (stays_on now disk old mid new begins stays) same (left_same left input given_input)
+    start_met old mid new (asked over input) error result left left input content (rests_given true (disk old (now old)) content settled given) (stays_on now disk old mid new begins stays) same (left_same left input given_input)
         (λ c at_c. same_may_leave content _ c (asked_no_change over input (standing next_in_chain content)) at_c) (started content (told_input (content_of (disk old (now old))) content given)) says,
   )
 
-  pub asked_run : {E : Type 0} (old mid new : D) (over : List Block → Outcome) (node : NodeState) (found : Result Outcome E) (result : Result Ending RunStop) (left : Option (List ℕ)) → IsSettled (disk old (now old)) → Stays now disk old mid → told mid ≡ told old
-      → ((content : List ℕ) → content_of (disk old (now old)) ≡ Some content → IsNodeStarted (disk mid (now mid)) (standing next_in_chain content) (Ok node))
-      → IfOk found (λ outcome. (blocks : List Block) → StandsFor node.chain blocks → outcome ≡ over blocks)
+  pub asked_run : {E : Type 0} (old mid new : D) (over : List Block → Outcome) (chain : ChainState) (found : Result Outcome E) (result : Result Ending RunStop) (left : Option (List ℕ)) → IsSettled (disk old (now old)) → Stays now disk old mid → told mid ≡ told old
+      → ((content : List ℕ) → content_of (disk old (now old)) ≡ Some content → IsChainStored (standing next_in_chain content) (Ok chain))
+      → IfOk found (λ outcome. (blocks : List Block) → StandsFor chain blocks → outcome ≡ over blocks)
       → Stays now disk mid new → ((wanted : Outcome) → IfOk found (λ outcome. outcome ≡ wanted) → Says next_in_chain now disk told mid new wanted result)
       → (input content : List ℕ) → IsGiven false left input → IsGiven true (content_of (disk old (now old))) content → Answered over old new (status_of_result result) left input content
-  asked_run old mid new over node found result left settled begins same started answers stays says input content given_input given =
+  asked_run old mid new over chain found result left settled begins same started answers stays says input content given_input given =
       let s = started content (told_input (content_of (disk old (now old))) content given) in (
         asked over input s.0,
         sym (on_log_blocks (asked over input) input (standing next_in_chain content) s.0 s.1),
         said_met old new content (over s.0) result left left input (rests_given true (disk old (now old)) content settled given) (stays_on now disk old mid new begins stays)
-            (says_since old mid new (over s.0) result same (says (over s.0) (of_blocks found (StandsFor node.chain) over answers s.0 s.2.kept))) (left_same left input given_input),
+            (says_since old mid new (over s.0) result same (says (over s.0) (of_blocks found (StandsFor chain) over answers s.0 s.2))) (left_same left input given_input),
       )
 
   -- ---- `append`
 
   pub append_refused : (old mid new : D) (error : StartError) (result : Result Ending RunStop) (left : Option (List ℕ)) → IsSettled (disk old (now old)) → Stays now disk old mid → told mid ≡ told old
-      → ((content : List ℕ) → content_of (disk old (now old)) ≡ Some content → IsNodeStarted (disk mid (now mid)) (standing next_in_chain content) (Err error)) → Stays now disk mid new → TellsStart next_in_chain now disk told mid new error result
+      → ((content : List ℕ) → content_of (disk old (now old)) ≡ Some content → IsNoStart (standing next_in_chain content) error) → Stays now disk mid new → TellsStart next_in_chain now disk told mid new error result
       → IsRun now disk told old new (status_of_result result) left left block_in compiled_in (Some Append)
   append_refused old mid new error result left settled begins same started stays says input content given_input given =
       let left_is = told_input left input given_input in (
         on_log (appended input) input (standing next_in_chain content),
         refl,
-        start_met old mid new (appended input) (disk mid (now mid)) error result left left input content (rests_given true (disk old (now old)) content settled given) (stays_on now disk old mid new begins stays) same (left_is ∙ left_read left input input left_is)
+        start_met old mid new (appended input) error result left left input content (rests_given true (disk old (now old)) content settled given) (stays_on now disk old mid new begins stays) same (left_is ∙ left_read left input input left_is)
             (append_may_leave content input (standing next_in_chain content) refl) (started content (told_input (content_of (disk old (now old))) content given)) says,
       )
 

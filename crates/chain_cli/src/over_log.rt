@@ -18,16 +18,17 @@ ghost use Rattle.chain_output.specs.Output.{beyond_outcome, answer_outcome, root
 ghost use Rattle.chain_output.specs.Running.{IsRun, IsSilent};
 ghost use Rattle.chain_output.specs.Telling.{Says, TellsStart, append_answer, status_of_result};
 
+use crate::scan::whole_outcome;
 use chain_append::{AppendEnd, AppendStop, append as append_frames};
 use chain_lines::{
-    Ending, Outcome, answer_lines, damaged_line, empty_line, head_line, not_a_log_line, root_line,
+    Ending, Outcome, damaged_line, empty_line, head_line, not_a_log_line, root_line,
 };
 use chain_output::{RunStop, tell_outcome};
+use chain_state::Chain;
 use disk_model::Disk;
 use lc_base::{Key, Kind, Memory, Query};
 use lc_outside::{Source, Wire};
-use prov_query::AskError;
-use recovery::{Node, StartError};
+use recovery::{Node, StartError, stored_chain};
 use std::alloc::Global;
 
 /// The disk holds something else than a log.
@@ -120,42 +121,19 @@ fn beyond(alloc: Global, head: Option<u32>) -> Result<Outcome, Memory>
     }
 }
 
-/// The answer over the rows of a node's chain, if it is asked for up to one of its blocks; where none
-/// is named, up to the last one.
-fn answer(
-    alloc: Global,
-    kind: Kind,
-    key: Key,
-    at: Option<u32>,
-    node: &mut Node,
-) -> Result<Outcome, Memory>
-    ensures { IfOk result (λ outcome. (blocks : List Blocks) → StandsFor node.old.chain blocks → outcome ≡ answer_outcome compiled_in (record { kind = kind; key = key; at = at_or_last at blocks }) blocks) }
-{
-    let at = at.unwrap_or(node.blocks().saturating_sub(1));
-    match node.ask(&Query { kind, key, at }) {
-        Ok(answer) => Ok(Outcome {
-            pieces: answer_lines(alloc, &answer)?,
-            ending: Ending::Done,
-        }),
-        Err(AskError::Beyond { head }) => beyond(alloc, head),
-        Err(AskError::Memory) => Err(Memory),
-    }
-}
-
-/// The same of a node that is given up.
+/// The answer over the rows of a chain that is given up, if it is asked for up to one of its blocks;
+/// where none is named, up to the last one.
 fn last_answer(
     alloc: Global,
     kind: Kind,
     key: Key,
     at: Option<u32>,
-    node: Node,
+    chain: Chain,
 ) -> Result<Outcome, Memory>
-    ensures { IfOk result (λ outcome. (blocks : List Blocks) → StandsFor node.chain blocks → outcome ≡ answer_outcome compiled_in (record { kind = kind; key = key; at = at_or_last at blocks }) blocks) }
+    ensures { IfOk result (λ outcome. (blocks : List Blocks) → StandsFor chain blocks → outcome ≡ answer_outcome compiled_in (record { kind = kind; key = key; at = at_or_last at blocks }) blocks) }
 {
-    let mut node = node;
-    let outcome = answer(alloc, kind, key, at, &mut node);
-    node.give_up();
-    outcome
+    let at = at.unwrap_or(chain.len().saturating_sub(1));
+    whole_outcome(alloc, &Query { kind, key, at }, chain)
 }
 
 /// Tells the answer to a question over the blocks of the log.
@@ -174,8 +152,8 @@ pub fn ask<M: Disk + Wire>(
     ensures disk_fault { HasCause (M.disk_faults machine.old) (M.disk_faults machine.new) (IsErrOf result RunStop.DiskFault) }
     ensures untold { HasCause (M.wire_faults machine.old) (M.wire_faults machine.new) (IsErrOf result RunStop.Untold) }
 {
-    match Node::start(alloc, machine) {
-        Ok(node) => tell_made(machine, last_answer(alloc, kind, key, at, node)),
+    match stored_chain(alloc, machine) {
+        Ok(chain) => tell_made(machine, last_answer(alloc, kind, key, at, chain)),
         Err(error) => tell_start(alloc, machine, error),
     }
 }

@@ -13,7 +13,7 @@ ghost use Rattle.chain_output.specs.Scanning.{GivesOutput};
 ghost use Rattle.chain_lines.specs.Lines.{refused_line};
 
 use chain_lines::{Ending, Outcome, answer_lines, empty_line, head_line, refused_line};
-use chain_state::Chain;
+use chain_state::{Chain, Replay};
 use lc_base::{Memory, Query};
 use lc_outside::Source;
 use scan_chain::{Cause, Folded, Stop, fold};
@@ -45,7 +45,7 @@ fn answer_outcome(alloc: Global, query: &Query, chain: &mut Chain) -> Result<Out
 }
 
 /// The same of a chain that is given up.
-fn whole_outcome(alloc: Global, query: &Query, chain: Chain) -> Result<Outcome, Memory>
+pub fn whole_outcome(alloc: Global, query: &Query, chain: Chain) -> Result<Outcome, Memory>
     ensures { IfOk result (λ outcome. (blocks : List Blocks) → StandsFor chain blocks → outcome ≡ answer_outcome compiled_in query.now blocks) }
 {
     let mut chain = chain;

@@ -1,3 +1,4 @@
 pub mod Kept
 pub mod Chains
 pub mod Judgements
+pub mod Faults

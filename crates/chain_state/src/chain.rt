@@ -1,22 +1,19 @@
 //! A chain of blocks.
 
-ghost use Rattle.std.specs.Prelude.{◌≡◌, List, [], ◌∷◌, ◌++◌, length, map, IfOk, OnOk};
+ghost use Rattle.std.specs.Prelude.{◌≡◌, List, [], ◌∷◌, ◌++◌, length, IfOk, OnOk};
 ghost use Rattle.lc_base.specs.History.{IsLawful, scan};
 ghost use Rattle.block_codec.specs.Spelling.{IsBlock};
 ghost use Rattle.block_codec.specs.Placement.{digest_of, last_digest};
 ghost use Rattle.block_codec.specs.declared.block.Block.{Block as Blocks};
-ghost use Rattle.world_state.specs.Rows.{entry_of};
-ghost use Rattle.world_state.specs.World.{newest_of, StandsForRows};
-ghost use Rattle.chain_exec.specs.BlockRows.{AreBlockRows};
 ghost use Rattle.chain_exec.specs.Compiled.{compiled_in};
-ghost use Rattle.chain_exec.specs.Fold.{block_effects};
-ghost use Rattle.chain_exec.specs.Running.{history_in, staged_in};
-ghost use Rattle.chain_state.specs.Chain.{nothing_kept, placement_in, placement_kept, HasRoom, IsAfter, StandsFor};
+ghost use Rattle.chain_state.specs.Chain.{nothing_kept, placement_in, HasRoom, IsAfter, StandsFor};
 
+use crate::replaying::Replay;
+use crate::running::run_next;
 use block_codec::{Block, NO_PARENT, Placement, place};
-use chain_exec::{BlockRun, run_block};
+use chain_exec::BlockRun;
 use contract_check::Checked;
-use lc_base::{Answer, Digest, DigestList, HostError, Memory, Query, RowList};
+use lc_base::{Answer, Digest, DigestList, Memory, Query, RowList};
 use plain_rows::PlainRows;
 use std::alloc::Global;
 use std::marker::Model;
@@ -43,31 +40,6 @@ impl Model for Chain {
     ghost view = { λ chain. record { digests = chain.digests; rows = chain.rows; codes = chain.world.codes } };
 
     ghost invariant = { λ chain. IsKept chain.digests chain.rows chain.world };
-}
-
-/// Runs a block over plain rows, which never fail.
-fn block_run(
-    alloc: Global,
-    rows: &mut PlainRows,
-    world: &mut World<Checked>,
-    block: &Block,
-) -> Result<BlockRun, Memory>
-    requires is_block { IsBlock block.now }
-    requires stands { StandsForRows world.old rows.old }
-    requires no_rows { world.old.staged ≡ [] }
-    requires no_codes { world.old.staged_codes ≡ [] }
-    ensures same { rows.new ≡ rows.old }
-    ensures effects { IfOk result (λ run. staged_in world.new run ≡ block_effects compiled_in (history_in rows.old world.old) block.now) }
-    ensures newest { OnOk result (world.new.newest ≡ world.old.newest) }
-    ensures codes { OnOk result (world.new.codes ≡ world.old.codes) }
-    ensures staged { IfOk result (λ run. world.new.staged ≡ map entry_of run.rows) }
-    ensures lawful { IfOk result (λ run. AreBlockRows (newest_of world.old) block.now.number (length block.now.txs) run.rows) }
-{
-    match run_block(alloc, rows, world, block) {
-        Ok(run) => Ok(run),
-        Err(HostError::Memory) => Err(Memory),
-        Err(HostError::Fault) => unreachable!(),
-    }
 }
 
 /// Keeps the digest and the rows of a block after those of the others. On `Memory` only some of
@@ -116,18 +88,6 @@ impl Chain {
         self.rows.ask(query)
     }
 
-    /// Where a block with this digest stands to the chain.
-    pub fn place(&self, block: &Block, digest: Digest) -> Placement
-        requires { IsBlock block.now }
-        ensures placement { result ≡ placement_kept self.now block.now digest }
-        ensures stands { (blocks : List Blocks) → StandsFor self.now blocks → digest ≡ digest_of block.now → result ≡ placement_in compiled_in blocks block.now }
-        ensures room { result ≡ Placement.Next → HasRoom self.now block.now }
-    {
-        let have = self.digests.get(block.number as usize).copied();
-        let rows = self.rows.as_slice().len() as u64;
-        place(self.len(), rows, have, self.last_digest(), block, digest)
-    }
-
     /// The digest of the last block, or `NO_PARENT` where there is none.
     fn last_digest(&self) -> Digest
         ensures { result ≡ last_digest self.now.digests }
@@ -156,7 +116,7 @@ impl Chain {
             mut rows,
             mut world,
         } = self;
-        let run = match block_run(alloc, &mut rows, &mut world, block) {
+        let run = match run_next(alloc, &mut rows, &mut world, block) {
             Ok(run) => run,
             Err(Memory) => {
                 discard(world);
@@ -179,10 +139,27 @@ impl Chain {
             }
         }
     }
+}
 
-    /// Ends the chain. What it keeps has many parts; a function that ends it by this call, and not
-    /// where its scope ends, is checked in much less time.
-    pub fn give_up(self) {
+impl Replay for Chain {
+    ghost kept = { λ chain. chain };
+
+    fn start(alloc: Global) -> Result<Chain, Memory> {
+        Ok(Chain::new(alloc))
+    }
+
+    fn place(&self, block: &Block, digest: Digest) -> Placement {
+        let have = self.digests.get(block.number as usize).copied();
+        let rows = self.rows.as_slice().len() as u64;
+        place(self.len(), rows, have, self.last_digest(), block, digest)
+    }
+
+    fn replay(self, alloc: Global, block: &Block, digest: Digest) -> Result<Chain, Memory> {
+        let (longer, _) = self.extended(alloc, block, digest)?;
+        Ok(longer)
+    }
+
+    fn give_up(self) {
         let Chain {
             digests: _digests,
             rows: _rows,

@@ -1,17 +1,10 @@
 //! What bytes are to a chain.
 
-ghost use Rattle.std.specs.Prelude.{◌≡◌, List, IfOk};
-ghost use Rattle.block_codec.specs.Reading.{block_in};
-ghost use Rattle.block_codec.specs.declared.block.Block.{Block as Blocks};
-ghost use Rattle.chain_exec.specs.Compiled.{compiled_in};
-ghost use Rattle.chain_state.specs.Chain.{StandsFor};
-ghost use Rattle.chain_state.specs.Judging.{judged, judged_by_placement, IsJudged, IsPlacedBlock, IfNext, IsNextBlock};
+ghost use Rattle.chain_state.specs.Judging.{judged_by_placement, IsJudged, IsPlacedBlock, IfNext};
 
-use crate::chain::Chain;
 use crate::refusal::Refusal;
-use block_codec::{Block, DecodeError, Placement, block_digest, decode};
-use lc_base::{Digest, Memory};
-use std::alloc::Global;
+use block_codec::{Block, Placement};
+use lc_base::Digest;
 
 /// What some bytes are to a chain.
 #[derive(Debug, Drop)]
@@ -39,23 +32,5 @@ pub fn judge_block(block: Block, digest: Digest, placement: Placement) -> Judged
         Placement::Number { want } => Judged::Refused(Refusal::Number(want)),
         Placement::Parent { want } => Judged::Refused(Refusal::Parent(want)),
         Placement::Budget { sum } => Judged::Refused(Refusal::Budget(sum)),
-    }
-}
-
-impl Chain {
-    /// What some bytes are to the chain.
-    pub fn judge(&self, alloc: Global, bytes: &[u8]) -> Result<Judged, Memory>
-        ensures judged { IfOk result (λ answer. (blocks : List Blocks) → StandsFor self.now blocks → IsJudged answer (judged compiled_in blocks (block_in bytes.now))) }
-        ensures next { IfOk result (λ answer. IfNext answer (IsNextBlock self.now bytes.now)) }
-    {
-        match decode(alloc, bytes) {
-            Ok(block) => {
-                let digest = block_digest(bytes);
-                let placement = self.place(&block, digest);
-                Ok(judge_block(block, digest, placement))
-            }
-            Err(DecodeError::Malformed { at }) => Ok(Judged::Refused(Refusal::Malformed(at))),
-            Err(DecodeError::Memory) => Err(Memory),
-        }
     }
 }

@@ -1,21 +1,19 @@
 //! A chain of blocks over a lineage.
 
-ghost use Rattle.std.specs.Prelude.{◌≡◌, ◌<◌, ◌≤◌, List, length, map, slice_get, IfOk, MatchOption};
-ghost use Rattle.block_codec.specs.Spelling.{IsBlock};
+ghost use Rattle.std.specs.Prelude.{◌≡◌, ◌<◌, ◌≤◌, List, length, map, slice_get, MatchOption};
 ghost use Rattle.block_codec.specs.Placement.{digest_of, last_digest};
 ghost use Rattle.block_codec.specs.declared.limits.TheConstants.{MAX_BLOCKS};
 ghost use Rattle.block_codec.specs.declared.block.Block.{Block as Blocks};
 ghost use Rattle.chain_exec.specs.Compiled.{compiled_in};
-ghost use Rattle.chain_state.specs.Chain.{nothing_kept, placement_in, placement_kept, HasRoom, StandsFor};
+ghost use Rattle.chain_state.specs.Chain.{StandsFor};
 ghost use Rattle.history_root.specs.Root.{root_of};
-ghost use Rattle.prov_query.specs.Asking.{IsAnswered};
 ghost use Rattle.lineage_chain.specs.Roots.{ledger_kept, root_in};
 
 use block_codec::{Block, NO_PARENT, Placement, place};
+use chain_state::Replay;
 use contract_check::Checked;
-use lc_base::{Answer, Digest, Memory, Query};
+use lc_base::{Digest, Memory};
 use merkle_dag::Lineage;
-use prov_query::{AskError, ask};
 use std::alloc::Global;
 use std::marker::Model;
 use world_state::World;
@@ -66,17 +64,6 @@ fn last_digest(lineage: &Lineage) -> Digest
 }
 
 impl LineageChain {
-    /// No block yet.
-    pub fn new(alloc: Global) -> Result<LineageChain, Memory>
-        ensures { IfOk result (λ chain. chain ≡ nothing_kept) }
-    {
-        let lineage = Lineage::new(alloc)?;
-        Ok(LineageChain {
-            lineage,
-            world: World::new(alloc),
-        })
-    }
-
     /// The number of its blocks, at most `MAX_BLOCKS`.
     pub fn len(&self) -> u32
         ensures { result ≡ length self.now.digests }
@@ -115,23 +102,21 @@ impl LineageChain {
         discard(world);
         lineage
     }
+}
 
-    /// The answer to a question over its rows, if it is asked up to one of its blocks.
-    pub fn ask(&mut self, query: &Query) -> Result<Answer, AskError>
-        ensures answer { IsAnswered (ledger_kept self.old) query.now result }
-        ensures unchanged { self.new ≡ self.old }
-    {
-        ask(&mut self.lineage, query)
+impl Replay for LineageChain {
+    ghost kept = { λ chain. chain };
+
+    fn start(alloc: Global) -> Result<LineageChain, Memory> {
+        let lineage = Lineage::new(alloc)?;
+        Ok(LineageChain {
+            lineage,
+            world: World::new(alloc),
+        })
     }
 
-    /// Where a block with this digest stands to the chain.
     #[tactic(auto, using(chain_state::proofs::Kept::next_room, chain_state::proofs::Chains::placed_as_kept))]
-    pub fn place(&self, block: &Block, digest: Digest) -> Placement
-        requires { IsBlock block.now }
-        ensures placement { result ≡ placement_kept self.now block.now digest }
-        ensures stands { (blocks : List Blocks) → StandsFor self.now blocks → digest ≡ digest_of block.now → result ≡ placement_in compiled_in blocks block.now }
-        ensures room { result ≡ Placement.Next → HasRoom self.now block.now }
-    {
+    fn place(&self, block: &Block, digest: Digest) -> Placement {
         let have = self.lineage.digest(block.number);
         let rows = self.lineage.rows().len() as u64;
         place(
@@ -144,9 +129,12 @@ impl LineageChain {
         )
     }
 
-    /// Ends the chain. What it keeps has many parts; a function that ends it by this call, and not
-    /// where its scope ends, is checked in much less time.
-    pub fn give_up(self) {
+    fn replay(self, alloc: Global, block: &Block, digest: Digest) -> Result<LineageChain, Memory> {
+        let (longer, _, _) = self.extended(alloc, block, digest)?;
+        Ok(longer)
+    }
+
+    fn give_up(self) {
         let LineageChain { lineage, world } = self;
         lineage.give_up();
         discard(world);

@@ -1,52 +1,21 @@
 //! The next block of a chain.
 
-ghost use Rattle.std.specs.Prelude.{◌≡◌, List, [], ◌∷◌, ◌++◌, length, map, IfOk, OnOk};
+ghost use Rattle.std.specs.Prelude.{◌≡◌, List, [], ◌∷◌, ◌++◌, IfOk};
 ghost use Rattle.block_codec.specs.Spelling.{IsBlock};
 ghost use Rattle.block_codec.specs.Placement.{digest_of};
 ghost use Rattle.block_codec.specs.declared.block.Block.{Block as Blocks};
-ghost use Rattle.world_state.specs.Rows.{entry_of};
-ghost use Rattle.world_state.specs.World.{newest_of, StandsForRows};
-ghost use Rattle.chain_exec.specs.BlockRows.{AreBlockRows};
 ghost use Rattle.chain_exec.specs.Compiled.{compiled_in};
-ghost use Rattle.chain_exec.specs.Fold.{block_effects};
-ghost use Rattle.chain_exec.specs.Running.{history_in, staged_in};
 ghost use Rattle.chain_state.specs.Chain.{placement_in, HasRoom, IsAfter, StandsFor};
 ghost use Rattle.history_root.specs.Root.{root_of};
 ghost use Rattle.lineage_chain.specs.Roots.{root_in};
 
 use crate::chain::{LineageChain, discard};
 use block_codec::{Block, Placement};
-use chain_exec::{BlockRun, run_block};
-use contract_check::Checked;
-use lc_base::{Digest, HostError, Memory};
-use merkle_dag::{DagError, Lineage};
+use chain_exec::BlockRun;
+use chain_state::run_next;
+use lc_base::{Digest, Memory};
+use merkle_dag::DagError;
 use std::alloc::Global;
-use world_state::World;
-
-/// Runs a block over a lineage, which never fails.
-fn block_run(
-    alloc: Global,
-    lineage: &mut Lineage,
-    world: &mut World<Checked>,
-    block: &Block,
-) -> Result<BlockRun, Memory>
-    requires is_block { IsBlock block.now }
-    requires stands { StandsForRows world.old lineage.old.rows }
-    requires no_rows { world.old.staged ≡ [] }
-    requires no_codes { world.old.staged_codes ≡ [] }
-    ensures same { lineage.new ≡ lineage.old }
-    ensures effects { IfOk result (λ run. staged_in world.new run ≡ block_effects compiled_in (history_in lineage.old.rows world.old) block.now) }
-    ensures newest { OnOk result (world.new.newest ≡ world.old.newest) }
-    ensures codes { OnOk result (world.new.codes ≡ world.old.codes) }
-    ensures staged { IfOk result (λ run. world.new.staged ≡ map entry_of run.rows) }
-    ensures lawful { IfOk result (λ run. AreBlockRows (newest_of world.old) block.now.number (length block.now.txs) run.rows) }
-{
-    match run_block(alloc, lineage, world, block) {
-        Ok(run) => Ok(run),
-        Err(HostError::Memory) => Err(Memory),
-        Err(HostError::Fault) => unreachable!(),
-    }
-}
 
 impl LineageChain {
     /// The chain with the next block after the others, what this block did, and the root at it. On
@@ -69,7 +38,7 @@ impl LineageChain {
             mut lineage,
             mut world,
         } = self;
-        let run = match block_run(alloc, &mut lineage, &mut world, block) {
+        let run = match run_next(alloc, &mut lineage, &mut world, block) {
             Ok(run) => run,
             Err(Memory) => {
                 lineage.give_up();

@@ -3,6 +3,5 @@
 
 mod chain;
 mod extending;
-mod judging;
 
 pub use chain::LineageChain;

@@ -41,8 +41,8 @@ module _ (log : LogState) (stored : List Stored) (content : List ℕ) (started :
   blank headless = ((subst (λ (b : Bool). MatchBool b (AgreesWithBlocks log content) (AgreesWithBlank log content)) headless started.0).stands, subst (λ (b : Bool). MatchBool b (standing next_in_log content ≡ Holds stored log.gate) (stored ≡ [])) headless started.1)
 
   -- all blocks make a chain
-  pub stands_for : (chain : ChainState) → IsRestored stored (Ok chain) → blocks_of (standing next_in_chain content) ≡ Some (blocks_in stored)
-  stands_for chain restored = elim (cases_Bool log.is_ready) [
+  pub stands_for : {C : Type 0} (kept : C → ChainState) (chain : C) → IsRestored kept stored (Ok chain) → blocks_of (standing next_in_chain content) ≡ Some (blocks_in stored)
+  stands_for kept chain restored = elim (cases_Bool log.is_ready) [
     | inl ready ↦ ap blocks_of (counted content ∙ ap (restanding (placement_in compiled_in)) (holds ready) ∙ restored.1 (λ held. Holds held log.gate))
     | inr headless ↦
         let b = blank headless in
@@ -50,8 +50,8 @@ module _ (log : LogState) (stored : List Stored) (content : List ℕ) (started :
   ]
 
   -- one of them is not the next one
-  pub stands_damaged : (at : ℕ) → IsRestored stored (Err at) → (before : List Stored) × (standing next_in_chain content ≡ Damaged before at)
-  stands_damaged at (before, restored) = elim (cases_Bool log.is_ready) [
+  pub stands_damaged : {C : Type 0} (kept : C → ChainState) (at : ℕ) → IsRestored kept stored (Err at) → (before : List Stored) × (standing next_in_chain content ≡ Damaged before at)
+  stands_damaged kept at (before, restored) = elim (cases_Bool log.is_ready) [
     | inl ready ↦ (before, counted content ∙ ap (restanding (placement_in compiled_in)) (holds ready) ∙ restored (λ held. Holds held log.gate))
     | inr headless ↦
         let none : stored ≡ [] = (blank headless).1 in
@@ -60,20 +60,20 @@ module _ (log : LogState) (stored : List Stored) (content : List ℕ) (started :
   ]
 
 -- the log itself is damaged, after these blocks
-pub damaged_after : (before : List Stored) (at : ℕ) (content : List ℕ) (chain : ChainState) → standing next_in_log content ≡ Damaged before at → IsRestored before (Ok chain) → (all : List Stored) × (standing next_in_chain content ≡ Damaged all at)
-damaged_after before at content chain is restored = (before, counted content ∙ ap (restanding (placement_in compiled_in)) is ∙ restored.1 (λ held. Damaged held at))
+pub damaged_after : {C : Type 0} (kept : C → ChainState) (before : List Stored) (at : ℕ) (content : List ℕ) (chain : C) → standing next_in_log content ≡ Damaged before at → IsRestored kept before (Ok chain) → (all : List Stored) × (standing next_in_chain content ≡ Damaged all at)
+damaged_after kept before at content chain is restored = (before, counted content ∙ ap (restanding (placement_in compiled_in)) is ∙ restored.1 (λ held. Damaged held at))
 
-pub damaged_before : (before : List Stored) (at gate : ℕ) (content : List ℕ) → standing next_in_log content ≡ Damaged before gate → IsRestored before (Err at) → (all : List Stored) × (standing next_in_chain content ≡ Damaged all at)
-damaged_before before at gate content is (all, restored) = (all, counted content ∙ ap (restanding (placement_in compiled_in)) is ∙ restored (λ held. Damaged held gate))
+pub damaged_before : {C : Type 0} (kept : C → ChainState) (before : List Stored) (at gate : ℕ) (content : List ℕ) → standing next_in_log content ≡ Damaged before gate → IsRestored kept before (Err at) → (all : List Stored) × (standing next_in_chain content ≡ Damaged all at)
+damaged_before kept before at gate content is (all, restored) = (all, counted content ∙ ap (restanding (placement_in compiled_in)) is ∙ restored (λ held. Damaged held gate))
 
 pub not_a_log : (content : List ℕ) → standing next_in_log content ≡ NotALog → standing next_in_chain content ≡ NotALog
 not_a_log content is = counted content ∙ ap (restanding (placement_in compiled_in)) is
 
 -- The node of the blocks of a log that was started.
-pub started_node : (log : LogState) (stored : List Stored) (chain : ChainState) (state new : Option DiskState) → IsSettled state → new ≡ state → ((content : List ℕ) → content_of state ≡ Some content → Started log stored content)
-    → IsRestored stored (Ok chain) → IsNodeOf (record { chain = chain; log = log }) new (blocks_in stored)
-started_node log stored chain state new rests is started restored = record { kept = restored.0; log = subst (λ (s : Option DiskState). Rests s (HoldsChain log (blocks_in stored))) (sym is) (there state rests started) }
+pub started_node : {C : Type 0} (kept : C → ChainState) (log : LogState) (stored : List Stored) (chain : C) (state new : Option DiskState) → IsSettled state → new ≡ state → ((content : List ℕ) → content_of state ≡ Some content → Started log stored content)
+    → IsRestored kept stored (Ok chain) → IsNodeOf (record { chain = kept chain; log = log }) new (blocks_in stored)
+started_node kept log stored chain state new rests is started restored = record { kept = restored.0; log = subst (λ (s : Option DiskState). Rests s (HoldsChain log (blocks_in stored))) (sym is) (there state rests started) }
   where
     there : (state : Option DiskState) → IsSettled state → ((content : List ℕ) → content_of state ≡ Some content → Started log stored content) → Rests state (HoldsChain log (blocks_in stored))
     there None rests started = tt
-    there (Some s) rests started = let here = started s.content refl in (rests, record { agrees = here.0; stands = stands_for log stored s.content here chain restored })
+    there (Some s) rests started = let here = started s.content refl in (rests, record { agrees = here.0; stands = stands_for log stored s.content here kept chain restored })

@@ -51,13 +51,26 @@ pub record IsNodeOf (node : NodeState) (state : Option DiskState) (blocks : List
   pub kept : StandsFor node.chain blocks
   pub log : Rests state (HoldsChain node.log blocks)
 
--- What is started with on bytes that stand so: a node of their blocks, or why there is none.
+-- Why there is nothing to start with on bytes that stand so.
+abbrev pub IsNoStart : Standing → StartError → Type 0
+IsNoStart stands starts.NotALog = stands ≡ NotALog
+IsNoStart stands (starts.Damaged at) = (before : List Stored) × (stands ≡ Damaged before at)
+IsNoStart stands starts.DiskFault = Unit {0}
+IsNoStart stands starts.Memory = Unit {0}
+
+-- What is started with on bytes that stand so: it is of their blocks in this way, or it is said why
+-- there is nothing.
+abbrev pub IsStarted : {A : Type 0} → (A → List Block → Type 0) → Standing → Result A StartError → Type 0
+IsStarted IsOf stands (Ok started) = (blocks : List Block) × (blocks_of stands ≡ Some blocks) × IsOf started blocks
+IsStarted IsOf stands (Err error) = IsNoStart stands error
+
+-- A node of the blocks, on this disk.
 abbrev pub IsNodeStarted : Option DiskState → Standing → Result NodeState StartError → Type 0
-IsNodeStarted state stands (Ok node) = (blocks : List Block) × (blocks_of stands ≡ Some blocks) × IsNodeOf node state blocks
-IsNodeStarted state stands (Err starts.NotALog) = stands ≡ NotALog
-IsNodeStarted state stands (Err (starts.Damaged at)) = (before : List Stored) × (stands ≡ Damaged before at)
-IsNodeStarted state stands (Err starts.DiskFault) = Unit {0}
-IsNodeStarted state stands (Err starts.Memory) = Unit {0}
+IsNodeStarted state stands result = IsStarted (λ node. IsNodeOf node state) stands result
+
+-- A chain that stands for the blocks.
+abbrev pub IsChainStored : Standing → Result ChainState StartError → Type 0
+IsChainStored stands result = IsStarted StandsFor stands result
 
 -- ---- one more block
 

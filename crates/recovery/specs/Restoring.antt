@@ -7,9 +7,10 @@ use Rattle.chain_exec.specs.Compiled.{compiled_in}
 use Rattle.chain_state.specs.Chain.{ChainState, StandsFor, placement_in}
 
 -- All stored blocks make a chain; or one of them, whose gate is at this offset, is not the next one
--- where rows are counted, and the log is damaged there. `end` is how the log ends after them.
-abbrev pub IsRestored : List Stored → Result ChainState ℕ → Type 0
-IsRestored stored (Ok chain) =
-    StandsFor chain (blocks_in stored) × ((end : List Stored → Standing) → restood (placement_in compiled_in) [] stored end ≡ end stored)
-IsRestored stored (Err at) =
+-- where rows are counted, and the log is damaged there. `kept` is what is kept of a chain, and `end` how
+-- the log ends after them.
+abbrev pub IsRestored : {C : Type 0} → (C → ChainState) → List Stored → Result C ℕ → Type 0
+IsRestored kept stored (Ok chain) =
+    StandsFor (kept chain) (blocks_in stored) × ((end : List Stored → Standing) → restood (placement_in compiled_in) [] stored end ≡ end stored)
+IsRestored kept stored (Err at) =
     (before : List Stored) × ((end : List Stored → Standing) → restood (placement_in compiled_in) [] stored end ≡ Damaged before at)

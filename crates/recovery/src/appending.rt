@@ -14,7 +14,7 @@ use crate::node::{Appended, Node};
 use crate::storing::store;
 use block_codec::Block;
 use block_log::DiskFault;
-use chain_state::Judged;
+use chain_state::{Judged, Replay};
 use disk_model::Disk;
 use lc_base::{Digest, Memory};
 use std::alloc::Global;

@@ -4,8 +4,10 @@
 mod appending;
 mod errors;
 mod node;
+mod opening;
 mod restoring;
 mod storing;
 
 pub use errors::{AppendError, StartError};
 pub use node::{Appended, Node};
+pub use opening::stored_chain;

@@ -8,19 +8,18 @@ ghost use Rattle.block_codec.specs.declared.block.Block.{Block as Blocks};
 ghost use Rattle.block_log.specs.Standing.{standing};
 ghost use Rattle.chain_exec.specs.Compiled.{compiled_in};
 ghost use Rattle.chain_state.specs.Chain.{StandsFor};
-ghost use Rattle.prov_query.specs.Asking.{IsAnswered};
 ghost use Rattle.lineage_chain.specs.Roots.{ledger_kept, root_in};
 ghost use Rattle.recovery.specs.Node.{IsNodeOf, IsNodeStarted, next_in_chain};
 
 use crate::errors::StartError;
-use crate::restoring::restore;
-use block_log::{Log, LogError};
+use crate::opening::open;
+use block_log::Log;
 use chain_exec::ReceiptList;
+use chain_state::Replay;
 use disk_model::Disk;
-use lc_base::{Answer, Digest, Memory, Query};
+use lc_base::Digest;
 use lineage_chain::LineageChain;
 use merkle_dag::Lineage;
-use prov_query::AskError;
 use std::alloc::Global;
 use std::marker::Model;
 
@@ -76,23 +75,9 @@ impl Node {
         ensures wire_faults { M.wire_faults machine.new ≡ M.wire_faults machine.old }
         ensures cause { HasCause (M.disk_faults machine.old) (M.disk_faults machine.new) (IsErrOf result StartError.DiskFault) }
     {
-        match Log::start(alloc, machine) {
-            Ok((log, stored)) => match restore(alloc, stored.as_slice()) {
-                Ok(Ok(chain)) => Ok(Node { chain, log }),
-                Ok(Err(at)) => Err(StartError::Damaged { at }),
-                Err(Memory) => Err(StartError::Memory),
-            },
-            Err(LogError::NotALog) => Err(StartError::NotALog),
-            Err(LogError::Damaged { at, before }) => match restore(alloc, before.as_slice()) {
-                Ok(Ok(chain)) => {
-                    chain.give_up();
-                    Err(StartError::Damaged { at })
-                }
-                Ok(Err(at)) => Err(StartError::Damaged { at }),
-                Err(Memory) => Err(StartError::Memory),
-            },
-            Err(LogError::DiskFault) => Err(StartError::DiskFault),
-            Err(LogError::Memory) => Err(StartError::Memory),
+        match open::<LineageChain, M>(alloc, machine) {
+            Ok((chain, log)) => Ok(Node { chain, log }),
+            Err(error) => Err(error),
         }
     }
 
@@ -130,14 +115,6 @@ impl Node {
     {
         let Node { chain, log: _log } = self;
         chain.into_lineage()
-    }
-
-    /// The answer to a question over the rows of its chain, if it is asked up to one of its blocks.
-    pub fn ask(&mut self, query: &Query) -> Result<Answer, AskError>
-        ensures answer { IsAnswered (ledger_kept self.old.chain) query.now result }
-        ensures unchanged { self.new ≡ self.old }
-    {
-        self.chain.ask(query)
     }
 
     /// Ends the node.

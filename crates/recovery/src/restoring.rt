@@ -6,21 +6,21 @@ ghost use Rattle.recovery.specs.Restoring.{IsRestored};
 
 use block_codec::Placement;
 use block_log::Stored;
+use chain_state::Replay;
 use lc_base::Memory;
-use lineage_chain::LineageChain;
 use std::alloc::Global;
 
 /// The chain of stored blocks, which are run one after another. Where one of them is not the next
 /// one, since those before it wrote too many rows: the offset of its gate.
-pub fn restore(alloc: Global, stored: &[Stored]) -> Result<Result<LineageChain, u64>, Memory>
+pub fn restore<C: Replay>(alloc: Global, stored: &[Stored]) -> Result<Result<C, u64>, Memory>
     requires { AreStored stored.now }
-    ensures { IfOk result (IsRestored stored.now) }
+    ensures { IfOk result (IsRestored C.kept stored.now) }
 {
-    let mut chain = LineageChain::new(alloc)?;
+    let mut chain = C::start(alloc)?;
     for one in stored {
         match chain.place(&one.block, one.digest) {
             Placement::Next => {
-                let (longer, _, _) = chain.extended(alloc, &one.block, one.digest)?;
+                let longer = chain.replay(alloc, &one.block, one.digest)?;
                 chain = longer;
             }
             _ => {

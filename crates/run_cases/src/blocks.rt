@@ -8,7 +8,7 @@ use crate::streams::source_of;
 use anyhow::{Result, bail};
 use block_codec::{Block, Frames, MAX_FRAMES, Placement, block_digest, decode};
 use chain_exec::BlockRun;
-use chain_state::Chain;
+use chain_state::{Chain, Replay};
 use lc_base::{Digest, Memory};
 use lc_outside::MemSource;
 use std::alloc::Global;

@@ -14,7 +14,7 @@ ghost use Rattle.scan_chain.specs.Turns.{IsTakenIn, IsFoldResult, IsCauseOf, IsT
 use crate::cause::Cause;
 use crate::stop::Stop;
 use block_codec::{FrameError, Frames};
-use chain_state::{Chain, Judged, Refusal};
+use chain_state::{Chain, Judged, Refusal, Replay};
 use lc_base::Memory;
 use lc_outside::Source;
 use std::alloc::Global;

@@ -6,12 +6,12 @@ use Rattle.chain_cli.proofs.over_log.ask.Goals as goal
 
 pub returns-in-Ok-clause-run : goal.returns-in-Ok-clause-run
 returns-in-Ok-clause-run g c left =
-    asked_run g.M.Clock.now g.M.Clock.disk g.M.Clock.told c.args.machine.now c.start.new.machine c.tell_made.new.machine (λ blocks. answer_outcome compiled_in (record { kind = c.args.kind; key = c.args.key; at = at_or_last c.args.at blocks }) blocks)
-    c.in-Ok.node c.last_answer.result c.tell_made.result left
-    c.requires.settled c.start.ensures.disk c.start.ensures.told c.in-Ok.ensures.answer c.last_answer.ensures c.tell_made.ensures.disk (c.tell_made.ensures.says next_in_chain)
+    asked_run g.M.Clock.now g.M.Clock.disk g.M.Clock.told c.args.machine.now c.stored_chain.new.machine c.tell_made.new.machine (λ blocks. answer_outcome compiled_in (record { kind = c.args.kind; key = c.args.key; at = at_or_last c.args.at blocks }) blocks)
+    c.in-Ok.chain c.last_answer.result c.tell_made.result left
+    c.requires.settled c.stored_chain.ensures.disk c.stored_chain.ensures.told c.in-Ok.ensures.answer c.last_answer.ensures c.tell_made.ensures.disk (c.tell_made.ensures.says next_in_chain)
 
 pub returns-in-Err-clause-run : goal.returns-in-Err-clause-run
 returns-in-Err-clause-run g c left =
-    asked_refused g.M.Clock.now g.M.Clock.disk g.M.Clock.told c.args.machine.now c.start.new.machine c.tell_start.new.machine (λ blocks. answer_outcome compiled_in (record { kind = c.args.kind; key = c.args.key; at = at_or_last c.args.at blocks }) blocks)
+    asked_refused g.M.Clock.now g.M.Clock.disk g.M.Clock.told c.args.machine.now c.stored_chain.new.machine c.tell_start.new.machine (λ blocks. answer_outcome compiled_in (record { kind = c.args.kind; key = c.args.key; at = at_or_last c.args.at blocks }) blocks)
     c.in-Err.error c.tell_start.result left
-    c.requires.settled c.start.ensures.disk c.start.ensures.told c.in-Err.ensures.answer c.tell_start.ensures.disk (c.tell_start.ensures.says next_in_chain)
+    c.requires.settled c.stored_chain.ensures.disk c.stored_chain.ensures.told c.in-Err.ensures.answer c.tell_start.ensures.disk (c.tell_start.ensures.says next_in_chain)

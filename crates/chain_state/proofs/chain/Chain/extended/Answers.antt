@@ -34,7 +34,7 @@ invariant_of-chain c =
 pub returns-in-Ok-record-clause-stands : goal.returns-in-Ok-record-clause-stands
 returns-in-Ok-record-clause-stands c =
     let rows = c.in-Ok-record.ensures.rows ∙ ap (λ (rows : List Row). rows ++ c.in-Ok.run'.rows) c.in-Ok.ensures.same in
-    let after = is_after c.self.inside.digests c.record.new.digests c.self.inside.rows c.record.new.rows c.self.inside.world c.block_run.new.world c.in_ok-world.world c.args.block.now c.args.digest c.in-Ok.run'
+    let after = is_after c.self.inside.digests c.record.new.digests c.self.inside.rows c.record.new.rows c.self.inside.world c.run_next.new.world c.in_ok-world.world c.args.block.now c.args.digest c.in-Ok.run'
     c.in-Ok.ensures.effects c.in-Ok.ensures.codes c.in_ok-world.ensures.codes c.in-Ok-record.ensures.digests rows in
     λ blocks stands is next.
     stands_after _ _ blocks c.args.block.now c.args.digest c.in-Ok.run' after (subst (λ (kept : ChainState). StandsFor kept blocks) (sym c.self.view_is) stands) is next

@@ -37,7 +37,7 @@ pub returns-in-Ok-add_block-clause-stands : goal.returns-in-Ok-add_block-clause-
 returns-in-Ok-add_block-clause-stands c =
     let longer = c.in-Ok-add_block.ensures.kept
     ∙ ap (λ (before : Ledger). record { rows = before.rows ++ c.in-Ok.run'.rows; digests = before.digests ++ c.args.digest ∷ [] }) c.in-Ok.ensures.same in
-    let after = is_after c.self.inside.lineage.digests c.in-Ok-add_block.lineage.digests c.self.inside.lineage.rows c.in-Ok-add_block.lineage.rows c.self.inside.world c.block_run.new.world c.in-Ok-commit.world c.args.block.now c.args.digest c.in-Ok.run'
+    let after = is_after c.self.inside.lineage.digests c.in-Ok-add_block.lineage.digests c.self.inside.lineage.rows c.in-Ok-add_block.lineage.rows c.self.inside.world c.run_next.new.world c.in-Ok-commit.world c.args.block.now c.args.digest c.in-Ok.run'
     c.in-Ok.ensures.effects c.in-Ok.ensures.codes c.in-Ok-commit.ensures.codes (ap (λ (ledger : Ledger). ledger.digests) longer) (ap (λ (ledger : Ledger). ledger.rows) longer) in
     λ blocks stands is next.
     stands_after _ _ blocks c.args.block.now c.args.digest c.in-Ok.run' after (subst (λ (kept : ChainState). StandsFor kept blocks) (sym c.self.view_is) stands) is next
@@ -46,7 +46,7 @@ pub returns-in-Ok-add_block-clause-root_in : goal.returns-in-Ok-add_block-clause
 returns-in-Ok-add_block-clause-root_in c blocks stands is next =
     let longer = c.in-Ok-add_block.ensures.kept
     ∙ ap (λ (before : Ledger). record { rows = before.rows ++ c.in-Ok.run'.rows; digests = before.digests ++ c.args.digest ∷ [] }) c.in-Ok.ensures.same in
-    let after = is_after c.self.inside.lineage.digests c.in-Ok-add_block.lineage.digests c.self.inside.lineage.rows c.in-Ok-add_block.lineage.rows c.self.inside.world c.block_run.new.world c.in-Ok-commit.world c.args.block.now c.args.digest c.in-Ok.run'
+    let after = is_after c.self.inside.lineage.digests c.in-Ok-add_block.lineage.digests c.self.inside.lineage.rows c.in-Ok-add_block.lineage.rows c.self.inside.world c.run_next.new.world c.in-Ok-commit.world c.args.block.now c.args.digest c.in-Ok.run'
     c.in-Ok.ensures.effects c.in-Ok.ensures.codes c.in-Ok-commit.ensures.codes (ap (λ (ledger : Ledger). ledger.digests) longer) (ap (λ (ledger : Ledger). ledger.rows) longer) in
     let stand = stands_after _ _ blocks c.args.block.now c.args.digest c.in-Ok.run' after (subst (λ (kept : ChainState). StandsFor kept blocks) (sym c.self.view_is) stands) is next in
     c.in-Ok-add_block.ensures.root ∙ ap (λ (ledger : Ledger). root_of ledger.rows ledger.digests c.args.block.now.number) (sym c.in-Ok-add_block.ensures.kept)
