@@ -160,6 +160,28 @@ CHAINS = [
         [Row("raw/a", 1, 0, "t", [])],
         {"hist raw/a": "block 1 tx 0 text t\n", "hist raw/a 0": "none\n"},
     ),
+    # Versions of one key in the blocks 2, 9 and 10: that in block 9 has four links, all to block 2,
+    # and that in block 10 two, both to block 9.
+    (
+        [[], [], [sets("raw/a", 1)], *[[]] * 6, [sets("raw/a", 2)], [sets("raw/a", 3)]],
+        [
+            "block 0 rows 0 status -",
+            "block 1 rows 0 status -",
+            "block 2 rows 1 status 0",
+            *[f"block {at} rows 0 status -" for at in range(3, 9)],
+            "block 9 rows 1 status 0",
+            "block 10 rows 1 status 0",
+        ],
+        [Row("raw/a", 2, 0, 1, []), Row("raw/a", 9, 0, 2, []), Row("raw/a", 10, 0, 3, [])],
+        {
+            "hist raw/a": "block 10 tx 0 int 3\n",
+            "hist raw/a 9": "block 9 tx 0 int 2\n",
+            "hist raw/a 8": "block 2 tx 0 int 1\n",
+            "hist raw/a 2": "block 2 tx 0 int 1\n",
+            "hist raw/a 1": "none\n",
+            "back raw/a": "block 10 deps 0\n",
+        },
+    ),
 ]
 
 

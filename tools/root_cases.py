@@ -5,6 +5,7 @@ import dataclasses
 import hashlib
 
 from block_files import number, string, value
+from tree_cases import tree_hash
 
 NO_DIGEST = bytes(32)
 LEVELS = 32
@@ -108,16 +109,6 @@ def leaf(key, keys, block, header, uses):
     following = b"\1" + string(min(greater)) if greater else b"\0"
     newest = number(block, 4) + header
     return string(key) + following + newest + number(len(uses), 8) + uses_digest(uses)
-
-
-def tree_hash(leaves):
-    """The tree hash of RFC 6962, section 2.1."""
-    if len(leaves) == 1:
-        return digest_of(b"\0" + leaves[0])
-    half = 1
-    while 2 * half < len(leaves):
-        half *= 2
-    return digest_of(b"\1" + tree_hash(leaves[:half]) + tree_hash(leaves[half:]))
 
 
 def block_digests(frames):

@@ -7,5 +7,3 @@ mod edges;
 mod entries;
 #[cfg(test)]
 mod texts;
-#[cfg(test)]
-mod trees;

@@ -67,15 +67,16 @@ fn print_told<W: Write>(alloc: Global, out: &mut W, machine: &MemMachine) -> Res
     Ok(())
 }
 
-/// Prints what the disk of a machine holds, in hex, or that it is what it held before.
+/// Prints what the disk of a machine holds, in hex, or that it is the image that it held before.
 fn print_log<W: Write>(
     alloc: Global,
     out: &mut W,
-    before: &[u8],
+    image: &str,
     machine: &MemMachine,
 ) -> Result<()> {
+    let before = bytes_of(alloc, image)?;
     let after = machine.image();
-    if after == before {
+    if after == before.as_slice() {
         writeln!(out, "log same")?;
     } else {
         let digits = hex::encode(alloc, after)?;
@@ -84,27 +85,37 @@ fn print_log<W: Write>(
     Ok(())
 }
 
-/// Runs a command, and prints its status and words, and what it told. Then, where the case says which
-/// calls fail, how many bytes of the input are left; and where it says what the disk held, what it
-/// holds.
+/// Prints the number of a command's status, its words, and what it told. Then, where the case says
+/// which calls fail, how many bytes of the input are left; and where it says what the disk held, what
+/// it holds.
+fn print_outcome<W: Write>(
+    alloc: Global,
+    out: &mut W,
+    case: &Case<'_>,
+    number: u8,
+    left: usize,
+    machine: &MemMachine,
+) -> Result<()> {
+    writeln!(out, "== {number} {}", case.words)?;
+    print_told(alloc, out, machine)?;
+    if case.failing.is_some() {
+        writeln!(out, "left {left}")?;
+    }
+    if let Some(image) = case.image {
+        print_log(alloc, out, image, machine)?;
+    }
+    Ok(())
+}
+
+/// Runs a command, and prints what became of it.
 pub fn run_command<W: Write>(alloc: Global, out: &mut W, case: &Case<'_>) -> Result<()> {
     let (pulls, calls) = match case.failing {
         None => ("", ""),
         Some(Failing { pulls, calls }) => (pulls, calls),
     };
-    let image = bytes_of(alloc, case.image.unwrap_or(""))?;
     let mut source = source_of(alloc, case.piece, case.input, pulls)?;
-    let mut machine = machine_of(alloc, &image, calls)?;
+    let mut machine = machine_of(alloc, case.image.unwrap_or(""), calls)?;
     let words = words_of(alloc, case.words)?;
     let number = run(alloc, &words, &mut source, &mut machine).number();
-    writeln!(out, "== {number} {}", case.words)?;
-    print_told(alloc, out, &machine)?;
-    if case.failing.is_some() {
-        let left = source.rest().len();
-        writeln!(out, "left {left}")?;
-    }
-    if case.image.is_some() {
-        print_log(alloc, out, &image, &machine)?;
-    }
-    Ok(())
+    print_outcome(alloc, out, case, number, source.rest().len(), &machine)
 }

@@ -4,15 +4,20 @@
 mod blocks;
 mod command;
 mod streams;
+mod trees;
 
 use crate::blocks::run_blocks;
 use crate::command::{Case, Failing, run_command};
+use crate::trees::run_tree;
 use anyhow::{Context, Result};
 use std::alloc::Global;
 use std::io::{self, BufRead, BufReader, BufWriter, Write};
 
 /// What the words of a case begin with whose blocks are run one by one.
 const BLOCKS: &str = "blocks ";
+
+/// What the words of a case of a tree begin with.
+const TREE: &str = "tree ";
 
 /// A case of a command; `rest` is what follows its words and its piece in the line.
 fn case_of<'a>(words: &'a str, piece: &'a str, rest: &'a str) -> Result<Case<'a>> {
@@ -41,7 +46,10 @@ fn case_of<'a>(words: &'a str, piece: &'a str, rest: &'a str) -> Result<Case<'a>
 
 /// Runs the case of a line.
 fn run_line<W: Write>(alloc: Global, out: &mut W, line: &str) -> Result<()> {
-    let (words, rest) = line.split_once('|').context("a case without a piece")?;
+    let (words, rest) = line.split_once('|').context("a case without a field")?;
+    if words.starts_with(TREE) {
+        return run_tree(alloc, out, words, rest);
+    }
     let (piece, rest) = rest.split_once('|').context("a case without an input")?;
     if words.starts_with(BLOCKS) {
         return run_blocks(alloc, out, words, piece, rest);

@@ -56,13 +56,14 @@ pub fn source_of(alloc: Global, piece: &str, input: &str, pulls: &str) -> Result
         .context("no memory for the input")
 }
 
-/// A machine whose disk holds these bytes, with nothing pending, and of which the calls of these
-/// numbers fail.
-pub fn machine_of(alloc: Global, image: &[u8], calls: &str) -> Result<MemMachine>
+/// A machine whose disk holds the bytes of an image, with nothing pending, and of which the calls of
+/// these numbers fail.
+pub fn machine_of(alloc: Global, image: &str, calls: &str) -> Result<MemMachine>
     ensures settled { IfOk result (λ machine. IsSettled (disk_of machine (now_of machine))) }
 {
+    let image = bytes_of(alloc, image)?;
     let calls = numbers_of(alloc, calls)?;
-    MemMachine::new(alloc, image, ROOM, &calls)
+    MemMachine::new(alloc, &image, ROOM, &calls)
         .ok()
         .context("no memory for the machine")
 }
