@@ -15,13 +15,15 @@ LOG = "chain.log"
 # How long a run may take, and how long a line is waited for, in seconds.
 RUN_LIMIT = 600
 LINE_LIMIT = 60
+# What stands for a root that is left out.
+NO_ROOT = bytes(32).hex()
 
 
 def plain_chain(count):
     """The block file of a chain of one Set each, and the lines that `append` tells of its blocks, but
     for the roots."""
     blocks = [[sets(f"raw/{n}", n, [f"raw/{n - 1}"] if n else [])] for n in range(count)]
-    lines = [f"block {n} rows 1 status 0 root {bytes(32).hex()}\n" for n in range(count)]
+    lines = [f"block {n} rows 1 status 0 root {NO_ROOT}\n" for n in range(count)]
     return block_files.block_file(blocks), lines
 
 
