@@ -7,7 +7,7 @@ ghost use Rattle.lc_base.specs.History.{IsLawful, depends_on, uses, scan};
 ghost use Rattle.lc_base.specs.Parts.{question, version_in, count_in, item_in};
 ghost use Rattle.lc_base.specs.declared.limits.TheConstants.{MAX_DEPS};
 
-use crate::rows::{PlainRows, depends_on, latest, version_of};
+use crate::rows::{PlainRows, depends_on, latest, rows_after, version_of};
 use lc_base::{Dep, Duplicate, Host, HostError, Key, Kind, Memory, Row, Version};
 use std::alloc::Global;
 
@@ -70,7 +70,7 @@ fn fwd_count(rows: &[Row], key: &Key, at: u32) -> Option<u64>
 {
     match latest(rows, key, at) {
         None => None,
-        Some(row) => Some(use_count(rows, key, row.block) as u64),
+        Some(row) => Some(use_count(rows_after(rows, row.block), key, row.block) as u64),
     }
 }
 
@@ -85,11 +85,16 @@ fn use_at<'a>(rows: &'a [Row], key: &Key, block: u32, index: usize) -> Option<&'
 
 #[tactic(auto, using(crate::proofs::AnswerParts::use_is))]
 fn fwd_at(rows: &[Row], key: &Key, at: u32, index: u64) -> Option<Dep>
+    requires { IsLawful rows.now }
     ensures { result ≡ item_in index (scan rows.now (question Kind.Fwd key.now at)) }
 {
     match latest(rows, key, at) {
         None => None,
-        Some(row) => use_at(rows, key, row.block, index as usize).map(|row| version_of(row)),
+        Some(row) => {
+            use_at(rows_after(rows, row.block), key, row.block, index as usize).map(
+                |row| version_of(row),
+            )
+        }
     }
 }
 

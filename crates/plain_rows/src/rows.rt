@@ -1,4 +1,4 @@
-ghost use Rattle.std.specs.Prelude.{◌≡◌, ◌==◌, ◌&&◌, [], ◌++◌, IfOk, OnOk, OnErr};
+ghost use Rattle.std.specs.Prelude.{◌≡◌, ◌==◌, ◌&&◌, ℕ, List, [], ◌++◌, filter, nat_le, IfOk, OnOk, OnErr};
 ghost use Rattle.std.specs.Option.{option_copied};
 ghost use Rattle.std.specs.Cmp.Lexicographic.{pointwise};
 ghost use Rattle.lc_base.specs.History.{IsLawful, is_version, latest, depends_on, version_of, uses, answer_about, scan};
@@ -77,6 +77,7 @@ impl PlainRows {
 }
 
 fn scan(alloc: Global, rows: &[Row], query: &Query) -> Result<Answer, Memory>
+    requires { IsLawful rows.now }
     ensures { IfOk result (λ answer. answer ≡ scan rows.now query.now) }
 {
     match latest(rows, &query.key, query.at) {
@@ -86,6 +87,7 @@ fn scan(alloc: Global, rows: &[Row], query: &Query) -> Result<Answer, Memory>
 }
 
 fn answer_about(alloc: Global, rows: &[Row], query: &Query, row: &Row) -> Result<Answer, Memory>
+    requires { IsLawful rows.now }
     ensures { IfOk result (λ answer. answer ≡ answer_about rows.now query.now.kind query.now.key row.now) }
 {
     match query.kind {
@@ -100,7 +102,7 @@ fn answer_about(alloc: Global, rows: &[Row], query: &Query, row: &Row) -> Result
         }),
         Kind::Fwd => Ok(Answer::Fwd {
             block: row.block,
-            uses: uses(alloc, rows, &query.key, row.block)?,
+            uses: uses(alloc, rows_after(rows, row.block), &query.key, row.block)?,
         }),
     }
 }
@@ -128,6 +130,20 @@ pub(crate) fn version_of(row: &Row) -> Dep
         key: row.key,
         block: row.block,
     }
+}
+
+/// The rows of the blocks after this one. Every row that depends on a version in this block is among
+/// them.
+pub(crate) fn rows_after(rows: &[Row], block: u32) -> &[Row]
+    requires { IsLawful rows.now }
+    ensures { (key : List ℕ) → filter (depends_on key block) result.now ≡ filter (depends_on key block) rows.now }
+{
+    let first = rows.partition_point(
+        |row: &Row| -> bool
+            ensures { result ≡ nat_le row.now.block block }
+        { row.block <= block },
+    );
+    &rows[first..]
 }
 
 /// The versions that were derived from the version of this key in this block, in the order of their
