@@ -1,6 +1,6 @@
 -- What holds of the rows of a block, and of those before.
-use Rattle.std.proofs.Common.{◌≡◌, ◌≢◌, ◌∙◌, ℕ, suc, ◌<◌, ◌≤◌, Bool, true, false, ◌&&◌, ◌==◌, List, [], ◌∷◌, ◌++◌, Option, Some, None, refl, sym, ap, arith, map, inl, inr}
-use Rattle.std.specs.List.{list_any, All, AllPairs, AllByRecursion, Contains}
+use Rattle.std.proofs.Common.{◌≡◌, ◌∙◌, ℕ, ◌<◌, ◌≤◌, false, ◌&&◌, ◌==◌, List, [], ◌∷◌, ◌++◌, refl, ap, arith, map}
+use Rattle.std.specs.List.{list_any, AllByRecursion}
 use Rattle.std.specs.Option.{IsSomeAnd}
 use Rattle.std.specs.Cmp.Lexicographic.{pointwise}
 use Rattle.std.proofs.lemmas.List.Elements.{recursion_from_All}
@@ -9,7 +9,7 @@ use Rattle.lc_base.specs.declared.row.Row.{Row}
 use Rattle.lc_base.specs.declared.row.Dep.{Dep}
 use Rattle.lc_base.specs.History.{HasLawfulDeps, IsRecordedFrom, below, newest, uses, depends_on, version_of}
 use Rattle.history_root.specs.Naming.{closed, uses_of}
-use Rattle.history_root.proofs.Lists.{all_weaker, all_front, all_back, keep_none}
+use Rattle.history_root.proofs.Lists.{all_weaker, all_back, keep_none}
 use Rattle.history_root.proofs.Growing.{below_now}
 use Rattle.history_root.proofs.Headers.{recorded_is_older}
 use Rattle.lineage_index.specs.Growth.{Grows, held}

@@ -1,17 +1,14 @@
 -- The lists of the keys after the rows of a block closed those of their keys.
-use Rattle.std.proofs.Common.{◌≡◌, ◌∙◌, ℕ, ◌+◌, ◌<◌, Bool, true, false, ◌||◌, ◌==◌, if◌then◌else◌, List, [], ◌∷◌, ◌++◌, length, get_or, take, Option, Some, None, refl, sym, ap, arith, inl, inr}
-use Rattle.std.specs.List.{list_any, AllByRecursion}
-use Rattle.std.specs.Option.{is_some, option_or}
+use Rattle.std.proofs.Common.{◌≡◌, ◌∙◌, ℕ, Bool, true, false, ◌||◌, ◌==◌, List, [], ◌∷◌, ◌++◌, Some, None, refl, sym, ap, inl, inr}
+use Rattle.std.specs.List.{list_any}
 use Rattle.std.specs.Cmp.Lexicographic.{pointwise}
-use Rattle.std.proofs.lemmas.List.{take_more}
 use Rattle.std.proofs.lemmas.List.Folds.{list_any-append}
 use Rattle.std.proofs.lemmas.Bool.{cases_Bool}
 use Rattle.lc_base.specs.declared.row.Row.{Row}
 use Rattle.lc_base.specs.declared.row.Dep.{Dep}
-use Rattle.lc_base.specs.History.{newest, uses}
+use Rattle.lc_base.specs.History.{newest}
 use Rattle.history_root.specs.Naming.{uses_of}
-use Rattle.history_root.proofs.Lists.{option_cases, not_both, or_false, some_last}
-use Rattle.history_root.proofs.Keys.{same_key}
+use Rattle.history_root.proofs.Lists.{option_cases, or_false, some_last}
 use Rattle.history_root.proofs.Growing.{newest_append}
 use Rattle.history_root.proofs.Headers.{newest_has}
 use Rattle.lineage_index.specs.Growth.{Grows, held, settled, is_of_key, changed}

@@ -1,23 +1,22 @@
 -- The entries of the keys after a block.
-use Rattle.std.proofs.Common.{◌≡◌, ◌∙◌, ℕ, suc, ◌+◌, ◌<◌, ◌≤◌, Bool, true, false, ◌&&◌, ◌||◌, ◌==◌, if◌then◌else◌, List, [], ◌∷◌, ◌++◌, length, get_or, take, Option, Some, None, refl, sym, ap, arith, map, inl, inr}
-use Rattle.std.specs.List.{list_any, flat_map, AllByRecursion}
+use Rattle.std.proofs.Common.{◌≡◌, ◌∙◌, ℕ, suc, ◌<◌, ◌≤◌, Bool, true, false, ◌&&◌, ◌||◌, ◌==◌, List, [], ◌∷◌, ◌++◌, Option, Some, None, refl, sym, ap, arith, map, inl, inr}
+use Rattle.std.specs.List.{list_any, AllByRecursion}
 use Rattle.std.specs.Option.{is_some}
 use Rattle.std.specs.Cmp.Lexicographic.{pointwise}
-use Rattle.std.proofs.lemmas.List.{append-nil, append_assoc, take_more}
+use Rattle.std.proofs.lemmas.List.{append-nil}
 use Rattle.std.proofs.lemmas.List.Elements.{All-from_recursion}
 use Rattle.std.proofs.lemmas.List.Folds.{list_any-append}
 use Rattle.std.proofs.lemmas.Bool.{cases_Bool, and_left}
-use Rattle.lc_base.specs.declared.digest.Digest.{Digest}
 use Rattle.lc_base.specs.declared.row.Row.{Row}
 use Rattle.lc_base.specs.declared.row.Dep.{Dep}
 use Rattle.lc_base.specs.History.{newest, uses, depends_on, version_of}
-use Rattle.history_root.specs.Naming.{header_digest, digest_of_uses, digest_among}
+use Rattle.history_root.specs.Naming.{header_digest, digest_among}
 use Rattle.history_root.specs.Root.{is_among, keys_of, block_of}
 use Rattle.history_root.proofs.Lists.{all_weaker, option_cases, not_both, or_false, keep_none, some_last}
-use Rattle.history_root.proofs.Keys.{same_key, among_is_some, all_among}
+use Rattle.history_root.proofs.Keys.{same_key, among_is_some}
 use Rattle.history_root.proofs.Growing.{earlier_versions_stay, uses_append}
 use Rattle.history_root.proofs.Headers.{newest_has}
-use Rattle.lineage_index.specs.Growth.{Grows, Entry, entry_of, renewed, keys_of_row, keys_touched, is_of_key, is_on_key, changed}
+use Rattle.lineage_index.specs.Growth.{Grows, Entry, entry_of, renewed, keys_of_row, keys_touched, is_of_key, changed}
 use Rattle.lineage_index.proofs.Blocks.{rows_before, rows_now}
 use Rattle.lineage_index.proofs.ClosedLists.{newest_kept}
 

@@ -1,7 +1,6 @@
 -- What is kept of keys, with one key or one version more.
-use Rattle.std.proofs.Common.{◌≡◌, ◌≢◌, ◌∙◌, ℕ, ◌+◌, ◌<◌, true, false, ◌==◌, List, [], ◌∷◌, ◌++◌, length, get_or, map, Option, Some, None, refl, sym, ap, arith}
+use Rattle.std.proofs.Common.{◌≡◌, ◌≢◌, ◌∙◌, ℕ, ◌+◌, true, false, ◌==◌, List, [], ◌∷◌, ◌++◌, length, get_or, Option, Some, None, refl, sym, ap, arith}
 use Rattle.std.specs.Prelude.{slice_get, slice_set}
-use Rattle.std.specs.List.{AllPairs}
 use Rattle.std.specs.Cmp.Lexicographic.{pointwise}
 use Rattle.std.proofs.lemmas.List.{length-map}
 use Rattle.std.proofs.lemmas.List.Folds.{list_any_at}
@@ -14,7 +13,7 @@ use Rattle.history_root.proofs.Lists.{not_both}
 use Rattle.history_root.proofs.Keys.{key_is_key}
 use Rattle.state_tree.specs.Leaves.{index_of, with_leaf_of}
 use Rattle.forward_links.specs.Lists.{emptied_at}
-use Rattle.lineage_index.specs.Growth.{Entry, leaf_with, changed}
+use Rattle.lineage_index.specs.Growth.{Entry, leaf_with}
 use Rattle.lineage_index.specs.Heads.{leaves_with, KeyStates, AreHeads, AreLists, with_key_more, with_version_more, with_version, newest_of}
 use Rattle.lineage_index.proofs.ByKey.{push_key}
 use Rattle.lineage_index.proofs.KeyLeaves.{IsPlace, leaf_place, leaf_added}

@@ -1,5 +1,5 @@
 -- The lists of keys, and what changes one of them.
-use Rattle.std.proofs.Common.{◌≡◌, ◌≢◌, ◌∙◌, ℕ, ◌<◌, List, [], ◌∷◌, ◌++◌, length, get_or, set, map, Option, Some, None, false, refl, sym, ap, arith}
+use Rattle.std.proofs.Common.{◌≡◌, ◌≢◌, ◌∙◌, ℕ, ◌<◌, List, [], ◌∷◌, ◌++◌, length, map, Some, false, sym, ap, arith}
 use Rattle.std.specs.Prelude.{slice_get, slice_set, slice_index_or}
 use Rattle.std.specs.List.{AllPairs}
 use Rattle.std.proofs.lemmas.List.{get_or-map, length-map}
@@ -7,9 +7,9 @@ use Rattle.std.proofs.lemmas.Option.{slice_get_within, get_or_from_slice_get}
 use Rattle.lc_base.specs.declared.row.Dep.{Dep}
 use Rattle.prov_entry.specs.declared.entry.Leaf.{Leaf}
 use Rattle.history_root.specs.Root.{is_among}
-use Rattle.forward_links.specs.Lists.{list_at, with_use_at, emptied_at}
+use Rattle.forward_links.specs.Lists.{with_use_at}
 use Rattle.lineage_index.specs.Growth.{changed}
-use Rattle.lineage_index.specs.Heads.{AreLists, IsKeyIndex}
+use Rattle.lineage_index.specs.Heads.{AreLists}
 use Rattle.lineage_index.proofs.ByKey.{set_at_key, changed_nowhere, same_everywhere}
 
 -- the value at the index of a key

@@ -1,5 +1,5 @@
 -- The header of a new row, from what is kept.
-use Rattle.std.proofs.Common.{◌≡◌, ◌∙◌, ℕ, ◌<◌, ◌≤◌, true, false, ◌==◌, if◌then◌else◌, List, [], ◌∷◌, ◌++◌, length, get_or, take, ◌+◌, map, Option, Some, None, refl, sym, ap, subst, arith, inl, inr}
+use Rattle.std.proofs.Common.{◌≡◌, ◌∙◌, ℕ, ◌<◌, true, List, [], ◌∷◌, ◌++◌, length, get_or, take, ◌+◌, map, Option, Some, None, refl, sym, ap, subst, inl, inr}
 use Rattle.std.specs.Prelude.{slice_get}
 use Rattle.std.specs.List.{All, AllByRecursion, Contains}
 use Rattle.std.specs.Option.{IsSomeAnd}
@@ -30,14 +30,13 @@ use Rattle.lineage_index.proofs.KeyLeaves.{IsPlace, leaf_place, leaf_at}
 use Rattle.history_root.proofs.Lists.{all_weaker, contained, map_on, option_cases, not_both}
 use Rattle.history_root.proofs.Keys.{among_is_some}
 use Rattle.lineage_index.specs.Growth.{Grows, Entry, entry_of, leaf_with, held, named_from}
-use Rattle.lineage_index.specs.Heads.{KeyStates, AreHeads, AreLists, leaves_with, newest_at}
-use Rattle.lineage_index.specs.Headers.{using, AreUsing, digest_of_new, dep_with, list_if_among, body_with, newest_of_leaf, newest_in, dep_in, body_in}
+use Rattle.lineage_index.specs.Heads.{AreLists, leaves_with}
+use Rattle.lineage_index.specs.Headers.{AreUsing, digest_of_new, dep_with, list_if_among, body_with, newest_of_leaf, newest_in, dep_in, body_in}
 use Rattle.lineage_index.specs.Linking.{AreBefore}
 use Rattle.lineage_index.proofs.Blocks.{IsOnNewest, closed_is_held, new_deps, rows_now, deps_on_newest}
 use Rattle.lineage_index.proofs.OldVersions.{links_from_before, dep_is_named}
 use Rattle.lineage_index.proofs.KeyLists.{value_at}
 use Rattle.lineage_index.proofs.KeptStates.{index_among}
-use Rattle.lineage_index.proofs.Settled.{index_there, index_nowhere}
 use Rattle.std.proofs.lemmas.Option.{get_or_from_slice_get}
 
 -- ---- what is known of a new row

@@ -1,32 +1,20 @@
 -- What a new row names of older versions is that of the rows before its block.
-use Rattle.std.proofs.Common.{◌≡◌, ◌∙◌, ℕ, zero, suc, ◌+◌, ◌<◌, ◌≤◌, List, [], ◌∷◌, ◌++◌, length, get_or, map, Option, Some, None, refl, sym, ap, arith, inl, inr}
-use Rattle.std.specs.Prelude.{slice_get}
-use Rattle.std.specs.List.{All, AllByRecursion, range_with_len}
-use Rattle.std.specs.Option.{IsSomeAnd, MatchOption}
-use Rattle.std.proofs.lemmas.List.{map-append, length-map, length-append, length_push, get_or_append_left, get_or_at, get_or-map}
-use Rattle.std.proofs.lemmas.List.Elements.{All-from_recursion, recursion_from_All}
-use Rattle.std.proofs.lemmas.List.FromFn.{length-range_with_len, get_or-range_with_len}
-use Rattle.std.proofs.lemmas.Option.{slice_get-get_or, slice_get_past}
-use Rattle.std.proofs.lemmas.Bool.{cases_lt}
-use Rattle.sha2.specs.Sha256.{sha256}
+use Rattle.std.proofs.Common.{◌≡◌, ◌∙◌, ℕ, suc, ◌<◌, List, ◌++◌, Option, Some, None, refl, sym, ap, arith}
+use Rattle.std.specs.Option.{IsSomeAnd}
 use Rattle.lc_base.specs.declared.digest.Digest.{Digest}
 use Rattle.lc_base.specs.declared.row.Row.{Row}
 use Rattle.lc_base.specs.declared.row.Dep.{Dep}
-use Rattle.lc_base.specs.History.{IsLawful, below, newest}
-use Rattle.version_links.specs.declared.versions.VersionRef.{VersionRef}
+use Rattle.lc_base.specs.History.{newest}
 use Rattle.version_links.specs.Links.{links}
 use Rattle.prov_entry.specs.declared.entry.BodyDep.{BodyDep}
-use Rattle.prov_entry.specs.declared.entry.Leaf.{Leaf}
-use Rattle.history_root.specs.Naming.{closed, named_before, named_by, digest_among, with_digest, header_digest}
+use Rattle.history_root.specs.Naming.{named_before, digest_among, with_digest, header_digest}
 use Rattle.history_root.specs.NamingLaws.{digest_of_row}
-use Rattle.history_root.specs.Root.{root_of, root_text, digest_at, leaves, block_of}
-use Rattle.history_root.proofs.Lists.{all_weaker, all_append, all_contained, map_on}
-use Rattle.history_root.proofs.Growing.{up_to_now}
+use Rattle.history_root.specs.Root.{block_of}
+use Rattle.history_root.proofs.Lists.{all_contained}
 use Rattle.history_root.proofs.Headers.{row_is_named, newest_has, newest_is_key}
-use Rattle.history_root.proofs.UpToBlock.{earlier_roots_stay, links_below}
-use Rattle.lineage_index.specs.Growth.{Grows, Entry, entry_of, named_from}
-use Rattle.lineage_index.proofs.Blocks.{rows_before, rows_now, before_are, IsOnNewest}
-use Rattle.lineage_index.proofs.HeaderDigests.{named_grows, digests_of}
+use Rattle.history_root.proofs.UpToBlock.{links_below}
+use Rattle.lineage_index.specs.Growth.{Grows, entry_of}
+use Rattle.lineage_index.proofs.Blocks.{rows_before, before_are, IsOnNewest}
 
 -- the links of a version of the block, over the rows before it
 pub links_from_before : (rows new : List Row) (n : ℕ) (key : List ℕ) → Grows rows new n → links rows key n ≡ links (rows ++ new) key n

@@ -1,10 +1,9 @@
 -- One row more becomes the newest version of its key.
-use Rattle.std.proofs.Common.{◌≡◌, ◌∙◌, ℕ, ◌+◌, ◌<◌, ◌≤◌, Bool, true, false, ◌==◌, if◌then◌else◌, List, [], ◌∷◌, ◌++◌, length, map, Option, Some, None, refl, sym, ap, subst, arith, inl, inr}
+use Rattle.std.proofs.Common.{◌≡◌, ◌∙◌, ℕ, ◌<◌, ◌≤◌, true, false, ◌==◌, if◌then◌else◌, List, [], ◌∷◌, ◌++◌, length, map, Option, Some, None, refl, sym, ap, subst, arith, inl, inr}
 use Rattle.std.specs.Prelude.{slice_get, zero, suc}
 use Rattle.std.specs.Option.{is_some, option_or}
 use Rattle.std.specs.Cmp.Lexicographic.{pointwise}
-use Rattle.std.proofs.lemmas.List.{append-nil, append_assoc, length-map, length-append}
-use Rattle.std.proofs.lemmas.List.Sums.{fold-append}
+use Rattle.std.proofs.lemmas.List.{append_assoc}
 use Rattle.std.proofs.lemmas.Bool.{cases_Bool}
 use Rattle.lc_base.specs.declared.row.Row.{Row}
 use Rattle.lc_base.specs.declared.row.Dep.{Dep}
@@ -14,16 +13,16 @@ use Rattle.version_links.specs.Versions.{newest_index, version_after, versions_a
 use Rattle.version_links.proofs.Threads.{versions_more, newest_more, newest_found, newest_below}
 use Rattle.prov_entry.specs.declared.entry.Leaf.{Leaf}
 use Rattle.history_root.specs.Root.{is_among, with_key, keys_of}
-use Rattle.history_root.proofs.Lists.{not_both, option_cases}
+use Rattle.history_root.proofs.Lists.{not_both}
 use Rattle.history_root.proofs.Keys.{same_key, among_is_some, keys_append, keys_short}
 use Rattle.history_root.proofs.Growing.{newest_append}
-use Rattle.lineage_index.specs.Growth.{Grows, Entry, changed, settled, held}
-use Rattle.lineage_index.specs.Heads.{KeyStates, AreHeads, leaves_with, with_version, with_key_more, with_version_more, newest_of, fresh_entry, newest_at, index_or_zero, open_list}
+use Rattle.lineage_index.specs.Growth.{changed}
+use Rattle.lineage_index.specs.Heads.{KeyStates, AreHeads, leaves_with, with_version, with_key_more, with_version_more, newest_of, fresh_entry, newest_at, index_or_zero}
 use Rattle.lineage_index.specs.Settling.{entry_or_fresh, settling, AreSettled}
 use Rattle.lineage_index.proofs.ByKey.{same_everywhere}
 use Rattle.lineage_index.proofs.KeyLeaves.{leaves_same}
 use Rattle.lineage_index.proofs.KeptStates.{version_new, version_old, as_many}
-use Rattle.lineage_index.proofs.ClosedLists.{one_key_more, settled_all}
+use Rattle.lineage_index.proofs.ClosedLists.{one_key_more}
 
 -- states that say the same of each key
 pub heads_same : (tree : List Leaf) (lists : List (List Dep)) (newest : List ℕ) (s t : KeyStates) → AreHeads tree lists newest s → s.keys ≡ t.keys → ((key : List ℕ) → s.entry key ≡ t.entry key) → ((key : List ℕ) → s.list key ≡ t.list key)

@@ -1,19 +1,18 @@
 -- The uses of a block's rows, put into the lists of the keys dependency by dependency.
-use Rattle.std.proofs.Common.{◌≡◌, ◌≢◌, ◌∙◌, ℕ, zero, suc, ◌+◌, ◌<◌, Bool, true, false, ◌&&◌, ◌||◌, ◌==◌, if◌then◌else◌, List, [], ◌∷◌, ◌++◌, length, get_or, take, Option, Some, None, refl, sym, ap, arith, map, filter, inl, inr}
+use Rattle.std.proofs.Common.{◌≡◌, ◌≢◌, ◌∙◌, ℕ, zero, suc, ◌+◌, ◌<◌, Bool, false, ◌&&◌, ◌||◌, ◌==◌, if◌then◌else◌, List, [], ◌∷◌, ◌++◌, length, get_or, take, Option, Some, None, refl, sym, ap, arith, inl, inr}
 use Rattle.std.specs.List.{list_any, All, AllPairs, AllByRecursion}
 use Rattle.std.specs.Option.{IsSomeAnd}
 use Rattle.std.specs.Cmp.Lexicographic.{pointwise}
 use Rattle.std.proofs.lemmas.List.{append-nil, append_assoc, take_more}
-use Rattle.std.proofs.lemmas.List.Elements.{recursion_from_All}
 use Rattle.std.proofs.lemmas.List.Sums.{fold-append}
 use Rattle.std.proofs.lemmas.List.Folds.{list_any-append}
-use Rattle.std.proofs.lemmas.Bool.{cases_Bool, and_parts, eqb-true, eq-eqb}
+use Rattle.std.proofs.lemmas.Bool.{cases_Bool, eq-eqb}
 use Rattle.lc_base.specs.declared.row.Row.{Row}
 use Rattle.lc_base.specs.declared.row.Dep.{Dep}
-use Rattle.lc_base.specs.History.{HasLawfulDeps, newest, uses, depends_on, version_of}
+use Rattle.lc_base.specs.History.{newest, uses, depends_on, version_of}
 use Rattle.history_root.specs.Naming.{uses_of}
-use Rattle.history_root.proofs.Lists.{all_weaker, all_append, option_cases, not_both, or_false}
-use Rattle.history_root.proofs.Keys.{same_key, key_is_key}
+use Rattle.history_root.proofs.Lists.{option_cases, or_false}
+use Rattle.history_root.proofs.Keys.{same_key}
 use Rattle.history_root.proofs.Growing.{uses_append}
 use Rattle.lineage_index.specs.Growth.{held, used, used_by_row, used_by, HaveDistinctKeys, is_on_key, changed}
 use Rattle.lineage_index.proofs.Blocks.{IsOnNewest}

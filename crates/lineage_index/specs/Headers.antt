@@ -11,7 +11,7 @@ use Rattle.prov_entry.specs.declared.entry.Body.{Body}
 use Rattle.history_root.specs.Naming.{named_by}
 use Rattle.history_root.specs.Root.{is_among, keys_of, sentinel}
 use Rattle.state_tree.specs.Leaves.{index_of}
-use Rattle.lineage_index.specs.Growth.{Grows, Entry, entry_of, held, named_from}
+use Rattle.lineage_index.specs.Growth.{Grows, Entry, entry_of, held}
 use Rattle.lineage_index.specs.Heads.{KeyStates, AreHeads, newest_at}
 use Rattle.lineage_index.specs.Settling.{AreRecords}
 

@@ -1,7 +1,6 @@
 -- What is kept of the newest version of each key.
 use Rattle.std.specs.Prelude.{◌≡◌, ◌≢◌, ℕ, List, [], ◌∷◌, ◌++◌, map, replicate, slice_get, false, if◌then◌else◌, Option, Some, None}
 use Rattle.std.specs.List.{AllPairs}
-use Rattle.lc_base.specs.declared.digest.Digest.{Digest}
 use Rattle.lc_base.specs.declared.row.Row.{Row}
 use Rattle.lc_base.specs.declared.row.Dep.{Dep}
 use Rattle.lc_base.specs.History.{newest}

@@ -1,6 +1,5 @@
-use Rattle.std.proofs.Common.{List, ◌++◌, ◌∙◌, ◌≡◌, map, subst, sym, ap, arith}
+use Rattle.std.proofs.Common.{◌++◌, ◌∙◌, map, sym, ap, arith}
 use Rattle.std.proofs.lemmas.List.{take_all}
-use Rattle.lc_base.specs.declared.row.Row.{Row}
 use Rattle.lineage_index.specs.Growth.{named_from}
 use Rattle.lineage_index.specs.Headers.{digest_of_new}
 use Rattle.lineage_index.proofs.NewHeaders.{mapped_more}

@@ -1,4 +1,3 @@
-use Rattle.std.proofs.Common.{◌++◌, ◌∷◌, [], ◌∙◌, refl, sym}
 use Rattle.lineage_index.proofs.KeptStates.{no_leaf, heads_added}
 use Rattle.lineage_index.proofs.heads.add_key.Goals as goal
 

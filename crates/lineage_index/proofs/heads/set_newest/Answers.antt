@@ -1,4 +1,3 @@
-use Rattle.std.proofs.Common.{sym}
 use Rattle.lineage_index.proofs.KeptStates.{index_among, heads_replaced, version_old, newest_before}
 use Rattle.lineage_index.proofs.heads.set_newest.Goals as goal
 
