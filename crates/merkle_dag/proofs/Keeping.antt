@@ -10,7 +10,7 @@ use Rattle.history_root.specs.Root.{root_of, root_text, leaves}
 use Rattle.lineage_index.specs.Growth.{Grows}
 use Rattle.lineage_index.specs.Index.{IsIndexOf}
 use Rattle.lineage_index.specs.declared.index.LineageIndex.{LineageIndex}
-use Rattle.merkle_dag.specs.declared.limits.TheConstants.{MAX_BLOCKS}
+use Rattle.merkle_dag.specs.declared.limits.TheConstants.{MAX_LINEAGE_BLOCKS}
 use Rattle.merkle_dag.specs.Ledger.{IsLedger, roots_of}
 use Rattle.merkle_dag.proofs.LedgerSteps.{grows_from, roots_after, ledger_after, root_now}
 
@@ -28,7 +28,7 @@ module _ (rows new : List Row) (digests roots : List Digest) (n : ℕ) (d root :
   pub root_is : root.0 ≡ sha256 (root_text n d.0 (leaves (rows ++ new))) → root.0 ≡ root_of (rows ++ new) (digests ++ d ∷ []) n
   root_is made = made ∙ sym (root_now rows new digests d n grows count)
 
-  pub ledger_is : n < MAX_BLOCKS → IsLedger (rows ++ new) (digests ++ d ∷ [])
+  pub ledger_is : n < MAX_LINEAGE_BLOCKS → IsLedger (rows ++ new) (digests ++ d ∷ [])
   ledger_is low = ledger_after rows new digests d n grows count low
 
   pub index_is : (index : LineageIndex) → IsIndexOf (rows ++ new) (n + 1) index → IsIndexOf (rows ++ new) (length (digests ++ d ∷ [])) index

@@ -16,7 +16,7 @@ use Rattle.history_root.specs.Root.{root_of, root_text, digest_at, leaves}
 use Rattle.history_root.proofs.Lists.{all_weaker, all_append}
 use Rattle.history_root.proofs.Growing.{up_to_now}
 use Rattle.history_root.proofs.UpToBlock.{earlier_roots_stay}
-use Rattle.merkle_dag.specs.declared.limits.TheConstants.{MAX_BLOCKS}
+use Rattle.merkle_dag.specs.declared.limits.TheConstants.{MAX_LINEAGE_BLOCKS}
 use Rattle.lineage_index.specs.Growth.{Grows}
 use Rattle.merkle_dag.specs.Ledger.{IsLedger, roots_of}
 use Rattle.lineage_index.proofs.Blocks.{rows_before, rows_now}
@@ -85,7 +85,7 @@ root_found roots f n at e =
 
 -- ---- the ledger
 
-pub ledger_after : (rows new : List Row) (digests : List Digest) (d : Digest) (n : ℕ) → Grows rows new n → n ≡ length digests → n < MAX_BLOCKS → IsLedger (rows ++ new) (digests ++ d ∷ [])
+pub ledger_after : (rows new : List Row) (digests : List Digest) (d : Digest) (n : ℕ) → Grows rows new n → n ≡ length digests → n < MAX_LINEAGE_BLOCKS → IsLedger (rows ++ new) (digests ++ d ∷ [])
 ledger_after rows new digests d n g count most =
     let long : length (digests ++ d ∷ []) ≡ n + 1 = length_push digests d ∙ ap (λ (k : ℕ). k + 1) (sym count) in
     record {

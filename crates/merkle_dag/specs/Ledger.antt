@@ -5,7 +5,7 @@ use Rattle.lc_base.specs.declared.digest.Digest.{Digest}
 use Rattle.lc_base.specs.declared.row.Row.{Row}
 use Rattle.lc_base.specs.History.{IsLawful}
 use Rattle.history_root.specs.Root.{root_of}
-use Rattle.merkle_dag.specs.declared.limits.TheConstants.{MAX_BLOCKS}
+use Rattle.merkle_dag.specs.declared.limits.TheConstants.{MAX_LINEAGE_BLOCKS}
 
 -- Rows, and the digests of their blocks.
 pub record Ledger : Type 0 where
@@ -16,7 +16,7 @@ pub record Ledger : Type 0 where
 pub record IsLedger (rows : List Row) (digests : List Digest) : Type 0 where
   pub lawful : IsLawful rows
   pub within : All (λ (row : Row). row.block < length digests) rows
-  pub few : length digests ≤ MAX_BLOCKS
+  pub few : length digests ≤ MAX_LINEAGE_BLOCKS
 
 -- The roots of all blocks.
 abbrev pub roots_of : List Row → List Digest → List (List ℕ)

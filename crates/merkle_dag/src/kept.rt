@@ -5,7 +5,7 @@ ghost use Rattle.std.specs.List.{All};
 ghost use Rattle.lc_base.specs.History.{IsLawful};
 ghost use Rattle.lc_base.specs.declared.row.Row.{Row};
 ghost use Rattle.history_root.specs.Root.{root_of};
-ghost use Rattle.merkle_dag.specs.declared.limits.TheConstants.{MAX_BLOCKS};
+ghost use Rattle.merkle_dag.specs.declared.limits.TheConstants.{MAX_LINEAGE_BLOCKS};
 ghost use Rattle.merkle_dag.specs.Kept.{IsWhole};
 
 use crate::root::root_of_tree;
@@ -32,7 +32,7 @@ pub(crate) fn grow(
 ) -> Result<Digest, Memory>
     requires whole { IsWhole kept.old }
     requires next { number ≡ length kept.old.digests.items }
-    requires low { number < MAX_BLOCKS }
+    requires low { number < MAX_LINEAGE_BLOCKS }
     requires block { All (λ (row : Row). row.block ≡ number) new.now }
     requires lawful { IsLawful (kept.old.rows ++ new.now) }
     ensures whole { OnOk result (IsWhole kept.new) }

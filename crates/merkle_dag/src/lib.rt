@@ -7,5 +7,5 @@ mod limits;
 mod lineage;
 mod root;
 
-pub use limits::MAX_BLOCKS;
+pub use limits::MAX_LINEAGE_BLOCKS;
 pub use lineage::{DagError, Lineage};

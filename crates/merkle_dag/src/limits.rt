@@ -1,4 +1,4 @@
 //! How many blocks there may be.
 
-/// The greatest number of blocks of a lineage.
-pub const MAX_BLOCKS: u32 = 4_294_967_295;
+/// The greatest number of blocks of a lineage: their count is a u32. A chain has fewer.
+pub const MAX_LINEAGE_BLOCKS: u32 = 4_294_967_295;

@@ -9,7 +9,7 @@ ghost use Rattle.lc_base.specs.declared.limits.TheConstants.{MAX_DEPS};
 ghost use Rattle.lc_base.specs.declared.row.Row.{Row};
 ghost use Rattle.history_root.specs.Root.{root_of, leaves};
 ghost use Rattle.lineage_index.specs.Index.{newest_uses};
-ghost use Rattle.merkle_dag.specs.declared.limits.TheConstants.{MAX_BLOCKS};
+ghost use Rattle.merkle_dag.specs.declared.limits.TheConstants.{MAX_LINEAGE_BLOCKS};
 ghost use Rattle.merkle_dag.specs.Ledger.{Ledger, IsLedger, IsHead};
 
 use crate::kept::{Kept, discard, grow};
@@ -88,7 +88,7 @@ impl Lineage {
         rows: &RowList,
     ) -> Result<(Lineage, Digest), DagError>
         requires next { number ≡ length self.digests }
-        requires low { number < MAX_BLOCKS }
+        requires low { number < MAX_LINEAGE_BLOCKS }
         requires block { All (λ (row : Row). row.block ≡ number) rows.now }
         requires lawful { IsLawful (self.rows ++ rows.now) }
         ensures kept { IfOk result (λ pair. pair.0 ≡ record { rows = self.rows ++ rows.now; digests = self.digests ++ digest ∷ [] }) }
