@@ -9,9 +9,11 @@ use std::io::Write;
 /// Leaves: bytes in hex, with a comma behind each.
 fn leaves_of(alloc: Global, text: &str) -> Result<Vec<Bytes>> {
     let mut leaves = Vec::new(alloc);
-    for digits in text.split_terminator(',') {
+    for digits in text.split(',') {
         leaves.push(Bytes::from_vec(hex::decode(alloc, digits)?))?;
     }
+    // What stands behind the last comma is no leaf.
+    leaves.pop();
     Ok(leaves)
 }
 
