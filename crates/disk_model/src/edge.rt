@@ -3,7 +3,7 @@
 //! Of a writer whose bytes std knows, such as a vector in memory, the clause `writer` says what
 //! becomes of them.
 
-ghost use Rattle.std.specs.Prelude.{◌≡◌, ◌+◌, ◌^◌, ◌<◌, ◌≤◌, ℕ, false, Option, Some, None, List, length, take, drop, IfOk, IfSome, IsErr};
+ghost use Rattle.std.specs.Prelude.{◌≡◌, ◌+◌, ◌^◌, ◌<◌, ◌≤◌, ℕ, true, false, Option, Some, None, List, length, take, drop, IfOk, IfSome, IsErr, is_err};
 ghost use Rattle.std.proofs.Common.{rules};
 ghost use Rattle.lc_base.specs.Faults.{HasCause};
 ghost use Rattle.lc_outside.specs.Disk.{Stays};
@@ -14,6 +14,7 @@ ghost use Rattle.disk_model.specs.Disk.{Writes, Syncs, content_of};
 
 use crate::disk::Disk;
 use lc_outside::{Clock, Failed, Wire, one_more, write_whole};
+use std::fs;
 use std::fs::{File, OpenOptions};
 use std::io::{ErrorKind, Write};
 use std::os::unix::fs::FileExt;
@@ -22,52 +23,71 @@ use std::path::Path;
 /// The folder of a path that names none.
 const PRESENT_FOLDER: &str = ".";
 
-/// A file at a path, which need not be there: it then has length 0. It is opened at the first call,
-/// and made by the first write.
+/// What is known of the file at a path.
+#[derive(Drop)]
+enum Found {
+    NotLooked,
+    Absent,
+    Open(File),
+}
+
+/// A file at a path, which need not be there: it then has length 0. It is looked for at the first
+/// call, and made by the first write.
 #[derive(Drop)]
 struct HostFile<'a> {
     rt: &'a HostRuntime,
     path: &'a str,
-    file: Option<File>,
+    found: Found,
     is_folder_synced: bool,
+    has_failed: bool,
 }
 
 /// Moves a file to a descriptor of 3 or more, as a clone's is. A standard stream that was closed
 /// when the program started leaves its descriptor free for the first file that is opened, and what
 /// is told would go over the file.
-fn apart_from_streams(file: File) -> Result<Option<File>, Failed> {
+fn apart_from_streams(file: File) -> Result<Found, Failed> {
     match file.try_clone() {
-        Ok(clone) => Ok(Some(clone)),
+        Ok(clone) => Ok(Found::Open(clone)),
         Err(_) => Err(Failed),
     }
 }
 
-fn open_for_reading(rt: &HostRuntime, path: &str) -> Result<Option<File>, Failed> {
+fn open_for_reading(rt: &HostRuntime, path: &str) -> Result<Found, Failed> {
     match File::open(rt, path) {
         Ok(file) => apart_from_streams(file),
         Err(_) => Err(Failed),
     }
 }
 
-/// Opens the file at a path and leaves what is in it; `None` where there is no such file and it is
-/// not to be made. A file that may not be written is opened for reading alone, and a write is then a
-/// fault.
-fn open_file(rt: &HostRuntime, path: &str, make: bool) -> Result<Option<File>, Failed> {
-    match OpenOptions::new()
-        .read(true)
-        .write(true)
-        .create(make)
-        .open(rt, path)
-    {
+/// Opens the file at a path and leaves what is in it. One that may not be written is opened for
+/// reading alone, and a write is then a fault.
+fn open_file(rt: &HostRuntime, path: &str) -> Result<Found, Failed> {
+    match OpenOptions::new().read(true).write(true).open(rt, path) {
         Ok(file) => apart_from_streams(file),
-        Err(_) if make => Err(Failed),
         Err(e) => match e.kind() {
-            ErrorKind::NotFound => Ok(None),
             ErrorKind::PermissionDenied | ErrorKind::ReadOnlyFilesystem => {
                 open_for_reading(rt, path)
             }
             _ => Err(Failed),
         },
+    }
+}
+
+/// Looks for the file at a path. Only a regular file is opened: opening a pipe may wait for ever,
+/// and a device keeps nothing.
+fn find_file(rt: &HostRuntime, path: &str) -> Result<Found, Failed> {
+    match fs::metadata(rt, path) {
+        Ok(metadata) if metadata.is_file() => open_file(rt, path),
+        Err(e) if e.kind() == ErrorKind::NotFound => Ok(Found::Absent),
+        _ => Err(Failed),
+    }
+}
+
+/// Makes the file at a path. Where there is one by now, another program made it, and that is a fault.
+fn create_file(rt: &HostRuntime, path: &str) -> Result<Found, Failed> {
+    match File::create_new(rt, path) {
+        Ok(file) => apart_from_streams(file),
+        Err(_) => Err(Failed),
     }
 }
 
@@ -100,10 +120,6 @@ fn write_whole_at(file: &File, at: u64, bytes: &[u8]) -> Result<(), Failed> {
     Ok(())
 }
 
-fn sync_file(file: &File) -> Result<(), Failed> {
-    file.sync_all().map_err(|_| Failed)
-}
-
 /// Syncs the folder that holds the file of a path, without which a crash may leave no such file.
 fn sync_folder(rt: &HostRuntime, path: &str) -> Result<(), Failed> {
     let folder = match Path::new(path).parent() {
@@ -111,55 +127,64 @@ fn sync_folder(rt: &HostRuntime, path: &str) -> Result<(), Failed> {
         _ => PRESENT_FOLDER,
     };
     match File::open(rt, folder) {
-        Ok(folder) => sync_file(&folder),
+        Ok(folder) => folder.sync_all().map_err(|_| Failed),
         Err(_) => Err(Failed),
     }
 }
 
 impl<'a> HostFile<'a> {
-    /// Opens the file where it is not open yet.
-    fn open(&mut self, make: bool) -> Result<(), Failed> {
-        if self.file.is_none() {
-            self.file = open_file(self.rt, self.path, make)?;
+    /// Looks for the file, the first time.
+    fn look(&mut self) -> Result<(), Failed>
+        ensures failed { self.new.has_failed ≡ self.old.has_failed }
+    {
+        if let Found::NotLooked = self.found {
+            self.found = find_file(self.rt, self.path)?;
         }
         Ok(())
     }
 
-    fn len(&mut self) -> Result<u64, Failed> {
-        self.open(false)?;
-        match &self.file {
-            Some(file) => match file.metadata() {
+    fn len(&mut self) -> Result<u64, Failed>
+        ensures failed { self.new.has_failed ≡ self.old.has_failed }
+    {
+        self.look()?;
+        match &self.found {
+            Found::Open(file) => match file.metadata() {
                 Ok(metadata) => Ok(metadata.len()),
                 Err(_) => Err(Failed),
             },
-            None => Ok(0),
+            _ => Ok(0),
         }
     }
 
     fn read_at(&mut self, at: u64, buffer: &mut [u8]) -> Result<usize, Failed>
         ensures bound { IfOk result (λ n. n ≤ length buffer.new) }
+        ensures failed { self.new.has_failed ≡ self.old.has_failed }
     {
-        self.open(false)?;
-        match &self.file {
-            Some(file) => read_whole_at(file, at, buffer),
-            None => Ok(0),
+        self.look()?;
+        match &self.found {
+            Found::Open(file) => read_whole_at(file, at, buffer),
+            _ => Ok(0),
         }
     }
 
-    fn write_at(&mut self, at: u64, bytes: &[u8]) -> Result<(), Failed> {
-        self.open(true)?;
-        match &self.file {
-            Some(file) => write_whole_at(file, at, bytes),
-            None => Err(Failed),
+    /// Writes, and makes the file where it is absent.
+    fn write_now(&mut self, at: u64, bytes: &[u8]) -> Result<(), Failed> {
+        self.look()?;
+        if let Found::Absent = self.found {
+            self.found = create_file(self.rt, self.path)?;
+        }
+        match &self.found {
+            Found::Open(file) => write_whole_at(file, at, bytes),
+            _ => Err(Failed),
         }
     }
 
-    /// Syncs the file, and the first time the folder that holds it, too.
-    fn sync(&mut self) -> Result<(), Failed> {
-        self.open(false)?;
-        match &self.file {
-            Some(file) => sync_file(file)?,
-            None => return Ok(()),
+    /// Syncs the file's bytes and its length, and the first time the folder that holds it, too.
+    fn sync_now(&mut self) -> Result<(), Failed> {
+        self.look()?;
+        match &self.found {
+            Found::Open(file) => file.sync_data().map_err(|_| Failed)?,
+            _ => return Ok(()),
         }
         if !self.is_folder_synced {
             sync_folder(self.rt, self.path)?;
@@ -167,11 +192,36 @@ impl<'a> HostFile<'a> {
         }
         Ok(())
     }
+
+    fn write_at(&mut self, at: u64, bytes: &[u8]) -> Result<(), Failed>
+        ensures stuck { self.old.has_failed ≡ true → IsErr result }
+        ensures failed { self.new.has_failed ≡ is_err result }
+    {
+        if self.has_failed {
+            return Err(Failed);
+        }
+        let done = self.write_now(at, bytes);
+        self.has_failed = done.is_err();
+        done
+    }
+
+    fn sync(&mut self) -> Result<(), Failed>
+        ensures stuck { self.old.has_failed ≡ true → IsErr result }
+        ensures failed { self.new.has_failed ≡ is_err result }
+    {
+        if self.has_failed {
+            return Err(Failed);
+        }
+        let done = self.sync_now();
+        self.has_failed = done.is_err();
+        done
+    }
 }
 
 /// A machine whose disk is the file at a path, and whose wire is a writer, such as standard output.
 /// The file is touched at the first call of the disk. One that is not there has length 0, and the
-/// first write makes it.
+/// first write makes it. Where a write or a sync has failed, each later one fails: a system that
+/// could not write once may answer the next sync though the bytes are lost.
 #[derive(Drop)]
 pub struct FileMachine<'a, W> {
     file: HostFile<'a>,
@@ -185,8 +235,9 @@ impl<'a, W> FileMachine<'a, W> {
     /// absolute starts at the present folder.
     pub fn new(rt: &'a HostRuntime, path: &'a str, writer: W) -> FileMachine<'a, W>
         ensures path { result.file.path.now ≡ path.now }
-        ensures file { result.file.file ≡ None }
+        ensures file { result.file.found ≡ Found.NotLooked }
         ensures folder { result.file.is_folder_synced ≡ false }
+        ensures failed { result.file.has_failed ≡ false }
         ensures writer { result.writer ≡ writer }
         ensures disk_faults { result.disk_faults ≡ 0 }
         ensures wire_faults { result.wire_faults ≡ 0 }
@@ -195,8 +246,9 @@ impl<'a, W> FileMachine<'a, W> {
             file: HostFile {
                 rt,
                 path,
-                file: None,
+                found: Found::NotLooked,
                 is_folder_synced: false,
+                has_failed: false,
             },
             writer,
             disk_faults: 0,
@@ -226,6 +278,7 @@ impl<'a, W: Write> Wire for FileMachine<'a, W> {
         ensures cause { HasCause self.old.wire_faults self.new.wire_faults (IsErr result) }
         ensures writer { WritesThrough (W.contents self.old.writer) (W.contents self.new.writer) bytes.now result }
         ensures faults { CountsFaults self.old.wire_faults self.new.wire_faults result }
+        ensures failed { self.new.file.has_failed ≡ self.old.file.has_failed }
     {
         match write_whole(&mut self.writer, bytes) {
             Ok(()) => Ok(()),
@@ -247,6 +300,7 @@ impl<'a, W> Disk for FileMachine<'a, W> {
         ensures cause { HasCause self.old.disk_faults self.new.disk_faults (IsErr result) }
         ensures faults { CountsFaults self.old.disk_faults self.new.disk_faults result }
         ensures writer { self.new.writer ≡ self.old.writer }
+        ensures failed { self.new.file.has_failed ≡ self.old.file.has_failed }
     {
         match self.file.len() {
             Ok(len) => Ok(len),
@@ -268,6 +322,7 @@ impl<'a, W> Disk for FileMachine<'a, W> {
         ensures cause { HasCause self.old.disk_faults self.new.disk_faults (IsErr result) }
         ensures faults { CountsFaults self.old.disk_faults self.new.disk_faults result }
         ensures writer { self.new.writer ≡ self.old.writer }
+        ensures failed { self.new.file.has_failed ≡ self.old.file.has_failed }
     {
         match self.file.read_at(at, buffer) {
             Ok(count) => Ok(count),
@@ -278,8 +333,8 @@ impl<'a, W> Disk for FileMachine<'a, W> {
         }
     }
 
-    /// Writes until the file has taken all bytes, and makes it where it is not there. A write that
-    /// takes nothing is a fault.
+    /// Writes until the file has taken all bytes, and makes it where it was not there when it was
+    /// looked for. A write that takes nothing is a fault.
     fn write_at(&mut self, at: u64, bytes: &[u8]) -> Result<(), Failed>
         requires within { (content : List ℕ) → content_of None ≡ Some content → at ≤ length content }
         requires fits { at + length bytes.now < 2 ^ 64 }
@@ -289,6 +344,8 @@ impl<'a, W> Disk for FileMachine<'a, W> {
         ensures cause { HasCause self.old.disk_faults self.new.disk_faults (IsErr result) }
         ensures faults { CountsFaults self.old.disk_faults self.new.disk_faults result }
         ensures writer { self.new.writer ≡ self.old.writer }
+        ensures stuck { self.old.file.has_failed ≡ true → IsErr result }
+        ensures failed { self.new.file.has_failed ≡ is_err result }
     {
         match self.file.write_at(at, bytes) {
             Ok(()) => Ok(()),
@@ -299,8 +356,8 @@ impl<'a, W> Disk for FileMachine<'a, W> {
         }
     }
 
-    /// Syncs the file, and the first time the folder that holds it, too. Nothing where there is no
-    /// file.
+    /// Syncs the file's bytes and its length, and the first time the folder that holds it, too. Nothing
+    /// where there is no file.
     fn sync(&mut self) -> Result<(), Failed>
         ensures disk { Syncs (λ _. 0) (λ _ _. None) self.old self.new result }
         ensures told { ◌≡◌ {A = Option (List Tell)} None None }
@@ -308,6 +365,8 @@ impl<'a, W> Disk for FileMachine<'a, W> {
         ensures cause { HasCause self.old.disk_faults self.new.disk_faults (IsErr result) }
         ensures faults { CountsFaults self.old.disk_faults self.new.disk_faults result }
         ensures writer { self.new.writer ≡ self.old.writer }
+        ensures stuck { self.old.file.has_failed ≡ true → IsErr result }
+        ensures failed { self.new.file.has_failed ≡ is_err result }
     {
         match self.file.sync() {
             Ok(()) => Ok(()),
