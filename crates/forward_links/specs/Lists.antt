@@ -1,15 +1,29 @@
--- Lists that are kept side by side, one for each key.
-use Rattle.std.specs.Prelude.{ℕ, List, [], ◌∷◌, ◌++◌, slice_index_or, slice_set}
+-- What is kept of open lists, side by side, one for each key.
+use Rattle.std.specs.Prelude.{ℕ, ◌+◌, List, [], ◌∷◌, ◌++◌, length, slice_index_or, slice_set}
 use Rattle.lc_base.specs.declared.row.Dep.{Dep}
+use Rattle.prov_entry.specs.ForwardLists.{uses_digest, with_use}
+use Rattle.forward_links.specs.declared.open_list.OpenList.{OpenList}
 
--- The list at an index.
-abbrev pub list_at : List (List Dep) → ℕ → List Dep
-list_at lists index = slice_index_or lists index []
+-- What is kept of a list of uses: their number, and their digest.
+abbrev pub open_of : List Dep → OpenList
+open_of uses = record { count = length uses; digest = record { 0 = uses_digest uses } }
 
--- The lists, where the one at an index has one use more at its end.
+-- The same with one use more, by what was kept.
+abbrev pub with_one : OpenList → Dep → OpenList
+with_one kept use_ = record { count = kept.count + 1; digest = record { 0 = with_use kept.digest.0 use_ } }
+
+-- What is kept of the list at an index.
+abbrev pub kept_at : List OpenList → ℕ → OpenList
+kept_at kept index = slice_index_or kept index (open_of [])
+
+-- What is kept where the list at an index has one use more.
+abbrev pub with_one_at : List OpenList → ℕ → Dep → List OpenList
+with_one_at kept index use_ = slice_set kept index (with_one (kept_at kept index) use_)
+
+-- Lists, where the one at an index has one use more at its end.
 abbrev pub with_use_at : List (List Dep) → ℕ → Dep → List (List Dep)
-with_use_at lists index use_ = slice_set lists index (list_at lists index ++ use_ ∷ [])
+with_use_at lists index use_ = slice_set lists index (slice_index_or lists index [] ++ use_ ∷ [])
 
--- The lists, where the one at an index is empty.
-abbrev pub emptied_at : List (List Dep) → ℕ → List (List Dep)
-emptied_at lists index = slice_set lists index []
+-- What is kept where the list at an index is empty.
+abbrev pub emptied_at : List OpenList → ℕ → List OpenList
+emptied_at kept index = slice_set kept index (open_of [])

@@ -1,98 +1,39 @@
 //! One forward list that is still open.
 
-ghost use Rattle.std.specs.Prelude.{◌≡◌, [], ◌∷◌, ◌++◌, length, OnOk, OnErr};
-ghost use Rattle.prov_entry.specs.ForwardLists.{uses_digest};
+ghost use Rattle.std.specs.Prelude.{◌≡◌, ◌<◌, [], ◌∷◌, ◌++◌, List};
+ghost use Rattle.lc_base.specs.declared.row.Dep.{Dep};
+ghost use Rattle.forward_links.specs.Lists.{open_of, with_one};
+ghost use Rattle.forward_links.specs.declared.limits.TheConstants.{MAX_USES};
 
-use lc_base::{Dep, DepList, Digest, Memory};
+use lc_base::{Dep, Digest};
 use prov_entry::{no_uses, with_use};
-use std::alloc::Global;
-use std::marker::Model;
 
-/// A forward list that is closed.
-#[derive(Debug, Drop)]
-pub struct Closed {
+/// What is kept of a forward list that is still open.
+#[derive(Clone, Copy, Debug, PartialEq, Eq)]
+pub struct OpenList {
     /// The number of its uses.
     pub count: u64,
     /// The digest of its uses.
     pub digest: Digest,
-    /// Its uses, in the order of their rows.
-    pub list: DepList,
-}
-
-/// A forward list that grows at its end, with the digest of its uses.
-#[derive(Debug, Drop)]
-pub struct OpenList {
-    list: DepList,
-    digest: Digest,
-}
-
-impl Model for OpenList {
-    ghost use Rattle.std.specs.Prelude.{◌≡◌, List};
-    ghost use Rattle.lc_base.specs.declared.row.Dep.{Dep};
-    ghost use Rattle.prov_entry.specs.ForwardLists.{uses_digest};
-
-    ghost Value = { List Dep };
-
-    ghost view = { λ kept. kept.list };
-
-    ghost invariant = { λ kept. kept.digest.0 ≡ uses_digest kept.list };
 }
 
 impl OpenList {
-    /// The empty list. It takes no memory.
-    pub fn new(alloc: Global) -> OpenList
-        ensures { result ≡ [] }
+    /// The empty list.
+    pub fn new() -> OpenList
+        ensures { result ≡ open_of [] }
     {
         OpenList {
-            list: DepList::new(alloc),
+            count: 0,
             digest: no_uses(),
         }
     }
 
-    /// Appends a use. Out of memory, the list stays as it was.
-    pub fn push(&mut self, dep: &Dep) -> Result<(), Memory>
-        ensures ok { OnOk result (self.new ≡ self.old ++ dep.now ∷ []) }
-        ensures err { OnErr result (self.new ≡ self.old) }
+    /// Appends a use.
+    pub(crate) fn push(&mut self, dep: &Dep)
+        requires { self.old.count < MAX_USES }
+        ensures { self.new ≡ with_one self.old dep.now }
     {
-        self.list.push(*dep)?;
+        self.count += 1;
         self.digest = with_use(&self.digest, dep);
-        Ok(())
-    }
-
-    /// The number of its uses.
-    pub fn count(&self) -> u64
-        ensures { result ≡ length self.now }
-    {
-        self.list.len() as u64
-    }
-
-    /// The digest of its uses.
-    pub fn digest(&self) -> Digest
-        ensures { result.0 ≡ uses_digest self.now }
-    {
-        self.digest
-    }
-
-    /// Its uses.
-    pub fn list(&self) -> &DepList
-        ensures { result.now ≡ self.now }
-    {
-        &self.list
-    }
-
-    /// Closes the list and hands it out; an empty one is open in its place. It takes no memory.
-    pub fn close(&mut self) -> Closed
-        ensures count { result.count ≡ length self.old }
-        ensures digest { result.digest.0 ≡ uses_digest self.old }
-        ensures list { result.list ≡ self.old }
-        ensures emptied { self.new ≡ [] }
-    {
-        let alloc = self.list.allocator();
-        let closed = std::mem::replace(self, OpenList::new(alloc));
-        Closed {
-            count: closed.count(),
-            digest: closed.digest,
-            list: closed.list,
-        }
     }
 }

@@ -10,7 +10,6 @@ use Rattle.std.proofs.lemmas.Bool.{cases_Bool}
 use Rattle.lc_base.specs.declared.digest.Digest.{Digest}
 use Rattle.lc_base.specs.declared.limits.TheConstants.{MAX_ROWS}
 use Rattle.lc_base.specs.declared.row.Row.{Row}
-use Rattle.lc_base.specs.declared.row.Dep.{Dep}
 use Rattle.lc_base.specs.History.{HasLawfulDeps, newest}
 use Rattle.version_links.specs.declared.versions.VersionRef.{VersionRef}
 use Rattle.version_links.specs.Versions.{versions_of}
@@ -20,6 +19,7 @@ use Rattle.history_root.specs.Root.{is_among, keys_of}
 use Rattle.history_root.proofs.Lists.{all_weaker, all_append, option_cases, not_both, some_last, or_true}
 use Rattle.history_root.proofs.Keys.{among_is_some, all_among}
 use Rattle.history_root.proofs.Growing.{newest_append}
+use Rattle.forward_links.specs.declared.open_list.OpenList.{OpenList}
 use Rattle.lineage_index.specs.Growth.{Grows, Entry, entry_of, held, used_by, HaveDistinctKeys, renewed, keys_touched, keys_of_row, is_of_key, named_from}
 use Rattle.lineage_index.specs.Heads.{KeyStates, AreHeads, AreLists, states_of, newest_at, open_list}
 use Rattle.lineage_index.specs.Headers.{AreUsing, digest_of_new}
@@ -51,10 +51,10 @@ distinct_deps rows new n g = All-from_recursion (λ (row : Row). HaveDistinctKey
     go [] on deps = tt
     go (row ∷ rs) on deps = (distinct_keys rows row.deps deps.0.once (All-from_recursion (IsOnNewest rows) row.deps on.0), go rs on.1 deps.1)
 
-pub kept_lists : (rows : List Row) (block : ℕ) (tree : List Leaf) (lists : List (List Dep)) (newest_rows : List ℕ) (versions : List VersionRef) (headers : List Digest) → IsKept rows block tree lists newest_rows versions headers → AreLists tree lists (keys_of rows) (open_list rows)
+pub kept_lists : (rows : List Row) (block : ℕ) (tree : List Leaf) (lists : List OpenList) (newest_rows : List ℕ) (versions : List VersionRef) (headers : List Digest) → IsKept rows block tree lists newest_rows versions headers → AreLists tree lists (keys_of rows) (open_list rows)
 kept_lists rows block tree lists newest_rows versions headers k = lists_of_heads tree lists newest_rows (states_of rows) k.heads
 
-pub uses_added : (rows new : List Row) (n : ℕ) (tree : List Leaf) (lists more : List (List Dep)) (newest_rows : List ℕ) (versions : List VersionRef) (headers : List Digest) → Grows rows new n → IsKept rows n tree lists newest_rows versions headers
+pub uses_added : (rows new : List Row) (n : ℕ) (tree : List Leaf) (lists more : List OpenList) (newest_rows : List ℕ) (versions : List VersionRef) (headers : List Digest) → Grows rows new n → IsKept rows n tree lists newest_rows versions headers
     → AreLists tree more (keys_of rows) (used_by (open_list rows) new) → AreUsing rows new n tree more newest_rows versions headers
 uses_added rows new n tree lists more newest_rows versions headers g k a = record {
   grows = g;
@@ -73,7 +73,7 @@ entries_there rows = all_weaker (λ (key : List ℕ). is_among (keys_of rows) ke
     there : (key : List ℕ) → is_among (keys_of rows) key ≡ true → entry_of rows key ≡ entry_or_fresh rows key
     there key t = rw t refl
 
-pub settling_begins : (rows new : List Row) (n : ℕ) (tree : List Leaf) (lists : List (List Dep)) (newest_rows : List ℕ) (versions : List VersionRef) (headers : List Digest) → AreUsing rows new n tree lists newest_rows versions headers → AreSettled rows [] (held rows new) tree lists newest_rows versions
+pub settling_begins : (rows new : List Row) (n : ℕ) (tree : List Leaf) (lists : List OpenList) (newest_rows : List ℕ) (versions : List VersionRef) (headers : List Digest) → AreUsing rows new n tree lists newest_rows versions headers → AreSettled rows [] (held rows new) tree lists newest_rows versions
 settling_begins rows new n tree lists newest_rows versions headers a =
     let none : rows ≡ rows ++ [] = sym (append-nil rows) in
     let fresh : AreHeads tree lists newest_rows (record { keys = keys_of rows; entry = entry_or_fresh rows; list = held rows new; index = newest_at rows }) = record {
@@ -90,7 +90,7 @@ settling_begins rows new n tree lists newest_rows versions headers a =
 
 -- ---- the leaves
 
-records_after : (rows new : List Row) (n : ℕ) (tree : List Leaf) (lists : List (List Dep)) (newest_rows : List ℕ) (versions more : List VersionRef) (headers fresh : List Digest) → AreUsing rows new n tree lists newest_rows versions headers → more ≡ versions_of (rows ++ new)
+records_after : (rows new : List Row) (n : ℕ) (tree : List Leaf) (lists : List OpenList) (newest_rows : List ℕ) (versions more : List VersionRef) (headers fresh : List Digest) → AreUsing rows new n tree lists newest_rows versions headers → more ≡ versions_of (rows ++ new)
     → fresh ≡ map (digest_of_new (rows ++ new) (named_from rows headers)) new → (r : AreRecords (rows ++ new) more (headers ++ fresh)) × (r.block ≡ n + 1)
 records_after rows new n tree lists newest_rows versions more headers fresh a versions_are is =
     let next : suc n ≡ n + 1 = omega arith in
@@ -108,7 +108,7 @@ records_after rows new n tree lists newest_rows versions more headers fresh a ve
       refl,
     )
 
-pub renewing_begins : (rows new : List Row) (n : ℕ) (tree tree2 : List Leaf) (lists lists2 : List (List Dep)) (newest_rows newest2 : List ℕ) (versions versions2 : List VersionRef) (headers fresh : List Digest) → AreUsing rows new n tree lists newest_rows versions headers
+pub renewing_begins : (rows new : List Row) (n : ℕ) (tree tree2 : List Leaf) (lists lists2 : List OpenList) (newest_rows newest2 : List ℕ) (versions versions2 : List VersionRef) (headers fresh : List Digest) → AreUsing rows new n tree lists newest_rows versions headers
     → AreSettled rows new (held rows new) tree2 lists2 newest2 versions2 → fresh ≡ map (digest_of_new (rows ++ new) (named_from rows headers)) new
     → (a : AreRenewing (rows ++ new) (entry_or_fresh rows) [] tree2 lists2 newest2 versions2 (headers ++ fresh)) × (a.records.block ≡ n + 1)
 renewing_begins rows new n tree tree2 lists lists2 newest_rows newest2 versions versions2 headers fresh a s is =
@@ -142,7 +142,7 @@ touched_if_unknown rows new key there none = elim (option_cases (newest new key)
 known_entry : (rows : List Row) (key : List ℕ) → is_among (keys_of rows) key ≡ true → entry_or_fresh rows key ≡ entry_of rows key
 known_entry rows key t = rw t refl
 
-pub block_kept : (rows new : List Row) (n : ℕ) (tree : List Leaf) (lists : List (List Dep)) (newest_rows : List ℕ) (versions : List VersionRef) (headers : List Digest) → Grows rows new n
+pub block_kept : (rows new : List Row) (n : ℕ) (tree : List Leaf) (lists : List OpenList) (newest_rows : List ℕ) (versions : List VersionRef) (headers : List Digest) → Grows rows new n
     → (r : AreRecords (rows ++ new) versions headers) → r.block ≡ n + 1 → AreHeads tree lists newest_rows (renewing (rows ++ new) (entry_or_fresh rows) (keys_touched new)) → IsKept (rows ++ new) (n + 1) tree lists newest_rows versions headers
 block_kept rows new n tree lists newest_rows versions headers g r at a = record {
   records = r;
@@ -158,21 +158,21 @@ block_kept rows new n tree lists newest_rows versions headers g r at a = record 
 }
 
 -- there is room for the block's rows
-pub room_for : (rows new : List Row) (n : ℕ) (tree : List Leaf) (lists : List (List Dep)) (newest_rows : List ℕ) (versions : List VersionRef) (headers : List Digest) → Grows rows new n → IsKept rows n tree lists newest_rows versions headers → length versions + length new ≤ MAX_ROWS
+pub room_for : (rows new : List Row) (n : ℕ) (tree : List Leaf) (lists : List OpenList) (newest_rows : List ℕ) (versions : List VersionRef) (headers : List Digest) → Grows rows new n → IsKept rows n tree lists newest_rows versions headers → length versions + length new ≤ MAX_ROWS
 room_for rows new n tree lists newest_rows versions headers g k =
     let long : length versions ≡ length rows = ap length k.records.versions_are ∙ as_many_versions rows in
     omega (arith, long, length-append rows new, g.lawful.few)
 
 -- ---- the same of equal lists
 
-pub using_at : (rows new : List Row) (n : ℕ) (tree : List Leaf) (lists : List (List Dep)) (a b : List ℕ) (v w : List VersionRef) (d e : List Digest) → AreUsing rows new n tree lists b w e → a ≡ b → v ≡ w → d ≡ e → AreUsing rows new n tree lists a v d
+pub using_at : (rows new : List Row) (n : ℕ) (tree : List Leaf) (lists : List OpenList) (a b : List ℕ) (v w : List VersionRef) (d e : List Digest) → AreUsing rows new n tree lists b w e → a ≡ b → v ≡ w → d ≡ e → AreUsing rows new n tree lists a v d
 using_at rows new n tree lists a b v w d e u p q r = rw (p, q, r) u
 
-pub renewing_at : (rows : List Row) (entry : List ℕ → Entry) (done : List (List ℕ)) (tree : List Leaf) (lists : List (List Dep)) (a b : List ℕ) (v w : List VersionRef) (d e : List Digest) → AreRenewing rows entry done tree lists b w e → a ≡ b → v ≡ w → d ≡ e
+pub renewing_at : (rows : List Row) (entry : List ℕ → Entry) (done : List (List ℕ)) (tree : List Leaf) (lists : List OpenList) (a b : List ℕ) (v w : List VersionRef) (d e : List Digest) → AreRenewing rows entry done tree lists b w e → a ≡ b → v ≡ w → d ≡ e
     → AreRenewing rows entry done tree lists a v d
 renewing_at rows entry done tree lists a b v w d e u p q r = rw (p, q, r) u
 
-pub heads_at : (tree : List Leaf) (lists : List (List Dep)) (a b : List ℕ) (states : KeyStates) → AreHeads tree lists b states → a ≡ b → AreHeads tree lists a states
+pub heads_at : (tree : List Leaf) (lists : List OpenList) (a b : List ℕ) (states : KeyStates) → AreHeads tree lists b states → a ≡ b → AreHeads tree lists a states
 heads_at tree lists a b states h p = rw p h
 
 pub records_at : (rows : List Row) (m : ℕ) (v : List VersionRef) (d e : List Digest) → (r : AreRecords rows v e) × (r.block ≡ m) → d ≡ e → (r : AreRecords rows v d) × (r.block ≡ m)

@@ -1,8 +1,8 @@
 -- What is kept of keys, with one key or one version more.
-use Rattle.std.proofs.Common.{◌≡◌, ◌≢◌, ◌∙◌, ℕ, ◌+◌, true, false, ◌==◌, List, [], ◌∷◌, ◌++◌, length, get_or, Option, Some, None, refl, sym, ap, arith}
+use Rattle.std.proofs.Common.{◌≡◌, ◌≢◌, ◌∙◌, ℕ, ◌+◌, true, false, ◌==◌, List, [], ◌∷◌, ◌++◌, length, map, get_or, Option, Some, None, refl, sym, ap, arith}
 use Rattle.std.specs.Prelude.{slice_get, slice_set}
 use Rattle.std.specs.Cmp.Lexicographic.{pointwise}
-use Rattle.std.proofs.lemmas.List.{length-map}
+use Rattle.std.proofs.lemmas.List.{length-map, map-append, map-set}
 use Rattle.std.proofs.lemmas.List.Folds.{list_any_at}
 use Rattle.std.proofs.lemmas.List.Quantifiers.{all_pairs_push}
 use Rattle.std.proofs.lemmas.Option.{slice_get_within, get_or_from_slice_get}
@@ -12,7 +12,8 @@ use Rattle.history_root.specs.Root.{is_among}
 use Rattle.history_root.proofs.Lists.{not_both}
 use Rattle.history_root.proofs.Keys.{key_is_key}
 use Rattle.state_tree.specs.Leaves.{index_of, with_leaf_of}
-use Rattle.forward_links.specs.Lists.{emptied_at}
+use Rattle.forward_links.specs.declared.open_list.OpenList.{OpenList}
+use Rattle.forward_links.specs.Lists.{open_of, emptied_at}
 use Rattle.lineage_index.specs.Growth.{Entry, leaf_with}
 use Rattle.lineage_index.specs.Heads.{leaves_with, KeyStates, AreHeads, AreLists, with_key_more, with_version_more, with_version, newest_of}
 use Rattle.lineage_index.proofs.ByKey.{push_key}
@@ -33,36 +34,36 @@ no_leaf tree keys entry key is none = ap (λ (leaves : List Leaf). index_of leav
     go None h = refl
     go (Some index) h = absurd (not_both (is_among keys key) (list_any_at (λ (other : List ℕ). pointwise ◌==◌ other key) keys h.0 key h.2 (let here = h.3 key in rw here (key_is_key key))) none)
 
-pub lists_of_heads : (tree : List Leaf) (lists : List (List Dep)) (newest : List ℕ) (states : KeyStates) → AreHeads tree lists newest states → AreLists tree lists states.keys states.list
+pub lists_of_heads : (tree : List Leaf) (lists : List OpenList) (newest : List ℕ) (states : KeyStates) → AreHeads tree lists newest states → AreLists tree lists states.keys states.list
 lists_of_heads tree lists newest states a = record { apart = a.apart; entry = states.entry; leaves_are = a.leaves_are; lists_are = a.lists_are }
 
-pub heads_with_lists : (tree : List Leaf) (lists more : List (List Dep)) (newest : List ℕ) (states : KeyStates) (list : List ℕ → List Dep) → AreHeads tree lists newest states → AreLists tree more states.keys list
+pub heads_with_lists : (tree : List Leaf) (lists more : List OpenList) (newest : List ℕ) (states : KeyStates) (list : List ℕ → List Dep) → AreHeads tree lists newest states → AreLists tree more states.keys list
     → AreHeads tree more newest (record states { list = list })
 heads_with_lists tree lists more newest states list a b = record { apart = a.apart; leaves_are = a.leaves_are; lists_are = b.lists_are; newest_are = a.newest_are }
 
 -- there are as many indexes as keys, and as many lists
-pub as_many : (tree : List Leaf) (lists : List (List Dep)) (newest : List ℕ) (states : KeyStates) → AreHeads tree lists newest states → (length lists ≡ length newest) × (length states.keys ≡ length newest) × (length tree ≡ 1 + length newest)
+pub as_many : (tree : List Leaf) (lists : List OpenList) (newest : List ℕ) (states : KeyStates) → AreHeads tree lists newest states → (length lists ≡ length newest) × (length states.keys ≡ length newest) × (length tree ≡ 1 + length newest)
 as_many tree lists newest states a =
     let n : length newest ≡ length states.keys = ap length a.newest_are ∙ length-map states.keys states.index in
-    let l : length lists ≡ length states.keys = ap length a.lists_are ∙ length-map states.keys states.list in
+    let l : length lists ≡ length states.keys = ap length a.lists_are ∙ length-map (map states.list states.keys) open_of ∙ length-map states.keys states.list in
     let t : length tree ≡ length (leaves_with states.keys states.entry) = ap length a.leaves_are in
     (l ∙ sym n, sym n, t ∙ omega (arith, n, length-map states.keys (λ (key : List ℕ). leaf_with states.keys key (states.entry key))))
 
-pub heads_added : (tree : List Leaf) (lists : List (List Dep)) (newest : List ℕ) (states : KeyStates) (key : List ℕ) (row : ℕ) → AreHeads tree lists newest states → is_among states.keys key ≡ false
-    → AreHeads (with_leaf_of tree key) (lists ++ [] ∷ []) (newest ++ row ∷ []) (with_key_more states key row)
+pub heads_added : (tree : List Leaf) (lists : List OpenList) (newest : List ℕ) (states : KeyStates) (key : List ℕ) (row : ℕ) → AreHeads tree lists newest states → is_among states.keys key ≡ false
+    → AreHeads (with_leaf_of tree key) (lists ++ open_of [] ∷ []) (newest ++ row ∷ []) (with_key_more states key row)
 heads_added tree lists newest states key row a none = record {
   apart = all_pairs_push ◌≢◌ states.keys key a.apart (λ k d l e. not_both (is_among states.keys key) (list_any_at (λ (other : List ℕ). pointwise ◌==◌ other key) states.keys k d l (rw e (key_is_key key))) none);
   leaves_are = ap (λ (leaves : List Leaf). with_leaf_of leaves key) a.leaves_are ∙ leaf_added states.keys states.entry key none;
-  lists_are = ap (λ (ls : List (List Dep)). ls ++ [] ∷ []) a.lists_are ∙ push_key states.list states.keys key [] none;
+  lists_are = ap (λ (ls : List OpenList). ls ++ open_of [] ∷ []) a.lists_are ∙ sym (map-append open_of (map states.list states.keys) ([] ∷ [])) ∙ ap (map open_of) (push_key states.list states.keys key [] none);
   newest_are = ap (λ (is : List ℕ). is ++ row ∷ []) a.newest_are ∙ push_key states.index states.keys key row none;
 }
 
-pub heads_replaced : (tree : List Leaf) (lists : List (List Dep)) (newest : List ℕ) (states : KeyStates) (key : List ℕ) (i row : ℕ) → AreHeads tree lists newest states → slice_get states.keys i ≡ Some key
+pub heads_replaced : (tree : List Leaf) (lists : List OpenList) (newest : List ℕ) (states : KeyStates) (key : List ℕ) (i row : ℕ) → AreHeads tree lists newest states → slice_get states.keys i ≡ Some key
     → AreHeads tree (emptied_at lists i) (slice_set newest i row) (with_version_more states key row)
 heads_replaced tree lists newest states key i row a at = record {
   apart = a.apart;
   leaves_are = a.leaves_are;
-  lists_are = ap (λ (ls : List (List Dep)). emptied_at ls i) a.lists_are ∙ value_set states.list states.keys key i [] a.apart at;
+  lists_are = ap (λ (ls : List OpenList). emptied_at ls i) a.lists_are ∙ sym (map-set open_of (map states.list states.keys) i []) ∙ ap (map open_of) (value_set states.list states.keys key i [] a.apart at);
   newest_are = ap (λ (is : List ℕ). slice_set is i row) a.newest_are ∙ value_set states.index states.keys key i row a.apart at;
 }
 
@@ -72,7 +73,7 @@ version_new states key row none = rw none (refl, refl)
 pub version_old : (states : KeyStates) (key : List ℕ) (row : ℕ) → is_among states.keys key ≡ true → (with_version states key row ≡ with_version_more states key row) × (newest_of states key ≡ Some (states.index key))
 version_old states key row there = rw there (refl, refl)
 
-pub newest_before : (tree : List Leaf) (lists : List (List Dep)) (newest : List ℕ) (states : KeyStates) (key : List ℕ) (i before : ℕ) → AreHeads tree lists newest states → slice_get states.keys i ≡ Some key
+pub newest_before : (tree : List Leaf) (lists : List OpenList) (newest : List ℕ) (states : KeyStates) (key : List ℕ) (i before : ℕ) → AreHeads tree lists newest states → slice_get states.keys i ≡ Some key
     → slice_get newest i ≡ Some before → Some before ≡ newest_of states key
 newest_before tree lists newest states key i before a at found =
     let is : before ≡ states.index key = sym (get_or_from_slice_get newest i before before found) ∙ ap (λ (is : List ℕ). get_or is i before) a.newest_are ∙ (value_at states.index states.keys key i before at).1 in

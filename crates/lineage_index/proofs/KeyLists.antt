@@ -7,7 +7,8 @@ use Rattle.std.proofs.lemmas.Option.{slice_get_within, get_or_from_slice_get}
 use Rattle.lc_base.specs.declared.row.Dep.{Dep}
 use Rattle.prov_entry.specs.declared.entry.Leaf.{Leaf}
 use Rattle.history_root.specs.Root.{is_among}
-use Rattle.forward_links.specs.Lists.{with_use_at}
+use Rattle.forward_links.specs.declared.open_list.OpenList.{OpenList}
+use Rattle.forward_links.specs.Lists.{open_of, kept_at, with_use_at}
 use Rattle.lineage_index.specs.Growth.{changed}
 use Rattle.lineage_index.specs.Heads.{AreLists}
 use Rattle.lineage_index.proofs.ByKey.{set_at_key, changed_nowhere, same_everywhere}
@@ -22,34 +23,40 @@ value_at f keys key i d at =
 pub value_set : {A : Type 0} (f : List ℕ → A) (keys : List (List ℕ)) (key : List ℕ) (i : ℕ) (x : A) → AllPairs ◌≢◌ keys → slice_get keys i ≡ Some key → slice_set (map f keys) i x ≡ map (changed f key x) keys
 value_set f keys key i x apart at = set_at_key f keys key i x key apart (slice_get_within keys i key at) (get_or_from_slice_get keys i key key at)
 
-pub lists_within : (tree : List Leaf) (lists : List (List Dep)) (keys : List (List ℕ)) (list : List ℕ → List Dep) (key : List ℕ) (i : ℕ) → AreLists tree lists keys list → slice_get keys i ≡ Some key → i < length lists
-lists_within tree lists keys list key i a at = rw a.lists_are ((value_at list keys key i [] at).0)
+pub lists_within : (tree : List Leaf) (lists : List OpenList) (keys : List (List ℕ)) (list : List ℕ → List Dep) (key : List ℕ) (i : ℕ) → AreLists tree lists keys list → slice_get keys i ≡ Some key → i < length lists
+lists_within tree lists keys list key i a at = omega (arith, slice_get_within keys i key at, ap length a.lists_are, length-map (map list keys) open_of, length-map keys list)
 
-pub use_added : (tree : List Leaf) (lists : List (List Dep)) (keys : List (List ℕ)) (list : List ℕ → List Dep) (key : List ℕ) (i : ℕ) (user : Dep) → AreLists tree lists keys list → slice_get keys i ≡ Some key
-    → AreLists tree (with_use_at lists i user) keys (changed list key (list key ++ user ∷ []))
-use_added tree lists keys list key i user a at = record {
+-- what is kept of the list of a key
+pub kept_of_key : (tree : List Leaf) (lists : List OpenList) (keys : List (List ℕ)) (list : List ℕ → List Dep) (key : List ℕ) (i : ℕ) → AreLists tree lists keys list → slice_get keys i ≡ Some key → kept_at lists i ≡ open_of (list key)
+kept_of_key tree lists keys list key i a at =
+    let there = value_at list keys key i [] at in
+    ap (λ (kept : List OpenList). kept_at kept i) a.lists_are ∙ get_or-map open_of (map list keys) i [] (open_of []) there.0 ∙ ap open_of there.1
+
+pub use_added : (tree : List Leaf) (lists more : List OpenList) (keys : List (List ℕ)) (list : List ℕ → List Dep) (key : List ℕ) (i : ℕ) (user : Dep) → AreLists tree lists keys list → slice_get keys i ≡ Some key
+    → more ≡ map open_of (with_use_at (map list keys) i user) → AreLists tree more keys (changed list key (list key ++ user ∷ []))
+use_added tree lists more keys list key i user a at is = record {
   apart = a.apart;
   entry = a.entry;
   leaves_are = a.leaves_are;
   lists_are =
-      ap (λ (ls : List (List Dep)). with_use_at ls i user) a.lists_are
-      ∙ ap (λ (l : List Dep). slice_set (map list keys) i (l ++ user ∷ [])) (value_at list keys key i [] at).1
-      ∙ value_set list keys key i (list key ++ user ∷ []) a.apart at;
+      is ∙ ap (map open_of)
+      (ap (λ (l : List Dep). slice_set (map list keys) i (l ++ user ∷ [])) (value_at list keys key i [] at).1
+      ∙ value_set list keys key i (list key ++ user ∷ []) a.apart at);
 }
 
-pub use_nowhere : (tree : List Leaf) (lists : List (List Dep)) (keys : List (List ℕ)) (list : List ℕ → List Dep) (key : List ℕ) (x : List Dep) → AreLists tree lists keys list → is_among keys key ≡ false
+pub use_nowhere : (tree : List Leaf) (lists : List OpenList) (keys : List (List ℕ)) (list : List ℕ → List Dep) (key : List ℕ) (x : List Dep) → AreLists tree lists keys list → is_among keys key ≡ false
     → AreLists tree lists keys (changed list key x)
 use_nowhere tree lists keys list key x a none = record {
   apart = a.apart;
   entry = a.entry;
   leaves_are = a.leaves_are;
-  lists_are = a.lists_are ∙ sym (changed_nowhere list key x keys none);
+  lists_are = a.lists_are ∙ ap (map open_of) (sym (changed_nowhere list key x keys none));
 }
 
-pub lists_same : (tree : List Leaf) (lists : List (List Dep)) (keys : List (List ℕ)) (f g : List ℕ → List Dep) → AreLists tree lists keys f → ((key : List ℕ) → f key ≡ g key) → AreLists tree lists keys g
+pub lists_same : (tree : List Leaf) (lists : List OpenList) (keys : List (List ℕ)) (f g : List ℕ → List Dep) → AreLists tree lists keys f → ((key : List ℕ) → f key ≡ g key) → AreLists tree lists keys g
 lists_same tree lists keys f g a same = record {
   apart = a.apart;
   entry = a.entry;
   leaves_are = a.leaves_are;
-  lists_are = a.lists_are ∙ same_everywhere f g keys same;
+  lists_are = a.lists_are ∙ ap (map open_of) (same_everywhere f g keys same);
 }

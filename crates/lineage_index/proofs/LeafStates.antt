@@ -10,7 +10,6 @@ use Rattle.std.proofs.lemmas.List.Sorted.{All-permutation, IsPermutation-map, li
 use Rattle.std.proofs.lemmas.Option.{get_or_from_slice_get}
 use Rattle.lc_base.specs.declared.digest.Digest.{Digest}
 use Rattle.lc_base.specs.declared.row.Row.{Row}
-use Rattle.lc_base.specs.declared.row.Dep.{Dep}
 use Rattle.version_links.specs.declared.versions.VersionRef.{VersionRef}
 use Rattle.prov_entry.specs.declared.entry.Leaf.{Leaf}
 use Rattle.history_root.specs.Root.{is_among, keys_of, sentinel}
@@ -18,6 +17,7 @@ use Rattle.history_root.proofs.Lists.{all_weaker, all_map, all_filter_map, not_b
 use Rattle.history_root.proofs.Keys.{all_among}
 use Rattle.state_tree.specs.declared.states.LeafState.{LeafState}
 use Rattle.state_tree.specs.Leaves.{index_of, with_state, with_states}
+use Rattle.forward_links.specs.declared.open_list.OpenList.{OpenList}
 use Rattle.lineage_index.specs.Growth.{Entry, entry_of, leaf_with, changed, renewed}
 use Rattle.lineage_index.specs.Heads.{leaves_with}
 use Rattle.lineage_index.specs.Settling.{renewing, AreRenewing}
@@ -99,18 +99,18 @@ leaves_told keys old new done (index ∷ indexes) apart within =
 
 -- ---- the keys that a block touches
 
-pub beside_leaves : (rows : List Row) (entry : List ℕ → Entry) (done : List (List ℕ)) (tree : List Leaf) (lists : List (List Dep)) (newest : List ℕ) (versions : List VersionRef) (headers : List Digest)
+pub beside_leaves : (rows : List Row) (entry : List ℕ → Entry) (done : List (List ℕ)) (tree : List Leaf) (lists : List OpenList) (newest : List ℕ) (versions : List VersionRef) (headers : List Digest)
     → AreRenewing rows entry done tree lists newest versions headers → AreBesideLeaves rows lists newest versions headers
 beside_leaves rows entry done tree lists newest versions headers a = record { records = a.records; lists_are = a.heads.lists_are; newest_are = a.heads.newest_are }
 
-pub touched_within : (rows : List Row) (entry : List ℕ → Entry) (tree : List Leaf) (lists : List (List Dep)) (newest : List ℕ) (versions : List VersionRef) (headers : List Digest) (touched : List (List ℕ)) (indexes : List ℕ)
+pub touched_within : (rows : List Row) (entry : List ℕ → Entry) (tree : List Leaf) (lists : List OpenList) (newest : List ℕ) (versions : List VersionRef) (headers : List Digest) (touched : List (List ℕ)) (indexes : List ℕ)
     → AreRenewing rows entry [] tree lists newest versions headers → IsPermutation (leaf_indexes tree touched) indexes → All (IsLeafIndex (keys_of rows)) indexes
 touched_within rows entry tree lists newest versions headers touched indexes a same =
     let there = subst (λ (leaves : List Leaf). IsPermutation (leaf_indexes leaves touched) indexes) a.heads.leaves_are same in
     All-permutation (IsLeafIndex (keys_of rows)) (leaf_indexes (leaves_with (keys_of rows) (renewed entry (entry_of rows) [])) touched) indexes there (indexes_within (keys_of rows) (renewed entry (entry_of rows) []) touched)
 
 -- What is told is for leaves of the tree.
-pub states_within : (rows : List Row) (entry : List ℕ → Entry) (tree : List Leaf) (lists : List (List Dep)) (newest : List ℕ) (versions : List VersionRef) (headers : List Digest) (indexes : List ℕ) (states : List LeafState)
+pub states_within : (rows : List Row) (entry : List ℕ → Entry) (tree : List Leaf) (lists : List OpenList) (newest : List ℕ) (versions : List VersionRef) (headers : List Digest) (indexes : List ℕ) (states : List LeafState)
     → AreRenewing rows entry [] tree lists newest versions headers → All (IsLeafIndex (keys_of rows)) indexes → states ≡ map (state_of rows) indexes
     → All (λ (state : LeafState). 0 < state.index) states × All (λ (state : LeafState). state.index < length tree) states
 states_within rows entry tree lists newest versions headers indexes states a within is =
@@ -125,7 +125,7 @@ states_within rows entry tree lists newest versions headers indexes states a wit
     )
 
 -- Told what a history says, the leaves of the keys that are touched are made anew.
-pub leaves_renewed : (rows : List Row) (entry : List ℕ → Entry) (tree after : List Leaf) (lists : List (List Dep)) (newest : List ℕ) (versions : List VersionRef) (headers : List Digest) (touched : List (List ℕ)) (indexes : List ℕ)
+pub leaves_renewed : (rows : List Row) (entry : List ℕ → Entry) (tree after : List Leaf) (lists : List OpenList) (newest : List ℕ) (versions : List VersionRef) (headers : List Digest) (touched : List (List ℕ)) (indexes : List ℕ)
     → AreRenewing rows entry [] tree lists newest versions headers → IsPermutation (leaf_indexes tree touched) indexes → after ≡ with_states tree (map (state_of rows) indexes)
     → AreRenewing rows entry touched after lists newest versions headers
 leaves_renewed rows entry tree after lists newest versions headers touched indexes a same is =

@@ -1,6 +1,7 @@
 pub mod Blocks
 pub mod ByKey
 pub mod Using
+pub mod Room
 pub mod ClosedLists
 pub mod HeaderDigests
 pub mod Entries
@@ -15,6 +16,5 @@ pub mod LeafStates
 pub mod Touched
 pub mod NewHeaders
 pub mod BlockSteps
-pub mod ListsOfKeys
 pub mod Keeping
-pub mod GoingBack
+pub mod NewestRows

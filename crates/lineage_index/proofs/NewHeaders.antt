@@ -25,7 +25,8 @@ use Rattle.merkle_tree.specs.Levels.{digest_of}
 use Rattle.history_root.specs.Naming.{closed, uses_of, digest_of_uses, named_before, named_by, header_among, body_among, link_among, with_digest}
 use Rattle.history_root.specs.Root.{is_among, keys_of, sentinel}
 use Rattle.state_tree.specs.Leaves.{index_of}
-use Rattle.forward_links.specs.Lists.{list_at}
+use Rattle.forward_links.specs.declared.open_list.OpenList.{OpenList}
+use Rattle.forward_links.specs.Lists.{open_of, kept_at}
 use Rattle.lineage_index.proofs.KeyLeaves.{IsPlace, leaf_place, leaf_at}
 use Rattle.history_root.proofs.Lists.{all_weaker, contained, map_on, option_cases, not_both}
 use Rattle.history_root.proofs.Keys.{among_is_some}
@@ -35,7 +36,7 @@ use Rattle.lineage_index.specs.Headers.{AreUsing, digest_of_new, dep_with, list_
 use Rattle.lineage_index.specs.Linking.{AreBefore}
 use Rattle.lineage_index.proofs.Blocks.{IsOnNewest, closed_is_held, new_deps, rows_now, deps_on_newest}
 use Rattle.lineage_index.proofs.OldVersions.{links_from_before, dep_is_named}
-use Rattle.lineage_index.proofs.KeyLists.{value_at}
+use Rattle.lineage_index.proofs.KeyLists.{kept_of_key}
 use Rattle.lineage_index.proofs.KeptStates.{index_among}
 use Rattle.std.proofs.lemmas.Option.{get_or_from_slice_get}
 
@@ -85,7 +86,7 @@ named_digest : (all : List Row) (named : List BodyDep) (row : Row) → digest_of
 unfolding named_by
 named_digest all named row = refl
 
-pub header_is : (rows new : List Row) (n : ℕ) (tree : List Leaf) (lists : List (List Dep)) (newest_rows : List ℕ) (versions : List VersionRef) (headers : List Digest) (row : Row) (body : Digest) (count : ℕ) (list_digest : Digest) (found : List Link) (result : Digest)
+pub header_is : (rows new : List Row) (n : ℕ) (tree : List Leaf) (lists : List OpenList) (newest_rows : List ℕ) (versions : List VersionRef) (headers : List Digest) (row : Row) (body : Digest) (count : ℕ) (list_digest : Digest) (found : List Link) (result : Digest)
     → AreUsing rows new n tree lists newest_rows versions headers → Contains new row → body ≡ digest_of (body_text (body_with (entry_of rows) row)) → count ≡ length (list_if_among (keys_of rows) (held rows new) row.key)
     → list_digest.0 ≡ uses_digest (list_if_among (keys_of rows) (held rows new) row.key) → found ≡ map (link_among (named_from rows headers) row.key) (links rows row.key row.block)
     → result.0 ≡ sha256 (header_text (record { key = row.key; block = row.block; tx = row.tx; body = body; closed = count; closed_digest = list_digest; links = found }))
@@ -105,7 +106,7 @@ header_is rows new n tree lists newest_rows versions headers row body count list
 
 -- ---- the newest version before the block
 
-pub before_new : (rows new : List Row) (n : ℕ) (tree : List Leaf) (lists : List (List Dep)) (newest_rows : List ℕ) (versions : List VersionRef) (headers : List Digest) (row : Row) (newest_row : Option ℕ) → AreUsing rows new n tree lists newest_rows versions headers
+pub before_new : (rows new : List Row) (n : ℕ) (tree : List Leaf) (lists : List OpenList) (newest_rows : List ℕ) (versions : List VersionRef) (headers : List Digest) (row : Row) (newest_row : Option ℕ) → AreUsing rows new n tree lists newest_rows versions headers
     → Contains new row → newest_row ≡ newest_index rows row.key → AreBefore rows row.key row.block versions headers newest_row
 before_new rows new n tree lists newest_rows versions headers row newest_row a has is = record {
   lawful = a.records.lawful;
@@ -117,11 +118,10 @@ before_new rows new n tree lists newest_rows versions headers row newest_row a h
 
 -- ---- what is read of a key
 
-pub list_known : (tree : List Leaf) (lists : List (List Dep)) (keys : List (List ℕ)) (list : List ℕ → List Dep) (key : List ℕ) (i : ℕ) → AreLists tree lists keys list → slice_get keys i ≡ Some key → list_at lists i ≡ list_if_among keys list key
+pub list_known : (tree : List Leaf) (lists : List OpenList) (keys : List (List ℕ)) (list : List ℕ → List Dep) (key : List ℕ) (i : ℕ) → AreLists tree lists keys list → slice_get keys i ≡ Some key → kept_at lists i ≡ open_of (list_if_among keys list key)
 list_known tree lists keys list key i a place =
     let there : is_among keys key ≡ true = index_among keys key i place in
-    let is : list_at lists i ≡ list key = ap (λ (ls : List (List Dep)). list_at ls i) a.lists_are ∙ (value_at list keys key i [] place).1 in
-    is ∙ sym (if_among keys list key there)
+    kept_of_key tree lists keys list key i a place ∙ ap open_of (sym (if_among keys list key there))
   where
     if_among : (keys : List (List ℕ)) (list : List ℕ → List Dep) (key : List ℕ) → is_among keys key ≡ true → list_if_among keys list key ≡ list key
     if_among keys list key t = rw t refl
@@ -136,7 +136,7 @@ newest_known_in keys entry key t = go (index_of (leaves_with keys entry) key) (l
         ap (λ (leaf : Leaf). leaf.newest) (get_or_from_slice_get (leaves_with keys entry) index (leaf_with keys (get_or keys h.0 key) (entry (get_or keys h.0 key))) (sentinel []) at)
         ∙ ap (λ (k : List ℕ). (entry k).newest) (h.3 key)
 
-pub body_read : (rows new : List Row) (n : ℕ) (tree : List Leaf) (lists : List (List Dep)) (newest_rows : List ℕ) (versions : List VersionRef) (headers : List Digest) (row : Row) → AreUsing rows new n tree lists newest_rows versions headers → Contains new row
+pub body_read : (rows new : List Row) (n : ℕ) (tree : List Leaf) (lists : List OpenList) (newest_rows : List ℕ) (versions : List VersionRef) (headers : List Digest) (row : Row) → AreUsing rows new n tree lists newest_rows versions headers → Contains new row
     → body_in tree row ≡ body_with (entry_of rows) row
 body_read rows new n tree lists newest_rows versions headers row a has =
     ap (λ (leaves : List Leaf). body_in leaves row) a.heads.leaves_are

@@ -1,7 +1,7 @@
 -- What a leaf is to say is the entry of its key.
-use Rattle.std.proofs.Common.{◌≡◌, ◌∙◌, ℕ, zero, suc, ◌-◌, ◌<◌, List, [], ◌∷◌, ◌++◌, length, get_or, take, Option, Some, sym, ap, arith}
+use Rattle.std.proofs.Common.{◌≡◌, ◌∙◌, ℕ, zero, suc, ◌-◌, ◌<◌, List, [], ◌∷◌, ◌++◌, length, map, get_or, take, Option, Some, refl, sym, ap, arith}
 use Rattle.std.specs.Prelude.{slice_get}
-use Rattle.std.proofs.lemmas.List.{append-nil, append_assoc, length-map}
+use Rattle.std.proofs.lemmas.List.{append-nil, append_assoc, length-map, get_or-map}
 use Rattle.std.proofs.lemmas.List.Elements.{recursion_from_All}
 use Rattle.std.proofs.lemmas.Option.{none-some, same_Some, slice_get_within, slice_get-get_or, get_or_from_slice_get}
 use Rattle.lc_base.specs.declared.digest.Digest.{Digest}
@@ -17,7 +17,8 @@ use Rattle.history_root.specs.NamingLaws.{digest_of_row}
 use Rattle.history_root.specs.Root.{keys_of, block_of}
 use Rattle.history_root.proofs.Lists.{all_contained}
 use Rattle.history_root.proofs.Headers.{row_is_named, newest_has, newest_is_key}
-use Rattle.forward_links.specs.Lists.{list_at}
+use Rattle.forward_links.specs.declared.open_list.OpenList.{OpenList}
+use Rattle.forward_links.specs.Lists.{open_of, kept_at}
 use Rattle.lineage_index.specs.Growth.{Entry, entry_of, named_from}
 use Rattle.lineage_index.specs.Heads.{newest_at, open_list}
 use Rattle.lineage_index.specs.Settling.{AreRecords}
@@ -44,7 +45,7 @@ version_read rows i row e = version_is [] rows i row e
 -- ---- what is read for the entry of a key
 
 -- The index of the newest row of a key, with the row.
-newest_read : (rows : List Row) (lists : List (List Dep)) (newest_rows : List ℕ) (versions : List VersionRef) (headers : List Digest) (key : List ℕ) (i at : ℕ)
+newest_read : (rows : List Row) (lists : List OpenList) (newest_rows : List ℕ) (versions : List VersionRef) (headers : List Digest) (key : List ℕ) (i at : ℕ)
     → AreBesideLeaves rows lists newest_rows versions headers → slice_get (keys_of rows) i ≡ Some key → slice_get newest_rows i ≡ Some at
     → (row : Row) × (newest rows key ≡ Some row) × (slice_get rows at ≡ Some row)
 newest_read rows lists newest_rows versions headers key i at a place read =
@@ -91,29 +92,31 @@ pub key_there : (keys : List (List ℕ)) (index : ℕ) → IsLeafIndex keys inde
 key_there keys index at = slice_get-get_or keys (index - 1) [] (omega (arith, at))
 
 -- It is told the entry of its key.
-pub state_told : (rows : List Row) (lists : List (List Dep)) (newest_rows : List ℕ) (versions : List VersionRef) (headers : List Digest) (index at : ℕ) (version : VersionRef) (digest : Digest) (count : ℕ) (list_digest : Digest)
+pub state_told : (rows : List Row) (lists : List OpenList) (newest_rows : List ℕ) (versions : List VersionRef) (headers : List Digest) (index at : ℕ) (version : VersionRef) (digest : Digest) (kept : OpenList)
     → AreBesideLeaves rows lists newest_rows versions headers → IsLeafIndex (keys_of rows) index → slice_get newest_rows (index - 1) ≡ Some at → slice_get versions at ≡ Some version → slice_get headers at ≡ Some digest
-    → count ≡ length (list_at lists (index - 1)) → list_digest.0 ≡ uses_digest (list_at lists (index - 1))
-    → record { index = index; newest_block = version.block; newest = digest; open_count = count; open_digest = list_digest } ≡ state_of rows index
-state_told rows lists newest_rows versions headers index at version digest count list_digest a within read version_read header_read count_is digest_is =
+    → kept ≡ kept_at lists (index - 1)
+    → record { index = index; newest_block = version.block; newest = digest; open_count = kept.count; open_digest = kept.digest } ≡ state_of rows index
+state_told rows lists newest_rows versions headers index at version digest kept a within read version_read header_read kept_is =
     let keys = keys_of rows in
     let i = index - 1 in
     let key = key_at keys index in
     let place = key_there keys index within in
     let row = newest_read rows lists newest_rows versions headers key i at a place read in
-    let list_is : list_at lists i ≡ open_list rows key = ap (λ (ls : List (List Dep)). list_at ls i) a.lists_are ∙ (value_at (open_list rows) keys key i [] place).1 in
-    ap (told index) (entry_is rows key row.0 version.block digest (list_at lists i) count list_digest row.1
-    (block_read rows versions headers at row.0 version a.records row.2 version_read) (digest_read rows versions headers key at row.0 digest a.records row.1 row.2 header_read) list_is count_is digest_is)
+    let there = value_at (open_list rows) keys key i [] place in
+    let is : kept ≡ open_of (open_list rows key) =
+    kept_is ∙ ap (λ (all : List OpenList). kept_at all i) a.lists_are ∙ get_or-map open_of (map (open_list rows) keys) i [] (open_of []) there.0 ∙ ap open_of there.1 in
+    ap (told index) (entry_is rows key row.0 version.block digest (open_list rows key) kept.count kept.digest row.1
+    (block_read rows versions headers at row.0 version a.records row.2 version_read) (digest_read rows versions headers key at row.0 digest a.records row.1 row.2 header_read) refl (ap (λ (one : OpenList). one.count) is) (ap (λ (one : OpenList). one.digest.0) is))
 
 -- What is read for it is there.
-pub read_within : (rows : List Row) (lists : List (List Dep)) (newest_rows : List ℕ) (versions : List VersionRef) (headers : List Digest) (index : ℕ)
+pub read_within : (rows : List Row) (lists : List OpenList) (newest_rows : List ℕ) (versions : List VersionRef) (headers : List Digest) (index : ℕ)
     → AreBesideLeaves rows lists newest_rows versions headers → IsLeafIndex (keys_of rows) index → (index - 1 < length newest_rows) × (index - 1 < length lists)
 read_within rows lists newest_rows versions headers index a within = (
   omega (arith, within, ap length a.newest_are, length-map (keys_of rows) (newest_at rows)),
-  omega (arith, within, ap length a.lists_are, length-map (keys_of rows) (open_list rows)),
+  omega (arith, within, ap length a.lists_are, length-map (map (open_list rows) (keys_of rows)) open_of, length-map (keys_of rows) (open_list rows)),
 )
 
-pub row_within : (rows : List Row) (lists : List (List Dep)) (newest_rows : List ℕ) (versions : List VersionRef) (headers : List Digest) (index at : ℕ)
+pub row_within : (rows : List Row) (lists : List OpenList) (newest_rows : List ℕ) (versions : List VersionRef) (headers : List Digest) (index at : ℕ)
     → AreBesideLeaves rows lists newest_rows versions headers → IsLeafIndex (keys_of rows) index → slice_get newest_rows (index - 1) ≡ Some at → (at < length versions) × (at < length headers)
 row_within rows lists newest_rows versions headers index at a within read =
     let row = newest_read rows lists newest_rows versions headers (key_at (keys_of rows) index) (index - 1) at a (key_there (keys_of rows) index within) read in

@@ -16,6 +16,8 @@ use Rattle.history_root.specs.Root.{is_among, with_key, keys_of}
 use Rattle.history_root.proofs.Lists.{not_both}
 use Rattle.history_root.proofs.Keys.{same_key, among_is_some, keys_append, keys_short}
 use Rattle.history_root.proofs.Growing.{newest_append}
+use Rattle.forward_links.specs.declared.open_list.OpenList.{OpenList}
+use Rattle.forward_links.specs.Lists.{open_of}
 use Rattle.lineage_index.specs.Growth.{changed}
 use Rattle.lineage_index.specs.Heads.{KeyStates, AreHeads, leaves_with, with_version, with_key_more, with_version_more, newest_of, fresh_entry, newest_at, index_or_zero}
 use Rattle.lineage_index.specs.Settling.{entry_or_fresh, settling, AreSettled}
@@ -25,12 +27,12 @@ use Rattle.lineage_index.proofs.KeptStates.{version_new, version_old, as_many}
 use Rattle.lineage_index.proofs.ClosedLists.{one_key_more}
 
 -- states that say the same of each key
-pub heads_same : (tree : List Leaf) (lists : List (List Dep)) (newest : List ℕ) (s t : KeyStates) → AreHeads tree lists newest s → s.keys ≡ t.keys → ((key : List ℕ) → s.entry key ≡ t.entry key) → ((key : List ℕ) → s.list key ≡ t.list key)
+pub heads_same : (tree : List Leaf) (lists : List OpenList) (newest : List ℕ) (s t : KeyStates) → AreHeads tree lists newest s → s.keys ≡ t.keys → ((key : List ℕ) → s.entry key ≡ t.entry key) → ((key : List ℕ) → s.list key ≡ t.list key)
     → ((key : List ℕ) → s.index key ≡ t.index key) → AreHeads tree lists newest t
 heads_same tree lists newest s t a keys entry list index = record {
   apart = rw (← keys) a.apart;
   leaves_are = a.leaves_are ∙ leaves_same s.keys s.entry t.entry entry ∙ ap (λ (ks : List (List ℕ)). leaves_with ks t.entry) keys;
-  lists_are = a.lists_are ∙ same_everywhere s.list t.list s.keys list ∙ ap (map t.list) keys;
+  lists_are = a.lists_are ∙ ap (map open_of) (same_everywhere s.list t.list s.keys list ∙ ap (map t.list) keys);
   newest_are = a.newest_are ∙ same_everywhere s.index t.index s.keys index ∙ ap (map t.index) keys;
 }
 
@@ -106,7 +108,7 @@ index_more rows done row key =
       | inr f ↦ let is : newest_index (rows ++ (done ++ row ∷ [])) key ≡ newest_index (rows ++ done) key = more ∙ rw f refl in rw f (sym (ap index_or_zero is))
     ]
 
-states_more : (rows done : List Row) (list : List ℕ → List Dep) (row : Row) (tree : List Leaf) (lists : List (List Dep)) (newest : List ℕ) → AreHeads tree lists newest (with_version (settling rows list done) row.key (length (rows ++ done)))
+states_more : (rows done : List Row) (list : List ℕ → List Dep) (row : Row) (tree : List Leaf) (lists : List OpenList) (newest : List ℕ) → AreHeads tree lists newest (with_version (settling rows list done) row.key (length (rows ++ done)))
     → AreHeads tree lists newest (settling rows list (done ++ row ∷ []))
 states_more rows done list row tree lists newest a = elim (cases_Bool (is_among (keys_of (rows ++ done)) row.key)) [
   | inl t ↦ heads_same tree lists newest (with_version_more (settling rows list done) row.key (length (rows ++ done))) (settling rows list (done ++ row ∷ []))
@@ -126,7 +128,7 @@ pub as_many_versions : (rows : List Row) → length (versions_of rows) ≡ lengt
 unfolding versions_of
 as_many_versions rows = versions_long [] rows
 
-pub settled_long : (rows done : List Row) (list : List ℕ → List Dep) (tree : List Leaf) (lists : List (List Dep)) (newest : List ℕ) (versions : List VersionRef) → AreSettled rows done list tree lists newest versions
+pub settled_long : (rows done : List Row) (list : List ℕ → List Dep) (tree : List Leaf) (lists : List OpenList) (newest : List ℕ) (versions : List VersionRef) → AreSettled rows done list tree lists newest versions
     → (length versions ≡ length (rows ++ done)) × (length newest ≤ length versions)
 settled_long rows done list tree lists newest versions a =
     let long : length versions ≡ length (rows ++ done) = ap length a.versions_are ∙ as_many_versions (rows ++ done) in
@@ -134,7 +136,7 @@ settled_long rows done list tree lists newest versions a =
     let short = keys_short [] (rows ++ done) in
     (long, omega (arith, long, many.1, short))
 
-pub settled_more : (rows done : List Row) (list : List ℕ → List Dep) (row : Row) (tree new_tree : List Leaf) (lists new_lists : List (List Dep)) (newest new_newest : List ℕ) (versions : List VersionRef) (index : ℕ) (previous : Option ℕ)
+pub settled_more : (rows done : List Row) (list : List ℕ → List Dep) (row : Row) (tree new_tree : List Leaf) (lists new_lists : List OpenList) (newest new_newest : List ℕ) (versions : List VersionRef) (index : ℕ) (previous : Option ℕ)
     → AreSettled rows done list tree lists newest versions → index ≡ length versions → AreHeads new_tree new_lists new_newest (with_version (settling rows list done) row.key index) → previous ≡ newest_of (settling rows list done) row.key
     → AreSettled rows (done ++ row ∷ []) list new_tree new_lists new_newest (versions ++ record { block = row.block; previous = previous } ∷ [])
 settled_more rows done list row tree new_tree lists new_lists newest new_newest versions index previous a at heads before =

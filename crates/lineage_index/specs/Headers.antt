@@ -11,6 +11,7 @@ use Rattle.prov_entry.specs.declared.entry.Body.{Body}
 use Rattle.history_root.specs.Naming.{named_by}
 use Rattle.history_root.specs.Root.{is_among, keys_of, sentinel}
 use Rattle.state_tree.specs.Leaves.{index_of}
+use Rattle.forward_links.specs.declared.open_list.OpenList.{OpenList}
 use Rattle.lineage_index.specs.Growth.{Grows, Entry, entry_of, held}
 use Rattle.lineage_index.specs.Heads.{KeyStates, AreHeads, newest_at}
 use Rattle.lineage_index.specs.Settling.{AreRecords}
@@ -19,7 +20,7 @@ use Rattle.lineage_index.specs.Settling.{AreRecords}
 abbrev pub using : List Row → List Row → KeyStates
 using rows new = record { keys = keys_of rows; entry = entry_of rows; list = held rows new; index = newest_at rows }
 
-pub record AreUsing (rows new : List Row) (n : ℕ) (tree : List Leaf) (lists : List (List Dep)) (newest : List ℕ) (versions : List VersionRef) (headers : List Digest) : Type 0 where
+pub record AreUsing (rows new : List Row) (n : ℕ) (tree : List Leaf) (lists : List OpenList) (newest : List ℕ) (versions : List VersionRef) (headers : List Digest) : Type 0 where
   pub grows : Grows rows new n
   pub records : AreRecords rows versions headers
   pub named_at : records.block ≡ n

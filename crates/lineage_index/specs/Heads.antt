@@ -1,5 +1,5 @@
 -- What is kept of the newest version of each key.
-use Rattle.std.specs.Prelude.{◌≡◌, ◌≢◌, ℕ, List, [], ◌∷◌, ◌++◌, map, replicate, slice_get, false, if◌then◌else◌, Option, Some, None}
+use Rattle.std.specs.Prelude.{◌≡◌, ◌≢◌, ℕ, List, [], ◌∷◌, ◌++◌, ◌+◌, ◌<◌, length, map, replicate, slice_get, false, if◌then◌else◌, Option, Some, None}
 use Rattle.std.specs.List.{AllPairs}
 use Rattle.lc_base.specs.declared.row.Row.{Row}
 use Rattle.lc_base.specs.declared.row.Dep.{Dep}
@@ -8,6 +8,9 @@ use Rattle.version_links.specs.Versions.{newest_index}
 use Rattle.prov_entry.specs.declared.entry.Leaf.{Leaf}
 use Rattle.history_root.specs.Naming.{digest_of_uses, uses_of}
 use Rattle.history_root.specs.Root.{sentinel, is_among, keys_of}
+use Rattle.forward_links.specs.declared.open_list.OpenList.{OpenList}
+use Rattle.forward_links.specs.Lists.{open_of}
+use Rattle.forward_links.specs.declared.limits.TheConstants.{MAX_USES}
 use Rattle.lineage_index.specs.Growth.{Entry, leaf_with, entry_of, changed}
 
 -- The leaves of some keys, with an entry for each, and the sentinel before them.
@@ -36,16 +39,16 @@ abbrev pub IsKeyIndex : List (List ℕ) → List ℕ → Option ℕ → Type 0
 IsKeyIndex keys key None = is_among keys key ≡ false
 IsKeyIndex keys key (Some index) = slice_get keys index ≡ Some key
 
--- Lists of some keys, each key once, in the order of their leaves.
-pub record AreLists (tree : List Leaf) (lists : List (List Dep)) (keys : List (List ℕ)) (list : List ℕ → List Dep) : Type 0 where
+-- What is kept of the lists of some keys, each key once, in the order of their leaves.
+pub record AreLists (tree : List Leaf) (lists : List OpenList) (keys : List (List ℕ)) (list : List ℕ → List Dep) : Type 0 where
   pub apart : AllPairs ◌≢◌ keys
   pub entry : List ℕ → Entry
   pub leaves_are : tree ≡ leaves_with keys entry
-  pub lists_are : lists ≡ map list keys
+  pub lists_are : lists ≡ map open_of (map list keys)
 
--- The list of a key, where the key is among these.
-abbrev pub list_if_there : List (List ℕ) → (List ℕ → List Dep) → List ℕ → Option (List Dep)
-list_if_there keys list key = if is_among keys key then Some (list key) else None
+-- Each of these lists takes so many uses more.
+abbrev pub HaveRoom : (List ℕ → List Dep) → ℕ → Type 0
+HaveRoom list more = (key : List ℕ) → length (list key) + more < MAX_USES
 
 -- ---- all that is kept of keys
 
@@ -57,10 +60,10 @@ pub record KeyStates : Type 0 where
   pub index : List ℕ → ℕ
 
 -- Leaves, lists and indexes are those of some keys, each key once.
-pub record AreHeads (tree : List Leaf) (lists : List (List Dep)) (newest : List ℕ) (states : KeyStates) : Type 0 where
+pub record AreHeads (tree : List Leaf) (lists : List OpenList) (newest : List ℕ) (states : KeyStates) : Type 0 where
   pub apart : AllPairs ◌≢◌ states.keys
   pub leaves_are : tree ≡ leaves_with states.keys states.entry
-  pub lists_are : lists ≡ map states.list states.keys
+  pub lists_are : lists ≡ map open_of (map states.list states.keys)
   pub newest_are : newest ≡ map states.index states.keys
 
 -- With one key more, which has an empty list, and whose newest row is the one at this index.

@@ -6,4 +6,4 @@ pub mod Leaves
 pub mod Headers
 pub mod Blocks
 pub mod Index
-pub mod GoingBack
+pub mod NewestRows

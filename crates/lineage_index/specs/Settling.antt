@@ -11,6 +11,7 @@ use Rattle.version_links.specs.Versions.{versions_of}
 use Rattle.prov_entry.specs.declared.entry.Leaf.{Leaf}
 use Rattle.history_root.specs.Naming.{named_before}
 use Rattle.history_root.specs.Root.{is_among, keys_of}
+use Rattle.forward_links.specs.declared.open_list.OpenList.{OpenList}
 use Rattle.lineage_index.specs.Growth.{Entry, entry_of, settled, named_from, renewed}
 use Rattle.lineage_index.specs.Heads.{KeyStates, AreHeads, fresh_entry, newest_at, open_list}
 
@@ -29,7 +30,7 @@ settling rows list done = record {
 }
 
 -- The same of what is kept.
-pub record AreSettled (rows done : List Row) (list : List ℕ → List Dep) (tree : List Leaf) (lists : List (List Dep)) (newest : List ℕ) (versions : List VersionRef) : Type 0 where
+pub record AreSettled (rows done : List Row) (list : List ℕ → List Dep) (tree : List Leaf) (lists : List OpenList) (newest : List ℕ) (versions : List VersionRef) : Type 0 where
   pub heads : AreHeads tree lists newest (settling rows list done)
   pub versions_are : versions ≡ versions_of (rows ++ done)
 
@@ -53,6 +54,6 @@ pub record AreRecords (rows : List Row) (versions : List VersionRef) (headers : 
 
 -- What is kept of all rows of a history, and of its keys, where the leaves of these keys were made
 -- anew.
-pub record AreRenewing (rows : List Row) (entry : List ℕ → Entry) (done : List (List ℕ)) (tree : List Leaf) (lists : List (List Dep)) (newest : List ℕ) (versions : List VersionRef) (headers : List Digest) : Type 0 where
+pub record AreRenewing (rows : List Row) (entry : List ℕ → Entry) (done : List (List ℕ)) (tree : List Leaf) (lists : List OpenList) (newest : List ℕ) (versions : List VersionRef) (headers : List Digest) : Type 0 where
   pub records : AreRecords rows versions headers
   pub heads : AreHeads tree lists newest (renewing rows entry done)

@@ -30,7 +30,7 @@ pub(crate) fn advance(
     ensures { (rows : List Row) (n : ℕ) → Grows rows new.now n → IsKept rows n tree.old lists.old newest.old.items versions.old.items headers.old.items
         → OnOk result (IsKept (rows ++ new.now) (n + 1) tree.new lists.new newest.new.items versions.new.items headers.new.items) }
 {
-    add_uses(tree, lists, new)?;
+    add_uses(tree, lists, new);
     let fresh = new_headers(alloc, tree, lists, newest, versions, headers, new)?;
     settle_rows(tree, lists, newest, versions, new)?;
     headers.extend_from_slice(&fresh)?;

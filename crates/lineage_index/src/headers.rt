@@ -8,30 +8,29 @@ ghost use Rattle.lc_base.specs.declared.row.Dep.{Dep};
 ghost use Rattle.lc_base.specs.declared.digest.Digest.{Digest};
 ghost use Rattle.version_links.specs.declared.versions.VersionRef.{VersionRef};
 ghost use Rattle.prov_entry.specs.Spelling.{body_text};
-ghost use Rattle.prov_entry.specs.ForwardLists.{uses_digest};
+ghost use Rattle.forward_links.specs.Lists.{open_of};
 ghost use Rattle.sha2.specs.Sha256.{sha256};
 ghost use Rattle.lineage_index.specs.Growth.{Entry, named_from};
 ghost use Rattle.lineage_index.specs.Heads.{leaves_with, AreLists};
 ghost use Rattle.lineage_index.specs.Headers.{AreUsing, digest_of_new, newest_in, dep_in, body_in, list_if_among};
 
 use crate::heads::index_of;
-use crate::latest::newest_row_of;
 use crate::linking::new_links;
-use forward_links::OpenLists;
+use crate::newest_row::newest_row_of;
+use forward_links::{OpenList, OpenLists};
 use lc_base::{Dep, Digest, Duplicate, Key, Memory, Row};
-use prov_entry::{Body, BodyDep, BodyDepList, Header, body_digest, header_digest, no_uses};
+use prov_entry::{Body, BodyDep, BodyDepList, Header, body_digest, header_digest};
 use state_tree::Tree;
 use std::alloc::Global;
 use version_links::VersionRef;
 
-/// How many uses a new version of the key closes, and their digest.
-fn closed_by(tree: &Tree, lists: &OpenLists, key: &Key) -> (u64, Digest)
+/// The list that a new version of the key closes.
+fn closed_by(tree: &Tree, lists: &OpenLists, key: &Key) -> OpenList
     requires { (keys : List (List ℕ)) × (list : List ℕ → List Dep) × AreLists tree.now lists.now keys list }
-    ensures count { (keys : List (List ℕ)) (list : List ℕ → List Dep) → AreLists tree.now lists.now keys list → result.0 ≡ length (list_if_among keys list key.now) }
-    ensures digest { (keys : List (List ℕ)) (list : List ℕ → List Dep) → AreLists tree.now lists.now keys list → result.1.0 ≡ uses_digest (list_if_among keys list key.now) }
+    ensures { (keys : List (List ℕ)) (list : List ℕ → List Dep) → AreLists tree.now lists.now keys list → result ≡ open_of (list_if_among keys list key.now) }
 {
     match index_of(tree, key) {
-        None => (0, no_uses()),
+        None => OpenList::new(),
         Some(index) => lists.peek(index),
     }
 }
@@ -94,7 +93,7 @@ fn row_header_digest(
         → IfOk result (λ digest. digest ≡ digest_of_new (rows ++ new) (named_from rows headers.now) row.now) }
 {
     let body = row_body_digest(alloc, tree, row)?;
-    let (closed, closed_digest) = closed_by(tree, lists, &row.key);
+    let closed = closed_by(tree, lists, &row.key);
     let newest_row = newest_row_of(tree, newest, &row.key);
     let links = new_links(alloc, versions, headers, newest_row, row.block)?;
     let header = Header {
@@ -102,8 +101,8 @@ fn row_header_digest(
         block: row.block,
         tx: row.tx,
         body,
-        closed,
-        closed_digest,
+        closed: closed.count,
+        closed_digest: closed.digest,
         links,
     };
     Ok(header_digest(&header))

@@ -1,18 +1,14 @@
 //! The index over the rows of a lineage.
 
 ghost use Rattle.std.specs.Prelude.{◌≡◌, ℕ, List, [], ◌+◌, ◌++◌, IfOk, OnOk};
-ghost use Rattle.std.specs.Option.{option_copied};
 ghost use Rattle.lc_base.specs.declared.row.Row.{Row};
-ghost use Rattle.lc_base.specs.History.{latest};
 ghost use Rattle.history_root.specs.Root.{leaves};
 ghost use Rattle.lineage_index.specs.Growth.{Grows};
-ghost use Rattle.lineage_index.specs.Index.{IsIndexOf, newest_uses};
+ghost use Rattle.lineage_index.specs.Index.{IsIndexOf};
 
 use crate::advancing::advance;
-use crate::latest::{latest_from, newest_row_of};
-use crate::open_list::list_of;
 use forward_links::OpenLists;
-use lc_base::{DepList, Digest, Key, Memory, Row};
+use lc_base::{Digest, Memory, Row};
 use state_tree::Tree;
 use std::alloc::Global;
 use version_links::VersionRef;
@@ -68,24 +64,6 @@ impl LineageIndex {
         ensures { (rows : List Row) (n : ℕ) → IsIndexOf rows n self.now → result.now ≡ leaves rows }
     {
         &self.tree
-    }
-
-    /// What was derived from the newest version of a key, in the order of the rows; `None` exactly
-    /// where the key has no version.
-    pub fn open_list(&self, key: &Key) -> Option<&DepList>
-        requires { (rows : List Row) × (n : ℕ) × IsIndexOf rows n self.now }
-        ensures { (rows : List Row) (n : ℕ) → IsIndexOf rows n self.now → option_copied result ≡ newest_uses rows key.now }
-    {
-        list_of(&self.tree, &self.lists, key)
-    }
-
-    /// The last version of a key in the blocks up to `at`, where these are all rows.
-    pub fn latest<'a>(&self, rows: &'a [Row], key: &Key, at: u32) -> Option<&'a Row>
-        requires { (n : ℕ) × IsIndexOf rows.now n self.now }
-        ensures { option_copied result ≡ latest rows.now key.now at }
-    {
-        let newest = newest_row_of(&self.tree, &self.newest, key);
-        latest_from(rows, &self.versions, newest, at)
     }
 
     /// Ends the index, whose many parts are dropped here alone.

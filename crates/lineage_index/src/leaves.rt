@@ -51,13 +51,13 @@ fn leaf_state(
 {
     let key = index - 1;
     let row = newest_at(newest, key);
-    let (open_count, open_digest) = lists.peek(key);
+    let kept = lists.peek(key);
     LeafState {
         index,
         newest_block: version_at(versions, row).block,
         newest: digest_at(headers, row),
-        open_count,
-        open_digest,
+        open_count: kept.count,
+        open_digest: kept.digest,
     }
 }
 

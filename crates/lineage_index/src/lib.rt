@@ -7,10 +7,9 @@ mod headers;
 mod heads;
 mod index;
 mod indexes;
-mod latest;
 mod leaves;
 mod linking;
-mod open_list;
+mod newest_row;
 mod settling;
 mod uses;
 

@@ -1,69 +1,62 @@
 //! The uses of a block's rows, added to the open lists of the keys that they depend on.
 
-ghost use Rattle.std.specs.Prelude.{◌≡◌, ◌++◌, ◌∷◌, [], ℕ, List, OnOk};
+ghost use Rattle.std.specs.Prelude.{◌≡◌, ◌++◌, ◌∷◌, [], ℕ, List, length};
 ghost use Rattle.std.specs.List.{All};
 ghost use Rattle.lc_base.specs.declared.row.Dep.{Dep};
 ghost use Rattle.lc_base.specs.declared.row.Row.{Row};
 ghost use Rattle.lineage_index.specs.Growth.{changed, used, used_by_row, used_by, HaveDistinctKeys};
-ghost use Rattle.lineage_index.specs.Heads.{AreLists};
+ghost use Rattle.lineage_index.specs.Heads.{AreLists, HaveRoom};
 
 use crate::heads::index_of;
 use forward_links::OpenLists;
-use lc_base::{Dep, Memory, Row};
+use lc_base::{Dep, Row};
 use state_tree::Tree;
 
 /// Adds a use to the list of the key of a dependency.
-fn add_use(tree: &Tree, lists: &mut OpenLists, dep: &Dep, user: &Dep) -> Result<(), Memory>
-    requires { (keys : List (List ℕ)) × (list : List ℕ → List Dep) × AreLists tree.now lists.old keys list }
+fn add_use(tree: &Tree, lists: &mut OpenLists, dep: &Dep, user: &Dep)
+    requires { (keys : List (List ℕ)) × (list : List ℕ → List Dep) × AreLists tree.now lists.old keys list × HaveRoom list 0 }
     ensures { (keys : List (List ℕ)) (list : List ℕ → List Dep) → AreLists tree.now lists.old keys list
-        → OnOk result (AreLists tree.now lists.new keys (changed list dep.now.key (list dep.now.key ++ user.now ∷ []))) }
+        → AreLists tree.now lists.new keys (changed list dep.now.key (list dep.now.key ++ user.now ∷ [])) }
 {
     match index_of(tree, &dep.key) {
-        None => Ok(()),
-        Some(index) => lists.add(index, *user),
+        None => {}
+        Some(index) => lists.add(index, user),
     }
 }
 
 /// Adds a use to the list of the key of each dependency.
-fn add_use_to_each(
-    tree: &Tree,
-    lists: &mut OpenLists,
-    deps: &[Dep],
-    user: &Dep,
-) -> Result<(), Memory>
+fn add_use_to_each(tree: &Tree, lists: &mut OpenLists, deps: &[Dep], user: &Dep)
     requires distinct { HaveDistinctKeys deps.now }
-    requires lists { (keys : List (List ℕ)) × (list : List ℕ → List Dep) × AreLists tree.now lists.old keys list }
+    requires lists { (keys : List (List ℕ)) × (list : List ℕ → List Dep) × AreLists tree.now lists.old keys list × HaveRoom list 1 }
     ensures { (keys : List (List ℕ)) (list : List ℕ → List Dep) → AreLists tree.now lists.old keys list
-        → OnOk result (AreLists tree.now lists.new keys (used list user.now deps.now)) }
+        → AreLists tree.now lists.new keys (used list user.now deps.now) }
 {
     for dep in deps {
-        add_use(tree, lists, dep, user)?;
+        add_use(tree, lists, dep, user);
     }
-    Ok(())
 }
 
-fn add_uses_of_row(tree: &Tree, lists: &mut OpenLists, row: &Row) -> Result<(), Memory>
+fn add_uses_of_row(tree: &Tree, lists: &mut OpenLists, row: &Row)
     requires distinct { HaveDistinctKeys row.now.deps }
-    requires lists { (keys : List (List ℕ)) × (list : List ℕ → List Dep) × AreLists tree.now lists.old keys list }
+    requires lists { (keys : List (List ℕ)) × (list : List ℕ → List Dep) × AreLists tree.now lists.old keys list × HaveRoom list 1 }
     ensures { (keys : List (List ℕ)) (list : List ℕ → List Dep) → AreLists tree.now lists.old keys list
-        → OnOk result (AreLists tree.now lists.new keys (used_by_row list row.now)) }
+        → AreLists tree.now lists.new keys (used_by_row list row.now) }
 {
     let user = Dep {
         key: row.key,
         block: row.block,
     };
-    add_use_to_each(tree, lists, row.deps.as_slice(), &user)
+    add_use_to_each(tree, lists, row.deps.as_slice(), &user);
 }
 
 /// Adds the uses of these rows, row by row, to the lists of the keys that they depend on.
-pub(crate) fn add_uses(tree: &Tree, lists: &mut OpenLists, rows: &[Row]) -> Result<(), Memory>
+pub(crate) fn add_uses(tree: &Tree, lists: &mut OpenLists, rows: &[Row])
     requires distinct { All (λ (row : Row). HaveDistinctKeys row.deps) rows.now }
-    requires lists { (keys : List (List ℕ)) × (list : List ℕ → List Dep) × AreLists tree.now lists.old keys list }
+    requires lists { (keys : List (List ℕ)) × (list : List ℕ → List Dep) × AreLists tree.now lists.old keys list × HaveRoom list (length rows.now) }
     ensures { (keys : List (List ℕ)) (list : List ℕ → List Dep) → AreLists tree.now lists.old keys list
-        → OnOk result (AreLists tree.now lists.new keys (used_by list rows.now)) }
+        → AreLists tree.now lists.new keys (used_by list rows.now) }
 {
     for row in rows {
-        add_uses_of_row(tree, lists, row)?;
+        add_uses_of_row(tree, lists, row);
     }
-    Ok(())
 }

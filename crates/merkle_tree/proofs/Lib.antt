@@ -9,3 +9,4 @@ mod Top
 mod Siblings
 mod Beside
 mod Together
+mod Renewed

@@ -16,7 +16,7 @@ use Rattle.merkle_tree.proofs.Raising.{length-pair_up, pair_up-set, are_over}
 abbrev AreBelow : ℕ → List HashAt → Type 0
 AreBelow count hashes = All (λ (one : HashAt). one.index < count) hashes
 
-length-set_each : (hashes : List HashAt) (xs : List Digest) → length (set_each xs hashes) ≡ length xs
+pub length-set_each : (hashes : List HashAt) (xs : List Digest) → length (set_each xs hashes) ≡ length xs
 length-set_each [] xs = refl
 length-set_each (one ∷ hashes) xs = length-set_each hashes (set xs one.index one.hash) ∙ length-set xs one.index one.hash
 

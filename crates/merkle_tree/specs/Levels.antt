@@ -1,7 +1,7 @@
 -- The levels of a tree, each the pairs of the one below; a last hash without a partner goes up as
 -- it is.
-use Rattle.std.specs.Prelude.{◌≡◌, ◌<◌, ◌≤◌, ℕ, zero, suc, ◌/◌, List, [], ◌∷◌, ◌++◌, length, map, slice_set, slice_index_or, Vec, vec_len, vec_capacity}
-use Rattle.std.specs.List.{fold}
+use Rattle.std.specs.Prelude.{◌≡◌, ◌==◌, ◌<◌, ◌≤◌, ℕ, zero, suc, ◌-◌, ◌/◌, Bool, false, List, [], ◌∷◌, ◌++◌, length, map, replicate, slice_set, slice_index_or, Vec, vec_len, vec_capacity}
+use Rattle.std.specs.List.{fold, list_any, All}
 use Rattle.std.specs.Global.{Global}
 use Rattle.sha2.specs.Sha256.{sha256}
 use Rattle.lc_base.specs.declared.digest.Digest.{Digest}
@@ -76,6 +76,40 @@ StandsOver level one = one.hash ≡ slice_index_or (pair_up level) one.index NO_
 unfoldable pub set_all_through : List HashAt → List (List Digest) → List (List Digest)
 set_all_through hashes [] = []
 set_all_through hashes (level ∷ above) = set_each level hashes ∷ set_all_through (over_each (set_each level hashes) hashes) above
+
+-- Whether one of these hashes has this place.
+abbrev pub is_set : List HashAt → ℕ → Bool
+is_set hashes place = list_any (λ (one : HashAt). one.index == place) hashes
+
+-- The hash is the one at its place.
+abbrev pub IsOwn : List Digest → HashAt → Type 0
+IsOwn level one = (one.index < length level) × (slice_index_or level one.index NO_HASH ≡ one.hash)
+
+-- Some hashes are given, and these are others: those at their places are among them, and the rest are
+-- as before.
+pub record Renews (before after : List Digest) (hashes : List HashAt) : Type 0 where
+  pub fewer : length before ≤ length after
+  pub own : All (IsOwn after) hashes
+  pub others : (place : ℕ) → place < length after → is_set hashes place ≡ false → (place < length before) × (slice_index_or before place NO_HASH ≡ slice_index_or after place NO_HASH)
+
+-- How many hashes are in the level above so many.
+abbrev pub count_above : ℕ → ℕ
+count_above count = count - count / 2
+
+-- A level with so many places. Nothing is known of the hashes in those that are new.
+abbrev pub lengthened : List Digest → ℕ → List Digest
+lengthened level count = level ++ replicate (count - length level) NO_HASH
+
+-- Levels with so many places in the lowest, after some hashes were set in it, one after another.
+unfoldable pub renew_through : ℕ → List HashAt → List (List Digest) → List (List Digest)
+renew_through count hashes [] = []
+renew_through count hashes (level ∷ above) =
+    set_each (lengthened level count) hashes ∷ renew_through (count_above count) (over_each (set_each (lengthened level count) hashes) hashes) above
+
+-- Room for so many hashes in the lowest of these levels, and for those over them in the others.
+abbrev pub HaveRoom : ℕ → List (Vec Digest Global) → Type 0
+HaveRoom count [] = Unit {0}
+HaveRoom count (level ∷ above) = (count ≤ vec_capacity level) × HaveRoom (count_above count) above
 
 -- A hash in the place of another, or one past the end.
 abbrev pub put : List Digest → ℕ → Digest → List Digest

@@ -1,9 +1,9 @@
 //! A tree that is changed leaf by leaf.
 
-ghost use Rattle.std.specs.Prelude.{◌≡◌, ◌<◌, [], ◌∷◌, ◌++◌, ℕ, List, length, map, slice_set, OnOk, OnErr, IfOk, All};
+ghost use Rattle.std.specs.Prelude.{◌≡◌, ◌<◌, ◌≤◌, [], ◌∷◌, ◌++◌, ℕ, List, length, map, slice_set, OnOk, OnErr, IfOk, All};
 ghost use Rattle.merkle_tree.specs.Tree.{tree_hash, audit_path};
 ghost use Rattle.merkle_tree.specs.Climbing.{bytes_of};
-ghost use Rattle.merkle_tree.specs.Levels.{digest_of, set_each};
+ghost use Rattle.merkle_tree.specs.Levels.{digest_of, set_each, Renews};
 ghost use Rattle.merkle_tree.specs.declared.limits.TheConstants.{MAX_LEAVES};
 ghost use Rattle.merkle_tree.specs.declared.setting_all.HashAt.{HashAt};
 
@@ -11,6 +11,7 @@ use crate::growth::{make_room, put_through};
 use crate::hash::empty_hash;
 use crate::limits::MAX_HEIGHT;
 use crate::reading::siblings_up;
+use crate::renewing::{renew_through, take_room};
 use crate::setting::set_through;
 use crate::setting_all::{HashAt, set_all_through};
 use lc_base::{Digest, DigestList, Memory};
@@ -82,6 +83,20 @@ impl Levels {
         ensures { self.new ≡ set_each self.old hashes.items }
     {
         set_all_through(self.levels.as_mut_slice(), hashes);
+    }
+
+    /// Adds leaves up to this number, and sets the hashes of some; and then those of the nodes over them.
+    /// Each leaf that is new is among these. Where the indexes ascend, each node is hashed once. Out of
+    /// memory, the tree stays as it was.
+    pub fn renew(&mut self, count: u32, hashes: Vec<HashAt>) -> Result<(), Memory>
+        requires few { count ≤ MAX_LEAVES }
+        requires renews { (leaves : List Digest) × (length leaves ≡ count) × Renews self.old leaves hashes.items }
+        ensures ok { (leaves : List Digest) → length leaves ≡ count → Renews self.old leaves hashes.items → OnOk result (self.new ≡ leaves) }
+        ensures err { OnErr result (self.new ≡ self.old) }
+    {
+        take_room(self.levels.as_mut_slice(), count as usize)?;
+        renew_through(self.levels.as_mut_slice(), count as usize, hashes);
+        Ok(())
     }
 
     /// The tree hash (RFC 6962, section 2.1). It takes no memory.

@@ -9,6 +9,7 @@ mod levels;
 mod limits;
 mod plain;
 mod reading;
+mod renewing;
 mod setting;
 mod setting_all;
 

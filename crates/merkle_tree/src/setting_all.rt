@@ -7,7 +7,7 @@ use crate::setting::hash_over;
 use lc_base::Digest;
 
 /// What is taken for the hash over a place past the end of a level.
-const NO_HASH: Digest = Digest([0; 32]);
+pub(crate) const NO_HASH: Digest = Digest([0; 32]);
 
 /// A hash, and its place in a level, from 0.
 #[derive(Clone, Copy, Debug, PartialEq, Eq)]
@@ -17,7 +17,7 @@ pub struct HashAt {
 }
 
 /// Sets some hashes, one after another. Past the end of the level nothing is set.
-fn set_each(level: &mut [Digest], hashes: &[HashAt])
+pub(crate) fn set_each(level: &mut [Digest], hashes: &[HashAt])
     ensures { level.new ≡ set_each level.old hashes.now }
 {
     for one in hashes {
@@ -45,7 +45,7 @@ fn over_one(level: &[Digest], one: &HashAt, before: &Option<HashAt>) -> HashAt
 }
 
 /// Puts the hash over each in its place.
-fn raise_each(level: &[Digest], hashes: &mut [HashAt])
+pub(crate) fn raise_each(level: &[Digest], hashes: &mut [HashAt])
     ensures { hashes.new ≡ over_each level.now hashes.old }
 {
     let mut before = None;

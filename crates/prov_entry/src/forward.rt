@@ -3,15 +3,22 @@
 ghost use Rattle.std.specs.Prelude.{◌≡◌, [], ◌++◌};
 ghost use Rattle.prov_entry.specs.ForwardLists.{no_uses, with_use};
 
-use crate::limits::{FORWARD_LINK, FORWARD_START};
+use crate::limits::FORWARD_LINK;
 use digest_kit::TagHasher;
 use lc_base::{Dep, Digest};
 
-/// The digest of the empty forward list.
+/// SHA-256 of the byte `FORWARD_START`.
+const NO_USES: Digest = Digest([
+    0xe5, 0x2d, 0x9c, 0x50, 0x8c, 0x50, 0x23, 0x47, 0x34, 0x4d, 0x8c, 0x07, 0xad, 0x91, 0xcb, 0xd6,
+    0x06, 0x8a, 0xfc, 0x75, 0xff, 0x62, 0x92, 0xf0, 0x62, 0xa0, 0x9c, 0xa3, 0x81, 0xc8, 0x9e, 0x71,
+]);
+
+/// The digest of the empty forward list. It is a constant, so that nothing is hashed.
+#[tactic(auto, using(crate::proofs::NoUses::no_uses_computed))]
 pub fn no_uses() -> Digest
     ensures { result.0 ≡ no_uses }
 {
-    TagHasher::new(FORWARD_START).finish()
+    NO_USES
 }
 
 /// The digest of a forward list with one use more, where the digest of the list is given.

@@ -6,16 +6,26 @@ use Rattle.lineage_index.specs.Heads.{open_list}
 use Rattle.lineage_index.specs.Headers.{digest_of_new}
 use Rattle.lineage_index.specs.Settling.{entry_or_fresh, renewing}
 use Rattle.lineage_index.proofs.BlockSteps.{distinct_deps, kept_lists, uses_added, settling_begins, renewing_begins, block_kept, room_for, using_at, renewing_at, heads_at, records_at}
+use Rattle.lineage_index.proofs.Room.{room_open}
 use Rattle.lineage_index.proofs.advancing.advance.Goals as goal
 
 pub add_uses-requires-clause-distinct : goal.add_uses-requires-clause-distinct
 add_uses-requires-clause-distinct c = let given = c.requires in distinct_deps given.0 c.args.new.now given.1 given.2
 
+pub add_uses-requires-clause-lists : goal.add_uses-requires-clause-lists
+add_uses-requires-clause-lists c =
+    let given = c.requires in (
+      keys_of given.0,
+      open_list given.0,
+      kept_lists given.0 given.1 c.args.tree.now c.args.lists.now c.args.newest.now.items c.args.versions.now.items c.args.headers.now.items given.3,
+      room_open given.0 c.args.new.now given.1 given.2,
+    )
+
 pub new_headers-requires : goal.new_headers-requires
 new_headers-requires c =
     let given = c.requires in
     let using = (uses_added given.0 c.args.new.now given.1 c.args.tree.now c.args.lists.now c.add_uses.new.lists c.args.newest.now.items c.args.versions.now.items c.args.headers.now.items given.2 given.3
-    (c.in_ok-add_uses.ensures (keys_of given.0) (open_list given.0) (kept_lists given.0 given.1 c.args.tree.now c.args.lists.now c.args.newest.now.items c.args.versions.now.items c.args.headers.now.items given.3))) in (
+    (c.add_uses.ensures (keys_of given.0) (open_list given.0) (kept_lists given.0 given.1 c.args.tree.now c.args.lists.now c.args.newest.now.items c.args.versions.now.items c.args.headers.now.items given.3))) in (
       given.0,
       given.1,
       (using_at given.0 c.args.new.now given.1 c.args.tree.now c.add_uses.new.lists c.deref.result.now c.args.newest.now.items c.deref-2.result.now c.args.versions.now.items c.deref-3.result.now c.args.headers.now.items
@@ -31,14 +41,14 @@ pub settle_rows-requires-clause-settled : goal.settle_rows-requires-clause-settl
 settle_rows-requires-clause-settled c =
     let given = c.requires in
     let using = (uses_added given.0 c.args.new.now given.1 c.args.tree.now c.args.lists.now c.add_uses.new.lists c.args.newest.now.items c.args.versions.now.items c.args.headers.now.items given.2 given.3
-    (c.in_ok-add_uses.ensures (keys_of given.0) (open_list given.0) (kept_lists given.0 given.1 c.args.tree.now c.args.lists.now c.args.newest.now.items c.args.versions.now.items c.args.headers.now.items given.3))) in
+    (c.add_uses.ensures (keys_of given.0) (open_list given.0) (kept_lists given.0 given.1 c.args.tree.now c.args.lists.now c.args.newest.now.items c.args.versions.now.items c.args.headers.now.items given.3))) in
     (given.0, held given.0 c.args.new.now, settling_begins given.0 c.args.new.now given.1 c.args.tree.now c.add_uses.new.lists c.args.newest.now.items c.args.versions.now.items c.args.headers.now.items using)
 
 pub renew_leaves-requires : goal.renew_leaves-requires
 renew_leaves-requires c =
     let given = c.requires in
     let using = (uses_added given.0 c.args.new.now given.1 c.args.tree.now c.args.lists.now c.add_uses.new.lists c.args.newest.now.items c.args.versions.now.items c.args.headers.now.items given.2 given.3
-    (c.in_ok-add_uses.ensures (keys_of given.0) (open_list given.0) (kept_lists given.0 given.1 c.args.tree.now c.args.lists.now c.args.newest.now.items c.args.versions.now.items c.args.headers.now.items given.3))) in
+    (c.add_uses.ensures (keys_of given.0) (open_list given.0) (kept_lists given.0 given.1 c.args.tree.now c.args.lists.now c.args.newest.now.items c.args.versions.now.items c.args.headers.now.items given.3))) in
     let fresh = c.in_ok-fresh.ensures given.0 given.1 (using_at given.0 c.args.new.now given.1 c.args.tree.now c.add_uses.new.lists c.deref.result.now c.args.newest.now.items c.deref-2.result.now c.args.versions.now.items c.deref-3.result.now c.args.headers.now.items
     using c.deref.ensures.value c.deref-2.ensures.value c.deref-3.ensures.value) in
     let settled = c.in_ok-settle_rows.ensures given.0 (held given.0 c.args.new.now)
@@ -53,7 +63,7 @@ renew_leaves-requires c =
 pub returns : goal.returns
 returns c rows n g k =
     let using = (uses_added rows c.args.new.now n c.args.tree.now c.args.lists.now c.add_uses.new.lists c.args.newest.now.items c.args.versions.now.items c.args.headers.now.items g k
-    (c.in_ok-add_uses.ensures (keys_of rows) (open_list rows) (kept_lists rows n c.args.tree.now c.args.lists.now c.args.newest.now.items c.args.versions.now.items c.args.headers.now.items k))) in
+    (c.add_uses.ensures (keys_of rows) (open_list rows) (kept_lists rows n c.args.tree.now c.args.lists.now c.args.newest.now.items c.args.versions.now.items c.args.headers.now.items k))) in
     let fresh = c.in_ok-fresh.ensures rows n (using_at rows c.args.new.now n c.args.tree.now c.add_uses.new.lists c.deref.result.now c.args.newest.now.items c.deref-2.result.now c.args.versions.now.items c.deref-3.result.now c.args.headers.now.items
     using c.deref.ensures.value c.deref-2.ensures.value c.deref-3.ensures.value) in
     let settled = c.in_ok-settle_rows.ensures rows (held rows c.args.new.now)

@@ -3,6 +3,7 @@ use Rattle.lc_base.specs.declared.digest.Digest.{Digest}
 use Rattle.prov_entry.specs.declared.entry.Body.{Body}
 use Rattle.prov_entry.specs.Spelling.{body_text}
 use Rattle.merkle_tree.specs.Levels.{digest_of}
+use Rattle.forward_links.specs.declared.open_list.OpenList.{OpenList}
 use Rattle.history_root.specs.Root.{keys_of}
 use Rattle.lineage_index.specs.Growth.{entry_of, held}
 use Rattle.lineage_index.specs.Headers.{using}
@@ -37,8 +38,8 @@ returns c rows new n a has =
     let lists = lists_of_heads c.args.tree.now c.args.lists.now c.args.newest.now (using rows new) a.heads in
     let before = before_new rows new n c.args.tree.now c.args.lists.now c.args.newest.now c.args.versions.now c.args.headers.now c.args.row.now c.newest_row_of-newest_row.result a has
     (c.newest_row_of-newest_row.ensures rows (record { entry = entry_of rows; leaves_are = a.heads.leaves_are; newest_are = a.heads.newest_are })) in
-    header_is rows new n c.args.tree.now c.args.lists.now c.args.newest.now c.args.versions.now c.args.headers.now c.args.row.now c.in_ok-body.body c.closed_by-closed.result.0 c.closed_by-closed.result.1 c.in_ok-links.links c.header_digest.result a has
+    header_is rows new n c.args.tree.now c.args.lists.now c.args.newest.now c.args.versions.now c.args.headers.now c.args.row.now c.in_ok-body.body c.closed_by-closed.result.count c.closed_by-closed.result.digest c.in_ok-links.links c.header_digest.result a has
     (ap (λ (x : List ℕ). let d : Digest = record { 0 = x } in d) c.in_ok-body.ensures
     ∙ ap (λ (b : Body). digest_of (body_text b)) (body_read rows new n c.args.tree.now c.args.lists.now c.args.newest.now c.args.versions.now c.args.headers.now c.args.row.now a has))
-    (c.closed_by-closed.ensures.count (keys_of rows) (held rows new) lists) (c.closed_by-closed.ensures.digest (keys_of rows) (held rows new) lists)
+    (ap (λ (one : OpenList). one.count) (c.closed_by-closed.ensures (keys_of rows) (held rows new) lists)) (ap (λ (one : OpenList). one.digest.0) (c.closed_by-closed.ensures (keys_of rows) (held rows new) lists))
     (c.in_ok-links.ensures.links rows c.args.row.now.key before) c.header_digest.ensures.digest

@@ -13,5 +13,5 @@ digest_at-requires c =
 
 pub returns : goal.returns
 returns c rows kept within =
-    state_told rows c.args.lists.now c.args.newest.now c.args.versions.now c.args.headers.now c.args.index c.newest_at-row.result c.version_at.result c.digest_at.result _ _ kept within
-    c.newest_at-row.ensures c.version_at.ensures c.digest_at.ensures c.peek-open_count.ensures.count c.peek-open_count.ensures.digest
+    state_told rows c.args.lists.now c.args.newest.now c.args.versions.now c.args.headers.now c.args.index c.newest_at-row.result c.version_at.result c.digest_at.result c.peek-kept.result kept within
+    c.newest_at-row.ensures c.version_at.ensures c.digest_at.ensures c.peek-kept.ensures

@@ -1,6 +1,6 @@
 use Rattle.history_root.specs.Root.{keys_of}
-use Rattle.lineage_index.proofs.GoingBack.{newest_known, newest_unknown, newest_within}
-use Rattle.lineage_index.proofs.latest.newest_row_of.Goals as goal
+use Rattle.lineage_index.proofs.NewestRows.{newest_known, newest_unknown, newest_within}
+use Rattle.lineage_index.proofs.newest_row.newest_row_of.Goals as goal
 
 pub newest_at-requires : goal.newest_at-requires
 newest_at-requires c =

@@ -1,0 +1,13 @@
+use Rattle.std.proofs.Common.{◌≡◌, ◌≤◌, ◌-◌, length}
+use Rattle.std.specs.Prelude.{vec_capacity}
+use Rattle.merkle_tree.specs.Levels.{lengthened}
+use Rattle.merkle_tree.proofs.renewing.lengthen.Given as goal
+
+abbrev pub invariant-loop-level : goal.invariant-loop-level
+invariant-loop-level l = record {
+  longer : lengthened l.level.items l.count ≡ lengthened l.fn.level.items l.count;
+  room : l.count ≤ vec_capacity l.level;
+}
+
+abbrev pub decreases-loop-level : goal.decreases-loop-level
+decreases-loop-level l = l.count - length l.level.items

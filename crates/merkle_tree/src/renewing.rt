@@ -1,0 +1,64 @@
+//! The levels after some leaves were added and the hashes of some were set, together.
+
+ghost use Rattle.std.specs.Prelude.{◌≡◌, ◌≤◌, OnOk, vec_capacity};
+ghost use Rattle.merkle_tree.specs.Levels.{count_above, lengthened, set_each, renew_through, hashes_in, HaveRoom};
+
+use crate::setting_all::{HashAt, NO_HASH, raise_each, set_each};
+use lc_base::{Digest, Memory};
+
+/// How many hashes are over so many: one for each pair, and the last one where it has no partner.
+fn count_above(count: usize) -> usize
+    ensures { result ≡ count_above count }
+{
+    count - count / 2
+}
+
+/// Takes room for so many hashes in the lowest level, and for those over them in the others.
+pub(crate) fn take_room(levels: &mut [Vec<Digest>], count: usize) -> Result<(), Memory>
+    ensures same { hashes_in levels.new ≡ hashes_in levels.old }
+    ensures room { OnOk result (HaveRoom count levels.new) }
+{
+    let mut wanted = count;
+    for level in levels.iter_mut() {
+        level.reserve(wanted.saturating_sub(level.len()))?;
+        wanted = count_above(wanted);
+    }
+    Ok(())
+}
+
+/// Gives a level so many places.
+fn lengthen(level: &mut Vec<Digest>, count: usize)
+    requires { count ≤ vec_capacity level.old }
+    ensures { level.new.items ≡ lengthened level.old.items count }
+{
+    while level.len() < count {
+        match level.push(NO_HASH) {
+            Ok(()) => {}
+            Err(_) => unreachable!(),
+        }
+    }
+}
+
+/// Gives a level so many places, and sets some hashes, one after another.
+fn renew_level(level: &mut Vec<Digest>, count: usize, hashes: &[HashAt])
+    requires { count ≤ vec_capacity level.old }
+    ensures { level.new.items ≡ set_each (lengthened level.old.items count) hashes.now }
+{
+    lengthen(level, count);
+    set_each(level.as_mut_slice(), hashes);
+}
+
+/// Gives the lowest level so many places and sets some hashes in it, one after another; and then those
+/// over them. It takes no memory.
+pub(crate) fn renew_through(levels: &mut [Vec<Digest>], count: usize, hashes: Vec<HashAt>)
+    requires { HaveRoom count levels.old }
+    ensures { hashes_in levels.new ≡ renew_through count hashes.items (hashes_in levels.old) }
+{
+    let mut over = hashes;
+    let mut wanted = count;
+    for level in levels.iter_mut() {
+        renew_level(level, wanted, over.as_slice());
+        raise_each(level.as_slice(), over.as_mut_slice());
+        wanted = count_above(wanted);
+    }
+}
