@@ -150,7 +150,7 @@ impl Replay for Chain {
 
     fn place(&self, block: &Block, digest: Digest) -> Placement {
         let have = self.digests.get(block.number as usize).copied();
-        let rows = self.rows.as_slice().len() as u64;
+        let rows = self.rows.len() as u64;
         place(self.len(), rows, have, self.last_digest(), block, digest)
     }
 

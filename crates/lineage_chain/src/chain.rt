@@ -118,7 +118,7 @@ impl Replay for LineageChain {
     #[tactic(auto, using(chain_state::proofs::Kept::next_room, chain_state::proofs::Chains::placed_as_kept))]
     fn place(&self, block: &Block, digest: Digest) -> Placement {
         let have = self.lineage.digest(block.number);
-        let rows = self.lineage.rows().len() as u64;
+        let rows = self.lineage.row_count() as u64;
         place(
             self.len(),
             rows,

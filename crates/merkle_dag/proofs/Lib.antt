@@ -1,3 +1,2 @@
 pub mod LedgerSteps
 pub mod Keeping
-pub mod OpenUses

@@ -1,19 +1,15 @@
 //! The lineage of a ledger.
 
-ghost use Rattle.std.specs.Prelude.{◌≡◌, ◌≤◌, ◌<◌, ◌+◌, ◌^◌, ◌++◌, ◌∷◌, [], length, slice_get, Some, IfOk, IfSome, MatchOption};
+ghost use Rattle.std.specs.Prelude.{◌≡◌, ◌≤◌, ◌<◌, ◌+◌, ◌++◌, ◌∷◌, [], length, slice_get, IfOk, MatchOption};
 ghost use Rattle.std.specs.List.{All};
-ghost use Rattle.std.specs.Option.{option_copied};
-ghost use Rattle.lc_base.specs.History.{IsLawful, latest, scan};
-ghost use Rattle.lc_base.specs.Parts.{question, list_in};
-ghost use Rattle.lc_base.specs.declared.limits.TheConstants.{MAX_DEPS};
+ghost use Rattle.lc_base.specs.History.{IsLawful, scan};
 ghost use Rattle.lc_base.specs.declared.row.Row.{Row};
 ghost use Rattle.history_root.specs.Root.{root_of, leaves};
-ghost use Rattle.lineage_index.specs.Index.{newest_uses};
 ghost use Rattle.merkle_dag.specs.declared.limits.TheConstants.{MAX_LINEAGE_BLOCKS};
 ghost use Rattle.merkle_dag.specs.Ledger.{Ledger, IsLedger, IsHead};
 
 use crate::kept::{Kept, discard, grow};
-use lc_base::{Answer, DepList, Digest, Key, Kind, Memory, Query, Row, RowList};
+use lc_base::{Answer, Digest, Memory, Query, RowList};
 use lineage_index::LineageIndex;
 use plain_rows::PlainRows;
 use state_tree::Tree;
@@ -134,12 +130,12 @@ impl Lineage {
         digest_at(&self.kept.digests, at)
     }
 
-    /// The rows of all blocks, in order: a lawful history of blocks up to the last one.
-    pub fn rows(&self) -> &[Row]
-        ensures rows { result.now ≡ self.now.rows }
+    /// The number of the rows of all blocks, which are a lawful history of blocks up to the last one.
+    pub fn row_count(&self) -> usize
+        ensures count { result ≡ length self.now.rows }
         ensures ledger { IsLedger self.now.rows self.now.digests }
     {
-        self.kept.rows.as_slice()
+        self.kept.rows.len()
     }
 
     /// The answer to a question over all rows. `Memory` changes nothing either.
@@ -150,41 +146,11 @@ impl Lineage {
         self.kept.rows.ask(query)
     }
 
-    /// The last version of a key in the blocks up to `at`. It goes back over the versions of the key
-    /// alone.
-    pub fn latest(&self, key: &Key, at: u32) -> Option<&Row>
-        ensures latest { option_copied result ≡ latest self.now.rows key.now at }
-        ensures few { IfSome (option_copied result) (λ row. length row.deps ≤ MAX_DEPS) }
-    {
-        self.kept.index.latest(self.kept.rows.as_slice(), key, at)
-    }
-
     /// The leaves at the last block.
     pub fn tree(&self) -> &Tree
         ensures { result.now ≡ leaves self.now.rows }
     {
         self.kept.index.tree()
-    }
-
-    /// What was derived from the newest version of a key, in the order of the rows; `None` exactly
-    /// where the key has no version.
-    pub fn open_list(&self, key: &Key) -> Option<&DepList>
-        ensures { option_copied result ≡ newest_uses self.now.rows key.now }
-    {
-        self.kept.index.open_list(key)
-    }
-
-    /// What was derived from the version of a key in the blocks up to `at`, where that is the key's
-    /// newest version, so that its list is still open.
-    pub(crate) fn open_uses(&self, key: &Key, at: u32) -> Option<&DepList>
-        ensures uses { IfSome (option_copied result) (λ uses. list_in (scan self.now.rows (question Kind.Fwd key.now at)) ≡ Some uses) }
-        ensures few { IfSome (option_copied result) (λ uses. length uses < 2 ^ 63) }
-    {
-        let rows = self.kept.rows.as_slice();
-        match self.kept.index.latest(rows, key, u32::MAX) {
-            Some(newest) if newest.block <= at => self.kept.index.open_list(key),
-            _ => None,
-        }
     }
 }
 

@@ -1,2 +1,3 @@
 pub mod AnswerParts
-pub mod Later
+pub mod Keeping
+pub mod Lists

@@ -1,100 +1,94 @@
-//! The parts of answers, each found by going over the rows. No list is made for a count or an item.
+//! The parts of answers, each looked up. No list is made for a count or an item.
 
-ghost use Rattle.std.specs.Prelude.{◌≡◌, refl, ◌^◌, ◌<◌, ◌≤◌, length, filter, slice_get, Some, IfOk, IfSome};
-ghost use Rattle.std.specs.Option.{option_copied};
+ghost use Rattle.std.specs.Prelude.{◌≡◌, refl, ◌^◌, ◌<◌, Some, IfSome, IfOk};
 ghost use Rattle.std.proofs.Common.{◌∙◌, ap};
-ghost use Rattle.lc_base.specs.History.{IsLawful, depends_on, uses, scan};
-ghost use Rattle.lc_base.specs.Parts.{question, version_in, count_in, item_in};
-ghost use Rattle.lc_base.specs.declared.limits.TheConstants.{MAX_DEPS};
+ghost use Rattle.lc_base.specs.History.{scan};
+ghost use Rattle.lc_base.specs.Parts.{question, count_in, item_in, version_in};
+ghost use Rattle.plain_rows.specs.Kept.{Keeps, rows_of};
 
-use crate::rows::{PlainRows, depends_on, latest, rows_after, version_of};
-use lc_base::{Dep, Duplicate, Host, HostError, Key, Kind, Memory, Row, Version};
+use crate::asking::{source_at, source_count, use_at, use_count, version};
+use crate::kept::KeptRow;
+use crate::rows::PlainRows;
+use lc_base::{Dep, Host, HostError, Key, Kind, Memory, Version};
+use rows_index::RowsIndex;
 use std::alloc::Global;
 
-/// The version of the key in the blocks up to `at`.
-fn version(alloc: Global, rows: &[Row], key: &Key, at: u32) -> Result<Option<Version>, Memory>
-    ensures { IfOk result (λ version. version ≡ version_in (scan rows.now (question Kind.Hist key.now at))) }
+fn hist(
+    alloc: Global,
+    rows: &[KeptRow],
+    index: &Option<RowsIndex>,
+    key: &Key,
+    at: u32,
+) -> Result<Option<Version>, Memory>
+    requires { Keeps (rows_of rows.now) rows.now index.now }
+    ensures { IfOk result (λ version. version ≡ version_in (scan (rows_of rows.now) (question Kind.Hist key.now at))) }
 {
-    match latest(rows, key, at) {
-        None => Ok(None),
-        Some(row) => Ok(Some(Version {
-            block: row.block,
-            tx: row.tx,
-            value: row.value.copy(alloc)?,
-        })),
+    match index {
+        None => Err(Memory),
+        Some(index) => version(alloc, rows, index, key, at),
     }
 }
 
-/// How many dependencies a row has.
-fn dep_count(row: &Row) -> u32
-    requires { length row.now.deps ≤ MAX_DEPS }
-    ensures { result ≡ length row.now.deps }
+fn back_count(
+    rows: &[KeptRow],
+    index: &Option<RowsIndex>,
+    key: &Key,
+    at: u32,
+) -> Result<Option<u32>, Memory>
+    requires { Keeps (rows_of rows.now) rows.now index.now }
+    ensures { IfOk result (λ count. count ≡ count_in (scan (rows_of rows.now) (question Kind.Back key.now at))) }
 {
-    row.deps.len() as u32
-}
-
-#[tactic(auto, using(crate::proofs::AnswerParts::few_deps))]
-fn back_count(rows: &[Row], key: &Key, at: u32) -> Option<u32>
-    requires { IsLawful rows.now }
-    ensures { result ≡ count_in (scan rows.now (question Kind.Back key.now at)) }
-{
-    match latest(rows, key, at) {
-        None => None,
-        Some(row) => Some(dep_count(row)),
+    match index {
+        None => Err(Memory),
+        Some(index) => Ok(source_count(rows, index, key, at)),
     }
 }
 
-fn back_at(rows: &[Row], key: &Key, at: u32, index: u32) -> Option<Dep>
-    ensures { result ≡ item_in index (scan rows.now (question Kind.Back key.now at)) }
+fn back_at(
+    rows: &[KeptRow],
+    index: &Option<RowsIndex>,
+    key: &Key,
+    at: u32,
+    place: u32,
+) -> Result<Option<Dep>, Memory>
+    requires { Keeps (rows_of rows.now) rows.now index.now }
+    ensures { IfOk result (λ dep. dep ≡ item_in place (scan (rows_of rows.now) (question Kind.Back key.now at))) }
 {
-    match latest(rows, key, at) {
-        None => None,
-        Some(row) => row.deps.get(index as usize).copied(),
+    match index {
+        None => Err(Memory),
+        Some(index) => Ok(source_at(rows, index, key, at, place)),
     }
 }
 
-/// How many versions were derived from the version of this key in this block.
-fn use_count(rows: &[Row], key: &Key, block: u32) -> usize
-    ensures { result ≡ length (filter (depends_on key.now block) rows.now) }
+fn fwd_count(
+    rows: &[KeptRow],
+    index: &Option<RowsIndex>,
+    key: &Key,
+    at: u32,
+) -> Result<Option<u64>, Memory>
+    requires { Keeps (rows_of rows.now) rows.now index.now }
+    ensures count { IfOk result (λ count. count ≡ count_in (scan (rows_of rows.now) (question Kind.Fwd key.now at))) }
+    ensures bound { IfOk result (λ count. IfSome count (λ n. n < 2 ^ 63)) }
 {
-    rows.iter()
-        .filter(|row| depends_on(row, key, block))
-        .count()
-}
-
-#[tactic(auto, using(crate::proofs::AnswerParts::length_uses, crate::proofs::AnswerParts::few_uses))]
-fn fwd_count(rows: &[Row], key: &Key, at: u32) -> Option<u64>
-    requires { IsLawful rows.now }
-    ensures count { result ≡ count_in (scan rows.now (question Kind.Fwd key.now at)) }
-    ensures bound { IfSome result (λ count. count < 2 ^ 63) }
-{
-    match latest(rows, key, at) {
-        None => None,
-        Some(row) => Some(use_count(rows_after(rows, row.block), key, row.block) as u64),
+    match index {
+        None => Err(Memory),
+        Some(index) => Ok(use_count(rows, index, key, at)),
     }
 }
 
-/// The row derived from the version of this key in this block at an index, from 0.
-fn use_at<'a>(rows: &'a [Row], key: &Key, block: u32, index: usize) -> Option<&'a Row>
-    ensures { option_copied result ≡ slice_get (filter (depends_on key.now block) rows.now) index }
+fn fwd_at(
+    rows: &[KeptRow],
+    index: &Option<RowsIndex>,
+    key: &Key,
+    at: u32,
+    place: u64,
+) -> Result<Option<Dep>, Memory>
+    requires { Keeps (rows_of rows.now) rows.now index.now }
+    ensures { IfOk result (λ dep. dep ≡ item_in place (scan (rows_of rows.now) (question Kind.Fwd key.now at))) }
 {
-    rows.iter()
-        .filter(|row| depends_on(row, key, block))
-        .nth(index)
-}
-
-#[tactic(auto, using(crate::proofs::AnswerParts::use_is))]
-fn fwd_at(rows: &[Row], key: &Key, at: u32, index: u64) -> Option<Dep>
-    requires { IsLawful rows.now }
-    ensures { result ≡ item_in index (scan rows.now (question Kind.Fwd key.now at)) }
-{
-    match latest(rows, key, at) {
-        None => None,
-        Some(row) => {
-            use_at(rows_after(rows, row.block), key, row.block, index as usize).map(
-                |row| version_of(row),
-            )
-        }
+    match index {
+        None => Err(Memory),
+        Some(index) => Ok(use_at(rows, index, key, at, place)),
     }
 }
 
@@ -108,14 +102,17 @@ impl Host for PlainRows {
     ghost same = { λ s t. t ≡ s };
 
     fn hist(&mut self, alloc: Global, key: &Key, at: u32) -> Result<Option<Version>, HostError> {
-        match version(alloc, self.as_slice(), key, at) {
+        match hist(alloc, self.rows.as_slice(), &self.index, key, at) {
             Ok(version) => Ok(version),
             Err(Memory) => Err(HostError::Memory),
         }
     }
 
     fn back_count(&mut self, _alloc: Global, key: &Key, at: u32) -> Result<Option<u32>, HostError> {
-        Ok(back_count(self.as_slice(), key, at))
+        match back_count(self.rows.as_slice(), &self.index, key, at) {
+            Ok(count) => Ok(count),
+            Err(Memory) => Err(HostError::Memory),
+        }
     }
 
     fn back_at(
@@ -125,11 +122,17 @@ impl Host for PlainRows {
         at: u32,
         index: u32,
     ) -> Result<Option<Dep>, HostError> {
-        Ok(back_at(self.as_slice(), key, at, index))
+        match back_at(self.rows.as_slice(), &self.index, key, at, index) {
+            Ok(dep) => Ok(dep),
+            Err(Memory) => Err(HostError::Memory),
+        }
     }
 
     fn fwd_count(&mut self, _alloc: Global, key: &Key, at: u32) -> Result<Option<u64>, HostError> {
-        Ok(fwd_count(self.as_slice(), key, at))
+        match fwd_count(self.rows.as_slice(), &self.index, key, at) {
+            Ok(count) => Ok(count),
+            Err(Memory) => Err(HostError::Memory),
+        }
     }
 
     fn fwd_at(
@@ -139,7 +142,10 @@ impl Host for PlainRows {
         at: u32,
         index: u64,
     ) -> Result<Option<Dep>, HostError> {
-        Ok(fwd_at(self.as_slice(), key, at, index))
+        match fwd_at(self.rows.as_slice(), &self.index, key, at, index) {
+            Ok(dep) => Ok(dep),
+            Err(Memory) => Err(HostError::Memory),
+        }
     }
 
     ghost same_refl = { λ s. refl };

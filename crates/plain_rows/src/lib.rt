@@ -1,7 +1,10 @@
-//! A history kept as a plain list, and questions answered by going over it.
+//! A history kept row by row with an index, and questions answered by looking them up.
 #![tactic(auto)]
 
+mod adding;
+mod asking;
 mod host;
+mod kept;
 mod rows;
 
 pub use rows::PlainRows;

@@ -1,5 +1,0 @@
-use Rattle.std.proofs.Common.{length}
-use Rattle.merkle_dag.proofs.lineage.Lineage.open_list.Goals as goal
-
-pub returns : goal.returns
-returns c = rw (← c.self.view_is) (c.open_list.ensures c.self.inside.kept.rows (length c.self.inside.kept.digests.items) c.self.invariant.index_is)

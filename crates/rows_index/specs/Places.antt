@@ -1,0 +1,62 @@
+-- Where the versions of keys stand in a history.
+use Rattle.std.specs.Prelude.{◌≡◌, ◌==◌, ℕ, suc, Bool, if◌then◌else◌, List, [], ◌∷◌, Option, None, Some, reverse, nat_le, slice_get}
+use Rattle.std.specs.List.{find}
+use Rattle.std.specs.Map.{lookup}
+use Rattle.std.specs.Option.{option_map}
+use Rattle.std.specs.Cmp.Lexicographic.{pointwise}
+use Rattle.lc_base.specs.declared.row.Row.{Row}
+use Rattle.lc_base.specs.declared.row.Dep.{Dep}
+use Rattle.rows_index.specs.declared.places.Place.{Place}
+
+-- What is kept of each item that passes a test, and of its index, in order; the first item has the
+-- index n.
+abbrev pub marked : {X A : Type 0} → (ℕ → X → A) → (X → Bool) → ℕ → List X → List A
+marked keep passes n [] = []
+marked keep passes n (x ∷ xs) =
+    if passes x then keep n x ∷ marked keep passes (suc n) xs else marked keep passes (suc n) xs
+
+-- Whether a row is a version of the key.
+abbrev pub is_of : List ℕ → Row → Bool
+is_of key row = pointwise ◌==◌ row.key key
+
+abbrev pub place_of : ℕ → Row → Place
+place_of n row = record { block = row.block; row = n }
+
+abbrev pub block_of : Place → ℕ
+block_of place = place.block
+
+abbrev pub row_index : Place → ℕ
+row_index place = place.row
+
+-- Where the versions of the key stand, in order.
+abbrev pub places : List Row → List ℕ → List Place
+places rows key = marked place_of (is_of key) 0 rows
+
+abbrev pub listed : {A : Type 0} → Option (List A) → List A
+listed None = []
+listed (Some list) = list
+
+-- The places that are kept of a key.
+abbrev pub places_in : List (List ℕ × List Place) → List ℕ → List Place
+places_in entries key = listed (lookup (pointwise ◌==◌ key) entries)
+
+-- Of each key the places of its versions are kept.
+abbrev pub ArePlaces : List Row → List (List ℕ × List Place) → Type 0
+ArePlaces rows entries = (key : List ℕ) → places_in entries key ≡ places rows key
+
+-- The last place of a block up to this one.
+abbrev pub last_up_to : ℕ → List Place → Option Place
+last_up_to at places = find (λ place. nat_le place.block at) (reverse places)
+
+-- The index of the last row of the key with a block up to this one.
+abbrev pub index_up_to : List Row → List ℕ → ℕ → Option ℕ
+index_up_to rows key at = option_map row_index (last_up_to at (places rows key))
+
+-- The row at an index is this version.
+abbrev pub StandsAt : List Row → Dep → ℕ → Type 0
+StandsAt rows dep index = (row : Row) × (slice_get rows index ≡ Some row) × (row.key ≡ dep.key) × (row.block ≡ dep.block)
+
+-- This is the row at an index, and none where there is no index.
+abbrev pub IsRowAt : List Row → Option ℕ → Option Row → Type 0
+IsRowAt rows None found = found ≡ None
+IsRowAt rows (Some index) found = (row : Row) × (found ≡ Some row) × (slice_get rows index ≡ Some row)

@@ -1,0 +1,76 @@
+//! Of each key the places of its versions.
+
+ghost use Rattle.std.specs.Prelude.{◌≡◌, ◌==◌, ℕ, List, [], ◌∷◌, ◌++◌, reverse, nat_le, if◌then◌else◌, OnOk};
+ghost use Rattle.std.specs.List.{AllPairs};
+ghost use Rattle.std.specs.List.Sorted.{IsNonDecreasingBy};
+ghost use Rattle.std.specs.Cmp.Lexicographic.{pointwise};
+ghost use Rattle.lc_base.specs.declared.row.Row.{Row};
+ghost use Rattle.lc_base.specs.History.{StandsBefore};
+ghost use Rattle.rows_index.specs.Places.{ArePlaces, block_of, index_up_to, last_up_to, places_in};
+
+use indexmap::IndexMap;
+use lc_base::{Key, Memory, Seq};
+use std::alloc::Global;
+
+/// Where a version stands: its block, and the index of its row.
+#[derive(Clone, Copy, Debug, PartialEq, Eq)]
+pub struct Place {
+    pub block: u32,
+    pub row: u32,
+}
+
+/// Places.
+pub type PlaceList = Seq<Place>;
+
+/// Appends a place to those of a key.
+pub(crate) fn push_place(
+    alloc: Global,
+    places: &mut IndexMap<Key, PlaceList>,
+    key: &Key,
+    place: Place,
+) -> Result<(), Memory>
+    ensures { OnOk result ((other : List ℕ) → places_in places.new.entries other
+        ≡ (if pointwise ◌==◌ key.now other then places_in places.old.entries other ++ place ∷ [] else places_in places.old.entries other)) }
+{
+    match places.get_mut(key) {
+        Some(list) => {
+            list.push(place)?;
+        }
+        None => {
+            let mut list = PlaceList::new(alloc);
+            list.push(place)?;
+            places.insert(*key, list)?;
+        }
+    }
+    Ok(())
+}
+
+/// The last place of a block up to `at`, by bisection.
+fn last_place(places: &[Place], at: u32) -> Option<Place>
+    requires { IsNonDecreasingBy block_of places.now }
+    ensures { result ≡ last_up_to at places.now }
+{
+    let end = places.partition_point(
+        |place: &Place| -> bool
+            ensures { result ≡ nat_le place.now.block at }
+        { place.block <= at },
+    );
+    if end == 0 {
+        return None;
+    }
+    Some(places[end - 1])
+}
+
+/// The index of the last row of the key with a block up to `at`.
+pub(crate) fn row_up_to(places: &IndexMap<Key, PlaceList>, key: &Key, at: u32) -> Option<u32>
+    requires { (rows : List Row) × AllPairs StandsBefore rows × ArePlaces rows places.now.entries }
+    ensures { (rows : List Row) → ArePlaces rows places.now.entries → result ≡ index_up_to rows key.now at }
+{
+    match places.get(key) {
+        None => None,
+        Some(list) => match last_place(list.as_slice(), at) {
+            None => None,
+            Some(place) => Some(place.row),
+        },
+    }
+}
