@@ -1,19 +1,25 @@
 -- Blocks that are stored one after another are a chain.
-use Rattle.std.proofs.Common.{◌≡◌, inl, inr, ℕ, zero, suc, ◌≤◌, ◌<◌, List, [], ◌∷◌, ◌++◌, length, take, map, refl, sym, ◌∙◌, ap, subst, arith}
+use Rattle.std.proofs.Common.{◌≡◌, ◌≢◌, inl, inr, ℕ, zero, suc, ◌+◌, ◌-◌, ◌≤◌, ◌<◌, List, [], ◌∷◌, ◌++◌, length, length-append, take, drop, map, refl, sym, ◌∙◌, ap, subst, arith}
 use Rattle.std.specs.Prelude.{Option, Some, None, Result, Ok, Err, slice_get}
 use Rattle.std.specs.Option.{option_map}
 use Rattle.std.proofs.lemmas.List.{length-map, map-append, take-append-le, take_at}
 use Rattle.std.proofs.lemmas.Bool.{cases_lt}
 use Rattle.block_codec.specs.Spelling.{IsBlock}
-use Rattle.block_codec.specs.Placement.{digest_of}
+use Rattle.lc_base.specs.declared.digest.Digest.{Digest}
+use Rattle.block_codec.specs.Placement.{digest_of, last_digest, new_placement}
+use Rattle.block_codec.specs.declared.limits.TheConstants.{MAX_BLOCKS}
 use Rattle.block_codec.specs.Reading.{block_in}
 use Rattle.block_codec.specs.declared.block.Block.{Block}
 use Rattle.block_codec.specs.declared.placement.Placement.{Placement}
 use Rattle.block_codec.specs.declared.placement.Placement.TheVariants.{Known, Next, Fork, Full, Number, Parent, Budget}
 use Rattle.block_log.specs.declared.layout.Stored.{Stored}
-use Rattle.block_log.specs.Standing.{Placer, if_next, next_decoded, blocks_in}
+use Rattle.block_log.specs.Standing.{Placer, if_next, next_decoded, blocks_in, records_at, standing}
 use Rattle.block_log.specs.Log.{AreStored, log_placement, next_in_log}
-use Rattle.block_log.specs.Start.{stored_at}
+use Rattle.block_log.specs.Reader.{AreRead, log_at, next_of, stored_at}
+use Rattle.block_log.specs.declared.reading.Record.TheVariants as records
+use Rattle.block_log.specs.Reading.{record_of}
+use Rattle.block_log.proofs.NextRecord.{new_next, new_of, placed_next, last_of}
+use Rattle.block_log.proofs.Turns.{goes_on}
 
 -- What was told to be next, by the block that it is.
 pub record IsGiven (next : Stored) (gate : ℕ) (found : Option Block) : Type 0 where
@@ -29,10 +35,6 @@ given next gate (Some block) is = record { block = block; found_is = refl; next_
 pub none_given : (gate : ℕ) (found : Option Block) → None ≡ option_map (stored_at gate) found → found ≡ None
 none_given gate None is = refl
 none_given gate (Some block) is = absurd (cc is)
-
--- The same blocks and bytes have the same next block.
-pub same_next : (a b : List Stored) (x y : List ℕ) → a ≡ b → x ≡ y → next_in_log (blocks_in b) y ≡ next_in_log (blocks_in a) x
-same_next a b x y blocks bytes = sym (ap (λ (s : List Stored). next_in_log (blocks_in s) x) blocks ∙ ap (next_in_log (blocks_in b)) bytes)
 
 placed : (decoded block : Block) (placement : Placement) → if_next decoded placement ≡ Some block → (placement ≡ Next) × (decoded ≡ block)
 placed decoded block Next is = (refl, cc is)
@@ -84,3 +86,67 @@ stored_next stored gate block bytes are is lawful = record {
     | inr last ↦ subst (λ (t : Stored). IsBlock t.block) (sym (slice_get_last stored (stored_at gate block) s i last at).1) lawful
   ];
 }
+
+-- ---- the next block by what a log keeps
+
+none_next : (block : Block) (place : Placement) → (place ≡ Next → ⊥) → if_next block place ≡ None
+none_next block Next other = absurd (other refl)
+none_next block Known other = refl
+none_next block (Fork have) other = refl
+none_next block Full other = refl
+none_next block (Number want) other = refl
+none_next block (Parent want) other = refl
+none_next block (Budget sum) other = refl
+
+both_next : (block : Block) (a b : Placement) → (a ≡ Next → b ≡ Next) → (b ≡ Next → a ≡ Next) → if_next block a ≡ if_next block b
+both_next block Next b there back = sym (ap (if_next block) (there refl))
+both_next block Known b there back = sym (none_next block b (λ is. cc (back is)))
+both_next block (Fork have) b there back = sym (none_next block b (λ is. cc (back is)))
+both_next block Full b there back = sym (none_next block b (λ is. cc (back is)))
+both_next block (Number want) b there back = sym (none_next block b (λ is. cc (back is)))
+both_next block (Parent want) b there back = sym (none_next block b (λ is. cc (back is)))
+both_next block (Budget sum) b there back = sym (none_next block b (λ is. cc (back is)))
+
+-- By the number of the blocks and the last digest the same block is next as by the blocks.
+module _ (count : ℕ) (last : Digest) (stored : List Stored) (count_is : count ≡ length stored) (last_is : last ≡ last_digest (map digest_of (blocks_in stored))) where
+  pub next_same : (bytes : List ℕ) → next_of count last bytes ≡ next_in_log (blocks_in stored) bytes
+  next_same bytes = decoded (block_in bytes)
+    where
+      long : count ≡ length (blocks_in stored)
+      long = count_is ∙ sym (length-map stored (λ s. s.block))
+
+      decoded : (read : Result Block ℕ) → next_decoded (λ blocks block. new_placement count 0 last block) [] read ≡ next_decoded log_placement (blocks_in stored) read
+      decoded (Err offset) = refl
+      decoded (Ok block) =
+          both_next block (new_placement count 0 last block) (log_placement (blocks_in stored) block) (placed_next (blocks_in stored) count last block long last_is)
+          (λ is.
+          ap (λ n. new_placement n 0 last block) long ∙ ap (λ d. new_placement (length (blocks_in stored)) 0 d block) last_is
+          ∙ new_of (length (blocks_in stored)) 0 _ (last_digest (map digest_of (blocks_in stored))) block (digest_of block) is)
+
+-- A log with as many blocks as it can have has no next one.
+pub has_room : (count : ℕ) (last : Digest) (bytes : List ℕ) (block : Block) → next_of count last bytes ≡ Some block → count ≢ MAX_BLOCKS
+has_room count last bytes block is = decoded (block_in bytes) is
+  where
+    decoded : (read : Result Block ℕ) → next_decoded (λ blocks block. new_placement count 0 last block) [] read ≡ Some block → count ≢ MAX_BLOCKS
+    decoded (Ok read) is = (new_next count 0 last read (placed read block (new_placement count 0 last read) is).0).1
+    decoded (Err offset) is = absurd (cc is)
+
+-- One more block was read.
+pub read_more : (old new : Option (List ℕ)) (gate count size behind : ℕ) (last : Digest) (stored : List Stored) (block : Block) (bytes : List ℕ) → AreRead (log_at gate count last) old stored
+    → count ≤ MAX_BLOCKS → behind ≡ gate + (5 + size) → next_of count last bytes ≡ Some block → IsBlock block → new ≡ old
+    → ((image : List ℕ) → old ≡ Some image → (record_of (drop gate image) ≡ records.Open size) × (bytes ≡ take size (drop 5 (drop gate image))))
+    → AreRead (log_at behind (count + 1) (digest_of block)) new (stored ++ stored_at gate block ∷ [])
+read_more old new gate count size behind last stored block bytes read few there is lawful same found =
+    let next : next_in_log (blocks_in stored) bytes ≡ Some block = sym (next_same count last stored read.held.count_is read.held.last_is bytes) ∙ is in
+    record {
+      are_stored = stored_next stored gate block bytes read.are_stored next lawful;
+      held = record {
+        count_is = ap (λ n. n + 1) read.held.count_is ∙ sym (length-append stored (stored_at gate block ∷ []));
+        last_is = sym (ap last_digest (ap (map digest_of) (map-append (λ s. s.block) stored (stored_at gate block ∷ [])) ∙ map-append digest_of (blocks_in stored) (block ∷ [])) ∙ last_of (map digest_of (blocks_in stored)) (digest_of block));
+      };
+      stands = λ image told.
+          let at = found image (sym same ∙ told) in
+          let here : next_in_log (blocks_in stored) (take size (drop 5 (drop gate image))) ≡ Some block = ap (next_in_log (blocks_in stored)) (sym at.1) ∙ next in
+          read.stands image (sym same ∙ told)
+          ∙ goes_on next_in_log (MAX_BLOCKS + 1 - count) (MAX_BLOCKS + 1 - (count + 1)) gate size behind stored image block (omega (arith, few)) there at.0 here;
+    }

@@ -1,16 +1,18 @@
 -- What bytes are by their head, and which log is started with on them.
-use Rattle.std.proofs.Common.{◌≡◌, inl, inr, ℕ, Bool, true, false, List, [], ◌∷◌, length, take, drop, get_or, refl, sym, ◌∙◌, ap, arith}
+use Rattle.std.proofs.Common.{◌≡◌, inl, inr, ℕ, zero, suc, ◌+◌, Bool, true, false, List, [], ◌∷◌, length, take, drop, get_or, refl, sym, ◌∙◌, ap, arith}
 use Rattle.std.specs.Prelude.{nat_lt, nat_le}
 use Rattle.std.proofs.lemmas.Bool.Decides.{nat_tests}
 use Rattle.std.proofs.lemmas.List.{length-take, get_or-take}
-use Rattle.std.specs.Prelude.{◌==◌, if◌then◌else◌, Ok}
+use Rattle.std.specs.Prelude.{◌==◌, if◌then◌else◌, Option, Some, slice_get}
 use Rattle.std.proofs.lemmas.Bool.{cases_Bool}
-use Rattle.block_codec.specs.Placement.{last_digest}
+use Rattle.block_codec.specs.Placement.{no_parent}
+use Rattle.block_codec.specs.declared.limits.TheConstants.{MAX_BLOCKS}
+use Rattle.block_log.specs.declared.layout.TheConstants.{FIRST_GATE}
 use Rattle.block_log.specs.declared.layout.Stored.{Stored}
 use Rattle.block_log.specs.declared.reading.Head.TheVariants as heads
-use Rattle.block_log.specs.Standing.{Blank, NotALog, Holds, is_log, is_blank, standing}
-use Rattle.block_log.specs.Log.{IsStarted, next_in_log}
-use Rattle.block_log.specs.Start.{AreHeld, all_records, blank_log, log_of}
+use Rattle.block_log.specs.Standing.{Blank, NotALog, is_log, is_blank, records_at, standing}
+use Rattle.block_log.specs.Log.{AreStored, next_in_log}
+use Rattle.block_log.specs.Reader.{AreRead, AreAll, blank_log, log_at}
 use Rattle.block_log.specs.Reading.{head_of}
 
 -- ---- the first nine bytes decide
@@ -44,7 +46,7 @@ head_prefix image =
 -- ---- what bytes are by their head
 
 -- A log stands for its records.
-pub log_head : (image : List ℕ) → head_of image ≡ heads.Log → standing next_in_log image ≡ all_records image
+pub log_head : (image : List ℕ) → head_of image ≡ heads.Log → standing next_in_log image ≡ records_at next_in_log (MAX_BLOCKS + 1) FIRST_GATE [] (drop FIRST_GATE image)
 unfolding head_of standing
 log_head image is = elim (cases_Bool (is_log image)) [
   | inl opens ↦ rw opens refl
@@ -90,13 +92,29 @@ other_head image is = elim (cases_Bool (is_log image)) [
     blank_is_other : (begun : Bool) → heads.Blank begun ≡ heads.Other → ⊥
     blank_is_other begun is = cc is
 
--- ---- what a log is started with
+-- ---- what reading a log begins with
 
--- A log that holds all blocks that were read agrees with the bytes.
-pub whole_started : (image : List ℕ) (stored : List Stored) (gate : ℕ) → AreHeld stored gate → standing next_in_log image ≡ Holds stored gate → IsStarted image (Ok (log_of stored gate, stored))
-whole_started image stored gate held is =
-    (record { stored = stored; stands = is; count_is = refl; last_is = ap last_digest held.are_stored.digests_are }, is)
+none_stored : AreStored []
+none_stored = record { chained = λ i s at. absurd (none_at i s at); digests_are = refl; lawful = λ i s at. absurd (none_at i s at) }
+  where
+    none_at : (i : ℕ) (s : Stored) → slice_get [] i ≡ Some s → ⊥
+    none_at zero s at = cc at
+    none_at (suc i) s at = cc at
 
--- So does a log with no head, where there is no log yet.
-pub blank_started : (image : List ℕ) (begun : Bool) → (standing next_in_log image ≡ Blank) × (begun ≡ (get_or image 0 1 == 0)) → IsStarted image (Ok (blank_log begun, []))
-blank_started image begun (is, begun_is) = (record { stands = is; begun_is = begun_is }, refl)
+-- A log of which no block was read yet.
+pub first_read : (content : Option (List ℕ)) → ((image : List ℕ) → content ≡ Some image → head_of image ≡ heads.Log) → AreRead (log_at FIRST_GATE 0 no_parent) content []
+first_read content is = record {
+  are_stored = none_stored;
+  held = record { count_is = refl; last_is = refl };
+  stands = λ image told. log_head image (is image told);
+}
+
+-- No log yet.
+pub blank_started : (content : Option (List ℕ)) (begun : Bool) → ((image : List ℕ) → content ≡ Some image → head_of image ≡ heads.Blank begun) → AreAll (blank_log begun) content []
+blank_started content begun is = record {
+  are_stored = none_stored;
+  held = record { count_is = refl; last_is = refl };
+  started = λ image told.
+      let blank = blank_head image begun (is image told) in
+      (record { stands = blank.0; begun_is = blank.1 }, refl);
+}

@@ -38,7 +38,7 @@ right_number : (same : Bool) (held : ℕ) (other : Placement) → (if not same t
 right_number true held other is = refl
 right_number false held other is = absurd (cc is)
 
-new_next : (held rows : ℕ) (parent : Digest) (block : Block) → new_placement held rows parent block ≡ Next → (block.number ≡ held) × (held ≢ MAX_BLOCKS)
+pub new_next : (held rows : ℕ) (parent : Digest) (block : Block) → new_placement held rows parent block ≡ Next → (block.number ≡ held) × (held ≢ MAX_BLOCKS)
 new_next held rows parent block is =
     let room = not_full (held == MAX_BLOCKS || nat_lt MAX_ROWS_BEFORE_BLOCK rows) _ is in
     let same = right_number (block.number == held) held _ room.1 in
@@ -48,7 +48,7 @@ not_held : (same : Bool) (have : Digest) → (if same then Known else Fork have)
 not_held true have is = cc is
 not_held false have is = cc is
 
-new_of : (held rows : ℕ) (have : Option Digest) (parent : Digest) (block : Block) (digest : Digest) → placement held rows have parent block digest ≡ Next → new_placement held rows parent block ≡ Next
+pub new_of : (held rows : ℕ) (have : Option Digest) (parent : Digest) (block : Block) (digest : Digest) → placement held rows have parent block digest ≡ Next → new_placement held rows parent block ≡ Next
 new_of held rows (Some have) parent block digest is = absurd (not_held (is_same_digest have digest) have is)
 new_of held rows None parent block digest is = is
 
@@ -59,14 +59,14 @@ some_room blocks block is =
     (new_next (length blocks) 0 (last_digest digests) block (new_of (length blocks) 0 (slice_get digests block.number) (last_digest digests) block (digest_of block) is)).1
 
 -- the next block by what a log keeps is the next one after the blocks themselves
-placed_next : (blocks : List Block) (count : ℕ) (last : Digest) (block : Block) → count ≡ length blocks → last ≡ last_digest (map digest_of blocks) → new_placement count 0 last block ≡ Next → log_placement blocks block ≡ Next
+pub placed_next : (blocks : List Block) (count : ℕ) (last : Digest) (block : Block) → count ≡ length blocks → last ≡ last_digest (map digest_of blocks) → new_placement count 0 last block ≡ Next → log_placement blocks block ≡ Next
 placed_next blocks count last block count_is last_is is =
     let number = (new_next count 0 last block is).0 in
     let past : slice_get (map digest_of blocks) block.number ≡ None = slice_get_past (map digest_of blocks) block.number (omega (arith, number, count_is, length-map blocks digest_of)) in
     ap (λ (have : Option Digest). placement (length blocks) 0 have (last_digest (map digest_of blocks)) block (digest_of block)) past
     ∙ ap (λ n. new_placement n 0 (last_digest (map digest_of blocks)) block) (sym count_is) ∙ ap (λ d. new_placement count 0 d block) (sym last_is) ∙ is
 
-last_of : (digests : List Digest) (d : Digest) → last_digest (digests ++ d ∷ []) ≡ d
+pub last_of : (digests : List Digest) (d : Digest) → last_digest (digests ++ d ∷ []) ≡ d
 last_of digests d =
     let long = length-append digests (d ∷ []) in
     let end : length (digests ++ d ∷ []) - 1 ≡ length digests = omega (arith, long) in

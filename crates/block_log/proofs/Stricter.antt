@@ -145,6 +145,17 @@ module _ (place : Placer) (is_stricter : IsStricter place) where
     | inr shut ↦ rw shut (no_log (is_blank image))
   ]
 
+  -- Where a block that the log takes is not the next one by the stricter placement, after blocks that
+  -- all are, the log is damaged at its gate.
+  pub damaged_at : (image : List ℕ) (count gate : ℕ) (held : List Stored) (s : Stored) (bytes : List ℕ) → standing next_in_log image ≡ records_at next_in_log count gate (held ++ s ∷ []) bytes
+      → ((more : List Stored) (end : List Stored → Standing) → restood place [] (held ++ more) end ≡ restood place held more end) → is_next_by place held s.block ≡ false
+      → standing (next_block block_in place) image ≡ Damaged held s.place
+  damaged_at image count gate held s bytes own same other =
+      let q = restands count gate (held ++ s ∷ []) bytes in
+      stands_stricter image ∙ ap (restanding place) (own ∙ q.own_is) ∙ restanding_ended q.closes q.end ((held ++ s ∷ []) ++ q.more)
+      ∙ ap (λ (all : List Stored). restood place [] all (ended q.closes q.end)) (append_assoc held (s ∷ []) q.more) ∙ same (s ∷ q.more) (ended q.closes q.end)
+      ∙ restood_other place held s q.more (ended q.closes q.end) other
+
   -- what blocks that are all the next ones end in
   pub restood_all : (held more : List Stored) (gate : ℕ) (blocks : List Block) → blocks_of (restood place held more (λ held. Holds held gate)) ≡ Some blocks → restood place held more (λ held. Holds held gate) ≡ Holds (held ++ more) gate
   restood_all held [] gate blocks is = restood_none place held (λ held. Holds held gate) ∙ ap (λ (held : List Stored). Holds held gate) (sym (append-nil held))

@@ -11,7 +11,7 @@ use Rattle.block_log.specs.declared.layout.Stored.{Stored}
 use Rattle.block_log.specs.declared.reading.Record.{Record}
 use Rattle.block_log.specs.declared.reading.Record.TheVariants as records
 use Rattle.block_log.specs.Standing.{Standing, Damaged, Holds, NextBlock, blocks_in, after_record, record_at, records_at}
-use Rattle.block_log.specs.Start.{stored_at}
+use Rattle.block_log.specs.Reader.{stored_at}
 use Rattle.block_codec.specs.declared.block.Block.{Block}
 use Rattle.block_log.specs.Reading.{sized_record, opened_record, gate_of, whole_record, record_of, record_size, IsBody}
 
@@ -135,11 +135,3 @@ goes_on next n left gate size behind stored content block fuel there is found =
     ∙ ap (after_record (records_at next left) gate size stored (drop size (drop 5 bytes))) found
     ∙ ap (λ k. records_at next left k (stored ++ stored_at gate block ∷ []) (drop size (drop 5 bytes))) at
     ∙ ap (records_at next left behind (stored ++ stored_at gate block ∷ [])) rest
-
--- No gate is looked at any more.
-none_left : (next : NextBlock) (gate : ℕ) (stored : List Stored) (bytes : List ℕ) → records_at next zero gate stored bytes ≡ Damaged stored gate
-unfolding records_at
-none_left next gate stored bytes = refl
-
-pub none_come : (next : NextBlock) (n gate : ℕ) (stored : List Stored) (bytes : List ℕ) → n ≡ 0 → records_at next n gate stored bytes ≡ Damaged stored gate
-none_come next n gate stored bytes none = ap (λ k. records_at next k gate stored bytes) none ∙ none_left next gate stored bytes

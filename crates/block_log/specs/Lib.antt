@@ -3,4 +3,4 @@ pub mod Log
 pub mod Stricter
 pub mod Steps
 pub mod Reading
-pub mod Start
+pub mod Reader

@@ -10,8 +10,6 @@ use Rattle.block_codec.specs.declared.placement.Placement.TheVariants.{Next}
 use Rattle.block_log.specs.Standing.{Blank, NotALog, Damaged, Holds, Placer, NextBlock, next_block, blocks_in, standing, chain_of}
 use Rattle.block_log.specs.declared.layout.TheConstants.{FIRST_GATE, MAX_RECORD_BYTES}
 use Rattle.block_log.specs.declared.layout.Stored.{Stored}
-use Rattle.block_log.specs.declared.error.LogError.{LogError}
-use Rattle.block_log.specs.declared.error.LogError.TheVariants as errors
 
 -- ---- which block a log takes
 
@@ -82,24 +80,9 @@ pub record HoldsBlocks (log : LogState) (stored : List Stored) : Type 0 where
   pub count_is : log.count ≡ length stored
   pub last_is : log.last ≡ last_digest (map digest_of (blocks_in stored))
 
--- What is started with on bytes that stand so: a log that agrees with them, and their blocks; or why
--- there is no log.
-abbrev pub IsStarted : List ℕ → Result (LogState × List Stored) LogError → Type 0
-IsStarted image (Ok started) =
-    Agrees started.0 image × MatchBool started.0.is_ready (standing next_in_log image ≡ Holds started.1 started.0.gate) (started.1 ≡ [])
-IsStarted image (Err errors.NotALog) = standing next_in_log image ≡ NotALog
-IsStarted image (Err (errors.Damaged at before)) = standing next_in_log image ≡ Damaged before at
-IsStarted image (Err errors.DiskFault) = Unit {0}
-IsStarted image (Err errors.Memory) = Unit {0}
-
--- Whether the disk is told or not: the blocks that are given are a chain, and the log holds their
--- number and the last digest.
-abbrev pub GivesBlocks : Result (LogState × List Stored) LogError → Type 0
-GivesBlocks (Ok started) = AreStored started.1 × HoldsBlocks started.0 started.1
-GivesBlocks (Err (errors.Damaged at before)) = AreStored before
-GivesBlocks (Err errors.NotALog) = Unit {0}
-GivesBlocks (Err errors.DiskFault) = Unit {0}
-GivesBlocks (Err errors.Memory) = Unit {0}
+-- A log agrees with these bytes, and these are all of their blocks.
+abbrev pub IsStarted : LogState → List Stored → List ℕ → Type 0
+IsStarted log stored image = Agrees log image × MatchBool log.is_ready (standing next_in_log image ≡ Holds stored log.gate) (stored ≡ [])
 
 -- ---- what its calls do
 

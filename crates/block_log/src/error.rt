@@ -1,16 +1,14 @@
 //! Why a log could not be started, or a call of it went no further.
 
-use crate::layout::StoredList;
 use lc_outside::Failed;
 
 /// Why there is no log to start with.
-#[derive(Debug, Drop)]
+#[derive(Clone, Copy, Debug, PartialEq, Eq)]
 pub enum LogError {
     /// The disk holds something else.
     NotALog,
-    /// What stands at the gate at this offset is no record of the next block. The blocks before it
-    /// are handed out, since one who runs them may refuse one of these for its rows.
-    Damaged { at: u64, before: StoredList },
+    /// What stands at the gate at this offset is no record of the next block.
+    Damaged { at: u64 },
     /// A call of the disk failed.
     DiskFault,
     /// Out of memory.

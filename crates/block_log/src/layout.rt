@@ -1,7 +1,7 @@
 //! How a log is laid out: a head gate, the magic, and records, each after a gate of its own.
 
 use block_codec::{Block, MAX_BLOCK_BYTES};
-use lc_base::{Digest, Seq};
+use lc_base::Digest;
 
 /// A gate is open where it is this byte; every other byte is closed.
 pub const OPEN_GATE: u8 = 0xA5;
@@ -28,6 +28,3 @@ pub struct Stored {
     pub digest: Digest,
     pub block: Block,
 }
-
-/// The blocks of a log, in order.
-pub type StoredList = Seq<Stored>;

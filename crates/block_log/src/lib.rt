@@ -6,10 +6,13 @@ mod creation;
 mod error;
 mod layout;
 mod log;
+mod reader;
 mod reading;
 mod start;
 mod steps;
 
 pub use error::{DiskFault, LogError};
-pub use layout::{MAX_RECORD_BYTES, Stored, StoredList};
+pub use layout::{MAX_RECORD_BYTES, Stored};
 pub use log::Log;
+pub use reader::{LogReader, Turn};
+pub use start::Opened;

@@ -11,10 +11,9 @@ ghost use Rattle.recovery.specs.Node.{AreOfOneChain, IsNodeOf, IsStarted, IsChai
 
 use crate::errors::StartError;
 use crate::restoring::restore;
-use block_log::{Log, LogError};
+use block_log::{Log, Opened};
 use chain_state::{Chain, Replay};
 use disk_model::Disk;
-use lc_base::Memory;
 use std::alloc::Global;
 
 /// The chain of the blocks that the log on a disk holds, and the log. It writes nothing.
@@ -29,23 +28,12 @@ pub fn open<C: Replay, M: Disk>(alloc: Global, machine: &mut M) -> Result<(C, Lo
     ensures wire_faults { M.wire_faults machine.new ≡ M.wire_faults machine.old }
     ensures cause { HasCause (M.disk_faults machine.old) (M.disk_faults machine.new) (IsErrOf result StartError.DiskFault) }
 {
-    match Log::start(alloc, machine) {
-        Ok((log, stored)) => match restore(alloc, stored.as_slice()) {
-            Ok(Ok(chain)) => Ok((chain, log)),
-            Ok(Err(at)) => Err(StartError::Damaged { at }),
-            Err(Memory) => Err(StartError::Memory),
-        },
-        Err(LogError::NotALog) => Err(StartError::NotALog),
-        Err(LogError::Damaged { at, before }) => match restore::<C>(alloc, before.as_slice()) {
-            Ok(Ok(chain)) => {
-                chain.give_up();
-                Err(StartError::Damaged { at })
-            }
-            Ok(Err(at)) => Err(StartError::Damaged { at }),
-            Err(Memory) => Err(StartError::Memory),
-        },
-        Err(LogError::DiskFault) => Err(StartError::DiskFault),
-        Err(LogError::Memory) => Err(StartError::Memory),
+    match Log::start(alloc, machine)? {
+        Opened::Records { reader } => restore(alloc, machine, reader),
+        Opened::Blank { log } => {
+            let chain = C::start(alloc)?;
+            Ok((chain, log))
+        }
     }
 }
 

@@ -1,33 +1,94 @@
-//! The chain of blocks that were stored.
+//! The chain of the blocks of a log, which run as they are read.
 
-ghost use Rattle.std.specs.Prelude.{IfOk};
-ghost use Rattle.block_log.specs.Log.{AreStored};
-ghost use Rattle.recovery.specs.Restoring.{IsRestored};
+ghost use Rattle.std.specs.Prelude.{◌≡◌, [], List, IfOk, IsErrOf};
+ghost use Rattle.lc_base.specs.Faults.{HasCause};
+ghost use Rattle.lc_outside.specs.Disk.{Stays};
+ghost use Rattle.disk_model.specs.Disk.{content_of};
+ghost use Rattle.block_codec.specs.Spelling.{IsBlock};
+ghost use Rattle.block_codec.specs.Placement.{digest_of};
+ghost use Rattle.block_codec.specs.declared.block.Block.{Block as Blocks};
+ghost use Rattle.block_log.specs.Reader.{AreRead};
+ghost use Rattle.chain_state.specs.Chain.{StandsFor};
+ghost use Rattle.recovery.specs.Restoring.{IsRestored, IsRun, start_error};
 
+use crate::errors::StartError;
 use block_codec::Placement;
-use block_log::Stored;
+use block_log::{Log, LogError, LogReader, Stored, Turn};
 use chain_state::Replay;
+use disk_model::Disk;
 use lc_base::Memory;
 use std::alloc::Global;
 
-/// The chain of stored blocks, which are run one after another. Where one of them is not the next
-/// one, since those before it wrote too many rows: the offset of its gate.
-pub fn restore<C: Replay>(alloc: Global, stored: &[Stored]) -> Result<Result<C, u64>, Memory>
-    requires { AreStored stored.now }
-    ensures { IfOk result (IsRestored C.kept stored.now) }
-{
-    let mut chain = C::start(alloc)?;
-    for one in stored {
-        match chain.place(&one.block, one.digest) {
-            Placement::Next => {
-                let longer = chain.replay(alloc, &one.block, one.digest)?;
-                chain = longer;
-            }
-            _ => {
-                chain.give_up();
-                return Ok(Err(one.place));
-            }
+impl From<LogError> for StartError {
+    ghost from_gives = { λ failed error. error ≡ start_error failed };
+
+    fn from(error: LogError) -> StartError {
+        match error {
+            LogError::NotALog => StartError::NotALog,
+            LogError::Damaged { at } => StartError::Damaged { at },
+            LogError::DiskFault => StartError::DiskFault,
+            LogError::Memory => StartError::Memory,
         }
     }
-    Ok(Ok(chain))
+}
+
+impl From<Memory> for StartError {
+    ghost use Rattle.recovery.specs.declared.errors.StartError.TheVariants.{Memory};
+
+    ghost from_gives = { λ _ error. error ≡ Memory };
+
+    fn from(_memory: Memory) -> StartError {
+        StartError::Memory
+    }
+}
+
+/// The chain with this block of a log, which has run. Where it is not the next one, since those
+/// before it wrote too many rows: the offset of its gate.
+fn run_stored<C: Replay>(alloc: Global, chain: C, next: &Stored) -> Result<Result<C, u64>, Memory>
+    requires { IsBlock next.now.block }
+    ensures { (blocks : List Blocks) → StandsFor (C.kept chain) blocks → next.now.digest ≡ digest_of next.now.block → IfOk result (IsRun C.kept blocks next.now) }
+{
+    match chain.place(&next.block, next.digest) {
+        Placement::Next => {
+            let longer = chain.replay(alloc, &next.block, next.digest)?;
+            Ok(Ok(longer))
+        }
+        _ => {
+            chain.give_up();
+            Ok(Err(next.place))
+        }
+    }
+}
+
+/// The chain of the blocks of a log, none of which was read yet, and the log. Each block runs as soon
+/// as it is read, so one is held at a time.
+pub fn restore<C: Replay, M: Disk>(
+    alloc: Global,
+    machine: &mut M,
+    first: LogReader,
+) -> Result<(C, Log), StartError>
+    requires none_read { AreRead first (content_of (M.disk machine.old (M.now machine.old))) [] }
+    ensures restored { IsRestored C.kept (content_of (M.disk machine.new (M.now machine.new))) result }
+    ensures disk { Stays M.now M.disk machine.old machine.new }
+    ensures told { M.told machine.new ≡ M.told machine.old }
+    ensures wire_faults { M.wire_faults machine.new ≡ M.wire_faults machine.old }
+    ensures cause { HasCause (M.disk_faults machine.old) (M.disk_faults machine.new) (IsErrOf result StartError.DiskFault) }
+{
+    let mut chain = C::start(alloc)?;
+    let mut reader = first;
+    loop {
+        match reader.next(alloc, machine)? {
+            Turn::End { log } => return Ok((chain, log)),
+            Turn::Block {
+                next,
+                reader: further,
+            } => match run_stored(alloc, chain, &next)? {
+                Ok(longer) => {
+                    chain = longer;
+                    reader = further;
+                }
+                Err(at) => return Err(StartError::Damaged { at }),
+            },
+        }
+    }
 }

@@ -1,36 +1,44 @@
-use Rattle.std.proofs.Common.{Ok, Err}
-use Rattle.block_log.specs.Standing.{blocks_in}
-use Rattle.recovery.specs.Restoring.{IsRestored}
-use Rattle.recovery.proofs.Started.{stands_for, stands_damaged, damaged_after, damaged_before, not_a_log, started_node}
+use Rattle.std.proofs.Common.{Ok, Err, sym, ap, subst, ◌∙◌}
+use Rattle.std.proofs.lemmas.Result.{err_from_is_err_and}
+use Rattle.disk_model.specs.Disk.{IsSettled, content_of}
+use Rattle.recovery.proofs.Started.{blank_run, failed_start, has_node, has_one_chain, started}
 use Rattle.recovery.proofs.opening.open.Goals as goal
 
-pub returns-in-Ok-Ok-clause-answer : goal.returns-in-Ok-Ok-clause-answer
-returns-in-Ok-Ok-clause-answer g c content told =
-    let restored : IsRestored g.C.Replay.kept c.in-Ok.stored (Ok c.in-Ok-Ok.chain) = rw (c.in-Ok-Ok.field-0-is, c.as_slice.ensures) at c.in-Ok-Ok.ensures in (
-      blocks_in c.in-Ok.stored,
-      stands_for c.in-Ok.log c.in-Ok.stored content (c.in-Ok.ensures.answer content told) g.C.Replay.kept c.in-Ok-Ok.chain restored,
-      started_node g.C.Replay.kept c.in-Ok.log c.in-Ok.stored c.in-Ok-Ok.chain (g.M.Clock.disk c.args.machine.now (g.M.Clock.now c.args.machine.now)) (g.M.Clock.disk c.start.new.machine (g.M.Clock.now c.start.new.machine)) c.requires.settled c.start.ensures.disk.last c.in-Ok.ensures.answer restored,
-    )
+pub restore-requires : goal.restore-requires
+restore-requires g c = record { none_read = rw c.in-Records.is at c.in_ok-reader.ensures.answer }
 
-pub returns-in-Ok-Ok-clause-blocks : goal.returns-in-Ok-Ok-clause-blocks
-returns-in-Ok-Ok-clause-blocks g c =
-    let restored : IsRestored g.C.Replay.kept c.in-Ok.stored (Ok c.in-Ok-Ok.chain) = rw (c.in-Ok-Ok.field-0-is, c.as_slice.ensures) at c.in-Ok-Ok.ensures in
-    (blocks_in c.in-Ok.stored, started_node g.C.Replay.kept c.in-Ok.log c.in-Ok.stored c.in-Ok-Ok.chain (g.M.Clock.disk c.args.machine.now (g.M.Clock.now c.args.machine.now)) (g.M.Clock.disk c.start.new.machine (g.M.Clock.now c.start.new.machine)) c.requires.settled c.start.ensures.disk.last c.in-Ok.ensures.answer restored)
+pub returns-in-Records-clause-answer : goal.returns-in-Records-clause-answer
+returns-in-Records-clause-answer g c content told =
+    let same = c.restore.ensures.disk.last ∙ c.start.ensures.disk.last in
+    started g.C.Replay.kept (g.M.Clock.disk c.restore.new.machine (g.M.Clock.now c.restore.new.machine)) (subst IsSettled (sym same) c.requires.settled) c.restore.result c.restore.ensures.restored content (ap content_of same ∙ told)
 
-pub returns-in-Ok-Err-clause-answer : goal.returns-in-Ok-Err-clause-answer
-returns-in-Ok-Err-clause-answer g c content told =
-    let restored : IsRestored g.C.Replay.kept c.in-Ok.stored (Err c.in-Ok-Err.at) = rw (c.in-Ok-Err.field-0-is, c.as_slice.ensures) at c.in-Ok-Err.ensures in
-    stands_damaged c.in-Ok.log c.in-Ok.stored content (c.in-Ok.ensures.answer content told) g.C.Replay.kept c.in-Ok-Err.at restored
+pub returns-in-Records-clause-blocks : goal.returns-in-Records-clause-blocks
+returns-in-Records-clause-blocks g c =
+    let same = c.restore.ensures.disk.last ∙ c.start.ensures.disk.last in
+    has_node g.C.Replay.kept (g.M.Clock.disk c.restore.new.machine (g.M.Clock.now c.restore.new.machine)) (subst IsSettled (sym same) c.requires.settled) c.restore.result c.restore.ensures.restored
 
-pub returns-in-Err-NotALog-clause-answer : goal.returns-in-Err-NotALog-clause-answer
-returns-in-Err-NotALog-clause-answer g c content told = not_a_log content (rw c.in-Err-NotALog.field-0-is at (c.in-Err-NotALog.ensures.answer content told))
+pub returns-in-Records-clause-one_chain : goal.returns-in-Records-clause-one_chain
+returns-in-Records-clause-one_chain g c =
+    let same = c.restore.ensures.disk.last ∙ c.start.ensures.disk.last in
+    has_one_chain g.C.Replay.kept (g.M.Clock.disk c.restore.new.machine (g.M.Clock.now c.restore.new.machine)) (subst IsSettled (sym same) c.requires.settled) c.restore.result c.restore.ensures.restored
 
-pub returns-in-Ok-Ok-restore-clause-answer : goal.returns-in-Ok-Ok-restore-clause-answer
-returns-in-Ok-Ok-restore-clause-answer g c content told =
-    let restored : IsRestored g.C.Replay.kept c.in-Err-Damaged.before (Ok c.in-Ok-Ok-restore.chain) = rw (c.in-Ok-Ok-restore.field-0-is, c.as_slice-in-Err-Damaged.ensures) at c.in-Ok-Ok-restore.ensures in
-    damaged_after g.C.Replay.kept c.in-Err-Damaged.before c.in-Err-Damaged.at content c.in-Ok-Ok-restore.chain (rw c.in-Err-Damaged.field-0-is at (c.in-Err-Damaged.ensures.answer content told)) restored
+pub returns-in_ok-chain-in-Blank-clause-answer : goal.returns-in_ok-chain-in-Blank-clause-answer
+returns-in_ok-chain-in-Blank-clause-answer g c content told =
+    let state = g.M.Clock.disk c.start.new.machine (g.M.Clock.now c.start.new.machine) in
+    let same = c.start.ensures.disk.last in
+    let run = blank_run (g.C.Replay.kept c.in_ok-chain-in-Blank.chain) c.in-Blank.log (content_of state) c.in_ok-chain-in-Blank.ensures (rw c.in-Blank.is at c.in_ok-reader.ensures.answer) in
+    started g.C.Replay.kept state (subst IsSettled (sym same) c.requires.settled) (Ok (c.in_ok-chain-in-Blank.chain, c.in-Blank.log)) run content (ap content_of same ∙ told)
 
-pub returns-in-Ok-Err-restore-clause-answer : goal.returns-in-Ok-Err-restore-clause-answer
-returns-in-Ok-Err-restore-clause-answer g c content told =
-    let restored : IsRestored g.C.Replay.kept c.in-Err-Damaged.before (Err c.in-Ok-Err-restore.at) = rw (c.in-Ok-Err-restore.field-0-is, c.as_slice-in-Err-Damaged.ensures) at c.in-Ok-Err-restore.ensures in
-    damaged_before g.C.Replay.kept c.in-Err-Damaged.before c.in-Ok-Err-restore.at c.in-Err-Damaged.at content (rw c.in-Err-Damaged.field-0-is at (c.in-Err-Damaged.ensures.answer content told)) restored
+pub returns-in_ok-chain-in-Blank-clause-blocks : goal.returns-in_ok-chain-in-Blank-clause-blocks
+returns-in_ok-chain-in-Blank-clause-blocks g c =
+    let state = g.M.Clock.disk c.start.new.machine (g.M.Clock.now c.start.new.machine) in
+    let same = c.start.ensures.disk.last in
+    let run = blank_run (g.C.Replay.kept c.in_ok-chain-in-Blank.chain) c.in-Blank.log (content_of state) c.in_ok-chain-in-Blank.ensures (rw c.in-Blank.is at c.in_ok-reader.ensures.answer) in
+    has_node g.C.Replay.kept state (subst IsSettled (sym same) c.requires.settled) (Ok (c.in_ok-chain-in-Blank.chain, c.in-Blank.log)) run
+
+pub returns-in_err-reader-clause-answer : goal.returns-in_err-reader-clause-answer
+returns-in_err-reader-clause-answer g c content told =
+    let state = g.M.Clock.disk c.start.new.machine (g.M.Clock.now c.start.new.machine) in
+    let same = c.start.ensures.disk.last in
+    let p = err_from_is_err_and c.from_residual.result c.from_residual.ensures.1 in
+    rw p.1 (started g.C.Replay.kept state (subst IsSettled (sym same) c.requires.settled) (Err p.0) (failed_start g.C.Replay.kept (content_of state) c.in_err-reader.field-0.0 p.0 p.2 c.in_err-reader.ensures.answer) content (ap content_of same ∙ told))

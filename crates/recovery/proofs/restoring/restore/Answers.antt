@@ -1,23 +1,67 @@
-use Rattle.recovery.proofs.Replaying.{restored_none, is_lawful, restored_more, restored_but, restored_all}
+use Rattle.std.proofs.Common.{◌++◌, ◌∷◌, [], refl, sym, ap, subst, ◌∙◌, arith}
+use Rattle.std.proofs.lemmas.Result.{err_from_is_err_and}
+use Rattle.disk_model.specs.Disk.{content_of}
+use Rattle.disk_model.proofs.Moments.{stays_on, stays_here}
+use Rattle.block_log.specs.Standing.{Damaged, blocks_in}
+use Rattle.recovery.proofs.Replaying.{AreRun, none_run, one_run, not_run}
+use Rattle.recovery.proofs.Started.{has_run, failed_turn, unblamed}
 use Rattle.recovery.proofs.restoring.restore.Goals as goal
 
-pub loop-one-init : goal.loop-one-init
-loop-one-init g c = rw c.in_ok-chain.ensures (restored_none c.args.stored.now)
+pub loop-log-init : goal.loop-log-init
+loop-log-init g c = record {
+  stored = [];
+  read = c.requires.none_read;
+  run = subst (AreRun []) (sym c.in_ok-chain.ensures) none_run;
+  disk = stays_here g.M.Clock.now g.M.Clock.disk c.args.machine.now;
+  told = refl;
+  wire_faults = refl;
+  no_fault = refl;
+}
 
-pub place-requires : goal.place-requires
-place-requires g c = is_lawful c.args.stored.now c.requires c.loop-one.one-index c.one-item.result c.loop-one-test.true c.one-item.is
+pub loop-log-preserved : goal.loop-log-preserved
+loop-log-preserved g c =
+    let so_far = c.loop-log.invariant in
+    let turn = rw c.in-Block.is at (c.in_ok-log.ensures.answer so_far.stored so_far.read) in
+    let block = rw c.in-Block.is at c.in_ok-log.ensures.block in
+    let run = rw c.in-Ok.is at (c.in_ok-longer-in-Block.ensures (blocks_in so_far.stored) so_far.run.stands block.digest_is) in
+    record {
+      stored = so_far.stored ++ c.in-Block.next ∷ [];
+      read = turn;
+      run = one_run so_far.stored (g.C.Replay.kept c.loop-log.chain) so_far.run c.in-Block.next (g.C.Replay.kept c.in-Ok.longer) run.0 run.1;
+      disk = stays_on g.M.Clock.now g.M.Clock.disk c.args.machine.now c.loop-log.machine c.next.new.machine so_far.disk c.next.ensures.disk;
+      told = c.next.ensures.told ∙ so_far.told;
+      wire_faults = c.next.ensures.wire_faults ∙ so_far.wire_faults;
+      no_fault = unblamed (g.M.Clock.disk_faults c.loop-log.machine) (g.M.Clock.disk_faults c.next.new.machine) c.in_ok-log.ensures.cause ∙ so_far.no_fault;
+    }
 
-pub replay-requires-clause-is_block : goal.replay-requires-clause-is_block
-replay-requires-clause-is_block g c = is_lawful c.args.stored.now c.requires c.loop-one.one-index c.one-item.result c.loop-one-test.true c.one-item.is
+pub loop-log-smaller : goal.loop-log-smaller
+loop-log-smaller g c =
+    let block = rw c.in-Block.is at c.in_ok-log.ensures.block in
+    omega (arith, block.count_is, block.few)
 
-pub returns-in_default : goal.returns-in_default
-returns-in_default g c =
-    restored_but c.args.stored.now c.requires c.loop-one.one-index c.one-item.result c.loop-one-test.true c.one-item.is (g.C.Replay.kept c.loop-one.chain) c.loop-one.invariant c.place.result c.in_default.not-Next c.place.ensures.stands
+pub run_stored-requires : goal.run_stored-requires
+run_stored-requires g c =
+    let block = rw c.in-Block.is at c.in_ok-log.ensures.block in
+    block.lawful
 
-pub loop-one-preserved : goal.loop-one-preserved
-loop-one-preserved g c =
-    restored_more c.args.stored.now c.requires c.loop-one.one-index c.one-item.result c.loop-one-test.true c.one-item.is (g.C.Replay.kept c.loop-one.chain) c.loop-one.invariant
-    (g.C.Replay.kept c.in_ok-longer-in-Next.longer) c.place.result c.in-Next.is c.place.ensures.stands c.in_ok-longer-in-Next.ensures.stands
+pub returns-in-End-clause-restored : goal.returns-in-End-clause-restored
+returns-in-End-clause-restored g c =
+    let so_far = c.loop-log.invariant in
+    let content = content_of (g.M.Clock.disk c.next.new.machine (g.M.Clock.now c.next.new.machine)) in
+    has_run so_far.stored (g.C.Replay.kept c.loop-log.chain) so_far.run c.in-End.log content (rw c.in-End.is at (c.in_ok-log.ensures.answer so_far.stored so_far.read))
 
-pub returns : goal.returns
-returns g c = restored_all c.args.stored.now c.loop-one.one-index (g.C.Replay.kept c.loop-one.chain) c.loop-one-test.false c.loop-one.invariant
+pub returns-in-Err-clause-restored : goal.returns-in-Err-clause-restored
+returns-in-Err-clause-restored g c image told =
+    let so_far = c.loop-log.invariant in
+    let turn = rw c.in-Block.is at (c.in_ok-log.ensures.answer so_far.stored so_far.read) in
+    let block = rw c.in-Block.is at c.in_ok-log.ensures.block in
+    let run = rw c.in-Err.is at (c.in_ok-longer-in-Block.ensures (blocks_in so_far.stored) so_far.run.stands block.digest_is) in
+    let damaged = not_run so_far.stored (g.C.Replay.kept c.loop-log.chain) so_far.run c.in-Block.next image _ _ _ run.0 (turn.stands image told) in
+    (so_far.stored, damaged ∙ ap (Damaged so_far.stored) (sym run.1))
+
+pub returns-in_err-log-clause-restored : goal.returns-in_err-log-clause-restored
+returns-in_err-log-clause-restored g c =
+    let so_far = c.loop-log.invariant in
+    let content = content_of (g.M.Clock.disk c.next.new.machine (g.M.Clock.now c.next.new.machine)) in
+    let p = err_from_is_err_and c.from_residual-in_err-log.result c.from_residual-in_err-log.ensures.1 in
+    rw p.1 (failed_turn g.C.Replay.kept content so_far.stored (g.C.Replay.kept c.loop-log.chain) so_far.run c.in_err-log.field-0.0 p.0 p.2 (c.in_err-log.ensures.answer so_far.stored so_far.read))

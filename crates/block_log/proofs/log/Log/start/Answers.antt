@@ -1,27 +1,21 @@
-use Rattle.std.proofs.Common.{[], Ok, sym, ◌∙◌, ap, subst}
+use Rattle.std.proofs.Common.{[], sym, ap, subst, ◌∙◌}
 use Rattle.disk_model.specs.Disk.{content_of}
-use Rattle.block_log.specs.Log.{LogState, IsStarted}
-use Rattle.block_log.proofs.Heads.{log_head, blank_head, other_head, whole_started, blank_started}
+use Rattle.block_log.specs.Log.{LogState}
+use Rattle.block_log.specs.Reader.{AreRead, AreAll}
+use Rattle.block_log.proofs.Heads.{first_read, blank_started, other_head}
 use Rattle.block_log.proofs.log.Log.start.Goals as goal
 
-pub returns-in-Whole-clause-answer : goal.returns-in-Whole-clause-answer
-returns-in-Whole-clause-answer g c content told =
-    let head = log_head content (sym (c.in_ok-read_head.ensures.head content told) ∙ c.in-Log.is) in
-    let read = rw c.in-Whole.is at c.in_ok-stored-in-Log.ensures.answer content (ap content_of c.read_head.ensures.disk.last ∙ told) in
-    let held = rw c.in-Whole.is at c.in_ok-stored-in-Log.ensures.blocks in
-    subst (λ (log : LogState). IsStarted content (Ok (log, c.in-Whole.stored))) (sym c.whole_log.ensures) (whole_started content c.in-Whole.stored c.in-Whole.gate held (head ∙ read))
-
-pub returns-in-Damaged-clause-answer : goal.returns-in-Damaged-clause-answer
-returns-in-Damaged-clause-answer g c content told =
-    let head = log_head content (sym (c.in_ok-read_head.ensures.head content told) ∙ c.in-Log.is) in
-    let read = rw c.in-Damaged.is at c.in_ok-stored-in-Log.ensures.answer content (ap content_of c.read_head.ensures.disk.last ∙ told) in
-    head ∙ read
+pub returns-in-Log-clause-answer : goal.returns-in-Log-clause-answer
+returns-in-Log-clause-answer g c =
+    let content = content_of (g.M.Clock.disk c.read_head.new.machine (g.M.Clock.now c.read_head.new.machine)) in
+    subst (λ (log : LogState). AreRead log content []) (sym c.first_reader.ensures)
+    (first_read content (λ image told. sym (c.in_ok-read_head.ensures.head image (ap content_of (sym c.read_head.ensures.disk.last) ∙ told)) ∙ c.in-Log.is))
 
 pub returns-in-Blank-clause-answer : goal.returns-in-Blank-clause-answer
-returns-in-Blank-clause-answer g c content told =
-    let blank = blank_head content c.in-Blank.is_begun (sym (c.in_ok-read_head.ensures.head content told) ∙ c.in-Blank.is) in
-    let nothing = subst (λ (log : LogState). IsStarted content (Ok (log, []))) (sym c.blank_log.ensures) (blank_started content c.in-Blank.is_begun blank) in
-    subst (λ stored. IsStarted content (Ok (c.blank_log.result, stored))) (sym c.new.ensures) nothing
+returns-in-Blank-clause-answer g c =
+    let content = content_of (g.M.Clock.disk c.read_head.new.machine (g.M.Clock.now c.read_head.new.machine)) in
+    subst (λ (log : LogState). AreAll log content []) (sym c.blank_log.ensures)
+    (blank_started content c.in-Blank.is_begun (λ image told. sym (c.in_ok-read_head.ensures.head image (ap content_of (sym c.read_head.ensures.disk.last) ∙ told)) ∙ c.in-Blank.is))
 
 pub returns-in-Other-clause-answer : goal.returns-in-Other-clause-answer
-returns-in-Other-clause-answer g c content told = other_head content (sym (c.in_ok-read_head.ensures.head content told) ∙ c.in-Other.is)
+returns-in-Other-clause-answer g c image told = other_head image (sym (c.in_ok-read_head.ensures.head image (ap content_of (sym c.read_head.ensures.disk.last) ∙ told)) ∙ c.in-Other.is)
