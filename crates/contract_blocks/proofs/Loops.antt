@@ -10,6 +10,7 @@ use Rattle.contract_statements.specs.declared.flow.Flow.{Flow}
 use Rattle.contract_statements.specs.declared.flow.Flow.TheVariants as flows
 use Rattle.contract_statements.specs.Flows.{Flows}
 use Rattle.contract_blocks.specs.Turns.{Turns}
+use Rattle.contract_values.proofs.ToldRows.{unblamed}
 
 -- one turn, and then the others
 next_turn : (n i : ℕ) (turn : List Variable → Machine → Step Turn) (variables : List Variable) (m : Machine) → i < n → turns (n - i) turn variables m ≡ and_then (turn variables m) (after_turn (turns (n - (i + 1)) turn))
@@ -35,3 +36,7 @@ pub ends : (n i : ℕ) (turn : List Variable → Machine → Step Turn) (variabl
     → Flows total (Ok flow) others k
 ends n i turn variables others m k total flows.Goes lt so_far at = sym so_far ∙ next_turn n i turn variables m lt ∙ ap (λ step. and_then step (after_turn (turns (n - (i + 1)) turn))) at
 ends n i turn variables others m k total flows.Returns lt so_far at = sym so_far ∙ next_turn n i turn variables m lt ∙ ap (λ step. and_then step (after_turn (turns (n - (i + 1)) turn))) at
+
+-- a call that ends well leaves the count of faults as it was
+pub unblamed_at_ok : {T E : Type 0} {x : T} {e : E} (before now : ℕ) → ((now ≡ before → ⊥) → Ok x ≡ Err e) → now ≡ before
+unblamed_at_ok {T} {E} {x} {e} before now told = unblamed before now (λ differ. let both : Ok x ≡ Err e = told differ in absurd cc)

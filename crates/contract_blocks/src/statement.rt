@@ -9,12 +9,12 @@ ghost use Rattle.contract_meaning.specs.Answers.{scene_in, place_in, IsFaithful}
 ghost use Rattle.contract_statements.specs.Flows.{Flows};
 ghost use Rattle.contract_blocks.specs.Turns.{Turns};
 
-use contract_meaning::{CallSite, Stop, Variable};
+use contract_meaning::{CallSite, Stop};
 use contract_statements::{
-    Flow, assign_statement, end_names, fail_statement, let_statement, put_statement,
-    return_statement, tested,
+    Flow, assign_statement, fail_statement, let_statement, put_statement, return_statement, tested,
 };
 use contract_tree::{Expr, Form, Statement};
+use contract_variables::Variables;
 use dep_capture::Capture;
 use lc_base::{Host, TxStatus};
 use std::alloc::Global;
@@ -27,14 +27,14 @@ fn statement<C, H: Host>(
     world: &World<C>,
     site: &CallSite,
     host: &mut H,
-    variables: &mut Vec<Variable>,
+    variables: &mut Variables,
     capture: &mut Capture,
     left: &mut u32,
     x: &Statement,
 ) -> Result<Flow, Stop>
     requires { H.ready host.old }
     ensures same { H.same host.old host.new }
-    ensures step { IfSome (H.rows host.old) (λ rows. Flows (statement_run (scene_in rows world.now site.now) (statement_of x.now) variables.old.items (machine left.old capture.old)) result variables.new.items (machine left.new capture.new)) }
+    ensures step { IfSome (H.rows host.old) (λ rows. Flows (statement_run (scene_in rows world.now site.now) (statement_of x.now) variables.old (machine left.old capture.old)) result variables.new (machine left.new capture.new)) }
     ensures left { left.new ≤ left.old }
     ensures faithful { IsFaithful (place_in world.now) capture.old → IsFaithful (place_in world.now) capture.new }
     ensures cause { HasCause (H.host_faults host.old) (H.host_faults host.new) (IsErrOf result Stop.Fault) }
@@ -51,16 +51,7 @@ fn statement<C, H: Host>(
             )
         }
         Form::If { test, .. } => {
-            let chosen = tested(
-                alloc,
-                world,
-                site,
-                host,
-                variables.as_slice(),
-                capture,
-                left,
-                test,
-            )?;
+            let chosen = tested(alloc, world, site, host, variables, capture, left, test)?;
             branch(
                 alloc, world, site, host, variables, capture, left, x, chosen,
             )
@@ -71,16 +62,7 @@ fn statement<C, H: Host>(
             )
         }
         Form::Put { key, value, from } => put_statement(
-            alloc,
-            world,
-            site,
-            host,
-            variables.as_slice(),
-            capture,
-            left,
-            key,
-            value,
-            from,
+            alloc, world, site, host, variables, capture, left, key, value, from,
         ),
         Form::Fail => fail_statement(left),
         Form::Return => return_statement(left),
@@ -94,7 +76,7 @@ fn branch<C, H: Host>(
     world: &World<C>,
     site: &CallSite,
     host: &mut H,
-    variables: &mut Vec<Variable>,
+    variables: &mut Variables,
     capture: &mut Capture,
     left: &mut u32,
     x: &Statement,
@@ -102,7 +84,7 @@ fn branch<C, H: Host>(
 ) -> Result<Flow, Stop>
     requires { H.ready host.old }
     ensures same { H.same host.old host.new }
-    ensures step { IfSome (H.rows host.old) (λ rows. Flows (branch_run (scene_in rows world.now site.now) (statement_of x.now) chosen variables.old.items (machine left.old capture.old)) result variables.new.items (machine left.new capture.new)) }
+    ensures step { IfSome (H.rows host.old) (λ rows. Flows (branch_run (scene_in rows world.now site.now) (statement_of x.now) chosen variables.old (machine left.old capture.old)) result variables.new (machine left.new capture.new)) }
     ensures left { left.new ≤ left.old }
     ensures faithful { IsFaithful (place_in world.now) capture.old → IsFaithful (place_in world.now) capture.new }
     ensures cause { HasCause (H.host_faults host.old) (H.host_faults host.new) (IsErrOf result Stop.Fault) }
@@ -132,14 +114,14 @@ fn block<C, H: Host>(
     world: &World<C>,
     site: &CallSite,
     host: &mut H,
-    variables: &mut Vec<Variable>,
+    variables: &mut Variables,
     capture: &mut Capture,
     left: &mut u32,
     body: &[Statement],
 ) -> Result<Flow, Stop>
     requires { H.ready host.old }
     ensures same { H.same host.old host.new }
-    ensures step { IfSome (H.rows host.old) (λ rows. Flows (block_run (scene_in rows world.now site.now) (statement_list (map statement_of body.now)) variables.old.items (machine left.old capture.old)) result variables.new.items (machine left.new capture.new)) }
+    ensures step { IfSome (H.rows host.old) (λ rows. Flows (block_run (scene_in rows world.now site.now) (statement_list (map statement_of body.now)) variables.old (machine left.old capture.old)) result variables.new (machine left.new capture.new)) }
     ensures left { left.new ≤ left.old }
     ensures faithful { IsFaithful (place_in world.now) capture.old → IsFaithful (place_in world.now) capture.new }
     ensures cause { HasCause (H.host_faults host.old) (H.host_faults host.new) (IsErrOf result Stop.Fault) }
@@ -148,7 +130,7 @@ fn block<C, H: Host>(
     match statements(alloc, world, site, host, variables, capture, left, body)? {
         Flow::Returns => Ok(Flow::Returns),
         Flow::Goes => {
-            end_names(variables, outer);
+            variables.keep(outer);
             Ok(Flow::Goes)
         }
     }
@@ -162,7 +144,7 @@ fn turn<C, H: Host>(
     world: &World<C>,
     site: &CallSite,
     host: &mut H,
-    variables: &mut Vec<Variable>,
+    variables: &mut Variables,
     capture: &mut Capture,
     left: &mut u32,
     body: &[Statement],
@@ -170,21 +152,12 @@ fn turn<C, H: Host>(
 ) -> Result<Option<Flow>, Stop>
     requires { H.ready host.old }
     ensures same { H.same host.old host.new }
-    ensures step { IfSome (H.rows host.old) (λ rows. Turns (loop_turn (scene_in rows world.now site.now) (tree_of test.now) (statements_run (scene_in rows world.now site.now) (statement_list (map statement_of body.now))) variables.old.items (machine left.old capture.old)) result variables.new.items (machine left.new capture.new)) }
+    ensures step { IfSome (H.rows host.old) (λ rows. Turns (loop_turn (scene_in rows world.now site.now) (tree_of test.now) (statements_run (scene_in rows world.now site.now) (statement_list (map statement_of body.now))) variables.old (machine left.old capture.old)) result variables.new (machine left.new capture.new)) }
     ensures left { left.new ≤ left.old }
     ensures faithful { IsFaithful (place_in world.now) capture.old → IsFaithful (place_in world.now) capture.new }
     ensures cause { HasCause (H.host_faults host.old) (H.host_faults host.new) (IsErrOf result Stop.Fault) }
 {
-    if !tested(
-        alloc,
-        world,
-        site,
-        host,
-        variables.as_slice(),
-        capture,
-        left,
-        test,
-    )? {
+    if !tested(alloc, world, site, host, variables, capture, left, test)? {
         return Ok(Some(Flow::Goes));
     }
     match block(alloc, world, site, host, variables, capture, left, body)? {
@@ -201,7 +174,7 @@ fn turns<C, H: Host>(
     world: &World<C>,
     site: &CallSite,
     host: &mut H,
-    variables: &mut Vec<Variable>,
+    variables: &mut Variables,
     capture: &mut Capture,
     left: &mut u32,
     body: &[Statement],
@@ -209,7 +182,7 @@ fn turns<C, H: Host>(
 ) -> Result<Flow, Stop>
     requires { H.ready host.old }
     ensures same { H.same host.old host.new }
-    ensures step { IfSome (H.rows host.old) (λ rows. Flows (loop_run (scene_in rows world.now site.now) (tree_of test.now) (statement_list (map statement_of body.now)) left.old variables.old.items (machine left.old capture.old)) result variables.new.items (machine left.new capture.new)) }
+    ensures step { IfSome (H.rows host.old) (λ rows. Flows (loop_run (scene_in rows world.now site.now) (tree_of test.now) (statement_list (map statement_of body.now)) left.old variables.old (machine left.old capture.old)) result variables.new (machine left.new capture.new)) }
     ensures left { left.new ≤ left.old }
     ensures faithful { IsFaithful (place_in world.now) capture.old → IsFaithful (place_in world.now) capture.new }
     ensures cause { HasCause (H.host_faults host.old) (H.host_faults host.new) (IsErrOf result Stop.Fault) }
@@ -234,14 +207,14 @@ pub fn statements<C, H: Host>(
     world: &World<C>,
     site: &CallSite,
     host: &mut H,
-    variables: &mut Vec<Variable>,
+    variables: &mut Variables,
     capture: &mut Capture,
     left: &mut u32,
     body: &[Statement],
 ) -> Result<Flow, Stop>
     requires { H.ready host.old }
     ensures same { H.same host.old host.new }
-    ensures step { IfSome (H.rows host.old) (λ rows. Flows (statements_run (scene_in rows world.now site.now) (statement_list (map statement_of body.now)) variables.old.items (machine left.old capture.old)) result variables.new.items (machine left.new capture.new)) }
+    ensures step { IfSome (H.rows host.old) (λ rows. Flows (statements_run (scene_in rows world.now site.now) (statement_list (map statement_of body.now)) variables.old (machine left.old capture.old)) result variables.new (machine left.new capture.new)) }
     ensures left { left.new ≤ left.old }
     ensures faithful { IsFaithful (place_in world.now) capture.old → IsFaithful (place_in world.now) capture.new }
     ensures cause { HasCause (H.host_faults host.old) (H.host_faults host.new) (IsErrOf result Stop.Fault) }

@@ -14,9 +14,10 @@ ghost use Rattle.contract_meaning.specs.Answers.{scene_in, place_in, IsFaithful}
 
 use contract_blocks::statements;
 use contract_check::Checked;
-use contract_meaning::{CallSite, Outcome, Stop, Variable};
+use contract_meaning::{CallSite, Outcome, Stop};
 use contract_statements::Flow;
 use contract_tree::{Function, Param, ValueKind};
+use contract_variables::Variables;
 use dep_capture::Capture;
 use lc_base::{Duplicate, Host, HostError, Memory, TxStatus, Value, ValueList};
 use std::alloc::Global;
@@ -51,18 +52,15 @@ fn are_arguments(params: &[Param], args: &[Value]) -> bool
 }
 
 /// The variables that a function begins with.
-fn bound(alloc: Global, params: &[Param], args: &[Value]) -> Result<Vec<Variable>, Memory>
-    ensures { IfOk result (λ variables. variables.items ≡ bound params.now args.now) }
+fn bound(alloc: Global, params: &[Param], args: &[Value]) -> Result<Variables, Memory>
+    ensures { IfOk result (λ variables. variables ≡ bound params.now args.now) }
 {
-    let mut variables = Vec::new(alloc);
+    let mut variables = Variables::new(alloc);
     for (i, param) in params.iter().enumerate() {
         let Some(arg) = args.get(i) else {
             return Ok(variables);
         };
-        variables.push(Variable {
-            name: param.name,
-            value: arg.copy(alloc)?,
-        })?;
+        variables.declare(&param.name, arg.copy(alloc)?)?;
     }
     Ok(variables)
 }

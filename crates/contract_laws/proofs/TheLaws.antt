@@ -1,5 +1,5 @@
 -- The laws of calls, from what holds of each step.
-use Rattle.std.proofs.Common.{◌≡◌, ◌≢◌, ◌≤◌, ◌+◌, ◌-◌, ◌==◌, ℕ, Bool, true, false, List, Option, Some, None, is_some, refl, sym, ap, subst, ◌∙◌, arith, le_refl, zero-le, sub-le, true≢false, if◌then◌else◌}
+use Rattle.std.proofs.Common.{◌≡◌, ◌≢◌, ◌≤◌, ◌+◌, ◌-◌, ◌==◌, ℕ, Bool, true, false, List, Option, Some, None, is_some, refl, sym, ap, subst, ◌∙◌, arith, le_refl, true≢false, if◌then◌else◌}
 use Rattle.std.specs.Prelude.{nat_le, IsSomeAnd}
 use Rattle.std.specs.List.{All}
 use Rattle.std.specs.Option.{option_map}
@@ -29,7 +29,7 @@ use Rattle.contract_meaning.specs.Statements.{Ending, Goes, Turn, Ended, block_e
 use Rattle.contract_meaning.specs.Calls.{CallResult, are_arguments, bound, function_of_name, refused, call_ended, function_run, function_called, call_result}
 use Rattle.contract_laws.specs.Lookups.{Lookups, no_lookups, value_lookups}
 use Rattle.contract_laws.specs.CallLookups.{statements_lookups, function_lookups, call_lookups}
-use Rattle.contract_laws.specs.Laws.{with_budget, HoldAlike, AnswerAlike, AreWrittenAlike, IsReadVersion, CostIsWithinBudget, NothingIsPaidBack, LargerBudgetChangesNothing, LongerClockChangesNothing, ReadsAreOnlyAdded, ReadsAreOfVersionsBefore, DependenciesAreReads, DependenciesAreNewestRows, WhatIsRecordedIsComplete, LookupsAreTheSame, HistoriesWithTheSameReadsGiveTheSame}
+use Rattle.contract_laws.specs.Laws.{with_budget, HoldAlike, AnswerAlike, AreWrittenAlike, IsReadVersion, CostAndLeftAreTheBudget, NothingIsPaidBack, LargerBudgetChangesNothing, LongerClockChangesNothing, ReadsAreOnlyAdded, ReadsAreOfVersionsBefore, DependenciesAreReads, DependenciesAreNewestRows, WhatIsRecordedIsComplete, LookupsAreTheSame, HistoriesWithTheSameReadsGiveTheSame}
 use Rattle.contract_laws.proofs.Tame.{IsOf, Moves, Agree, Tame, ran_out, richer, raised, is_out_of_steps, moves_same, tame_done, tame_then_quiet}
 use Rattle.contract_laws.proofs.Expressions.{tame_value}
 use Rattle.contract_laws.proofs.Loops.{clocks_same, charge_lowers, charge_ends}
@@ -37,24 +37,18 @@ use Rattle.contract_laws.proofs.Statements.{tame_statements, tame_after_test}
 
 -- ---- the budget
 
-ended_cost : (budget : ℕ) (step : Step Ending) → (call_ended budget step).outcome.cost ≤ budget
-ended_cost budget (Done ending m) = sub-le budget m.left
-ended_cost budget (Failed status m) = sub-le budget m.left
+ended_cost : (budget : ℕ) (step : Step Ending) → (after step).left ≤ budget → (call_ended budget step).outcome.cost + (after step).left ≡ budget
+ended_cost budget (Done ending m) le = omega (arith, le)
+ended_cost budget (Failed status m) le = omega (arith, le)
 
 abbrev pub by_fit : Bool → CallResult → CallResult
 by_fit fits run = if fits then run else refused statuses.BadArgs
 
-fit_cost : (budget : ℕ) (run : CallResult) (fits : Bool) → run.outcome.cost ≤ budget → (by_fit fits run).outcome.cost ≤ budget
-fit_cost budget run true h = h
-fit_cost budget run false h = zero-le
-
-called_cost : (s : Scene) (args : List Value) (o : Option FunctionTree) → (function_called s args o).outcome.cost ≤ s.site.budget
-called_cost s args None = zero-le
-called_cost s args (Some function) = fit_cost s.site.budget (function_run s function args) (are_arguments function.params args) (ended_cost s.site.budget (statements_run s function.body (bound function.params args) (machine s.site.budget captured_none)))
-
-pub cost_is_within_budget : CostIsWithinBudget
-unfolding call_result
-cost_is_within_budget functions s args = called_cost s args (function_of_name functions s.site.function)
+pub cost_and_left_are_the_budget : CostAndLeftAreTheBudget
+cost_and_left_are_the_budget s function args =
+    let m = machine s.site.budget captured_none in
+    let variables = bound function.params args in
+    ended_cost s.site.budget (statements_run s function.body variables m) ((tame_statements function.body variables).lowers s m)
 
 pub nothing_is_paid_back : NothingIsPaidBack
 nothing_is_paid_back s body variables m = (tame_statements body variables).lowers s m

@@ -11,6 +11,7 @@ use Rattle.lc_base.specs.declared.tx_status.TxStatus.{TxStatus}
 use Rattle.lc_base.specs.declared.tx_status.TxStatus.TheVariants as statuses
 use Rattle.contract_tree.specs.Tree.{Tree, FunctionTree, StatementTrees, While}
 use Rattle.dep_capture.specs.Captured.{WasBacked}
+use Rattle.dep_capture.specs.Capture.{captured_none}
 use Rattle.dep_capture.specs.declared.access.Read.{Read}
 use Rattle.dep_capture.specs.declared.access.Put.{Put}
 use Rattle.world_state.specs.Rows.{held_in}
@@ -18,19 +19,22 @@ use Rattle.contract_meaning.specs.declared.site.CallSite.{CallSite}
 use Rattle.contract_meaning.specs.declared.variable.Variable.{Variable}
 use Rattle.contract_meaning.specs.Scenes.{Scene, scene_of}
 use Rattle.contract_meaning.specs.Puts.{is_own}
-use Rattle.contract_meaning.specs.Steps.{Machine, Failed, after}
+use Rattle.contract_meaning.specs.Steps.{Machine, machine, Failed, after}
 use Rattle.contract_meaning.specs.Reading.{block_of}
 use Rattle.contract_meaning.specs.Statements.{loop_run, statement_run, statements_run}
-use Rattle.contract_meaning.specs.Calls.{call_result}
+use Rattle.contract_meaning.specs.Calls.{bound, function_run, call_result}
 use Rattle.contract_laws.specs.CallLookups.{questions_of, keys_met}
 
 -- ---- the budget
 
--- The cost of a call is at most its budget.
-abbrev pub CostIsWithinBudget : Type 0
-CostIsWithinBudget =
-    (functions : List FunctionTree) (s : Scene) (args : List Value)
-    → (call_result functions s args).outcome.cost ≤ s.site.budget
+-- The cost of a function, and what its body leaves of the budget, are the whole budget.
+abbrev pub CostAndLeftAreTheBudget : Type 0
+CostAndLeftAreTheBudget =
+    (s : Scene) (function : FunctionTree) (args : List Value)
+    → (function_run s function args).outcome.cost
+    + (after (statements_run s function.body (bound function.params args)
+    (machine s.site.budget captured_none))).left
+    ≡ s.site.budget
 
 -- What is left of a budget never rises, whatever statements run.
 abbrev pub NothingIsPaidBack : Type 0

@@ -1,10 +1,10 @@
 //! Laws of what calls cost.
 
-ghost use Rattle.contract_laws.specs.Laws.{CostIsWithinBudget, LargerBudgetChangesNothing, LongerClockChangesNothing, NothingIsPaidBack};
+ghost use Rattle.contract_laws.specs.Laws.{CostAndLeftAreTheBudget, LargerBudgetChangesNothing, LongerClockChangesNothing, NothingIsPaidBack};
 
-/// The cost of a call is at most its budget.
-pub fn cost_is_within_budget()
-    ensures { CostIsWithinBudget }
+/// The cost of a function and what its body leaves of the budget are the budget.
+pub fn cost_and_left_are_the_budget()
+    ensures { CostAndLeftAreTheBudget }
 {}
 
 /// What is left of a budget never rises.

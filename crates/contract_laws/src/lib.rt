@@ -8,7 +8,7 @@ mod refuted;
 mod versions;
 
 pub use budget::{
-    cost_is_within_budget, larger_budget_changes_nothing, longer_clock_changes_nothing,
+    cost_and_left_are_the_budget, larger_budget_changes_nothing, longer_clock_changes_nothing,
     nothing_is_paid_back,
 };
 pub use dependence::{

@@ -5,9 +5,7 @@
 mod flow;
 mod put;
 mod simple;
-mod variables;
 
 pub use flow::Flow;
 pub use put::put_statement;
 pub use simple::{assign_statement, fail_statement, let_statement, return_statement, tested};
-pub use variables::end_names;

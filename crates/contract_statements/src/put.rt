@@ -4,7 +4,7 @@ ghost use Rattle.std.specs.Prelude.{◌≡◌, ◌≤◌, List, IfSome, IsErrOf}
 ghost use Rattle.std.specs.Option.{option_map};
 ghost use Rattle.lc_base.specs.Faults.{HasCause};
 ghost use Rattle.contract_tree.specs.Tree.{tree_of, parts_of};
-ghost use Rattle.contract_meaning.specs.declared.variable.Variable.{Variable as Variables};
+ghost use Rattle.contract_meaning.specs.declared.variable.Variable.{Variable};
 ghost use Rattle.contract_meaning.specs.Steps.{machine};
 ghost use Rattle.contract_meaning.specs.Statements.{parts_values, put_run, put_of_key, put_of_values, put_end};
 ghost use Rattle.contract_meaning.specs.Answers.{scene_in, place_in, Gives, IsNoFault, IsFaithful};
@@ -12,10 +12,11 @@ ghost use Rattle.contract_statements.specs.Flows.{Flows};
 
 use crate::flow::Flow;
 use contract_builtins::charge;
-use contract_meaning::{CHARGE_NODE, CHARGE_PUT, CallSite, Stop, Variable};
+use contract_meaning::{CHARGE_NODE, CHARGE_PUT, CallSite, Stop};
 use contract_puts::put;
 use contract_tree::{Expr, ExprList};
 use contract_values::{value, values};
+use contract_variables::Variables;
 use dep_capture::Capture;
 use lc_base::{Host, Name, Value};
 use std::alloc::Global;
@@ -27,7 +28,7 @@ fn parts_values<C, H: Host>(
     world: &World<C>,
     site: &CallSite,
     host: &mut H,
-    variables: &[Variable],
+    variables: &Variables,
     capture: &mut Capture,
     left: &mut u32,
     parts: &Option<ExprList>,
@@ -59,7 +60,7 @@ fn put_end<C>(
     value: Value,
     parts: Option<Vec<Value>>,
 ) -> Result<Flow, Stop>
-    ensures step { (variables : List Variables) → Flows (put_end contract.now (place_in world.now) key.now value (option_map (λ values. values.items) parts) variables (machine left.old capture.old)) result variables (machine left.new capture.new) }
+    ensures step { (variables : List Variable) → Flows (put_end contract.now (place_in world.now) key.now value (option_map (λ values. values.items) parts) variables (machine left.old capture.old)) result variables (machine left.new capture.new) }
     ensures left { left.new ≤ left.old }
     ensures faithful { IsFaithful (place_in world.now) capture.old → IsFaithful (place_in world.now) capture.new }
     ensures no_fault { IsNoFault result }
@@ -75,7 +76,7 @@ fn put_of_values<C, H: Host>(
     world: &World<C>,
     site: &CallSite,
     host: &mut H,
-    variables: &[Variable],
+    variables: &Variables,
     capture: &mut Capture,
     left: &mut u32,
     key: Value,
@@ -108,7 +109,7 @@ fn put_of_key<C, H: Host>(
     world: &World<C>,
     site: &CallSite,
     host: &mut H,
-    variables: &[Variable],
+    variables: &Variables,
     capture: &mut Capture,
     left: &mut u32,
     key: Value,
@@ -134,7 +135,7 @@ pub fn put_statement<C, H: Host>(
     world: &World<C>,
     site: &CallSite,
     host: &mut H,
-    variables: &[Variable],
+    variables: &Variables,
     capture: &mut Capture,
     left: &mut u32,
     key: &Expr,

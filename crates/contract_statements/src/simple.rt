@@ -4,7 +4,7 @@ ghost use Rattle.std.specs.Prelude.{◌≤◌, List, IfSome, IsErrOf};
 ghost use Rattle.lc_base.specs.Faults.{HasCause};
 ghost use Rattle.lc_base.specs.declared.tx_status.TxStatus.TheVariants as statuses;
 ghost use Rattle.contract_tree.specs.Tree.{tree_of};
-ghost use Rattle.contract_meaning.specs.declared.variable.Variable.{Variable as Variables};
+ghost use Rattle.contract_meaning.specs.declared.variable.Variable.{Variable};
 ghost use Rattle.contract_meaning.specs.declared.charge.TheConstants.{CHARGE_NODE};
 ghost use Rattle.contract_meaning.specs.Steps.{machine, charged, Done, Failed};
 ghost use Rattle.contract_meaning.specs.Statements.{Returns, tested, let_run, assign_run};
@@ -13,12 +13,12 @@ ghost use Rattle.dep_capture.specs.Captured.{Captured};
 ghost use Rattle.contract_statements.specs.Flows.{Flows};
 
 use crate::flow::Flow;
-use crate::variables::{assign, declare};
 use contract_builtins::charge;
-use contract_meaning::{CHARGE_NODE, CallSite, Stop, Variable};
+use contract_meaning::{CHARGE_NODE, CallSite, Stop};
 use contract_operators::holds;
 use contract_tree::Expr;
 use contract_values::value;
+use contract_variables::Variables;
 use dep_capture::Capture;
 use lc_base::{Host, Name, TxStatus};
 use std::alloc::Global;
@@ -31,7 +31,7 @@ pub fn tested<C, H: Host>(
     world: &World<C>,
     site: &CallSite,
     host: &mut H,
-    variables: &[Variable],
+    variables: &Variables,
     capture: &mut Capture,
     left: &mut u32,
     test: &Expr,
@@ -54,7 +54,7 @@ pub fn let_statement<C, H: Host>(
     world: &World<C>,
     site: &CallSite,
     host: &mut H,
-    variables: &mut Vec<Variable>,
+    variables: &mut Variables,
     capture: &mut Capture,
     left: &mut u32,
     name: &Name,
@@ -62,23 +62,14 @@ pub fn let_statement<C, H: Host>(
 ) -> Result<Flow, Stop>
     requires { H.ready host.old }
     ensures same { H.same host.old host.new }
-    ensures step { IfSome (H.rows host.old) (λ rows. Flows (let_run (scene_in rows world.now site.now) name.now (tree_of x.now) variables.old.items (machine left.old capture.old)) result variables.new.items (machine left.new capture.new)) }
+    ensures step { IfSome (H.rows host.old) (λ rows. Flows (let_run (scene_in rows world.now site.now) name.now (tree_of x.now) variables.old (machine left.old capture.old)) result variables.new (machine left.new capture.new)) }
     ensures left { left.new ≤ left.old }
     ensures faithful { IsFaithful (place_in world.now) capture.old → IsFaithful (place_in world.now) capture.new }
     ensures cause { HasCause (H.host_faults host.old) (H.host_faults host.new) (IsErrOf result Stop.Fault) }
 {
     charge(left, CHARGE_NODE)?;
-    let value = value(
-        alloc,
-        world,
-        site,
-        host,
-        variables.as_slice(),
-        capture,
-        left,
-        x,
-    )?;
-    declare(variables, name, value)?;
+    let value = value(alloc, world, site, host, variables, capture, left, x)?;
+    variables.declare(name, value)?;
     Ok(Flow::Goes)
 }
 
@@ -88,7 +79,7 @@ pub fn assign_statement<C, H: Host>(
     world: &World<C>,
     site: &CallSite,
     host: &mut H,
-    variables: &mut Vec<Variable>,
+    variables: &mut Variables,
     capture: &mut Capture,
     left: &mut u32,
     name: &Name,
@@ -96,29 +87,20 @@ pub fn assign_statement<C, H: Host>(
 ) -> Result<Flow, Stop>
     requires { H.ready host.old }
     ensures same { H.same host.old host.new }
-    ensures step { IfSome (H.rows host.old) (λ rows. Flows (assign_run (scene_in rows world.now site.now) name.now (tree_of x.now) variables.old.items (machine left.old capture.old)) result variables.new.items (machine left.new capture.new)) }
+    ensures step { IfSome (H.rows host.old) (λ rows. Flows (assign_run (scene_in rows world.now site.now) name.now (tree_of x.now) variables.old (machine left.old capture.old)) result variables.new (machine left.new capture.new)) }
     ensures left { left.new ≤ left.old }
     ensures faithful { IsFaithful (place_in world.now) capture.old → IsFaithful (place_in world.now) capture.new }
     ensures cause { HasCause (H.host_faults host.old) (H.host_faults host.new) (IsErrOf result Stop.Fault) }
 {
     charge(left, CHARGE_NODE)?;
-    let value = value(
-        alloc,
-        world,
-        site,
-        host,
-        variables.as_slice(),
-        capture,
-        left,
-        x,
-    )?;
-    assign(variables, name, value);
+    let value = value(alloc, world, site, host, variables, capture, left, x)?;
+    variables.assign(name, value);
     Ok(Flow::Goes)
 }
 
 /// `fail;`
 pub fn fail_statement(left: &mut u32) -> Result<Flow, Stop>
-    ensures step { (variables : List Variables) (c : Captured) → Flows (charged CHARGE_NODE (machine left.old c) (λ m. Failed statuses.Failed m)) result variables (machine left.new c) }
+    ensures step { (variables : List Variable) (c : Captured) → Flows (charged CHARGE_NODE (machine left.old c) (λ m. Failed statuses.Failed m)) result variables (machine left.new c) }
     ensures left { left.new ≤ left.old }
     ensures no_fault { IsNoFault result }
 {
@@ -128,7 +110,7 @@ pub fn fail_statement(left: &mut u32) -> Result<Flow, Stop>
 
 /// `return;`
 pub fn return_statement(left: &mut u32) -> Result<Flow, Stop>
-    ensures step { (variables : List Variables) (c : Captured) → Flows (charged CHARGE_NODE (machine left.old c) (λ m. Done Returns m)) result variables (machine left.new c) }
+    ensures step { (variables : List Variable) (c : Captured) → Flows (charged CHARGE_NODE (machine left.old c) (λ m. Done Returns m)) result variables (machine left.new c) }
     ensures left { left.new ≤ left.old }
     ensures no_fault { IsNoFault result }
 {

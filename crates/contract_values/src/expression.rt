@@ -10,52 +10,43 @@ ghost use Rattle.contract_meaning.specs.Answers.{scene_in, place_in, IsResultOf,
 ghost use Rattle.contract_values.specs.PlainNumbers.{number_found, plain_number};
 
 use contract_builtins::{applied, charge, copied};
-use contract_meaning::{CHARGE_NODE, CallSite, Stop, Variable};
+use contract_meaning::{CHARGE_NODE, CallSite, Stop};
 use contract_operators::{combined, decided, prefixed};
 use contract_tree::{Expr, ExprNode, Sign};
+use contract_variables::Variables;
 use dep_capture::Capture;
 use lc_base::{Duplicate, Host, Name, TxStatus, Value};
 use std::alloc::Global;
 use world_state::World;
 
-fn variable_of<'a>(variables: &'a [Variable], name: &Name) -> Option<&'a Variable>
-    ensures { option_copied result ≡ variable_of variables.now name.now }
-{
-    variables.iter().find(|variable| variable.name == *name)
-}
-
-fn named_value(alloc: Global, variables: &[Variable], name: &Name) -> Result<Value, Stop>
+#[tactic(auto, using(crate::proofs::PlainNumbers::found_is))]
+fn named_value(alloc: Global, variables: &Variables, name: &Name) -> Result<Value, Stop>
     ensures value { IsResultOf (λ value. value) (value_found (variable_of variables.now name.now)) result }
     ensures no_fault { IsNoFault result }
 {
-    match variable_of(variables, name) {
+    match variables.get(name) {
         None => Err(Stop::Status(TxStatus::WrongKind)),
-        Some(variable) => copied(alloc, &variable.value),
+        Some(value) => copied(alloc, value),
     }
 }
 
-/// The number that a variable stands for.
-fn number_found(variable: Option<&Variable>) -> Option<i64>
-    ensures { result ≡ number_found (option_copied variable.entry) }
+/// The number that a name stands for.
+fn number_found(value: Option<&Value>) -> Option<i64>
+    ensures { result ≡ number_found (option_copied value.entry) }
 {
-    match variable {
-        Some(
-            Variable {
-                value: Value::Int(number),
-                ..
-            },
-        ) => Some(*number),
+    match value {
+        Some(Value::Int(number)) => Some(*number),
         _ => None,
     }
 }
 
 /// The number of a literal, or of a name that stands for one: a value that takes no further step.
-fn plain_number(variables: &[Variable], x: &Expr) -> Option<i64>
+fn plain_number(variables: &Variables, x: &Expr) -> Option<i64>
     ensures { result ≡ plain_number variables.now (tree_of x.now) }
 {
     match &x.node {
         ExprNode::Int(number) => Some(*number),
-        ExprNode::Name(name) => number_found(variable_of(variables, name)),
+        ExprNode::Name(name) => number_found(variables.get(name)),
         _ => None,
     }
 }
@@ -69,7 +60,7 @@ pub fn value<C, H: Host>(
     world: &World<C>,
     site: &CallSite,
     host: &mut H,
-    variables: &[Variable],
+    variables: &Variables,
     capture: &mut Capture,
     left: &mut u32,
     x: &Expr,
@@ -96,7 +87,7 @@ fn node<C, H: Host>(
     world: &World<C>,
     site: &CallSite,
     host: &mut H,
-    variables: &[Variable],
+    variables: &Variables,
     capture: &mut Capture,
     left: &mut u32,
     x: &Expr,
@@ -141,7 +132,7 @@ fn right<C, H: Host>(
     world: &World<C>,
     site: &CallSite,
     host: &mut H,
-    variables: &[Variable],
+    variables: &Variables,
     capture: &mut Capture,
     left: &mut u32,
     sign: Sign,
@@ -171,7 +162,7 @@ fn call<C, H: Host>(
     world: &World<C>,
     site: &CallSite,
     host: &mut H,
-    variables: &[Variable],
+    variables: &Variables,
     capture: &mut Capture,
     left: &mut u32,
     name: &Name,
@@ -204,7 +195,7 @@ pub fn values<C, H: Host>(
     world: &World<C>,
     site: &CallSite,
     host: &mut H,
-    variables: &[Variable],
+    variables: &Variables,
     capture: &mut Capture,
     left: &mut u32,
     xs: &[Expr],

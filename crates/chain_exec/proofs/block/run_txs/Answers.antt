@@ -4,6 +4,7 @@ use Rattle.world_state.specs.Rows.{entry_of}
 use Rattle.world_state.specs.World.{newest_of}
 use Rattle.chain_exec.specs.BlockRows.{AreBlockRows}
 use Rattle.chain_exec.proofs.BlockSteps.{more_rows, more_receipts, more_told}
+use Rattle.chain_exec.proofs.Told.{unblamed_at_ok}
 use Rattle.chain_exec.proofs.block.run_txs.Goals as goal
 
 pub loop-at-preserved : goal.loop-at-preserved
@@ -17,7 +18,7 @@ loop-at-preserved g c =
     let added = c.in_ok-add.ensures in
     record {
       same = g.met.H.Host.same_trans _ _ _ so_far.same done.same;
-      later = omega (arith, so_far.later, done.cause.later);
+      no_fault = unblamed_at_ok (g.H.Host.host_faults c.loop-at.host) (g.H.Host.host_faults c.transaction.new.host) done.cause.told ∙ so_far.no_fault;
       newest = done.stages.newest ∙ so_far.newest;
       codes = done.stages.codes ∙ so_far.codes;
       staged = done.stages.staged ∙ ap (λ entries. entries ++ map entry_of run.rows) so_far.staged ∙ sym (map-append entry_of before.rows run.rows) ∙ ap (map entry_of) (sym added.rows);

@@ -12,7 +12,7 @@ abbrev pub invariant-loop-at : goal.invariant-loop-at
 invariant-loop-at g l =
     record {
       same : g.H.Host.same l.initial.host l.host;
-      later : g.H.Host.host_faults l.initial.host ≤ g.H.Host.host_faults l.host;
+      no_fault : g.H.Host.host_faults l.host ≡ g.H.Host.host_faults l.initial.host;
       newest : l.world.newest ≡ l.initial.world.newest;
       codes : l.world.codes ≡ l.initial.world.codes;
       staged : l.world.staged ≡ map entry_of l.run.rows;

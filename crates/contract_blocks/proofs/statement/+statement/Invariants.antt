@@ -11,11 +11,11 @@ abbrev pub invariant-statements-loop-x : goal.invariant-statements-loop-x
 invariant-statements-loop-x g l =
     record {
       same : g.H.Host.same l.initial.host l.host;
-      step : IfSome (g.H.Host.rows l.initial.host) (λ rows. statements_run (scene_in rows l.world l.site) (statement_list (map statement_of (drop l.x-index l.body))) l.variables.items (machine l.left l.capture)
-          ≡ statements_run (scene_in rows l.world l.site) (statement_list (map statement_of l.body)) l.initial.variables.items (machine l.initial.left l.initial.capture));
+      step : IfSome (g.H.Host.rows l.initial.host) (λ rows. statements_run (scene_in rows l.world l.site) (statement_list (map statement_of (drop l.x-index l.body))) l.variables (machine l.left l.capture)
+          ≡ statements_run (scene_in rows l.world l.site) (statement_list (map statement_of l.body)) l.initial.variables (machine l.initial.left l.initial.capture));
       left : l.left ≤ l.initial.left;
       faithful : IsFaithful (place_in l.world) l.initial.capture → IsFaithful (place_in l.world) l.capture;
-      later : g.H.Host.host_faults l.initial.host ≤ g.H.Host.host_faults l.host;
+      no_fault : g.H.Host.host_faults l.host ≡ g.H.Host.host_faults l.initial.host;
     }
 
 abbrev pub invariant-turns-rounds : goal.invariant-turns-rounds
@@ -23,9 +23,9 @@ invariant-turns-rounds g l =
     record {
       same : g.H.Host.same l.initial.host l.host;
       step : (rows : List Row) → g.H.Host.rows l.initial.host ≡ Some rows
-          → turns (l.most - l.counter) (loop_turn (scene_in rows l.world l.site) (tree_of l.test) (statements_run (scene_in rows l.world l.site) (statement_list (map statement_of l.body)))) l.variables.items (machine l.left l.capture)
-          ≡ loop_run (scene_in rows l.world l.site) (tree_of l.test) (statement_list (map statement_of l.body)) l.most l.initial.variables.items (machine l.initial.left l.initial.capture);
+          → turns (l.most - l.counter) (loop_turn (scene_in rows l.world l.site) (tree_of l.test) (statements_run (scene_in rows l.world l.site) (statement_list (map statement_of l.body)))) l.variables (machine l.left l.capture)
+          ≡ loop_run (scene_in rows l.world l.site) (tree_of l.test) (statement_list (map statement_of l.body)) l.most l.initial.variables (machine l.initial.left l.initial.capture);
       left : l.left ≤ l.initial.left;
       faithful : IsFaithful (place_in l.world) l.initial.capture → IsFaithful (place_in l.world) l.capture;
-      later : g.H.Host.host_faults l.initial.host ≤ g.H.Host.host_faults l.host;
+      no_fault : g.H.Host.host_faults l.host ≡ g.H.Host.host_faults l.initial.host;
     }

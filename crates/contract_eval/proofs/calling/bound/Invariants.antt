@@ -3,4 +3,4 @@ use Rattle.contract_meaning.specs.Calls.{bound}
 use Rattle.contract_eval.proofs.calling.bound.Given as goal
 
 abbrev pub invariant-loop-i : goal.invariant-loop-i
-invariant-loop-i l = l.variables.items ++ bound (drop l.i l.params) (drop l.i l.args) ≡ bound l.params l.args
+invariant-loop-i l = l.variables ++ bound (drop l.i l.params) (drop l.i l.args) ≡ bound l.params l.args

@@ -14,5 +14,5 @@ invariant-values-loop-x g l =
           ≡ values_of (scene_in rows l.world l.site) l.variables [] (trees (map tree_of l.xs)) (machine l.initial.left l.initial.capture));
       left : l.left ≤ l.initial.left;
       faithful : IsFaithful (place_in l.world) l.initial.capture → IsFaithful (place_in l.world) l.capture;
-      later : g.H.Host.host_faults l.initial.host ≤ g.H.Host.host_faults l.host;
+      no_fault : g.H.Host.host_faults l.host ≡ g.H.Host.host_faults l.initial.host;
     }

@@ -1,0 +1,6 @@
+//! The variables of a call, found by their names.
+#![tactic(auto)]
+
+mod variables;
+
+pub use variables::Variables;
