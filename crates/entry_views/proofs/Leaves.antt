@@ -96,7 +96,7 @@ same_nexts : (key : Option (List ℕ)) → (flag_of key ∷ []) ∷ after_flag k
 same_nexts None = refl
 same_nexts (Some key) = refl
 
-next_field : IsField next_at next_fields IsKeyIfAny
+pub next_field : IsField next_at next_fields IsKeyIfAny
 unfolding next_at
 next_field =
     let flag = ruled_piece byte_piece (λ flag. nat_lt flag 2) (record { value = 0; is = (omega arith, refl) }) in

@@ -6,7 +6,7 @@ use Rattle.std.proofs.lemmas.Bool.{cases_lt, cases_Bool, lt-ltb, le-ltb, ltb-tru
 use Rattle.version_links.specs.Links.{are_close}
 use Rattle.version_links.specs.Falling.{IsFalling, is_first, from_level}
 
-halved : (n level : ℕ) → n / 2 ^ suc level ≡ n / 2 ^ level / 2
+pub halved : (n level : ℕ) → n / 2 ^ suc level ≡ n / 2 ^ level / 2
 halved n level = let e : suc level ≡ level + 1 = omega arith in ap (λ (k : ℕ). n / 2 ^ k) e ∙ sym (shr-shr n level 1)
 
 pub interval_mono : (level a b : ℕ) → a ≤ b → a / 2 ^ level ≤ b / 2 ^ level
@@ -20,7 +20,7 @@ first_lower level block (previous ∷ older) h =
     let less = ltb-true (previous / 2 ^ suc level) (block / 2 ^ suc level) h in
     lt-ltb (previous / 2 ^ level) (block / 2 ^ level) (omega (arith, less, halved previous level, halved block level))
 
-not_higher : (level block : ℕ) (older : List ℕ) → is_first level block older ≡ false → is_first (suc level) block older ≡ false
+pub not_higher : (level block : ℕ) (older : List ℕ) → is_first level block older ≡ false → is_first (suc level) block older ≡ false
 not_higher level block older h = elim (cases_Bool (is_first (suc level) block older)) [
   | inl t ↦ absurd (let below = first_lower level block older t in cc)
   | inr f ↦ f

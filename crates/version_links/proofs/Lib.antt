@@ -1,8 +1,8 @@
 mod Levels
-mod Falls
+pub mod Falls
 mod Chains
 mod Differing
-mod Towers
+pub mod Towers
 pub mod Threads
-mod LinkLaws
+pub mod LinkLaws
 mod KeyedRows

@@ -41,7 +41,7 @@ any_of_blocks t q (row ∷ rows) = elim (cases_Bool (t row)) [
   | inr e ↦ rw e (any_of_blocks t q rows)
 ]
 
-find_of_blocks : (t : Row → Bool) (q : ℕ → Bool) (rows : List Row) → option_map (λ (row : Row). row.block) (find (λ (row : Row). t row && q row.block) rows) ≡ find q (map (λ (row : Row). row.block) (filter t rows))
+pub find_of_blocks : (t : Row → Bool) (q : ℕ → Bool) (rows : List Row) → option_map (λ (row : Row). row.block) (find (λ (row : Row). t row && q row.block) rows) ≡ find q (map (λ (row : Row). row.block) (filter t rows))
 find_of_blocks t q [] = refl
 find_of_blocks t q (row ∷ rows) = elim (cases_Bool (t row)) [
   | inr e ↦ rw e (find_of_blocks t q rows)
@@ -159,12 +159,15 @@ older_falls key block u (row ∷ rows) h f = elim (cases_Bool (is_older key bloc
     lower other (inl less) t e = less
     lower other (inr same) t e = absurd (same.2 (key_of other t ∙ sym (key_of row e)))
 
-pub blocks_fall : (rows : List Row) (key : List ℕ) (block : ℕ) → IsLawful rows → IsFalling (block ∷ older_blocks rows key block)
-blocks_fall rows key block lawful = older_falls key block block (reverse rows) (all_reverse (λ (row : Row). is_older key block row ≡ true → row.block < block) rows (each rows)) (fall_reversed rows lawful.ordered)
+pub ordered_fall : (rows : List Row) (key : List ℕ) (block : ℕ) → AllPairs StandsBefore rows → IsFalling (block ∷ older_blocks rows key block)
+ordered_fall rows key block ordered = older_falls key block block (reverse rows) (all_reverse (λ (row : Row). is_older key block row ≡ true → row.block < block) rows (each rows)) (fall_reversed rows ordered)
   where
     each : (rows : List Row) → AllByRecursion (λ (row : Row). is_older key block row ≡ true → row.block < block) rows
     each [] = tt
     each (row ∷ rows) = (λ t. ltb-true row.block block (and_parts (pointwise ◌==◌ row.key key) (nat_lt row.block block) t).1, each rows)
+
+pub blocks_fall : (rows : List Row) (key : List ℕ) (block : ℕ) → IsLawful rows → IsFalling (block ∷ older_blocks rows key block)
+blocks_fall rows key block lawful = ordered_fall rows key block lawful.ordered
 
 -- So a link of a lawful history leads where the skip list's does.
 pub lawful_link : (rows : List Row) (key : List ℕ) (block level : ℕ) → IsLawful rows → link rows key block level ≡ last_at_level (older_blocks rows key block) level
@@ -172,7 +175,7 @@ lawful_link rows key block level lawful = link_is rows key block level (blocks_f
 
 -- ---- the rows up to a block give the same links
 
-filter_twice : {X : Type 0} (t p : X → Bool) (xs : List X) → ((x : X) → t x ≡ true → p x ≡ true) → filter t (filter p xs) ≡ filter t xs
+pub filter_twice : {X : Type 0} (t p : X → Bool) (xs : List X) → ((x : X) → t x ≡ true → p x ≡ true) → filter t (filter p xs) ≡ filter t xs
 filter_twice t p [] f = refl
 filter_twice t p (x ∷ xs) f =
     let rest = filter_twice t p xs f in

@@ -1,0 +1,15 @@
+pub mod Tests
+pub mod Parts
+pub mod Rows
+pub mod Uses
+pub mod Rooted
+pub mod Covering
+pub mod Onward
+pub mod Walked
+pub mod Answered
+pub mod Beginning
+pub mod Sound
+pub mod MadeWalks
+pub mod MadeAccepted
+pub mod MadeLawful
+pub mod MadeOnce

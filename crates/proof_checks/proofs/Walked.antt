@@ -1,0 +1,150 @@
+-- Where a walk over headers ends that has no fault.
+use Rattle.std.proofs.Common.{◌≡◌, ◌∙◌, ◌⊎◌, ℕ, zero, suc, ◌+◌, true, false, ◌==◌, nat_le, List, [], ◌∷◌, ◌++◌, length, map, drop, slice_get, Option, Some, None, refl, sym, ap, subst, arith, inl, inr}
+use Rattle.std.specs.List.{All, AllByRecursion, Contains, range_with_len}
+use Rattle.std.specs.Option.{option_or, option_and_then}
+use Rattle.std.specs.Cmp.Lexicographic.{pointwise}
+use Rattle.std.proofs.lemmas.Bool.{cases_Bool}
+use Rattle.std.proofs.lemmas.Option.{none-some}
+use Rattle.sha2.specs.Sha256.{sha256}
+use Rattle.lc_base.specs.declared.row.Row.{Row}
+use Rattle.lc_base.specs.History.{IsLawful, latest, uses}
+use Rattle.prov_entry.specs.declared.entry.Link.{Link}
+use Rattle.lc_base.specs.declared.answer.Query.{Query}
+use Rattle.proof_codec.specs.declared.proof.Proof.{Proof}
+use Rattle.merkle_tree.specs.Clash.{Agree}
+use Rattle.merkle_tree.specs.Levels.{digest_of}
+use Rattle.prov_entry.specs.declared.entry.Header.{Header}
+use Rattle.prov_entry.specs.Spelling.{IsHeader, header_text}
+use Rattle.entry_views.proofs.Headers.{header_field}
+use Rattle.entry_views.proofs.Determined.{determined}
+use Rattle.history_root.specs.Naming.{header_of}
+use Rattle.history_root.specs.WalkLaws.{text_of_row, header_texts}
+use Rattle.history_root.proofs.Keys.{same_key}
+use Rattle.proof_codec.specs.Spelling.{last_of}
+use Rattle.proof_checks.specs.declared.claim.Claim.{Claim}
+use Rattle.proof_checks.specs.declared.reject.Reject.{Reject}
+use Rattle.proof_checks.specs.declared.reject.Reject.TheVariants as rejects
+use Rattle.typed_ledger.specs.TypedLedger.{IsTypedRow}
+use Rattle.proof_checks.specs.Checks.{claim_of_header, claim_before, first_fault, header_fault, fault_of_step, step_fault, path_fault, expected_first, expected_after}
+use Rattle.proof_checks.proofs.Tests.{neither}
+use Rattle.proof_checks.proofs.Parts.{in_map}
+use Rattle.typed_ledger.proofs.Spellings.{header_lawful}
+use Rattle.proof_checks.proofs.Onward.{begun, claim_of_uses, StandsAt, GoesOn, onward}
+
+-- ---- the first fault, from header to header
+
+-- the first fault of some headers from a step on, where this is expected there
+abbrev pub walk_fault : ℕ → List ℕ → ℕ → Option Link → List Header → Option Reject
+walk_fault at key step expected [] = fault_of_step key step expected None
+walk_fault at key step expected (header ∷ headers) = option_or (fault_of_step key step expected (Some header)) (walk_fault at key (suc step) (expected_after at header) headers)
+
+-- what is expected so many steps later
+abbrev pub expected_from : ℕ → Option Link → List Header → ℕ → Option Link
+expected_from at first headers zero = first
+expected_from at first headers (suc i) = option_and_then (expected_after at) (slice_get headers i)
+
+abbrev pub fault_from : ℕ → List ℕ → ℕ → Option Link → List Header → ℕ → Option Reject
+fault_from at key step first headers i = fault_of_step key (step + i) (expected_from at first headers i) (slice_get headers i)
+
+shifted : {A : Type 0} (f : ℕ → A) (a n : ℕ) → map f (range_with_len (suc a) n) ≡ map (λ i. f (suc i)) (range_with_len a n)
+shifted f a zero = refl
+shifted {A = A} f a (suc n) =
+    let e : a + 1 ≡ suc a = omega arith in
+    let e' : suc a + 1 ≡ suc (suc a) = omega arith in
+    ap (λ (t : List A). f (suc a) ∷ t) (ap (λ (k : ℕ). map f (range_with_len k n)) e' ∙ shifted f (suc a) n ∙ ap (λ (k : ℕ). map (λ i. f (suc i)) (range_with_len k n)) (sym e))
+
+map_same : {A : Type 0} (f g : ℕ → A) (xs : List ℕ) → ((i : ℕ) → f i ≡ g i) → map f xs ≡ map g xs
+map_same f g [] h = refl
+map_same f g (x ∷ xs) h = let rest = map_same f g xs h in rw (h x, rest) refl
+
+or_none : (fault : Option Reject) → option_or fault None ≡ fault
+or_none None = refl
+or_none (Some fault) = refl
+
+pub walk_is : (headers : List Header) (at : ℕ) (key : List ℕ) (step : ℕ) (first : Option Link)
+    → first_fault (map (fault_from at key step first headers) (range_with_len 0 (length headers + 1))) ≡ walk_fault at key step first headers
+walk_is [] at key step first = let e : step + 0 ≡ step = omega arith in or_none (fault_of_step key (step + 0) first None) ∙ ap (λ (s : ℕ). fault_of_step key s first None) e
+walk_is (header ∷ headers) at key step first =
+    let n : length (header ∷ headers) + 1 ≡ suc (length headers + 1) = omega arith in
+    let here : step + 0 ≡ step = omega arith in
+    let f : ℕ → Option Reject = fault_from at key step first (header ∷ headers) in
+    let g : ℕ → Option Reject = fault_from at key (suc step) (expected_after at header) headers in
+    let each : (i : ℕ) → f (suc i) ≡ g i = λ i. same i in
+    ap (λ (k : ℕ). first_fault (map f (range_with_len 0 k))) n
+    ∙ ap (λ (s : ℕ). option_or (fault_of_step key s first (Some header)) (first_fault (map f (range_with_len 1 (length headers + 1))))) here
+    ∙ ap (λ (t : List (Option Reject)). option_or (fault_of_step key step first (Some header)) (first_fault t)) (shifted f 0 (length headers + 1) ∙ map_same (λ i. f (suc i)) g (range_with_len 0 (length headers + 1)) each)
+    ∙ ap (λ (o : Option Reject). option_or (fault_of_step key step first (Some header)) o) (walk_is headers at key (suc step) (expected_after at header))
+  where
+    same : (i : ℕ) → fault_from at key step first (header ∷ headers) (suc i) ≡ fault_from at key (suc step) (expected_after at header) headers i
+    same zero = let e : step + 1 ≡ suc step + 0 = omega arith in ap (λ (s : ℕ). fault_of_step key s (expected_after at header) (slice_get headers 0)) e
+    same (suc i) = let e : step + suc (suc i) ≡ suc step + suc i = omega arith in ap (λ (s : ℕ). fault_of_step key s (option_and_then (expected_after at) (slice_get headers i)) (slice_get headers (suc i))) e
+
+-- what is wrong with the headers as a whole is found from header to header
+pub path_is : (query : Query) (proof : Proof) → path_fault query proof ≡ walk_fault query.at query.key 0 (expected_first query.key proof.leaf) proof.headers
+path_is query proof =
+    ap first_fault (map_same (step_fault query proof.leaf proof.headers) (fault_from query.at query.key 0 (expected_first query.key proof.leaf) proof.headers) (range_with_len 0 (length proof.headers + 1)) same_step)
+    ∙ walk_is proof.headers query.at query.key 0 (expected_first query.key proof.leaf)
+  where
+    same_step : (i : ℕ) → step_fault query proof.leaf proof.headers i ≡ fault_from query.at query.key 0 (expected_first query.key proof.leaf) proof.headers i
+    same_step zero = refl
+    same_step (suc i) =
+        let e : suc i ≡ 0 + suc i = omega arith in
+        ap (λ (step : ℕ). fault_of_step query.key step (option_and_then (expected_after query.at) (slice_get proof.headers i)) (slice_get proof.headers (suc i))) e
+
+-- ---- without a fault
+
+header_passed : (key : List ℕ) (step : ℕ) (expected : Link) (header : Header) → header_fault key step expected header ≡ None → sha256 (header_text header) ≡ expected.digest.0
+header_passed key step expected header e = elim (cases_Bool (pointwise ◌==◌ (sha256 (header_text header)) expected.digest.0)) [
+  | inl t ↦ same_key (sha256 (header_text header)) expected.digest.0 t
+  | inr f ↦ absurd (let no : Some (rejects.LinkDiffers step (digest_of (header_text header))) ≡ None = rw f at e in none-some _ (sym no))
+]
+
+pub no_more : (at : ℕ) (key : List ℕ) (step : ℕ) (headers : List Header) → walk_fault at key step None headers ≡ None → headers ≡ []
+no_more at key step [] e = refl
+no_more at key step (header ∷ headers) e = absurd cc
+
+-- The last header is that of the latest version, of whose uses this is told; or no version answers, and the last one is too late.
+pub record Ends (rows : List Row) (key : List ℕ) (at : ℕ) (claim : Claim) (headers : List Header) : Type 0 where
+  pub last : Header
+  pub last_is : last_of headers ≡ Some last
+  pub how : ((latest rows key at ≡ None) × (nat_le last.block at ≡ false))
+      ⊎ ((row : Row) × Contains rows row × (latest rows key at ≡ Some row) × (last ≡ header_of rows row) × (nat_le row.block at ≡ true) × (claim_before claim headers ≡ claim_of_uses (uses rows key row.block)))
+
+pub one_before : (rows : List Row) (key : List ℕ) (at : ℕ) (claim : Claim) (header : Header) (headers : List Header) → Ends rows key at (claim_of_header header) headers → Ends rows key at claim (header ∷ headers)
+one_before rows key at claim header [] ends = absurd (none-some ends.last ends.last_is)
+one_before rows key at claim header (next ∷ headers) ends = record { last = ends.last; last_is = ends.last_is; how = ends.how }
+
+abbrev single : Header → List Header → List Header
+single header headers = header ∷ headers
+
+pub ends : (headers : List Header) (rows : List Row) (key : List ℕ) (at step : ℕ) (claim : Claim) (row : Row) → IsLawful rows → All IsTypedRow rows → Agree (map header_text headers) (header_texts rows) → AllByRecursion IsHeader headers
+    → StandsAt rows key at claim row → walk_fault at key step (Some (begun rows row)) headers ≡ None → Ends rows key at claim headers
+ends [] rows key at step claim row lawful are agree all stands e = absurd cc
+ends (header ∷ headers) rows key at step claim row lawful are agree all stands e =
+    let faults = neither (header_fault key step (begun rows row) header) (walk_fault at key (suc step) (expected_after at header) headers) e in
+    let same : header_text header ≡ text_of_row rows row =
+    agree.same (header_text header) (text_of_row rows row) (0, omega arith, refl) (in_map (text_of_row rows) rows row stands.there) (header_passed key step (begun rows row) header faults.0) in
+    let is : header ≡ header_of rows row = (determined header_field header (header_of rows row) [] [] all.0 (header_lawful rows lawful are row stands.there) (ap (λ (t : List ℕ). drop 1 t ++ []) same)).0 in
+    let rest : walk_fault at key (suc step) (expected_after at (header_of rows row)) headers ≡ None = sym (ap (λ (h : Header). walk_fault at key (suc step) (expected_after at h) headers) is) ∙ faults.1 in
+    let agree_rest : Agree (map header_text headers) (header_texts rows) = record { same = λ one other in_given in_own. agree.same one other (suc in_given.0, omega (arith, in_given.1), in_given.2) in_own } in
+    elim (cases_Bool (nat_le row.block at)) [
+      | inl t ↦
+          let none : expected_after at (header_of rows row) ≡ None = rw t refl in
+          let nil : headers ≡ [] = no_more at key (suc step) headers (sym (ap (λ (o : Option Link). walk_fault at key (suc step) o headers) none) ∙ rest) in
+          let answers = stands.answers t in
+          subst (λ (hs : List Header). Ends rows key at claim (single header hs)) (sym nil)
+          (record { last = header; last_is = refl; how = inr (row, stands.there, answers.0, is, t, answers.1) })
+      | inr f ↦
+          let goes : GoesOn rows key at row = subst (λ (k : List ℕ). GoesOn rows k at row) stands.key_is (onward rows at row lawful stands.there f) in
+          elim goes [
+            | inl stop ↦
+                let nil : headers ≡ [] = no_more at key (suc step) headers (sym (ap (λ (o : Option Link). walk_fault at key (suc step) o headers) stop.0) ∙ rest) in
+                subst (λ (hs : List Header). Ends rows key at claim (single header hs)) (sym nil)
+                (record { last = header; last_is = refl; how = inl (stop.1, ap (λ (h : Header). nat_le h.block at) is ∙ f) })
+            | inr next ↦
+                one_before rows key at claim header headers
+                (ends headers rows key at (suc step) (claim_of_header header) next.0 lawful are agree_rest all.1
+                (subst (λ (h : Header). StandsAt rows key at (claim_of_header h) next.0) (sym is) next.2)
+                (sym (ap (λ (o : Option Link). walk_fault at key (suc step) o headers) next.1) ∙ rest))
+          ]
+    ]

@@ -1,0 +1,70 @@
+-- The proof that is made of an answer.
+use Rattle.std.specs.Prelude.{◌≡◌, ◌<◌, ◌≤◌, true, ℕ, List, length, reverse, slice_get, Option, Some, None, Ok}
+use Rattle.std.specs.List.{find, filter_map}
+use Rattle.std.specs.Option.{option_map}
+use Rattle.lc_names.specs.KeyBytes.{IsKey}
+use Rattle.lc_base.specs.declared.digest.Digest.{Digest}
+use Rattle.lc_base.specs.declared.row.Row.{Row}
+use Rattle.lc_base.specs.declared.row.Dep.{Dep}
+use Rattle.lc_base.specs.declared.answer.Kind.{Kind}
+use Rattle.lc_base.specs.declared.answer.Kind.TheVariants.{Hist, Back, Fwd}
+use Rattle.lc_base.specs.History.{up_to, latest, uses, scan}
+use Rattle.version_path.specs.Paths.{path}
+use Rattle.merkle_tree.specs.Tree.{audit_path}
+use Rattle.merkle_tree.specs.Climbing.{bytes_of}
+use Rattle.prov_entry.specs.declared.entry.Header.{Header}
+use Rattle.history_root.specs.Naming.{header_of, body_of}
+use Rattle.history_root.specs.Root.{leaves, digest_at, root_of}
+use Rattle.history_root.specs.WalkLaws.{is_version_in}
+use Rattle.typed_ledger.specs.TypedLedger.{IsTypedHistory, IsTypedLedger}
+use Rattle.proof_codec.specs.declared.proof.Proof.{Proof}
+use Rattle.proof_codec.specs.Spelling.{IsProof}
+use Rattle.proof_checks.specs.Checks.{covers, verdict}
+use Rattle.proof_checks.specs.LedgerTexts.{texts_of_leaves}
+
+-- The header of the key's version in a block.
+abbrev pub header_in : List Row → List ℕ → ℕ → Option Header
+header_in rows key block = option_map (header_of rows) (find (is_version_in key block) (reverse rows))
+
+-- Uses, where they are asked.
+abbrev pub uses_if : Kind → Option (List Dep) → Option (List Dep)
+uses_if Hist list = None
+uses_if Back list = None
+uses_if Fwd list = list
+
+-- A proof is made of the rows of a ledger up to a block, which has this digest. It gives the leaf that
+-- covers the key, with its audit path; the header of each version on the path of a lookup; the body of
+-- the version that answers; and its uses, where they are asked.
+pub record IsMade (rows : List Row) (block : ℕ) (digest : List ℕ) (proof : Proof) : Type 0 where
+  pub root_at_is : proof.root_at ≡ block
+  pub block_digest_is : proof.block_digest.0 ≡ digest
+  pub leaf_count_is : proof.leaf_count ≡ length (leaves rows)
+  pub leaf_is : slice_get (leaves rows) proof.leaf_index ≡ Some proof.leaf
+  pub leaf_covers : covers proof.query.key proof.leaf ≡ true
+  pub audit_is : bytes_of proof.audit ≡ audit_path proof.leaf_index (texts_of_leaves (leaves rows))
+  pub headers_are : proof.headers ≡ filter_map (header_in rows proof.query.key) (path rows proof.query.key proof.query.at)
+  pub body_is : proof.body ≡ option_map (body_of rows) (latest rows proof.query.key proof.query.at)
+  pub uses_are : proof.uses ≡ uses_if proof.query.kind (option_map (λ (row : Row). uses rows proof.query.key row.block) (latest rows proof.query.key proof.query.at))
+
+-- A proof is made of a ledger at a block: of the rows up to it.
+abbrev pub IsMadeAt : List Row → List Digest → ℕ → Proof → Type 0
+IsMadeAt rows digests block proof = IsMade (up_to rows block) block (digest_at digests block) proof
+
+-- Of a query only one proof is made.
+abbrev pub MadeProofsAreUnique : Type 0
+MadeProofsAreUnique =
+    (rows : List Row) (digests : List Digest) (block : ℕ) (proof other : Proof) → IsTypedHistory rows
+    → IsMadeAt rows digests block proof → IsMadeAt rows digests block other → other.query ≡ proof.query → other ≡ proof
+
+-- The proof that is made of a ledger at a block is accepted by one who has the root at that block, with
+-- the answer of the history up to it.
+abbrev pub MadeProofsAreAccepted : Type 0
+MadeProofsAreAccepted =
+    (rows : List Row) (digests : List Digest) (block : ℕ) (proof : Proof) → IsTypedHistory rows → IsMadeAt rows digests block proof
+    → verdict (root_of rows digests block) proof.query proof ≡ Ok (scan (up_to rows block) proof.query)
+
+-- It can be spelled, where the query is of a key, and of no later block.
+abbrev pub MadeProofsAreProofs : Type 0
+MadeProofsAreProofs =
+    (rows : List Row) (digests : List Digest) (block : ℕ) (proof : Proof) → IsTypedLedger rows digests → block < length digests
+    → IsKey proof.query.key → proof.query.at ≤ block → IsMadeAt rows digests block proof → IsProof proof

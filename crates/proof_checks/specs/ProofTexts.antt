@@ -1,0 +1,41 @@
+-- The texts that a proof tells of, by what it gives of them.
+use Rattle.std.specs.Prelude.{ℕ, List, [], ◌∷◌, map, Option, Some, None}
+use Rattle.std.specs.List.{flat_map}
+use Rattle.lc_base.specs.declared.row.Dep.{Dep}
+use Rattle.merkle_tree.specs.Tree.{leaf_text, climb_texts_to}
+use Rattle.merkle_tree.specs.Chains.{chain_texts}
+use Rattle.merkle_tree.specs.declared.limits.TheConstants.{MAX_HEIGHT}
+use Rattle.prov_entry.specs.declared.entry.Body.{Body}
+use Rattle.prov_entry.specs.Spelling.{leaf_bytes, header_text, body_text}
+use Rattle.prov_entry.specs.ForwardLists.{start_text, no_uses, use_text}
+use Rattle.proof_codec.specs.declared.proof.Proof.{Proof}
+use Rattle.proof_checks.specs.Checks.{climb_of, root_text_of}
+
+-- Lists of texts, one after another.
+abbrev pub joined : List (List (List ℕ)) → List (List ℕ)
+joined parts = flat_map (λ (texts : List (List ℕ)). texts) parts
+
+-- The texts that are hashed for the digest of a forward list, without the one of the empty list.
+abbrev pub texts_of_uses : List Dep → List (List ℕ)
+texts_of_uses uses = chain_texts use_text no_uses uses
+
+-- The text of a body, where there is one.
+abbrev pub body_texts : Option Body → List (List ℕ)
+body_texts None = []
+body_texts (Some body) = body_text body ∷ []
+
+-- The texts of uses, where there are any.
+abbrev pub uses_texts : Option (List Dep) → List (List ℕ)
+uses_texts None = []
+uses_texts (Some uses) = texts_of_uses uses
+
+-- The parts of a proof's texts: the leaf, the nodes from it upward, the root, the headers, the body,
+-- the empty forward list, and the uses.
+abbrev pub proof_parts : Proof → List (List (List ℕ))
+proof_parts proof =
+    (leaf_text (leaf_bytes proof.leaf) ∷ []) ∷ climb_texts_to MAX_HEIGHT proof.leaf_index proof.leaf_count (climb_of proof)
+    ∷ (root_text_of proof ∷ []) ∷ map header_text proof.headers ∷ body_texts proof.body ∷ (start_text ∷ []) ∷ uses_texts proof.uses ∷ []
+
+-- The texts of a proof.
+unfoldable pub proof_texts : Proof → List (List ℕ)
+proof_texts proof = joined (proof_parts proof)

@@ -1,0 +1,14 @@
+//! Which proofs are accepted by one who has the root at a block, what they answer, and which proof is
+//! made of an answer: definitions, and laws of them.
+#![tactic(auto)]
+
+mod claim;
+mod laws;
+mod reject;
+
+pub use claim::Claim;
+pub use laws::{
+    accepted_proofs_are_sound, made_proofs_are_accepted, made_proofs_are_proofs,
+    made_proofs_are_unique,
+};
+pub use reject::Reject;

@@ -1,0 +1,3 @@
+pub mod Lines
+pub mod Verifying
+pub mod Copying

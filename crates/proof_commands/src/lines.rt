@@ -1,0 +1,57 @@
+//! The lines of proofs that are not accepted.
+
+ghost use Rattle.std.specs.Prelude.{◌≡◌, [], ◌∷◌, ◌++◌, codes, string_bytes, IfOk};
+ghost use Rattle.hex.specs.Hex.{encode_lower};
+ghost use Rattle.proof_commands.specs.Lines.{reject_text, rejected_line};
+
+use lc_base::{Bytes, Digest, Memory};
+use proof_checks::Reject;
+use std::alloc::{AllocError, Global};
+
+/// A digest in lower-case hex, after a word.
+fn digest_text(alloc: Global, word: &str, digest: &Digest) -> Result<String, AllocError>
+    ensures { IfOk result (λ text. string_bytes text ≡ word.now ++ encode_lower digest.now.0) }
+{
+    let mut text = String::from_str(alloc, word)?;
+    let hex = hex::encode(alloc, digest.0.as_slice())?;
+    text.push_str(hex.as_str())?;
+    Ok(text)
+}
+
+fn link_text(alloc: Global, step: u8, computed: &Digest) -> Result<String, AllocError>
+    ensures { IfOk result (λ text. string_bytes text ≡ reject_text (Reject.LinkDiffers step computed.now)) }
+{
+    let word = format!(in alloc; "link {step} ")?;
+    digest_text(alloc, word.as_str(), computed)
+}
+
+/// Why a proof is not accepted.
+fn reject_text(alloc: Global, reject: &Reject) -> Result<String, AllocError>
+    ensures { IfOk result (λ text. string_bytes text ≡ reject_text reject.now) }
+{
+    match reject {
+        Reject::Malformed { at } => format!(in alloc; "malformed {at}"),
+        Reject::OtherQuery => String::from_str(alloc, "query"),
+        Reject::RootDiffers { computed } => digest_text(alloc, "root ", computed),
+        Reject::LeafShape => String::from_str(alloc, "leaf"),
+        Reject::LinkDiffers { step, computed } => link_text(alloc, *step, computed),
+        Reject::PathShape { step } => format!(in alloc; "path {step}"),
+        Reject::BodyDiffers { computed } => digest_text(alloc, "body ", computed),
+        Reject::ListDiffers { computed } => digest_text(alloc, "list ", computed),
+    }
+}
+
+fn line_of(alloc: Global, text: &str) -> Result<Bytes, Memory>
+    ensures { IfOk result (λ bytes. bytes ≡ codes "rejected " ++ text.now ++ 10 ∷ []) }
+{
+    let line = format!(in alloc; "rejected {text}\n")?;
+    Ok(Bytes::from_vec(line.into_bytes()))
+}
+
+/// A proof is not accepted, for this cause.
+pub fn rejected_line(alloc: Global, reject: &Reject) -> Result<Bytes, Memory>
+    ensures { IfOk result (λ bytes. bytes ≡ rejected_line reject.now) }
+{
+    let text = reject_text(alloc, reject)?;
+    line_of(alloc, text.as_str())
+}

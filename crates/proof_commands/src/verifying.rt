@@ -1,0 +1,57 @@
+//! A proof in hex, verified.
+
+ghost use Rattle.std.specs.Prelude.{◌≡◌, IfOk};
+ghost use Rattle.proof_verifier.specs.Answering.{verdict_on};
+ghost use Rattle.proof_commands.specs.Verifying.{hex_text, of_verdict, verification};
+
+use crate::answering::answer_of;
+use crate::verification::{HexFault, Verification};
+use hex::FromHexError;
+use lc_base::{Digest, Memory, Query};
+use proof_verifier::verify;
+use std::alloc::Global;
+
+/// The input, without one line end at its end.
+fn hex_text(input: &[u8]) -> &[u8]
+    ensures { result.now ≡ hex_text input.now }
+{
+    match input.last() {
+        Some(b'\n') => &input[..input.len() - 1],
+        _ => input,
+    }
+}
+
+/// What is answered of the bytes of a proof.
+fn verify_bytes(
+    alloc: Global,
+    root: &Digest,
+    query: &Query,
+    proof: &[u8],
+) -> Result<Verification, Memory>
+    ensures { IfOk result (λ told. told ≡ of_verdict (verdict_on root.now.0 query.now proof.now)) }
+{
+    match verify(root, query, proof) {
+        Ok(found) => Ok(Verification::Accepted(answer_of(alloc, &found)?)),
+        Err(reject) => Ok(Verification::Rejected(reject)),
+    }
+}
+
+/// What is answered of a proof to one who has the root and the query. The input is the proof in hex, with
+/// digits of either case, and may end with one line end.
+pub fn verify_hex(
+    alloc: Global,
+    root: &Digest,
+    query: &Query,
+    input: &[u8],
+) -> Result<Verification, Memory>
+    ensures { IfOk result (λ told. told ≡ verification root.now.0 query.now input.now) }
+{
+    match hex::decode(alloc, hex_text(input)) {
+        Ok(proof) => verify_bytes(alloc, root, query, proof.as_slice()),
+        Err(FromHexError::InvalidHexCharacter { index, .. }) => {
+            Ok(Verification::BadHex(HexFault::At(index)))
+        }
+        Err(FromHexError::OutOfMemory) => Err(Memory),
+        Err(_) => Ok(Verification::BadHex(HexFault::Odd)),
+    }
+}

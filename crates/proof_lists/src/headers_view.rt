@@ -1,0 +1,107 @@
+//! Lists of headers as they stand in bytes.
+
+ghost use Rattle.std.specs.Prelude.{◌≡◌, ◌∷◌, [], length, slice_get, MatchOption};
+ghost use Rattle.std.specs.Option.{option_map};
+ghost use Rattle.byte_fields.specs.Reader.{fault_left, Reads};
+ghost use Rattle.byte_fields.specs.Reading.{items_at};
+ghost use Rattle.entry_views.specs.Items.{Skips};
+ghost use Rattle.entry_views.specs.Reading.{header_at};
+ghost use Rattle.proof_codec.specs.Reading.{headers_at};
+
+use crate::header::header;
+use byte_fields::{Fault, Reader};
+use entry_views::HeaderView;
+use std::marker::Model;
+
+/// Headers, the newest first.
+#[derive(Drop)]
+pub struct HeadersView<'p> {
+    count: u8,
+    bytes: &'p [u8],
+}
+
+impl<'p> Model for HeadersView<'p> {
+    ghost use Rattle.std.specs.Prelude.{List};
+    ghost use Rattle.prov_entry.specs.declared.entry.Header.{Header as Item};
+    ghost use Rattle.byte_fields.specs.Reading.{items_at};
+    ghost use Rattle.entry_views.specs.Items.{items_read, AreRead};
+    ghost use Rattle.entry_views.specs.Reading.{header_at};
+
+    ghost Value = { List Item };
+
+    ghost view = { λ headers. items_read (items_at header_at headers.count headers.bytes.now) };
+
+    ghost invariant = { λ headers. AreRead (items_at header_at headers.count headers.bytes.now) };
+}
+
+impl<'p> HeadersView<'p> {
+    /// Their number.
+    #[tactic(auto, using(entry_views::proofs::Items::items_counted))]
+    pub fn len(&self) -> usize
+        ensures { result ≡ length self.now }
+    {
+        self.count as usize
+    }
+
+    /// The same headers again.
+    pub fn again(&self) -> HeadersView<'p>
+        ensures { result ≡ self.now }
+    {
+        HeadersView {
+            count: self.count,
+            bytes: self.bytes,
+        }
+    }
+
+    /// The header at an index, from 0; `None` exactly past the end. All before it are read.
+    pub fn get(&self, i: usize) -> Option<HeaderView<'p>>
+        ensures { option_map (λ header. header.value) result ≡ slice_get self.now i }
+    {
+        let mut rest = self.again();
+        for _ in 0..i {
+            match rest.next() {
+                None => return None,
+                Some(_) => {}
+            }
+        }
+        rest.next()
+    }
+
+    /// Takes the first header away; `None` exactly where there is none.
+    pub fn next(&mut self) -> Option<HeaderView<'p>>
+        ensures { MatchOption result (self.old ≡ []) (λ header. self.old ≡ header.value ∷ self.new) }
+    {
+        if self.count == 0 {
+            return None;
+        }
+        let mut reader = Reader::new(self.bytes);
+        match header(&mut reader) {
+            Ok(header) => {
+                self.count -= 1;
+                self.bytes = reader.rest();
+                Some(header)
+            }
+            Err(_) => None,
+        }
+    }
+}
+
+fn skip_headers(reader: &mut Reader, count: u8) -> Result<(), Fault>
+    ensures { Skips result (items_at header_at count reader.old) reader.new }
+{
+    for _ in 0..count {
+        header(reader)?;
+    }
+    Ok(())
+}
+
+/// Headers, after their number.
+#[tactic(auto, unfolding(proof_codec::specs::Reading::headers_at))]
+pub fn read_headers<'p>(reader: &mut Reader<'p>) -> Result<HeadersView<'p>, Fault>
+    ensures { Reads fault_left result (headers_at reader.old) reader.new }
+{
+    let count = reader.byte()?;
+    let bytes = reader.rest();
+    skip_headers(reader, count)?;
+    Ok(HeadersView { count, bytes })
+}

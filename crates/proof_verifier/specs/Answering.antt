@@ -1,0 +1,58 @@
+-- What is answered to one who has a root.
+use Rattle.std.specs.Prelude.{ℕ, List, map, Option, Some, None, Result, Ok, Err}
+use Rattle.lc_base.specs.declared.answer.Kind.{Kind}
+use Rattle.lc_base.specs.declared.answer.Query.{Query}
+use Rattle.lc_base.specs.declared.row.Dep.{Dep}
+use Rattle.prov_entry.specs.declared.entry.Body.{Body}
+use Rattle.proof_verifier.specs.Walking.{Told, after}
+use Rattle.lc_base.specs.declared.answer.Answer.{Answer}
+use Rattle.lc_base.specs.declared.answer.Answer.TheVariants as answers
+use Rattle.byte_fields.specs.Reader.{value_seen}
+use Rattle.byte_fields.specs.Spelling.{IsValue}
+use Rattle.proof_codec.specs.declared.proof.Proof.{Proof}
+use Rattle.proof_views.specs.Viewing.{proof_in}
+use Rattle.proof_views.specs.declared.proof_view.ViewError.{ViewError}
+use Rattle.proof_views.specs.declared.proof_view.ViewError.TheVariants as views
+use Rattle.proof_checks.specs.declared.reject.Reject.{Reject}
+use Rattle.proof_checks.specs.declared.reject.Reject.TheVariants.{Malformed}
+use Rattle.proof_checks.specs.Checks.{verdict, dep_of, fault_of_body, fault_of_uses, answer_by}
+use Rattle.proof_verifier.specs.declared.found.Found.{Found}
+use Rattle.proof_verifier.specs.declared.found.Found.TheVariants.{Nothing, Hist, Back, Fwd}
+
+-- The answer that is found.
+abbrev pub answer_seen : Found → Answer
+answer_seen Nothing = answers.Nothing
+answer_seen (Hist block tx value) = answers.Hist block tx (value_seen value)
+answer_seen (Back block deps) = answers.Back block (map dep_of deps)
+answer_seen (Fwd block uses) = answers.Fwd block uses
+
+-- The value of an answer is one, where it has one.
+abbrev pub HasValue : Answer → Type 0
+HasValue (answers.Hist block tx value) = IsValue value
+HasValue answer = Unit {0}
+
+-- A fault is told as it is.
+abbrev pub is_told : Reject → Option Reject
+is_told fault = Some fault
+
+-- The offset that a fault tells; none where the bytes are a proof.
+abbrev pub malformed_at : Reject → Option ℕ
+malformed_at (Malformed at) = Some at
+malformed_at fault = None
+
+-- What a version answers, or what is wrong with its body or its uses.
+abbrev pub answered : Kind → Told → Body → Option (List Dep) → Result Answer Reject
+answered kind told body uses = after (fault_of_body (Some told.header) (Some body)) (after (fault_of_uses told.claim uses) (Ok (answer_by kind told.header body uses)))
+
+-- The fault of bytes that are no proof.
+abbrev pub fault_of_view : ViewError → Reject
+fault_of_view (views.Malformed at) = Malformed at
+
+-- What a proof that is read answers.
+abbrev pub judged : List ℕ → Query → Result Proof ℕ → Result Answer Reject
+judged root query (Err at) = Err (Malformed at)
+judged root query (Ok proof) = verdict root query proof
+
+-- What bytes answer, or their fault.
+unfoldable pub verdict_on : List ℕ → Query → List ℕ → Result Answer Reject
+verdict_on root query bytes = judged root query (proof_in bytes)

@@ -1,0 +1,27 @@
+//! What an accepted proof answers.
+
+use entry_views::{BodyDepView, ValueView};
+use proof_lists::UseView;
+
+/// What an accepted proof answers. Texts, dependencies and uses stay where the proof lies.
+#[derive(Drop)]
+pub enum Found<'p> {
+    /// There is no such version.
+    Nothing,
+    /// The version's block, the index of its transaction there, and its value.
+    Hist {
+        block: u32,
+        tx: u16,
+        value: ValueView<'p>,
+    },
+    /// The version's block, and the versions that it was derived from.
+    Back {
+        block: u32,
+        deps: BodyDepView<'p>,
+    },
+    /// The version's block, and the versions that were derived from it.
+    Fwd {
+        block: u32,
+        uses: UseView<'p>,
+    },
+}

@@ -1,0 +1,121 @@
+//! The headers of a proof, one after another.
+
+ghost use Rattle.std.specs.Prelude.{◌≡◌, ◌≤◌, ◌+◌, None, length, Option};
+ghost use Rattle.proof_checks.specs.Checks.{chosen, expected_after, claim_of_header, header_fault};
+ghost use Rattle.proof_verifier.specs.Walking.{higher, walked, Told};
+
+use crate::hashing::header_digest;
+use entry_views::{HeaderView, LinkView};
+use lc_base::Key;
+use proof_checks::{Claim, Reject};
+use proof_lists::HeadersView;
+use prov_entry::Link;
+use std::marker::Model;
+
+/// A header, and what is told of the uses of its version before it.
+#[derive(Drop)]
+pub(crate) struct ToldHeader<'p> {
+    pub(crate) header: HeaderView<'p>,
+    pub(crate) claim: Claim,
+}
+
+impl<'p> Model for ToldHeader<'p> {
+    ghost use Rattle.proof_verifier.specs.Walking.{Told};
+
+    ghost Value = { Told };
+
+    ghost view = { λ told. record { header = told.header.value; claim = told.claim } };
+}
+
+/// A link, where it is to a block after this, in place of one that was chosen before.
+fn higher(at: u32, best: Option<Link>, link: Option<Link>) -> Option<Link>
+    ensures { result ≡ higher at best link }
+{
+    match link {
+        None => best,
+        Some(link) => { if at < link.block { Some(link) } else { best } }
+    }
+}
+
+/// The link to follow: the highest one to a block after this, or else the lowest.
+fn chosen(links: &LinkView, at: u32) -> Option<Link>
+    ensures { result ≡ chosen at links.now }
+{
+    let mut best = links.get(0);
+    for i in 0..links.len() {
+        best = higher(at, best, links.get(i));
+    }
+    best
+}
+
+/// The version whose header is to follow a header.
+fn expected_after(at: u32, header: &HeaderView) -> Option<Link>
+    ensures { result ≡ expected_after at header.now.value }
+{
+    if header.block() <= at {
+        return None;
+    }
+    chosen(&header.links(), at)
+}
+
+fn claim_of_header(header: &HeaderView) -> Claim
+    ensures { result ≡ claim_of_header header.now.value }
+{
+    Claim {
+        count: header.closed(),
+        digest: header.closed_digest(),
+    }
+}
+
+/// What is wrong with a header where this version's is expected.
+fn header_fault(key: &Key, step: u8, expected: &Link, header: &HeaderView) -> Option<Reject>
+    ensures { result ≡ header_fault key.now step expected.now header.now.value }
+{
+    let computed = header_digest(header);
+    if computed.0 != expected.digest.0 {
+        return Some(Reject::LinkDiffers { step, computed });
+    }
+    if header.key().as_bytes() != key.as_bytes() {
+        return Some(Reject::PathShape { step });
+    }
+    if header.block() != expected.block {
+        return Some(Reject::PathShape { step });
+    }
+    None
+}
+
+/// The last header, or what is wrong with the first that is wrong, where this version's is expected
+/// first.
+pub(crate) fn walk<'p>(
+    key: &Key,
+    at: u32,
+    expected: Option<Link>,
+    claim: Claim,
+    headers: HeadersView<'p>,
+) -> Result<Option<ToldHeader<'p>>, Reject>
+    requires { length headers ≤ 255 }
+    ensures { result ≡ walked at key.now 0 expected claim None headers.entry }
+{
+    let mut headers = headers;
+    let mut expected = expected;
+    let mut claim = claim;
+    let mut last = None;
+    let mut step = 0;
+    while let Some(header) = headers.next() {
+        let Some(link) = expected else {
+            return Err(Reject::PathShape { step });
+        };
+        if let Some(fault) = header_fault(key, step, &link, &header) {
+            return Err(fault);
+        }
+        expected = expected_after(at, &header);
+        let next_claim = claim_of_header(&header);
+        last = Some(ToldHeader { header, claim });
+        claim = next_claim;
+        step += 1;
+    }
+    if expected.is_some() {
+        return Err(Reject::PathShape { step });
+    }
+    Ok(last)
+}

@@ -1,0 +1,100 @@
+//! Checking proofs.
+
+ghost use Rattle.std.specs.Prelude.{◌≡◌, ◌<◌, ◌^◌, ℕ, List, IfOk, IsErrAnd, IsSomeAnd};
+ghost use Rattle.lc_base.specs.Answers.{Answers};
+ghost use Rattle.lc_base.specs.declared.digest.Digest.{Digest as DigestValue};
+ghost use Rattle.lc_base.specs.declared.row.Row.{Row};
+ghost use Rattle.history_root.specs.Root.{root_of};
+ghost use Rattle.typed_ledger.specs.TypedLedger.{IsTypedHistory};
+ghost use Rattle.byte_fields.specs.Prefixes.{IsLongestPrefix};
+ghost use Rattle.proof_codec.specs.Spelling.{IsProof, proof_fields};
+ghost use Rattle.proof_codec.specs.declared.proof.Proof.{Proof as ProofValue};
+ghost use Rattle.proof_views.specs.Viewing.{Spells};
+ghost use Rattle.proof_checks.specs.Checks.{same_query, verdict};
+ghost use Rattle.proof_checks.specs.ProofTexts.{proof_texts};
+ghost use Rattle.proof_checks.specs.Soundness.{AnswersOrClashes};
+ghost use Rattle.proof_verifier.specs.Answering.{answer_seen, is_told, HasValue, malformed_at, fault_of_view, verdict_on};
+
+use crate::answers::answer;
+use crate::found::Found;
+use crate::leaf::{claim_of_leaf, covers, expected_first};
+use crate::path::walk;
+use crate::root::root_of;
+use lc_base::{Digest, Query};
+use proof_checks::Reject;
+use proof_codec::kind_byte;
+use proof_views::{ProofView, ViewError, view};
+
+/// Whether a proof is of the query.
+fn same_query(asked: &Query, own: &Query) -> bool
+    ensures { result ≡ same_query asked.now own.now }
+{
+    if kind_byte(own.kind) != kind_byte(asked.kind) {
+        return false;
+    }
+    if own.key.as_bytes() != asked.key.as_bytes() {
+        return false;
+    }
+    own.at == asked.at
+}
+
+/// The fault of bytes that are no proof.
+fn fault_of_view(error: ViewError) -> Reject
+    ensures { result ≡ fault_of_view error }
+{
+    match error {
+        ViewError::Malformed { at } => Reject::Malformed { at },
+    }
+}
+
+/// What a proof answers, or the first check that fails.
+fn judge<'p>(root: &Digest, query: &Query, proof: &ProofView<'p>) -> Result<Found<'p>, Reject>
+    requires { IsProof proof.now }
+    ensures { Answers answer_seen is_told result (verdict root.now.0 query.now proof.now) }
+{
+    if !same_query(query, &proof.query()) {
+        return Err(Reject::OtherQuery);
+    }
+    let computed = root_of(proof);
+    if computed.0 != root.0 {
+        return Err(Reject::RootDiffers { computed });
+    }
+    if !covers(&query.key, proof.leaf()) {
+        return Err(Reject::LeafShape);
+    }
+    let expected = expected_first(&query.key, proof.leaf());
+    let claim = claim_of_leaf(proof.leaf());
+    match walk(&query.key, query.at, expected, claim, proof.headers()) {
+        Err(fault) => Err(fault),
+        Ok(None) => Ok(Found::Nothing),
+        Ok(Some(told)) => match proof.body() {
+            None => Ok(Found::Nothing),
+            Some(body) => answer(query.kind, &told, body, proof.uses()),
+        },
+    }
+}
+
+/// What a proof shows to one who has the root at a block: the answer to the query, or the first check
+/// of the proof that fails.
+pub fn verify<'p>(root: &Digest, query: &Query, proof: &'p [u8]) -> Result<Found<'p>, Reject>
+    // Where the bytes are a proof, its answer is found exactly where no check of it fails; else the first
+    // that fails is told.
+    ensures spelled { (given : ProofValue) → Spells proof.now given → Answers answer_seen is_told result (verdict root.now.0 query.now given) }
+    // Where they are none, the offset is told at which the first field begins that is invalid.
+    ensures malformed { ((given : ProofValue) → Spells proof.now given → ⊥)
+        → IsErrAnd result (λ fault. IsSomeAnd (malformed_at fault) (IsLongestPrefix proof_fields IsProof proof.now)) }
+    // What is found is the answer of every typed history that has the root at some block, or a text of
+    // the proof and one of the history differ and have one digest.
+    ensures sound { (given : ProofValue) → Spells proof.now given
+        → (rows : List Row) (digests : List DigestValue) (block : ℕ) → IsTypedHistory rows → block < 2 ^ 32 → root_of rows digests block ≡ root.now.0
+        → IfOk result (λ found. AnswersOrClashes rows digests block query.now (proof_texts given) (answer_seen found)) }
+    // A value that is found is one.
+    ensures value { IfOk result (λ found. HasValue (answer_seen found)) }
+    // What bytes answer is said by a function, and that is the answer.
+    ensures exact { Answers answer_seen is_told result (verdict_on root.now.0 query.now proof.now) }
+{
+    match view(proof) {
+        Ok(view) => judge(root, query, &view),
+        Err(error) => Err(fault_of_view(error)),
+    }
+}

@@ -1,0 +1,3 @@
+pub mod LeafKeys
+pub mod Answering
+pub mod Viewed

@@ -1,0 +1,13 @@
+use Rattle.std.proofs.Common.{sym, arith}
+use Rattle.entry_views.proofs.Leaves.{leaf_field}
+use Rattle.proof_lists.proofs.Read.{ended, stopped}
+use Rattle.proof_views.proofs.leaf.leaf_in.Goals as goal
+
+pub returns-in-Ok-clause-read : goal.returns-in-Ok-clause-read
+returns-in-Ok-clause-read c = (ended leaf_field c.args.bytes.now (λ i. omega (arith, c.type_inv.bytes i)) c.in-Ok.leaf (sym c.in-Ok.ensures.exact)).1
+
+pub returns-in-Ok-clause-within : goal.returns-in-Ok-clause-within
+returns-in-Ok-clause-within c = (ended leaf_field c.args.bytes.now (λ i. omega (arith, c.type_inv.bytes i)) c.in-Ok.leaf (sym c.in-Ok.ensures.exact)).0
+
+pub returns-in-Err-clause-read : goal.returns-in-Err-clause-read
+returns-in-Err-clause-read c = (stopped leaf_field c.args.bytes.now (λ i. omega (arith, c.type_inv.bytes i)) c.in-Err.error (sym c.in-Err.ensures.exact)).1

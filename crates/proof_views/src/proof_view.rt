@@ -1,0 +1,234 @@
+//! Proofs as they stand in bytes.
+
+ghost use Rattle.std.specs.Prelude.{◌≡◌, Ok, IfOk, IfErr, IfSome};
+ghost use Rattle.std.specs.Option.{option_map};
+ghost use Rattle.lc_base.specs.Answers.{Answers};
+ghost use Rattle.byte_fields.specs.Prefixes.{IsLongestPrefix};
+ghost use Rattle.byte_fields.specs.Reader.{fault_left, Reads, ReadsAs};
+ghost use Rattle.entry_views.specs.Reading.{body_at};
+ghost use Rattle.proof_codec.specs.Spelling.{IsProof, proof_fields, last_of, is_answer, asks_uses};
+ghost use Rattle.proof_codec.specs.Reading.{if_any_at, uses_at, way_at, proof_at};
+ghost use Rattle.proof_codec.specs.declared.proof.Proof.{Proof as ProofValue};
+ghost use Rattle.proof_views.specs.Viewing.{Spells, proof_in, told_at};
+
+use crate::body::body;
+use crate::front::{FrontView, front};
+use crate::leaf::leaf;
+use byte_fields::{Fault, Reader};
+use entry_views::{BodyView, HeaderView, LeafView};
+use lc_base::{Digest, Kind, Query};
+use merkle_tree::audit_length;
+use proof_lists::{AuditView, HeadersView, UseView, read_audit, read_headers, read_uses};
+use std::marker::Model;
+
+/// Why bytes are no proof.
+#[derive(Clone, Copy, Debug, PartialEq, Eq)]
+pub enum ViewError {
+    /// The offset at which the first field begins that is cut short or breaks its rule.
+    Malformed { at: usize },
+}
+
+/// A proof that stands in bytes.
+#[derive(Drop)]
+pub struct ProofView<'p> {
+    front: FrontView,
+    leaf: LeafView<'p>,
+    audit: AuditView<'p>,
+    headers: HeadersView<'p>,
+    body: Option<BodyView<'p>>,
+    uses: Option<UseView<'p>>,
+}
+
+impl<'p> Model for ProofView<'p> {
+    ghost use Rattle.std.specs.Option.{option_map};
+    ghost use Rattle.proof_codec.specs.declared.proof.Proof.{Proof as ProofValue};
+
+    ghost Value = { ProofValue };
+
+    ghost view = { λ proof. record {
+      query = proof.front.query;
+      root_at = proof.front.root_at;
+      block_digest = proof.front.block_digest;
+      leaf_count = proof.front.leaf_count;
+      leaf_index = proof.front.leaf_index;
+      leaf = proof.leaf.value;
+      audit = proof.audit;
+      headers = proof.headers;
+      body = option_map (λ body. body.value) proof.body;
+      uses = proof.uses;
+    } };
+}
+
+impl<'p> ProofView<'p> {
+    pub fn query(&self) -> Query
+        ensures { result ≡ self.now.query }
+    {
+        self.front.query
+    }
+
+    /// The block of the root.
+    pub fn root_at(&self) -> u32
+        ensures { result ≡ self.now.root_at }
+    {
+        self.front.root_at
+    }
+
+    /// The digest of that block.
+    pub fn block_digest(&self) -> Digest
+        ensures { result ≡ self.now.block_digest }
+    {
+        self.front.block_digest
+    }
+
+    /// How many leaves the tree has.
+    pub fn leaf_count(&self) -> u32
+        ensures { result ≡ self.now.leaf_count }
+    {
+        self.front.leaf_count
+    }
+
+    /// Which of them is given, from 0.
+    pub fn leaf_index(&self) -> u32
+        ensures { result ≡ self.now.leaf_index }
+    {
+        self.front.leaf_index
+    }
+
+    /// The leaf that covers the key.
+    pub fn leaf(&self) -> &LeafView<'p>
+        ensures { result.now.value ≡ self.now.leaf }
+    {
+        &self.leaf
+    }
+
+    /// The audit path of the leaf.
+    pub fn audit(&self) -> AuditView<'p>
+        ensures { result ≡ self.now.audit }
+    {
+        self.audit.again()
+    }
+
+    /// The headers, the newest first.
+    pub fn headers(&self) -> HeadersView<'p>
+        ensures { result ≡ self.now.headers }
+    {
+        self.headers.again()
+    }
+
+    /// The body of the version that answers.
+    pub fn body(&self) -> Option<&BodyView<'p>>
+        ensures { option_map (λ body. body.now.value) result ≡ self.now.body }
+    {
+        self.body.as_ref()
+    }
+
+    /// What was derived from it, where that is asked.
+    pub fn uses(&self) -> Option<UseView<'p>>
+        ensures { result ≡ self.now.uses }
+    {
+        match &self.uses {
+            None => None,
+            Some(uses) => Some(uses.again()),
+        }
+    }
+}
+
+/// Whether the version of the last header answers.
+fn is_answered(headers: &HeadersView, at: u32) -> bool
+    ensures { result ≡ is_answer at (last_of headers.now) }
+{
+    let mut rest = headers.again();
+    let mut answered = false;
+    while let Some(header) = rest.next() {
+        answered = header.block() <= at;
+    }
+    answered
+}
+
+fn body_if<'p>(reader: &mut Reader<'p>, there: bool) -> Result<Option<BodyView<'p>>, Fault>
+    ensures { ReadsAs (λ body. option_map (λ body. body.value) body) fault_left result (if_any_at body_at there reader.old) reader.new }
+{
+    if !there {
+        return Ok(None);
+    }
+    Ok(Some(body(reader)?))
+}
+
+fn uses_if<'p>(reader: &mut Reader<'p>, there: bool) -> Result<Option<UseView<'p>>, Fault>
+    ensures { ReadsAs (λ uses. uses) fault_left result (if_any_at uses_at there reader.old) reader.new }
+{
+    if !there {
+        return Ok(None);
+    }
+    Ok(Some(read_uses(reader)?))
+}
+
+#[tactic(auto, unfolding(proof_codec::specs::Reading::proof_at, proof_codec::specs::Reading::way_at))]
+fn proof<'p>(reader: &mut Reader<'p>) -> Result<ProofView<'p>, Fault>
+    ensures { Reads fault_left result (proof_at reader.old) reader.new }
+{
+    let front = front(reader)?;
+    let leaf = leaf(reader, front.leaf_index)?;
+    let audit = read_audit(
+        reader,
+        audit_length(front.leaf_index, front.leaf_count) as u8,
+    )?;
+    let headers = read_headers(reader)?;
+    let answered = is_answered(&headers, front.query.at);
+    let body = body_if(reader, answered)?;
+    let asked = asks_uses(front.query.kind, body.is_some());
+    let uses = uses_if(reader, asked)?;
+    Ok(ProofView {
+        front,
+        leaf,
+        audit,
+        headers,
+        body,
+        uses,
+    })
+}
+
+/// Whether uses are asked of a version that answers.
+fn asks_uses(kind: Kind, answered: bool) -> bool
+    ensures { result ≡ asks_uses kind answered }
+{
+    match kind {
+        Kind::Hist | Kind::Back => false,
+        Kind::Fwd => answered,
+    }
+}
+
+#[tactic(auto, unfolding(crate::specs::Viewing::proof_in))]
+fn proof_in<'p>(bytes: &'p [u8]) -> Result<ProofView<'p>, ViewError>
+    ensures { Answers (λ proof. proof) told_at result (proof_in bytes.now) }
+{
+    let mut reader = Reader::new(bytes);
+    match proof(&mut reader) {
+        Ok(proof) => {
+            let left = reader.left();
+            if left > 0 {
+                return Err(ViewError::Malformed {
+                    at: bytes.len() - left,
+                });
+            }
+            Ok(proof)
+        }
+        Err(fault) => Err(ViewError::Malformed {
+            at: bytes.len() - fault.left,
+        }),
+    }
+}
+
+/// The proof that the bytes are. Malformed exactly where they are none.
+pub fn view<'p>(bytes: &'p [u8]) -> Result<ProofView<'p>, ViewError>
+    // What is read is spelled so.
+    ensures found { IfOk result (λ proof. Spells bytes.now proof) }
+    // What is spelled so is read.
+    ensures only { (proof : ProofValue) → Spells bytes.now proof → result ≡ Ok proof }
+    // A fault is told at its offset.
+    ensures fault { IfErr result (λ error. IfSome (told_at error) (IsLongestPrefix proof_fields IsProof bytes.now)) }
+    // What bytes are is said by a function, and that is the answer.
+    ensures exact { Answers (λ proof. proof) told_at result (proof_in bytes.now) }
+{
+    proof_in(bytes)
+}

@@ -1,0 +1,2 @@
+pub mod TypedLedger
+pub mod Laws

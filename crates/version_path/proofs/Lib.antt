@@ -1,0 +1,6 @@
+pub mod Levels
+pub mod Bound
+pub mod Towers
+pub mod Walks
+pub mod OverRows
+pub mod Scans
