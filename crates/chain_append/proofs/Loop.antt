@@ -1,9 +1,10 @@
 -- The frames taken so far, and those that are left.
 use Rattle.std.proofs.Common.{◌≡◌, inl, inr, ℕ, suc, ◌+◌, ◌-◌, ◌≤◌, Bool, true, false, List, [], ◌∷◌, ◌++◌, drop, refl, sym, ◌∙◌, ap, subst, arith, append_assoc, append-nil}
-use Rattle.std.specs.Prelude.{Option, Some, None, Result, Ok, Err, is_ok, IfOk, IfSome}
+use Rattle.std.specs.Prelude.{Option, Some, None, Result, Ok, Err, is_ok, IfOk, IfSome, take}
 use Rattle.lc_outside.specs.Disk.{DiskState, Stays}
 use Rattle.lc_outside.specs.Outside.{Tell}
 use Rattle.disk_model.specs.Disk.{Keeps, Rests}
+use Rattle.disk_model.proofs.Calls.{stay_keeps}
 use Rattle.disk_model.proofs.Moments.{started, then_keeps, weaker, stays_on, stays_here}
 use Rattle.block_codec.specs.Frames.{frame_step, IsFrameAnswer}
 use Rattle.block_codec.specs.Reading.{block_in}
@@ -22,7 +23,7 @@ use Rattle.recovery.specs.Node.{NodeState, IsNodeOf, IsStepOf, next_in_chain, ch
 use Rattle.chain_promises.specs.Promises.{Line, plain, KeepsLines, IsPartly, Telling}
 use Rattle.chain_promises.proofs.Tellings.{none_to_tell, join, longer, still}
 use Rattle.chain_promises.proofs.Sure.{AreSure, all_sure_more, sure_push, all_sure_kept, partly_more, partly_held, partly_longer}
-use Rattle.chain_append.specs.Appending.{IsTold, line_of, lines_of, end_lines, fold_lines, fold_end, HasEnded, AppendsAll}
+use Rattle.chain_append.specs.Appending.{IsTold, line_of, lines_of, end_lines, fold_lines, fold_end, HasEnded, AppendsAll, GoesFrom}
 use Rattle.chain_append.specs.Steps.{IsCauseOf, lines_for, added_for, Takes}
 use Rattle.chain_append.specs.declared.ending.AppendEnd.{AppendEnd}
 use Rattle.chain_append.specs.declared.ending.AppendEnd.TheVariants as ends
@@ -354,3 +355,24 @@ module _ {D : Type 0} (now : D → ℕ) (disk : D → ℕ → Option DiskState) 
       (λ is_told. join next_in_chain now disk told old mid new (IsStepOf p.blocks j) lines (lines_for p.blocks j) false (p.telling is_told) (t.images (still_is is_told)) (λ image step. kept_step p.blocks lines j image p.sure step) (t.lines (still_is is_told)))
       (lines_before first p.taken f ∙ ap (λ (b : List Block). lines ++ fold_lines compiled_in b f) (sym p.blocks_are) ∙ ap (λ (ls : List Line). lines ++ ls) line.1 ∙ sym (append_assoc lines (lines_for p.blocks j) line.0))
       (added_append p.taken f.taken ∙ ap (λ (b : List Block). added ++ b) others.1 ∙ sym (append_assoc added (added_for j) others.0)))
+
+  -- ---- whether the source tells or not
+
+  step_goes : (first blocks added : List Block) (judgement : Result Taken Refusal) (image : List ℕ) → blocks ≡ first ++ added → IsStepOf blocks judgement image → GoesFrom first image
+  step_goes first blocks added (Ok frame) image same (inl is) = (added, is ∙ ap Some same)
+  step_goes first blocks added (Ok frame) image same (inr is) = (added ++ added_by frame, is ∙ ap Some (ap (λ (b : List Block). b ++ added_by frame) same ∙ append_assoc first added (added_by frame)))
+  step_goes first blocks added (Err refusal) image same is = (added, is ∙ ap Some same)
+
+  pub goes_from : (old new : D) (node : NodeState) (count : ℕ) (left_old left_new : Option (List ℕ)) (first : List Block) → Progress old new node count left_old left_new first → IsTold (disk old (now old)) → Keeps now disk old new (GoesFrom first)
+  goes_from old new node count left_old left_new first p is_told = weaker now disk old new (IsPartly next_in_chain first (added_by_all p.taken)) (GoesFrom first) (p.images is_told) (λ image partly. (take partly.0 (added_by_all p.taken), partly.1))
+
+  pub goes_still : (old mid new : D) (first : List Block) → Keeps now disk old mid (GoesFrom first) → Stays now disk mid new → Keeps now disk old new (GoesFrom first)
+  goes_still old mid new first keeps stays = stay_keeps now disk old mid new (GoesFrom first) keeps stays
+
+  pub goes_step : (old mid new : D) (node : NodeState) (count : ℕ) (left_old left_new : Option (List ℕ)) (first : List Block) (bytes : List ℕ) (result : Result (Result NodeState Refusal) AppendStop) → Progress old mid node count left_old left_new first
+      → ((blocks : List Block) → IsNodeOf node (disk mid (now mid)) blocks → Takes now disk told mid new blocks (judged compiled_in blocks (block_in bytes)) result) → IsTold (disk old (now old)) → Keeps now disk old new (GoesFrom first)
+  goes_step old mid new node count left_old left_new first bytes result p takes is_told =
+      let t = takes p.blocks p.is_node in
+      let j : Result Taken Refusal = judged compiled_in p.blocks (block_in bytes) in
+      then_keeps now disk old mid new (GoesFrom first) (goes_from old mid node count left_old left_new first p is_told)
+      (weaker now disk mid new (IsStepOf p.blocks j) (GoesFrom first) (t.images ((p.images is_told).told ∙ is_told)) (λ image step. step_goes first p.blocks (added_by_all p.taken) j image p.blocks_are step))

@@ -70,3 +70,7 @@ pub record AppendsAll {D : Type 0} (now : D → ℕ) (disk : D → ℕ → Optio
   -- Where it came to its end and the fold adds no block, the disk is as it was.
   pub unwritten : is_ok result ≡ true → added_by_all fold.taken ≡ [] → Stays now disk old new
   pub ended : IfOk result (HasEnded (disk new (now new)) left blocks fold)
+
+-- The image stands for these blocks, and any blocks after them.
+abbrev pub GoesFrom : List Block → List ℕ → Type 0
+GoesFrom blocks image = (more : List Block) × (chain_in image ≡ Some (blocks ++ more))

@@ -8,7 +8,8 @@ ghost use Rattle.block_codec.specs.declared.limits.TheConstants.{MAX_FRAMES};
 ghost use Rattle.chain_exec.specs.Compiled.{compiled_in};
 ghost use Rattle.scan_chain.specs.Folding.{fold_from};
 ghost use Rattle.recovery.specs.Node.{IsNodeOf};
-ghost use Rattle.chain_append.specs.Appending.{AppendsAll};
+ghost use Rattle.disk_model.specs.Disk.{Keeps};
+ghost use Rattle.chain_append.specs.Appending.{AppendsAll, GoesFrom, IsTold};
 
 use crate::ending::{AppendEnd, AppendStop};
 use crate::taking::{cause_of, take_frame};
@@ -32,6 +33,8 @@ pub fn append<I: Source, M: Disk + Wire>(
     // Where the source tells what it has left, the frames are taken, and told, as they fold.
     ensures appends { (blocks : List Block) (input : List ℕ) → IsNodeOf node (M.disk machine.old (M.now machine.old)) blocks → I.left source.old ≡ Some input
         → AppendsAll M.now M.disk M.told machine.old machine.new (I.left source.new) blocks (fold_from block_in compiled_in (MAX_FRAMES + 1) blocks input) result }
+    // Whether the source tells or not: a crash at any moment leaves the chain from before, and any blocks after it.
+    ensures goes_on { (blocks : List Block) → IsNodeOf node (M.disk machine.old (M.now machine.old)) blocks → IsTold (M.disk machine.old (M.now machine.old)) → Keeps M.now M.disk machine.old machine.new (GoesFrom blocks) }
     // A source, a disk or a wire is blamed only where it failed.
     ensures unreadable { HasCause (I.source_faults source.old) (I.source_faults source.new) (IsErrOf result AppendStop.Unreadable) }
     ensures disk_fault { HasCause (M.disk_faults machine.old) (M.disk_faults machine.new) (IsErrOf result AppendStop.DiskFault) }

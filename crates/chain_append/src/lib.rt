@@ -5,8 +5,10 @@
 mod appending;
 mod ending;
 mod lines;
+mod starting;
 mod taking;
 mod telling;
 
 pub use appending::append;
 pub use ending::{AppendEnd, AppendStop};
+pub use starting::start;

@@ -5,3 +5,5 @@ pub mod OneOutput
 pub mod Formatted
 pub mod Runs
 pub mod Asked
+pub mod Ends
+pub mod Moments

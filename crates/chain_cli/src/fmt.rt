@@ -1,13 +1,15 @@
 //! The command `fmt`: the canonical text of a contract, or its first fault.
 
 ghost use Rattle.lc_base.specs.Faults.{HasCause};
-ghost use Rattle.std.specs.Prelude.{◌≡◌, ◌≤◌, ℕ, List, [], ◌∷◌, ◌++◌, length, string_bytes, IfOk, IfSome, OnOk, IsErrOf};
+ghost use Rattle.std.specs.Prelude.{◌≡◌, ◌≤◌, ℕ, List, [], ◌∷◌, ◌++◌, length, string_bytes, Some, IfOk, IfSome, OnOk, IsErrOf};
 ghost use Rattle.contract_tree.specs.Tree.{contract_of};
 ghost use Rattle.contract_check.specs.Faults.{check_fault};
 ghost use Rattle.chain_lines.specs.declared.whole.TheConstants.{MAX_WHOLE_INPUT_BYTES};
 ghost use Rattle.chain_lines.specs.Lines.{syntax_word, syntax_cause, check_word, check_cause};
-ghost use Rattle.chain_lines.specs.Outcome.{bad_input};
+ghost use Rattle.chain_lines.specs.Outcome.{status_of, bad_input};
+ghost use Rattle.chain_words.specs.declared.words.Command.TheVariants.{Fmt};
 ghost use Rattle.chain_output.specs.Output.{fmt_outcome, IsFmt, output_of};
+ghost use Rattle.chain_output.specs.Running.{MayEnd};
 ghost use Rattle.chain_output.specs.Scanning.{IsFmtOutcome};
 ghost use Rattle.chain_output.specs.Texts.{last_line, lines_after, lines_of};
 
@@ -142,6 +144,7 @@ fn source_outcome(alloc: Global, source: &[u8]) -> Result<Outcome, Memory>
 /// The canonical text of the contract that the input is, or its first fault.
 pub fn fmt<I: Source>(alloc: Global, source: &mut I) -> Result<Outcome, Stop>
     ensures outcome { IfSome (I.left source.old) (λ input. IfOk result (λ outcome. IsFmtOutcome outcome (I.left source.new) input)) }
+    ensures ends { IfOk result (λ outcome. MayEnd (status_of outcome.ending) (Some Fmt)) }
     ensures cause { HasCause (I.source_faults source.old) (I.source_faults source.new) (IsErrOf result Stop.Fault) }
 {
     match read_whole(alloc, source)? {

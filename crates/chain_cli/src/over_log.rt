@@ -1,25 +1,29 @@
 //! The commands over the log: `append`, `root`, and the questions `hist`, `back` and `fwd`.
 
-ghost use Rattle.std.specs.Prelude.{◌≡◌, ℕ, List, [], ◌∷◌, Option, Some, IfOk, IsErrOf};
+ghost use Rattle.std.specs.Prelude.{◌≡◌, ℕ, true, List, [], ◌∷◌, Option, Some, IfOk, IsErrOf};
 ghost use Rattle.lc_base.specs.Faults.{HasCause};
 ghost use Rattle.lc_outside.specs.Disk.{Stays};
-ghost use Rattle.disk_model.specs.Disk.{IsSettled};
+ghost use Rattle.disk_model.specs.Disk.{IsSettled, Keeps, content_of};
 ghost use Rattle.block_codec.specs.Reading.{block_in};
 ghost use Rattle.block_codec.specs.declared.block.Block.{Block as Blocks};
 ghost use Rattle.block_log.specs.Standing.{NextBlock};
 ghost use Rattle.chain_exec.specs.Compiled.{compiled_in};
 ghost use Rattle.chain_state.specs.Chain.{StandsFor};
+ghost use Rattle.recovery.specs.Node.{next_in_chain};
 ghost use Rattle.recovery.specs.declared.errors.StartError.TheVariants as starts;
+ghost use Rattle.chain_promises.specs.Promises.{MayLeaveAny};
 ghost use Rattle.chain_lines.specs.Lines.{not_a_log_line, damaged_line};
-ghost use Rattle.chain_lines.specs.Outcome.{outcome_with};
+ghost use Rattle.chain_lines.specs.Outcome.{status_of, outcome_with};
 ghost use Rattle.chain_lines.specs.declared.outcome.Outcome.{Outcome as Outcomes};
+ghost use Rattle.chain_words.specs.declared.words.Command.{Command};
 ghost use Rattle.chain_words.specs.declared.words.Command.TheVariants.{Append, Root, Ask};
-ghost use Rattle.chain_output.specs.Output.{beyond_outcome, answer_outcome, root_outcome, at_or_last};
-ghost use Rattle.chain_output.specs.Running.{IsRun, IsSilent};
+ghost use Rattle.chain_output.specs.Output.{beyond_outcome, answer_outcome, root_outcome, at_or_last, uses_disk};
+ghost use Rattle.chain_output.specs.Running.{IsRun, IsSilent, MayEnd, found_no_log};
+ghost use Rattle.chain_output.specs.Scanning.{EndsAsked};
 ghost use Rattle.chain_output.specs.Telling.{Says, TellsStart, append_answer, status_of_result};
 
 use crate::scan::whole_outcome;
-use chain_append::{AppendEnd, AppendStop, append as append_frames};
+use chain_append::{AppendEnd, AppendStop, append as append_frames, start};
 use chain_lines::{
     Ending, Outcome, damaged_line, empty_line, head_line, not_a_log_line, root_line,
 };
@@ -48,6 +52,7 @@ fn damaged(alloc: Global, at: u64) -> Result<Outcome, Memory>
 /// Tells an outcome, unless there was no memory for it.
 fn tell_made<M: Wire>(machine: &mut M, outcome: Result<Outcome, Memory>) -> Result<Ending, RunStop>
     ensures says { (next : NextBlock) (wanted : Outcomes) → IfOk outcome (λ o. o ≡ wanted) → Says next M.now M.disk M.told machine.old machine.new wanted result }
+    ensures ends { (command : Option Command) → IfOk outcome (λ o. MayEnd (status_of o.ending) command) → MayEnd (status_of_result result) command }
     ensures silent { IsSilent (status_of_result result) (M.told machine.old) (M.told machine.new) }
     ensures reads { IsErrOf result RunStop.Unreadable → ⊥ }
     ensures writes { IsErrOf result RunStop.DiskFault → ⊥ }
@@ -64,9 +69,11 @@ fn tell_made<M: Wire>(machine: &mut M, outcome: Result<Outcome, Memory>) -> Resu
 /// Tells that there is no node to start with, or says why the disk was not read.
 fn tell_start<M: Wire>(alloc: Global, machine: &mut M, error: StartError) -> Result<Ending, RunStop>
     ensures says { (next : NextBlock) → TellsStart next M.now M.disk M.told machine.old machine.new error result }
+    ensures ends { (command : Option Command) → uses_disk command ≡ true → MayEnd (status_of_result result) command }
     ensures silent { IsSilent (status_of_result result) (M.told machine.old) (M.told machine.new) }
     ensures reads { IsErrOf result RunStop.Unreadable → ⊥ }
     ensures disk_fault { IsErrOf result RunStop.DiskFault → error ≡ starts.DiskFault }
+    ensures blamed { error ≡ starts.DiskFault → IsErrOf result RunStop.DiskFault }
     ensures disk { Stays M.now M.disk machine.old machine.new }
     ensures disk_faults { M.disk_faults machine.new ≡ M.disk_faults machine.old }
     ensures cause { HasCause (M.wire_faults machine.old) (M.wire_faults machine.new) (IsErrOf result RunStop.Untold) }
@@ -101,11 +108,14 @@ pub fn append<I: Source, M: Disk + Wire>(
 ) -> Result<Ending, RunStop>
     requires settled { IsSettled (M.disk machine.old (M.now machine.old)) }
     ensures run { IsRun M.now M.disk M.told machine.old machine.new (status_of_result result) (I.left source.old) (I.left source.new) block_in compiled_in (Some Append) }
+    ensures goes_on { (content : List ℕ) → content_of (M.disk machine.old (M.now machine.old)) ≡ Some content → Keeps M.now M.disk machine.old machine.new (MayLeaveAny next_in_chain content) }
+    ensures ends { MayEnd (status_of_result result) (Some Append) }
+    ensures no_log { found_no_log (status_of_result result) ≡ true → source.new ≡ source.old }
     ensures unreadable { HasCause (I.source_faults source.old) (I.source_faults source.new) (IsErrOf result RunStop.Unreadable) }
     ensures disk_fault { HasCause (M.disk_faults machine.old) (M.disk_faults machine.new) (IsErrOf result RunStop.DiskFault) }
     ensures untold { HasCause (M.wire_faults machine.old) (M.wire_faults machine.new) (IsErrOf result RunStop.Untold) }
 {
-    match Node::start(alloc, machine) {
+    match start(alloc, machine) {
         Ok(node) => append_answer(append_frames(alloc, source, machine, node)),
         Err(error) => tell_start(alloc, machine, error),
     }
@@ -113,7 +123,8 @@ pub fn append<I: Source, M: Disk + Wire>(
 
 /// A block past the head was asked for, or there is none.
 fn beyond(alloc: Global, head: Option<u32>) -> Result<Outcome, Memory>
-    ensures { IfOk result (λ outcome. outcome ≡ beyond_outcome head) }
+    ensures outcome { IfOk result (λ outcome. outcome ≡ beyond_outcome head) }
+    ensures ends { IfOk result (λ outcome. EndsAsked outcome.ending) }
 {
     match head {
         None => Outcome::from_line(alloc, empty_line(alloc)?, Ending::Beyond),
@@ -130,7 +141,8 @@ fn last_answer(
     at: Option<u32>,
     chain: Chain,
 ) -> Result<Outcome, Memory>
-    ensures { IfOk result (λ outcome. (blocks : List Blocks) → StandsFor chain blocks → outcome ≡ answer_outcome compiled_in (record { kind = kind; key = key; at = at_or_last at blocks }) blocks) }
+    ensures outcome { IfOk result (λ outcome. (blocks : List Blocks) → StandsFor chain blocks → outcome ≡ answer_outcome compiled_in (record { kind = kind; key = key; at = at_or_last at blocks }) blocks) }
+    ensures ends { IfOk result (λ outcome. EndsAsked outcome.ending) }
 {
     let at = at.unwrap_or(chain.len().saturating_sub(1));
     whole_outcome(alloc, &Query { kind, key, at }, chain)
@@ -146,6 +158,7 @@ pub fn ask<M: Disk + Wire>(
 ) -> Result<Ending, RunStop>
     requires settled { IsSettled (M.disk machine.old (M.now machine.old)) }
     ensures run { (left : Option (List ℕ)) → IsRun M.now M.disk M.told machine.old machine.new (status_of_result result) left left block_in compiled_in (Some (Ask kind key at)) }
+    ensures ends { MayEnd (status_of_result result) (Some (Ask kind key at)) }
     ensures silent { IsSilent (status_of_result result) (M.told machine.old) (M.told machine.new) }
     ensures reads { IsErrOf result RunStop.Unreadable → ⊥ }
     ensures disk { Stays M.now M.disk machine.old machine.new }
@@ -160,7 +173,8 @@ pub fn ask<M: Disk + Wire>(
 
 /// The root at a block of a node's chain; where none is named, at the last one.
 fn root_outcome(alloc: Global, at: Option<u32>, node: &Node) -> Result<Outcome, Memory>
-    ensures { IfOk result (λ outcome. (blocks : List Blocks) → StandsFor node.now.chain blocks → outcome ≡ root_outcome compiled_in (at_or_last at blocks) blocks) }
+    ensures outcome { IfOk result (λ outcome. (blocks : List Blocks) → StandsFor node.now.chain blocks → outcome ≡ root_outcome compiled_in (at_or_last at blocks) blocks) }
+    ensures ends { IfOk result (λ outcome. EndsAsked outcome.ending) }
 {
     let count = node.blocks();
     if count == 0 {
@@ -175,7 +189,8 @@ fn root_outcome(alloc: Global, at: Option<u32>, node: &Node) -> Result<Outcome, 
 
 /// The same of a node that is given up.
 fn last_root(alloc: Global, at: Option<u32>, node: Node) -> Result<Outcome, Memory>
-    ensures { IfOk result (λ outcome. (blocks : List Blocks) → StandsFor node.chain blocks → outcome ≡ root_outcome compiled_in (at_or_last at blocks) blocks) }
+    ensures outcome { IfOk result (λ outcome. (blocks : List Blocks) → StandsFor node.chain blocks → outcome ≡ root_outcome compiled_in (at_or_last at blocks) blocks) }
+    ensures ends { IfOk result (λ outcome. EndsAsked outcome.ending) }
 {
     let outcome = root_outcome(alloc, at, &node);
     node.give_up();
@@ -190,6 +205,7 @@ pub fn root<M: Disk + Wire>(
 ) -> Result<Ending, RunStop>
     requires settled { IsSettled (M.disk machine.old (M.now machine.old)) }
     ensures run { (left : Option (List ℕ)) → IsRun M.now M.disk M.told machine.old machine.new (status_of_result result) left left block_in compiled_in (Some (Root at)) }
+    ensures ends { MayEnd (status_of_result result) (Some (Root at)) }
     ensures silent { IsSilent (status_of_result result) (M.told machine.old) (M.told machine.new) }
     ensures reads { IsErrOf result RunStop.Unreadable → ⊥ }
     ensures disk { Stays M.now M.disk machine.old machine.new }

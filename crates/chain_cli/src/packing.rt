@@ -1,10 +1,13 @@
 //! The command `pack`: the block file of a draft, or its first fault.
 
-ghost use Rattle.std.specs.Prelude.{◌≡◌, map, IfOk, IfSome, IsErrOf};
+ghost use Rattle.std.specs.Prelude.{◌≡◌, map, Some, IfOk, IfSome, IsErrOf};
 ghost use Rattle.lc_base.specs.Faults.{HasCause};
+ghost use Rattle.chain_lines.specs.Outcome.{status_of};
 ghost use Rattle.chain_pack.specs.Draft.{packed};
+ghost use Rattle.chain_words.specs.declared.words.Command.TheVariants.{Pack};
 ghost use Rattle.chain_output.specs.Blocks.{frame, draft_outcome, TellsFault};
 ghost use Rattle.chain_output.specs.Output.{pack_output};
+ghost use Rattle.chain_output.specs.Running.{MayEnd};
 ghost use Rattle.chain_output.specs.Scanning.{GivesOutput};
 
 use byte_fields::put_u32;
@@ -75,6 +78,7 @@ fn draft_outcome(alloc: Global, draft: &[u8]) -> Result<Outcome, Memory>
 /// The block file of the draft that the input is, or its first fault.
 pub fn pack<I: Source>(alloc: Global, source: &mut I) -> Result<Outcome, Stop>
     ensures outcome { IfSome (I.left source.old) (λ input. IfOk result (λ outcome. GivesOutput outcome (I.left source.new) (pack_output input))) }
+    ensures ends { IfOk result (λ outcome. MayEnd (status_of outcome.ending) (Some Pack)) }
     ensures cause { HasCause (I.source_faults source.old) (I.source_faults source.new) (IsErrOf result Stop.Fault) }
 {
     match read_whole(alloc, source)? {

@@ -1,17 +1,19 @@
 //! The top call: everything that the program does.
 
-ghost use Rattle.std.specs.Prelude.{◌≡◌, ℕ, List, Option, Some, None, map, string_bytes, true, false, IsErrOf};
-ghost use Rattle.lc_base.specs.Faults.{HasCause, Rose};
+ghost use Rattle.std.specs.Prelude.{◌≡◌, ℕ, List, Option, Some, map, string_bytes, true, false, IsErrOf};
+ghost use Rattle.lc_base.specs.Faults.{HasCause};
 ghost use Rattle.lc_outside.specs.Disk.{Stays};
-ghost use Rattle.disk_model.specs.Disk.{IsSettled};
+ghost use Rattle.disk_model.specs.Disk.{IsSettled, Keeps, content_of};
 ghost use Rattle.byte_fields.specs.Spelling.{IsBytes};
 ghost use Rattle.block_codec.specs.Reading.{block_in};
 ghost use Rattle.block_codec.specs.Spelling.{Decoder, IsDecoder};
 ghost use Rattle.chain_exec.specs.Compiled.{Compiler, IsCompiler, compiled_in};
 ghost use Rattle.chain_words.specs.declared.words.Command.{Command as Commands};
+ghost use Rattle.recovery.specs.Node.{next_in_chain};
+ghost use Rattle.chain_promises.specs.Promises.{MayLeaveAny};
 ghost use Rattle.chain_words.specs.Words.{IsCommand, IsOneCommand};
-ghost use Rattle.chain_output.specs.Output.{FormatsAgain, IsWanted, IsOneOutput, reads_input, uses_disk, changes_log, tells_as_it_goes};
-ghost use Rattle.chain_output.specs.Running.{IsRun, IsSilent};
+ghost use Rattle.chain_output.specs.Output.{FormatsAgain, IsWanted, IsOneOutput, next_by, reads_input, uses_disk, changes_log, tells_as_it_goes};
+ghost use Rattle.chain_output.specs.Running.{IsRun, IsSilent, MayEnd, found_no_log};
 ghost use Rattle.chain_output.specs.Telling.{status_of_result};
 
 use crate::fmt::fmt;
@@ -38,8 +40,11 @@ fn run_command<I: Source, M: Disk + Wire>(
     ensures untouched { changes_log (Some command.now) ≡ false → Stays M.now M.disk machine.old machine.new }
     ensures silent { tells_as_it_goes (Some command.now) ≡ false → IsSilent (status_of_result result) (M.told machine.old) (M.told machine.new) }
     ensures unread { reads_input (Some command.now) ≡ false → source.new ≡ source.old }
-    ensures reads { IsErrOf result RunStop.Unreadable → reads_input (Some command.now) ≡ true }
-    ensures writes { IsErrOf result RunStop.DiskFault → uses_disk (Some command.now) ≡ true }
+    ensures goes_on { changes_log (Some command.now) ≡ true → (content : List ℕ) → content_of (M.disk machine.old (M.now machine.old)) ≡ Some content
+        → Keeps M.now M.disk machine.old machine.new (MayLeaveAny next_in_chain content) }
+    ensures unused { uses_disk (Some command.now) ≡ false → M.disk_faults machine.new ≡ M.disk_faults machine.old }
+    ensures ends { MayEnd (status_of_result result) (Some command.now) }
+    ensures no_log { found_no_log (status_of_result result) ≡ true → source.new ≡ source.old }
     ensures unreadable { HasCause (I.source_faults source.old) (I.source_faults source.new) (IsErrOf result RunStop.Unreadable) }
     ensures untold { HasCause (M.wire_faults machine.old) (M.wire_faults machine.new) (IsErrOf result RunStop.Untold) }
     ensures disk_fault { HasCause (M.disk_faults machine.old) (M.disk_faults machine.new) (IsErrOf result RunStop.DiskFault) }
@@ -67,10 +72,14 @@ fn run_words<I: Source, M: Disk + Wire>(
     ensures untouched { changes_log command ≡ false → Stays M.now M.disk machine.old machine.new }
     ensures silent { tells_as_it_goes command ≡ false → IsSilent result (M.told machine.old) (M.told machine.new) }
     ensures unread { reads_input command ≡ false → source.new ≡ source.old }
-    ensures usage { result ≡ Status.Usage → command ≡ None }
-    ensures unreadable { result ≡ Status.Unreadable → (reads_input command ≡ true) × Rose (I.source_faults source.old) (I.source_faults source.new) }
-    ensures untold { result ≡ Status.Untold → Rose (M.wire_faults machine.old) (M.wire_faults machine.new) }
-    ensures disk_fault { result ≡ Status.DiskFault → (uses_disk command ≡ true) × Rose (M.disk_faults machine.old) (M.disk_faults machine.new) }
+    ensures goes_on { changes_log command ≡ true → (content : List ℕ) → content_of (M.disk machine.old (M.now machine.old)) ≡ Some content
+        → Keeps M.now M.disk machine.old machine.new (MayLeaveAny next_in_chain content) }
+    ensures unused { uses_disk command ≡ false → M.disk_faults machine.new ≡ M.disk_faults machine.old }
+    ensures ends { MayEnd result command }
+    ensures no_log { found_no_log result ≡ true → source.new ≡ source.old }
+    ensures unreadable { HasCause (I.source_faults source.old) (I.source_faults source.new) (result ≡ Status.Unreadable) }
+    ensures untold { HasCause (M.wire_faults machine.old) (M.wire_faults machine.new) (result ≡ Status.Untold) }
+    ensures disk_fault { HasCause (M.disk_faults machine.old) (M.disk_faults machine.new) (result ≡ Status.DiskFault) }
 {
     match command {
         None => match tell_usage(alloc, machine) {
@@ -107,31 +116,34 @@ pub fn run<I: Source, M: Disk + Wire>(
         → IsOneOutput (IsWanted command input content) }
     // The canonical text that `fmt` tells, it tells again of that text.
     ensures formats_again { (input : List ℕ) → FormatsAgain input }
+    // Whatever the source has left, where the disk is told: a crash at any moment leaves what it held, or
+    // the chain of that with further blocks.
+    ensures goes_on { (read : Decoder) × IsDecoder read × ((compile : Compiler) × IsCompiler compile
+        × ((content : List ℕ) → content_of (M.disk machine.old (M.now machine.old)) ≡ Some content
+        → Keeps M.now M.disk machine.old machine.new (MayLeaveAny (next_by read compile) content))) }
     // Whatever the source has left and the disk holds: a command that does not change the log leaves
     // the disk as it is;
     ensures untouched { (command : Option Commands) → IsCommand (map string_bytes words.now) command
         → changes_log command ≡ false → Stays M.now M.disk machine.old machine.new }
+    // in one that does not use the disk no call of it fails;
+    ensures unused { (command : Option Commands) → IsCommand (map string_bytes words.now) command
+        → uses_disk command ≡ false → M.disk_faults machine.new ≡ M.disk_faults machine.old }
     // one that reads no input leaves the source as it is;
     ensures unread { (command : Option Commands) → IsCommand (map string_bytes words.now) command
         → reads_input command ≡ false → source.new ≡ source.old }
+    // and so does one that found no log that it could read;
+    ensures no_log { found_no_log result ≡ true → source.new ≡ source.old }
     // one that could not read, or that runs out of memory, told nothing, unless it tells lines while it
     // makes others;
     ensures silent { (command : Option Commands) → IsCommand (map string_bytes words.now) command
         → tells_as_it_goes command ≡ false → IsSilent result (M.told machine.old) (M.told machine.new) }
-    // `usage` comes only where the words are no command;
-    ensures usage { result ≡ Status.Usage → IsCommand (map string_bytes words.now) None }
-    // and a source, a wire or a disk is blamed only where it failed, a source in a command that reads
-    // it, and a disk in one that uses it.
-    ensures unreadable { result ≡ Status.Unreadable
-        → Rose (I.source_faults source.old) (I.source_faults source.new)
-        × ((command : Option Commands) → IsCommand (map string_bytes words.now) command
-        → reads_input command ≡ true) }
-    ensures untold { result ≡ Status.Untold
-        → Rose (M.wire_faults machine.old) (M.wire_faults machine.new) }
-    ensures disk_fault { result ≡ Status.DiskFault
-        → Rose (M.disk_faults machine.old) (M.disk_faults machine.new)
-        × ((command : Option Commands) → IsCommand (map string_bytes words.now) command
-        → uses_disk command ≡ true) }
+    // a status comes only of the commands that may end with it;
+    ensures ends { (command : Option Commands) → IsCommand (map string_bytes words.now) command
+        → MayEnd result command }
+    // and a source, a wire or a disk is blamed where it failed, and only there.
+    ensures unreadable { HasCause (I.source_faults source.old) (I.source_faults source.new) (result ≡ Status.Unreadable) }
+    ensures untold { HasCause (M.wire_faults machine.old) (M.wire_faults machine.new) (result ≡ Status.Untold) }
+    ensures disk_fault { HasCause (M.disk_faults machine.old) (M.disk_faults machine.new) (result ≡ Status.DiskFault) }
 {
     let command = command_of(words);
     run_words(alloc, command, source, machine)

@@ -1,15 +1,17 @@
 //! The command `scan`: a question answered over the blocks of an input.
 
 ghost use Rattle.lc_base.specs.Faults.{HasCause};
-ghost use Rattle.std.specs.Prelude.{◌≡◌, [], ◌∷◌, IfOk, IfSome, List, IsErrOf};
+ghost use Rattle.std.specs.Prelude.{◌≡◌, [], ◌∷◌, IfOk, IfSome, List, Some, IsErrOf};
 ghost use Rattle.block_codec.specs.Reading.{block_in};
 ghost use Rattle.block_codec.specs.declared.block.Block.{Block as Blocks};
 ghost use Rattle.chain_state.specs.Chain.{StandsFor};
-ghost use Rattle.chain_lines.specs.Outcome.{outcome_with};
+ghost use Rattle.chain_lines.specs.Outcome.{status_of, outcome_with};
+ghost use Rattle.chain_words.specs.declared.words.Command.TheVariants.{Scan};
 ghost use Rattle.chain_output.specs.Output.{answer_outcome, scan_output};
 ghost use Rattle.chain_exec.specs.Compiled.{compiled_in};
 ghost use Rattle.scan_chain.specs.Folding.{fold_input};
-ghost use Rattle.chain_output.specs.Scanning.{GivesOutput};
+ghost use Rattle.chain_output.specs.Running.{MayEnd};
+ghost use Rattle.chain_output.specs.Scanning.{GivesOutput, EndsAsked};
 ghost use Rattle.chain_lines.specs.Lines.{refused_line};
 
 use chain_lines::{Ending, Outcome, answer_lines, empty_line, head_line, refused_line};
@@ -28,7 +30,8 @@ fn refused(alloc: Global, frame: u32, cause: &Cause) -> Result<Outcome, Memory>
 
 /// The answer over the rows of a chain, if it is asked for up to one of its blocks.
 fn answer_outcome(alloc: Global, query: &Query, chain: &mut Chain) -> Result<Outcome, Memory>
-    ensures { IfOk result (λ outcome. (blocks : List Blocks) → StandsFor chain.old blocks → outcome ≡ answer_outcome compiled_in query.now blocks) }
+    ensures outcome { IfOk result (λ outcome. (blocks : List Blocks) → StandsFor chain.old blocks → outcome ≡ answer_outcome compiled_in query.now blocks) }
+    ensures ends { IfOk result (λ outcome. EndsAsked outcome.ending) }
 {
     let count = chain.len();
     if count == 0 {
@@ -46,7 +49,8 @@ fn answer_outcome(alloc: Global, query: &Query, chain: &mut Chain) -> Result<Out
 
 /// The same of a chain that is given up.
 pub fn whole_outcome(alloc: Global, query: &Query, chain: Chain) -> Result<Outcome, Memory>
-    ensures { IfOk result (λ outcome. (blocks : List Blocks) → StandsFor chain blocks → outcome ≡ answer_outcome compiled_in query.now blocks) }
+    ensures outcome { IfOk result (λ outcome. (blocks : List Blocks) → StandsFor chain blocks → outcome ≡ answer_outcome compiled_in query.now blocks) }
+    ensures ends { IfOk result (λ outcome. EndsAsked outcome.ending) }
 {
     let mut chain = chain;
     let outcome = answer_outcome(alloc, query, &mut chain);
@@ -57,6 +61,7 @@ pub fn whole_outcome(alloc: Global, query: &Query, chain: Chain) -> Result<Outco
 /// The answer to a question over the blocks of an input.
 pub fn scan<I: Source>(alloc: Global, query: &Query, source: &mut I) -> Result<Outcome, Stop>
     ensures outcome { IfSome (I.left source.old) (λ input. IfOk result (λ outcome. GivesOutput outcome (I.left source.new) (scan_output compiled_in query.now (fold_input block_in compiled_in input)))) }
+    ensures ends { IfOk result (λ outcome. MayEnd (status_of outcome.ending) (Some (Scan query.now))) }
     ensures cause { HasCause (I.source_faults source.old) (I.source_faults source.new) (IsErrOf result Stop.Fault) }
 {
     match fold(alloc, source)? {

@@ -6,11 +6,11 @@ use Rattle.lc_outside.specs.Outside.{prepend}
 use Rattle.chain_lines.specs.declared.whole.TheConstants.{MAX_WHOLE_INPUT_BYTES}
 use Rattle.chain_lines.specs.Whole.{IsWholeInput}
 
--- what was left at first is what was read so far, and what is left now
+-- what was left at first is what was read so far, and what is left now; no pull has failed
 pub record IsReading (first now : Option (List ℕ)) (faults_first faults_now : ℕ) (bytes : List ℕ) : Type 0 where
   pub taken : first ≡ prepend bytes now
   pub short : length bytes ≤ MAX_WHOLE_INPUT_BYTES
-  pub later : faults_first ≤ faults_now
+  pub still : faults_now ≡ faults_first
 
 -- what follows two pieces of so many bytes
 after : (k : ℕ) (bytes piece rest : List ℕ) → length bytes + length piece ≡ k → drop k (bytes ++ (piece ++ rest)) ≡ rest

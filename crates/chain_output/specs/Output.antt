@@ -240,6 +240,39 @@ changes_log (Some Append) = true
 changes_log (Some (Root at)) = false
 changes_log (Some (Ask kind key at)) = false
 
+-- Whether it takes frames of blocks.
+abbrev pub takes_frames : Option Command → Bool
+takes_frames None = false
+takes_frames (Some (Scan query)) = true
+takes_frames (Some Fmt) = false
+takes_frames (Some Pack) = false
+takes_frames (Some (Gen generation)) = false
+takes_frames (Some Append) = true
+takes_frames (Some (Root at)) = false
+takes_frames (Some (Ask kind key at)) = false
+
+-- Whether it asks for a block of a chain.
+abbrev pub asks_for_block : Option Command → Bool
+asks_for_block None = false
+asks_for_block (Some (Scan query)) = true
+asks_for_block (Some Fmt) = false
+asks_for_block (Some Pack) = false
+asks_for_block (Some (Gen generation)) = false
+asks_for_block (Some Append) = false
+asks_for_block (Some (Root at)) = true
+asks_for_block (Some (Ask kind key at)) = true
+
+-- Whether it reads the input whole, as a text.
+abbrev pub reads_whole : Option Command → Bool
+reads_whole None = false
+reads_whole (Some (Scan query)) = false
+reads_whole (Some Fmt) = true
+reads_whole (Some Pack) = true
+reads_whole (Some (Gen generation)) = false
+reads_whole (Some Append) = false
+reads_whole (Some (Root at)) = false
+reads_whole (Some (Ask kind key at)) = false
+
 -- Whether it tells lines while it makes others.
 abbrev pub tells_as_it_goes : Option Command → Bool
 tells_as_it_goes None = false

@@ -1,6 +1,6 @@
 -- What a run is to tell, and to leave of the disk and of the input, at each moment.
 use Rattle.std.specs.Prelude.{◌≡◌, ℕ, Bool, true, false, List, [], ◌∷◌, Option, Some, None}
-use Rattle.std.specs.Option.{option_map}
+use Rattle.std.specs.Option.{option_map, is_some}
 use Rattle.lc_outside.specs.Disk.{DiskState, Stays}
 use Rattle.lc_outside.specs.Outside.{Tell}
 use Rattle.disk_model.specs.Disk.{Keeps, Rests, content_of}
@@ -11,7 +11,7 @@ use Rattle.chain_promises.specs.Promises.{Change, NoChange, Appends, Telling, Ma
 use Rattle.chain_words.specs.declared.words.Command.{Command}
 use Rattle.chain_lines.specs.declared.status.Status.{Status}
 use Rattle.chain_lines.specs.declared.status.Status.TheVariants as statuses
-use Rattle.chain_output.specs.Output.{Output, Wants, next_by, reads_input, uses_disk}
+use Rattle.chain_output.specs.Output.{Output, Wants, next_by, reads_input, uses_disk, takes_frames, asks_for_block, reads_whole}
 
 -- Whether a run with this status came to its end: nothing outside failed, and memory did not run out.
 abbrev pub came_to_end : Status → Bool
@@ -26,6 +26,35 @@ came_to_end statuses.Damaged = true
 came_to_end statuses.Refused = true
 came_to_end statuses.Beyond = true
 came_to_end statuses.BadInput = true
+
+-- Which commands may end with a status. Every one may be out of memory, or have a wire that fails.
+abbrev pub MayEnd : Status → Option Command → Type 0
+MayEnd statuses.Done command = is_some command ≡ true
+MayEnd statuses.Usage command = command ≡ None
+MayEnd statuses.Unreadable command = reads_input command ≡ true
+MayEnd statuses.Untold command = Unit {0}
+MayEnd statuses.DiskFault command = uses_disk command ≡ true
+MayEnd statuses.Memory command = Unit {0}
+MayEnd statuses.NotALog command = uses_disk command ≡ true
+MayEnd statuses.Damaged command = uses_disk command ≡ true
+MayEnd statuses.Refused command = takes_frames command ≡ true
+MayEnd statuses.Beyond command = asks_for_block command ≡ true
+MayEnd statuses.BadInput command = reads_whole command ≡ true
+
+-- Whether a run with this status found no log that it could read: the disk holds something else, or
+-- the log is damaged.
+abbrev pub found_no_log : Status → Bool
+found_no_log statuses.Done = false
+found_no_log statuses.Usage = false
+found_no_log statuses.Unreadable = false
+found_no_log statuses.Untold = false
+found_no_log statuses.DiskFault = false
+found_no_log statuses.Memory = false
+found_no_log statuses.NotALog = true
+found_no_log statuses.Damaged = true
+found_no_log statuses.Refused = false
+found_no_log statuses.Beyond = false
+found_no_log statuses.BadInput = false
 
 -- What is left of the input, where that is told.
 abbrev pub leaves : Option (List ℕ) → List ℕ → Option (List ℕ)

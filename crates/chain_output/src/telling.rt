@@ -1,13 +1,16 @@
 //! Telling what a command has to tell.
 
-ghost use Rattle.std.specs.Prelude.{◌≡◌, [], ◌∷◌, map, is_ok, IfErr, IsErr, IsErrOf, Err};
+ghost use Rattle.std.specs.Prelude.{◌≡◌, [], ◌∷◌, map, is_ok, true, IfOk, IfErr, IsErr, IsErrOf, Option, Err};
 ghost use Rattle.lc_base.specs.Faults.{HasCause};
 ghost use Rattle.lc_outside.specs.Disk.{Stays};
 ghost use Rattle.block_log.specs.Standing.{NextBlock};
 ghost use Rattle.scan_chain.specs.declared.stop.Stop.TheVariants as stops;
 ghost use Rattle.chain_promises.specs.Promises.{plain, Telling};
 ghost use Rattle.chain_lines.specs.Lines.{usage_line};
-ghost use Rattle.chain_output.specs.Running.{IsSilent};
+ghost use Rattle.chain_lines.specs.Outcome.{status_of};
+ghost use Rattle.chain_words.specs.declared.words.Command.{Command};
+ghost use Rattle.chain_output.specs.Output.{reads_input};
+ghost use Rattle.chain_output.specs.Running.{IsSilent, MayEnd};
 ghost use Rattle.chain_output.specs.Telling.{Says, TellsResult, status_of_result, status_of_usage};
 
 use crate::stop::RunStop;
@@ -54,7 +57,9 @@ pub fn tell_result<M: Wire>(
 ) -> Result<Ending, RunStop>
     ensures says { (next : NextBlock) → TellsResult next M.now M.disk M.told machine.old machine.new outcome result }
     ensures silent { IsSilent (status_of_result result) (M.told machine.old) (M.told machine.new) }
+    ensures ends { (command : Option Command) → reads_input command ≡ true → IfOk outcome (λ outcome. MayEnd (status_of outcome.ending) command) → MayEnd (status_of_result result) command }
     ensures unreadable { IsErrOf result RunStop.Unreadable → outcome ≡ Err stops.Fault }
+    ensures unread { outcome ≡ Err stops.Fault → IsErrOf result RunStop.Unreadable }
     ensures writes { IsErrOf result RunStop.DiskFault → ⊥ }
     ensures disk { Stays M.now M.disk machine.old machine.new }
     ensures disk_faults { M.disk_faults machine.new ≡ M.disk_faults machine.old }

@@ -86,6 +86,11 @@ abbrev pub MayLeave : NextBlock → List ℕ → Change → List ℕ → Type 0
 MayLeave next content NoChange image = image ≡ content
 MayLeave next content (Appends added) image = (blocks : List Block) × (chain_of next content ≡ Some blocks) × IsPartly next blocks added image
 
+-- What a crash may leave whatever is appended: the content at first, or its chain with further
+-- blocks.
+abbrev pub MayLeaveAny : NextBlock → List ℕ → List ℕ → Type 0
+MayLeaveAny next content image = (change : Change) × MayLeave next content change image
+
 -- What a command that came to its end leaves: the content as it was, or its chain with all blocks
 -- that are appended.
 abbrev pub IsChanged : NextBlock → List ℕ → Change → List ℕ → Type 0

@@ -2,8 +2,16 @@
 #![tactic(auto)]
 
 #[cfg(test)]
+mod digests;
+#[cfg(test)]
 mod edges;
+#[cfg(test)]
+mod encoded;
 #[cfg(test)]
 mod entries;
 #[cfg(test)]
+mod limits;
+#[cfg(test)]
 mod texts;
+#[cfg(test)]
+mod written;

@@ -4,13 +4,12 @@ ghost use Rattle.std.specs.Prelude.{IfOk};
 ghost use Rattle.block_codec.specs.Spelling.{IsBlock};
 ghost use Rattle.chain_state.specs.Chain.{IsAfter};
 
-use crate::streams::source_of;
+use crate::streams::{PausingSource, source_of};
 use anyhow::{Result, bail};
 use block_codec::{Block, Frames, MAX_FRAMES, Placement, block_digest, decode};
 use chain_exec::BlockRun;
 use chain_state::{Chain, Replay};
 use lc_base::{Digest, Memory};
-use lc_outside::MemSource;
 use std::alloc::Global;
 use std::io::Write;
 
@@ -59,7 +58,7 @@ fn run_frame<W: Write>(alloc: Global, out: &mut W, chain: Chain, frame: &[u8]) -
 }
 
 /// Runs the blocks of the frames that a source gives.
-fn run_frames<W: Write>(alloc: Global, out: &mut W, source: &mut MemSource) -> Result<()> {
+fn run_frames<W: Write>(alloc: Global, out: &mut W, source: &mut PausingSource) -> Result<()> {
     let mut chain = Chain::new(alloc);
     let mut frames = Frames::new();
     for _ in 0..=MAX_FRAMES {

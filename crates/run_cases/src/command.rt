@@ -11,7 +11,7 @@ use std::io::Write;
 /// The calls of a case that fail: numbers with a comma between two.
 #[derive(Clone, Copy)]
 pub struct Failing<'a> {
-    /// Of the source.
+    /// Of the source; behind `pause ` those that give nothing.
     pub pulls: &'a str,
     /// Of the machine, over its disk and its wire.
     pub calls: &'a str,
@@ -117,5 +117,5 @@ pub fn run_command<W: Write>(alloc: Global, out: &mut W, case: &Case<'_>) -> Res
     let mut machine = machine_of(alloc, case.image.unwrap_or(""), calls)?;
     let words = words_of(alloc, case.words)?;
     let number = run(alloc, &words, &mut source, &mut machine).number();
-    print_outcome(alloc, out, case, number, source.rest().len(), &machine)
+    print_outcome(alloc, out, case, number, source.left(), &machine)
 }

@@ -1,12 +1,14 @@
 //! The source and the machine of a case, from the texts in its line.
 
-ghost use Rattle.std.specs.Prelude.{IfOk};
+ghost use Rattle.std.specs.Prelude.{◌<◌, ◌≤◌, length, None, IfOk, IsErr};
+ghost use Rattle.lc_base.specs.Faults.{HasCause};
+ghost use Rattle.lc_outside.specs.Outside.{Pulls};
 ghost use Rattle.disk_model.specs.Disk.{IsSettled};
 ghost use Rattle.disk_model.specs.Machine.{disk_of, now_of};
 
 use anyhow::{Context, Result};
 use disk_model::MemMachine;
-use lc_outside::{MemSource, Room};
+use lc_outside::{Failed, MemSource, Room, Source};
 use std::alloc::Global;
 
 /// Room for what a case tells and writes.
@@ -14,6 +16,47 @@ const ROOM: Room = Room {
     calls: 4096,
     bytes: 1_048_576,
 };
+
+/// What stands before the numbers of pulls that give nothing.
+const PAUSE: &str = "pause ";
+
+/// A source that gives nothing at some of its pulls, as at the end of an input, and then goes on, as
+/// a terminal may. So what it has left isn't told.
+#[derive(Drop)]
+pub struct PausingSource {
+    source: MemSource,
+    /// How many pulls there were.
+    pulls: u64,
+    /// The numbers of the pulls, from 0, that give nothing.
+    pauses: Vec<u64>,
+}
+
+impl PausingSource {
+    /// How many bytes are left.
+    pub fn left(&self) -> usize {
+        self.source.rest().len()
+    }
+}
+
+impl Source for PausingSource {
+    ghost left = { λ _. None };
+
+    ghost source_faults = { λ s. s.source.faults };
+
+    fn pull(&mut self, buffer: &mut [u8]) -> Result<usize, Failed>
+        requires { 0 < length buffer.old }
+        ensures bound { IfOk result (λ n. n ≤ length buffer.new) }
+        ensures bytes { Pulls None None result buffer.new }
+        ensures cause { HasCause self.old.source.faults self.new.source.faults (IsErr result) }
+    {
+        let number = self.pulls;
+        self.pulls = self.pulls.saturating_add(1);
+        if self.pauses.contains(&number) {
+            return Ok(0);
+        }
+        self.source.pull(buffer)
+    }
+}
 
 /// Adds a part: bytes in hex, or `HEX*COUNT` for that many times these bytes.
 fn add_part(alloc: Global, bytes: &mut Vec<u8>, part: &str) -> Result<()> {
@@ -46,14 +89,23 @@ fn numbers_of(alloc: Global, text: &str) -> Result<Vec<u64>> {
     Ok(numbers)
 }
 
-/// A source of an input, which gives at most `piece` bytes at once; the pulls of these numbers fail.
-pub fn source_of(alloc: Global, piece: &str, input: &str, pulls: &str) -> Result<MemSource> {
+/// A source of an input, which gives at most `piece` bytes at once. The pulls of these numbers fail;
+/// where the text begins with `pause`, they give nothing.
+pub fn source_of(alloc: Global, piece: &str, input: &str, pulls: &str) -> Result<PausingSource> {
     let piece = piece.parse::<usize>()?;
     let input = bytes_of(alloc, input)?;
-    let pulls = numbers_of(alloc, pulls)?;
-    MemSource::new(alloc, &input, piece.max(1), &pulls)
+    let (failing, pauses) = match pulls.strip_prefix(PAUSE) {
+        None => (numbers_of(alloc, pulls)?, Vec::new(alloc)),
+        Some(pauses) => (Vec::new(alloc), numbers_of(alloc, pauses)?),
+    };
+    let source = MemSource::new(alloc, &input, piece.max(1), &failing)
         .ok()
-        .context("no memory for the input")
+        .context("no memory for the input")?;
+    Ok(PausingSource {
+        source,
+        pulls: 0,
+        pauses,
+    })
 }
 
 /// A machine whose disk holds the bytes of an image, with nothing pending, and of which the calls of

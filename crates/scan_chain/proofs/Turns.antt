@@ -27,7 +27,7 @@ pub record IsLeft (input : List ℕ) (left : Option (List ℕ)) (count : ℕ) (c
 
 pub record IsFolding (first now : Option (List ℕ)) (faults_first faults_now taken : ℕ) (chain : ChainState) : Type 0 where
   pub bound : taken ≤ MAX_FRAMES
-  pub later : faults_first ≤ faults_now
+  pub still : faults_now ≡ faults_first
   pub told : (input : List ℕ) → first ≡ Some input → IsLeft input now taken chain
 
 no_blocks : StandsFor nothing_kept []
@@ -37,7 +37,7 @@ no_blocks = record { chained = λ i block within. absurd (omega arith); digests_
 pub begun : (left : Option (List ℕ)) (faults : ℕ) → IsFolding left left faults faults 0 nothing_kept
 begun left faults = record {
   bound = omega arith;
-  later = omega arith;
+  still = refl;
   told = λ input is. record { taken = []; rest = input; left_is = is; stands = no_blocks; same = refl };
 }
 
@@ -59,11 +59,11 @@ folded_turn taken blocks rest bound =
     ap (λ (n : ℕ). fold_from block_in compiled_in n blocks rest) e ∙ ap (λ (n : ℕ). fold_step block_in compiled_in (fold_from block_in compiled_in m) n blocks rest (frame_step n rest)) t
 
 pub taken_in : (first before now : Option (List ℕ)) (faults_first faults_before faults_now taken more : ℕ) (chain longer : ChainState) (look : Turn)
-    → IsFolding first before faults_first faults_before taken chain → look ≡ turns.Taken longer more → IfSome before (λ input. IsTurn chain taken input now look) → CountsFrames taken look → faults_before ≤ faults_now
+    → IsFolding first before faults_first faults_before taken chain → look ≡ turns.Taken longer more → IfSome before (λ input. IsTurn chain taken input now look) → CountsFrames taken look → faults_now ≡ faults_before
     → IsFolding first now faults_first faults_now more longer
-taken_in first before now faults_first faults_before faults_now taken more chain longer look so_far is_taken looked counted later = record {
+taken_in first before now faults_first faults_before faults_now taken more chain longer look so_far is_taken looked counted still = record {
   bound = (subst (CountsFrames taken) is_taken counted).1;
-  later = omega (arith, so_far.later, later);
+  still = still ∙ so_far.still;
   told = λ input is.
       let l = so_far.told input is in
       let here = subst (λ (t : Turn). IsTurn chain taken l.rest now t) is_taken (subst (λ (o : Option (List ℕ)). IfSome o (λ rest. IsTurn chain taken rest now look)) l.left_is looked) in

@@ -7,7 +7,7 @@ pub turns-init : goal.turns-init
 turns-init g c = record {
   generating = begins g.M.Clock.now g.M.Clock.disk g.M.Clock.told c.args.machine.now c.args.generation.now.seed c.args.generation.now.blocks c.new-generator.result _ c.new-generator.ensures.start c.new-generator.ensures.none refl;
   disk_faults = refl;
-  later = omega arith;
+  wire_faults = refl;
 }
 
 pub returns-in-Err-clause-lines : goal.returns-in-Err-clause-lines
@@ -27,5 +27,5 @@ turns-preserved g c = record {
   generating = next_told g.M.Clock.now g.M.Clock.disk g.M.Clock.told c.args.machine.now c.turns.machine c.tell_frame.new.machine c.args.generation.now.seed c.args.generation.now.blocks c.turns.generator c.in-Ok-Some.more c.turns.parent c.block_digest-parent.result c.in-Ok-Some.block c.as_bytes.result.now c.as_bytes-in-Ok-Some.result.now
       c.turns.invariant.generating (rw c.in-Ok-Some.field-0-is at c.in-Ok-Some.ensures.next) (rw c.in-Ok-Some.field-0-is at c.in-Ok-Some.ensures.goes_on) c.as_bytes.ensures c.as_bytes-in-Ok-Some.ensures c.block_digest-parent.ensures c.tell_frame.ensures.disk c.in-Ok.ensures.lines;
   disk_faults = c.tell_frame.ensures.disk_faults ∙ c.turns.invariant.disk_faults;
-  later = omega (arith, c.turns.invariant.later, c.tell_frame.ensures.cause.later);
+  wire_faults = grind (arith, c.turns.invariant.wire_faults, c.in-Ok.ensures.cause.told, c.in-Ok.ensures.cause.later);
 }

@@ -1,5 +1,9 @@
+use Rattle.std.proofs.Common.{Some, refl}
+use Rattle.chain_words.specs.declared.words.Command.TheVariants.{Append}
 use Rattle.recovery.specs.Node.{next_in_chain}
 use Rattle.chain_cli.proofs.Runs.{append_run_is, append_refused}
+use Rattle.chain_cli.proofs.Ends.{answer_ends, answer_has_log}
+use Rattle.chain_cli.proofs.Moments.{stays_twice, append_any}
 use Rattle.chain_cli.proofs.over_log.append.Goals as goal
 
 pub returns-in-Ok-clause-run : goal.returns-in-Ok-clause-run
@@ -11,3 +15,20 @@ pub returns-in-Err-clause-run : goal.returns-in-Err-clause-run
 returns-in-Err-clause-run g c =
     append_refused g.M.Clock.now g.M.Clock.disk g.M.Clock.told c.args.machine.now c.start.new.machine c.tell_start.new.machine c.in-Err.error c.tell_start.result (g.I.Source.left c.args.source.now)
     c.requires.settled c.start.ensures.disk c.start.ensures.told c.in-Err.ensures.answer c.tell_start.ensures.disk (c.tell_start.ensures.says next_in_chain)
+
+pub returns-in-Ok-clause-goes_on : goal.returns-in-Ok-clause-goes_on
+returns-in-Ok-clause-goes_on g c =
+    append_any g.M.Clock.now g.M.Clock.disk g.M.Clock.told c.args.machine.now c.start.new.machine c.append.new.machine c.in-Ok.node c.requires.settled c.start.ensures.disk c.in-Ok.ensures.answer c.append.ensures.goes_on
+
+pub returns-in-Err-clause-goes_on : goal.returns-in-Err-clause-goes_on
+returns-in-Err-clause-goes_on g c =
+    stays_twice g.M.Clock.now g.M.Clock.disk g.M.Clock.told c.args.machine.now c.start.new.machine c.tell_start.new.machine c.requires.settled c.start.ensures.disk c.tell_start.ensures.disk
+
+pub returns-in-Ok-clause-ends : goal.returns-in-Ok-clause-ends
+returns-in-Ok-clause-ends g c = rw c.append_answer.ensures (answer_ends c.append.result)
+
+pub returns-in-Ok-clause-no_log : goal.returns-in-Ok-clause-no_log
+returns-in-Ok-clause-no_log g c none = absurd (cc (rw c.append_answer.ensures at none, answer_has_log c.append.result))
+
+pub returns-in-Err-clause-ends : goal.returns-in-Err-clause-ends
+returns-in-Err-clause-ends g c = c.tell_start.ensures.ends (Some Append) refl

@@ -1,6 +1,9 @@
+use Rattle.std.proofs.Common.{Some, refl}
 use Rattle.recovery.specs.Node.{next_in_chain}
 use Rattle.chain_exec.specs.Compiled.{compiled_in}
 use Rattle.chain_output.specs.Output.{answer_outcome, at_or_last}
+use Rattle.chain_words.specs.declared.words.Command.TheVariants.{Ask}
+use Rattle.chain_cli.proofs.Ends.{asked_ends}
 use Rattle.chain_cli.proofs.Runs.{asked_run, asked_refused}
 use Rattle.chain_cli.proofs.over_log.ask.Goals as goal
 
@@ -8,10 +11,16 @@ pub returns-in-Ok-clause-run : goal.returns-in-Ok-clause-run
 returns-in-Ok-clause-run g c left =
     asked_run g.M.Clock.now g.M.Clock.disk g.M.Clock.told c.args.machine.now c.stored_chain.new.machine c.tell_made.new.machine (λ blocks. answer_outcome compiled_in (record { kind = c.args.kind; key = c.args.key; at = at_or_last c.args.at blocks }) blocks)
     c.in-Ok.chain c.last_answer.result c.tell_made.result left
-    c.requires.settled c.stored_chain.ensures.disk c.stored_chain.ensures.told c.in-Ok.ensures.answer c.last_answer.ensures c.tell_made.ensures.disk (c.tell_made.ensures.says next_in_chain)
+    c.requires.settled c.stored_chain.ensures.disk c.stored_chain.ensures.told c.in-Ok.ensures.answer c.last_answer.ensures.outcome c.tell_made.ensures.disk (c.tell_made.ensures.says next_in_chain)
 
 pub returns-in-Err-clause-run : goal.returns-in-Err-clause-run
 returns-in-Err-clause-run g c left =
     asked_refused g.M.Clock.now g.M.Clock.disk g.M.Clock.told c.args.machine.now c.stored_chain.new.machine c.tell_start.new.machine (λ blocks. answer_outcome compiled_in (record { kind = c.args.kind; key = c.args.key; at = at_or_last c.args.at blocks }) blocks)
     c.in-Err.error c.tell_start.result left
     c.requires.settled c.stored_chain.ensures.disk c.stored_chain.ensures.told c.in-Err.ensures.answer c.tell_start.ensures.disk (c.tell_start.ensures.says next_in_chain)
+
+pub returns-in-Ok-clause-ends : goal.returns-in-Ok-clause-ends
+returns-in-Ok-clause-ends g c = c.tell_made.ensures.ends (Some (Ask c.args.kind c.args.key c.args.at)) (asked_ends c.last_answer.result (Some (Ask c.args.kind c.args.key c.args.at)) refl c.last_answer.ensures.ends)
+
+pub returns-in-Err-clause-ends : goal.returns-in-Err-clause-ends
+returns-in-Err-clause-ends g c = c.tell_start.ensures.ends (Some (Ask c.args.kind c.args.key c.args.at)) refl

@@ -1,5 +1,7 @@
 use Rattle.std.proofs.Common.{refl}
 use Rattle.chain_output.specs.declared.stop.RunStop.TheVariants as stops
+use Rattle.recovery.specs.Node.{next_in_chain}
+use Rattle.chain_output.proofs.Ends.{made_ends}
 use Rattle.chain_cli.proofs.Runs.{made_ok, made_err}
 use Rattle.chain_cli.proofs.over_log.tell_made.Goals as goal
 
@@ -8,3 +10,6 @@ returns-in-Ok-clause-says g c next wanted made = made_ok g.M.Clock.now g.M.Clock
 
 pub returns-in-Err-clause-says : goal.returns-in-Err-clause-says
 returns-in-Err-clause-says g c next wanted made = made_err g.M.Clock.now g.M.Clock.disk g.M.Clock.told next c.args.machine.now c.args.machine.now wanted stops.Memory refl
+
+pub returns-in-Ok-clause-ends : goal.returns-in-Ok-clause-ends
+returns-in-Ok-clause-ends g c command ends = made_ends c.args.outcome c.in-Ok.outcome c.tell_outcome.result command c.in-Ok.is (c.tell_outcome.ensures.says next_in_chain).ending c.tell_outcome.ensures.stop ends

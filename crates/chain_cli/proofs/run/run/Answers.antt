@@ -3,7 +3,9 @@ use Rattle.block_codec.specs.Reading.{block_in}
 use Rattle.block_codec.proofs.WholeBlocks.{decided}
 use Rattle.chain_exec.specs.Compiled.{compiled_in}
 use Rattle.chain_exec.proofs.TheLaws.{one_compiler}
+use Rattle.chain_output.specs.Output.{changes_log}
 use Rattle.chain_cli.proofs.Runs.{with_status}
+use Rattle.chain_cli.proofs.Moments.{any_command}
 use Rattle.chain_cli.proofs.run.run.Goals as goal
 
 pub returns-clause-output : goal.returns-clause-output
@@ -15,5 +17,16 @@ returns-clause-output g c = (
     one_compiler.is_compiler,
     λ command is. with_status g.M.Clock.now g.M.Clock.disk g.M.Clock.told c.args.machine.now c.run_words.new.machine c.run_words.result c.run_words.result (g.I.Source.left c.args.source.now) (g.I.Source.left c.run_words.new.source) c.command_of-command.result command
         refl (c.command_of-command.ensures.only command is) c.run_words.ensures.run,
+  ),
+)
+
+pub returns-clause-goes_on : goal.returns-clause-goes_on
+returns-clause-goes_on g c = (
+  block_in,
+  decided,
+  (
+    compiled_in,
+    one_compiler.is_compiler,
+    any_command g.M.Clock.now g.M.Clock.disk g.M.Clock.told (changes_log c.command_of-command.result) c.args.machine.now c.run_words.new.machine c.requires.settled c.run_words.ensures.untouched c.run_words.ensures.goes_on,
   ),
 )

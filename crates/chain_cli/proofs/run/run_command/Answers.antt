@@ -1,5 +1,8 @@
+use Rattle.std.proofs.Common.{Some, refl}
 use Rattle.recovery.specs.Node.{next_in_chain}
+use Rattle.chain_words.specs.declared.words.Command.TheVariants.{Scan, Fmt, Pack, Gen, Append, Root, Ask}
 use Rattle.chain_output.specs.Telling.{status_of_result}
+use Rattle.chain_cli.proofs.Ends.{done_ends, of_given, found_log}
 use Rattle.chain_cli.proofs.Runs.{scan_run, fmt_run, pack_run, gen_run, of_command}
 use Rattle.chain_cli.proofs.run.run_command.Goals as goal
 
@@ -32,3 +35,33 @@ pub returns-in-Root-clause-run : goal.returns-in-Root-clause-run
 returns-in-Root-clause-run g c =
     of_command g.M.Clock.now g.M.Clock.disk g.M.Clock.told c.args.machine.now c.root.new.machine (status_of_result c.root.result) (g.I.Source.left c.args.source.now) (g.I.Source.left c.args.source.now) c.args.command.now _ c.in-Root.is
     (c.root.ensures.run (g.I.Source.left c.args.source.now))
+
+pub returns-in-Scan-clause-ends : goal.returns-in-Scan-clause-ends
+returns-in-Scan-clause-ends g c = of_given (status_of_result c.tell_result.result) c.args.command.now (Scan c.in-Scan.query) c.in-Scan.is (c.tell_result.ensures.ends (Some (Scan c.in-Scan.query)) refl c.scan.ensures.ends)
+
+pub returns-in-Scan-clause-no_log : goal.returns-in-Scan-clause-no_log
+returns-in-Scan-clause-no_log g c none = absurd (found_log (status_of_result c.tell_result.result) (Scan c.in-Scan.query) refl (c.tell_result.ensures.ends (Some (Scan c.in-Scan.query)) refl c.scan.ensures.ends) none)
+
+pub returns-in-Fmt-clause-ends : goal.returns-in-Fmt-clause-ends
+returns-in-Fmt-clause-ends g c = of_given (status_of_result c.tell_result-in-Fmt.result) c.args.command.now Fmt c.in-Fmt.is (c.tell_result-in-Fmt.ensures.ends (Some Fmt) refl c.fmt.ensures.ends)
+
+pub returns-in-Fmt-clause-no_log : goal.returns-in-Fmt-clause-no_log
+returns-in-Fmt-clause-no_log g c none = absurd (found_log (status_of_result c.tell_result-in-Fmt.result) Fmt refl (c.tell_result-in-Fmt.ensures.ends (Some Fmt) refl c.fmt.ensures.ends) none)
+
+pub returns-in-Pack-clause-ends : goal.returns-in-Pack-clause-ends
+returns-in-Pack-clause-ends g c = of_given (status_of_result c.tell_result-in-Pack.result) c.args.command.now Pack c.in-Pack.is (c.tell_result-in-Pack.ensures.ends (Some Pack) refl c.pack.ensures.ends)
+
+pub returns-in-Pack-clause-no_log : goal.returns-in-Pack-clause-no_log
+returns-in-Pack-clause-no_log g c none = absurd (found_log (status_of_result c.tell_result-in-Pack.result) Pack refl (c.tell_result-in-Pack.ensures.ends (Some Pack) refl c.pack.ensures.ends) none)
+
+pub returns-in-Gen-clause-ends : goal.returns-in-Gen-clause-ends
+returns-in-Gen-clause-ends g c = done_ends c.generate.result c.args.command.now c.generate.ensures.ending c.generate.ensures.reads c.generate.ensures.writes
+
+pub returns-in-Append-clause-ends : goal.returns-in-Append-clause-ends
+returns-in-Append-clause-ends g c = of_given (status_of_result c.append.result) c.args.command.now Append c.in-Append.is c.append.ensures.ends
+
+pub returns-in-Root-clause-ends : goal.returns-in-Root-clause-ends
+returns-in-Root-clause-ends g c = of_given (status_of_result c.root.result) c.args.command.now (Root c.in-Root.at) c.in-Root.is c.root.ensures.ends
+
+pub returns-in-Ask-clause-ends : goal.returns-in-Ask-clause-ends
+returns-in-Ask-clause-ends g c = of_given (status_of_result c.ask.result) c.args.command.now (Ask c.in-Ask.kind c.in-Ask.key c.in-Ask.at) c.in-Ask.is c.ask.ensures.ends

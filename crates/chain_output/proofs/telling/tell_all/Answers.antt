@@ -9,7 +9,7 @@ loop-piece-init g c = record {
   lines = λ next. none_to_tell next g.M.Clock.now g.M.Clock.disk g.M.Clock.told _ _ _ refl;
   disk = stays_here g.M.Clock.now g.M.Clock.disk c.args.machine.now;
   disk_faults = refl;
-  later = omega arith;
+  wire_faults = refl;
 }
 
 pub returns-in-Err-clause-lines : goal.returns-in-Err-clause-lines
@@ -24,7 +24,7 @@ loop-piece-preserved g c = record {
       (c.loop-piece.invariant.lines next) c.in-Ok.ensures.disk (λ text is. plain_ok g.M.Clock.now g.M.Clock.disk g.M.Clock.told next c.loop-piece.machine c.tell.new.self c.as_bytes.result.now text is c.in-Ok.ensures.disk c.in-Ok.ensures.told);
   disk = stays_on g.M.Clock.now g.M.Clock.disk c.args.machine.now c.loop-piece.machine c.tell.new.self c.loop-piece.invariant.disk c.in-Ok.ensures.disk;
   disk_faults = c.in-Ok.ensures.disk_faults ∙ c.loop-piece.invariant.disk_faults;
-  later = omega (arith, c.loop-piece.invariant.later, c.in-Ok.ensures.cause.later);
+  wire_faults = grind (arith, c.loop-piece.invariant.wire_faults, c.in-Ok.ensures.cause.told, c.in-Ok.ensures.cause.later);
 }
 
 pub returns-clause-lines : goal.returns-clause-lines

@@ -9,5 +9,5 @@ invariant-loop-piece g l = record {
   lines : (next : NextBlock) → Telling next g.M.Clock.now g.M.Clock.disk g.M.Clock.told l.initial.machine l.machine (map plain (take l.piece-index l.pieces)) true;
   disk : Stays g.M.Clock.now g.M.Clock.disk l.initial.machine l.machine;
   disk_faults : g.M.Clock.disk_faults l.machine ≡ g.M.Clock.disk_faults l.initial.machine;
-  later : g.M.Clock.wire_faults l.initial.machine ≤ g.M.Clock.wire_faults l.machine;
+  wire_faults : g.M.Clock.wire_faults l.machine ≡ g.M.Clock.wire_faults l.initial.machine;
 }

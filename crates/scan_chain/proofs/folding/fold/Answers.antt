@@ -1,3 +1,4 @@
+use Rattle.std.proofs.Common.{arith}
 use Rattle.scan_chain.proofs.Turns.{begun, taken_in, ended, stopped}
 use Rattle.scan_chain.proofs.folding.fold.Goals as goal
 
@@ -7,7 +8,7 @@ turns-init g c = rw (c.new-chain.ensures, c.new-frames.ensures) (begun (g.I.Sour
 pub turns-preserved : goal.turns-preserved
 turns-preserved g c =
     taken_in (g.I.Source.left c.args.source.now) (g.I.Source.left c.turns.source) (g.I.Source.left c.look.new.source) (g.I.Source.source_faults c.args.source.now) (g.I.Source.source_faults c.turns.source) (g.I.Source.source_faults c.look.new.source)
-    c.turns.frames c.in-Taken.more c.turns.chain c.in-Taken.longer c.in_ok-whole.field-0 c.turns.invariant c.in-Taken.is c.in_ok-whole.ensures.turn c.in_ok-whole.ensures.count c.in_ok-whole.ensures.cause.later
+    c.turns.frames c.in-Taken.more c.turns.chain c.in-Taken.longer c.in_ok-whole.field-0 c.turns.invariant c.in-Taken.is c.in_ok-whole.ensures.turn c.in_ok-whole.ensures.count (grind (arith, c.in_ok-whole.ensures.cause.told, c.in_ok-whole.ensures.cause.later))
 
 pub returns-in-Ended-clause-fold : goal.returns-in-Ended-clause-fold
 returns-in-Ended-clause-fold g c =

@@ -1,0 +1,115 @@
+-- Which commands end how.
+use Rattle.std.proofs.Common.{◌≡◌, Bool, true, false, List, ℕ, [], Option, Some, None, Result, Ok, Err, refl, sym, ap, subst}
+use Rattle.std.specs.Prelude.{IfOk}
+use Rattle.contract_tree.specs.Tree.{FunctionTree}
+use Rattle.contract_parse.specs.Syntax.{Outcome as SourceOutcome}
+use Rattle.contract_check.specs.Faults.{check_fault}
+use Rattle.contract_check.specs.declared.fault.Fault.{Fault}
+use Rattle.chain_pack.specs.declared.error.PackError.{PackError}
+use Rattle.chain_append.specs.declared.ending.AppendEnd.{AppendEnd}
+use Rattle.chain_append.specs.declared.ending.AppendEnd.TheVariants as appends
+use Rattle.chain_append.specs.declared.ending.AppendStop.{AppendStop}
+use Rattle.chain_append.specs.declared.ending.AppendStop.TheVariants as halts
+use Rattle.chain_words.specs.declared.words.Command.{Command}
+use Rattle.chain_words.specs.declared.words.Command.TheVariants.{Fmt, Pack, Append}
+use Rattle.chain_lines.specs.Outcome.{status_of}
+use Rattle.chain_lines.specs.declared.outcome.Outcome.{Outcome}
+use Rattle.chain_lines.specs.declared.outcome.Ending.{Ending}
+use Rattle.chain_lines.specs.declared.outcome.Ending.TheVariants as endings
+use Rattle.chain_lines.specs.declared.status.Status.{Status}
+use Rattle.chain_lines.specs.declared.status.Status.TheVariants as statuses
+use Rattle.chain_output.specs.Blocks.{draft_outcome}
+use Rattle.chain_output.specs.Output.{Output, output_of, fmt_outcome, source_outcome, IsFmt, Long, Source, uses_disk, asks_for_block}
+use Rattle.chain_output.specs.Running.{MayEnd, found_no_log}
+use Rattle.chain_output.specs.Scanning.{EndsAsked}
+use Rattle.chain_output.specs.Telling.{status_of_result, append_answer}
+use Rattle.chain_output.specs.declared.stop.RunStop.{RunStop}
+use Rattle.chain_output.specs.declared.stop.RunStop.TheVariants as stops
+
+-- ---- questions about a block
+
+asked_end : (ending : Ending) (command : Option Command) → asks_for_block command ≡ true → EndsAsked ending → MayEnd (status_of ending) command
+asked_end endings.Done None asks ends = absurd (cc asks)
+asked_end endings.Done (Some command) asks ends = refl
+asked_end endings.Beyond command asks ends = asks
+asked_end endings.Refused command asks ends = absurd ends
+asked_end endings.BadInput command asks ends = absurd ends
+asked_end endings.NotALog command asks ends = absurd ends
+asked_end endings.Damaged command asks ends = absurd ends
+
+pub asked_ends : {E : Type 0} (found : Result Outcome E) (command : Option Command) → asks_for_block command ≡ true → IfOk found (λ outcome. EndsAsked outcome.ending) → IfOk found (λ outcome. MayEnd (status_of outcome.ending) command)
+asked_ends (Ok outcome) command asks ends = asked_end outcome.ending command asks ends
+asked_ends (Err e) command asks ends = tt
+
+-- ---- inputs that are read whole
+
+functions_end : (functions : List FunctionTree) (fault : Option Fault) → MayEnd (status_of (fmt_outcome functions fault).ending) (Some Fmt)
+functions_end functions None = refl
+functions_end functions (Some fault) = refl
+
+source_ends : (outcome : SourceOutcome) → MayEnd (status_of (source_outcome outcome).ending) (Some Fmt)
+source_ends (Ok functions) = functions_end functions (check_fault functions)
+source_ends (Err fault) = refl
+
+output_ends : (input : List ℕ) (output : Output) → IsFmt input output → MayEnd output.status (Some Fmt)
+output_ends input _ (Long long) = refl
+output_ends input _ (Source fits outcome is) = source_ends outcome
+
+pub fmt_ends : (source : List ℕ) (outcome : Outcome) → IsFmt source (output_of outcome []) → MayEnd (status_of outcome.ending) (Some Fmt)
+fmt_ends source outcome is = output_ends source (output_of outcome []) is
+
+draft_ends : (found : Result (List (List ℕ)) PackError) → MayEnd (status_of (draft_outcome found).ending) (Some Pack)
+draft_ends (Ok blocks) = refl
+draft_ends (Err fault) = refl
+
+pub pack_ends : (outcome : Outcome) (found : Result (List (List ℕ)) PackError) → outcome ≡ draft_outcome found → MayEnd (status_of outcome.ending) (Some Pack)
+pack_ends outcome found is = subst (λ (o : Outcome). MayEnd (status_of o.ending) (Some Pack)) (sym is) (draft_ends found)
+
+-- ---- `append`
+
+pub answer_ends : (answer : Result AppendEnd AppendStop) → MayEnd (status_of_result (append_answer answer)) (Some Append)
+answer_ends (Ok appends.Whole) = refl
+answer_ends (Ok (appends.Refused frame cause)) = refl
+answer_ends (Err halts.Unreadable) = refl
+answer_ends (Err halts.Untold) = tt
+answer_ends (Err halts.DiskFault) = refl
+answer_ends (Err halts.Memory) = tt
+
+pub answer_has_log : (answer : Result AppendEnd AppendStop) → found_no_log (status_of_result (append_answer answer)) ≡ false
+answer_has_log (Ok appends.Whole) = refl
+answer_has_log (Ok (appends.Refused frame cause)) = refl
+answer_has_log (Err halts.Unreadable) = refl
+answer_has_log (Err halts.Untold) = refl
+answer_has_log (Err halts.DiskFault) = refl
+answer_has_log (Err halts.Memory) = refl
+
+-- ---- whole runs
+
+-- a command that tells what it makes
+pub done_ends : (result : Result Ending RunStop) (command : Command) → IfOk result (λ ending. ending ≡ endings.Done) → (result ≡ Err stops.Unreadable → ⊥) → (result ≡ Err stops.DiskFault → ⊥) → MayEnd (status_of_result result) (Some command)
+done_ends (Ok ending) command done reads writes = subst (λ (e : Ending). MayEnd (status_of e) (Some command)) (sym done) refl
+done_ends (Err stops.Unreadable) command done reads writes = absurd (reads refl)
+done_ends (Err stops.Untold) command done reads writes = tt
+done_ends (Err stops.DiskFault) command done reads writes = absurd (writes refl)
+done_ends (Err stops.Memory) command done reads writes = tt
+
+pub of_given : (status : Status) (command given : Command) → command ≡ given → MayEnd status (Some given) → MayEnd status (Some command)
+of_given status command given is ends = subst (λ (c : Command). MayEnd status (Some c)) (sym is) ends
+
+-- a command that found no log uses the disk
+no_log_uses : (status : Status) (command : Option Command) → found_no_log status ≡ true → MayEnd status command → uses_disk command ≡ true
+no_log_uses statuses.NotALog command none ends = ends
+no_log_uses statuses.Damaged command none ends = ends
+no_log_uses statuses.Done command none ends = absurd (cc none)
+no_log_uses statuses.Usage command none ends = absurd (cc none)
+no_log_uses statuses.Unreadable command none ends = absurd (cc none)
+no_log_uses statuses.Untold command none ends = absurd (cc none)
+no_log_uses statuses.DiskFault command none ends = absurd (cc none)
+no_log_uses statuses.Memory command none ends = absurd (cc none)
+no_log_uses statuses.Refused command none ends = absurd (cc none)
+no_log_uses statuses.Beyond command none ends = absurd (cc none)
+no_log_uses statuses.BadInput command none ends = absurd (cc none)
+
+-- so one that uses none did not find that there is none
+pub found_log : (status : Status) (given : Command) → uses_disk (Some given) ≡ false → MayEnd status (Some given) → found_no_log status ≡ true → ⊥
+found_log status given unused ends none = cc (unused, no_log_uses status (Some given) none ends)

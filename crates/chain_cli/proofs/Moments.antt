@@ -1,0 +1,56 @@
+-- What a crash at any moment of a run may leave, whatever the source tells.
+use Rattle.std.proofs.Common.{◌≡◌, ℕ, Bool, true, false, List, ◌++◌, length, refl, sym, ap, ◌∙◌}
+use Rattle.std.specs.Prelude.{Option, Some, None, Ok}
+use Rattle.std.specs.Option.{is_some}
+use Rattle.std.proofs.Math.Seq.{take-length}
+use Rattle.lc_outside.specs.Disk.{DiskState, Stays}
+use Rattle.lc_outside.specs.Outside.{Tell}
+use Rattle.disk_model.specs.Disk.{IsSettled, Keeps, Rests, content_of}
+use Rattle.disk_model.proofs.Moments.{then_keeps, weaker, stays_on}
+use Rattle.block_codec.specs.declared.block.Block.{Block}
+use Rattle.block_log.specs.Standing.{standing}
+use Rattle.recovery.specs.Node.{NodeState, IsNodeOf, IsNodeStarted, next_in_chain}
+use Rattle.chain_promises.specs.Promises.{NoChange, Appends, MayLeaveAny}
+use Rattle.chain_promises.proofs.Tellings.{still}
+use Rattle.chain_append.specs.Appending.{IsTold, GoesFrom}
+use Rattle.chain_append.proofs.Frames.{rests_each}
+
+rests_told : (state : Option DiskState) (content : List ℕ) → IsSettled state → content_of state ≡ Some content → Rests state (λ c. c ≡ content)
+rests_told None content rests told = tt
+rests_told (Some s) content rests told = (rests, cc told)
+
+is_told : (state : Option DiskState) (content : List ℕ) → content_of state ≡ Some content → IsTold state
+is_told None content told = absurd (cc told)
+is_told (Some s) content told = refl
+
+module _ {D : Type 0} (now : D → ℕ) (disk : D → ℕ → Option DiskState) (told : D → Option (List Tell)) where
+  -- the disk is left as it is
+  pub stays_any : (old new : D) (content : List ℕ) → IsSettled (disk old (now old)) → content_of (disk old (now old)) ≡ Some content → Stays now disk old new → Keeps now disk old new (MayLeaveAny next_in_chain content)
+  stays_any old new content settled here stays =
+      weaker now disk old new (λ c. c ≡ content) (MayLeaveAny next_in_chain content)
+      (still next_in_chain now disk told old new (λ c. c ≡ content) (rests_each (disk old (now old)) (λ c. c ≡ content) (rests_told (disk old (now old)) content settled here)) stays)
+      (λ c same. (NoChange, same))
+
+  -- in two steps
+  pub stays_twice : (old mid new : D) → IsSettled (disk old (now old)) → Stays now disk old mid → Stays now disk mid new → (content : List ℕ) → content_of (disk old (now old)) ≡ Some content → Keeps now disk old new (MayLeaveAny next_in_chain content)
+  stays_twice old mid new settled begins stays content here = stays_any old new content settled here (stays_on now disk old mid new begins stays)
+
+  -- `append`, over the node that it started with
+  pub append_any : (old mid new : D) (node : NodeState) → IsSettled (disk old (now old)) → Stays now disk old mid
+      → ((content : List ℕ) → content_of (disk old (now old)) ≡ Some content → IsNodeStarted (disk mid (now mid)) (standing next_in_chain content) (Ok node))
+      → ((blocks : List Block) → IsNodeOf node (disk mid (now mid)) blocks → IsTold (disk mid (now mid)) → Keeps now disk mid new (GoesFrom blocks))
+      → (content : List ℕ) → content_of (disk old (now old)) ≡ Some content → Keeps now disk old new (MayLeaveAny next_in_chain content)
+  append_any old mid new node settled begins started goes content here =
+      let s = started content here in
+      let blocks : List Block = s.0 in
+      let still_told : IsTold (disk mid (now mid)) = ap is_some begins.last ∙ is_told (disk old (now old)) content here in
+      then_keeps now disk old mid new (MayLeaveAny next_in_chain content) (stays_any old mid content settled here begins)
+      (weaker now disk mid new (GoesFrom blocks) (MayLeaveAny next_in_chain content) (goes blocks s.2 still_told)
+      (λ c more. (Appends more.0, (blocks, s.1, (length more.0, more.1 ∙ ap (λ (b : List Block). Some (blocks ++ b)) (sym (take-length more.0)))))))
+
+  -- a command that changes the log or does not
+  pub any_command : (changes : Bool) (old new : D) → IsSettled (disk old (now old)) → (changes ≡ false → Stays now disk old new)
+      → (changes ≡ true → (content : List ℕ) → content_of (disk old (now old)) ≡ Some content → Keeps now disk old new (MayLeaveAny next_in_chain content))
+      → (content : List ℕ) → content_of (disk old (now old)) ≡ Some content → Keeps now disk old new (MayLeaveAny next_in_chain content)
+  any_command false old new settled stays goes content here = stays_any old new content settled here (stays refl)
+  any_command true old new settled stays goes content here = goes refl content here

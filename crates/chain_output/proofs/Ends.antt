@@ -1,0 +1,26 @@
+-- Which commands may end as they do whose outcome was told, or that have none.
+use Rattle.std.proofs.Common.{◌≡◌, Option, Result, Ok, Err, sym, ap, subst}
+use Rattle.std.specs.Prelude.{IfOk, IfErr}
+use Rattle.chain_words.specs.declared.words.Command.{Command}
+use Rattle.chain_lines.specs.Outcome.{status_of}
+use Rattle.chain_lines.specs.declared.outcome.Outcome.{Outcome}
+use Rattle.chain_lines.specs.declared.outcome.Ending.{Ending}
+use Rattle.chain_output.specs.Running.{MayEnd}
+use Rattle.chain_output.specs.Telling.{status_of_result, status_of_stop}
+use Rattle.chain_output.specs.declared.stop.RunStop.{RunStop}
+use Rattle.chain_output.specs.declared.stop.RunStop.TheVariants as stops
+
+-- an outcome that was told, or that the wire failed for
+told_ends : (outcome : Outcome) (result : Result Ending RunStop) (command : Option Command) → IfOk result (λ ending. ending ≡ outcome.ending) → IfErr result (λ stop. stop ≡ stops.Untold) → MayEnd (status_of outcome.ending) command → MayEnd (status_of_result result) command
+told_ends outcome (Ok ending) command same halts ends = subst (λ (e : Ending). MayEnd (status_of e) command) (sym same) ends
+told_ends outcome (Err stop) command same halts ends = subst (λ (s : RunStop). MayEnd (status_of_stop s) command) (sym halts) tt
+
+-- of what was made
+pub made_ends : {E : Type 0} (found : Result Outcome E) (outcome : Outcome) (result : Result Ending RunStop) (command : Option Command) → found ≡ Ok outcome → IfOk result (λ ending. ending ≡ outcome.ending) → IfErr result (λ stop. stop ≡ stops.Untold)
+    → IfOk found (λ o. MayEnd (status_of o.ending) command) → MayEnd (status_of_result result) command
+made_ends found outcome result command is same halts ends = told_ends outcome result command same halts (subst (λ r. IfOk r (λ o. MayEnd (status_of o.ending) command)) is ends)
+
+-- of one that is known
+pub known_ends : {E : Type 0} (found : Result Outcome E) (wanted : Outcome) (command : Option Command) → MayEnd (status_of wanted.ending) command → IfOk found (λ outcome. outcome ≡ wanted) → IfOk found (λ outcome. MayEnd (status_of outcome.ending) command)
+known_ends (Ok outcome) wanted command ends is = subst (λ (o : Outcome). MayEnd (status_of o.ending) command) (sym is) ends
+known_ends (Err e) wanted command ends is = tt

@@ -1,0 +1,166 @@
+//! Blocks that are encoded at each of their limits, and one past it. A draft can't bring most of these
+//! to `encode`, since it is refused before.
+
+use block_codec::{
+    Block, EncodeError, MAX_ARGS, MAX_BLOCK_BYTES, MAX_CALL_BUDGET, MAX_SOURCE_BYTES, MAX_TXS,
+    NO_PARENT, Tx, TxList, encode,
+};
+use lc_base::{Bytes, Key, KeyList, MAX_DEPS, Name, Seq, Value};
+use std::alloc::Global;
+
+/// The bytes of a block before its transactions.
+const FRONT: usize = 39;
+/// The bytes of a Set of an int without dependency keys, of a Call without arguments, and of a Deploy
+/// without its source, where keys and names have one byte.
+const SET: usize = 17;
+
+const CALL: usize = 15;
+
+const DEPLOY: usize = 9;
+/// The bytes of a key of one byte, and of an int.
+const KEY: usize = 3;
+
+const INT: usize = 9;
+
+fn key() -> Option<Key> {
+    Key::new(b"k").ok()
+}
+
+fn name() -> Option<Name> {
+    Name::new(b"n").ok()
+}
+
+/// A Set from so many keys.
+fn set(alloc: Global, count: usize) -> Option<Tx> {
+    let key = key()?;
+    let mut deps = KeyList::new(alloc);
+    for _ in 0..count {
+        deps.push(key).ok()?;
+    }
+    Some(Tx::Set {
+        sender: key,
+        key,
+        value: Value::Int(1),
+        deps,
+    })
+}
+
+/// A Deploy of a source of so many bytes.
+fn deploy(alloc: Global, count: usize) -> Option<Tx> {
+    let mut source = Vec::new(alloc);
+    for _ in 0..count {
+        source.push(b'#').ok()?;
+    }
+    Some(Tx::Deploy {
+        sender: key()?,
+        name: name()?,
+        source: Bytes::from_vec(source),
+    })
+}
+
+/// A Call with so many arguments and this budget.
+fn call(alloc: Global, count: usize, budget: u32) -> Option<Tx> {
+    let mut args = Seq::new(alloc);
+    for _ in 0..count {
+        args.push(Value::Int(1)).ok()?;
+    }
+    Some(Tx::Call {
+        sender: key()?,
+        contract: name()?,
+        function: name()?,
+        args,
+        budget,
+    })
+}
+
+/// How many bytes spell the block of these transactions; `Limit` where none do.
+fn length_of(alloc: Global, txs: TxList) -> Result<usize, EncodeError> {
+    let block = Block {
+        number: 0,
+        parent: NO_PARENT,
+        txs,
+    };
+    let bytes = encode(alloc, &block)?;
+    Ok(bytes.len())
+}
+
+/// Whether a block of one transaction has so many bytes; 0 where none spell it.
+fn has_length(alloc: Global, tx: Option<Tx>, wanted: usize) -> bool {
+    let Some(tx) = tx else {
+        return false;
+    };
+    let mut txs = TxList::new(alloc);
+    match txs.push(tx) {
+        Ok(()) => is_length(length_of(alloc, txs), wanted),
+        Err(_) => false,
+    }
+}
+
+fn is_length(length: Result<usize, EncodeError>, wanted: usize) -> bool {
+    match length {
+        Ok(length) => length == wanted,
+        Err(EncodeError::Limit) => wanted == 0,
+        Err(EncodeError::Memory) => false,
+    }
+}
+
+/// So many Sets.
+fn sets(alloc: Global, count: u16) -> Option<TxList> {
+    let mut txs = TxList::new(alloc);
+    for _ in 0..count {
+        txs.push(set(alloc, 0)?).ok()?;
+    }
+    Some(txs)
+}
+
+/// As many Deploys of the longest source as there is room for in a block, and one of a shorter source.
+fn deploys(alloc: Global, last: usize) -> Option<TxList> {
+    let mut txs = TxList::new(alloc);
+    for _ in 0..63 {
+        txs.push(deploy(alloc, MAX_SOURCE_BYTES)?).ok()?;
+    }
+    txs.push(deploy(alloc, last)?).ok()?;
+    Some(txs)
+}
+
+fn have_length(alloc: Global, txs: Option<TxList>, wanted: usize) -> bool {
+    match txs {
+        Some(txs) => is_length(length_of(alloc, txs), wanted),
+        None => false,
+    }
+}
+
+#[test]
+fn limits_of_transactions(rt: HostRuntime) {
+    let alloc = rt.alloc();
+    assert!(rt; has_length(alloc, set(alloc, MAX_DEPS), FRONT + SET + MAX_DEPS * KEY));
+    assert!(rt; has_length(alloc, set(alloc, MAX_DEPS + 1), 0));
+    assert!(rt;
+        has_length(
+            alloc,
+            deploy(alloc, MAX_SOURCE_BYTES),
+            FRONT + DEPLOY + MAX_SOURCE_BYTES
+        )
+    );
+    assert!(rt; has_length(alloc, deploy(alloc, MAX_SOURCE_BYTES + 1), 0));
+    assert!(rt;
+        has_length(
+            alloc,
+            call(alloc, MAX_ARGS, 0),
+            FRONT + CALL + MAX_ARGS * INT
+        )
+    );
+    assert!(rt; has_length(alloc, call(alloc, MAX_ARGS + 1, 0), 0));
+    assert!(rt; has_length(alloc, call(alloc, 0, MAX_CALL_BUDGET), FRONT + CALL));
+    assert!(rt; has_length(alloc, call(alloc, 0, MAX_CALL_BUDGET + 1), 0));
+}
+
+#[test]
+fn limits_of_blocks(rt: HostRuntime) {
+    let alloc = rt.alloc();
+    assert!(rt; have_length(alloc, sets(alloc, MAX_TXS), FRONT + MAX_TXS as usize * SET));
+    assert!(rt; have_length(alloc, sets(alloc, MAX_TXS + 1), 0));
+    let last = MAX_BLOCK_BYTES - FRONT - 64 * DEPLOY - 63 * MAX_SOURCE_BYTES;
+    assert!(rt; have_length(alloc, deploys(alloc, last), MAX_BLOCK_BYTES));
+    assert!(rt; have_length(alloc, deploys(alloc, last + 1), 0));
+}
