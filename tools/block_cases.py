@@ -754,9 +754,19 @@ def one_text(length):
     return block_file([[sets("raw/a", "a" * length)]])
 
 
+def one_set(count):
+    """A Set from so many keys."""
+    return block_file([[sets("raw/a", 1, [f"raw/{dep}" for dep in range(count)])]])
+
+
+def one_call_with(count):
+    """A call with so many arguments."""
+    return block_file([[calls("c", "f", list(range(count)), 100, NO_CONTRACT, 0)]])
+
+
 # In a block the kind of the first transaction is at 39, and its sender takes 3 bytes. The fields of
 # the call before its budget take 1 + 3 + 3 + 3 + 1 bytes, those of the Deploy before its source
-# 1 + 3 + 3, and those of the Set before the length of its text 1 + 3 + 7 + 1.
+# 1 + 3 + 3, and those of the Set before the length of its text 1 + 3 + 7 + 1. A number takes 9 bytes.
 REFUSED = [
     ("hist raw/a 0", "refused frame 0 budget 11000000", eleven_calls(1_000_000)),
     ("hist raw/a 0", "refused frame 0 budget 10000001", eleven_calls(1)),
@@ -767,4 +777,8 @@ REFUSED = [
     ("hist raw/a 0", "none", one_deploy(16_384)),
     ("hist raw/a 0", "refused frame 0 malformed 51", one_text(1_025)),
     ("hist raw/a 0", f"block 0 tx 0 text {LONG}", one_text(1_024)),
+    ("hist raw/a 0", "refused frame 0 malformed 59", one_set(65)),
+    ("hist raw/a 0", "block 0 tx 0 int 1", one_set(64)),
+    ("hist raw/a 0", "refused frame 0 malformed 49", one_call_with(9)),
+    ("hist raw/a 0", "none", one_call_with(8)),
 ]

@@ -21,7 +21,7 @@ static void put(int file, const void *bytes, size_t count, off_t at)
 {
     if (pwrite(file, bytes, count, at) != (ssize_t)count)
         die("write");
-    if (fsync(file) != 0)
+    if (fdatasync(file) != 0)
         die("sync");
 }
 

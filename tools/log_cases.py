@@ -35,6 +35,7 @@ SET_LINE = f"block 0 rows 1 status 0 root {roots([SET_FILE], SET_ROWS)[0]}\n"
 # A block after that one.
 SECOND_ROWS = [*SET_ROWS, Row("raw/b", 1, 0, 1, [])]
 SET_ANSWER = "block 0 tx 0 int 5\n"
+SET_ROOT = f"root 0 {roots([SET_FILE], SET_ROWS)[0]}\n"
 HIST = "hist raw/a 0"
 
 
@@ -51,7 +52,7 @@ class LogCase:
     file: bytes = b""
     # How many bytes of the input are left.
     left: int = 0
-    # The calls that fail.
+    # The calls that fail; `pause N` for a pull that gives nothing.
     pulls: str = ""
     calls: str = ""
     # The greatest number of bytes that the source gives at once, where that matters.
@@ -420,9 +421,22 @@ def failing_calls():
         "append", b"", SET_LINE, UNTOLD, two, file, left=len(third), calls=f"{tell + 5}"
     )
     yield LogCase("append", SET_LOG, "", UNREADABLE, file=SET_FILE, left=size, pulls="0")
+    # Over a log of a block four reads open it: of the head, of the gate and the length of the record,
+    # of the block, and of the closed gate. Then the disk is synced, before anything is read or told.
+    opened = 4
+    for call in range(opened + 1):
+        yield LogCase(
+            "append", SET_LOG, "", DISK_FAULT, file=SET_FILE, left=size, calls=f"{call}"
+        )
+    yield LogCase("append", SET_LOG, "", UNTOLD, file=SET_FILE, calls=f"{opened + 1}")
+    yield LogCase("append", SET_LOG, "known 0\n", DONE, file=SET_FILE, calls=f"{opened + 2}")
+    for question, answer in [(HIST, SET_ANSWER), ("root", SET_ROOT)]:
+        for call in range(opened):
+            yield LogCase(question, SET_LOG, "", DISK_FAULT, calls=f"{call}")
+        yield LogCase(question, SET_LOG, "", UNTOLD, calls=f"{opened}")
+        yield LogCase(question, SET_LOG, answer, DONE, calls=f"{opened + 1}")
     # The first call of a question reads the head.
     for question in [HIST, "root"]:
-        yield LogCase(question, SET_LOG, "", DISK_FAULT, calls="0")
         yield LogCase(question, b"", "", DISK_FAULT, calls="0")
         yield LogCase(question, b"", "", UNTOLD, calls="1")
     # Without a disk call: the first call tells.
@@ -452,6 +466,17 @@ def failing_pulls():
     yield LogCase("append", b"", lines, DONE, log_of(file), file, pulls=never, piece=1)
 
 
+def pauses():
+    """A source that gives nothing once, as at the end of an input, and then a byte more: `append` has
+    ended by then, so the byte stays where it is, and the log is that of the blocks before it."""
+    for byte in [CLOSED, OPEN]:
+        for image, told in [(b"", SET_LINE), (SET_LOG, "known 0\n")]:
+            yield LogCase(
+                "append", image, told, DONE, SET_LOG, SET_FILE + byte, left=1,
+                pulls=f"pause {len(SET_FILE)}", piece=1,
+            )
+
+
 def words():
     """Words over a log that are no command: nothing is read."""
     questions = ["hist", "hist RAW 0", "hist raw/a 00", "back raw/a 0 0"]
@@ -466,6 +491,6 @@ def words():
 def log_cases():
     """All cases: the words of each, what must be printed, the fields of its line after the piece, and
     the piece, where it isn't the next in turn."""
-    for part in [chains, refusals, wrong_logs, crashes, failing_calls, failing_pulls, words]:
+    for part in [chains, refusals, wrong_logs, crashes, failing_calls, failing_pulls, pauses, words]:
         for case in part():
             yield case.case()

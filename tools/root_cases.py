@@ -72,11 +72,19 @@ class History:
             self.headers[key, block] = digest_of(self.header_text(key, block))
         return self.headers[key, block]
 
-    def header_text(self, key, block):
+    def row_of(self, key, block):
         [row] = [row for row in self.rows if (row.key, row.block) == (key, block)]
+        return row
+
+    def body_text(self, row):
         body = b"\3" + value(row.value) + number(len(row.deps), 1)
         for dep, at in row.deps:
             body += string(dep) + number(at, 4) + self.header_digest(dep, at)
+        return body
+
+    def header_text(self, key, block):
+        row = self.row_of(key, block)
+        body = self.body_text(row)
         older = [other for other in self.blocks_of(key) if other < block]
         closed = self.uses(key, older[-1], block) if older else []
         links = self.links(key, block)
@@ -86,9 +94,13 @@ class History:
             text += number(target, 4) + self.header_digest(key, target)
         return text
 
+    def keys(self, at):
+        """The keys up to a block, in the order of their first rows."""
+        return list(dict.fromkeys(row.key for row in self.rows if row.block <= at))
+
     def leaves(self, at):
-        """The leaves up to a block: the sentinel, and one for each key in the order of first rows."""
-        keys = list(dict.fromkeys(row.key for row in self.rows if row.block <= at))
+        """The leaves up to a block: the sentinel, and one for each key."""
+        keys = self.keys(at)
         leaves = [leaf("", keys, 0, NO_DIGEST, [])]
         for key in keys:
             block = max(block for block in self.blocks_of(key) if block <= at)

@@ -1,0 +1,138 @@
+"""Runs a program with its calls of the disk and of its streams told, where some of them may be made to
+fail; tools/disk_calls.c stands between.
+"""
+import dataclasses
+import os
+import resource
+import shutil
+import signal
+import subprocess
+import sys
+import tempfile
+
+from log_runs import LOG
+
+TOOLS = os.path.dirname(os.path.realpath(__file__))
+# How long a run may take, in seconds.
+RUN_LIMIT = 60
+SYNCS = ("fsync", "fdatasync")
+# Flags of `open`.
+CREATE = 0o100
+NEW = 0o200
+TRUNCATE = 0o1000
+
+
+@dataclasses.dataclass
+class Call:
+    """A call: its name, what it touched, where and of how many bytes, and what it answered."""
+
+    name: str
+    what: str
+    at: int
+    size: int
+    result: int
+
+    def moves_bytes(self):
+        return self.name in ("pread", "pwrite", "read", "write")
+
+    def takes_bytes(self):
+        return self.name in ("pwrite", "write")
+
+    def changes(self):
+        """Whether it may change what the disk holds or is sure to hold, or what was told."""
+        return self.takes_bytes() or self.name in SYNCS or self.name == "ftruncate"
+
+
+@dataclasses.dataclass
+class Ran:
+    """What a run told, its exit status, the calls that it made, and the log after it."""
+
+    told: str
+    status: object
+    calls: list
+    log: object
+
+
+def build(folder):
+    """What stands between, built by the C compiler."""
+    compiler = shutil.which("gcc") or shutil.which("cc") or shutil.which("clang")
+    if not compiler:
+        sys.exit("disk_calls: no C compiler to build tools/disk_calls.c")
+    built = os.path.join(folder, "disk_calls.so")
+    words = [compiler, "-O2", "-Wall", "-shared", "-fPIC", f"{TOOLS}/disk_calls.c", "-o", built]
+    subprocess.run(words, check=True)
+    return built
+
+
+def read_call(line):
+    """A line of CALLS_FILE as a call."""
+    _, name, what, at, size, result = line.split()
+    return Call(name, what, int(at, 8 if name == "open" else 10), int(size), int(result))
+
+
+class Watched:
+    """A program that is run so."""
+
+    def __init__(self, program, shim):
+        self.program = program
+        self.shim = shim
+
+    def run(self, words, source=b"", log=None, file_limit=None, other=None, **numbers):
+        """Runs words over an input and a log, as bytes, or none where there is no such file. A number
+        FAIL, SHORT, NOTHING, NO_MEMORY or BEFORE is that of tools/disk_calls.c; `other` are the
+        bytes of CALLS_OTHER. With `file_limit`, the greatest size of a file, no calls are told."""
+        with tempfile.TemporaryDirectory() as folder, tempfile.TemporaryFile() as given:
+            ledger = os.path.join(folder, "ledger")
+            os.mkdir(ledger)
+            settings = {f"CALLS_{name}": str(number) for name, number in numbers.items()}
+            calls = os.path.join(folder, "calls")
+            # The limit would be that of this file too.
+            if file_limit is None:
+                settings["CALLS_FILE"] = calls
+            settings["CALLS_OTHER"] = os.path.join(folder, "other")
+            put(settings["CALLS_OTHER"], other)
+            put(os.path.join(ledger, LOG), log)
+            put(calls, b"")
+            given.write(source)
+            given.seek(0)
+            told, status = self.run_in(ledger, words, given, settings, lambda: limit_files(file_limit))
+            with open(calls) as lines:
+                calls = [read_call(line) for line in lines]
+            return Ran(told, status, calls, get(os.path.join(ledger, LOG)))
+
+    def run_in(self, folder, words, source, settings, prepare):
+        """What a run in a folder tells, and its exit status; its process is prepared first."""
+        try:
+            ran = subprocess.run(
+                [self.program, *words.split()],
+                cwd=folder,
+                stdin=source,
+                stdout=subprocess.PIPE,
+                stderr=subprocess.DEVNULL,
+                env={**os.environ, **settings, "LD_PRELOAD": self.shim},
+                preexec_fn=prepare,
+                timeout=RUN_LIMIT,
+            )
+        except subprocess.TimeoutExpired:
+            return "", f"none within {RUN_LIMIT} seconds"
+        return ran.stdout.decode("ascii", "replace"), ran.returncode
+
+
+def limit_files(size):
+    """Lets no file of this process grow past a size: a write past it fails, and no signal comes."""
+    if size is not None:
+        signal.signal(signal.SIGXFSZ, signal.SIG_IGN)
+        resource.setrlimit(resource.RLIMIT_FSIZE, (size, size))
+
+
+def put(path, content):
+    if content is not None:
+        with open(path, "wb") as file:
+            file.write(content)
+
+
+def get(path):
+    if not os.path.exists(path):
+        return None
+    with open(path, "rb") as file:
+        return file.read()

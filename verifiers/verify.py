@@ -1,0 +1,413 @@
+#!/usr/bin/env python3
+"""Checks a proof of LineageChain, and prints the answer that it proves or why it is refused.
+
+    verify.py ROOT KIND KEY BLOCK < PROOF
+
+ROOT is the root of a block, 64 hex digits, which has to come from elsewhere; KIND is hist, back or fwd;
+PROOF is in hex. docs/proofs.md has the bytes of a proof, the checks in their order, and what is printed.
+This file was written from that page alone and shares no code with the program. It needs nothing but
+Python 3 and its standard library.
+"""
+import hashlib
+import os
+import re
+import sys
+from typing import NamedTuple
+
+MAX_INPUT_BYTES = 67_108_864
+MAX_NUMBER = 2**32 - 1
+MAX_KEY_BYTES = 64
+MAX_TEXT_BYTES = 1_024
+MAX_LINKS = 32
+MAX_DEPS = 64
+DIGEST_BYTES = 32
+
+MAGIC = b"LCP1"
+KINDS = ["hist", "back", "fwd"]
+HIST, BACK, FWD = range(3)
+INT, TEXT = range(2)
+# The first byte of what is hashed.
+LEAF, NODE, HEADER, BODY, NO_USES, USE, ROOT = (bytes([tag]) for tag in range(7))
+
+KEY = re.compile(rb"[a-z0-9./_-]+")
+PRINTABLE = re.compile(rb"[ -~]*")
+# Words are compared as the bytes that they are.
+KEY_WORD = re.compile(rb"[a-z0-9./_-]{1,64}")
+ROOT_WORD = re.compile(rb"[0-9a-f]{64}")
+NUMBER_WORD = re.compile(rb"0|[1-9][0-9]{0,9}")
+
+DONE, USAGE, UNREADABLE, UNTOLD, OUT_OF_MEMORY, REJECTED, BAD_INPUT = 0, 1, 2, 3, 5, 10, 11
+
+
+class Stop(Exception):
+    """The run ends with a line and a status."""
+
+    def __init__(self, line, status):
+        super().__init__(line)
+        self.line, self.status = line, status
+
+
+def rejected(cause):
+    return Stop(f"rejected {cause}", REJECTED)
+
+
+def bad_input(cause):
+    return Stop(f"badinput {cause}", BAD_INPUT)
+
+
+def sha256(*parts):
+    return hashlib.sha256(b"".join(parts)).digest()
+
+
+# ---- what a proof has
+
+
+class Question(NamedTuple):
+    kind: int
+    key: bytes
+    block: int
+
+
+class Named(NamedTuple):
+    """A version by its block and the digest of its header."""
+
+    block: int
+    digest: bytes
+
+
+class Uses(NamedTuple):
+    """How many uses there are, and their digest."""
+
+    count: int
+    digest: bytes
+
+
+class Leaf(NamedTuple):
+    text: bytes
+    key: bytes
+    next_key: object
+    newest: Named
+    uses: Uses
+
+
+class Header(NamedTuple):
+    text: bytes
+    key: bytes
+    block: int
+    tx: int
+    body: bytes
+    closed: Uses
+    links: list
+
+
+class Body(NamedTuple):
+    text: bytes
+    value: str
+    deps: list
+
+
+class Proof(NamedTuple):
+    question: Question
+    root_block: int
+    block_digest: bytes
+    leaf_count: int
+    leaf_index: int
+    leaf: Leaf
+    audit: list
+    headers: list
+    body: object
+    uses: object
+
+
+# ---- reading
+
+
+class Fields:
+    """The bytes of a proof, read field by field."""
+
+    def __init__(self, proof):
+        self.proof, self.offset = proof, 0
+
+    def take(self, size, is_good=lambda field: True):
+        """The next field; a proof is malformed where it is cut short or breaks its rule."""
+        field = self.proof[self.offset : self.offset + size]
+        if len(field) < size or not is_good(field):
+            raise rejected(f"malformed {self.offset}")
+        self.offset += size
+        return field
+
+    def number(self, size, least=0, most=None):
+        def is_good(field):
+            read = int.from_bytes(field, "big")
+            return least <= read and (most is None or read <= most)
+
+        return int.from_bytes(self.take(size, is_good), "big")
+
+    def digest(self):
+        return self.take(DIGEST_BYTES)
+
+    def string(self, least, most, pattern):
+        length = self.number(2, least, most)
+        return self.take(length, lambda field: pattern.fullmatch(field) is not None)
+
+    def key(self):
+        return self.string(1, MAX_KEY_BYTES, KEY)
+
+    def uses(self):
+        return Uses(self.number(8), self.digest())
+
+    def named(self):
+        return Named(self.number(4), self.digest())
+
+    def leaf(self, index):
+        start = self.offset
+        key = self.key() if index else self.string(0, 0, PRINTABLE)
+        next_key = self.key() if self.number(1, 0, 1) else None
+        newest, uses = self.named(), self.uses()
+        return Leaf(self.proof[start : self.offset], key, next_key, newest, uses)
+
+    def header(self):
+        start = self.offset
+        key, block, tx, body, closed = self.key(), self.number(4), self.number(2), self.digest(), self.uses()
+        links = [self.named() for _ in range(self.number(1, 0, MAX_LINKS))]
+        return Header(self.proof[start : self.offset], key, block, tx, body, closed, links)
+
+    def value(self):
+        """A value as it is printed."""
+        if self.number(1, INT, TEXT) == TEXT:
+            return "text " + self.string(0, MAX_TEXT_BYTES, PRINTABLE).decode("ascii")
+        return f"int {int.from_bytes(self.take(8), 'big', signed=True)}"
+
+    def place(self):
+        """The key and the block of a use."""
+        return self.key(), self.number(4)
+
+    def dependency(self):
+        place = self.place()
+        self.digest()
+        return place
+
+    def body(self):
+        start = self.offset
+        value = self.value()
+        deps = [self.dependency() for _ in range(self.number(1, 0, MAX_DEPS))]
+        return Body(self.proof[start : self.offset], value, deps)
+
+    def whole_proof(self):
+        self.take(len(MAGIC), lambda field: field == MAGIC)
+        question = Question(self.number(1, HIST, FWD), self.key(), self.number(4))
+        root_block, block_digest = self.number(4, least=question.block), self.digest()
+        leaf_count = self.number(4, least=1)
+        leaf_index = self.number(4, most=leaf_count - 1)
+        leaf = self.leaf(leaf_index)
+        steps = audit_length(leaf_index, leaf_count)
+        audit = [self.digest() for _ in range(self.number(1, steps, steps))]
+        headers = [self.header() for _ in range(self.number(1))]
+        has_body = bool(headers) and headers[-1].block <= question.block
+        body = self.body() if has_body else None
+        has_uses = has_body and question.kind == FWD
+        uses = [self.place() for _ in range(self.number(4))] if has_uses else None
+        if self.offset < len(self.proof):
+            raise rejected(f"malformed {self.offset}")
+        place = root_block, block_digest, leaf_count, leaf_index
+        return Proof(question, *place, leaf, audit, headers, body, uses)
+
+
+# ---- the tree
+
+
+def left_part(count):
+    """How many of so many leaves are in the left part of their tree."""
+    return 1 << (count - 1).bit_length() - 1
+
+
+def turns(index, count):
+    """The way from the top of a tree to a leaf: whether it is in the left part, at each turn."""
+    while count > 1:
+        left = left_part(count)
+        is_left = index < left
+        yield is_left
+        index, count = (index, left) if is_left else (index - left, count - left)
+
+
+def audit_length(index, count):
+    return sum(1 for _ in turns(index, count))
+
+
+def tree_hash(proof):
+    hashed = sha256(LEAF, proof.leaf.text)
+    upward = reversed(list(turns(proof.leaf_index, proof.leaf_count)))
+    for is_left, beside in zip(upward, proof.audit):
+        hashed = sha256(NODE, hashed, beside) if is_left else sha256(NODE, beside, hashed)
+    return hashed
+
+
+def root_of(proof):
+    places = proof.root_block.to_bytes(4, "big"), proof.block_digest, proof.leaf_count.to_bytes(4, "big")
+    return sha256(ROOT, *places, tree_hash(proof))
+
+
+# ---- the checks
+
+
+def check_root(proof, root):
+    made = root_of(proof)
+    if made != root:
+        raise rejected(f"root {made.hex()}")
+
+
+def check_leaf(leaf, key):
+    """Whether the leaf covers the key: no other leaf can have it."""
+    is_between = leaf.key < key and (leaf.next_key is None or leaf.next_key > key)
+    if leaf.key != key and not is_between:
+        raise rejected("leaf")
+
+
+def next_version(header, question):
+    """The version that the next header must be of; none where this header is the last one."""
+    if header.block <= question.block or not header.links:
+        return None
+    later = [link for link in header.links if link.block > question.block]
+    return later[-1] if later else header.links[0]
+
+
+def check_header(header, step, expected, question):
+    digest = sha256(HEADER, header.text)
+    if digest != expected.digest:
+        raise rejected(f"link {step} {digest.hex()}")
+    if header.key != question.key or header.block != expected.block:
+        raise rejected(f"path {step}")
+
+
+def check_path(headers, newest, question):
+    """The headers lead from the newest version to the one that is asked for."""
+    expected = newest
+    for step, header in enumerate(headers):
+        if expected is None:
+            raise rejected(f"path {step}")
+        check_header(header, step, expected, question)
+        expected = next_version(header, question)
+    if expected is not None:
+        raise rejected(f"path {len(headers)}")
+
+
+def check_body(proof):
+    digest = sha256(BODY, proof.body.text)
+    if digest != proof.headers[-1].body:
+        raise rejected(f"body {digest.hex()}")
+
+
+def uses_digest(uses):
+    digest = sha256(NO_USES)
+    for key, block in uses:
+        length = len(key).to_bytes(2, "big")
+        digest = sha256(USE, digest, length, key, block.to_bytes(4, "big"))
+    return digest
+
+
+def check_uses(proof):
+    """A version's uses are closed by the next version of its key; those of the newest are in the leaf."""
+    wanted = proof.headers[-2].closed if len(proof.headers) > 1 else proof.leaf.uses
+    digest = uses_digest(proof.uses)
+    if Uses(len(proof.uses), digest) != wanted:
+        raise rejected(f"list {digest.hex()}")
+
+
+def answer(proof, root, question):
+    """The lines of the answer that a proof proves."""
+    if proof.question != question:
+        raise rejected("query")
+    check_root(proof, root)
+    check_leaf(proof.leaf, question.key)
+    if proof.leaf.key == question.key:
+        check_path(proof.headers, proof.leaf.newest, question)
+    elif proof.headers:
+        raise rejected("path 0")
+    if proof.body is None:
+        return ["none"]
+    check_body(proof)
+    if question.kind == FWD:
+        check_uses(proof)
+    return told(proof)
+
+
+def told(proof):
+    version = proof.headers[-1]
+    kind = proof.question.kind
+    if kind == HIST:
+        return [f"block {version.block} tx {version.tx} {proof.body.value}"]
+    word, places = ("deps", proof.body.deps) if kind == BACK else ("uses", proof.uses)
+    lines = [f"{key.decode('ascii')} {block}" for key, block in places]
+    return [f"block {version.block} {word} {len(places)}", *lines]
+
+
+# ---- words and streams
+
+
+def read_words(words):
+    """The root and the question that the words are."""
+    words = [os.fsencode(word) for word in words]
+    if len(words) == 4:
+        root, kind, key, block = words
+        kinds = [name.encode() for name in KINDS]
+        patterns = (ROOT_WORD, root), (KEY_WORD, key), (NUMBER_WORD, block)
+        is_formed = kind in kinds and all(pattern.fullmatch(word) for pattern, word in patterns)
+        if is_formed and int(block) <= MAX_NUMBER:
+            return bytes.fromhex(root.decode()), Question(kinds.index(kind), key, int(block))
+    raise Stop("usage", USAGE)
+
+
+def read_input():
+    """Standard input; no more than one byte past the limit is read."""
+    read = bytearray()
+    try:
+        while len(read) <= MAX_INPUT_BYTES:
+            part = os.read(0, MAX_INPUT_BYTES + 1 - len(read))
+            if not part:
+                return bytes(read)
+            read += part
+    except OSError as fault:
+        raise Stop(None, UNREADABLE) from fault
+    raise bad_input("long")
+
+
+def read_hex(source):
+    """The bytes that hex digits stand for."""
+    digits = source[:-1] if source.endswith(b"\n") else source
+    if len(digits) % 2:
+        raise bad_input("odd")
+    other = re.search(rb"[^0-9a-fA-F]", digits)
+    if other:
+        raise bad_input(f"at {other.start()}")
+    return bytes.fromhex(digits.decode("ascii"))
+
+
+def outcome(words):
+    """The lines that are printed, and the status."""
+    try:
+        root, question = read_words(words)
+        proof = Fields(read_hex(read_input())).whole_proof()
+        return answer(proof, root, question), DONE
+    except Stop as stop:
+        return [stop.line] if stop.line else [], stop.status
+    except MemoryError:
+        return [], OUT_OF_MEMORY
+
+
+def write(lines):
+    text = "".join(f"{line}\n" for line in lines).encode("ascii")
+    while text:
+        text = text[os.write(1, text) :]
+
+
+def main():
+    lines, status = outcome(sys.argv[1:])
+    try:
+        write(lines)
+    except OSError:
+        status = UNTOLD
+    sys.exit(status)
+
+
+if __name__ == "__main__":
+    main()
