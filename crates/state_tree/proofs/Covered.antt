@@ -6,13 +6,12 @@ use Rattle.std.specs.BTreeMap.{BTreeMap}
 use Rattle.std.proofs.lemmas.Bool.{cases_Bool}
 use Rattle.std.proofs.lemmas.List.{get_or-map, length-map}
 use Rattle.std.proofs.lemmas.Option.{slice_get_cases, get_or_from_slice_get}
-use Rattle.lc_base.specs.declared.digest.Digest.{Digest}
 use Rattle.prov_entry.specs.declared.entry.Leaf.{Leaf}
 use Rattle.prov_entry.specs.Spelling.{key_or_empty}
 use Rattle.history_root.specs.Root.{is_below}
 use Rattle.state_tree.specs.Leaves.{leaf_key, index_of}
 use Rattle.state_tree.specs.Covering.{Covers}
-use Rattle.state_tree.specs.Order.{NoneUpTo, IsLastUpTo, IsTree}
+use Rattle.state_tree.specs.Order.{NoneUpTo, IsLastUpTo, AreInOrder}
 use Rattle.state_tree.specs.Laws.{CoveringsAreUnique}
 use Rattle.state_tree.proofs.Keys.{both, order, none_below}
 use Rattle.state_tree.proofs.Positions.{index_found, none_found}
@@ -30,8 +29,8 @@ indexed leaves leaf among = by leaf.key refl
     by (Some key) e = inr (key, e, ap key_or_empty e, some_or key (index_of leaves key) refl e)
 
 -- The leaf of the greatest key that is not above.
-pub covers_last : (leaves : List Leaf) (order : BTreeMap (List ℕ) ℕ) (hashes : List Digest) (key : List ℕ) (index : ℕ) → IsTree leaves order hashes → IsLastUpTo order key index → Covers leaves key index
-covers_last leaves order hashes key index tree last =
+pub covers_last : (leaves : List Leaf) (order : BTreeMap (List ℕ) ℕ) (key : List ℕ) (index : ℕ) → AreInOrder leaves order → IsLastUpTo order key index → Covers leaves key index
+covers_last leaves order key index tree last =
     let found = index_found leaves last.last index tree.sentinel (sym (tree.indexes last.last) ∙ last.kept) in
     let leaf = get_or leaves index tree.sentinel in
     let own : leaf_key leaf ≡ last.last = ap key_or_empty found.1 in
@@ -48,8 +47,8 @@ covers_last leaves order hashes key index tree last =
     ]
 
 -- The sentinel, where each key is above.
-pub covers_first : (leaves : List Leaf) (order : BTreeMap (List ℕ) ℕ) (hashes : List Digest) (key : List ℕ) → IsTree leaves order hashes → NoneUpTo order key → Covers leaves key 0
-covers_first leaves order hashes key tree none =
+pub covers_first : (leaves : List Leaf) (order : BTreeMap (List ℕ) ℕ) (key : List ℕ) → AreInOrder leaves order → NoneUpTo order key → Covers leaves key 0
+covers_first leaves order key tree none =
     let own : leaf_key tree.sentinel ≡ [] = ap key_or_empty tree.keyless in
     record { leaf = tree.sentinel; held = tree.first; not_above = rw own (none_below key); greatest = λ other among above. greatest other among (rw own at above) }
   where
@@ -67,10 +66,10 @@ covers_first leaves order hashes key tree none =
     ]
 
 -- The leaf that covers a key, by what is kept of the order.
-pub covers : (leaves : List Leaf) (order : BTreeMap (List ℕ) ℕ) (hashes : List Digest) (key : List ℕ) (found : Option ℕ) → IsTree leaves order hashes
+pub covers : (leaves : List Leaf) (order : BTreeMap (List ℕ) ℕ) (key : List ℕ) (found : Option ℕ) → AreInOrder leaves order
     → MatchOption found (NoneUpTo order key) (λ index. IsLastUpTo order key index) → Covers leaves key (unwrap_or found 0)
-covers leaves order hashes key None tree up_to = covers_first leaves order hashes key tree up_to
-covers leaves order hashes key (Some index) tree up_to = covers_last leaves order hashes key index tree up_to
+covers leaves order key None tree up_to = covers_first leaves order key tree up_to
+covers leaves order key (Some index) tree up_to = covers_last leaves order key index tree up_to
 
 -- What stands at an index.
 pub stands : {X : Type 0} (xs : List X) (i : ℕ) (x : X) → slice_get xs i ≡ Some x → (i < length xs) × (get_or xs i x ≡ x)

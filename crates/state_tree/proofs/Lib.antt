@@ -3,3 +3,4 @@ pub mod Positions
 pub mod Covered
 pub mod Threads
 pub mod Together
+pub mod Tables

@@ -8,15 +8,12 @@ use Rattle.std.specs.BTreeMap.{BTreeMap}
 use Rattle.std.proofs.lemmas.Bool.{cases_lt}
 use Rattle.std.proofs.lemmas.List.{map-append, map-set, length-map, length-set, length-append, get_or-map, get_or_append_left, get_or-set_same, get_or-set_other, get_or_default}
 use Rattle.std.proofs.lemmas.Option.{slice_get-get_or}
-use Rattle.lc_base.specs.declared.digest.Digest.{Digest}
-use Rattle.merkle_tree.specs.Tree.{leaf_text}
-use Rattle.merkle_tree.specs.Levels.{digest_of}
 use Rattle.prov_entry.specs.declared.entry.Leaf.{Leaf}
-use Rattle.prov_entry.specs.Spelling.{key_or_empty, leaf_bytes}
+use Rattle.prov_entry.specs.Spelling.{key_or_empty}
 use Rattle.history_root.specs.Root.{is_below, next_key, sentinel}
-use Rattle.state_tree.specs.Leaves.{leaf_key, leaf_keys, is_this, index_of, with_next, threaded, fresh_leaf, with_leaf_of, leaf_texts, AreApart}
+use Rattle.state_tree.specs.Leaves.{leaf_key, leaf_keys, is_this, index_of, with_next, threaded, fresh_leaf, with_leaf_of, AreApart}
 use Rattle.state_tree.specs.Covering.{Covers}
-use Rattle.state_tree.specs.Order.{kept_for, IsTree}
+use Rattle.state_tree.specs.Order.{kept_for, AreInOrder}
 use Rattle.merkle_tree.specs.declared.limits.TheConstants.{MAX_LEAVES}
 use Rattle.state_tree.proofs.Keys.{IsCovering, both, order, next_of_cover, next_of_new, next_stays}
 use Rattle.state_tree.proofs.Positions.{none_found, index_other, index_this, equal_or_not}
@@ -25,13 +22,13 @@ use Rattle.state_tree.proofs.Covered.{stands}
 -- ---- lists
 
 -- Lists of one length with equal items are equal.
-same_items : {X : Type 0} (xs ys : List X) → length xs ≡ length ys → ((i : ℕ) (d : X) → i < length xs → get_or xs i d ≡ get_or ys i d) → xs ≡ ys
+pub same_items : {X : Type 0} (xs ys : List X) → length xs ≡ length ys → ((i : ℕ) (d : X) → i < length xs → get_or xs i d ≡ get_or ys i d) → xs ≡ ys
 same_items [] [] len each = refl
 same_items [] (y ∷ ys) len each = absurd (omega arith)
 same_items (x ∷ xs) [] len each = absurd (omega arith)
 same_items (x ∷ xs) (y ∷ ys) len each = ap₂ (λ z zs. z ∷ zs) (each 0 x (omega arith)) (same_items xs ys (omega arith) (λ i d below. each (suc i) d (omega arith)))
 
-map_map : {X Y Z : Type 0} (f : Y → Z) (g : X → Y) (xs : List X) → map f (map g xs) ≡ map (λ x. f (g x)) xs
+pub map_map : {X Y Z : Type 0} (f : Y → Z) (g : X → Y) (xs : List X) → map f (map g xs) ≡ map (λ x. f (g x)) xs
 map_map f g [] = refl
 map_map f g (x ∷ xs) = ap (λ (zs : List _). f (g x) ∷ zs) (map_map f g xs)
 
@@ -217,7 +214,7 @@ kept_more leaves key order order' indexes absent kept others q =
           others q n ∙ indexes q ∙ sym (index_other own key q n) ∙ ap (λ (keys : List (Option (List ℕ))). position (is_this q) keys) (sym wide)
     ]
 
--- All leaves with their hashes, where no key is added.
+-- What is kept for each key, where none is added.
 kept_same : (leaves : List Leaf) (key : List ℕ) (order order' : BTreeMap (List ℕ) ℕ) → ((q : List ℕ) → kept_for order q ≡ index_of leaves q) → index_of leaves key ≡ None
     → kept_for order' key ≡ None → ((other : List ℕ) → key ≢ other → kept_for order' other ≡ kept_for order other) → (q : List ℕ) → kept_for order' q ≡ index_of leaves q
 kept_same leaves key order order' indexes absent kept others q = elim (equal_or_not key q) [
@@ -225,34 +222,26 @@ kept_same leaves key order order' indexes absent kept others q = elim (equal_or_
   | inr n ↦ others q n ∙ indexes q
 ]
 
--- Out of memory, it is a tree still.
-pub tree_same : (leaves leaves' : List Leaf) (order order' : BTreeMap (List ℕ) ℕ) (hashes hashes' : List Digest) (key : List ℕ) → IsTree leaves order hashes → index_of leaves key ≡ None
-    → leaves' ≡ leaves → hashes' ≡ hashes → kept_for order' key ≡ None → ((other : List ℕ) → key ≢ other → kept_for order' other ≡ kept_for order other) → IsTree leaves' order' hashes'
-tree_same leaves leaves' order order' hashes hashes' key tree absent same same' kept others =
-    subst (λ (ls : List Leaf). IsTree ls order' hashes') (sym same) (record {
+-- Out of memory, it is in order still.
+pub order_same : (leaves leaves' : List Leaf) (order order' : BTreeMap (List ℕ) ℕ) (key : List ℕ) → AreInOrder leaves order → index_of leaves key ≡ None
+    → leaves' ≡ leaves → kept_for order' key ≡ None → ((other : List ℕ) → key ≢ other → kept_for order' other ≡ kept_for order other) → AreInOrder leaves' order'
+order_same leaves leaves' order order' key tree absent same kept others =
+    subst (λ (ls : List Leaf). AreInOrder ls order') (sym same) (record {
       sentinel = tree.sentinel;
       first = tree.first;
       keyless = tree.keyless;
       apart = tree.apart;
       threads = tree.threads;
       indexes = kept_same leaves key order order' tree.indexes absent kept others;
-      hashed = tree.hashed ∙ sym same';
       few = tree.few;
     })
 
-abbrev pub leaf_digest : Leaf → Digest
-leaf_digest leaf = digest_of (leaf_text (leaf_bytes leaf))
-
-digests_of : (leaves : List Leaf) → map digest_of (leaf_texts leaves) ≡ map leaf_digest leaves
-digests_of leaves = map_map digest_of (λ (leaf : Leaf). leaf_text (leaf_bytes leaf)) leaves
-
--- With one more leaf, it is a tree.
-pub tree_grown : (leaves : List Leaf) (order order' : BTreeMap (List ℕ) ℕ) (hashes hashes' : List Digest) (key : List ℕ) (cover : ℕ) → IsTree leaves order hashes → (c : Covers leaves key cover)
+-- With one more leaf, it is in order.
+pub order_grown : (leaves : List Leaf) (order order' : BTreeMap (List ℕ) ℕ) (key : List ℕ) (cover : ℕ) → AreInOrder leaves order → (c : Covers leaves key cover)
     → IsNew leaves key → length leaves < MAX_LEAVES → kept_for order' key ≡ Some (length leaves) → ((other : List ℕ) → key ≢ other → kept_for order' other ≡ kept_for order other)
-    → hashes' ≡ set (hashes ++ digest_of (leaf_text (leaf_bytes (record (fresh_leaf key) { next = c.leaf.next }))) ∷ []) cover (digest_of (leaf_text (leaf_bytes (record c.leaf { next = Some key }))))
-    → IsTree (grown leaves key cover c.leaf) order' hashes'
+    → AreInOrder (grown leaves key cover c.leaf) order'
 unfolding grown
-tree_grown leaves order order' hashes hashes' key cover tree c new room kept others hashes_are = record {
+order_grown leaves order order' key cover tree c new room kept others = record {
   sentinel = with_next (leaf_keys wide) (get_or wide 0 tree.sentinel);
   first = ap (λ (ls : List Leaf). slice_get ls 0) is ∙ slice_get-get_or (with_leaf_of leaves key) 0 tree.sentinel (omega (arith, grown_length)) ∙ ap (λ (leaf : Leaf). Some leaf) (get_or-map (with_next (leaf_keys wide)) wide 0 tree.sentinel tree.sentinel (omega (arith, wide_length)));
   keyless = ap (λ (leaf : Leaf). leaf.key) (get_or_append_left leaves (fresh_leaf key ∷ []) tree.sentinel 0 at_first.0 ∙ at_first.1) ∙ tree.keyless;
@@ -260,7 +249,6 @@ tree_grown leaves order order' hashes hashes' key cover tree c new room kept oth
   threads = is ∙ threads_again wide ∙ ap threaded (sym is);
   indexes = λ q. kept_more leaves key order order' tree.indexes new.absent kept others q
       ∙ ap (λ (keys : List (Option (List ℕ))). position (is_this q) keys) (sym (ap (map (λ (leaf : Leaf). leaf.key)) is ∙ owns_threaded (leaf_keys wide) wide));
-  hashed = hashed_more;
   few = ap_few (ap length is ∙ grown_length);
 }
   where
@@ -287,23 +275,14 @@ tree_grown leaves order order' hashes hashes' key cover tree c new room kept oth
     ap_few : length (set (leaves ++ record (fresh_leaf key) { next = c.leaf.next } ∷ []) cover (record c.leaf { next = Some key })) ≡ length leaves + 1 → length (set (leaves ++ record (fresh_leaf key) { next = c.leaf.next } ∷ []) cover (record c.leaf { next = Some key })) ≤ MAX_LEAVES
     ap_few e = omega (arith, e, room)
 
-    hashed_more : map digest_of (leaf_texts (set (leaves ++ record (fresh_leaf key) { next = c.leaf.next } ∷ []) cover (record c.leaf { next = Some key }))) ≡ hashes'
-    hashed_more =
-        let fresh : Leaf = record (fresh_leaf key) { next = c.leaf.next } in
-        let after : Leaf = record c.leaf { next = Some key } in
-        digests_of (set (leaves ++ fresh ∷ []) cover after) ∙ map-set leaf_digest (leaves ++ fresh ∷ []) cover after
-        ∙ ap (λ (hs : List Digest). set hs cover (leaf_digest after))
-        (map-append leaf_digest leaves (fresh ∷ []) ∙ ap (λ (hs : List Digest). hs ++ leaf_digest fresh ∷ []) (sym (digests_of leaves) ∙ tree.hashed))
-        ∙ sym hashes_are
-
 -- The same, with the leaves that the code has.
-pub added : (leaves leaves' : List Leaf) (order order' : BTreeMap (List ℕ) ℕ) (hashes hashes' : List Digest) (key : List ℕ) (cover : ℕ) (before fresh after : Leaf) → IsTree leaves order hashes
+pub added : (leaves leaves' : List Leaf) (order order' : BTreeMap (List ℕ) ℕ) (key : List ℕ) (cover : ℕ) (before fresh after : Leaf) → AreInOrder leaves order
     → Covers leaves key cover → slice_get leaves cover ≡ Some before → IsNew leaves key → length leaves < MAX_LEAVES → kept_for order' key ≡ Some (length leaves)
     → ((other : List ℕ) → key ≢ other → kept_for order' other ≡ kept_for order other) → fresh ≡ record (fresh_leaf key) { next = before.next } → after ≡ record before { next = Some key }
-    → leaves' ≡ set (leaves ++ fresh ∷ []) cover after → hashes' ≡ set (hashes ++ leaf_digest fresh ∷ []) cover (leaf_digest after)
-    → IsTree leaves' order' hashes' × (leaves' ≡ with_leaf_of leaves key)
+    → leaves' ≡ set (leaves ++ fresh ∷ []) cover after
+    → AreInOrder leaves' order' × (leaves' ≡ with_leaf_of leaves key)
 unfolding grown
-added leaves leaves' order order' hashes hashes' key cover before fresh after tree covers held new room kept others fresh_is after_is leaves_are hashes_are =
+added leaves leaves' order order' key cover before fresh after tree covers held new room kept others fresh_is after_is leaves_are =
     let same : before ≡ covers.leaf = some_same before covers.leaf (sym held ∙ covers.held) in
     let c : Covers leaves key cover = record {
       leaf = before;
@@ -311,9 +290,8 @@ added leaves leaves' order order' hashes hashes' key cover before fresh after tr
       not_above = rw same covers.not_above;
       greatest = λ other among above. covers.greatest other among (rw same at above);
     } in
-    let now : leaves' ≡ grown leaves key cover before = leaves_are ∙ ap₂ (λ (f a : Leaf). set (leaves ++ f ∷ []) cover a) fresh_is after_is in
-    let hashed = hashes_are ∙ ap₂ (λ (f a : Leaf). set (hashes ++ leaf_digest f ∷ []) cover (leaf_digest a)) fresh_is after_is in (
-      subst (λ (ls : List Leaf). IsTree ls order' hashes') (sym now) (tree_grown leaves order order' hashes hashes' key cover tree c new room kept others hashed),
+    let now : leaves' ≡ grown leaves key cover before = leaves_are ∙ ap₂ (λ (f a : Leaf). set (leaves ++ f ∷ []) cover a) fresh_is after_is in (
+      subst (λ (ls : List Leaf). AreInOrder ls order') (sym now) (order_grown leaves order order' key cover tree c new room kept others),
       now ∙ grown_is leaves key cover c tree.threads tree.apart new,
     )
   where
@@ -322,10 +300,10 @@ added leaves leaves' order order' hashes hashes' key cover before fresh after tr
 
 -- ---- a leaf that is set
 
--- With a leaf of the same key and next key, it is a tree.
-pub tree_set : (leaves : List Leaf) (order : BTreeMap (List ℕ) ℕ) (hashes hashes' : List Digest) (i : ℕ) (before after : Leaf) → IsTree leaves order hashes → slice_get leaves i ≡ Some before → 0 < i
-    → after.key ≡ before.key → after.next ≡ before.next → hashes' ≡ set hashes i (leaf_digest after) → IsTree (set leaves i after) order hashes'
-tree_set leaves order hashes hashes' i before after tree held own same_key same_next hashes_are = record {
+-- With a leaf of the same key and next key, it is in order.
+pub order_set : (leaves : List Leaf) (order : BTreeMap (List ℕ) ℕ) (i : ℕ) (before after : Leaf) → AreInOrder leaves order → slice_get leaves i ≡ Some before → 0 < i
+    → after.key ≡ before.key → after.next ≡ before.next → AreInOrder (set leaves i after) order
+order_set leaves order i before after tree held own same_key same_next = record {
   sentinel = tree.sentinel;
   first = slice_get-get_or (set leaves i after) 0 tree.sentinel (omega (arith, at_first.0, length-set leaves i after))
       ∙ ap (λ (leaf : Leaf). Some leaf) (get_or-set_other leaves i 0 after tree.sentinel (λ e. absurd (omega arith)) ∙ at_first.1);
@@ -334,7 +312,6 @@ tree_set leaves order hashes hashes' i before after tree held own same_key same_
   threads = sym (ap (λ (ks : List (List ℕ)). map (with_next ks) (set leaves i after)) keys ∙ map-set (with_next (leaf_keys leaves)) leaves i after
       ∙ ap₂ (λ (ls : List Leaf) (leaf : Leaf). set ls i leaf) (sym tree.threads) stays);
   indexes = λ q. tree.indexes q ∙ ap (λ (ks : List (Option (List ℕ))). position (is_this q) ks) (sym owns);
-  hashed = digests_of (set leaves i after) ∙ map-set leaf_digest leaves i after ∙ ap (λ (hs : List Digest). set hs i (leaf_digest after)) (sym (digests_of leaves) ∙ tree.hashed) ∙ sym hashes_are;
   few = ap_few;
 }
   where
@@ -363,18 +340,13 @@ tree_set leaves order hashes hashes' i before after tree held own same_key same_
 
 -- ---- the first tree
 
-pub tree_new : (leaves : List Leaf) (order : BTreeMap (List ℕ) ℕ) (hashes : List Digest) → leaves ≡ sentinel [] ∷ [] → order.entries ≡ [] → hashes ≡ leaf_digest (sentinel []) ∷ [] → IsTree leaves order hashes
-tree_new leaves order hashes leaves_are empty hashes_are = subst (λ (ls : List Leaf). IsTree ls order hashes) (sym leaves_are) (record {
+pub order_new : (leaves : List Leaf) (order : BTreeMap (List ℕ) ℕ) → leaves ≡ sentinel [] ∷ [] → order.entries ≡ [] → AreInOrder leaves order
+order_new leaves order leaves_are empty = subst (λ (ls : List Leaf). AreInOrder ls order) (sym leaves_are) (record {
   sentinel = sentinel [];
   first = refl;
   keyless = refl;
   apart = λ i j below below' e. omega arith;
   threads = refl;
   indexes = λ q. rw empty refl;
-  hashed = sym hashes_are;
   few = omega arith;
 })
-
--- There is one hash for each leaf.
-pub hash_count : (leaves : List Leaf) (order : BTreeMap (List ℕ) ℕ) (hashes : List Digest) → IsTree leaves order hashes → length hashes ≡ length leaves
-hash_count leaves order hashes tree = sym (ap length tree.hashed) ∙ ap length (digests_of leaves) ∙ length-map leaves leaf_digest

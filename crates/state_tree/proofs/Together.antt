@@ -1,72 +1,223 @@
--- What some leaves say, set together.
-use Rattle.std.proofs.Common.{◌≡◌, ℕ, ◌<◌, List, [], ◌∷◌, ◌++◌, length, get_or, map, refl, sym, ap, subst, ◌∙◌, arith}
+-- What some leaves say, set together, and the hashes that are stale.
+use Rattle.std.proofs.Common.{◌≡◌, ℕ, zero, suc, ◌+◌, ◌<◌, ◌≢◌, Bool, true, false, ◌==◌, List, [], ◌∷◌, ◌++◌, length, get_or, map, Option, refl, sym, ap, subst, ◌∙◌, arith, inl, inr}
 use Rattle.std.proofs.Math.ListN.{set}
-use Rattle.std.specs.List.{All}
+use Rattle.std.specs.Prelude.{reverse}
+use Rattle.std.specs.List.{All, Contains}
 use Rattle.std.specs.BTreeMap.{BTreeMap}
-use Rattle.std.proofs.lemmas.List.{map-set, length-set, set-get_or}
-use Rattle.std.proofs.lemmas.List.Sums.{fold_push}
-use Rattle.std.proofs.lemmas.List.Elements.{All-nil, All-push, All-head, All-tail}
+use Rattle.std.proofs.lemmas.Bool.{cases_eq, eq-eqb}
+use Rattle.std.proofs.lemmas.List.{length-set, length-append, length-map, set-get_or, get_or-map, get_or_append_left, get_or-set_other, get_or-set_same, get_or_default, reverse-append, set-set}
+use Rattle.std.proofs.lemmas.List.Folds.{list_any_at}
+use Rattle.std.proofs.lemmas.List.Elements.{All-nil, All-cons, All-map, All-append, All-head, All-tail, All-weaker, Contains-append_left, Contains-append_right}
 use Rattle.std.proofs.lemmas.Option.{slice_get-get_or}
 use Rattle.lc_base.specs.declared.digest.Digest.{Digest}
 use Rattle.merkle_tree.specs.Tree.{leaf_text}
-use Rattle.merkle_tree.specs.Levels.{digest_of, set_each}
+use Rattle.merkle_tree.specs.Levels.{digest_of, is_set, IsOwn, Renews}
 use Rattle.merkle_tree.specs.declared.setting_all.HashAt.{HashAt}
 use Rattle.prov_entry.specs.declared.entry.Leaf.{Leaf}
 use Rattle.prov_entry.specs.Spelling.{leaf_bytes}
 use Rattle.history_root.specs.Root.{sentinel}
 use Rattle.state_tree.specs.declared.states.LeafState.{LeafState}
-use Rattle.state_tree.specs.Leaves.{saying, with_state, with_states, leaf_texts, leaf_hashes}
-use Rattle.state_tree.specs.Order.{IsTree, Renews}
-use Rattle.state_tree.proofs.Threads.{leaf_digest, tree_set}
+use Rattle.state_tree.specs.Leaves.{said, saying, with_state, with_states, indexes_of, leaf_texts, leaf_hashes}
+use Rattle.state_tree.specs.Order.{AreInOrder, AreHashedBut, IsTree, no_hash, hash_at}
+use Rattle.state_tree.proofs.Threads.{same_items, map_map, order_set}
 
-hashes-set : (leaves : List Leaf) (i : ℕ) (leaf : Leaf) → leaf_hashes (set leaves i leaf) ≡ set (leaf_hashes leaves) i (leaf_digest leaf)
-hashes-set leaves i leaf =
-    ap (map digest_of) (map-set (λ (one : Leaf). leaf_text (leaf_bytes one)) leaves i leaf)
-    ∙ map-set digest_of (leaf_texts leaves) i (leaf_text (leaf_bytes leaf))
+-- ---- the hashes of leaves
 
--- Nothing is renewed yet.
-pub renews_none : (leaves : List Leaf) → Renews leaves leaves []
-renews_none leaves = record { renewed = refl; below = All-nil (λ (one : HashAt). one.index < length leaves) }
+abbrev pub leaf_digest : Leaf → Digest
+leaf_digest leaf = digest_of (leaf_text (leaf_bytes leaf))
 
-pub renews_same : (first leaves after : List Leaf) (hashes : List HashAt) → after ≡ leaves → Renews first leaves hashes → Renews first after hashes
-renews_same first leaves after hashes is renews = subst (λ (last : List Leaf). Renews first last hashes) (sym is) renews
+digests_of : (leaves : List Leaf) → leaf_hashes leaves ≡ map leaf_digest leaves
+digests_of leaves = map_map digest_of (λ (leaf : Leaf). leaf_text (leaf_bytes leaf)) leaves
 
--- One leaf more.
-pub renews_more : (first leaves after : List Leaf) (hashes new : List HashAt) (leaf : Leaf) (one : HashAt) → one.index < length leaves → length first ≡ length leaves
-    → after ≡ set leaves one.index leaf → one.hash ≡ leaf_digest leaf → new ≡ hashes ++ one ∷ [] → Renews first leaves hashes → Renews first after new
-renews_more first leaves after hashes new leaf one below many is hash_is new_is renews = record {
-  renewed = ap leaf_hashes is ∙ hashes-set leaves one.index leaf
-      ∙ ap (λ (hash : Digest). set (leaf_hashes leaves) one.index hash) (sym hash_is)
-      ∙ ap (λ (level : List Digest). set level one.index one.hash) renews.renewed
-      ∙ sym (ap (set_each (leaf_hashes first)) new_is ∙ fold_push (λ (level : List Digest) (at : HashAt). set level at.index at.hash) (leaf_hashes first) hashes one);
-  below = subst (λ (all : List HashAt). All (λ (at : HashAt). at.index < length first) all) (sym new_is)
-      (All-push (λ (at : HashAt). at.index < length first) hashes one renews.below (omega (arith, below, many)));
+pub hash_count : (leaves : List Leaf) → length (leaf_hashes leaves) ≡ length leaves
+hash_count leaves = ap length (digests_of leaves) ∙ length-map leaves leaf_digest
+
+pub hash_there : (leaves : List Leaf) (i : ℕ) (d : Leaf) → i < length leaves → get_or (leaf_hashes leaves) i no_hash ≡ leaf_digest (get_or leaves i d)
+hash_there leaves i d below = ap (λ (hashes : List Digest). get_or hashes i no_hash) (digests_of leaves) ∙ get_or-map leaf_digest leaves i d no_hash below
+
+-- The hash of a leaf is that of the same leaf elsewhere.
+hash_alike : (leaves last : List Leaf) (i : ℕ) → i < length leaves → i < length last → get_or leaves i (sentinel []) ≡ get_or last i (sentinel []) → get_or (leaf_hashes leaves) i no_hash ≡ get_or (leaf_hashes last) i no_hash
+hash_alike leaves last i below below' same = hash_there leaves i (sentinel []) below ∙ ap leaf_digest same ∙ sym (hash_there last i (sentinel []) below')
+
+-- ---- hashes that are stale
+
+pub none_stale : (leaves : List Leaf) (hashes : List Digest) → hashes ≡ leaf_hashes leaves → AreHashedBut leaves hashes []
+none_stale leaves hashes is = record {
+  fewer = omega (arith, ap length is, hash_count leaves);
+  within = All-nil (λ (index : ℕ). index < length leaves);
+  others = λ i below apart. (omega (arith, ap length is, hash_count leaves, below), ap (λ (hs : List Digest). get_or hs i no_hash) is);
 }
 
--- A leaf that says so already.
-pub says_already : (leaves : List Leaf) (state : LeafState) (leaf : Leaf) → leaf ≡ get_or leaves state.index (sentinel []) → saying leaf state ≡ leaf → with_state leaves state ≡ leaves
-says_already leaves state leaf is says =
-    ap (λ (one : Leaf). set leaves state.index (saying one state)) (sym is) ∙ ap (λ (one : Leaf). set leaves state.index one) (says ∙ is)
-    ∙ set-get_or leaves state.index (sentinel [])
+-- Where none is stale, the hashes are those of the leaves.
+pub all_hashed : (leaves : List Leaf) (hashes : List Digest) (stale : List ℕ) → AreHashedBut leaves hashes stale → stale ≡ [] → hashes ≡ leaf_hashes leaves
+all_hashed leaves hashes stale but none =
+    same_items hashes (leaf_hashes leaves) many (λ i d below. let is = but.others i (omega (arith, below, many, hash_count leaves)) apart in by i d is.0 is.1 below)
+  where
+    apart : {i : ℕ} → Contains stale i → ⊥
+    apart {i = i} there = let few : length stale ≡ 0 = ap length none in omega (arith, few, there.1)
 
--- It stays a tree.
-tree_states : (leaves : List Leaf) (order : BTreeMap (List ℕ) ℕ) (hashes : List Digest) (states : List LeafState) → IsTree leaves order hashes
-    → All (λ (state : LeafState). 0 < state.index) states → All (λ (state : LeafState). state.index < length leaves) states
-    → IsTree (with_states leaves states) order (leaf_hashes (with_states leaves states))
-tree_states leaves order hashes [] tree own below = subst (λ (hs : List Digest). IsTree leaves order hs) (sym tree.hashed) tree
-tree_states leaves order hashes (state ∷ states) tree own below =
+    many : length hashes ≡ length (leaf_hashes leaves)
+    many = go (length leaves) refl
+      where
+        go : (n : ℕ) → length leaves ≡ n → length hashes ≡ length (leaf_hashes leaves)
+        go zero e = omega (arith, e, but.fewer, hash_count leaves)
+        go (suc n) e = omega (arith, e, but.fewer, hash_count leaves, (but.others n (omega (arith, e)) apart).0)
+
+    by : (i : ℕ) (d : Digest) → i < length hashes → get_or hashes i no_hash ≡ get_or (leaf_hashes leaves) i no_hash → i < length hashes → get_or hashes i d ≡ get_or (leaf_hashes leaves) i d
+    by i d below same below' = get_or_default hashes i d no_hash below ∙ same ∙ get_or_default (leaf_hashes leaves) i no_hash d (omega (arith, below, many))
+
+-- With one more leaf, after which another names it.
+pub stale_grown : (leaves leaves' : List Leaf) (hashes : List Digest) (stale stale' : List ℕ) (cover : ℕ) (fresh after : Leaf) → AreHashedBut leaves hashes stale → cover < length leaves
+    → leaves' ≡ set (leaves ++ fresh ∷ []) cover after → stale' ≡ stale ++ cover ∷ length leaves ∷ [] → AreHashedBut leaves' hashes stale'
+stale_grown leaves leaves' hashes stale stale' cover fresh after but inside leaves_are stale_is =
+    subst (λ (ls : List Leaf). AreHashedBut ls hashes stale') (sym leaves_are)
+    (subst (λ (indexes : List ℕ). AreHashedBut (set (leaves ++ fresh ∷ []) cover after) hashes indexes) (sym stale_is) (record {
+      fewer = omega (arith, long, but.fewer);
+      within = All-append (λ (index : ℕ). index < length grown) stale (cover ∷ length leaves ∷ [])
+          (All-weaker (λ (index : ℕ). index < length leaves) (λ (index : ℕ). index < length grown) (λ index h. omega (arith, h, long)) stale but.within)
+          (All-cons (λ (index : ℕ). index < length grown) cover (length leaves ∷ []) (omega (arith, inside, long))
+          (All-cons (λ (index : ℕ). index < length grown) (length leaves) [] (omega (arith, long)) (All-nil (λ (index : ℕ). index < length grown))));
+      others = others;
+    }))
+  where
+    grown : List Leaf
+    grown = set (leaves ++ fresh ∷ []) cover after
+
+    long : length grown ≡ length leaves + 1
+    long = length-set (leaves ++ fresh ∷ []) cover after ∙ length-append leaves (fresh ∷ [])
+
+    others : (i : ℕ) → i < length grown → (Contains (stale ++ cover ∷ length leaves ∷ []) i → ⊥) → (i < length hashes) × (get_or hashes i no_hash ≡ get_or (leaf_hashes grown) i no_hash)
+    others i below apart =
+        let not_cover : i ≢ cover = λ e. apart (Contains-append_right stale (cover ∷ length leaves ∷ []) i (0, omega arith, sym e)) in
+        let not_last : i ≢ length leaves = λ e. apart (Contains-append_right stale (cover ∷ length leaves ∷ []) i (1, omega arith, sym e)) in
+        let old : i < length leaves = omega (arith, below, long, not_last) in
+        let is = but.others i old (λ there. apart (Contains-append_left stale (cover ∷ length leaves ∷ []) i there)) in
+        (is.0, is.1 ∙ hash_alike leaves grown i old below (sym (get_or-set_other (leaves ++ fresh ∷ []) cover i after (sentinel []) not_cover ∙ get_or_append_left leaves (fresh ∷ []) (sentinel []) i old)))
+
+-- With a leaf and its hash set.
+pub stale_set : (leaves : List Leaf) (hashes hashes' : List Digest) (stale : List ℕ) (i : ℕ) (after : Leaf) → AreHashedBut leaves hashes stale → hashes' ≡ set hashes i (leaf_digest after) → AreHashedBut (set leaves i after) hashes' stale
+stale_set leaves hashes hashes' stale i after but is = subst (λ (hs : List Digest). AreHashedBut (set leaves i after) hs stale) (sym is) (record {
+  fewer = omega (arith, but.fewer, length-set leaves i after, length-set hashes i (leaf_digest after));
+  within = All-weaker (λ (index : ℕ). index < length leaves) (λ (index : ℕ). index < length (set leaves i after)) (λ index h. omega (arith, h, length-set leaves i after)) stale but.within;
+  others = others;
+})
+  where
+    others : (k : ℕ) → k < length (set leaves i after) → (Contains stale k → ⊥) → (k < length (set hashes i (leaf_digest after))) × (get_or (set hashes i (leaf_digest after)) k no_hash ≡ get_or (leaf_hashes (set leaves i after)) k no_hash)
+    others k below apart =
+        let old : k < length leaves = omega (arith, below, length-set leaves i after) in
+        let was = but.others k old apart in (
+          omega (arith, was.0, length-set hashes i (leaf_digest after)),
+          elim (cases_eq k i) [
+            | inl same ↦
+                ap (λ (j : ℕ). get_or (set hashes i (leaf_digest after)) j no_hash) same ∙ get_or-set_same hashes i (leaf_digest after) no_hash (omega (arith, same, was.0))
+                ∙ ap leaf_digest (sym (get_or-set_same leaves i after (sentinel []) (omega (arith, same, old))))
+                ∙ sym (hash_there (set leaves i after) i (sentinel []) (omega (arith, same, below)))
+                ∙ ap (λ (j : ℕ). get_or (leaf_hashes (set leaves i after)) j no_hash) (sym same)
+            | inr apart' ↦
+                get_or-set_other hashes i k (leaf_digest after) no_hash apart' ∙ was.1
+                ∙ hash_alike leaves (set leaves i after) k old below (sym (get_or-set_other leaves i k after (sentinel []) apart'))
+          ],
+        )
+
+-- What is set to renew hashes: those of all leaves that are stale.
+pub renews : (leaves : List Leaf) (hashes : List Digest) (indexes : List ℕ) → AreHashedBut leaves hashes indexes → Renews hashes (leaf_hashes leaves) (map (hash_at leaves) indexes)
+renews leaves hashes indexes but = record {
+  fewer = omega (arith, but.fewer, hash_count leaves);
+  own = All-map (IsOwn (leaf_hashes leaves)) (hash_at leaves) indexes
+      (All-weaker (λ (index : ℕ). index < length leaves) (λ (index : ℕ). IsOwn (leaf_hashes leaves) (hash_at leaves index))
+      (λ index h. let within : index < length (leaf_hashes leaves) = omega (arith, h, hash_count leaves) in (within, get_or_default (leaf_hashes leaves) index _ no_hash within)) indexes but.within);
+  others = λ place below off.
+      let is = but.others place (omega (arith, below, hash_count leaves)) (λ there. clash (is_set (map (hash_at leaves) indexes) place) (set_there place there) off) in
+      (is.0, get_or_default hashes place _ no_hash is.0 ∙ is.1 ∙ get_or_default (leaf_hashes leaves) place no_hash _ below);
+}
+  where
+    clash : (b : Bool) → b ≡ true → b ≡ false → ⊥
+    clash b t f = cc
+
+    set_there : (place : ℕ) → Contains indexes place → is_set (map (hash_at leaves) indexes) place ≡ true
+    set_there place (k, below, is) =
+        list_any_at (λ (one : HashAt). one.index == place) (map (hash_at leaves) indexes) k (hash_at leaves place) (omega (arith, below, length-map indexes (hash_at leaves)))
+        (eq-eqb (get_or (map (hash_at leaves) indexes) k (hash_at leaves place)).index place (ap (λ (one : HashAt). one.index) (get_or-map (hash_at leaves) indexes k place (hash_at leaves place) below) ∙ is))
+
+-- ---- leaves that are told what to say
+
+pub states_long : (leaves : List Leaf) (states : List LeafState) → length (with_states leaves states) ≡ length leaves
+states_long leaves [] = refl
+states_long leaves (state ∷ states) = states_long (with_state leaves state) states ∙ length-set leaves state.index (saying (get_or leaves state.index (sentinel [])) state)
+
+other_leaf : (leaves : List Leaf) (states : List LeafState) (i : ℕ) → (Contains (indexes_of states) i → ⊥) → get_or (with_states leaves states) i (sentinel []) ≡ get_or leaves i (sentinel [])
+other_leaf leaves [] i apart = refl
+other_leaf leaves (state ∷ states) i apart =
+    other_leaf (with_state leaves state) states i (λ there. apart (suc there.0, omega (arith, there.1), there.2))
+    ∙ get_or-set_other leaves state.index i (saying (get_or leaves state.index (sentinel [])) state) (sentinel []) (λ e. apart (0, omega arith, sym e))
+
+-- The leaves that say something new are stale.
+pub stale_states : (leaves : List Leaf) (hashes : List Digest) (stale indexes : List ℕ) (states : List LeafState) → AreHashedBut leaves hashes stale → All (λ (state : LeafState). state.index < length leaves) states
+    → ((i : ℕ) → Contains (stale ++ indexes_of states) i → Contains indexes i) → ((bound : ℕ) → All (λ (index : ℕ). index < bound) (stale ++ indexes_of states) → All (λ (index : ℕ). index < bound) indexes)
+    → AreHashedBut (with_states leaves states) hashes indexes
+stale_states leaves hashes stale indexes states but below has within = record {
+  fewer = omega (arith, but.fewer, states_long leaves states);
+  within = All-weaker (λ (index : ℕ). index < length leaves) (λ (index : ℕ). index < length (with_states leaves states)) (λ index h. omega (arith, h, states_long leaves states)) indexes
+      (within (length leaves) (All-append (λ (index : ℕ). index < length leaves) stale (indexes_of states) but.within (All-map (λ (index : ℕ). index < length leaves) (λ (state : LeafState). state.index) states below)));
+  others = λ i below' apart.
+      let old : i < length leaves = omega (arith, below', states_long leaves states) in
+      let is = but.others i old (λ there. apart (has i (Contains-append_left stale (indexes_of states) i there))) in
+      (is.0, is.1 ∙ hash_alike leaves (with_states leaves states) i old below' (sym (other_leaf leaves states i (λ there. apart (has i (Contains-append_right stale (indexes_of states) i there))))));
+}
+
+-- It stays in order.
+pub order_states : (leaves : List Leaf) (order : BTreeMap (List ℕ) ℕ) (states : List LeafState) → AreInOrder leaves order
+    → All (λ (state : LeafState). 0 < state.index) states → All (λ (state : LeafState). state.index < length leaves) states → AreInOrder (with_states leaves states) order
+order_states leaves order [] tree own below = tree
+order_states leaves order (state ∷ states) tree own below =
     let before = get_or leaves state.index (sentinel []) in
     let after = saying before state in
     let held = slice_get-get_or leaves state.index (sentinel []) (All-head (λ (one : LeafState). one.index < length leaves) state states below) in
-    let one = tree_set leaves order hashes (set hashes state.index (leaf_digest after)) state.index before after tree held (All-head (λ (one : LeafState). 0 < one.index) state states own) refl refl refl in
+    let one = order_set leaves order state.index before after tree held (All-head (λ (one : LeafState). 0 < one.index) state states own) refl refl in
     let rest : All (λ (one : LeafState). one.index < length (set leaves state.index after)) states = rw (length-set leaves state.index after) (All-tail (λ (one : LeafState). one.index < length leaves) state states below) in
-    tree_states (set leaves state.index after) order (set hashes state.index (leaf_digest after)) states one (All-tail (λ (one : LeafState). 0 < one.index) state states own) rest
+    order_states (set leaves state.index after) order states one (All-tail (λ (one : LeafState). 0 < one.index) state states own) rest
 
--- With the hashes that renew those of its leaves, it is a tree.
-pub tree_renewed : (leaves last : List Leaf) (order : BTreeMap (List ℕ) ℕ) (hashes hashes' : List Digest) (states : List LeafState) (renewing : List HashAt) → IsTree leaves order hashes
+-- Told what it said before, a leaf is as it was.
+pub said_again : (leaves : List Leaf) (state : LeafState) (before : Leaf) → state.index < length leaves → before ≡ get_or leaves state.index (sentinel []) → with_state (with_state leaves state) (said before state.index) ≡ leaves
+said_again leaves state before below is =
+    let i = state.index in
+    let after = saying (get_or leaves i (sentinel [])) state in
+    ap (λ (leaf : Leaf). set (set leaves i after) i (saying leaf (said before i))) (get_or-set_same leaves i after (sentinel []) below)
+    ∙ set-set leaves i after (saying after (said before i)) ∙ ap (λ (leaf : Leaf). set leaves i leaf) same ∙ set-get_or leaves i (sentinel [])
+  where
+    same : saying (saying (get_or leaves state.index (sentinel [])) state) (said before state.index) ≡ get_or leaves state.index (sentinel [])
+    same = ap (λ (leaf : Leaf). saying (saying (get_or leaves state.index (sentinel [])) state) (said leaf state.index)) is
+
+-- One more is told what it said before, first of all.
+pub back_more : (leaves last first : List Leaf) (before : List LeafState) (one : LeafState) → with_state last one ≡ leaves → with_states leaves (reverse before) ≡ first → with_states last (reverse (before ++ one ∷ [])) ≡ first
+back_more leaves last first before one is so =
+    ap (with_states last) (reverse-append before (one ∷ [])) ∙ ap (λ (ls : List Leaf). with_states ls (reverse before)) is ∙ so
+
+pub stale_same : (leaves leaves' : List Leaf) (hashes : List Digest) (stale stale' : List ℕ) → AreHashedBut leaves hashes stale → leaves' ≡ leaves → stale' ≡ stale → AreHashedBut leaves' hashes stale'
+stale_same leaves leaves' hashes stale stale' but same same' = rw (same, same') but
+
+pub said_back : (leaves : List Leaf) (state : LeafState) (before after : Leaf) (old : LeafState) → state.index < length leaves → before ≡ get_or leaves state.index (sentinel [])
+    → after ≡ saying before state → old ≡ said before state.index → with_state (set leaves state.index after) old ≡ leaves
+said_back leaves state before after old below is after_is old_is =
+    ap (λ (one : LeafState). with_state (set leaves state.index after) one) old_is
+    ∙ ap (λ (leaf : Leaf). with_state (set leaves state.index leaf) (said before state.index)) (after_is ∙ ap (λ (leaf : Leaf). saying leaf state) is)
+    ∙ said_again leaves state before below is
+
+-- Where none is stale, a path by the hashes is one by the leaves.
+pub texts_hashed : (leaves view : List Leaf) (hashes : List Digest) (stale : List ℕ) → AreHashedBut leaves hashes stale → length stale ≡ 0 → leaves ≡ view → map digest_of (leaf_texts view) ≡ hashes
+texts_hashed leaves view hashes stale but none is = ap leaf_hashes (sym is) ∙ sym (all_hashed leaves hashes stale but (no_items stale none))
+  where
+    no_items : (xs : List ℕ) → length xs ≡ 0 → xs ≡ []
+    no_items [] e = refl
+    no_items (x ∷ xs) e = absurd (omega arith)
+
+-- After leaves were set and hashed.
+pub tree_renewed : (leaves last : List Leaf) (order : BTreeMap (List ℕ) ℕ) (found : List ℕ → Option ℕ) (hashes hashes' : List Digest) (stale stale' : List ℕ) (states : List LeafState) → IsTree leaves order found hashes stale
     → All (λ (state : LeafState). 0 < state.index) states → All (λ (state : LeafState). state.index < length leaves) states → last ≡ with_states leaves states
-    → Renews leaves last renewing → hashes' ≡ set_each hashes renewing → IsTree last order hashes'
-tree_renewed leaves last order hashes hashes' states renewing tree own below is renews hashes_are =
-    let now : leaf_hashes (with_states leaves states) ≡ hashes' = ap leaf_hashes (sym is) ∙ renews.renewed ∙ ap (λ (level : List Digest). set_each level renewing) tree.hashed ∙ sym hashes_are in
-    subst (λ (ls : List Leaf). IsTree ls order hashes') (sym is)
-    (subst (λ (hs : List Digest). IsTree (with_states leaves states) order hs) now (tree_states leaves order hashes states tree own below))
+    → hashes' ≡ leaf_hashes (with_states leaves states) → stale' ≡ [] → IsTree last order found hashes' stale'
+tree_renewed leaves last order found hashes hashes' stale stale' states tree own below is hashes_are none =
+    subst (λ (ls : List Leaf). IsTree ls order found hashes' stale') (sym is) (record {
+      in_order = order_states leaves order states tree.in_order own below;
+      found_is = tree.found_is;
+      hashed = rw none (none_stale (with_states leaves states) hashes' hashes_are);
+    })

@@ -60,6 +60,20 @@ saying leaf state = record leaf {
   open_digest = state.open_digest;
 }
 
+-- What a leaf says of the versions of its key, with the index of the leaf.
+abbrev pub said : Leaf → ℕ → LeafState
+said leaf index = record {
+  index = index;
+  newest_block = leaf.newest_block;
+  newest = leaf.newest;
+  open_count = leaf.open_count;
+  open_digest = leaf.open_digest;
+}
+
+-- The indexes of the leaves that are to say something.
+abbrev pub indexes_of : List LeafState → List ℕ
+indexes_of states = map (λ (state : LeafState). state.index) states
+
 -- Leaves, of which the one at the index says this.
 abbrev pub with_state : List Leaf → LeafState → List Leaf
 with_state leaves state = slice_set leaves state.index (saying (slice_index_or leaves state.index (sentinel [])) state)

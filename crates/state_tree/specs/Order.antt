@@ -1,12 +1,12 @@
 -- What the tree keeps beside its leaves.
-use Rattle.std.specs.Prelude.{◌≡◌, ◌<◌, ◌≤◌, false, ℕ, List, length, Option, Some, None, IsSome, slice_get}
-use Rattle.std.specs.List.{All}
+use Rattle.std.specs.Prelude.{◌≡◌, ◌<◌, ◌≤◌, false, ℕ, List, [], length, Option, Some, None, IsSome, slice_get, slice_index_or}
+use Rattle.std.specs.List.{All, Contains}
 use Rattle.std.specs.Ordering.{nat_cmp}
 use Rattle.std.specs.Cmp.Lexicographic.{slice_cmp}
 use Rattle.std.specs.BTreeMap.{BTreeMap, get}
 use Rattle.lc_base.specs.declared.digest.Digest.{Digest}
 use Rattle.merkle_tree.specs.declared.setting_all.HashAt.{HashAt}
-use Rattle.merkle_tree.specs.Levels.{set_each}
+use Rattle.merkle_tree.specs.Levels.{digest_of}
 use Rattle.prov_entry.specs.declared.entry.Leaf.{Leaf}
 use Rattle.history_root.specs.Root.{is_below}
 use Rattle.state_tree.specs.Leaves.{index_of, threaded, leaf_keys, leaf_hashes, AreApart}
@@ -27,19 +27,35 @@ pub record IsLastUpTo (order : BTreeMap (List ℕ) ℕ) (key : List ℕ) (index 
   pub not_above : is_below key last ≡ false
   pub greatest : (other : List ℕ) → is_below key other ≡ false → IsSome (kept_for order other) → is_below last other ≡ false
 
--- The leaves begin with the sentinel, are threaded, and have no key twice; the indexes and the
--- hashes that are kept are theirs.
-pub record IsTree (leaves : List Leaf) (order : BTreeMap (List ℕ) ℕ) (hashes : List Digest) : Type 0 where
+-- The leaves begin with the sentinel, are threaded, and have no key twice; the indexes that are kept
+-- are theirs.
+pub record AreInOrder (leaves : List Leaf) (order : BTreeMap (List ℕ) ℕ) : Type 0 where
   pub sentinel : Leaf
   pub first : slice_get leaves 0 ≡ Some sentinel
   pub keyless : sentinel.key ≡ None
   pub apart : AreApart (leaf_keys leaves)
   pub threads : leaves ≡ threaded leaves
   pub indexes : (key : List ℕ) → kept_for order key ≡ index_of leaves key
-  pub hashed : leaf_hashes leaves ≡ hashes
   pub few : length leaves ≤ MAX_LEAVES
 
--- With these hashes set one after another, the hashes of the first leaves are those of the last.
-pub record Renews (first last : List Leaf) (hashes : List HashAt) : Type 0 where
-  pub renewed : leaf_hashes last ≡ set_each (leaf_hashes first) hashes
-  pub below : All (λ (one : HashAt). one.index < length first) hashes
+-- What is taken for a hash past the end.
+abbrev pub no_hash : Digest
+no_hash = digest_of []
+
+-- The hash of the leaf at an index, with the index.
+abbrev pub hash_at : List Leaf → ℕ → HashAt
+hash_at leaves index = record { index = index; hash = slice_index_or (leaf_hashes leaves) index no_hash }
+
+-- The hashes are those of the leaves, but for the leaves at some indexes: the hash of such a leaf is an
+-- old one, or not there.
+pub record AreHashedBut (leaves : List Leaf) (hashes : List Digest) (stale : List ℕ) : Type 0 where
+  pub fewer : length hashes ≤ length leaves
+  pub within : All (λ (index : ℕ). index < length leaves) stale
+  pub others : (index : ℕ) → index < length leaves → (Contains stale index → ⊥) → (index < length hashes) × (slice_index_or hashes index no_hash ≡ slice_index_or (leaf_hashes leaves) index no_hash)
+
+-- The leaves, with the order of their keys, the indexes that are found for these, and the hashes of the
+-- leaves, but for some that are stale.
+pub record IsTree (leaves : List Leaf) (order : BTreeMap (List ℕ) ℕ) (found : List ℕ → Option ℕ) (hashes : List Digest) (stale : List ℕ) : Type 0 where
+  pub in_order : AreInOrder leaves order
+  pub found_is : (key : List ℕ) → found key ≡ kept_for order key
+  pub hashed : AreHashedBut leaves hashes stale

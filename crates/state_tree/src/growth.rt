@@ -1,17 +1,17 @@
-//! One more leaf.
+//! One more leaf. Its hash is made later.
 
-ghost use Rattle.std.specs.Prelude.{◌≡◌, ◌≢◌, ◌<◌, ◌∷◌, [], ◌++◌, ℕ, List, length, Some, None, OnOk, OnErr};
-ghost use Rattle.merkle_tree.specs.Tree.{leaf_text};
-ghost use Rattle.merkle_tree.specs.Levels.{digest_of};
+ghost use Rattle.std.specs.Prelude.{◌≡◌, ◌≢◌, ◌==◌, ◌<◌, ◌∷◌, [], ◌++◌, ℕ, List, length, Some, None, OnOk, OnErr};
+ghost use Rattle.std.specs.Cmp.Lexicographic.{pointwise};
+ghost use Rattle.indexmap.specs.IndexMap.{get};
+ghost use Rattle.lc_names.specs.KeyBytes.{IsKey};
 ghost use Rattle.merkle_tree.specs.declared.limits.TheConstants.{MAX_LEAVES};
-ghost use Rattle.prov_entry.specs.Spelling.{leaf_bytes, IsKeyIfAny};
 ghost use Rattle.history_root.specs.Root.{sentinel};
 ghost use Rattle.state_tree.specs.Leaves.{fresh_leaf};
 ghost use Rattle.state_tree.specs.Order.{kept_for};
 
-use crate::hashing::hash_of;
+use crate::order::{insert_key, remove_key};
+use indexmap::IndexMap;
 use lc_base::{Digest, Key, Memory};
-use merkle_tree::Levels;
 use prov_entry::{Leaf, no_uses};
 use std::collections::BTreeMap;
 
@@ -31,8 +31,11 @@ pub(crate) fn sentinel() -> Leaf
 
 /// The leaf of a key that has no version yet, and this next key.
 pub(crate) fn fresh_leaf(key: &Key, next: &Option<Key>) -> Leaf
-    ensures { result ≡ record (fresh_leaf key.now) { next = next.now } }
+    ensures leaf { result ≡ record (fresh_leaf key.now) { next = next.now } }
+    ensures lawful { IsKey key.now }
 {
+    // That a key is lawful is known from its bytes.
+    let _bytes = key.as_bytes();
     Leaf {
         key: Some(*key),
         next: *next,
@@ -53,55 +56,59 @@ pub(crate) fn with_next(leaf: &Leaf, next: &Key) -> Leaf
     }
 }
 
-/// Adds a key to the order, with the index of its leaf. Out of memory for the hash, it is taken out
-/// again.
-fn add_hash(
+/// Adds a key to the order, with the index of its leaf, and two indexes to those that are stale. Out
+/// of memory, all stays as it was.
+fn add_index(
     order: &mut BTreeMap<Key, u32>,
-    levels: &mut Levels,
+    table: &mut IndexMap<Key, u32>,
+    stale: &mut Vec<u32>,
     key: &Key,
+    cover: u32,
     index: u32,
-    hash: Digest,
 ) -> Result<(), Memory>
-    requires few { length levels.old < MAX_LEAVES }
     requires absent { kept_for order.old key.now ≡ None }
+    requires same { (other : List ℕ) → get (pointwise ◌==◌) table.old other ≡ kept_for order.old other }
+    ensures same { (other : List ℕ) → get (pointwise ◌==◌) table.new other ≡ kept_for order.new other }
     ensures kept { OnOk result (kept_for order.new key.now ≡ Some index) }
     ensures kept_err { OnErr result (kept_for order.new key.now ≡ None) }
     ensures others { (other : List ℕ) → key.now ≢ other → kept_for order.new other ≡ kept_for order.old other }
-    ensures hashes { OnOk result (levels.new ≡ levels.old ++ hash ∷ []) }
-    ensures hashes_err { OnErr result (levels.new ≡ levels.old) }
+    ensures stale { OnOk result (stale.new.items ≡ stale.old.items ++ cover ∷ index ∷ []) }
+    ensures stale_err { OnErr result (stale.new.items ≡ stale.old.items) }
 {
-    order.insert(*key, index)?;
-    if levels.push(hash).is_err() {
-        order.remove(key);
+    insert_key(order, table, key, index)?;
+    if stale.extend_from_slice(&[cover, index]).is_err() {
+        remove_key(order, table, key);
         return Err(Memory);
     }
     Ok(())
 }
 
-/// Adds a leaf, its key, and its hash. Out of memory, all stays as it was.
+/// Adds a leaf and its key. Its hash is stale, and that of the leaf that covers the key. Out of
+/// memory, all stays as it was.
 pub(crate) fn add_leaf(
     leaves: &mut Vec<Leaf>,
     order: &mut BTreeMap<Key, u32>,
-    levels: &mut Levels,
+    table: &mut IndexMap<Key, u32>,
+    stale: &mut Vec<u32>,
     key: &Key,
+    cover: u32,
     leaf: &Leaf,
 ) -> Result<(), Memory>
-    requires few { length levels.old < MAX_LEAVES }
-    requires equal { length leaves.old.items ≡ length levels.old }
+    requires few { length leaves.old.items < MAX_LEAVES }
     requires absent { kept_for order.old key.now ≡ None }
-    ensures lawful { IsKeyIfAny leaf.now.key }
+    requires same { (other : List ℕ) → get (pointwise ◌==◌) table.old other ≡ kept_for order.old other }
+    ensures same { (other : List ℕ) → get (pointwise ◌==◌) table.new other ≡ kept_for order.new other }
     ensures leaves { OnOk result (leaves.new.items ≡ leaves.old.items ++ leaf.now ∷ []) }
     ensures leaves_err { OnErr result (leaves.new.items ≡ leaves.old.items) }
     ensures kept { OnOk result (kept_for order.new key.now ≡ Some (length leaves.old.items)) }
     ensures kept_err { OnErr result (kept_for order.new key.now ≡ None) }
     ensures others { (other : List ℕ) → key.now ≢ other → kept_for order.new other ≡ kept_for order.old other }
-    ensures hashes { OnOk result (levels.new ≡ levels.old ++ digest_of (leaf_text (leaf_bytes leaf.now)) ∷ []) }
-    ensures hashes_err { OnErr result (levels.new ≡ levels.old) }
+    ensures stale { OnOk result (stale.new.items ≡ stale.old.items ++ cover ∷ length leaves.old.items ∷ []) }
+    ensures stale_err { OnErr result (stale.new.items ≡ stale.old.items) }
 {
-    let hash = hash_of(leaf);
     let index = leaves.len() as u32;
     leaves.push(*leaf)?;
-    if add_hash(order, levels, key, index, hash).is_err() {
+    if add_index(order, table, stale, key, cover, index).is_err() {
         leaves.pop();
         return Err(Memory);
     }

@@ -1,12 +1,18 @@
-//! The digests of leaves, as the tree compares them.
+//! The hashes of leaves.
 
-ghost use Rattle.std.specs.Prelude.{◌≡◌};
+ghost use Rattle.std.specs.Prelude.{◌≡◌, ◌<◌, ◌≤◌, ℕ, length, map, slice_set, OnOk, OnErr, IfOk};
+ghost use Rattle.std.specs.List.{All};
 ghost use Rattle.prov_entry.specs.Spelling.{leaf_bytes, IsKeyIfAny};
 ghost use Rattle.merkle_tree.specs.Tree.{leaf_text};
 ghost use Rattle.merkle_tree.specs.Levels.{digest_of};
+ghost use Rattle.merkle_tree.specs.declared.limits.TheConstants.{MAX_LEAVES};
+ghost use Rattle.state_tree.specs.Leaves.{leaf_hashes};
+ghost use Rattle.state_tree.specs.Order.{AreHashedBut, hash_at};
 
-use lc_base::Digest;
+use lc_base::{Digest, Memory};
+use merkle_tree::{HashAt, Levels};
 use prov_entry::{Leaf, leaf_digest};
+use std::alloc::Global;
 
 /// The hash of a leaf (RFC 6962, section 2.1). It takes no memory.
 pub(crate) fn hash_of(leaf: &Leaf) -> Digest
@@ -14,4 +20,51 @@ pub(crate) fn hash_of(leaf: &Leaf) -> Digest
     ensures lawful { IsKeyIfAny leaf.now.key }
 {
     leaf_digest(leaf)
+}
+
+/// Sets the hash of a leaf, where it has one.
+pub(crate) fn set_hash(levels: &mut Levels, index: u32, hash: Digest)
+    ensures { levels.new ≡ slice_set levels.old index hash }
+{
+    if index < levels.len() {
+        levels.set(index, hash);
+    }
+}
+
+fn hash_at(leaves: &[Leaf], index: u32) -> HashAt
+    requires { index < length leaves.now }
+    ensures { result ≡ hash_at leaves.now index }
+{
+    HashAt {
+        index,
+        hash: hash_of(&leaves[index as usize]),
+    }
+}
+
+fn hashes_at(alloc: Global, leaves: &[Leaf], indexes: &[u32]) -> Result<Vec<HashAt>, Memory>
+    requires { All (λ (index : ℕ). index < length leaves.now) indexes.now }
+    ensures { IfOk result (λ hashes. hashes.items ≡ map (hash_at leaves.now) indexes.now) }
+{
+    let mut hashes = Vec::with_capacity(alloc, indexes.len())?;
+    for index in indexes {
+        hashes.push(hash_at(leaves, *index))?;
+    }
+    Ok(hashes)
+}
+
+/// Makes the hashes of the leaves at these indexes, which are all that are stale. Where the indexes
+/// ascend, each node over them is hashed once. Out of memory, the hashes stay as they were.
+pub(crate) fn hash_leaves(
+    alloc: Global,
+    leaves: &[Leaf],
+    levels: &mut Levels,
+    indexes: &[u32],
+) -> Result<(), Memory>
+    requires few { length leaves.now ≤ MAX_LEAVES }
+    requires hashed { AreHashedBut leaves.now levels.old indexes.now }
+    ensures ok { OnOk result (levels.new ≡ leaf_hashes leaves.now) }
+    ensures err { OnErr result (levels.new ≡ levels.old) }
+{
+    let hashes = hashes_at(alloc, leaves, indexes)?;
+    levels.renew(leaves.len() as u32, hashes)
 }

@@ -8,6 +8,7 @@ mod order;
 mod setting;
 mod states;
 mod tree;
+mod whole;
 
 pub use laws::coverings_are_unique;
 pub use states::LeafState;

@@ -1,16 +1,17 @@
 //! What some leaves say, set together.
 
-ghost use Rattle.std.specs.Prelude.{◌≡◌, ◌<◌, ◌≤◌, ◌+◌, true, List, length, vec_len, vec_capacity, OnOk, OnErr, IfOk};
-ghost use Rattle.std.specs.List.{All};
+ghost use Rattle.std.specs.Prelude.{◌≡◌, ◌<◌, ◌≤◌, ◌++◌, ℕ, List, length, map, reverse, vec_len, vec_capacity, OnOk, OnErr, IfOk};
+ghost use Rattle.std.specs.List.{All, Contains};
 ghost use Rattle.prov_entry.specs.declared.entry.Leaf.{Leaf};
+ghost use Rattle.merkle_tree.specs.declared.limits.TheConstants.{MAX_LEAVES};
 ghost use Rattle.state_tree.specs.declared.states.LeafState.{LeafState};
-ghost use Rattle.state_tree.specs.Leaves.{saying, with_state, with_states};
-ghost use Rattle.state_tree.specs.Order.{Renews};
+ghost use Rattle.state_tree.specs.Leaves.{saying, said, with_state, with_states, indexes_of, leaf_hashes};
+ghost use Rattle.state_tree.specs.Order.{AreHashedBut};
 
-use crate::hashing::hash_of;
+use crate::hashing::hash_leaves;
 use crate::states::LeafState;
 use lc_base::Memory;
-use merkle_tree::HashAt;
+use merkle_tree::Levels;
 use prov_entry::Leaf;
 use std::alloc::Global;
 
@@ -27,56 +28,116 @@ fn saying(leaf: &Leaf, state: &LeafState) -> Leaf
     }
 }
 
-/// Whether a leaf says this of the versions of its key.
-fn says(leaf: &Leaf, state: &LeafState) -> bool
-    ensures { result ≡ true → saying leaf.now state.now ≡ leaf.now }
+/// What the leaf at an index says of the versions of its key.
+fn said(leaf: &Leaf, index: u32) -> LeafState
+    ensures { result ≡ said leaf.now index }
 {
-    leaf.newest_block == state.newest_block
-        && leaf.newest == state.newest
-        && leaf.open_count == state.open_count
-        && leaf.open_digest == state.open_digest
+    LeafState {
+        index,
+        newest_block: leaf.newest_block,
+        newest: leaf.newest,
+        open_count: leaf.open_count,
+        open_digest: leaf.open_digest,
+    }
 }
 
-/// Sets what a leaf says, and adds its hash; neither where it says so already.
-fn set_state(leaves: &mut [Leaf], state: &LeafState, hashes: &mut Vec<HashAt>)
-    requires below { state.now.index < length leaves.old }
-    requires room { vec_len hashes.old < vec_capacity hashes.old }
-    ensures leaves { leaves.new ≡ with_state leaves.old state.now }
-    ensures hashes { (first : List Leaf) → length first ≡ length leaves.old → Renews first leaves.old hashes.old.items → Renews first leaves.new hashes.new.items }
-    ensures more { vec_len hashes.new ≤ vec_len hashes.old + 1 }
-    ensures capacity { vec_capacity hashes.old ≤ vec_capacity hashes.new }
+/// Sets what a leaf says, and gives what it said before.
+fn set_state(leaves: &mut [Leaf], state: &LeafState) -> LeafState
+    requires { state.now.index < length leaves.old }
+    ensures set { leaves.new ≡ with_state leaves.old state.now }
+    ensures index { result.index ≡ state.now.index }
+    ensures before { with_state leaves.new result ≡ leaves.old }
 {
     let index = state.index as usize;
-    if says(&leaves[index], state) {
-        return;
-    }
-    let leaf = saying(&leaves[index], state);
-    let hash = hash_of(&leaf);
-    leaves[index] = leaf;
-    match hashes.push(HashAt {
-        index: state.index,
-        hash,
-    }) {
-        Ok(()) => {}
-        Err(_) => unreachable!(),
-    }
+    let before = leaves[index];
+    leaves[index] = saying(&before, state);
+    said(&before, state.index)
 }
 
-/// Sets what some leaves say, one after another, and gives the hashes of those that say something
-/// else than before. Out of memory, nothing is set.
-pub(crate) fn set_states(
+/// Sets what some leaves say, one after another, and gives what they said before. Out of memory,
+/// nothing is set.
+fn set_states(
     alloc: Global,
     leaves: &mut [Leaf],
     states: &[LeafState],
-) -> Result<Vec<HashAt>, Memory>
+) -> Result<Vec<LeafState>, Memory>
     requires { All (λ (state : LeafState). state.index < length leaves.old) states.now }
     ensures ok { OnOk result (leaves.new ≡ with_states leaves.old states.now) }
     ensures err { OnErr result (leaves.new ≡ leaves.old) }
-    ensures hashes { IfOk result (λ hashes. Renews leaves.old leaves.new hashes.items) }
+    ensures before { IfOk result (λ before. with_states leaves.new (reverse before.items) ≡ leaves.old) }
+    ensures below { IfOk result (λ before. All (λ (state : LeafState). state.index < length leaves.old) before.items) }
 {
-    let mut hashes = Vec::with_capacity(alloc, states.len())?;
+    let mut before = Vec::with_capacity(alloc, states.len())?;
     for state in states {
-        set_state(leaves, state, &mut hashes);
+        let one = set_state(leaves, state);
+        match before.push(one) {
+            Ok(()) => {}
+            Err(_) => unreachable!(),
+        }
     }
-    Ok(hashes)
+    Ok(before)
+}
+
+/// Sets what some leaves say, one after another.
+fn set_each(leaves: &mut [Leaf], states: &[LeafState])
+    requires { All (λ (state : LeafState). state.index < length leaves.old) states.now }
+    ensures { leaves.new ≡ with_states leaves.old states.now }
+{
+    for state in states {
+        set_state(leaves, state);
+    }
+}
+
+/// Sets what some leaves said before, the last first.
+fn set_back(leaves: &mut [Leaf], before: Vec<LeafState>)
+    requires { All (λ (state : LeafState). state.index < length leaves.old) before.items }
+    ensures { leaves.new ≡ with_states leaves.old (reverse before.items) }
+{
+    let mut states = before;
+    states.reverse();
+    set_each(leaves, &states);
+}
+
+/// Sets what some leaves say, one after another, and makes the hashes of the leaves at these indexes,
+/// which are all that are stale then. Out of memory, all stays as it was.
+pub(crate) fn renew(
+    alloc: Global,
+    leaves: &mut [Leaf],
+    levels: &mut Levels,
+    states: &[LeafState],
+    indexes: &[u32],
+) -> Result<(), Memory>
+    requires below { All (λ (state : LeafState). state.index < length leaves.old) states.now }
+    requires few { length leaves.old ≤ MAX_LEAVES }
+    requires hashed { AreHashedBut (with_states leaves.old states.now) levels.old indexes.now }
+    ensures leaves { OnOk result (leaves.new ≡ with_states leaves.old states.now) }
+    ensures leaves_err { OnErr result (leaves.new ≡ leaves.old) }
+    ensures hashes { OnOk result (levels.new ≡ leaf_hashes (with_states leaves.old states.now)) }
+    ensures hashes_err { OnErr result (levels.new ≡ levels.old) }
+{
+    let before = set_states(alloc, leaves, states)?;
+    if hash_leaves(alloc, leaves, levels, indexes).is_err() {
+        set_back(leaves, before);
+        return Err(Memory);
+    }
+    Ok(())
+}
+
+/// The indexes in a list, and those of some states, each once and in ascending order.
+pub(crate) fn indexes_with(
+    alloc: Global,
+    stale: &[u32],
+    states: &[LeafState],
+) -> Result<Vec<u32>, Memory>
+    ensures has { IfOk result (λ indexes. (index : ℕ) → Contains (stale.now ++ indexes_of states.now) index → Contains indexes.items index) }
+    ensures below { IfOk result (λ indexes. (bound : ℕ) → All (λ (index : ℕ). index < bound) (stale.now ++ indexes_of states.now) → All (λ (index : ℕ). index < bound) indexes.items) }
+{
+    let mut indexes = Vec::new(alloc);
+    indexes.extend_from_slice(stale)?;
+    for state in states {
+        indexes.push(state.index)?;
+    }
+    indexes.sort_unstable();
+    indexes.dedup();
+    Ok(indexes)
 }

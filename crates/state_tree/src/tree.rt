@@ -12,10 +12,12 @@ ghost use Rattle.state_tree.specs.Covering.{Covers};
 ghost use Rattle.merkle_tree.specs.declared.limits.TheConstants.{MAX_LEAVES};
 
 use crate::growth::{add_leaf, fresh_leaf, sentinel, with_next};
-use crate::hashing::hash_of;
+use crate::hashing::{hash_of, set_hash};
 use crate::order::last_up_to;
-use crate::setting::set_states;
+use crate::setting::{indexes_with, renew};
 use crate::states::LeafState;
+use crate::whole::{whole_audit, whole_hash};
+use indexmap::IndexMap;
 use lc_base::{Digest, DigestList, Key, Memory};
 use merkle_tree::Levels;
 use prov_entry::Leaf;
@@ -24,17 +26,22 @@ use std::collections::BTreeMap;
 use std::marker::Model;
 
 /// The leaves: first the sentinel, then one for each key in the order in which keys were added.
-/// Each names the next greater key.
+/// Each names the next greater key. Hashes are made where leaves are set; until then those of new
+/// leaves, and of the leaves that name them, are stale.
 #[derive(Drop)]
 pub struct Tree {
     leaves: Vec<Leaf>,
     order: BTreeMap<Key, u32>,
+    table: IndexMap<Key, u32>,
     levels: Levels,
+    stale: Vec<u32>,
 }
 
 // Contracts see the leaves.
 impl Model for Tree {
-    ghost use Rattle.std.specs.Prelude.{List};
+    ghost use Rattle.std.specs.Prelude.{◌==◌, List};
+    ghost use Rattle.std.specs.Cmp.Lexicographic.{pointwise};
+    ghost use Rattle.indexmap.specs.IndexMap.{get};
     ghost use Rattle.prov_entry.specs.declared.entry.Leaf.{Leaf};
     ghost use Rattle.state_tree.specs.Order.{IsTree};
 
@@ -42,7 +49,7 @@ impl Model for Tree {
 
     ghost view = { λ tree. tree.leaves.items };
 
-    ghost invariant = { λ tree. IsTree tree.leaves.items tree.order tree.levels };
+    ghost invariant = { λ tree. IsTree tree.leaves.items tree.order (get (pointwise ◌==◌) tree.table) tree.levels tree.stale.items };
 }
 
 impl Tree {
@@ -58,7 +65,9 @@ impl Tree {
         Ok(Tree {
             leaves,
             order: BTreeMap::new(alloc),
+            table: IndexMap::new(alloc),
             levels,
+            stale: Vec::new(alloc),
         })
     }
 
@@ -74,7 +83,7 @@ impl Tree {
     pub fn index_of(&self, key: &Key) -> Option<u32>
         ensures { result ≡ index_of self.now key.now }
     {
-        self.order.get(key).copied()
+        self.table.get(key).copied()
     }
 
     /// The index of the leaf of this key, else of the leaf with the greatest smaller key, else 0.
@@ -95,7 +104,8 @@ impl Tree {
     }
 
     /// Adds a leaf for a key that has none, at the end, and gives its index. Its key is threaded
-    /// between those of the others; it has no version yet. Out of memory, the tree stays as it was.
+    /// between those of the others; it has no version yet. Nothing is hashed before leaves are set. Out
+    /// of memory, the tree stays as it was.
     pub fn add_key(&mut self, key: Key) -> Result<u32, Memory>
         requires new { index_of self.old key ≡ None }
         requires room { length self.old < MAX_LEAVES }
@@ -107,16 +117,16 @@ impl Tree {
         let cover = self.covering(&key);
         let before = self.leaf(cover);
         let leaf = fresh_leaf(&key, &before.next);
-        let before = with_next(&before, &key);
         add_leaf(
             &mut self.leaves,
             &mut self.order,
-            &mut self.levels,
+            &mut self.table,
+            &mut self.stale,
             &key,
+            cover,
             &leaf,
         )?;
-        self.leaves[cover as usize] = before;
-        self.levels.set(cover, hash_of(&before));
+        self.leaves[cover as usize] = with_next(&before, &key);
         Ok(index)
     }
 
@@ -140,12 +150,13 @@ impl Tree {
             open_digest,
             ..self.leaf(index)
         };
-        self.levels.set(index, hash_of(&leaf));
+        set_hash(&mut self.levels, index, hash_of(&leaf));
         self.leaves[index as usize] = leaf;
     }
 
-    /// Sets what some leaves say of the versions of their keys, one after another. Where the indexes
-    /// ascend, each node over them is hashed once. Out of memory, the tree stays as it was.
+    /// Sets what some leaves say of the versions of their keys, one after another. These leaves and those
+    /// that are stale are hashed then, and each node over them, once. Out of memory, the tree stays as it
+    /// was.
     pub fn set_leaves(&mut self, states: &[LeafState]) -> Result<(), Memory>
         requires own { All (λ (state : LeafState). 0 < state.index) states.now }
         requires below { All (λ (state : LeafState). state.index < length self.old) states.now }
@@ -153,23 +164,41 @@ impl Tree {
         ensures err { OnErr result (self.new ≡ self.old) }
     {
         let alloc = *self.leaves.allocator();
-        let hashes = set_states(alloc, self.leaves.as_mut_slice(), states)?;
-        self.levels.set_all(hashes);
+        let indexes = indexes_with(alloc, self.stale.as_slice(), states)?;
+        renew(
+            alloc,
+            self.leaves.as_mut_slice(),
+            &mut self.levels,
+            states,
+            indexes.as_slice(),
+        )?;
+        self.stale.clear();
         Ok(())
     }
 
-    /// The tree hash of the leaves (RFC 6962, section 2.1). It takes no memory.
+    /// The tree hash of the leaves (RFC 6962, section 2.1). It takes no memory. Where keys were added
+    /// since leaves were set, all leaves are hashed for it.
     pub fn root_hash(&self) -> Digest
         ensures { result.0 ≡ leaves_hash self.now }
     {
-        self.levels.root()
+        if self.stale.is_empty() {
+            self.levels.root()
+        } else {
+            whole_hash(self.leaves.as_slice())
+        }
     }
 
-    /// The audit path of a leaf, from the leaf upward.
+    /// The audit path of a leaf, from the leaf upward. Where keys were added since leaves were set, all
+    /// leaves are hashed for it.
     pub fn audit(&self, index: u32) -> Result<DigestList, Memory>
         requires { index < length self.now }
         ensures { IfOk result (λ path. bytes_of path ≡ audit_path index (leaf_texts self.now)) }
     {
-        self.levels.audit(index)
+        if self.stale.is_empty() {
+            self.levels.audit(index)
+        } else {
+            let alloc = *self.leaves.allocator();
+            whole_audit(alloc, self.leaves.as_slice(), index)
+        }
     }
 }

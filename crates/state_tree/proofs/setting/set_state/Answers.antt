@@ -1,9 +1,10 @@
-use Rattle.std.proofs.Common.{refl}
-use Rattle.merkle_tree.specs.declared.setting_all.HashAt.{HashAt}
-use Rattle.state_tree.proofs.Together.{renews_more}
+use Rattle.std.proofs.Common.{◌∙◌, []}
+use Rattle.std.proofs.lemmas.List.{get_or_default}
+use Rattle.history_root.specs.Root.{sentinel}
+use Rattle.state_tree.proofs.Together.{said_back}
 use Rattle.state_tree.proofs.setting.set_state.Goals as goal
 
-pub returns-clause-hashes : goal.returns-clause-hashes
-returns-clause-hashes c first many renews =
-    let one : HashAt = record { index = c.args.state.now.index; hash = c.hash_of-hash.result } in
-    renews_more first c.args.leaves.now _ c.args.hashes.now.items c.push.new.self.items c.saying-leaf.result one c.requires.below many refl c.hash_of-hash.ensures.hash c.in-Ok.ensures.items renews
+pub returns-clause-before : goal.returns-clause-before
+returns-clause-before c =
+    said_back c.args.leaves.now c.args.state.now c.index-leaves-index.result c.saying.result c.said.result c.requires
+    (c.index-leaves-index.is ∙ get_or_default c.args.leaves.now c.args.state.now.index c.index-leaves-index.result (sentinel []) c.requires) c.saying.ensures c.said.ensures
