@@ -92,9 +92,10 @@ named_before rows (suc block) =
 abbrev pub header_digest : List Row → List ℕ → ℕ → Digest
 header_digest rows key block = digest_among (named_before rows (suc block)) key block
 
--- The header and the body of a row of a history.
+-- The header of a row of a history.
 abbrev pub header_of : List Row → Row → Header
 header_of rows row = header_among (up_to rows row.block) (named_before rows row.block) row
 
+-- The body of a row of a history.
 abbrev pub body_of : List Row → Row → Body
 body_of rows row = body_among (named_before rows row.block) row

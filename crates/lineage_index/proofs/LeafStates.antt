@@ -1,12 +1,12 @@
 -- Leaves that are told the entries of their keys, in any order.
-use Rattle.std.proofs.Common.{◌≡◌, ◌≢◌, ◌∙◌, ℕ, ◌+◌, ◌-◌, ◌<◌, Bool, true, false, ◌==◌, ◌||◌, if◌then◌else◌, List, [], ◌∷◌, ◌++◌, length, get_or, map, Some, None, refl, sym, ap, subst, arith, inl, inr}
+use Rattle.std.proofs.Common.{◌≡◌, ◌≢◌, ◌∙◌, ℕ, suc, ◌+◌, ◌-◌, ◌<◌, Bool, true, false, ◌==◌, ◌||◌, if◌then◌else◌, List, [], ◌∷◌, ◌++◌, length, get_or, map, Some, None, refl, sym, ap, subst, arith, inl, inr}
 use Rattle.std.specs.Prelude.{slice_set}
-use Rattle.std.specs.List.{All, AllPairs, AllByRecursion}
-use Rattle.std.specs.List.Sorted.{IsPermutation}
+use Rattle.std.specs.List.{All, AllPairs, AllByRecursion, Contains, list_any}
+use Rattle.std.proofs.lemmas.Bool.{cases_Bool}
+use Rattle.std.proofs.lemmas.List.Folds.{list_any_at}
 use Rattle.std.specs.Cmp.Lexicographic.{pointwise}
-use Rattle.std.proofs.lemmas.List.{append-nil, append_assoc}
-use Rattle.std.proofs.lemmas.List.Elements.{All-from_recursion, recursion_from_All}
-use Rattle.std.proofs.lemmas.List.Sorted.{All-permutation, IsPermutation-map, list_any-IsPermutation}
+use Rattle.std.proofs.lemmas.List.{append-nil, append_assoc, length-map, get_or-map}
+use Rattle.std.proofs.lemmas.List.Elements.{All-from_recursion, recursion_from_All, All-contains, Contains-get_or}
 use Rattle.std.proofs.lemmas.Option.{get_or_from_slice_get}
 use Rattle.lc_base.specs.declared.digest.Digest.{Digest}
 use Rattle.lc_base.specs.declared.row.Row.{Row}
@@ -21,7 +21,7 @@ use Rattle.forward_links.specs.declared.open_list.OpenList.{OpenList}
 use Rattle.lineage_index.specs.Growth.{Entry, entry_of, leaf_with, changed, renewed}
 use Rattle.lineage_index.specs.Heads.{leaves_with}
 use Rattle.lineage_index.specs.Settling.{renewing, AreRenewing}
-use Rattle.lineage_index.specs.Leaves.{leaf_indexes, IsLeafIndex, key_at, told, state_of, AreBesideLeaves}
+use Rattle.lineage_index.specs.Leaves.{leaf_indexes, HaveSameItems, IsLeafIndex, key_at, told, state_of, AreBesideLeaves}
 use Rattle.lineage_index.proofs.ByKey.{differ}
 use Rattle.lineage_index.proofs.KeyLeaves.{IsPlace, leaf_place, leaf_at, leaf_set, leaves_same, leaves_on}
 use Rattle.lineage_index.proofs.KeptStates.{as_many}
@@ -58,16 +58,38 @@ touched_there keys entry (first ∷ touched) key there = elim (option_cases (ind
       rw (s.1, says.1) (ap (λ (b : Bool). pointwise ◌==◌ first key || b) (touched_there keys entry touched key there))
 ]
 
--- The order of the indexes doesn't matter.
-entries_alike : (keys : List (List ℕ)) (entry old new : List ℕ → Entry) (touched : List (List ℕ)) (indexes : List ℕ) → IsPermutation (leaf_indexes (leaves_with keys entry) touched) indexes
+-- ---- lists of the same items
+
+any_there : (test : List ℕ → Bool) (f : ℕ → List ℕ) (one other : List ℕ) → ((item : ℕ) → Contains one item → Contains other item) → list_any test (map f one) ≡ true → list_any test (map f other) ≡ true
+any_there test f [] other there t = absurd (not_both false t refl)
+any_there test f (x ∷ one) other there t = elim (cases_Bool (test (f x))) [
+  | inl here ↦
+      let at = there x (0, omega arith, refl) in
+      list_any_at test (map f other) at.0 (f x) (omega (arith, at.1, length-map other f)) (rw (get_or-map f other at.0 x (f x) at.1, at.2) here)
+  | inr off ↦ any_there test f one other (λ item among. there item (suc among.0, omega (arith, among.1), among.2)) (rw off at t)
+]
+
+any_alike : (test : List ℕ → Bool) (f : ℕ → List ℕ) (one other : List ℕ) → HaveSameItems one other → list_any test (map f one) ≡ list_any test (map f other)
+any_alike test f one other same = elim (cases_Bool (list_any test (map f one))) [
+  | inl t ↦ t ∙ sym (any_there test f one other same.there t)
+  | inr off ↦ off ∙ elim (cases_Bool (list_any test (map f other))) [
+    | inl t ↦ absurd (not_both (list_any test (map f one)) (any_there test f other one same.back t) off)
+    | inr also ↦ sym also
+  ]
+]
+
+all_alike : (P : ℕ → Type 0) (one other : List ℕ) → HaveSameItems one other → All P one → All P other
+all_alike P one other same all i d below = All-contains P one (get_or other i d) all (same.back (get_or other i d) (Contains-get_or other i d below))
+
+-- Neither the order of the indexes matters, nor how often one is there.
+entries_alike : (keys : List (List ℕ)) (entry old new : List ℕ → Entry) (touched : List (List ℕ)) (indexes : List ℕ) → HaveSameItems (leaf_indexes (leaves_with keys entry) touched) indexes
     → leaves_with keys (renewed old new (map (key_at keys) indexes)) ≡ leaves_with keys (renewed old new touched)
 entries_alike keys entry old new touched indexes same = leaves_on keys (renewed old new (map (key_at keys) indexes)) (renewed old new touched)
     (all_weaker (λ (key : List ℕ). is_among keys key ≡ true) (λ (key : List ℕ). renewed old new (map (key_at keys) indexes) key ≡ renewed old new touched key) (λ key there. alike key there) keys (all_among keys))
   where
     among : (key : List ℕ) → is_among keys key ≡ true → is_among (map (key_at keys) indexes) key ≡ is_among touched key
     among key there =
-        sym (list_any-IsPermutation (λ (other : List ℕ). pointwise ◌==◌ other key) (map (key_at keys) (leaf_indexes (leaves_with keys entry) touched)) (map (key_at keys) indexes)
-        (IsPermutation-map (key_at keys) (leaf_indexes (leaves_with keys entry) touched) indexes same))
+        sym (any_alike (λ (other : List ℕ). pointwise ◌==◌ other key) (key_at keys) (leaf_indexes (leaves_with keys entry) touched) indexes same)
         ∙ touched_there keys entry touched key there
 
     alike : (key : List ℕ) → is_among keys key ≡ true → renewed old new (map (key_at keys) indexes) key ≡ renewed old new touched key
@@ -104,10 +126,10 @@ pub beside_leaves : (rows : List Row) (entry : List ℕ → Entry) (done : List 
 beside_leaves rows entry done tree lists newest versions headers a = record { records = a.records; lists_are = a.heads.lists_are; newest_are = a.heads.newest_are }
 
 pub touched_within : (rows : List Row) (entry : List ℕ → Entry) (tree : List Leaf) (lists : List OpenList) (newest : List ℕ) (versions : List VersionRef) (headers : List Digest) (touched : List (List ℕ)) (indexes : List ℕ)
-    → AreRenewing rows entry [] tree lists newest versions headers → IsPermutation (leaf_indexes tree touched) indexes → All (IsLeafIndex (keys_of rows)) indexes
+    → AreRenewing rows entry [] tree lists newest versions headers → HaveSameItems (leaf_indexes tree touched) indexes → All (IsLeafIndex (keys_of rows)) indexes
 touched_within rows entry tree lists newest versions headers touched indexes a same =
-    let there = subst (λ (leaves : List Leaf). IsPermutation (leaf_indexes leaves touched) indexes) a.heads.leaves_are same in
-    All-permutation (IsLeafIndex (keys_of rows)) (leaf_indexes (leaves_with (keys_of rows) (renewed entry (entry_of rows) [])) touched) indexes there (indexes_within (keys_of rows) (renewed entry (entry_of rows) []) touched)
+    let there = subst (λ (leaves : List Leaf). HaveSameItems (leaf_indexes leaves touched) indexes) a.heads.leaves_are same in
+    all_alike (IsLeafIndex (keys_of rows)) (leaf_indexes (leaves_with (keys_of rows) (renewed entry (entry_of rows) [])) touched) indexes there (indexes_within (keys_of rows) (renewed entry (entry_of rows) []) touched)
 
 -- What is told is for leaves of the tree.
 pub states_within : (rows : List Row) (entry : List ℕ → Entry) (tree : List Leaf) (lists : List OpenList) (newest : List ℕ) (versions : List VersionRef) (headers : List Digest) (indexes : List ℕ) (states : List LeafState)
@@ -126,12 +148,12 @@ states_within rows entry tree lists newest versions headers indexes states a wit
 
 -- Told what a history says, the leaves of the keys that are touched are made anew.
 pub leaves_renewed : (rows : List Row) (entry : List ℕ → Entry) (tree after : List Leaf) (lists : List OpenList) (newest : List ℕ) (versions : List VersionRef) (headers : List Digest) (touched : List (List ℕ)) (indexes : List ℕ)
-    → AreRenewing rows entry [] tree lists newest versions headers → IsPermutation (leaf_indexes tree touched) indexes → after ≡ with_states tree (map (state_of rows) indexes)
+    → AreRenewing rows entry [] tree lists newest versions headers → HaveSameItems (leaf_indexes tree touched) indexes → after ≡ with_states tree (map (state_of rows) indexes)
     → AreRenewing rows entry touched after lists newest versions headers
 leaves_renewed rows entry tree after lists newest versions headers touched indexes a same is =
     let keys = keys_of rows in
     let within = recursion_from_All (IsLeafIndex keys) indexes (touched_within rows entry tree lists newest versions headers touched indexes a same) in
-    let there = subst (λ (leaves : List Leaf). IsPermutation (leaf_indexes leaves touched) indexes) a.heads.leaves_are same in
+    let there = subst (λ (leaves : List Leaf). HaveSameItems (leaf_indexes leaves touched) indexes) a.heads.leaves_are same in
     record {
       records = a.records;
       heads = record {

@@ -18,3 +18,4 @@ pub mod NewHeaders
 pub mod BlockSteps
 pub mod Keeping
 pub mod NewestRows
+pub mod RowEntries

@@ -32,7 +32,7 @@ versions_before rows key block versions headers newest b = record {
 }
 
 -- the row that a link leads to, with its key and its block
-to_row : (rows : List Row) (key : List ℕ) (link : VersionLink) → LeadsToRow rows key link → (row : Row) × (slice_get rows link.index ≡ Some row) × (row.key ≡ key) × (row.block ≡ link.block)
+pub to_row : (rows : List Row) (key : List ℕ) (link : VersionLink) → LeadsToRow rows key link → (row : Row) × (slice_get rows link.index ≡ Some row) × (row.key ≡ key) × (row.block ≡ link.block)
 to_row rows key link leads = go (slice_get rows link.index) refl leads
   where
     go : (o : Option Row) → slice_get rows link.index ≡ o → IsSomeAnd o (λ (row : Row). (row.key ≡ key) × (row.block ≡ link.block)) → (row : Row) × (slice_get rows link.index ≡ Some row) × (row.key ≡ key) × (row.block ≡ link.block)

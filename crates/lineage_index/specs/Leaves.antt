@@ -1,6 +1,6 @@
 -- What the leaves of the keys that a block touches are to say.
 use Rattle.std.specs.Prelude.{◌≡◌, ℕ, ◌-◌, ◌<◌, ◌≤◌, List, [], length, map, slice_index_or}
-use Rattle.std.specs.List.{filter_map}
+use Rattle.std.specs.List.{filter_map, Contains}
 use Rattle.lc_base.specs.declared.digest.Digest.{Digest}
 use Rattle.lc_base.specs.declared.row.Row.{Row}
 use Rattle.version_links.specs.declared.versions.VersionRef.{VersionRef}
@@ -17,6 +17,11 @@ use Rattle.lineage_index.specs.Settling.{AreRecords}
 -- The indexes of the leaves of some keys, one after another; a key without a leaf has none.
 abbrev pub leaf_indexes : List Leaf → List (List ℕ) → List ℕ
 leaf_indexes tree keys = filter_map (index_of tree) keys
+
+-- What is in one of these lists is in the other.
+pub record HaveSameItems (one other : List ℕ) : Type 0 where
+  pub there : (item : ℕ) → Contains one item → Contains other item
+  pub back : (item : ℕ) → Contains other item → Contains one item
 
 -- The index is that of the leaf of one of these keys: the sentinel's is 0.
 abbrev pub IsLeafIndex : List (List ℕ) → ℕ → Type 0

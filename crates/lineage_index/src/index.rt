@@ -1,14 +1,22 @@
 //! The index over the rows of a lineage.
 
-ghost use Rattle.std.specs.Prelude.{◌≡◌, ℕ, List, [], ◌+◌, ◌++◌, IfOk, OnOk};
+ghost use Rattle.std.specs.Prelude.{◌≡◌, ℕ, ◌<◌, ◌≤◌, List, [], ◌+◌, ◌++◌, length, slice_get, Some, IfOk, OnOk};
 ghost use Rattle.lc_base.specs.declared.row.Row.{Row};
+ghost use Rattle.lc_base.specs.History.{below};
+ghost use Rattle.version_links.specs.Versions.{newest_index};
+ghost use Rattle.prov_entry.specs.declared.limits.TheConstants.{MAX_LINKS};
+ghost use Rattle.history_root.specs.Naming.{header_of};
+ghost use Rattle.history_root.specs.NamingLaws.{digest_of_row};
 ghost use Rattle.history_root.specs.Root.{leaves};
 ghost use Rattle.lineage_index.specs.Growth.{Grows};
 ghost use Rattle.lineage_index.specs.Index.{IsIndexOf};
 
 use crate::advancing::advance;
+use crate::newest_row::newest_row_of;
+use crate::row_parts::{header_digest_of_row, links_of_row, previous_of_row};
 use forward_links::OpenLists;
-use lc_base::{Digest, Memory, Row};
+use lc_base::{Digest, Key, Memory, Row};
+use prov_entry::LinkList;
 use state_tree::Tree;
 use std::alloc::Global;
 use version_links::VersionRef;
@@ -64,6 +72,49 @@ impl LineageIndex {
         ensures { (rows : List Row) (n : ℕ) → IsIndexOf rows n self.now → result.now ≡ leaves rows }
     {
         &self.tree
+    }
+
+    /// The index of the newest row of a key; `None` exactly where the key has none.
+    pub fn newest_row(&self, key: &Key) -> Option<u32>
+        requires { (rows : List Row) × (n : ℕ) × IsIndexOf rows n self.now }
+        ensures { (rows : List Row) (n : ℕ) → IsIndexOf rows n self.now → result ≡ newest_index rows key.now }
+    {
+        newest_row_of(&self.tree, self.newest.as_slice(), key)
+    }
+
+    /// The index of the version of its key before the row at an index; `None` exactly for a first
+    /// version.
+    pub fn previous_row(&self, index: u32) -> Option<u32>
+        requires { (rows : List Row) × (n : ℕ) × IsIndexOf rows n self.now × (index < length rows) }
+        ensures { (rows : List Row) (n : ℕ) (row : Row) → IsIndexOf rows n self.now → slice_get rows index ≡ Some row
+            → result ≡ newest_index (below rows row.block) row.key }
+    {
+        previous_of_row(self.versions.as_slice(), index)
+    }
+
+    /// The digest of the header of the row at an index.
+    pub fn header_digest(&self, index: u32) -> Digest
+        requires { (rows : List Row) × (n : ℕ) × IsIndexOf rows n self.now × (index < length rows) }
+        ensures { (rows : List Row) (n : ℕ) (row : Row) → IsIndexOf rows n self.now → slice_get rows index ≡ Some row
+            → result ≡ digest_of_row rows row }
+    {
+        header_digest_of_row(self.headers.as_slice(), index)
+    }
+
+    /// The links of the header of the row at an index.
+    pub fn links(&self, index: u32) -> Result<LinkList, Memory>
+        requires { (rows : List Row) × (n : ℕ) × IsIndexOf rows n self.now × (index < length rows) }
+        ensures links { (rows : List Row) (n : ℕ) (row : Row) → IsIndexOf rows n self.now → slice_get rows index ≡ Some row
+            → IfOk result (λ list. list ≡ (header_of rows row).links) }
+        ensures few { IfOk result (λ list. length list ≤ MAX_LINKS) }
+    {
+        let alloc = *self.newest.allocator();
+        links_of_row(
+            alloc,
+            self.versions.as_slice(),
+            self.headers.as_slice(),
+            index,
+        )
     }
 
     /// Ends the index, whose many parts are dropped here alone.

@@ -1,11 +1,10 @@
 //! The indexes of the leaves of the keys that a block touches.
 
 ghost use Rattle.std.specs.Prelude.{◌≡◌, ◌++◌, ◌∷◌, [], map, OnOk, IfOk};
-ghost use Rattle.std.specs.Ordering.{nat_cmp};
-ghost use Rattle.std.specs.List.Sorted.{IsPermutation, IsSorted};
+ghost use Rattle.std.specs.List.Sorted.{IsStrictlyIncreasing};
 ghost use Rattle.lc_base.specs.declared.row.Dep.{Dep};
 ghost use Rattle.lineage_index.specs.Growth.{keys_of_row, keys_touched};
-ghost use Rattle.lineage_index.specs.Leaves.{leaf_indexes};
+ghost use Rattle.lineage_index.specs.Leaves.{leaf_indexes, HaveSameItems};
 
 use lc_base::{Dep, Key, Memory, Row};
 use state_tree::Tree;
@@ -41,16 +40,17 @@ fn add_indexes_of_row(tree: &Tree, indexes: &mut Vec<u32>, row: &Row) -> Result<
     Ok(())
 }
 
-/// The indexes of the leaves of all keys that the rows of a block touch, in ascending order: of
-/// their own keys, and of those that they depend on. One that is touched twice stands there twice.
+/// The indexes of the leaves of all keys that the rows of a block touch, each once and in ascending
+/// order: of their own keys, and of those that they depend on.
 pub(crate) fn touched_indexes(alloc: Global, tree: &Tree, new: &[Row]) -> Result<Vec<u32>, Memory>
-    ensures all { IfOk result (λ indexes. IsPermutation (leaf_indexes tree.now (keys_touched new.now)) indexes.items) }
-    ensures ascending { IfOk result (λ indexes. IsSorted nat_cmp indexes.items) }
+    ensures all { IfOk result (λ indexes. HaveSameItems (leaf_indexes tree.now (keys_touched new.now)) indexes.items) }
+    ensures ascending { IfOk result (λ indexes. IsStrictlyIncreasing indexes.items) }
 {
     let mut indexes = Vec::new(alloc);
     for row in new {
         add_indexes_of_row(tree, &mut indexes, row)?;
     }
     indexes.sort_unstable();
+    indexes.dedup();
     Ok(indexes)
 }

@@ -10,6 +10,7 @@ mod indexes;
 mod leaves;
 mod linking;
 mod newest_row;
+mod row_parts;
 mod settling;
 mod uses;
 

@@ -25,7 +25,8 @@ fn link_with(headers: &[Digest], link: &VersionLink) -> Link
     }
 }
 
-fn with_digests(
+/// Links with the digests of the headers that they lead to.
+pub(crate) fn with_digests(
     alloc: Global,
     headers: &[Digest],
     found: &[VersionLink],

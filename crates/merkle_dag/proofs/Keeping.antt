@@ -2,6 +2,7 @@
 use Rattle.std.proofs.Common.{◌≡◌, ◌∙◌, ℕ, ◌+◌, ◌<◌, List, [], ◌∷◌, ◌++◌, length, map, refl, sym, ap, subst, rules, arith}
 use Rattle.std.specs.List.{All}
 use Rattle.std.proofs.lemmas.List.{length_push}
+use Rattle.std.proofs.lemmas.List.Elements.{All-append, All-cons, All-nil}
 use Rattle.sha2.specs.Sha256.{sha256}
 use Rattle.lc_base.specs.declared.digest.Digest.{Digest}
 use Rattle.lc_base.specs.declared.row.Row.{Row}
@@ -19,6 +20,11 @@ ledger_none = record { lawful = record { few = omega arith; ordered = search rul
 
 pub roots_none : map (λ (root : Digest). root.0) [] ≡ roots_of [] []
 roots_none = refl
+
+pub digests_are : (digests : List Digest) (d : Digest) → All (λ (digest : Digest). length digest.0 ≡ 32) digests → length d.0 ≡ 32 → All (λ (digest : Digest). length digest.0 ≡ 32) (digests ++ d ∷ [])
+digests_are digests d before now =
+    let Fits : Digest → Type 0 = λ (digest : Digest). length digest.0 ≡ 32 in
+    All-append Fits digests (d ∷ []) before (All-cons Fits d [] now (All-nil Fits))
 
 -- the next block: its number and its rows
 module _ (rows new : List Row) (digests roots : List Digest) (n : ℕ) (d root : Digest) (ledger : IsLedger rows digests) (count : n ≡ length digests) (now : All (λ (row : Row). row.block ≡ n) new) (lawful : IsLawful (rows ++ new)) where

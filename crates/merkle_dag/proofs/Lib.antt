@@ -1,2 +1,3 @@
 pub mod LedgerSteps
 pub mod Keeping
+pub mod FirstBlocks

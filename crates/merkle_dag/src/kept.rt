@@ -22,6 +22,13 @@ pub(crate) struct Kept {
     pub roots: Vec<Digest>,
 }
 
+/// A digest has 32 bytes. It does nothing: contracts learn this by it.
+fn check_digest(digest: &Digest)
+    ensures { length digest.now.0 ≡ 32 }
+{
+    let _bytes = digest.0.as_slice();
+}
+
 /// Adds the next block: its number, its digest and its rows. It gives the root at the block. On
 /// `Memory` only a part of the block may be there.
 pub(crate) fn grow(
@@ -40,6 +47,7 @@ pub(crate) fn grow(
     ensures digests { OnOk result (kept.new.digests.items ≡ kept.old.digests.items ++ digest ∷ []) }
     ensures root { IfOk result (λ root. root.0 ≡ root_of (kept.old.rows ++ new.now) (kept.old.digests.items ++ digest ∷ []) number) }
 {
+    check_digest(&digest);
     kept.index.add_block(new.as_slice())?;
     let root = root_of_tree(kept.index.tree(), number, &digest);
     kept.rows.add(new)?;

@@ -5,6 +5,7 @@ mod host;
 mod kept;
 mod limits;
 mod lineage;
+mod rewinding;
 mod root;
 
 pub use limits::MAX_LINEAGE_BLOCKS;

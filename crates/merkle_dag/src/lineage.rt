@@ -1,17 +1,23 @@
 //! The lineage of a ledger.
 
-ghost use Rattle.std.specs.Prelude.{◌≡◌, ◌≤◌, ◌<◌, ◌+◌, ◌++◌, ◌∷◌, [], length, slice_get, IfOk, MatchOption};
-ghost use Rattle.std.specs.List.{All};
-ghost use Rattle.lc_base.specs.History.{IsLawful, scan};
+ghost use Rattle.std.specs.Prelude.{◌≡◌, ◌≤◌, ◌<◌, ◌+◌, ◌++◌, ◌∷◌, [], Some, length, reverse, slice_get, take, IfOk, MatchOption};
+ghost use Rattle.std.specs.List.{All, find};
+ghost use Rattle.lc_base.specs.History.{IsLawful, newest, scan, up_to, uses};
 ghost use Rattle.lc_base.specs.declared.row.Row.{Row};
+ghost use Rattle.rows_index.specs.Places.{IsRowAt};
+ghost use Rattle.history_root.specs.Naming.{header_of, body_of};
 ghost use Rattle.history_root.specs.Root.{root_of, leaves};
+ghost use Rattle.history_root.specs.WalkLaws.{is_version_in};
+ghost use Rattle.typed_ledger.specs.TypedLedger.{IsTypedLedger};
 ghost use Rattle.merkle_dag.specs.declared.limits.TheConstants.{MAX_LINEAGE_BLOCKS};
 ghost use Rattle.merkle_dag.specs.Ledger.{Ledger, IsLedger, IsHead};
 
 use crate::kept::{Kept, discard, grow};
-use lc_base::{Answer, Digest, Memory, Query, RowList};
+use crate::rewinding::copy_blocks;
+use lc_base::{Answer, DepList, Digest, Key, Memory, Query, RowList};
 use lineage_index::LineageIndex;
 use plain_rows::PlainRows;
+use prov_entry::{Body, Header};
 use state_tree::Tree;
 use std::alloc::{AllocError, AllocFailed, Global};
 use std::marker::Model;
@@ -130,12 +136,70 @@ impl Lineage {
         digest_at(&self.kept.digests, at)
     }
 
-    /// The number of the rows of all blocks, which are a lawful history of blocks up to the last one.
+    /// The number of the rows of all blocks, which are a lawful history of blocks up to the last one,
+    /// within its types.
     pub fn row_count(&self) -> usize
         ensures count { result ≡ length self.now.rows }
         ensures ledger { IsLedger self.now.rows self.now.digests }
+        ensures typed { IsTypedLedger self.now.rows self.now.digests }
     {
         self.kept.rows.len()
+    }
+
+    /// The index, from 0, of the row of the key in a block; `None` exactly where there is none.
+    pub fn row_place(&self, key: &Key, block: u32) -> Option<u32>
+        ensures { IsRowAt self.now.rows result (find (is_version_in key.now block) (reverse self.now.rows)) }
+    {
+        self.kept.rows.row_place(key, block)
+    }
+
+    /// The index of the newest row of the key; `None` exactly where the key has none.
+    pub fn newest_row(&self, key: &Key) -> Option<u32>
+        ensures { IsRowAt self.now.rows result (newest self.now.rows key.now) }
+    {
+        self.kept.index.newest_row(key)
+    }
+
+    /// The header of the row at an index.
+    pub fn header(&self, index: u32) -> Result<Header, Memory>
+        requires { index < length self.now.rows }
+        ensures { (row : Row) → slice_get self.now.rows index ≡ Some row → IfOk result (λ header. header ≡ header_of self.now.rows row) }
+    {
+        let alloc = *self.kept.digests.allocator();
+        lineage_entries::header(alloc, &self.kept.rows, &self.kept.index, index)
+    }
+
+    /// The body of the row at an index.
+    pub fn body(&self, index: u32) -> Result<Body, Memory>
+        requires { index < length self.now.rows }
+        ensures { (row : Row) → slice_get self.now.rows index ≡ Some row → IfOk result (λ body. body ≡ body_of self.now.rows row) }
+    {
+        let alloc = *self.kept.digests.allocator();
+        lineage_entries::body(alloc, &self.kept.rows, &self.kept.index, index)
+    }
+
+    /// The versions that were derived from the row at an index, in the order of their rows.
+    pub fn uses(&self, index: u32) -> Result<DepList, Memory>
+        requires { index < length self.now.rows }
+        ensures { (row : Row) → slice_get self.now.rows index ≡ Some row → IfOk result (λ list. list ≡ uses self.now.rows row.key row.block) }
+    {
+        self.kept.rows.uses(index)
+    }
+
+    /// The lineage of the blocks 0 to `at`. It is made anew, block by block.
+    pub fn rewind(&self, at: u32) -> Result<Lineage, Memory>
+        requires { at < length self.now.digests }
+        ensures { IfOk result (λ lineage. lineage ≡ record { rows = up_to self.now.rows at; digests = take (at + 1) self.now.digests }) }
+    {
+        let alloc = *self.kept.digests.allocator();
+        let Lineage { kept: mut made } = Lineage::new(alloc)?;
+        match copy_blocks(&self.kept, &mut made, at) {
+            Ok(()) => Ok(Lineage { kept: made }),
+            Err(Memory) => {
+                discard(made);
+                Err(Memory)
+            }
+        }
     }
 
     /// The answer to a question over all rows. `Memory` changes nothing either.

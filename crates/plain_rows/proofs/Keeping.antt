@@ -1,6 +1,8 @@
 -- Rows that are kept, and one row more.
 use Rattle.std.proofs.Common.{◌≡◌, ◌∙◌, ℕ, ◌<◌, List, [], ◌∷◌, ◌++◌, length, get_or, slice_get, Some, refl, sym, ap, subst, rules, arith}
+use Rattle.std.specs.List.{All}
 use Rattle.std.proofs.lemmas.List.{length-append}
+use Rattle.std.proofs.lemmas.List.Elements.{All-append}
 use Rattle.std.proofs.lemmas.Option.{slice_get-get_or, get_or_from_slice_get}
 use Rattle.lc_base.specs.declared.row.Row.{Row}
 use Rattle.lc_base.specs.History.{IsLawful}
@@ -9,6 +11,7 @@ use Rattle.rows_index.specs.Index.{IsIndexOf}
 use Rattle.rows_index.specs.Users.{AreVersionsAt}
 use Rattle.rows_index.proofs.Marked.{get_here}
 use Rattle.rows_index.proofs.UsedEnd.{at_front, get_front}
+use Rattle.typed_ledger.specs.TypedLedger.{IsTypedRow}
 use Rattle.plain_rows.specs.declared.kept.KeptRow.{KeptRow}
 use Rattle.plain_rows.specs.Kept.{row_of, rows_with, rows_of, IsKeptAs, AreKept, Keeps}
 use Rattle.plain_rows.proofs.Lists.{found_all, versions_stay}
@@ -25,6 +28,7 @@ lawful_none = record { few = omega arith; ordered = search rules; lawful_deps = 
 pub keeps_none : (index : RowsIndex) → IsIndexOf [] index → Keeps (rows_of []) [] (Some index)
 keeps_none index is = subst (λ (rows : List Row). Keeps rows [] (Some index)) (sym none_kept) (record {
   lawful = lawful_none;
+  typed = search rules;
   kept_are = record { long = refl; each = λ i row at. search rules };
   index_is = is;
 })
@@ -90,12 +94,13 @@ kept_at rows kept i item are m is =
 
 -- ---- rows behind those that are kept
 
-pub keeps_more : (rows new : List Row) (kept more all : List KeptRow) (index : RowsIndex) → rows ≡ rows_of kept → all ≡ kept ++ more → rows_with rows more ≡ rows ++ new → IsLawful (rows ++ new) → AreKept (rows ++ new) (kept ++ more) → IsIndexOf (rows ++ new) index →
+pub keeps_more : (rows new : List Row) (kept more all : List KeptRow) (index : RowsIndex) → rows ≡ rows_of kept → all ≡ kept ++ more → rows_with rows more ≡ rows ++ new → IsLawful (rows ++ new) → All IsTypedRow rows → All IsTypedRow new → AreKept (rows ++ new) (kept ++ more) → IsIndexOf (rows ++ new) index →
     Keeps (rows_of all) all (Some index)
-keeps_more rows new kept more all index is joined added lawful are over =
+keeps_more rows new kept more all index is joined added lawful before now are over =
     let same : rows ++ new ≡ rows_of all = sym added ∙ ap (λ (l : List Row). rows_with l more) is ∙ sym (rows_of_more kept more) ∙ ap rows_of (sym joined) in
     subst (λ (l : List Row). Keeps l all (Some index)) same (record {
       lawful = lawful;
+      typed = All-append IsTypedRow rows new before now;
       kept_are = subst (AreKept (rows ++ new)) (sym joined) are;
       index_is = over;
     })

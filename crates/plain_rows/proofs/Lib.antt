@@ -1,3 +1,5 @@
 pub mod AnswerParts
 pub mod Keeping
 pub mod Lists
+pub mod OneBlock
+pub mod Placing

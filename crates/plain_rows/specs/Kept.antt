@@ -1,12 +1,13 @@
 -- How the rows of a history are kept.
 use Rattle.std.specs.Prelude.{◌≡◌, ℕ, List, [], ◌∷◌, ◌++◌, length, slice_get, Option, None, Some}
-use Rattle.std.specs.List.{filter_map}
+use Rattle.std.specs.List.{filter_map, All}
 use Rattle.lc_base.specs.declared.row.Row.{Row}
 use Rattle.lc_base.specs.declared.row.Dep.{Dep}
 use Rattle.lc_base.specs.History.{IsLawful}
 use Rattle.rows_index.specs.declared.index.RowsIndex.{RowsIndex}
 use Rattle.rows_index.specs.Index.{IsIndexOf}
 use Rattle.rows_index.specs.Users.{AreVersionsAt, version_at}
+use Rattle.typed_ledger.specs.TypedLedger.{IsTypedRow}
 use Rattle.plain_rows.specs.declared.kept.KeptRow.{KeptRow}
 
 -- The row that is kept, behind these rows: its dependencies are the versions at their indexes.
@@ -46,9 +47,10 @@ abbrev pub IsIndexOrNone : List Row → Option RowsIndex → Type 0
 IsIndexOrNone rows None = Unit {0}
 IsIndexOrNone rows (Some index) = IsIndexOf rows index
 
--- A lawful history is kept, with the index over it or none.
+-- A lawful history is kept, with the index over it or none. Its rows are within their types.
 pub record Keeps (rows : List Row) (kept : List KeptRow) (index : Option RowsIndex) : Type 0 where
   pub lawful : IsLawful rows
+  pub typed : All IsTypedRow rows
   pub kept_are : AreKept rows kept
   pub index_is : IsIndexOrNone rows index
 

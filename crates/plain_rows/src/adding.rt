@@ -1,9 +1,12 @@
 //! How rows are added to those that are kept.
 
-ghost use Rattle.std.specs.Prelude.{◌≡◌, List, ◌++◌, IfOk, OnOk, OnErr};
+ghost use Rattle.std.specs.Prelude.{◌≡◌, true, List, ◌++◌, IfOk, OnOk, OnErr};
+ghost use Rattle.std.specs.List.{All};
+ghost use Rattle.std.specs.Option.{is_some};
 ghost use Rattle.lc_base.specs.declared.row.Row.{Row};
 ghost use Rattle.lc_base.specs.History.{IsLawful};
 ghost use Rattle.rows_index.specs.Index.{IsIndexOf};
+ghost use Rattle.typed_ledger.specs.TypedLedger.{IsTypedRow};
 ghost use Rattle.plain_rows.specs.declared.kept.KeptRow.{KeptRow as Kept};
 ghost use Rattle.plain_rows.specs.Kept.{AreKept, Keeps, rows_of, rows_with};
 
@@ -19,6 +22,7 @@ fn add_to_index(alloc: Global, index: &mut RowsIndex, new: &[Row]) -> Result<Vec
     ensures rows { (rows : List Row) → IsLawful (rows ++ new.now) → IsIndexOf rows index.old → IfOk result (λ more. rows_with rows more.items ≡ rows ++ new.now) }
     ensures kept { (rows : List Row) (before : List Kept) → IsLawful (rows ++ new.now) → IsIndexOf rows index.old → AreKept rows before
         → IfOk result (λ more. AreKept (rows ++ new.now) (before ++ more.items)) }
+    ensures typed { OnOk result (All IsTypedRow new.now) }
 {
     let mut more = Vec::with_capacity(alloc, new.len())?;
     for row in new {
@@ -68,6 +72,7 @@ pub(crate) fn append(
     ensures ok { OnOk result (rows_of kept.new.items ≡ rows_of kept.old.items ++ new.now) }
     ensures err { OnErr result (kept.new.items ≡ kept.old.items) }
     ensures keeps { Keeps (rows_of kept.new.items) kept.new.items index.new }
+    ensures index { OnOk result (is_some index.new ≡ true) }
 {
     let alloc = *kept.allocator();
     let mut grown = index_or_made(alloc, kept.as_slice(), index.take())?;

@@ -4,8 +4,10 @@ ghost use Rattle.std.specs.Prelude.{◌≡◌, ◌<◌, List, Some, length, slic
 ghost use Rattle.lc_base.specs.declared.row.Row.{Row};
 ghost use Rattle.lc_base.specs.declared.row.Dep.{Dep};
 ghost use Rattle.rows_index.specs.Users.{AreVersionsAt, version_at};
+ghost use Rattle.typed_ledger.specs.TypedLedger.{IsTypedRow};
 ghost use Rattle.plain_rows.specs.Kept.{AreKept, IsKeptAs};
 
+use crate::typed::check_row;
 use lc_base::{Dep, DepList, Duplicate, Key, Memory, Row, Value};
 use rows_index::IndexList;
 use std::alloc::Global;
@@ -24,8 +26,10 @@ pub struct KeptRow {
 
 /// A row as it is kept, with the indexes of its dependencies.
 pub(crate) fn kept_row(alloc: Global, row: &Row, deps: IndexList) -> Result<KeptRow, Memory>
-    ensures { IfOk result (λ kept. kept ≡ record { key = row.now.key; block = row.now.block; tx = row.now.tx; value = row.now.value; deps = deps }) }
+    ensures typed { IsTypedRow row.now }
+    ensures kept { IfOk result (λ kept. kept ≡ record { key = row.now.key; block = row.now.block; tx = row.now.tx; value = row.now.value; deps = deps }) }
 {
+    check_row(row);
     let value = row.value.copy(alloc)?;
     Ok(KeptRow {
         key: row.key,

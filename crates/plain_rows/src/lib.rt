@@ -3,8 +3,12 @@
 
 mod adding;
 mod asking;
+mod block_rows;
 mod host;
 mod kept;
+mod places;
 mod rows;
+mod typed;
 
+pub use kept::KeptRow;
 pub use rows::PlainRows;

@@ -1,6 +1,10 @@
-use Rattle.std.proofs.Common.{ℕ, List, [], ◌++◌, ◌∙◌, take, ap, subst, arith}
-use Rattle.std.specs.List.Sorted.{IsPermutation}
+use Rattle.std.proofs.Common.{◌≡◌, ℕ, List, [], ◌++◌, ◌∙◌, take, ap, subst, sym, arith}
+use Rattle.std.specs.List.{Contains}
 use Rattle.std.proofs.lemmas.List.{take_all}
+use Rattle.std.proofs.lemmas.List.Filters.{dedup_is}
+use Rattle.std.proofs.lemmas.List.Kept.{Contains-dedup_nat, Contains-from_dedup}
+use Rattle.std.proofs.lemmas.List.Sorted.{Contains-permutation, IsPermutation-sym}
+use Rattle.std.proofs.lemmas.Map.Keys.{IsStrictlyIncreasing-dedup}
 use Rattle.lc_base.specs.declared.row.Row.{Row}
 use Rattle.lineage_index.specs.Growth.{keys_of_row, keys_touched}
 use Rattle.lineage_index.specs.Leaves.{leaf_indexes}
@@ -16,8 +20,17 @@ loop-row-preserved c =
     ∙ indexes_more tree [] (keys_touched (take c.loop-row.row-index c.args.new.now)) (keys_of_row row)
     ∙ ap (leaf_indexes tree) (one_row_touched c.args.new.now c.loop-row.row-index row c.loop-row-test.true c.row-item.is)
 
+listed : (c : goal.After-dedup) → c.loop-row.indexes.items ≡ leaf_indexes c.args.tree.now (keys_touched c.args.new.now)
+listed c = c.loop-row.invariant ∙ ap (λ (new : List Row). leaf_indexes c.args.tree.now (keys_touched new)) (take_all c.loop-row.row-index c.args.new.now (omega (arith, c.loop-row-test.false)))
+
 pub returns-clause-all : goal.returns-clause-all
 returns-clause-all c =
-    subst (λ (before : List ℕ). IsPermutation before c.sort_unstable.new.self.items)
-    (c.loop-row.invariant ∙ ap (λ (new : List Row). leaf_indexes c.args.tree.now (keys_touched new)) (take_all c.loop-row.row-index c.args.new.now (omega (arith, c.loop-row-test.false))))
-    c.sort_unstable.ensures.permutation
+    let is = dedup_is _ _ _ c.dedup.ensures.filtered in
+    let moved = c.sort_unstable.ensures.permutation in
+    record {
+      there = λ item among. rw is (Contains-dedup_nat _ item (Contains-permutation _ _ item moved (subst (λ (indexes : List ℕ). Contains indexes item) (sym (listed c)) among)));
+      back = λ item among. subst (λ (indexes : List ℕ). Contains indexes item) (listed c) (Contains-permutation _ _ item (IsPermutation-sym _ _ moved) (Contains-from_dedup _ _ item (rw is at among)));
+    }
+
+pub returns-clause-ascending : goal.returns-clause-ascending
+returns-clause-ascending c = let is = dedup_is _ _ _ c.dedup.ensures.filtered in rw is (IsStrictlyIncreasing-dedup _ c.sort_unstable.ensures.sorted)

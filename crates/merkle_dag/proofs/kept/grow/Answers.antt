@@ -5,7 +5,7 @@ use Rattle.prov_entry.specs.declared.entry.Leaf.{Leaf}
 use Rattle.history_root.specs.Root.{root_text}
 use Rattle.lineage_index.specs.Growth.{Grows}
 use Rattle.lineage_index.specs.Index.{IsIndexOf}
-use Rattle.merkle_dag.proofs.Keeping.{grows, root_is, ledger_is, index_is, roots_are}
+use Rattle.merkle_dag.proofs.Keeping.{digests_are, grows, root_is, ledger_is, index_is, roots_are}
 use Rattle.merkle_dag.proofs.kept.grow.Goals as goal
 
 pub add_block-requires : goal.add_block-requires
@@ -30,6 +30,7 @@ returns-clause-whole c =
     let made = c.root_of_tree-root.ensures ∙ ap (λ (ls : List Leaf). sha256 (root_text c.args.number c.args.digest.0 ls)) (c.tree.ensures (old.rows ++ c.args.new.now) (c.args.number + 1) index) in
     rw (c.in_ok-add.ensures.ok, c.in_ok-push.ensures.items, c.in_ok-push-2.ensures.items) (record {
       ledger = ledger_is old.rows c.args.new.now old.digests.items old.roots.items c.args.number c.args.digest c.root_of_tree-root.result given.whole.ledger given.next given.block given.lawful given.low;
+      digests_fit = digests_are old.digests.items c.args.digest given.whole.digests_fit c.check_digest.ensures;
       index_is = index_is old.rows c.args.new.now old.digests.items old.roots.items c.args.number c.args.digest c.root_of_tree-root.result given.whole.ledger given.next given.block given.lawful c.add_block.new.self index;
       roots_are = roots_are old.rows c.args.new.now old.digests.items old.roots.items c.args.number c.args.digest c.root_of_tree-root.result given.whole.ledger given.next given.block given.lawful made given.whole.roots_are;
     })

@@ -1,7 +1,9 @@
 use Rattle.std.proofs.Common.{◌≡◌, List, ◌++◌, take}
+use Rattle.std.specs.List.{All}
 use Rattle.lc_base.specs.declared.row.Row.{Row}
 use Rattle.lc_base.specs.History.{IsLawful}
 use Rattle.rows_index.specs.Index.{IsIndexOf}
+use Rattle.typed_ledger.specs.TypedLedger.{IsTypedRow}
 use Rattle.plain_rows.specs.declared.kept.KeptRow.{KeptRow}
 use Rattle.plain_rows.specs.Kept.{AreKept, rows_with}
 use Rattle.plain_rows.proofs.adding.add_to_index.Given as goal
@@ -11,4 +13,5 @@ invariant-loop-row l = record {
   index : (rows : List Row) → IsLawful (rows ++ l.new) → IsIndexOf rows l.fn.index → IsIndexOf (rows ++ take l.row-index l.new) l.index;
   rows : (rows : List Row) → IsLawful (rows ++ l.new) → IsIndexOf rows l.fn.index → rows_with rows l.more.items ≡ rows ++ take l.row-index l.new;
   kept : (rows : List Row) (before : List KeptRow) → IsLawful (rows ++ l.new) → IsIndexOf rows l.fn.index → AreKept rows before → AreKept (rows ++ take l.row-index l.new) (before ++ l.more.items);
+  typed : All IsTypedRow (take l.row-index l.new);
 }

@@ -20,4 +20,4 @@ returns-clause-keeps c =
     let keeps = subst (λ (index : Option RowsIndex). Keeps rows c.as_slice.result.now index) (sym c.take.ensures.value) (subst (λ (ks : List KeptRow). Keeps rows ks c.args.index.now) (sym c.as_slice.ensures.value) c.requires.keeps) in
     let index = c.in_ok-grown.ensures rows keeps in
     keeps_more rows c.args.new.now kept c.in_ok-more.more.items c.append.new.self.items c.add_to_index.new.index refl c.in_ok-append.ensures.items
-    (c.in_ok-more.ensures.rows rows c.requires.lawful index) c.requires.lawful (c.in_ok-more.ensures.kept rows kept c.requires.lawful index c.requires.keeps.kept_are) (c.in_ok-more.ensures.index rows c.requires.lawful index)
+    (c.in_ok-more.ensures.rows rows c.requires.lawful index) c.requires.lawful c.requires.keeps.typed c.in_ok-more.ensures.typed (c.in_ok-more.ensures.kept rows kept c.requires.lawful index c.requires.keeps.kept_are) (c.in_ok-more.ensures.index rows c.requires.lawful index)
