@@ -13,3 +13,4 @@ pub mod MadeWalks
 pub mod MadeAccepted
 pub mod MadeLawful
 pub mod MadeOnce
+pub mod MadeThere

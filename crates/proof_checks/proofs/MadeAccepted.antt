@@ -48,7 +48,7 @@ use Rattle.proof_checks.proofs.MadeWalks.{made_walk}
 abbrev climb_from : List ℕ → List (List ℕ) → Climb
 climb_from text left = record { hash = sha256 text; left = left }
 
-abbrev given : Answer → Result Answer Reject
+abbrev pub given : Answer → Result Answer Reject
 given answer = Ok answer
 
 same_text : (a a' : ℕ) (d d' : List ℕ) (n n' : ℕ) (h h' : List ℕ) → a ≡ a' → d ≡ d' → n ≡ n' → h ≡ h' → text_of_root a d n h ≡ text_of_root a' d' n' h'

@@ -90,7 +90,7 @@ lawful_if Hist list are = tt
 lawful_if Back list are = tt
 lawful_if Fwd list are = are
 
-made_is_lawful : (rows : List Row) (block : ℕ) (digest : List ℕ) (proof : Proof) → IsLawful rows → All IsTypedRow rows → block < 2 ^ 32 → proof.query.at ≤ block → IsKey proof.query.key → length digest ≡ 32
+pub made_is_lawful : (rows : List Row) (block : ℕ) (digest : List ℕ) (proof : Proof) → IsLawful rows → All IsTypedRow rows → block < 2 ^ 32 → proof.query.at ≤ block → IsKey proof.query.key → length digest ≡ 32
     → IsMade rows block digest proof → IsProof proof
 made_is_lawful rows block digest proof lawful are fits within key long made =
     let key_of : List ℕ = proof.query.key in

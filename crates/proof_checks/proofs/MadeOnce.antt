@@ -27,6 +27,7 @@ use Rattle.typed_ledger.specs.TypedLedger.{IsTypedRow}
 use Rattle.typed_ledger.proofs.Parts.{lawful_up_to, rows_up_to}
 use Rattle.typed_ledger.proofs.Spellings.{IsOneOf, leaf_cases, one_lawful, is_among_keys}
 use Rattle.proof_codec.specs.declared.proof.Proof.{Proof}
+use Rattle.proof_codec.specs.Reading.{digest_of_bytes}
 use Rattle.proof_checks.specs.Checks.{is_of_key, is_before_next, covers}
 use Rattle.proof_checks.specs.LedgerTexts.{texts_of_leaves}
 use Rattle.proof_checks.specs.Making.{header_in, uses_if, IsMade, MadeProofsAreUnique}
@@ -169,17 +170,14 @@ same_parts : (q q' : Query) (r r' : ℕ) (d d' : Digest) (c c' i i' : ℕ) (l l'
     → q ≡ q' → r ≡ r' → d ≡ d' → c ≡ c' → i ≡ i' → l ≡ l' → a ≡ a' → h ≡ h' → b ≡ b' → u ≡ u' → build q r d c i l a h b u ≡ build q' r' d' c' i' l' a' h' b' u'
 same_parts q q' r r' d d' c c' i i' l l' a a' h h' b b' u u' q_is r_is d_is c_is i_is l_is a_is h_is b_is u_is = rw (q_is, r_is, d_is, c_is, i_is, l_is, a_is, h_is, b_is, u_is) refl
 
-abbrev digest_from : List ℕ → Digest
-digest_from bytes = record { 0 = bytes }
-
-digests_back : (digests : List Digest) → map digest_from (bytes_of digests) ≡ digests
+digests_back : (digests : List Digest) → map digest_of_bytes (bytes_of digests) ≡ digests
 digests_back [] = refl
 digests_back (digest ∷ digests) = ap (λ (rest : List Digest). digest ∷ rest) (digests_back digests)
 
 same_digests : (digests others : List Digest) → bytes_of digests ≡ bytes_of others → digests ≡ others
-same_digests digests others e = sym (digests_back digests) ∙ ap (map digest_from) e ∙ digests_back others
+same_digests digests others e = sym (digests_back digests) ∙ ap (map digest_of_bytes) e ∙ digests_back others
 
-made_once : (rows : List Row) (block : ℕ) (digest : List ℕ) (proof other : Proof) → IsLawful rows → All IsTypedRow rows → IsMade rows block digest proof → IsMade rows block digest other → other.query ≡ proof.query → other ≡ proof
+pub made_once : (rows : List Row) (block : ℕ) (digest : List ℕ) (proof other : Proof) → IsLawful rows → All IsTypedRow rows → IsMade rows block digest proof → IsMade rows block digest other → other.query ≡ proof.query → other ≡ proof
 made_once rows block digest proof other lawful are made made' query =
     let texts : List (List ℕ) = texts_of_leaves (leaves rows) in
     let covered : covers proof.query.key other.leaf ≡ true = ap (λ (q : Query). covers q.key other.leaf) (sym query) ∙ made'.leaf_covers in
@@ -191,7 +189,7 @@ made_once rows block digest proof other lawful are made made' query =
     other.headers proof.headers other.body proof.body other.uses proof.uses
     query
     (made'.root_at_is ∙ sym made.root_at_is)
-    (ap digest_from (made'.block_digest_is ∙ sym made.block_digest_is))
+    (ap digest_of_bytes (made'.block_digest_is ∙ sym made.block_digest_is))
     (made'.leaf_count_is ∙ sym made.leaf_count_is)
     index
     leaf

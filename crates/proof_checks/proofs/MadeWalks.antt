@@ -30,17 +30,17 @@ use Rattle.proof_checks.proofs.Walked.{walk_fault, Ends, one_before}
 
 -- ---- the header of a row
 
-version_found : (rows : List Row) (row : Row) → IsLawful rows → Contains rows row → find (is_version_in row.key row.block) (reverse rows) ≡ Some row
+pub version_found : (rows : List Row) (row : Row) → IsLawful rows → Contains rows row → find (is_version_in row.key row.block) (reverse rows) ≡ Some row
 version_found rows row lawful has =
     let P : Row → Type 0 = λ (y : Row). is_version_in row.key row.block y ≡ true → y ≡ row in
     let own : is_version_in row.key row.block row ≡ true = and_from (pointwise ◌==◌ row.key row.key) (row.block == row.block) (key_is_key row.key) (eq-eqb row.block row.block refl) in
     last_only (is_version_in row.key row.block) rows row (recursion_from_All P rows (only_row rows row lawful has))
     (list_any_at (is_version_in row.key row.block) rows has.0 row has.1 (ap (is_version_in row.key row.block) has.2 ∙ own))
 
-header_found : (rows : List Row) (key : List ℕ) (row : Row) → IsLawful rows → Contains rows row → row.key ≡ key → header_in rows key row.block ≡ Some (header_of rows row)
+pub header_found : (rows : List Row) (key : List ℕ) (row : Row) → IsLawful rows → Contains rows row → row.key ≡ key → header_in rows key row.block ≡ Some (header_of rows row)
 header_found rows key row lawful has k = ap (λ (x : List ℕ). header_in rows x row.block) (sym k) ∙ ap (option_map (header_of rows)) (version_found rows row lawful has)
 
-one_header : (rows : List Row) (key : List ℕ) (block : ℕ) (blocks : List ℕ) (header : Header) → header_in rows key block ≡ Some header → filter_map (header_in rows key) (block ∷ blocks) ≡ header ∷ filter_map (header_in rows key) blocks
+pub one_header : (rows : List Row) (key : List ℕ) (block : ℕ) (blocks : List ℕ) (header : Header) → header_in rows key block ≡ Some header → filter_map (header_in rows key) (block ∷ blocks) ≡ header ∷ filter_map (header_in rows key) blocks
 one_header rows key block blocks header e = rw e refl
 
 -- ---- the link to follow
@@ -50,10 +50,10 @@ or_mapped f None b = refl
 or_mapped f (Some x) b = refl
 
 -- The block of the link to follow.
-abbrev next_block : ℕ → List ℕ → Option ℕ
+abbrev pub next_block : ℕ → List ℕ → Option ℕ
 next_block at blocks = link_onward (λ (link : ℕ). link) at blocks
 
-abbrev link_in : List Row → Row → ℕ → Link
+abbrev pub link_in : List Row → Row → ℕ → Link
 link_in rows row block = link_among (named_before rows row.block) row.key block
 
 chosen_is : (rows : List Row) (row : Row) (at : ℕ) (blocks : List ℕ) → chosen at (map (link_in rows row) blocks) ≡ option_map (link_in rows row) (next_block at blocks)
@@ -65,33 +65,33 @@ chosen_is rows row at blocks =
     ∙ ap (λ (o : Option Link). option_or (option_map f (find (λ block. nat_lt at block) (reverse blocks))) o) (slice_get-map f blocks 0)
     ∙ or_mapped f (find (λ block. nat_lt at block) (reverse blocks)) (slice_get blocks 0)
 
-expected_is : (rows : List Row) (row : Row) (at : ℕ) → nat_le row.block at ≡ false → expected_after at (header_of rows row) ≡ option_map (link_in rows row) (next_block at (links rows row.key row.block))
+pub expected_is : (rows : List Row) (row : Row) (at : ℕ) → nat_le row.block at ≡ false → expected_after at (header_of rows row) ≡ option_map (link_in rows row) (next_block at (links rows row.key row.block))
 expected_is rows row at late =
     let chosen_among : chosen at (header_of rows row).links ≡ option_map (link_in rows row) (next_block at (links rows row.key row.block)) =
     ap (λ (blocks : List ℕ). chosen at (map (link_in rows row) blocks)) (links_up_to rows row.key row.block) ∙ chosen_is rows row at (links rows row.key row.block) in
     rw late chosen_among
 
-no_block : (f : ℕ → Link) (o : Option ℕ) → option_map f o ≡ None → o ≡ None
+pub no_block : (f : ℕ → Link) (o : Option ℕ) → option_map f o ≡ None → o ≡ None
 no_block f None e = refl
 no_block f (Some block) e = absurd (none-some (f block) (sym e))
 
-a_block : (rows : List Row) (row next : Row) (o : Option ℕ) → option_map (link_in rows row) o ≡ Some (begun rows next) → o ≡ Some next.block
+pub a_block : (rows : List Row) (row next : Row) (o : Option ℕ) → option_map (link_in rows row) o ≡ Some (begun rows next) → o ≡ Some next.block
 a_block rows row next None e = absurd (none-some (begun rows next) e)
 a_block rows row next (Some block) e = ap (λ (link : Link). Some link.block) (same_Some (link_in rows row block) (begun rows next) e)
 
 -- ---- the path
 
-path_end : (more : ℕ) (rows : List Row) (key : List ℕ) (at block : ℕ) → nat_le block at ≡ true → path_from (suc more) (links rows key) at (Some block) ≡ block ∷ []
+pub path_end : (more : ℕ) (rows : List Row) (key : List ℕ) (at block : ℕ) → nat_le block at ≡ true → path_from (suc more) (links rows key) at (Some block) ≡ block ∷ []
 unfolding path_from
 path_end more rows key at block t = rw t (ap (λ (rest : List ℕ). block ∷ rest) (ended more at (links rows key)))
 
-path_on : (more : ℕ) (rows : List Row) (key : List ℕ) (at block : ℕ) (o : Option ℕ) → nat_le block at ≡ false → next_block at (links rows key block) ≡ o
+pub path_on : (more : ℕ) (rows : List Row) (key : List ℕ) (at block : ℕ) (o : Option ℕ) → nat_le block at ≡ false → next_block at (links rows key block) ≡ o
     → path_from (suc more) (links rows key) at (Some block) ≡ block ∷ path_from more (links rows key) at o
 unfolding path_from
 path_on more rows key at block o f e = rw f (ap (λ (next : Option ℕ). block ∷ path_from more (links rows key) at next) e)
 
 -- Where the path ends at a version that leads nowhere.
-path_stops : (more : ℕ) (rows : List Row) (key : List ℕ) (at block : ℕ) → nat_le block at ≡ false → next_block at (links rows key block) ≡ None
+pub path_stops : (more : ℕ) (rows : List Row) (key : List ℕ) (at block : ℕ) → nat_le block at ≡ false → next_block at (links rows key block) ≡ None
     → path_from (suc more) (links rows key) at (Some block) ≡ block ∷ []
 path_stops more rows key at block f e = path_on more rows key at block None f e ∙ ap (λ (rest : List ℕ). block ∷ rest) (ended more at (links rows key))
 

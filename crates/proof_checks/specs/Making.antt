@@ -1,6 +1,6 @@
 -- The proof that is made of an answer.
-use Rattle.std.specs.Prelude.{◌≡◌, ◌<◌, ◌≤◌, true, ℕ, List, length, reverse, slice_get, Option, Some, None, Ok}
-use Rattle.std.specs.List.{find, filter_map}
+use Rattle.std.specs.Prelude.{◌≡◌, ◌<◌, ◌≤◌, true, ℕ, List, length, map, reverse, slice_get, slice_index_or, Option, Some, None, Ok}
+use Rattle.std.specs.List.{find, filter_map, position_or_len}
 use Rattle.std.specs.Option.{option_map}
 use Rattle.lc_names.specs.KeyBytes.{IsKey}
 use Rattle.lc_base.specs.declared.digest.Digest.{Digest}
@@ -8,16 +8,19 @@ use Rattle.lc_base.specs.declared.row.Row.{Row}
 use Rattle.lc_base.specs.declared.row.Dep.{Dep}
 use Rattle.lc_base.specs.declared.answer.Kind.{Kind}
 use Rattle.lc_base.specs.declared.answer.Kind.TheVariants.{Hist, Back, Fwd}
+use Rattle.lc_base.specs.declared.answer.Query.{Query}
 use Rattle.lc_base.specs.History.{up_to, latest, uses, scan}
 use Rattle.version_path.specs.Paths.{path}
 use Rattle.merkle_tree.specs.Tree.{audit_path}
 use Rattle.merkle_tree.specs.Climbing.{bytes_of}
 use Rattle.prov_entry.specs.declared.entry.Header.{Header}
+use Rattle.prov_entry.specs.declared.entry.Leaf.{Leaf}
 use Rattle.history_root.specs.Naming.{header_of, body_of}
-use Rattle.history_root.specs.Root.{leaves, digest_at, root_of}
+use Rattle.history_root.specs.Root.{keys_of, sentinel, leaves, digest_at, root_of}
 use Rattle.history_root.specs.WalkLaws.{is_version_in}
 use Rattle.typed_ledger.specs.TypedLedger.{IsTypedHistory, IsTypedLedger}
 use Rattle.proof_codec.specs.declared.proof.Proof.{Proof}
+use Rattle.proof_codec.specs.Reading.{digest_of_bytes}
 use Rattle.proof_codec.specs.Spelling.{IsProof}
 use Rattle.proof_checks.specs.Checks.{covers, verdict}
 use Rattle.proof_checks.specs.LedgerTexts.{texts_of_leaves}
@@ -25,6 +28,10 @@ use Rattle.proof_checks.specs.LedgerTexts.{texts_of_leaves}
 -- The header of the key's version in a block.
 abbrev pub header_in : List Row → List ℕ → ℕ → Option Header
 header_in rows key block = option_map (header_of rows) (find (is_version_in key block) (reverse rows))
+
+-- The headers of the versions on the path of a lookup.
+abbrev pub path_headers : List Row → List ℕ → ℕ → List Header
+path_headers rows key at = filter_map (header_in rows key) (path rows key at)
 
 -- Uses, where they are asked.
 abbrev pub uses_if : Kind → Option (List Dep) → Option (List Dep)
@@ -42,13 +49,50 @@ pub record IsMade (rows : List Row) (block : ℕ) (digest : List ℕ) (proof : P
   pub leaf_is : slice_get (leaves rows) proof.leaf_index ≡ Some proof.leaf
   pub leaf_covers : covers proof.query.key proof.leaf ≡ true
   pub audit_is : bytes_of proof.audit ≡ audit_path proof.leaf_index (texts_of_leaves (leaves rows))
-  pub headers_are : proof.headers ≡ filter_map (header_in rows proof.query.key) (path rows proof.query.key proof.query.at)
+  pub headers_are : proof.headers ≡ path_headers rows proof.query.key proof.query.at
   pub body_is : proof.body ≡ option_map (body_of rows) (latest rows proof.query.key proof.query.at)
   pub uses_are : proof.uses ≡ uses_if proof.query.kind (option_map (λ (row : Row). uses rows proof.query.key row.block) (latest rows proof.query.key proof.query.at))
 
 -- A proof is made of a ledger at a block: of the rows up to it.
 abbrev pub IsMadeAt : List Row → List Digest → ℕ → Proof → Type 0
 IsMadeAt rows digests block proof = IsMade (up_to rows block) block (digest_at digests block) proof
+
+-- ---- the proof as a function
+
+-- The index of the first leaf that covers a key, from 0; the number of leaves where none does.
+abbrev pub covering_index : List Leaf → List ℕ → ℕ
+covering_index leaves key = position_or_len (covers key) leaves
+
+-- The first leaf of a history that covers a key; the one without a key where none does.
+abbrev pub covering_leaf : List Row → List ℕ → Leaf
+covering_leaf rows key = slice_index_or (leaves rows) (covering_index (leaves rows) key) (sentinel (keys_of rows))
+
+-- The proof of a query that is made of the rows up to a block, which has this digest.
+abbrev pub made_of : List Row → ℕ → List ℕ → Query → Proof
+made_of rows block digest query = record {
+  query = query;
+  root_at = block;
+  block_digest = digest_of_bytes digest;
+  leaf_count = length (leaves rows);
+  leaf_index = covering_index (leaves rows) query.key;
+  leaf = covering_leaf rows query.key;
+  audit = map digest_of_bytes (audit_path (covering_index (leaves rows) query.key) (texts_of_leaves (leaves rows)));
+  headers = path_headers rows query.key query.at;
+  body = option_map (body_of rows) (latest rows query.key query.at);
+  uses = uses_if query.kind (option_map (λ (row : Row). uses rows query.key row.block) (latest rows query.key query.at));
+}
+
+-- The proof of a query that is made of a ledger at a block: of the rows up to it.
+unfoldable pub made_proof : List Row → List Digest → ℕ → Query → Proof
+made_proof rows digests block query = made_of (up_to rows block) block (digest_at digests block) query
+
+-- ---- laws
+
+-- The function gives a proof that is made, where the query is of a key: some leaf covers the key.
+abbrev pub MadeProofIsMade : Type 0
+MadeProofIsMade =
+    (rows : List Row) (digests : List Digest) (block : ℕ) (query : Query) → IsTypedHistory rows → IsKey query.key
+    → IsMadeAt rows digests block (made_proof rows digests block query) × ((made_proof rows digests block query).query ≡ query)
 
 -- Of a query only one proof is made.
 abbrev pub MadeProofsAreUnique : Type 0
@@ -68,3 +112,11 @@ abbrev pub MadeProofsAreProofs : Type 0
 MadeProofsAreProofs =
     (rows : List Row) (digests : List Digest) (block : ℕ) (proof : Proof) → IsTypedLedger rows digests → block < length digests
     → IsKey proof.query.key → proof.query.at ≤ block → IsMadeAt rows digests block proof → IsProof proof
+
+-- The proof that the function gives can be spelled and is accepted, where the query is of a key and of no
+-- later block than the root.
+abbrev pub MadeProofIsAccepted : Type 0
+MadeProofIsAccepted =
+    (rows : List Row) (digests : List Digest) (block : ℕ) (query : Query) → IsTypedLedger rows digests → block < length digests
+    → IsKey query.key → query.at ≤ block
+    → IsProof (made_proof rows digests block query) × (verdict (root_of rows digests block) query (made_proof rows digests block query) ≡ Ok (scan (up_to rows block) query))

@@ -8,7 +8,7 @@ mod reject;
 
 pub use claim::Claim;
 pub use laws::{
-    accepted_proofs_are_sound, made_proofs_are_accepted, made_proofs_are_proofs,
-    made_proofs_are_unique,
+    accepted_proofs_are_sound, made_proof_is_accepted, made_proof_is_made,
+    made_proofs_are_accepted, made_proofs_are_proofs, made_proofs_are_unique,
 };
 pub use reject::Reject;

@@ -1,0 +1,35 @@
+-- What is answered where a proof is asked.
+use Rattle.std.specs.Prelude.{◌≡◌, ◌<◌, ◌≤◌, ◌⊎◌, ℕ, List, length, Result, Ok, Err}
+use Rattle.std.specs.List.{concat}
+use Rattle.lc_base.specs.declared.answer.Query.{Query}
+use Rattle.lc_base.specs.History.{up_to, scan}
+use Rattle.history_root.specs.Root.{root_of}
+use Rattle.proof_codec.specs.declared.proof.Proof.{Proof}
+use Rattle.proof_codec.specs.Spelling.{proof_fields}
+use Rattle.proof_views.specs.Viewing.{Spells}
+use Rattle.proof_checks.specs.Checks.{verdict}
+use Rattle.proof_checks.specs.Making.{made_proof}
+use Rattle.merkle_dag.specs.Ledger.{Ledger, IsHead}
+use Rattle.answer_proof.specs.declared.proving.ProveError.{ProveError}
+use Rattle.answer_proof.specs.declared.proving.ProveError.TheVariants as errors
+
+-- The root's block is one of the ledger, and the query is of no later one.
+abbrev pub IsWithin : Ledger → Query → ℕ → Type 0
+IsWithin ledger query root_at = (root_at < length ledger.digests) × (query.at ≤ root_at)
+
+-- The root's block is past the last one, or the query is of a later block than the root.
+abbrev pub IsBeyond : Ledger → Query → ℕ → Type 0
+IsBeyond ledger query root_at = (length ledger.digests ≤ root_at) ⊎ (root_at < query.at)
+
+-- A query that is within has the bytes of the proof that is made of the ledger at the root's block,
+-- unless there is no memory for it; one that goes beyond is refused, with the number of the last block.
+abbrev pub IsProved : Ledger → Query → ℕ → Result (List ℕ) ProveError → Type 0
+IsProved ledger query root_at (Ok bytes) = IsWithin ledger query root_at × (bytes ≡ concat (proof_fields (made_proof ledger.rows ledger.digests root_at query)))
+IsProved ledger query root_at (Err (errors.Beyond head)) = IsBeyond ledger query root_at × IsHead ledger.digests head
+IsProved ledger query root_at (Err errors.Memory) = IsWithin ledger query root_at
+
+-- The bytes are those of a proof that is accepted by one who has the root at the block, with the answer of
+-- the rows up to it.
+abbrev pub Shows : Ledger → Query → ℕ → List ℕ → Type 0
+Shows ledger query root_at bytes =
+    (proof : Proof) × Spells bytes proof × (verdict (root_of ledger.rows ledger.digests root_at) query proof ≡ Ok (scan (up_to ledger.rows root_at) query))
