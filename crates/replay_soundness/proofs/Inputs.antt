@@ -1,0 +1,121 @@
+-- The blocks that an input adds to a chain go on with it.
+use Rattle.std.proofs.Common.{◌≡◌, ◌⊎◌, inl, inr, ℕ, zero, suc, ◌+◌, ◌-◌, Bool, true, false, cond, eqb, ltb, List, [], ◌++◌, length, take, drop, Result, Ok, Err, refl, sym, subst, append-nil, append_assoc}
+use Rattle.std.specs.Int.{w32, from_be_bytes}
+use Rattle.byte_fields.specs.Spelling.{IsBytes}
+use Rattle.byte_fields.proofs.Pieces.{IsBytes-drop, IsBytes-take}
+use Rattle.block_codec.specs.Frames.{FrameStep, End, Truncated, Length, Many, Frame, frame_of, sized_frame, frame_step}
+use Rattle.block_codec.specs.Spelling.{Decoder, IsDecoder}
+use Rattle.block_codec.specs.declared.limits.TheConstants.{MAX_FRAMES}
+use Rattle.block_codec.specs.declared.block.Block.{Block}
+use Rattle.block_codec.specs.declared.placement.Placement.{Placement}
+use Rattle.block_codec.specs.declared.placement.Placement.TheVariants.{Known as KnownBlock, Next, Fork, Full, Number, Parent, Budget}
+use Rattle.chain_exec.specs.Compiled.{Compiler}
+use Rattle.chain_state.specs.Chain.{placement_in}
+use Rattle.chain_state.specs.Judging.{Taken, Known, Added, judged_by_placement, judged, added_by, added_by_all}
+use Rattle.chain_state.specs.declared.refusal.Refusal.{Refusal}
+use Rattle.scan_chain.specs.Folding.{Fold, fold_after_frame, fold_step, fold_from}
+use Rattle.typed_replays.specs.Chains.{IsLawfulChain}
+use Rattle.replay_soundness.specs.Chains.{InputsAddToChains, InputsHoldChains}
+use Rattle.replay_soundness.proofs.Longer.{no_blocks, longer_chain}
+
+-- ---- the bytes of a frame
+
+one_of : (b : Bool) (s t : FrameStep) (step : FrameStep) → cond b s t ≡ step → (s ≡ step) ⊎ (t ≡ step)
+one_of true s t step e = inl e
+one_of false s t step e = inr e
+
+-- a frame is the first bytes of what follows its length, and the rest are those after it
+taken_frame : (count : ℕ) (input frame rest : List ℕ) → IsBytes input → frame_of count input ≡ Frame frame rest → IsBytes frame × IsBytes rest
+taken_frame count input frame rest fits e =
+    elim (one_of (ltb (length input) count) Truncated (Frame (take count input) (drop count input)) (Frame frame rest) e) [
+      | inl wrong ↦ absurd cc
+      | inr is ↦
+          let frame_is : take count input ≡ frame = cc in
+          let rest_is : drop count input ≡ rest = cc in
+          (subst IsBytes frame_is (IsBytes-take count input fits), subst IsBytes rest_is (IsBytes-drop count input fits))
+    ]
+
+many_or_frame : (taken count : ℕ) (input frame rest : List ℕ) → IsBytes input → cond (eqb taken MAX_FRAMES) Many (frame_of count input) ≡ Frame frame rest → IsBytes frame × IsBytes rest
+many_or_frame taken count input frame rest fits e =
+    elim (one_of (eqb taken MAX_FRAMES) Many (frame_of count input) (Frame frame rest) e) [
+      | inl wrong ↦ absurd cc
+      | inr is ↦ taken_frame count input frame rest fits is
+    ]
+
+length_or_frame : (bad : Bool) (taken count : ℕ) (input frame rest : List ℕ) → IsBytes input
+    → cond bad (Length count) (cond (eqb taken MAX_FRAMES) Many (frame_of count input)) ≡ Frame frame rest → IsBytes frame × IsBytes rest
+length_or_frame true taken count input frame rest fits e = absurd cc
+length_or_frame false taken count input frame rest fits e = many_or_frame taken count input frame rest fits e
+
+header_or_frame : (empty short : Bool) (step : FrameStep) (frame rest : List ℕ) → cond empty End (cond short Truncated step) ≡ Frame frame rest → step ≡ Frame frame rest
+header_or_frame true short step frame rest e = absurd cc
+header_or_frame false true step frame rest e = absurd cc
+header_or_frame false false step frame rest e = e
+
+-- of an input of bytes, a frame and what follows it are bytes
+pub frame_bytes : (taken : ℕ) (input frame rest : List ℕ) → IsBytes input → frame_step taken input ≡ Frame frame rest → IsBytes frame × IsBytes rest
+unfolding frame_step
+frame_bytes taken input frame rest fits e =
+    let count : ℕ = from_be_bytes w32 (take 4 input) in
+    let sized : sized_frame taken count (drop 4 input) ≡ Frame frame rest = header_or_frame (eqb (length input) 0) (ltb (length input) 4) (sized_frame taken count (drop 4 input)) frame rest e in
+    length_or_frame _ taken count (drop 4 input) frame rest (IsBytes-drop 4 input fits) sized
+
+-- ---- frame by frame
+
+module _ (read : Decoder) (compile : Compiler) (right : IsDecoder read) where
+  same_chain : (blocks : List Block) → IsLawfulChain compile blocks → IsLawfulChain compile (blocks ++ [])
+  same_chain blocks chain = subst (IsLawfulChain compile) (sym (append-nil blocks)) chain
+
+  -- the blocks of a chain and those that bytes add, which are judged so
+  by_placement : (blocks : List Block) (bytes : List ℕ) (block : Block) (frame : Taken) → IsBytes bytes → IsLawfulChain compile blocks → read bytes ≡ Ok block
+      → (placement : Placement) → placement_in compile blocks block ≡ placement → judged_by_placement block placement ≡ Ok frame → IsLawfulChain compile (blocks ++ added_by frame)
+  by_placement blocks bytes block frame fits chain spelled KnownBlock e is =
+      let known : Known block ≡ frame = cc is in subst (λ (f : Taken). IsLawfulChain compile (blocks ++ added_by f)) known (same_chain blocks chain)
+  by_placement blocks bytes block frame fits chain spelled Next e is =
+      let new : Added block ≡ frame = cc is in
+      subst (λ (f : Taken). IsLawfulChain compile (blocks ++ added_by f)) new (longer_chain compile blocks block chain (right.found bytes block fits spelled).lawful e)
+  by_placement blocks bytes block frame fits chain spelled (Fork have) e is = absurd (cc is)
+  by_placement blocks bytes block frame fits chain spelled Full e is = absurd (cc is)
+  by_placement blocks bytes block frame fits chain spelled (Number want) e is = absurd (cc is)
+  by_placement blocks bytes block frame fits chain spelled (Parent want) e is = absurd (cc is)
+  by_placement blocks bytes block frame fits chain spelled (Budget sum) e is = absurd (cc is)
+
+  by_judgement : (blocks : List Block) (bytes : List ℕ) (frame : Taken) → IsBytes bytes → IsLawfulChain compile blocks → (decoded : Result Block ℕ) → read bytes ≡ decoded
+      → judged compile blocks decoded ≡ Ok frame → IsLawfulChain compile (blocks ++ added_by frame)
+  by_judgement blocks bytes frame fits chain (Ok block) spelled is = by_placement blocks bytes block frame fits chain spelled (placement_in compile blocks block) refl is
+  by_judgement blocks bytes frame fits chain (Err offset) spelled is = absurd (cc is)
+
+  abbrev AddsTo : List Block → Fold → Type 0
+  AddsTo blocks fold = IsLawfulChain compile (blocks ++ added_by_all fold.taken)
+
+  abbrev GoesOn : (List Block → List ℕ → Fold) → Type 0
+  GoesOn next = (blocks : List Block) (input : List ℕ) → IsBytes input → IsLawfulChain compile blocks → AddsTo blocks (next blocks input)
+
+  after_adds : (next : List Block → List ℕ → Fold) → GoesOn next → (count : ℕ) (blocks : List Block) (bytes rest : List ℕ) → IsBytes bytes → IsBytes rest → IsLawfulChain compile blocks
+      → (r : Result Taken Refusal) → judged compile blocks (read bytes) ≡ r → AddsTo blocks (fold_after_frame next count blocks rest r)
+  after_adds next goes count blocks bytes rest fits rest_fits chain (Ok frame) is =
+      subst (IsLawfulChain compile) (append_assoc blocks (added_by frame) (added_by_all (next (blocks ++ added_by frame) rest).taken))
+      (goes (blocks ++ added_by frame) rest rest_fits (by_judgement blocks bytes frame fits chain (read bytes) refl is))
+  after_adds next goes count blocks bytes rest fits rest_fits chain (Err refusal) is = same_chain blocks chain
+
+  step_adds : (next : List Block → List ℕ → Fold) → GoesOn next → (count : ℕ) (blocks : List Block) (input : List ℕ) → IsBytes input → IsLawfulChain compile blocks
+      → (step : FrameStep) → frame_step count input ≡ step → AddsTo blocks (fold_step read compile next count blocks input step)
+  step_adds next goes count blocks input fits chain End e = same_chain blocks chain
+  step_adds next goes count blocks input fits chain Truncated e = same_chain blocks chain
+  step_adds next goes count blocks input fits chain (Length size) e = same_chain blocks chain
+  step_adds next goes count blocks input fits chain Many e = same_chain blocks chain
+  step_adds next goes count blocks input fits chain (Frame frame rest) e =
+      let bytes = frame_bytes count input frame rest fits e in
+      after_adds next goes count blocks frame rest bytes.0 bytes.1 chain (judged compile blocks (read frame)) refl
+
+  fold_adds : (more : ℕ) → GoesOn (fold_from read compile more)
+  unfolding fold_from
+  fold_adds zero blocks input fits chain = same_chain blocks chain
+  fold_adds (suc more) blocks input fits chain =
+      step_adds (fold_from read compile more) (fold_adds more) (MAX_FRAMES - more) blocks input fits chain (frame_step (MAX_FRAMES - more) input) refl
+
+pub inputs_add_to_chains : InputsAddToChains
+inputs_add_to_chains read compile frames blocks input right fits chain = fold_adds read compile right frames blocks input fits chain
+
+pub inputs_hold_chains : InputsHoldChains
+inputs_hold_chains read compile input right fits = fold_adds read compile right (MAX_FRAMES + 1) [] input fits (no_blocks compile)

@@ -1,0 +1,4 @@
+pub mod Longer
+pub mod Logs
+pub mod Inputs
+pub mod Sound

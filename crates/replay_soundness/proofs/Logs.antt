@@ -1,0 +1,100 @@
+-- The blocks of a log are a chain.
+use Rattle.std.proofs.Common.{◌≡◌, ℕ, zero, suc, ◌+◌, Bool, true, false, cond, eqb, ltb, leb, ◌&&◌, List, [], ◌∷◌, ◌++◌, length, take, drop, Option, Some, None, Result, Ok, Err, refl, sym, ap, subst}
+use Rattle.std.specs.Int.{w32, from_be_bytes}
+use Rattle.std.proofs.lemmas.List.{map_push}
+use Rattle.byte_fields.specs.Spelling.{IsBytes}
+use Rattle.byte_fields.proofs.Pieces.{IsBytes-drop, IsBytes-take}
+use Rattle.block_codec.specs.Placement.{digest_of}
+use Rattle.block_codec.specs.Spelling.{Decoder, IsDecoder}
+use Rattle.block_codec.specs.declared.limits.TheConstants.{MAX_BLOCK_BYTES, MAX_BLOCKS}
+use Rattle.block_codec.specs.declared.block.Block.{Block}
+use Rattle.block_codec.specs.declared.placement.Placement.{Placement}
+use Rattle.block_codec.specs.declared.placement.Placement.TheVariants.{Known as KnownBlock, Next, Fork, Full, Number, Parent, Budget}
+use Rattle.block_log.specs.declared.layout.TheConstants.{OPEN_GATE, FIRST_GATE}
+use Rattle.block_log.specs.declared.layout.Stored.{Stored}
+use Rattle.block_log.specs.Standing.{Standing, Blank, NotALog, Damaged, Holds, NextBlock, if_next, next_decoded, next_block, blocks_in, after_record, record_at, records_at, is_log, is_blank, standing, blocks_of}
+use Rattle.chain_exec.specs.Compiled.{Compiler}
+use Rattle.chain_state.specs.Chain.{placement_in}
+use Rattle.typed_replays.specs.Chains.{IsLawfulChain}
+use Rattle.replay_soundness.specs.Chains.{LogsHoldChains}
+use Rattle.replay_soundness.proofs.Longer.{no_blocks, longer_chain}
+
+placed : (decoded block : Block) (placement : Placement) → if_next decoded placement ≡ Some block → (placement ≡ Next) × (decoded ≡ block)
+placed decoded block Next is = (refl, cc is)
+placed decoded block KnownBlock is = absurd (cc is)
+placed decoded block (Fork have) is = absurd (cc is)
+placed decoded block Full is = absurd (cc is)
+placed decoded block (Number want) is = absurd (cc is)
+placed decoded block (Parent want) is = absurd (cc is)
+placed decoded block (Budget sum) is = absurd (cc is)
+
+module _ (read : Decoder) (compile : Compiler) (right : IsDecoder read) where
+  abbrev next : NextBlock
+  next = next_block read (placement_in compile)
+
+  -- what was decoded is the next block
+  given : (blocks : List Block) (decoded : Result Block ℕ) (block : Block) → next_decoded (placement_in compile) blocks decoded ≡ Some block → (decoded ≡ Ok block) × (placement_in compile blocks block ≡ Next)
+  given blocks (Ok decoded) block is =
+      let p = placed decoded block (placement_in compile blocks decoded) is in
+      (ap Ok p.1, subst (λ (b : Block). placement_in compile blocks b ≡ Next) p.1 p.0)
+  given blocks (Err offset) block is = absurd (cc is)
+
+  -- one record more
+  longer_log : (stored : List Stored) (last : Stored) (bytes : List ℕ) → IsBytes bytes → IsLawfulChain compile (blocks_in stored) → next (blocks_in stored) bytes ≡ Some last.block → IsLawfulChain compile (blocks_in (stored ++ last ∷ []))
+  longer_log stored last bytes fits chain is =
+      let g = given (blocks_in stored) (read bytes) last.block is in
+      subst (IsLawfulChain compile) (sym (map_push (λ (s : Stored). s.block) stored last))
+      (longer_chain compile (blocks_in stored) last.block chain (right.found bytes last.block fits g.0).lawful g.1)
+
+  -- the blocks of what bytes stand for are a chain, up to where a log is damaged too
+  abbrev EndsInChain : Standing → Type 0
+  EndsInChain Blank = Unit {0}
+  EndsInChain NotALog = Unit {0}
+  EndsInChain (Damaged stored gate) = IsLawfulChain compile (blocks_in stored)
+  EndsInChain (Holds stored gate) = IsLawfulChain compile (blocks_in stored)
+
+  either_ends : (b : Bool) (s t : Standing) → EndsInChain s → EndsInChain t → EndsInChain (cond b s t)
+  either_ends true s t h k = h
+  either_ends false s t h k = k
+
+  abbrev GoesOn : (ℕ → List Stored → List ℕ → Standing) → Type 0
+  GoesOn more = (gate : ℕ) (stored : List Stored) (bytes : List ℕ) → IsBytes bytes → IsLawfulChain compile (blocks_in stored) → EndsInChain (more gate stored bytes)
+
+  after_ends : (more : ℕ → List Stored → List ℕ → Standing) → GoesOn more → (gate size : ℕ) (stored : List Stored) (bytes rest : List ℕ) → IsBytes bytes → IsBytes rest → IsLawfulChain compile (blocks_in stored)
+      → (found : Option Block) → next (blocks_in stored) bytes ≡ found → EndsInChain (after_record more gate size stored rest found)
+  after_ends more goes gate size stored bytes rest fits rest_fits chain None is = chain
+  after_ends more goes gate size stored bytes rest fits rest_fits chain (Some block) is =
+      let last : Stored = record { place = gate; digest = digest_of block; block = block } in
+      goes (gate + 5 + size) (stored ++ last ∷ []) rest rest_fits (longer_log stored last bytes fits chain is)
+
+  record_ends : (more : ℕ → List Stored → List ℕ → Standing) → GoesOn more → (gate size : ℕ) (stored : List Stored) (bytes : List ℕ) → IsBytes bytes → IsLawfulChain compile (blocks_in stored)
+      → EndsInChain (record_at next more gate size stored bytes)
+  record_ends more goes gate size stored bytes fits chain =
+      either_ends (leb 1 size && leb size MAX_BLOCK_BYTES && ltb size (length bytes)) _ _
+      (after_ends more goes gate size stored (take size bytes) (drop size bytes) (IsBytes-take size bytes fits) (IsBytes-drop size bytes fits) chain (next (blocks_in stored) (take size bytes)) refl)
+      chain
+
+  records_end : (count gate : ℕ) (stored : List Stored) (bytes : List ℕ) → IsBytes bytes → IsLawfulChain compile (blocks_in stored) → EndsInChain (records_at next count gate stored bytes)
+  unfolding records_at
+  records_end zero gate stored bytes fits chain = chain
+  records_end (suc count) gate stored [] fits chain = chain
+  records_end (suc count) gate stored (byte ∷ bytes) fits chain =
+      let rest : IsBytes bytes = IsBytes-drop 1 (byte ∷ bytes) fits in
+      either_ends (eqb byte OPEN_GATE) _ _
+      (record_ends (records_at next count) (records_end count) gate (from_be_bytes w32 (take 4 bytes)) stored (drop 4 bytes) (IsBytes-drop 4 bytes rest) chain)
+      chain
+
+  standing_ends : (image : List ℕ) → IsBytes image → EndsInChain (standing next image)
+  unfolding standing
+  standing_ends image fits =
+      either_ends (is_log image) _ _ (records_end (MAX_BLOCKS + 1) FIRST_GATE [] (drop FIRST_GATE image) (IsBytes-drop FIRST_GATE image fits) (no_blocks compile))
+      (either_ends (is_blank image) Blank NotALog tt tt)
+
+  of_blocks : (stands : Standing) (blocks : List Block) → EndsInChain stands → blocks_of stands ≡ Some blocks → IsLawfulChain compile blocks
+  of_blocks Blank blocks h is = let none : [] ≡ blocks = cc is in subst (IsLawfulChain compile) none (no_blocks compile)
+  of_blocks NotALog blocks h is = absurd (cc is)
+  of_blocks (Damaged stored gate) blocks h is = absurd (cc is)
+  of_blocks (Holds stored gate) blocks h is = let same : blocks_in stored ≡ blocks = cc is in subst (IsLawfulChain compile) same h
+
+pub logs_hold_chains : LogsHoldChains
+logs_hold_chains read compile image blocks right fits is = of_blocks read compile right (standing (next_block read (placement_in compile)) image) blocks (standing_ends read compile right image fits) is

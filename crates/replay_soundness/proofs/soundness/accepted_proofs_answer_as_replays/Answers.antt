@@ -1,0 +1,5 @@
+use Rattle.replay_soundness.proofs.Sound.{accepted_proofs_answer_as_replays}
+use Rattle.replay_soundness.proofs.soundness.accepted_proofs_answer_as_replays.Goals as goal
+
+pub returns : goal.returns
+returns c = accepted_proofs_answer_as_replays

@@ -1,0 +1,29 @@
+-- Where there are chains of blocks: in logs, and in inputs of frames.
+use Rattle.std.specs.Prelude.{◌≡◌, ℕ, List, ◌++◌, Some}
+use Rattle.byte_fields.specs.Spelling.{IsBytes}
+use Rattle.block_codec.specs.Spelling.{Decoder, IsDecoder}
+use Rattle.block_codec.specs.declared.block.Block.{Block}
+use Rattle.block_log.specs.Standing.{next_block, chain_of}
+use Rattle.chain_exec.specs.Compiled.{Compiler}
+use Rattle.chain_state.specs.Chain.{placement_in}
+use Rattle.chain_state.specs.Judging.{added_by_all}
+use Rattle.scan_chain.specs.Folding.{fold_from, fold_input}
+use Rattle.typed_replays.specs.Chains.{IsLawfulChain}
+
+-- The blocks that the bytes of a log stand for are a chain.
+abbrev pub LogsHoldChains : Type 0
+LogsHoldChains =
+    (read : Decoder) (compile : Compiler) (image : List ℕ) (blocks : List Block) → IsDecoder read → IsBytes image
+    → chain_of (next_block read (placement_in compile)) image ≡ Some blocks → IsLawfulChain compile blocks
+
+-- A chain with the blocks that the frames of an input add to it is one, wherever the frames end.
+abbrev pub InputsAddToChains : Type 0
+InputsAddToChains =
+    (read : Decoder) (compile : Compiler) (frames : ℕ) (blocks : List Block) (input : List ℕ) → IsDecoder read → IsBytes input
+    → IsLawfulChain compile blocks → IsLawfulChain compile (blocks ++ added_by_all (fold_from read compile frames blocks input).taken)
+
+-- So the blocks that the frames of an input add from none are one.
+abbrev pub InputsHoldChains : Type 0
+InputsHoldChains =
+    (read : Decoder) (compile : Compiler) (input : List ℕ) → IsDecoder read → IsBytes input
+    → IsLawfulChain compile (added_by_all (fold_input read compile input).taken)

@@ -1,0 +1,18 @@
+//! Laws of where there are chains, each the contract of a function that does nothing.
+
+ghost use Rattle.replay_soundness.specs.Chains.{LogsHoldChains, InputsAddToChains, InputsHoldChains};
+
+/// The blocks that the bytes of a log stand for are a chain.
+pub fn logs_hold_chains()
+    ensures { LogsHoldChains }
+{}
+
+/// A chain with the blocks that the frames of an input add to it is one.
+pub fn inputs_add_to_chains()
+    ensures { InputsAddToChains }
+{}
+
+/// The blocks that the frames of an input add from none are a chain.
+pub fn inputs_hold_chains()
+    ensures { InputsHoldChains }
+{}

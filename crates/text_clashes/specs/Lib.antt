@@ -1,0 +1,2 @@
+pub mod FirstClash
+pub mod Places

@@ -1,0 +1,13 @@
+pub mod Values
+pub mod Keeping
+pub mod Reading
+pub mod Expressions
+pub mod Puts
+pub mod Statements
+pub mod Calls
+pub mod Blocks
+pub mod Replays
+pub mod Literals
+pub mod Compiling
+pub mod Chains
+pub mod False

@@ -1,0 +1,12 @@
+-- Chains of blocks that bytes can spell.
+use Rattle.std.specs.Prelude.{List}
+use Rattle.std.specs.List.{All}
+use Rattle.block_codec.specs.Spelling.{IsBlock}
+use Rattle.block_codec.specs.declared.block.Block.{Block}
+use Rattle.chain_exec.specs.Compiled.{Compiler}
+use Rattle.chain_state.specs.Chain.{IsChain}
+
+-- Blocks within the limits of blocks, each the next one after those before it.
+pub record IsLawfulChain (compile : Compiler) (blocks : List Block) : Type 0 where
+  pub lawful : All IsBlock blocks
+  pub chained : IsChain compile blocks

@@ -1,0 +1,4 @@
+pub mod Literals
+pub mod Chains
+pub mod Laws
+pub mod FalseLaws
