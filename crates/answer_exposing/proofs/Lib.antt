@@ -1,0 +1,4 @@
+pub mod OneMore
+pub mod TreeTexts
+pub mod Spelled
+pub mod Exposed

@@ -1,0 +1,145 @@
+//! The first clash of a proof's texts with those of a ledger.
+
+ghost use Rattle.std.specs.Prelude.{◌≡◌, ◌<◌, Some, length, slice_get, IfOk};
+ghost use Rattle.merkle_tree.specs.Tree.{audit_length};
+ghost use Rattle.proof_checks.specs.ProofTexts.{joined, proof_texts};
+ghost use Rattle.proof_checks.specs.LedgerTexts.{history_parts, ledger_texts};
+ghost use Rattle.text_clashes.specs.FirstClash.{ClashAt, text_at};
+ghost use Rattle.answer_exposing.specs.Exposing.{AreTextsAt, IsFound, IsExposed, Clears};
+
+use crate::ledger::ledger_texts;
+use hashed_texts::proof_texts;
+use lc_base::{Bytes, Digest, Memory, TextList};
+use merkle_dag::Lineage;
+use proof_views::ProofView;
+use std::alloc::Global;
+use text_clashes::first_clash;
+
+/// Two texts that differ and have one digest.
+#[derive(Debug, Drop)]
+pub struct Clash {
+    /// A text that a proof tells of.
+    pub proof_text: Bytes,
+    /// A text of the ledger.
+    pub chain_text: Bytes,
+}
+
+/// Why nothing is exposed, nor that there is nothing to expose.
+#[derive(Clone, Copy, Debug, PartialEq, Eq)]
+pub enum ExposeError {
+    /// The block is past the last one, or there is no block.
+    Beyond {
+        /// The number of the last block; `None` where there is none.
+        head: Option<u32>,
+    },
+    /// Out of memory.
+    Memory,
+}
+
+impl From<Memory> for ExposeError {
+    fn from(_memory: Memory) -> ExposeError {
+        ExposeError::Memory
+    }
+}
+
+/// The text at a place.
+fn text_of(texts: &TextList, place: usize) -> Result<Bytes, Memory>
+    requires { place < length texts.now }
+    ensures { IfOk result (λ text. text ≡ text_at texts.now place) }
+{
+    texts.as_slice()[place].copy()
+}
+
+/// The texts at the places of a clash.
+fn clash_at(given: &TextList, own: &TextList, pair: (usize, usize)) -> Result<Clash, Memory>
+    requires { ClashAt given.now own.now pair.0 pair.1 }
+    ensures { IfOk result (AreTextsAt given.now own.now pair) }
+{
+    let proof_text = text_of(given, pair.0)?;
+    let chain_text = text_of(own, pair.1)?;
+    Ok(Clash {
+        proof_text,
+        chain_text,
+    })
+}
+
+/// The first clash of two lists of texts.
+fn clash_of(alloc: Global, given: &TextList, own: &TextList) -> Result<Option<Clash>, Memory>
+    ensures { IfOk result (IsFound given.now own.now) }
+{
+    match first_clash(alloc, given, own)? {
+        None => Ok(None),
+        Some(pair) => {
+            let clash = clash_at(given, own, pair)?;
+            Ok(Some(clash))
+        }
+    }
+}
+
+/// The first clash with all rows of a lineage, where they are those up to a block, which has this digest.
+fn exposed_by_rows(
+    alloc: Global,
+    lineage: &Lineage,
+    root_at: u32,
+    block_digest: &Digest,
+    view: &ProofView,
+) -> Result<Option<Clash>, Memory>
+    requires { length view.now.audit ≡ audit_length view.now.leaf_index view.now.leaf_count }
+    ensures { IfOk result (IsFound (proof_texts view.now) (joined (history_parts lineage.now.rows root_at block_digest.now.0))) }
+{
+    let given = proof_texts(alloc, view)?;
+    let own = ledger_texts(alloc, lineage, root_at, block_digest)?;
+    clash_of(alloc, &given, &own)
+}
+
+/// The first clash with the ledger at a block, which has this digest. Where that is the last block, the
+/// lineage is used as it is; else one of the blocks up to it is made.
+fn exposed_at(
+    alloc: Global,
+    lineage: &Lineage,
+    root_at: u32,
+    block_digest: &Digest,
+    view: &ProofView,
+) -> Result<Option<Clash>, Memory>
+    requires within { slice_get lineage.now.digests root_at ≡ Some block_digest.now }
+    requires long { length view.now.audit ≡ audit_length view.now.leaf_index view.now.leaf_count }
+    ensures { IfOk result (IsFound (proof_texts view.now) (ledger_texts lineage.now.rows lineage.now.digests root_at)) }
+{
+    // The rows are of blocks up to the last one.
+    let _ledger = lineage.row_count();
+    if lineage.head() == Some(root_at) {
+        return exposed_by_rows(alloc, lineage, root_at, block_digest, view);
+    }
+    let rewound = lineage.rewind(root_at)?;
+    let found = exposed_by_rows(alloc, &rewound, root_at, block_digest, view);
+    rewound.give_up();
+    found
+}
+
+/// The first clash of the texts that a proof tells of with those of the ledger at a block: two texts that
+/// differ and have one digest; `None` exactly where there is no clash. The proof has as many hashes in its
+/// audit path as its leaf wants, as each one has that stands in bytes.
+pub fn expose(
+    alloc: Global,
+    lineage: &Lineage,
+    root_at: u32,
+    view: &ProofView,
+) -> Result<Option<Clash>, ExposeError>
+    requires { length view.now.audit ≡ audit_length view.now.leaf_index view.now.leaf_count }
+    ensures exposed { IsExposed lineage.now root_at view.now result }
+    // Where there is none, each answer with which the proof is accepted by one who has the root at the block
+    // is that of the rows up to it.
+    ensures clears { IfOk result (Clears lineage.now root_at view.now) }
+{
+    // The rows are within their types.
+    let _typed = lineage.row_count();
+    let Some(block_digest) = lineage.digest(root_at) else {
+        return Err(ExposeError::Beyond {
+            head: lineage.head(),
+        });
+    };
+    match exposed_at(alloc, lineage, root_at, &block_digest, view) {
+        Ok(found) => Ok(found),
+        Err(Memory) => Err(ExposeError::Memory),
+    }
+}

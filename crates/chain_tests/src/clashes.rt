@@ -1,0 +1,30 @@
+//! Lists of texts without a clash: none is known.
+
+use lc_base::{Bytes, Memory, TextList};
+use std::alloc::Global;
+use text_clashes::first_clash;
+
+/// The list of these texts, each of one byte.
+fn texts_of(alloc: Global, bytes: &[u8]) -> Result<TextList, Memory> {
+    let mut texts = TextList::new(alloc);
+    for byte in bytes {
+        let mut text = Bytes::new(alloc);
+        text.push(*byte)?;
+        texts.push(text)?;
+    }
+    Ok(texts)
+}
+
+/// Whether there is memory, and no clash between these.
+fn has_no_clash(alloc: Global, given: &[u8], own: &[u8]) -> Result<bool, Memory> {
+    let given = texts_of(alloc, given)?;
+    let own = texts_of(alloc, own)?;
+    Ok(first_clash(alloc, &given, &own)?.is_none())
+}
+
+#[test]
+fn lists_without_a_clash(rt: HostRuntime) {
+    assert!(rt; has_no_clash(rt.alloc(), b"ab", b"ab") == Ok(true));
+    assert!(rt; has_no_clash(rt.alloc(), b"", b"ab") == Ok(true));
+    assert!(rt; has_no_clash(rt.alloc(), b"aba", b"") == Ok(true));
+}

@@ -1,0 +1,52 @@
+//! The texts of a proof.
+
+ghost use Rattle.std.specs.Prelude.{◌≡◌, [], ◌∷◌, ◌++◌, length, OnOk, IfOk};
+ghost use Rattle.merkle_tree.specs.Tree.{audit_length, leaf_text, climb_texts_to};
+ghost use Rattle.merkle_tree.specs.declared.limits.TheConstants.{MAX_HEIGHT};
+ghost use Rattle.prov_entry.specs.Spelling.{leaf_bytes};
+ghost use Rattle.prov_entry.specs.ForwardLists.{start_text};
+ghost use Rattle.proof_checks.specs.Checks.{climb_of, root_text_of};
+ghost use Rattle.proof_checks.specs.ProofTexts.{proof_texts};
+
+use crate::lists::{push_body, push_headers, push_uses};
+use crate::text::{push_root, push_tagged};
+use crate::way::push_way;
+use entry_views::LeafView;
+use lc_base::{Memory, TextList};
+use merkle_tree::{LEAF, leaf_hash};
+use proof_views::ProofView;
+use prov_entry::FORWARD_START;
+use std::alloc::Global;
+
+fn push_leaf(texts: &mut TextList, leaf: &LeafView) -> Result<(), Memory>
+    ensures { OnOk result (texts.new ≡ texts.old ++ leaf_text (leaf_bytes leaf.now.value) ∷ []) }
+{
+    push_tagged(texts, LEAF, leaf.bytes())
+}
+
+/// Adds the texts of the nodes from the leaf upward, and that of the root.
+fn push_upward(texts: &mut TextList, proof: &ProofView) -> Result<(), Memory>
+    requires { length proof.now.audit ≡ audit_length proof.now.leaf_index proof.now.leaf_count }
+    ensures { OnOk result (texts.new ≡ texts.old ++ (climb_texts_to MAX_HEIGHT proof.now.leaf_index proof.now.leaf_count (climb_of proof.now) ++ root_text_of proof.now ∷ [])) }
+{
+    let leaf = leaf_hash(proof.leaf().bytes());
+    let count = proof.leaf_count();
+    let top = push_way(texts, proof.leaf_index(), count, leaf, proof.audit())?;
+    push_root(texts, proof.root_at(), &proof.block_digest(), count, &top)
+}
+
+/// The texts that a proof tells of: that of its leaf, those of the nodes from there upward, that of the
+/// root, those of its headers and of its body, that of the empty forward list, and those of its uses.
+pub fn proof_texts(alloc: Global, proof: &ProofView) -> Result<TextList, Memory>
+    requires { length proof.now.audit ≡ audit_length proof.now.leaf_index proof.now.leaf_count }
+    ensures { IfOk result (λ texts. texts ≡ proof_texts proof.now) }
+{
+    let mut texts = TextList::new(alloc);
+    push_leaf(&mut texts, proof.leaf())?;
+    push_upward(&mut texts, proof)?;
+    push_headers(&mut texts, proof.headers())?;
+    push_body(&mut texts, proof.body())?;
+    push_tagged(&mut texts, FORWARD_START, &[])?;
+    push_uses(&mut texts, proof.uses())?;
+    Ok(texts)
+}

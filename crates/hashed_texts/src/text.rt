@@ -1,0 +1,63 @@
+//! Texts, one by one, added to a list.
+
+ghost use Rattle.std.specs.Prelude.{◌≡◌, [], ◌∷◌, ◌++◌, OnOk};
+ghost use Rattle.merkle_tree.specs.Tree.{node_text};
+ghost use Rattle.proof_checks.specs.Checks.{text_of_root};
+ghost use Rattle.prov_entry.specs.ForwardLists.{use_text};
+
+use byte_fields::{put_digest, put_key, put_u8, put_u32};
+use lc_base::{Bytes, Dep, Digest, Memory, TextList};
+use merkle_tree::NODE;
+use prov_entry::{FORWARD_LINK, ROOT};
+
+/// Adds the text of a tag and these bytes.
+pub fn push_tagged(texts: &mut TextList, tag: u8, bytes: &[u8]) -> Result<(), Memory>
+    ensures { OnOk result (texts.new ≡ texts.old ++ (tag ∷ bytes.now) ∷ []) }
+{
+    let mut text = Vec::new(texts.allocator());
+    put_u8(&mut text, tag)?;
+    text.extend_from_slice(bytes)?;
+    texts.push(Bytes::from_vec(text))
+}
+
+/// Adds the text of a node.
+pub fn push_node(texts: &mut TextList, left: &Digest, right: &Digest) -> Result<(), Memory>
+    ensures { OnOk result (texts.new ≡ texts.old ++ node_text left.now.0 right.now.0 ∷ []) }
+{
+    let mut text = Vec::new(texts.allocator());
+    put_u8(&mut text, NODE)?;
+    put_digest(&mut text, left)?;
+    put_digest(&mut text, right)?;
+    texts.push(Bytes::from_vec(text))
+}
+
+/// Adds the text of a root.
+pub fn push_root(
+    texts: &mut TextList,
+    block: u32,
+    block_digest: &Digest,
+    count: u32,
+    top: &Digest,
+) -> Result<(), Memory>
+    ensures { OnOk result (texts.new ≡ texts.old ++ text_of_root block block_digest.now.0 count top.now.0 ∷ []) }
+{
+    let mut text = Vec::new(texts.allocator());
+    put_u8(&mut text, ROOT)?;
+    put_u32(&mut text, block)?;
+    put_digest(&mut text, block_digest)?;
+    put_u32(&mut text, count)?;
+    put_digest(&mut text, top)?;
+    texts.push(Bytes::from_vec(text))
+}
+
+/// Adds the text of a use after those of this digest.
+pub fn push_use(texts: &mut TextList, digest: &Digest, dep: &Dep) -> Result<(), Memory>
+    ensures { OnOk result (texts.new ≡ texts.old ++ use_text digest.now.0 dep.now ∷ []) }
+{
+    let mut text = Vec::new(texts.allocator());
+    put_u8(&mut text, FORWARD_LINK)?;
+    put_digest(&mut text, digest)?;
+    put_key(&mut text, &dep.key)?;
+    put_u32(&mut text, dep.block)?;
+    texts.push(Bytes::from_vec(text))
+}

@@ -1,0 +1,132 @@
+//! The texts of the nodes on the way up from a leaf.
+
+ghost use Rattle.std.specs.Prelude.{◌≡◌, ◌+◌, ◌-◌, ◌<◌, ◌≤◌, ◌^◌, [], ◌∷◌, ◌++◌, length, OnOk, IfOk};
+ghost use Rattle.merkle_tree.specs.Tree.{climb_to, climb_texts_to, audit_length_to, audit_length, climbed, text_on_left, text_on_right};
+ghost use Rattle.merkle_tree.specs.Climbing.{start_at, top_of};
+ghost use Rattle.merkle_tree.specs.declared.limits.TheConstants.{MAX_HEIGHT};
+
+use crate::text::push_node;
+use lc_base::{Digest, DigestList, Memory, TextList};
+use merkle_tree::{MAX_HEIGHT, node_hash};
+use proof_lists::AuditView;
+
+/// Half of 2 to the power `height`: how many leaves the left part has of a tree that has more of them, and
+/// at most twice as many.
+pub fn half_of(height: u32) -> usize
+    requires positive { 0 < height }
+    requires low { height ≤ MAX_HEIGHT }
+    ensures { result ≡ 2 ^ (height - 1) }
+{
+    1usize << (height - 1)
+}
+
+/// Adds the text of the node whose left part has this hash, and whose right part the next one of the
+/// path, and goes up to it.
+fn push_on_left<'a>(
+    texts: &mut TextList,
+    hash: Digest,
+    path: &'a [Digest],
+) -> Result<(Digest, &'a [Digest]), Memory>
+    requires { 0 < length path.now }
+    ensures climbed { IfOk result (λ top. start_at top.0 top.1.now ≡ climbed (start_at hash path.now) (text_on_left (start_at hash path.now))) }
+    ensures left { IfOk result (λ top. length top.1.now + 1 ≡ length path.now) }
+    ensures texts { OnOk result (texts.new ≡ texts.old ++ text_on_left (start_at hash path.now) ∷ []) }
+{
+    match push_node(texts, &hash, &path[0]) {
+        Ok(()) => Ok((node_hash(&hash, &path[0]), &path[1..])),
+        Err(Memory) => Err(Memory),
+    }
+}
+
+/// The same of the node whose right part has this hash, and whose left part the next one of the path.
+fn push_on_right<'a>(
+    texts: &mut TextList,
+    hash: Digest,
+    path: &'a [Digest],
+) -> Result<(Digest, &'a [Digest]), Memory>
+    requires { 0 < length path.now }
+    ensures climbed { IfOk result (λ top. start_at top.0 top.1.now ≡ climbed (start_at hash path.now) (text_on_right (start_at hash path.now))) }
+    ensures left { IfOk result (λ top. length top.1.now + 1 ≡ length path.now) }
+    ensures texts { OnOk result (texts.new ≡ texts.old ++ text_on_right (start_at hash path.now) ∷ []) }
+{
+    match push_node(texts, &path[0], &hash) {
+        Ok(()) => Ok((node_hash(&path[0], &hash), &path[1..])),
+        Err(Memory) => Err(Memory),
+    }
+}
+
+/// Adds the texts of the nodes up to the top of a tree of at most this height, and gives the hash there
+/// and what is left of the path.
+#[tactic(auto, using(merkle_tree::proofs::Steps::upward, crate::proofs::Ways::texts_upward))]
+fn push_nodes<'a>(
+    texts: &mut TextList,
+    height: u32,
+    index: usize,
+    count: usize,
+    leaf: Digest,
+    path: &'a [Digest],
+) -> Result<(Digest, &'a [Digest]), Memory>
+    requires low { height ≤ MAX_HEIGHT }
+    requires long { audit_length_to height index count ≤ length path.now }
+    ensures climbed { IfOk result (λ top. climb_to height index count (start_at leaf path.now) ≡ start_at top.0 top.1.now) }
+    ensures left { IfOk result (λ top. length top.1.now + audit_length_to height index count ≡ length path.now) }
+    ensures texts { OnOk result (texts.new ≡ texts.old ++ climb_texts_to height index count (start_at leaf path.now)) }
+{
+    if height == 0 {
+        return Ok((leaf, path));
+    }
+    let half = half_of(height);
+    if half < count {
+        if index < half {
+            match push_nodes(texts, height - 1, index, half, leaf, path) {
+                Ok((hash, rest)) => push_on_left(texts, hash, rest),
+                Err(Memory) => Err(Memory),
+            }
+        } else {
+            match push_nodes(texts, height - 1, index - half, count - half, leaf, path) {
+                Ok((hash, rest)) => push_on_right(texts, hash, rest),
+                Err(Memory) => Err(Memory),
+            }
+        }
+    } else {
+        push_nodes(texts, height - 1, index, count, leaf, path)
+    }
+}
+
+/// The hashes of an audit path.
+fn path_of(texts: &TextList, audit: AuditView) -> Result<DigestList, Memory>
+    ensures { IfOk result (λ path. path ≡ audit.entry) }
+{
+    let mut path = DigestList::new(texts.allocator());
+    let mut audit = audit;
+    while let Some(digest) = audit.next() {
+        path.push(digest)?;
+    }
+    Ok(path)
+}
+
+/// Adds the texts of the nodes on the way up from a leaf, and gives the hash at the top.
+pub(crate) fn push_way(
+    texts: &mut TextList,
+    index: u32,
+    count: u32,
+    leaf: Digest,
+    audit: AuditView,
+) -> Result<Digest, Memory>
+    requires { audit_length index count ≤ length audit }
+    ensures top { IfOk result (λ top. top.0 ≡ top_of index count (start_at leaf audit.entry)) }
+    ensures texts { OnOk result (texts.new ≡ texts.old ++ climb_texts_to MAX_HEIGHT index count (start_at leaf audit.entry)) }
+{
+    let path = path_of(texts, audit)?;
+    match push_nodes(
+        texts,
+        MAX_HEIGHT,
+        index as usize,
+        count as usize,
+        leaf,
+        path.as_slice(),
+    ) {
+        Ok((top, _rest)) => Ok(top),
+        Err(Memory) => Err(Memory),
+    }
+}
