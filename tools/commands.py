@@ -12,18 +12,22 @@ WORDS = {
     "KIND": ("hist, back or fwd", "hist|back|fwd"),
     "KEY": ("a key, which has 1 to 64 of a-z 0-9 . / _ -", "[a-z0-9./_-]{1,64}"),
     "BLOCK": ("a number from 0 to 4294967295, in digits without a leading zero", DECIMAL),
+    "ROOTBLOCK": ("a number from 0 to 4294967295, in digits without a leading zero", DECIMAL),
+    "ROOT": ("a root, which is 64 of 0-9 a-f", "[0-9a-f]{64}"),
     "N": ("a number from 1 to 100000, in digits without a leading zero", DECIMAL),
     "SEED": ("a number from 0 to 4294967295, in digits without a leading zero", DECIMAL),
 }
-RANGES = {"BLOCK": (0, MAX_NUMBER), "N": (1, MAX_GENERATED_BLOCKS), "SEED": (0, MAX_NUMBER)}
+RANGES = {"BLOCK": (0, MAX_NUMBER), "ROOTBLOCK": (0, MAX_NUMBER), "N": (1, MAX_GENERATED_BLOCKS), "SEED": (0, MAX_NUMBER)}
 
 
 class Command:
     """A command: its words, of which those in capitals stand for others, and what it does."""
 
-    def __init__(self, form, meaning, reads_input=False, uses_log=False):
+    def __init__(self, form, meaning, reads_input=False, reads_whole=False, uses_log=False):
         self.form, self.meaning = form, meaning
-        self.reads_input, self.uses_log = reads_input, uses_log
+        self.reads_input, self.uses_log = reads_input or reads_whole, uses_log
+        # Whether it reads its whole input before it prints anything.
+        self.reads_whole = reads_whole
 
     def words(self):
         return self.form.split()
@@ -48,14 +52,26 @@ COMMANDS = [
     Command("KIND KEY", "what KEY is at the last block of chain.log", uses_log=True),
     Command("KIND KEY BLOCK", "what KEY was at BLOCK, by chain.log", uses_log=True),
     Command(
+        "prove KIND KEY BLOCK ROOTBLOCK",
+        "a proof, in hex, of what KEY was at BLOCK, by chain.log, for one who has the root at\n"
+        "ROOTBLOCK",
+        uses_log=True,
+    ),
+    Command(
+        "verify ROOT KIND KEY BLOCK",
+        "what KEY was at BLOCK, by the proof on standard input, which is in hex, for one who has\n"
+        "ROOT; or which check of the proof fails",
+        reads_whole=True,
+    ),
+    Command(
         "fmt",
         "the canonical text of the contract on standard input, or its first fault",
-        reads_input=True,
+        reads_whole=True,
     ),
     Command(
         "pack",
         "the block file of the draft on standard input, which is JSON, or its first fault",
-        reads_input=True,
+        reads_whole=True,
     ),
     Command("gen N SEED", "a block file of N blocks, drawn from the number SEED"),
 ]

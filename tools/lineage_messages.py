@@ -59,6 +59,23 @@ CAUSES = {
     "budget": ("S", "the budgets of its calls come to {}; those of a block may come to 10,000,000"),
 }
 REFUSED = "a frame is refused; frames count from 0"
+# Which check of a proof fails: what is printed after `rejected`, and what that means.
+REJECTED = {
+    "malformed": "these are not the bytes of a proof: the first invalid field is at offset {}",
+    "query": "the proof is of another question",
+    "root": "the proof leads to another root, {}",
+    "leaf": "the leaf of the proof is not the one that covers the key",
+    "link": "a header of the proof has another digest than what stands before it names",
+    "path": "a header of the proof is missing, one too many, or of another version",
+    "body": "the body of the proof has another digest than its header names",
+    "list": "the uses of the proof are others than those that are told of",
+}
+NOT_ACCEPTED = "the proof is not accepted; docs/proofs.md has the checks"
+HEX_FAULTS = {
+    "odd": "a proof is in hex, two digits a byte, and the number of digits is odd",
+    "at": "a proof is in hex, and the byte at offset {} of the input is no hex digit",
+}
+NO_HEX = "the input is no hex"
 
 
 def say(text):
@@ -79,6 +96,8 @@ def explain(program, status, words, start):
         say(refused_sentence(program, words, start))
     elif status == 9:
         say(beyond_sentence(words))
+    elif status == 10:
+        say(rejected_sentence(program, words, start))
     elif status == 11:
         say(input_sentence(program, words, start))
     elif status in SENTENCES:
@@ -107,6 +126,8 @@ def beyond_sentence(words):
         return f"there is no log here: {os.getcwd()} has no {LOG_FILE}, which `append` makes"
     if command and command.uses_log and log_frames_end() == FIRST_GATE:
         return f"{LOG_FILE} has no block yet"
+    if words[0] == "prove" and int(words[3]) > int(words[4]):
+        return "BLOCK is past ROOTBLOCK, and a root says nothing of later blocks"
     return "there is no such block: the chain ends before it"
 
 
@@ -244,16 +265,36 @@ def printed_again(program, words, start):
         return subprocess.run([program, *words], stdin=source, **streams).stdout
 
 
-# ---- inputs that are no contract or no draft
+# ---- proofs
+
+
+def rejected_sentence(program, words, start):
+    """Which check of a proof fails, where the input can be read again."""
+    printed = b"" if start is None else printed_again(program, words, start)
+    rejected = re.match(r"rejected (\w+) ?(\w*)", printed.decode("ascii", "replace"))
+    if not rejected or rejected[1] not in REJECTED:
+        return NOT_ACCEPTED
+    return f"{NOT_ACCEPTED}: {REJECTED[rejected[1]].format(rejected[2])}"
+
+
+def hex_sentence(printed):
+    """Why an input is no hex."""
+    fault = re.match(rb"badinput (odd|at) ?(\d*)\n$", printed)
+    return HEX_FAULTS[fault[1].decode()].format(fault[2].decode()) if fault else NO_HEX
+
+
+# ---- inputs that are no contract, no draft or no proof
 
 
 def input_sentence(program, words, start):
     """What is wrong with an input."""
     if start is None:
-        return BAD_CONTRACT if words == ["fmt"] else draft_faults.NO_DRAFT
+        return {"fmt": BAD_CONTRACT, "verify": NO_HEX}.get(words[0], draft_faults.NO_DRAFT)
     printed = printed_again(program, words, start)
     if printed == b"badinput long\n":
         return TOO_LONG
+    if words[0] == "verify":
+        return hex_sentence(printed)
     with open("/proc/self/fd/0", "rb") as file:
         file.seek(start)
         source = file.read()

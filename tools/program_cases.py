@@ -34,6 +34,12 @@ MIX = (
 GENERATED = b"".join(
     [bytes([0, 0, 0, 164, 1]), bytes(36), b"\0\1\2", b"\0\3gen", b"\0\3mix", b"\0\x70", MIX]
 )
+# A proof of what raw/a is in ONE_SET, of 274 bytes, in hex and a line end, and the root to which it
+# leads, by docs/proofs.md.
+with open(f"{TOP}/examples/raw-a.proof", "rb") as raw_a:
+    RAW_A_PROOF = raw_a.read()
+RAW_A_ROOT = "41f6c6fc6bc756e479b796f7f09689670bee66ffad0189a20e5bf0574966869d"
+VERIFY = f"verify {RAW_A_ROOT} hist raw/a 0".encode()
 with open(RECALL, "rb") as recall:
     RECALL_FILE = recall.read()
 RECALL_LOG = log_of(RECALL_FILE)
@@ -99,6 +105,11 @@ CASES = [
     # These don't touch it.
     Case(SCAN, ONE_SET, SET_ANSWER, 0, log=b"hello"),
     Case(SCAN, ONE_SET, SET_ANSWER, 0, log="."),
+    Case(b"prove hist raw/a 0 0", None, RAW_A_PROOF, 0, log=SET_LOG),
+    Case(b"prove hist raw/a 0 0", None, RAW_A_PROOF, 0, streams="<&-", log=SET_LOG, is_read_only=True),
+    # A proof, with digits of either case and with a line end or not.
+    Case(VERIFY, RAW_A_PROOF, SET_ANSWER, 0),
+    Case(VERIFY, RAW_A_PROOF.rstrip().upper(), SET_ANSWER, 0, log=b"hello"),
     # 1: the words are no command: none, too few, one too many before or after those of a command.
     Case(b"", ONE_SET, "usage\n", 1),
     Case(b"scan hist raw/a", ONE_SET, "usage\n", 1),
@@ -110,6 +121,10 @@ CASES = [
     # A word that is no text isn't passed over.
     Case(b"fmt \xff", b"fn f(){}", "usage\n", 1),
     Case(b"scan hist raw/\xff 0", ONE_SET, "usage\n", 1),
+    Case(VERIFY + b" 0", RAW_A_PROOF, "usage\n", 1),
+    Case(VERIFY.replace(b"c6bc", b"C6bc"), RAW_A_PROOF, "usage\n", 1),
+    Case(b"prove hist raw/a 0", None, "usage\n", 1, log=SET_LOG),
+    Case(b"prove hist raw/a 0 00", None, "usage\n", 1, log=SET_LOG),
     # 2: reading fails, and nothing is printed.
     Case(SCAN, None, "", 2, streams="<&-"),
     Case(b"fmt", None, "", 2, streams="</"),
@@ -144,6 +159,8 @@ CASES = [
     # 6 and 7: not a log, and a damaged one; nothing is written.
     Case(b"append", ONE_SET, "not a log\n", 6, log=b"hello"),
     Case(b"hist raw/a", None, "not a log\n", 6, log=b"hello"),
+    Case(b"prove hist raw/a 0 0", None, "not a log\n", 6, log=b"hello"),
+    Case(b"prove hist raw/a 0 0", None, "damaged at 8\n", 7, log=SET_LOG[:40]),
     Case(b"append", ONE_SET, "damaged at 8\n", 7, log=SET_LOG[:40]),
     Case(b"fwd raw/a 0", None, "damaged at 8\n", 7, log=SET_LOG[:40]),
     # 8: a frame is refused.
@@ -155,9 +172,22 @@ CASES = [
     Case(b"hist raw/a", None, "beyond empty\n", 9),
     Case(b"back raw/a 0", None, "beyond empty\n", 9, log="none/chain.log"),
     Case(b"fwd raw/a 1", None, "beyond head 0\n", 9, log=SET_LOG),
+    Case(b"prove fwd raw/a 0 1", None, "beyond head 0\n", 9, log=SET_LOG),
+    Case(b"prove fwd raw/a 1 0", None, "beyond head 0\n", 9, log=SET_LOG),
+    Case(b"prove fwd raw/a 1 0", None, "beyond empty\n", 9),
     Case(SCAN, b"", "beyond empty\n", 9),
     Case(b"scan hist raw/a 1", ONE_SET, "beyond head 0\n", 9),
-    # 11: the input is no contract, or too long.
+    # 10: a proof is not accepted.
+    Case(VERIFY, b"", "rejected malformed 0\n", 10),
+    Case(VERIFY, b"\n", "rejected malformed 0\n", 10),
+    Case(VERIFY, b"00" + RAW_A_PROOF[2:], "rejected malformed 0\n", 10),
+    Case(VERIFY, RAW_A_PROOF[:546], "rejected malformed 273\n", 10),
+    Case(VERIFY, RAW_A_PROOF[:548] + b"00", "rejected malformed 274\n", 10),
+    Case(VERIFY.replace(b"raw/a", b"raw/b"), RAW_A_PROOF, "rejected query\n", 10),
+    Case(
+        VERIFY.replace(b"41f6", b"41f7"), RAW_A_PROOF, f"rejected root {RAW_A_ROOT}\n", 10
+    ),
+    # 11: the input is no contract, no draft or no hex, or too long.
     Case(b"fmt", b"fn f()", "badinput syntax 6 end\n", 11),
     Case(b"fmt", b"fn f() { a = 1; }", "badinput check 9 unknown\n", 11),
     Case(b"fmt", MAX_SOURCE_BYTES, "badinput syntax 0 byte\n", 11),
@@ -167,6 +197,11 @@ CASES = [
     Case(b"pack", b"[1]", "badinput block 0\n", 11),
     Case(b"pack", b'[[{"set":{}}]]', "badinput draft 0 0\n", 11),
     Case(b"pack", MAX_SOURCE_BYTES + 1, "badinput long\n", 11),
+    Case(VERIFY, b"abc", "badinput odd\n", 11),
+    Case(VERIFY, b"zz", "badinput at 0\n", 11),
+    Case(VERIFY, RAW_A_PROOF + b"\n", "badinput odd\n", 11),
+    Case(VERIFY, MAX_SOURCE_BYTES, "badinput at 0\n", 11),
+    Case(VERIFY, MAX_SOURCE_BYTES + 1, "badinput long\n", 11),
 ]
 
 

@@ -1,7 +1,8 @@
 """Proofs by docs/proofs.md, made from the rows of a chain by going over them all.
 
 By itself this file makes proofs of small chains, and has verifiers/verify.py say what they prove and why
-it refuses them once a byte of one is changed:
+it refuses them once a byte of one is changed; and it has it say of the proofs of crates/run_cases what the
+program must tell of them:
 
     python3 tools/proof_cases.py
 """
@@ -122,6 +123,34 @@ class Checked:
             self.wrong.append(f"{what}: {given!r:.200}, not {wanted!r:.200}")
 
 
+def recorded_cases():
+    """The cases of `verify` in crates/run_cases: words, input, and what must be printed, after the status."""
+    with open(f"{TOP}/crates/run_cases/stdin") as stdin, open(f"{TOP}/crates/run_cases/stdout") as stdout:
+        printed = stdout.read().removeprefix("== ").split("\n== ")
+        for line, told in zip(stdin, printed, strict=True):
+            words, *fields = line.rstrip("\n").split("|")
+            # A case of a source or a machine that fails has further fields.
+            if words.startswith("verify ") and len(fields) == 2:
+                yield words, bytes.fromhex(fields[1]), told.rstrip("\n").split("\n")
+
+
+def check_recorded(checked):
+    """The verifier tells of each recorded proof what the program must tell."""
+    for words, source, [first, *lines] in recorded_cases():
+        status = int(first.split()[0])
+        checked.expect(words, told_of(checked.verifier, words.split()[1:], source), (lines, status))
+
+
+def told_of(verifier, words, source):
+    """What the verifier prints of an input, and its status."""
+    try:
+        root, question = verifier.read_words(words)
+        proof = verifier.Fields(verifier.read_hex(source)).whole_proof()
+        return verifier.answer(proof, root, question), verifier.DONE
+    except verifier.Stop as stop:
+        return [stop.line], stop.status
+
+
 def main():
     sys.path.insert(0, f"{TOP}/verifiers")
     import verify
@@ -132,6 +161,7 @@ def main():
         for key in keys:
             for at, root_at in [(0, 0), (5, 39), (20, 20), (38, 39), (39, 39)]:
                 checked.check(kind, key, at, root_at)
+    check_recorded(checked)
     for line in checked.wrong:
         print(f"proof_cases: {line}")
     print(f"proof_cases: {checked.count} checks, {len(checked.wrong)} wrong")

@@ -13,11 +13,12 @@ import time
 
 import commands
 import disk_calls
+import lineage_input
 import lineage_messages
 import page_runs
-from log_cases import CLOSED, SET_FILE, SET_LOG
+from log_cases import CLOSED, NOT_A_LOG, REFUSED, SET_FILE, SET_LINE, SET_LOG
 from log_runs import LOG
-from program_cases import CASES, RECALL_FILE
+from program_cases import CASES, RAW_A_PROOF, RAW_A_ROOT, RECALL_FILE
 from program_runs import TOP, check_case, take_rights
 
 # How long a run may take, and how long one waits for another, in seconds.
@@ -58,6 +59,17 @@ SAID = [
     ("pack", b'[[{"set":{"sender":"u","key":"raw/A","value":1}}]]', None, "`key` of `set` must be"),
     ("pack", b'[[{"set":{"sender":"u","key":"a","value":-0}}]]', None, "`value` of `set` must be"),
     ("pack", b'[[{"set":{"sender":"u","key":"a","value":1,"x":1}}]]', None, "`set` takes no `x`"),
+    ("prove hist raw/a 0 00", b"", None, "word 5, `00`, is not ROOTBLOCK"),
+    ("prove hist raw/a 0 0", b"", None, f"has no {LOG}"),
+    ("prove hist raw/a 0 1", b"", SET_LOG, "the chain ends before it"),
+    ("prove hist raw/a 1 0", b"", SET_LOG, "BLOCK is past ROOTBLOCK"),
+    (f"verify {RAW_A_ROOT} hist raw/a", b"", None, "`verify ROOT KIND KEY BLOCK`"),
+    (f"verify {RAW_A_ROOT.upper()} hist raw/a 0", b"", None, "is not ROOT: a root"),
+    (f"verify {RAW_A_ROOT} hist raw/a 0", b"", None, "the first invalid field is at offset 0"),
+    (f"verify {RAW_A_ROOT} hist raw/b 0", RAW_A_PROOF, None, "of another question"),
+    (f"verify {'0' * 64} hist raw/a 0", RAW_A_PROOF, None, f"to another root, {RAW_A_ROOT}"),
+    (f"verify {RAW_A_ROOT} hist raw/a 0", b"abc", None, "the number of digits is odd"),
+    (f"verify {RAW_A_ROOT} hist raw/a 0", b"zz", None, "the byte at offset 0 of the input"),
     ("hist raw/a", b"", b"hello", "something else than a log"),
     ("hist raw/a", b"", SET_LOG[:40], "was changed or cut"),
 ]
@@ -90,33 +102,62 @@ def run(program, words, source, folder):
 
 
 def what_is_said(checks, wrapper, program):
-    """./lineage says what is wrong, and prints and ends as the program does."""
+    """./lineage says what is wrong, and prints and ends as the program does; behind a pipe too."""
     for words, source, log, said in SAID:
-        answers = []
-        for each in (program, wrapper):
-            with tempfile.TemporaryDirectory() as folder, tempfile.TemporaryFile() as given:
-                given.write(source)
-                given.seek(0)
-                if log is not None:
-                    with open(os.path.join(folder, LOG), "wb") as file:
-                        file.write(log)
-                answers.append(run(each, words, given, folder))
-        checks.same(f"{words} by ./lineage", answers[1][:2], answers[0][:2])
-        checks.holds(f"{words} over {source[:40]!r}: {answers[1][2]!r} has {said!r}", said in answers[1][2])
+        wanted = run_over(program, words, source, log, is_pipe=False)[:2]
+        printed, status, told = run_over(wrapper, words, source, log, is_pipe=False)
+        name = f"{words} over {source[:40]!r}"
+        checks.same(f"{name} by ./lineage", (printed, status), wanted)
+        checks.holds(f"{name}: {told!r} has {said!r}", said in told)
+        piped = run_over(wrapper, words, source, log, is_pipe=True)
+        checks.same(f"{name} behind a pipe", piped, (printed, status, told))
+
+
+def run_over(program, words, source, log, is_pipe):
+    """What is printed, the exit status and what is said, over an input and a log, in a folder that is
+    called HERE in what is said."""
+    with tempfile.TemporaryDirectory() as folder, tempfile.TemporaryFile() as given:
+        if log is not None:
+            with open(os.path.join(folder, LOG), "wb") as file:
+                file.write(log)
+        given.write(source)
+        given.seek(0)
+        printed, status, told = run(program, words, source if is_pipe else given, folder)
+        return printed, status, told.replace(os.path.realpath(folder), "HERE")
 
 
 def pipes(checks, wrapper):
-    """A pipe's faults are shown too."""
+    """What comes through a pipe is handed on as it comes, for as long as the program takes it."""
     with tempfile.TemporaryDirectory() as folder:
-        for words, source, printed, said in [
-            ("fmt", b"fn f() {\n  a = 1;\n}", b"badinput check 11 unknown\n", "line 2, column 3"),
-            ("pack", b"[[1]]", b"badinput draft 0 0\n", "one member `set`"),
-            ("append", b"[[]]", b"refused frame 0 length 1532714333\n", "pack it first"),
-        ]:
-            given, status, told = run(wrapper, words, source, folder)
-            checks.same(f"{words} behind a pipe", given, printed)
-            checks.holds(f"{words} behind a pipe ends with a status", status in (8, 11))
-            checks.holds(f"{words} behind a pipe: {told!r} has {said!r}", said in told)
+        streams = {"stdin": subprocess.PIPE, "stdout": subprocess.PIPE, "stderr": subprocess.PIPE}
+        ran = subprocess.Popen([wrapper, "append"], cwd=folder, **streams)
+        ran.stdin.write(SET_FILE)
+        ran.stdin.flush()
+        checks.same("a line while the pipe is open", ran.stdout.readline().decode(), SET_LINE)
+        ran.stdin.write(RECALL_FILE)
+        ran.stdin.flush()
+        checks.same("a frame is refused while the pipe is open", ran.wait(RUN_LIMIT), REFUSED)
+        told = ran.stderr.read().decode()
+        cause = "a frame is refused; frames count from 0: the chain has another block of this number"
+        checks.holds(f"{told!r} has {cause!r}", cause in told)
+        ran.stdin.close()
+    with tempfile.TemporaryDirectory() as folder:
+        with open(os.path.join(folder, LOG), "wb") as file:
+            file.write(b"hello")
+        ran = subprocess.Popen([wrapper, "append"], cwd=folder, **streams)
+        checks.same("no log, and a pipe that stays open", ran.wait(RUN_LIMIT), NOT_A_LOG)
+        ran.stdin.close()
+
+
+def long_pipe(checks, wrapper):
+    """Of an input that is longer than what is kept of a pipe it is said what causes may be."""
+    source = SET_FILE * (lineage_input.MAX_KEPT_BYTES // len(SET_FILE) + 1)
+    printed, status, told = run_over(wrapper, "scan hist raw/a 0", source + b"\0", None, is_pipe=True)
+    frames = len(source) // len(SET_FILE)
+    refused = f"refused frame {frames} truncated\n".encode()
+    checks.same("a long pipe", (printed, status), (refused, REFUSED))
+    for cause in ("truncated: the input ends within this frame", "fork H"):
+        checks.holds(f"{told!r} has {cause!r}", cause in told)
 
 
 def what_of_the_disk(checks, wrapper):
@@ -258,6 +299,7 @@ def listed_commands(checks, program):
     with open(f"{TOP}/docs/formats.md", encoding="utf-8") as file:
         formats = file.read().split("\n## Commands\n")[1].split("\n## ")[0]
     words = {"KIND": commands.KINDS, "KEY": ["raw/a"], "BLOCK": ["0"], "N": ["1"], "SEED": ["0"]}
+    words |= {"ROOT": [RAW_A_ROOT], "ROOTBLOCK": ["0"]}
     forms = []
     for command in commands.COMMANDS:
         given = [words.get(word, [word])[0] for word in command.words()]
@@ -275,7 +317,10 @@ def listed_commands(checks, program):
     listed = re.findall(r"(?m)^    ((?:%s)\b.*?)  +\S" % "|".join(commands.first_words()), readme)
     spelled = []
     for form in listed:
-        spelled += [re.sub(r" \[(\w+)\]", "", form), re.sub(r"\[(\w+)\]", r"\1", form)]
+        kinds = commands.KINDS if "KIND" in form else [""]
+        for kind in kinds:
+            each = form.replace("KIND", kind)
+            spelled += [re.sub(r" \[(\w+)\]", "", each), re.sub(r"\[(\w+)\]", r"\1", each)]
     checks.same("commands that README.md lists", sorted(set(spelled)), sorted(set(forms)))
 
 
@@ -295,6 +340,7 @@ def check(checks, program, folder):
         check_case(checks, wrapper, case)
     what_is_said(checks, wrapper, program)
     pipes(checks, wrapper)
+    long_pipe(checks, wrapper)
     what_of_the_disk(checks, wrapper)
     what_of_rights(checks)
     lock(checks, wrapper)

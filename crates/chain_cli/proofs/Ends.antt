@@ -1,5 +1,5 @@
 -- Which commands end how.
-use Rattle.std.proofs.Common.{◌≡◌, Bool, true, false, List, ℕ, [], Option, Some, None, Result, Ok, Err, refl, sym, ap, subst}
+use Rattle.std.proofs.Common.{◌≡◌, true, false, List, ℕ, [], Option, Some, None, Result, Ok, Err, refl, sym, subst}
 use Rattle.std.specs.Prelude.{IfOk}
 use Rattle.contract_tree.specs.Tree.{FunctionTree}
 use Rattle.contract_parse.specs.Syntax.{Outcome as SourceOutcome}
@@ -19,27 +19,11 @@ use Rattle.chain_lines.specs.declared.outcome.Ending.TheVariants as endings
 use Rattle.chain_lines.specs.declared.status.Status.{Status}
 use Rattle.chain_lines.specs.declared.status.Status.TheVariants as statuses
 use Rattle.chain_output.specs.Blocks.{draft_outcome}
-use Rattle.chain_output.specs.Output.{Output, output_of, fmt_outcome, source_outcome, IsFmt, Long, Source, uses_disk, asks_for_block}
+use Rattle.chain_output.specs.Output.{Output, output_of, fmt_outcome, source_outcome, IsFmt, Long, Source, uses_disk}
 use Rattle.chain_output.specs.Running.{MayEnd, found_no_log}
-use Rattle.chain_output.specs.Scanning.{EndsAsked}
 use Rattle.chain_output.specs.Telling.{status_of_result, append_answer}
 use Rattle.chain_output.specs.declared.stop.RunStop.{RunStop}
 use Rattle.chain_output.specs.declared.stop.RunStop.TheVariants as stops
-
--- ---- questions about a block
-
-asked_end : (ending : Ending) (command : Option Command) → asks_for_block command ≡ true → EndsAsked ending → MayEnd (status_of ending) command
-asked_end endings.Done None asks ends = absurd (cc asks)
-asked_end endings.Done (Some command) asks ends = refl
-asked_end endings.Beyond command asks ends = asks
-asked_end endings.Refused command asks ends = absurd ends
-asked_end endings.BadInput command asks ends = absurd ends
-asked_end endings.NotALog command asks ends = absurd ends
-asked_end endings.Damaged command asks ends = absurd ends
-
-pub asked_ends : {E : Type 0} (found : Result Outcome E) (command : Option Command) → asks_for_block command ≡ true → IfOk found (λ outcome. EndsAsked outcome.ending) → IfOk found (λ outcome. MayEnd (status_of outcome.ending) command)
-asked_ends (Ok outcome) command asks ends = asked_end outcome.ending command asks ends
-asked_ends (Err e) command asks ends = tt
 
 -- ---- inputs that are read whole
 
@@ -108,6 +92,7 @@ no_log_uses statuses.DiskFault command none ends = absurd (cc none)
 no_log_uses statuses.Memory command none ends = absurd (cc none)
 no_log_uses statuses.Refused command none ends = absurd (cc none)
 no_log_uses statuses.Beyond command none ends = absurd (cc none)
+no_log_uses statuses.Rejected command none ends = absurd (cc none)
 no_log_uses statuses.BadInput command none ends = absurd (cc none)
 
 -- so one that uses none did not find that there is none

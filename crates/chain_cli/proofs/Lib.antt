@@ -7,3 +7,4 @@ pub mod Runs
 pub mod Asked
 pub mod Ends
 pub mod Moments
+pub mod Held

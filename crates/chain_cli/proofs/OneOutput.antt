@@ -18,15 +18,20 @@ use Rattle.block_codec.proofs.Decoders.{decoders_agree}
 use Rattle.block_codec.proofs.WholeBlocks.{decided}
 use Rattle.contract_parse.specs.Syntax.{Outcome as SourceOutcome, IsOutcome}
 use Rattle.contract_parse.proofs.Outcomes.{some_outcome, one_outcome}
+use Rattle.lc_base.specs.declared.answer.Query.{Query}
+use Rattle.proof_commands.specs.Verifying.{verification}
+use Rattle.proof_commands.specs.declared.verification.Verification.{Verification}
+use Rattle.proof_commands.proofs.Verified.{is_verification, one_answer}
 use Rattle.chain_lines.specs.declared.whole.TheConstants.{MAX_WHOLE_INPUT_BYTES}
 use Rattle.chain_exec.specs.Compiled.{Compiler, compiled_in}
 use Rattle.chain_exec.proofs.TheLaws.{one_compiler}
 use Rattle.chain_state.specs.Judging.{Taken, judged, added_by}
 use Rattle.chain_state.specs.declared.refusal.Refusal.{Refusal}
 use Rattle.scan_chain.specs.Folding.{Fold, taken_before, fold_after_frame, fold_step, fold_from, fold_input}
-use Rattle.chain_output.specs.Output.{Output, output_of, scan_output, usage_output, long_output, pack_output, gen_output, append_output, root_output, ask_output, on_log, next_by, source_outcome, IsFmt, Long, Source, Wants, IsWanted, IsOneOutput}
+use Rattle.chain_output.specs.Output.{Output, output_of, scan_output, usage_output, long_output, pack_output, gen_output, append_output, root_output, ask_output, prove_output, on_log, next_by, source_outcome, IsFmt, Long, Source, IsVerify, LongProof, Verified, Wants, IsWanted, IsOneOutput}
+use Rattle.chain_output.specs.Proofs.{verification_outcome}
 use Rattle.chain_words.specs.declared.words.Command.{Command}
-use Rattle.chain_words.specs.declared.words.Command.TheVariants.{Scan, Fmt, Pack, Gen, Append, Root, Ask}
+use Rattle.chain_words.specs.declared.words.Command.TheVariants.{Scan, Fmt, Pack, Gen, Append, Root, Ask, Prove, Verify}
 
 -- ---- the bytes of a frame
 
@@ -139,6 +144,13 @@ some_fmt input =
       | inr fits ↦ let found = some_outcome input in (output_of (source_outcome found.0) [], Source fits found.0 found.1)
     ]
 
+some_verify : (root : List ℕ) (query : Query) (input : List ℕ) → (output : Output) × IsVerify root query input output
+some_verify root query input =
+    elim (cases_lt MAX_WHOLE_INPUT_BYTES (length input)) [
+      | inl long ↦ (long_output input, LongProof long)
+      | inr fits ↦ (output_of (verification_outcome (verification root query input)) [], Verified fits (verification root query input) (is_verification root query input))
+    ]
+
 -- a command, or that the words are none, wants an output
 pub some_output : (command : Option Command) (input content : List ℕ) → (output : Output) × Wants block_in compiled_in command input content output
 some_output None input content = (usage_output input, refl)
@@ -149,6 +161,8 @@ some_output (Some (Gen generation)) input content = (gen_output generation input
 some_output (Some Append) input content = (on_log (λ blocks. append_output compiled_in blocks (fold_from block_in compiled_in (MAX_FRAMES + 1) blocks input)) input (standing (next_by block_in compiled_in) content), refl)
 some_output (Some (Root at)) input content = (on_log (root_output compiled_in at input) input (standing (next_by block_in compiled_in) content), refl)
 some_output (Some (Ask kind key at)) input content = (on_log (ask_output compiled_in kind key at input) input (standing (next_by block_in compiled_in) content), refl)
+some_output (Some (Prove query root_at)) input content = (on_log (prove_output compiled_in query root_at input) input (standing (next_by block_in compiled_in) content), refl)
+some_output (Some (Verify root query)) input content = some_verify root.0 query input
 
 -- ---- and no other
 
@@ -175,6 +189,12 @@ only_fmt input other is =
           only_source input found.0 fits found.1 other is ∙ sym (only_source input found.0 fits found.1 (some_fmt input).0 (some_fmt input).1)
     ]
 
+only_verify : (root : List ℕ) (query : Query) (input : List ℕ) (a b : Output) → IsVerify root query input a → IsVerify root query input b → a ≡ b
+only_verify root query input _ _ (LongProof _) (LongProof _) = refl
+only_verify root query input _ _ (LongProof long) (Verified fits told is) = absurd (omega (arith, long, fits))
+only_verify root query input _ _ (Verified fits told is) (LongProof long) = absurd (omega (arith, long, fits))
+only_verify root query input _ _ (Verified _ told is) (Verified _ other i) = ap (λ (v : Verification). output_of (verification_outcome v) []) (one_answer root query input told other is i)
+
 -- by whatever decoder that is right, what is wanted of bytes is one
 same_output : (read : Decoder) (compile : Compiler) → IsDecoder read → compile ≡ compiled_in → (command : Option Command) (input content : List ℕ) → IsBytes input → IsBytes content
     → (other : Output) → Wants read compile command input content other → other ≡ (some_output command input content).0
@@ -197,6 +217,10 @@ same_output read compile is_read compile_is (Some (Root at)) input content fits 
 same_output read compile is_read compile_is (Some (Ask kind key at)) input content fits whole other is =
     is ∙ ap (λ (c : Compiler). on_log (ask_output c kind key at input) input (standing (next_by read c) content)) compile_is
     ∙ ap (on_log (ask_output compiled_in kind key at input) input) (standing_same (placement_in compiled_in) read block_in is_read decided content whole)
+same_output read compile is_read compile_is (Some (Prove query root_at)) input content fits whole other is =
+    is ∙ ap (λ (c : Compiler). on_log (prove_output c query root_at input) input (standing (next_by read c) content)) compile_is
+    ∙ ap (on_log (prove_output compiled_in query root_at input) input) (standing_same (placement_in compiled_in) read block_in is_read decided content whole)
+same_output read compile is_read compile_is (Some (Verify root query)) input content fits whole other is = only_verify root.0 query input other (some_verify root.0 query input).0 is (some_verify root.0 query input).1
 
 pub one_output : (command : Option Command) (input content : List ℕ) → IsBytes input → IsBytes content → IsOneOutput (IsWanted command input content)
 one_output command input content fits whole = record {

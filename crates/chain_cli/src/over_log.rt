@@ -1,90 +1,31 @@
 //! The commands over the log: `append`, `root`, and the questions `hist`, `back` and `fwd`.
 
-ghost use Rattle.std.specs.Prelude.{◌≡◌, ℕ, true, List, [], ◌∷◌, Option, Some, IfOk, IsErrOf};
+ghost use Rattle.std.specs.Prelude.{◌≡◌, ℕ, true, List, Option, Some, IfOk, IsErrOf};
 ghost use Rattle.lc_base.specs.Faults.{HasCause};
 ghost use Rattle.lc_outside.specs.Disk.{Stays};
 ghost use Rattle.disk_model.specs.Disk.{IsSettled, Keeps, content_of};
 ghost use Rattle.block_codec.specs.Reading.{block_in};
 ghost use Rattle.block_codec.specs.declared.block.Block.{Block as Blocks};
-ghost use Rattle.block_log.specs.Standing.{NextBlock};
 ghost use Rattle.chain_exec.specs.Compiled.{compiled_in};
 ghost use Rattle.chain_state.specs.Chain.{StandsFor};
 ghost use Rattle.recovery.specs.Node.{next_in_chain};
-ghost use Rattle.recovery.specs.declared.errors.StartError.TheVariants as starts;
 ghost use Rattle.chain_promises.specs.Promises.{MayLeaveAny};
-ghost use Rattle.chain_lines.specs.Lines.{not_a_log_line, damaged_line};
-ghost use Rattle.chain_lines.specs.Outcome.{status_of, outcome_with};
-ghost use Rattle.chain_lines.specs.declared.outcome.Outcome.{Outcome as Outcomes};
-ghost use Rattle.chain_words.specs.declared.words.Command.{Command};
 ghost use Rattle.chain_words.specs.declared.words.Command.TheVariants.{Append, Root, Ask};
-ghost use Rattle.chain_output.specs.Output.{beyond_outcome, answer_outcome, root_outcome, at_or_last, uses_disk};
+ghost use Rattle.chain_output.specs.Output.{answer_outcome, root_outcome, at_or_last};
 ghost use Rattle.chain_output.specs.Running.{IsRun, IsSilent, MayEnd, found_no_log};
 ghost use Rattle.chain_output.specs.Scanning.{EndsAsked};
-ghost use Rattle.chain_output.specs.Telling.{Says, TellsStart, append_answer, status_of_result};
+ghost use Rattle.chain_output.specs.Telling.{append_answer, status_of_result};
 
 use crate::scan::whole_outcome;
 use chain_append::{AppendEnd, AppendStop, append as append_frames, start};
-use chain_lines::{
-    Ending, Outcome, damaged_line, empty_line, head_line, not_a_log_line, root_line,
-};
-use chain_output::{RunStop, tell_outcome};
+use chain_lines::{Ending, Outcome, root_line};
+use chain_output::{RunStop, beyond, tell_made, tell_start};
 use chain_state::Chain;
 use disk_model::Disk;
 use lc_base::{Key, Kind, Memory, Query};
 use lc_outside::{Source, Wire};
-use recovery::{Node, StartError, stored_chain};
+use recovery::{Node, stored_chain};
 use std::alloc::Global;
-
-/// The disk holds something else than a log.
-fn not_a_log(alloc: Global) -> Result<Outcome, Memory>
-    ensures { IfOk result (λ outcome. outcome ≡ outcome_with (not_a_log_line ∷ []) Ending.NotALog) }
-{
-    Outcome::from_line(alloc, not_a_log_line(alloc)?, Ending::NotALog)
-}
-
-/// The log is damaged at this offset.
-fn damaged(alloc: Global, at: u64) -> Result<Outcome, Memory>
-    ensures { IfOk result (λ outcome. outcome ≡ outcome_with (damaged_line at ∷ []) Ending.Damaged) }
-{
-    Outcome::from_line(alloc, damaged_line(alloc, at)?, Ending::Damaged)
-}
-
-/// Tells an outcome, unless there was no memory for it.
-fn tell_made<M: Wire>(machine: &mut M, outcome: Result<Outcome, Memory>) -> Result<Ending, RunStop>
-    ensures says { (next : NextBlock) (wanted : Outcomes) → IfOk outcome (λ o. o ≡ wanted) → Says next M.now M.disk M.told machine.old machine.new wanted result }
-    ensures ends { (command : Option Command) → IfOk outcome (λ o. MayEnd (status_of o.ending) command) → MayEnd (status_of_result result) command }
-    ensures silent { IsSilent (status_of_result result) (M.told machine.old) (M.told machine.new) }
-    ensures reads { IsErrOf result RunStop.Unreadable → ⊥ }
-    ensures writes { IsErrOf result RunStop.DiskFault → ⊥ }
-    ensures disk { Stays M.now M.disk machine.old machine.new }
-    ensures disk_faults { M.disk_faults machine.new ≡ M.disk_faults machine.old }
-    ensures cause { HasCause (M.wire_faults machine.old) (M.wire_faults machine.new) (IsErrOf result RunStop.Untold) }
-{
-    match outcome {
-        Ok(outcome) => tell_outcome(machine, &outcome),
-        Err(Memory) => Err(RunStop::Memory),
-    }
-}
-
-/// Tells that there is no node to start with, or says why the disk was not read.
-fn tell_start<M: Wire>(alloc: Global, machine: &mut M, error: StartError) -> Result<Ending, RunStop>
-    ensures says { (next : NextBlock) → TellsStart next M.now M.disk M.told machine.old machine.new error result }
-    ensures ends { (command : Option Command) → uses_disk command ≡ true → MayEnd (status_of_result result) command }
-    ensures silent { IsSilent (status_of_result result) (M.told machine.old) (M.told machine.new) }
-    ensures reads { IsErrOf result RunStop.Unreadable → ⊥ }
-    ensures disk_fault { IsErrOf result RunStop.DiskFault → error ≡ starts.DiskFault }
-    ensures blamed { error ≡ starts.DiskFault → IsErrOf result RunStop.DiskFault }
-    ensures disk { Stays M.now M.disk machine.old machine.new }
-    ensures disk_faults { M.disk_faults machine.new ≡ M.disk_faults machine.old }
-    ensures cause { HasCause (M.wire_faults machine.old) (M.wire_faults machine.new) (IsErrOf result RunStop.Untold) }
-{
-    match error {
-        StartError::NotALog => tell_made(machine, not_a_log(alloc)),
-        StartError::Damaged { at } => tell_made(machine, damaged(alloc, at)),
-        StartError::DiskFault => Err(RunStop::DiskFault),
-        StartError::Memory => Err(RunStop::Memory),
-    }
-}
 
 /// How a command ends that appended.
 fn append_answer(answer: Result<AppendEnd, AppendStop>) -> Result<Ending, RunStop>
@@ -118,17 +59,6 @@ pub fn append<I: Source, M: Disk + Wire>(
     match start(alloc, machine) {
         Ok(node) => append_answer(append_frames(alloc, source, machine, node)),
         Err(error) => tell_start(alloc, machine, error),
-    }
-}
-
-/// A block past the head was asked for, or there is none.
-fn beyond(alloc: Global, head: Option<u32>) -> Result<Outcome, Memory>
-    ensures outcome { IfOk result (λ outcome. outcome ≡ beyond_outcome head) }
-    ensures ends { IfOk result (λ outcome. EndsAsked outcome.ending) }
-{
-    match head {
-        None => Outcome::from_line(alloc, empty_line(alloc)?, Ending::Beyond),
-        Some(head) => Outcome::from_line(alloc, head_line(alloc, head)?, Ending::Beyond),
     }
 }
 

@@ -4,6 +4,7 @@ ghost use Rattle.std.specs.Prelude.{◌≡◌, ℕ, List, Option, Some, map, str
 ghost use Rattle.lc_base.specs.Faults.{HasCause};
 ghost use Rattle.lc_outside.specs.Disk.{Stays};
 ghost use Rattle.disk_model.specs.Disk.{IsSettled, Keeps, content_of};
+ghost use Rattle.lc_base.specs.declared.answer.Query.{Query};
 ghost use Rattle.byte_fields.specs.Spelling.{IsBytes};
 ghost use Rattle.block_codec.specs.Reading.{block_in};
 ghost use Rattle.block_codec.specs.Spelling.{Decoder, IsDecoder};
@@ -14,6 +15,7 @@ ghost use Rattle.chain_promises.specs.Promises.{MayLeaveAny};
 ghost use Rattle.chain_words.specs.Words.{IsCommand, IsOneCommand};
 ghost use Rattle.chain_output.specs.Output.{FormatsAgain, IsWanted, IsOneOutput, next_by, reads_input, uses_disk, changes_log, tells_as_it_goes};
 ghost use Rattle.chain_output.specs.Running.{IsRun, IsSilent, MayEnd, found_no_log};
+ghost use Rattle.chain_output.specs.Showing.{VerifiedAnswersHold};
 ghost use Rattle.chain_output.specs.Telling.{status_of_result};
 
 use crate::fmt::fmt;
@@ -23,6 +25,7 @@ use crate::packing::pack;
 use crate::scan::scan;
 use chain_lines::{Ending, Status};
 use chain_output::{RunStop, tell_result, tell_usage};
+use chain_proofs::{prove, verify};
 use chain_words::{Command, command_of};
 use disk_model::Disk;
 use lc_outside::{Source, Wire};
@@ -57,6 +60,8 @@ fn run_command<I: Source, M: Disk + Wire>(
         Command::Append => append(alloc, source, machine),
         Command::Root(at) => root(alloc, *at, machine),
         Command::Ask { kind, key, at } => ask(alloc, *kind, *key, *at, machine),
+        Command::Prove { query, root_at } => prove(alloc, query, *root_at, machine),
+        Command::Verify { root, query } => tell_result(machine, verify(alloc, root, query, source)),
     }
 }
 
@@ -95,7 +100,7 @@ fn run_words<I: Source, M: Disk + Wire>(
 
 /// Everything that the program does: it reads the words, the input and the disk, tells the lines, and
 /// appends to the log.
-#[tactic(auto, using(crate::proofs::OneOutput::one_output, crate::proofs::Formatted::formats_again, block_codec::proofs::WholeBlocks::decided, chain_exec::proofs::TheLaws::one_compiler))]
+#[tactic(auto, using(crate::proofs::OneOutput::one_output, crate::proofs::Formatted::formats_again, crate::proofs::Held::verified_holds, block_codec::proofs::WholeBlocks::decided, chain_exec::proofs::TheLaws::one_compiler))]
 pub fn run<I: Source, M: Disk + Wire>(
     alloc: Global,
     words: &[String],
@@ -116,6 +121,9 @@ pub fn run<I: Source, M: Disk + Wire>(
         → IsOneOutput (IsWanted command input content) }
     // The canonical text that `fmt` tells, it tells again of that text.
     ensures formats_again { (input : List ℕ) → FormatsAgain input }
+    // The answer that `verify` tells is that of replaying any chain with the root, up to the block where it
+    // has it; or a text of the proof and one of that chain's ledger differ and have one digest.
+    ensures verified { (root : List ℕ) (query : Query) (input : List ℕ) → VerifiedAnswersHold root query input }
     // Whatever the source has left, where the disk is told: a crash at any moment leaves what it held, or
     // the chain of that with further blocks.
     ensures goes_on { (read : Decoder) × IsDecoder read × ((compile : Compiler) × IsCompiler compile

@@ -12,6 +12,7 @@ abbrev pub status_of : Ending → Status
 status_of endings.Done = statuses.Done
 status_of endings.Refused = statuses.Refused
 status_of endings.Beyond = statuses.Beyond
+status_of endings.Rejected = statuses.Rejected
 status_of endings.BadInput = statuses.BadInput
 status_of endings.NotALog = statuses.NotALog
 status_of endings.Damaged = statuses.Damaged

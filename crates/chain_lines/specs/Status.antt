@@ -15,4 +15,5 @@ status_number statuses.NotALog = 6
 status_number statuses.Damaged = 7
 status_number statuses.Refused = 8
 status_number statuses.Beyond = 9
+status_number statuses.Rejected = 10
 status_number statuses.BadInput = 11

@@ -26,6 +26,8 @@ pub enum Status {
     Refused,
     /// A block past the head of the chain was asked for.
     Beyond,
+    /// A proof is not accepted.
+    Rejected,
     /// The input is not of its grammar, or too long.
     BadInput,
 }
@@ -46,6 +48,7 @@ impl Status {
             Status::Damaged => 7,
             Status::Refused => 8,
             Status::Beyond => 9,
+            Status::Rejected => 10,
             Status::BadInput => 11,
         }
     }

@@ -1,11 +1,14 @@
 -- Which commands may end as they do whose outcome was told, or that have none.
-use Rattle.std.proofs.Common.{◌≡◌, Option, Result, Ok, Err, sym, ap, subst}
+use Rattle.std.proofs.Common.{◌≡◌, true, Option, Some, None, Result, Ok, Err, refl, sym, subst}
 use Rattle.std.specs.Prelude.{IfOk, IfErr}
 use Rattle.chain_words.specs.declared.words.Command.{Command}
 use Rattle.chain_lines.specs.Outcome.{status_of}
 use Rattle.chain_lines.specs.declared.outcome.Outcome.{Outcome}
 use Rattle.chain_lines.specs.declared.outcome.Ending.{Ending}
+use Rattle.chain_lines.specs.declared.outcome.Ending.TheVariants as endings
+use Rattle.chain_output.specs.Output.{asks_for_block}
 use Rattle.chain_output.specs.Running.{MayEnd}
+use Rattle.chain_output.specs.Scanning.{EndsAsked}
 use Rattle.chain_output.specs.Telling.{status_of_result, status_of_stop}
 use Rattle.chain_output.specs.declared.stop.RunStop.{RunStop}
 use Rattle.chain_output.specs.declared.stop.RunStop.TheVariants as stops
@@ -24,3 +27,19 @@ made_ends found outcome result command is same halts ends = told_ends outcome re
 pub known_ends : {E : Type 0} (found : Result Outcome E) (wanted : Outcome) (command : Option Command) → MayEnd (status_of wanted.ending) command → IfOk found (λ outcome. outcome ≡ wanted) → IfOk found (λ outcome. MayEnd (status_of outcome.ending) command)
 known_ends (Ok outcome) wanted command ends is = subst (λ (o : Outcome). MayEnd (status_of o.ending) command) (sym is) ends
 known_ends (Err e) wanted command ends is = tt
+
+-- ---- questions about a block
+
+asked_end : (ending : Ending) (command : Option Command) → asks_for_block command ≡ true → EndsAsked ending → MayEnd (status_of ending) command
+asked_end endings.Done None asks ends = absurd (cc asks)
+asked_end endings.Done (Some command) asks ends = refl
+asked_end endings.Beyond command asks ends = asks
+asked_end endings.Refused command asks ends = absurd ends
+asked_end endings.Rejected command asks ends = absurd ends
+asked_end endings.BadInput command asks ends = absurd ends
+asked_end endings.NotALog command asks ends = absurd ends
+asked_end endings.Damaged command asks ends = absurd ends
+
+pub asked_ends : {E : Type 0} (found : Result Outcome E) (command : Option Command) → asks_for_block command ≡ true → IfOk found (λ outcome. EndsAsked outcome.ending) → IfOk found (λ outcome. MayEnd (status_of outcome.ending) command)
+asked_ends (Ok outcome) command asks ends = asked_end outcome.ending command asks ends
+asked_ends (Err e) command asks ends = tt

@@ -1,10 +1,11 @@
 -- What a command wants told of an input and of the content of the disk, how it ends, what it leaves of
 -- the input, and what it does to the log.
-use Rattle.std.specs.Prelude.{◌≡◌, ℕ, ◌+◌, ◌-◌, ◌<◌, ◌≤◌, ◌==◌, nat_lt, Bool, true, false, if◌then◌else◌, List, [], ◌∷◌, length, drop, map, Option, Some, None, Ok, Err, codes}
+use Rattle.std.specs.Prelude.{◌≡◌, ℕ, ◌+◌, ◌-◌, ◌<◌, ◌≤◌, ◌==◌, ◌&&◌, nat_le, nat_lt, Bool, true, false, if◌then◌else◌, List, [], ◌∷◌, length, drop, map, Option, Some, None, Ok, Err, codes}
 use Rattle.std.specs.List.{concat}
 use Rattle.lc_base.specs.History.{scan}
 use Rattle.lc_base.specs.declared.answer.Kind.{Kind}
 use Rattle.lc_base.specs.declared.answer.Query.{Query}
+use Rattle.block_codec.specs.Placement.{digest_of}
 use Rattle.block_codec.specs.Spelling.{Decoder, IsDecoder}
 use Rattle.block_codec.specs.declared.block.Block.{Block}
 use Rattle.block_codec.specs.declared.limits.TheConstants.{MAX_FRAMES}
@@ -24,9 +25,13 @@ use Rattle.chain_promises.specs.Promises.{Line, plain, Change, NoChange, Appends
 use Rattle.chain_append.specs.Appending.{fold_lines}
 use Rattle.chain_pack.specs.Draft.{packed}
 use Rattle.chain_gen.specs.Generator.{generated}
+use Rattle.proof_codec.specs.declared.proof.Proof.{Proof}
+use Rattle.proof_checks.specs.Making.{made_proof}
+use Rattle.proof_commands.specs.Verifying.{IsVerification}
+use Rattle.proof_commands.specs.declared.verification.Verification.{Verification}
 use Rattle.chain_words.specs.declared.words.Generation.{Generation}
 use Rattle.chain_words.specs.declared.words.Command.{Command}
-use Rattle.chain_words.specs.declared.words.Command.TheVariants.{Scan, Fmt, Pack, Gen, Append, Root, Ask}
+use Rattle.chain_words.specs.declared.words.Command.TheVariants.{Scan, Fmt, Pack, Gen, Append, Root, Ask, Prove, Verify}
 use Rattle.chain_lines.specs.Lines.{usage_line, empty_line, head_line, root_line, refused_line, answer_lines, syntax_cause, check_cause, not_a_log_line, damaged_line}
 use Rattle.chain_lines.specs.Outcome.{status_of, outcome_with, bad_input}
 use Rattle.chain_lines.specs.declared.whole.TheConstants.{MAX_WHOLE_INPUT_BYTES}
@@ -37,6 +42,7 @@ use Rattle.chain_lines.specs.declared.status.Status.{Status}
 use Rattle.chain_lines.specs.declared.status.Status.TheVariants as statuses
 use Rattle.chain_output.specs.Texts.{lines_of}
 use Rattle.chain_output.specs.Blocks.{frame, draft_outcome}
+use Rattle.chain_output.specs.Proofs.{proof_line, verification_outcome}
 
 -- ---- outputs
 
@@ -66,6 +72,10 @@ usage_output input = record { lines = plain usage_line ∷ []; status = statuses
 abbrev pub beyond_outcome : Option ℕ → Outcome
 beyond_outcome None = outcome_with (empty_line ∷ []) endings.Beyond
 beyond_outcome (Some head) = outcome_with (head_line head ∷ []) endings.Beyond
+
+-- The same, by the blocks of the chain.
+abbrev pub beyond_head : List Block → Outcome
+beyond_head blocks = if length blocks == 0 then beyond_outcome None else beyond_outcome (Some (length blocks - 1))
 
 -- What is told where a block of a chain is asked for: these lines, where the chain has the block.
 abbrev pub outcome_at : ℕ → List Block → List (List ℕ) → Outcome
@@ -120,6 +130,13 @@ abbrev pub FormatsAgain : List ℕ → Type 0
 FormatsAgain input =
     (output : Output) → IsFmt input output → output.status ≡ statuses.Done → FitsInput (told_bytes output) →
     IsFmt (told_bytes output) output
+
+-- What `verify` tells of an input to one who has the root: what is told of what is answered of it as a
+-- proof in hex, or that it is too long.
+pub data IsVerify (root : List ℕ) (query : Query) (input : List ℕ) : Output → Type 0 where
+  LongProof : MAX_WHOLE_INPUT_BYTES < length input → IsVerify root query input (long_output input)
+  Verified : FitsInput input → (told : Verification) → IsVerification root query input told →
+      IsVerify root query input (output_of (verification_outcome told) [])
 
 -- What `pack` tells of an input: what is told of the draft that it is, or that it is too long.
 abbrev pub pack_output : List ℕ → Output
@@ -177,6 +194,23 @@ root_outcome compile at blocks = outcome_at at blocks (root_line at (root_in com
 abbrev pub root_output : Compiler → Option ℕ → List ℕ → List Block → Output
 root_output compile at input blocks = output_of (root_outcome compile (at_or_last at blocks) blocks) input
 
+-- The proof of the answer to a question that is made of the blocks of a chain, for one who has the root
+-- at a block.
+abbrev pub made_in : Compiler → List Block → Query → ℕ → Proof
+made_in compile blocks query root_at = made_proof (replay compile blocks).rows (map digest_of blocks) root_at query
+
+-- What is told where a proof is asked for: its line, where the chain has the block of the root and the
+-- question is about no later one.
+abbrev pub prove_outcome : Compiler → Query → ℕ → List Block → Outcome
+prove_outcome compile query root_at blocks =
+    if nat_le query.at root_at && nat_lt root_at (length blocks)
+    then outcome_with (proof_line (made_in compile blocks query root_at) ∷ []) endings.Done
+    else beyond_head blocks
+
+-- The proof of the answer to a question over the blocks of the log. It leaves the input.
+abbrev pub prove_output : Compiler → Query → ℕ → List ℕ → List Block → Output
+prove_output compile query root_at input blocks = output_of (prove_outcome compile query root_at blocks) input
+
 -- ---- what is wanted
 
 -- A command, or that the words are none, wants this output of an input and of the content of the disk,
@@ -193,6 +227,9 @@ Wants read compile (Some (Root at)) input content output =
     output ≡ on_log (root_output compile at input) input (standing (next_by read compile) content)
 Wants read compile (Some (Ask kind key at)) input content output =
     output ≡ on_log (ask_output compile kind key at input) input (standing (next_by read compile) content)
+Wants read compile (Some (Prove query root_at)) input content output =
+    output ≡ on_log (prove_output compile query root_at input) input (standing (next_by read compile) content)
+Wants read compile (Some (Verify root query)) input content output = IsVerify root.0 query input output
 
 -- An output is wanted, by a decoder and a compiler that are right.
 abbrev pub IsWanted : Option Command → List ℕ → List ℕ → Output → Type 0
@@ -217,6 +254,8 @@ reads_input (Some (Gen generation)) = false
 reads_input (Some Append) = true
 reads_input (Some (Root at)) = false
 reads_input (Some (Ask kind key at)) = false
+reads_input (Some (Prove query root_at)) = false
+reads_input (Some (Verify root query)) = true
 
 -- Whether it uses the disk.
 abbrev pub uses_disk : Option Command → Bool
@@ -228,6 +267,8 @@ uses_disk (Some (Gen generation)) = false
 uses_disk (Some Append) = true
 uses_disk (Some (Root at)) = true
 uses_disk (Some (Ask kind key at)) = true
+uses_disk (Some (Prove query root_at)) = true
+uses_disk (Some (Verify root query)) = false
 
 -- Whether it may change the log.
 abbrev pub changes_log : Option Command → Bool
@@ -239,6 +280,8 @@ changes_log (Some (Gen generation)) = false
 changes_log (Some Append) = true
 changes_log (Some (Root at)) = false
 changes_log (Some (Ask kind key at)) = false
+changes_log (Some (Prove query root_at)) = false
+changes_log (Some (Verify root query)) = false
 
 -- Whether it takes frames of blocks.
 abbrev pub takes_frames : Option Command → Bool
@@ -250,6 +293,8 @@ takes_frames (Some (Gen generation)) = false
 takes_frames (Some Append) = true
 takes_frames (Some (Root at)) = false
 takes_frames (Some (Ask kind key at)) = false
+takes_frames (Some (Prove query root_at)) = false
+takes_frames (Some (Verify root query)) = false
 
 -- Whether it asks for a block of a chain.
 abbrev pub asks_for_block : Option Command → Bool
@@ -261,6 +306,21 @@ asks_for_block (Some (Gen generation)) = false
 asks_for_block (Some Append) = false
 asks_for_block (Some (Root at)) = true
 asks_for_block (Some (Ask kind key at)) = true
+asks_for_block (Some (Prove query root_at)) = true
+asks_for_block (Some (Verify root query)) = false
+
+-- Whether it checks a proof.
+abbrev pub checks_proof : Option Command → Bool
+checks_proof None = false
+checks_proof (Some (Scan query)) = false
+checks_proof (Some Fmt) = false
+checks_proof (Some Pack) = false
+checks_proof (Some (Gen generation)) = false
+checks_proof (Some Append) = false
+checks_proof (Some (Root at)) = false
+checks_proof (Some (Ask kind key at)) = false
+checks_proof (Some (Prove query root_at)) = false
+checks_proof (Some (Verify root query)) = true
 
 -- Whether it reads the input whole, as a text.
 abbrev pub reads_whole : Option Command → Bool
@@ -272,6 +332,8 @@ reads_whole (Some (Gen generation)) = false
 reads_whole (Some Append) = false
 reads_whole (Some (Root at)) = false
 reads_whole (Some (Ask kind key at)) = false
+reads_whole (Some (Prove query root_at)) = false
+reads_whole (Some (Verify root query)) = true
 
 -- Whether it tells lines while it makes others.
 abbrev pub tells_as_it_goes : Option Command → Bool
@@ -283,3 +345,5 @@ tells_as_it_goes (Some (Gen generation)) = true
 tells_as_it_goes (Some Append) = true
 tells_as_it_goes (Some (Root at)) = false
 tells_as_it_goes (Some (Ask kind key at)) = false
+tells_as_it_goes (Some (Prove query root_at)) = false
+tells_as_it_goes (Some (Verify root query)) = false

@@ -11,7 +11,7 @@ use Rattle.chain_promises.specs.Promises.{Change, NoChange, Appends, Telling, Ma
 use Rattle.chain_words.specs.declared.words.Command.{Command}
 use Rattle.chain_lines.specs.declared.status.Status.{Status}
 use Rattle.chain_lines.specs.declared.status.Status.TheVariants as statuses
-use Rattle.chain_output.specs.Output.{Output, Wants, next_by, reads_input, uses_disk, takes_frames, asks_for_block, reads_whole}
+use Rattle.chain_output.specs.Output.{Output, Wants, next_by, reads_input, uses_disk, takes_frames, asks_for_block, checks_proof, reads_whole}
 
 -- Whether a run with this status came to its end: nothing outside failed, and memory did not run out.
 abbrev pub came_to_end : Status → Bool
@@ -25,6 +25,7 @@ came_to_end statuses.NotALog = true
 came_to_end statuses.Damaged = true
 came_to_end statuses.Refused = true
 came_to_end statuses.Beyond = true
+came_to_end statuses.Rejected = true
 came_to_end statuses.BadInput = true
 
 -- Which commands may end with a status. Every one may be out of memory, or have a wire that fails.
@@ -39,6 +40,7 @@ MayEnd statuses.NotALog command = uses_disk command ≡ true
 MayEnd statuses.Damaged command = uses_disk command ≡ true
 MayEnd statuses.Refused command = takes_frames command ≡ true
 MayEnd statuses.Beyond command = asks_for_block command ≡ true
+MayEnd statuses.Rejected command = checks_proof command ≡ true
 MayEnd statuses.BadInput command = reads_whole command ≡ true
 
 -- Whether a run with this status found no log that it could read: the disk holds something else, or
@@ -54,6 +56,7 @@ found_no_log statuses.NotALog = true
 found_no_log statuses.Damaged = true
 found_no_log statuses.Refused = false
 found_no_log statuses.Beyond = false
+found_no_log statuses.Rejected = false
 found_no_log statuses.BadInput = false
 
 -- What is left of the input, where that is told.
@@ -110,4 +113,5 @@ IsSilent statuses.NotALog old new = Unit {0}
 IsSilent statuses.Damaged old new = Unit {0}
 IsSilent statuses.Refused old new = Unit {0}
 IsSilent statuses.Beyond old new = Unit {0}
+IsSilent statuses.Rejected old new = Unit {0}
 IsSilent statuses.BadInput old new = Unit {0}

@@ -1,23 +1,33 @@
 -- What the commands of the program answer, for their definitions.
 use Rattle.std.specs.Prelude.{◌≡◌, ℕ, List, Option, Some}
+use Rattle.lc_base.specs.declared.answer.Query.{Query}
 use Rattle.chain_lines.specs.declared.outcome.Outcome.{Outcome}
 use Rattle.chain_lines.specs.declared.outcome.Ending.{Ending}
 use Rattle.chain_lines.specs.declared.outcome.Ending.TheVariants as endings
-use Rattle.chain_output.specs.Output.{Output, output_of, IsFmt}
+use Rattle.chain_output.specs.Output.{Output, output_of, IsFmt, IsVerify}
 
 -- An outcome, and what is left of the input, are the output.
 abbrev pub GivesOutput : Outcome → Option (List ℕ) → Output → Type 0
 GivesOutput outcome left output = (output ≡ output_of outcome output.left) × (left ≡ Some output.left)
 
+-- An outcome, and what is left of the input, are an output of which this is so.
+abbrev pub GivesAny : (Output → Type 0) → Outcome → Option (List ℕ) → Type 0
+GivesAny Wanted outcome left = (rest : List ℕ) × (left ≡ Some rest) × Wanted (output_of outcome rest)
+
 -- An outcome, and what is left of the input, are what `fmt` tells of it.
 abbrev pub IsFmtOutcome : Outcome → Option (List ℕ) → List ℕ → Type 0
-IsFmtOutcome outcome left input = (rest : List ℕ) × (left ≡ Some rest) × IsFmt input (output_of outcome rest)
+IsFmtOutcome outcome left input = GivesAny (IsFmt input) outcome left
+
+-- An outcome, and what is left of the input, are what `verify` tells of it.
+abbrev pub IsVerifyOutcome : List ℕ → Query → Outcome → Option (List ℕ) → List ℕ → Type 0
+IsVerifyOutcome root query outcome left input = GivesAny (IsVerify root query input) outcome left
 
 -- How a question about a block of a chain ends: it is answered, or the chain has no such block.
 abbrev pub EndsAsked : Ending → Type 0
 EndsAsked endings.Done = Unit {0}
 EndsAsked endings.Refused = ⊥
 EndsAsked endings.Beyond = Unit {0}
+EndsAsked endings.Rejected = ⊥
 EndsAsked endings.BadInput = ⊥
 EndsAsked endings.NotALog = ⊥
 EndsAsked endings.Damaged = ⊥

@@ -2,8 +2,12 @@
 //! end.
 #![tactic(auto)]
 
+mod asking;
+mod starting;
 mod stop;
 mod telling;
 
+pub use asking::beyond;
+pub use starting::tell_start;
 pub use stop::RunStop;
-pub use telling::{tell_outcome, tell_result, tell_usage};
+pub use telling::{tell_made, tell_outcome, tell_result, tell_usage};

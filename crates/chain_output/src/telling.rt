@@ -8,6 +8,7 @@ ghost use Rattle.scan_chain.specs.declared.stop.Stop.TheVariants as stops;
 ghost use Rattle.chain_promises.specs.Promises.{plain, Telling};
 ghost use Rattle.chain_lines.specs.Lines.{usage_line};
 ghost use Rattle.chain_lines.specs.Outcome.{status_of};
+ghost use Rattle.chain_lines.specs.declared.outcome.Outcome.{Outcome as Outcomes};
 ghost use Rattle.chain_words.specs.declared.words.Command.{Command};
 ghost use Rattle.chain_output.specs.Output.{reads_input};
 ghost use Rattle.chain_output.specs.Running.{IsSilent, MayEnd};
@@ -69,6 +70,26 @@ pub fn tell_result<M: Wire>(
         Ok(outcome) => tell_outcome(machine, &outcome),
         Err(Stop::Fault) => Err(RunStop::Unreadable),
         Err(Stop::Memory) => Err(RunStop::Memory),
+    }
+}
+
+/// Tells an outcome, unless there was no memory for it.
+pub fn tell_made<M: Wire>(
+    machine: &mut M,
+    outcome: Result<Outcome, Memory>,
+) -> Result<Ending, RunStop>
+    ensures says { (next : NextBlock) (wanted : Outcomes) → IfOk outcome (λ o. o ≡ wanted) → Says next M.now M.disk M.told machine.old machine.new wanted result }
+    ensures ends { (command : Option Command) → IfOk outcome (λ o. MayEnd (status_of o.ending) command) → MayEnd (status_of_result result) command }
+    ensures silent { IsSilent (status_of_result result) (M.told machine.old) (M.told machine.new) }
+    ensures reads { IsErrOf result RunStop.Unreadable → ⊥ }
+    ensures writes { IsErrOf result RunStop.DiskFault → ⊥ }
+    ensures disk { Stays M.now M.disk machine.old machine.new }
+    ensures disk_faults { M.disk_faults machine.new ≡ M.disk_faults machine.old }
+    ensures cause { HasCause (M.wire_faults machine.old) (M.wire_faults machine.new) (IsErrOf result RunStop.Untold) }
+{
+    match outcome {
+        Ok(outcome) => tell_outcome(machine, &outcome),
+        Err(Memory) => Err(RunStop::Memory),
     }
 }
 

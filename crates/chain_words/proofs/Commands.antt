@@ -7,7 +7,10 @@ use Rattle.std.proofs.lemmas.Bool.{cases_lt}
 use Rattle.std.proofs.lemmas.Bool.Decides.{nat_tests}
 use Rattle.std.proofs.lemmas.Str.Parse.{IsNumeralModel, numerals_by_value, tells_digits, without_leading_plus_none, digit_at}
 use Rattle.std.proofs.lemmas.Fmt.{parse-decimal, decimal_injective, decimal_is_IsNumeral, decimal-digits_value, first_decimal, decimal_digit}
-use Rattle.chain_words.specs.Words.{starts_as_number, IsNumberOf, IsCount, IsCountOf}
+use Rattle.hex.specs.Hex.{decode_sized, encode_lower}
+use Rattle.hex.specs.declared.error.FromHexError.{FromHexError}
+use Rattle.hex.proofs.HexLemmas.{decode_sized-encode_lower}
+use Rattle.chain_words.specs.Words.{starts_as_number, IsNumberOf, IsCount, IsCountOf, IsDigestOf}
 
 own : IsNumeralModel (AllDigits 10) (digits_value 10)
 own = numerals_by_value (AllDigits 10) tells_digits
@@ -53,3 +56,17 @@ no_number text starts = λ n fits written. let starts_is = ap starts_as_number w
 pub not_counted : (text : List ℕ) (number : ℕ) → IsNumberOf text (Some number) → (IsCount number → ⊥) → IsCountOf text None
 not_counted text number (fits, is) not = λ blocks counted written.
     not (subst IsCount (decimal_injective blocks number (omega (arith, counted.1)) (omega (arith, fits)) (sym written ∙ is)) counted)
+
+-- ---- a digest in hex
+
+pub no_digest : (text : List ℕ) (error : FromHexError) → decode_sized text 32 ≡ Err error → IsDigestOf text None
+no_digest text error failed = λ digest is written.
+    let read : decode_sized text 32 ≡ Ok digest.0 = ap (λ (t : List ℕ). decode_sized t 32) written ∙ decode_sized-encode_lower digest.0 32 is.length_is is.bytes in
+    absurd (cc (sym failed ∙ read))
+
+-- a text that is not as its digest is written
+pub other_text : (text bytes : List ℕ) → decode_sized text 32 ≡ Ok bytes → (text ≡ encode_lower bytes → ⊥) → IsDigestOf text None
+other_text text bytes read not = λ digest is written.
+    let again : decode_sized text 32 ≡ Ok digest.0 = ap (λ (t : List ℕ). decode_sized t 32) written ∙ decode_sized-encode_lower digest.0 32 is.length_is is.bytes in
+    let same : bytes ≡ digest.0 = cc (sym read ∙ again) in
+    not (written ∙ ap encode_lower (sym same))

@@ -1,14 +1,17 @@
 -- Words are one command, or none.
-use Rattle.std.proofs.Common.{◌≡◌, ℕ, ◌<◌, ◌^◌, List, [], ◌∷◌, Option, Some, None, refl, sym, ap, ◌∙◌, arith}
+use Rattle.std.proofs.Common.{◌≡◌, ℕ, ◌<◌, ◌≤◌, ◌^◌, List, [], ◌∷◌, length, Option, Some, None, refl, sym, ap, ◌∙◌, arith}
 use Rattle.std.specs.Prelude.{decimal, codes}
 use Rattle.std.proofs.lemmas.Fmt.{decimal_injective}
+use Rattle.hex.specs.Hex.{decode_of, encode_lower}
+use Rattle.hex.proofs.HexLemmas.{decode_of-encode_lower}
 use Rattle.lc_base.specs.declared.answer.Kind.{Kind}
 use Rattle.lc_base.specs.declared.answer.Kind.TheVariants.{Hist, Back, Fwd}
 use Rattle.lc_base.specs.declared.answer.Query.{Query}
+use Rattle.lc_base.specs.declared.digest.Digest.{Digest}
 use Rattle.chain_words.specs.declared.words.Generation.{Generation}
 use Rattle.chain_words.specs.declared.words.Command.{Command}
-use Rattle.chain_words.specs.declared.words.Command.TheVariants.{Scan, Fmt, Pack, Gen, Append, Root, Ask}
-use Rattle.chain_words.specs.Words.{kind_word, scan_words, gen_words, ask_words, root_words, command_words, IsQuery, IsGeneration, Fits, CanBeGiven, IsCommand, IsOneCommand}
+use Rattle.chain_words.specs.declared.words.Command.TheVariants.{Scan, Fmt, Pack, Gen, Append, Root, Ask, Prove, Verify}
+use Rattle.chain_words.specs.Words.{kind_word, query_words, scan_words, gen_words, ask_words, root_words, prove_words, verify_words, command_words, IsQuery, IsGeneration, IsRootGiven, Fits, CanBeGiven, IsCommand, IsOneCommand}
 
 one_number : (m n : ℕ) → m < 2 ^ 32 → n < 2 ^ 32 → decimal m ≡ decimal n → m ≡ n
 one_number m n small fits same = decimal_injective m n (omega (arith, small)) (omega (arith, fits)) same
@@ -28,7 +31,7 @@ one_kind Fwd Hist same = let first : 102 ≡ 104 = ap first_byte same in absurd 
 one_kind Fwd Back same = let first : 102 ≡ 98 = ap first_byte same in absurd (omega (arith, first))
 one_kind Fwd Fwd same = refl
 
-one_query : (a b : Query) → IsQuery a → IsQuery b → scan_words a ≡ scan_words b → a ≡ b
+one_query : (a b : Query) → IsQuery a → IsQuery b → query_words a ≡ query_words b → a ≡ b
 one_query a b is_a is_b same =
     let kinds : kind_word a.kind ≡ kind_word b.kind = cc in
     let keys : a.key ≡ b.key = cc in
@@ -102,14 +105,51 @@ one_ask k l x y a b is_a is_b same =
     let all = one_at a b is_a is_b k l x y same in
     ap (λ (kind : Kind). Ask kind x a) all.0 ∙ ap (λ (key : List ℕ). Ask l key a) all.1 ∙ ap (λ (at : Option ℕ). Ask l y at) all.2
 
+-- ---- the words about proofs are five, and those of the other commands fewer
+
+few_root : (at : Option ℕ) → length (root_words at) ≤ 4
+few_root None = omega arith
+few_root (Some at) = omega arith
+
+few_asked : (kind : Kind) (key : List ℕ) (at : Option ℕ) → length (ask_words kind key at) ≤ 4
+few_asked kind key None = omega arith
+few_asked kind key (Some at) = omega arith
+
+too_few : (few many : List (List ℕ)) → length few ≤ 4 → length many ≡ 5 → few ≡ many → ⊥
+too_few few many short long same = let count : length few ≡ length many = ap (length {A = List ℕ}) same in omega (arith, short, long, count)
+
+no_verify : (query : Query) (root_at : ℕ) (root : Digest) (other : Query) → prove_words query root_at ≡ verify_words root other → ⊥
+no_verify query root_at root other same = let words : codes "prove" ≡ codes "verify" = cc in let first : 112 ≡ 118 = ap first_byte words in absurd (omega (arith, first))
+
+one_prove : (a b : Query) (m n : ℕ) → IsQuery a × (m < 2 ^ 32) → IsQuery b × (n < 2 ^ 32) → prove_words a m ≡ prove_words b n → Prove a m ≡ Prove b n
+one_prove a b m n is_a is_b same =
+    let kinds : kind_word a.kind ≡ kind_word b.kind = cc in
+    let keys : a.key ≡ b.key = cc in
+    let asked : decimal a.at ≡ decimal b.at = cc in
+    let roots : decimal m ≡ decimal n = cc in
+    ap (λ (q : Query). Prove q m) (one_query a b is_a.0 is_b.0 cc) ∙ ap (Prove b) (one_number m n is_a.1 is_b.1 roots)
+
+one_digest : (a b : Digest) → IsRootGiven a → IsRootGiven b → encode_lower a.0 ≡ encode_lower b.0 → a ≡ b
+one_digest a b is_a is_b same =
+    let read = sym (decode_of-encode_lower a.0 is_a.bytes) ∙ ap decode_of same ∙ decode_of-encode_lower b.0 is_b.bytes in
+    let bytes : a.0 ≡ b.0 = cc in
+    ap (λ (bytes : List ℕ). record { 0 = bytes }) bytes
+
+one_verify : (m n : Digest) (a b : Query) → IsRootGiven m × IsQuery a → IsRootGiven n × IsQuery b → verify_words m a ≡ verify_words n b → Verify m a ≡ Verify n b
+one_verify m n a b is_a is_b same =
+    let roots : encode_lower m.0 ≡ encode_lower n.0 = cc in
+    ap (λ (root : Digest). Verify root a) (one_digest m n is_a.0 is_b.0 roots) ∙ ap (Verify n) (one_query a b is_a.1 is_b.1 cc)
+
 one_given : (a b : Command) → CanBeGiven a → CanBeGiven b → command_words a ≡ command_words b → a ≡ b
-one_given (Scan a) (Scan b) is_a is_b same = ap Scan (one_query a b is_a is_b same)
+one_given (Scan a) (Scan b) is_a is_b same = ap Scan (one_query a b is_a is_b cc)
 one_given (Scan a) Fmt is_a is_b same = absurd cc
 one_given (Scan a) Pack is_a is_b same = absurd cc
 one_given (Scan a) (Gen b) is_a is_b same = absurd cc
 one_given (Scan a) Append is_a is_b same = absurd cc
 one_given (Scan a) (Root b) is_a is_b same = absurd (root_scan b a (sym same))
 one_given (Scan a) (Ask bk by bt) is_a is_b same = absurd (no_scan bk by bt a (sym same))
+one_given (Scan a) (Prove b br) is_a is_b same = absurd cc
+one_given (Scan a) (Verify br b) is_a is_b same = absurd cc
 one_given Fmt (Scan b) is_a is_b same = absurd cc
 one_given Fmt Fmt is_a is_b same = refl
 one_given Fmt Pack is_a is_b same = absurd cc
@@ -117,6 +157,8 @@ one_given Fmt (Gen b) is_a is_b same = absurd cc
 one_given Fmt Append is_a is_b same = absurd cc
 one_given Fmt (Root b) is_a is_b same = let first : 114 ≡ 102 = root_alone b (codes "fmt") (sym same) in absurd (omega (arith, first))
 one_given Fmt (Ask bk by bt) is_a is_b same = absurd (no_word bk by bt _ (sym same))
+one_given Fmt (Prove b br) is_a is_b same = absurd cc
+one_given Fmt (Verify br b) is_a is_b same = absurd cc
 one_given Pack (Scan b) is_a is_b same = absurd cc
 one_given Pack Fmt is_a is_b same = absurd cc
 one_given Pack Pack is_a is_b same = refl
@@ -124,6 +166,8 @@ one_given Pack (Gen b) is_a is_b same = absurd cc
 one_given Pack Append is_a is_b same = absurd cc
 one_given Pack (Root b) is_a is_b same = let first : 114 ≡ 112 = root_alone b (codes "pack") (sym same) in absurd (omega (arith, first))
 one_given Pack (Ask bk by bt) is_a is_b same = absurd (no_word bk by bt _ (sym same))
+one_given Pack (Prove b br) is_a is_b same = absurd cc
+one_given Pack (Verify br b) is_a is_b same = absurd cc
 one_given (Gen a) (Scan b) is_a is_b same = absurd cc
 one_given (Gen a) Fmt is_a is_b same = absurd cc
 one_given (Gen a) Pack is_a is_b same = absurd cc
@@ -131,6 +175,8 @@ one_given (Gen a) (Gen b) is_a is_b same = ap Gen (one_generation a b is_a is_b 
 one_given (Gen a) Append is_a is_b same = absurd cc
 one_given (Gen a) (Root b) is_a is_b same = absurd (root_gen b a (sym same))
 one_given (Gen a) (Ask bk by bt) is_a is_b same = absurd (no_gen bk by bt a (sym same))
+one_given (Gen a) (Prove b br) is_a is_b same = absurd cc
+one_given (Gen a) (Verify br b) is_a is_b same = absurd cc
 one_given Append (Scan b) is_a is_b same = absurd cc
 one_given Append Fmt is_a is_b same = absurd cc
 one_given Append Pack is_a is_b same = absurd cc
@@ -138,6 +184,8 @@ one_given Append (Gen b) is_a is_b same = absurd cc
 one_given Append Append is_a is_b same = refl
 one_given Append (Root b) is_a is_b same = let first : 114 ≡ 97 = root_alone b (codes "append") (sym same) in absurd (omega (arith, first))
 one_given Append (Ask bk by bt) is_a is_b same = absurd (no_word bk by bt _ (sym same))
+one_given Append (Prove b br) is_a is_b same = absurd cc
+one_given Append (Verify br b) is_a is_b same = absurd cc
 one_given (Root a) (Scan b) is_a is_b same = absurd (root_scan a b same)
 one_given (Root a) Fmt is_a is_b same = let first : 114 ≡ 102 = root_alone a (codes "fmt") same in absurd (omega (arith, first))
 one_given (Root a) Pack is_a is_b same = let first : 114 ≡ 112 = root_alone a (codes "pack") same in absurd (omega (arith, first))
@@ -145,6 +193,8 @@ one_given (Root a) (Gen b) is_a is_b same = absurd (root_gen a b same)
 one_given (Root a) Append is_a is_b same = let first : 114 ≡ 97 = root_alone a (codes "append") same in absurd (omega (arith, first))
 one_given (Root a) (Root b) is_a is_b same = ap Root (one_root a b is_a is_b same)
 one_given (Root a) (Ask bk by bt) is_a is_b same = absurd (no_root bk by bt a (sym same))
+one_given (Root a) (Prove b br) is_a is_b same = absurd (too_few (root_words a) (prove_words b br) (few_root a) refl same)
+one_given (Root a) (Verify br b) is_a is_b same = absurd (too_few (root_words a) (verify_words br b) (few_root a) refl same)
 one_given (Ask ak ay at) (Scan b) is_a is_b same = absurd (no_scan ak ay at b same)
 one_given (Ask ak ay at) Fmt is_a is_b same = absurd (no_word ak ay at _ same)
 one_given (Ask ak ay at) Pack is_a is_b same = absurd (no_word ak ay at _ same)
@@ -152,6 +202,26 @@ one_given (Ask ak ay at) (Gen b) is_a is_b same = absurd (no_gen ak ay at b same
 one_given (Ask ak ay at) Append is_a is_b same = absurd (no_word ak ay at _ same)
 one_given (Ask ak ay at) (Root b) is_a is_b same = absurd (no_root ak ay at b same)
 one_given (Ask ak ay at) (Ask bk by bt) is_a is_b same = one_ask ak bk ay by at bt is_a.1 is_b.1 same
+one_given (Ask ak ay at) (Prove b br) is_a is_b same = absurd (too_few (ask_words ak ay at) (prove_words b br) (few_asked ak ay at) refl same)
+one_given (Ask ak ay at) (Verify br b) is_a is_b same = absurd (too_few (ask_words ak ay at) (verify_words br b) (few_asked ak ay at) refl same)
+one_given (Prove a ar) (Scan b) is_a is_b same = absurd cc
+one_given (Prove a ar) Fmt is_a is_b same = absurd cc
+one_given (Prove a ar) Pack is_a is_b same = absurd cc
+one_given (Prove a ar) (Gen b) is_a is_b same = absurd cc
+one_given (Prove a ar) Append is_a is_b same = absurd cc
+one_given (Prove a ar) (Root b) is_a is_b same = absurd (too_few (root_words b) (prove_words a ar) (few_root b) refl (sym same))
+one_given (Prove a ar) (Ask bk by bt) is_a is_b same = absurd (too_few (ask_words bk by bt) (prove_words a ar) (few_asked bk by bt) refl (sym same))
+one_given (Prove a ar) (Prove b br) is_a is_b same = one_prove a b ar br is_a is_b same
+one_given (Prove a ar) (Verify br b) is_a is_b same = absurd (no_verify a ar br b same)
+one_given (Verify ar a) (Scan b) is_a is_b same = absurd cc
+one_given (Verify ar a) Fmt is_a is_b same = absurd cc
+one_given (Verify ar a) Pack is_a is_b same = absurd cc
+one_given (Verify ar a) (Gen b) is_a is_b same = absurd cc
+one_given (Verify ar a) Append is_a is_b same = absurd cc
+one_given (Verify ar a) (Root b) is_a is_b same = absurd (too_few (root_words b) (verify_words ar a) (few_root b) refl (sym same))
+one_given (Verify ar a) (Ask bk by bt) is_a is_b same = absurd (too_few (ask_words bk by bt) (verify_words ar a) (few_asked bk by bt) refl (sym same))
+one_given (Verify ar a) (Prove b br) is_a is_b same = absurd (no_verify b br ar a (sym same))
+one_given (Verify ar a) (Verify br b) is_a is_b same = one_verify ar br a b is_a is_b same
 
 only_one : (words : List (List ℕ)) (command other : Option Command) → IsCommand words command → IsCommand words other → other ≡ command
 only_one words None None is_a is_b = refl

@@ -1,13 +1,15 @@
 -- The words of commands.
 use Rattle.std.specs.Prelude.{◌≡◌, ℕ, ◌<◌, ◌≤◌, ◌^◌, Bool, true, false, ◌&&◌, ◌||◌, ◌==◌, nat_le, List, [], ◌∷◌, length, Option, Some, None, codes, decimal}
+use Rattle.hex.specs.Hex.{IsBytes, encode_lower}
 use Rattle.lc_names.specs.KeyBytes.{IsKey}
 use Rattle.lc_base.specs.declared.answer.Kind.{Kind}
 use Rattle.lc_base.specs.declared.answer.Kind.TheVariants.{Hist, Back, Fwd}
 use Rattle.lc_base.specs.declared.answer.Query.{Query}
+use Rattle.lc_base.specs.declared.digest.Digest.{Digest}
 use Rattle.chain_words.specs.declared.words.TheConstants.{MAX_GENERATED_BLOCKS}
 use Rattle.chain_words.specs.declared.words.Generation.{Generation}
 use Rattle.chain_words.specs.declared.words.Command.{Command}
-use Rattle.chain_words.specs.declared.words.Command.TheVariants.{Scan, Fmt, Pack, Gen, Append, Root, Ask}
+use Rattle.chain_words.specs.declared.words.Command.TheVariants.{Scan, Fmt, Pack, Gen, Append, Root, Ask, Prove, Verify}
 
 -- The word for what is asked.
 abbrev pub kind_word : Kind → List ℕ
@@ -15,9 +17,13 @@ kind_word Hist = codes "hist"
 kind_word Back = codes "back"
 kind_word Fwd = codes "fwd"
 
--- The words of a scan: scan KIND KEY BLOCK, BLOCK in decimal digits without a leading zero.
+-- The words of a question: KIND KEY BLOCK, BLOCK in decimal digits without a leading zero.
+abbrev pub query_words : Query → List (List ℕ)
+query_words query = kind_word query.kind ∷ query.key ∷ decimal query.at ∷ []
+
+-- The words of a scan: scan KIND KEY BLOCK.
 abbrev pub scan_words : Query → List (List ℕ)
-scan_words query = codes "scan" ∷ kind_word query.kind ∷ query.key ∷ decimal query.at ∷ []
+scan_words query = codes "scan" ∷ query_words query
 
 -- A question that can be asked: about a key, at a block number of 32 bits.
 pub record IsQuery (query : Query) : Type 0 where
@@ -48,6 +54,20 @@ abbrev pub root_words : Option ℕ → List (List ℕ)
 root_words None = codes "root" ∷ []
 root_words (Some at) = codes "root" ∷ decimal at ∷ []
 
+-- The words for a proof: prove KIND KEY BLOCK ROOTBLOCK, both numbers in decimal digits without a leading
+-- zero.
+abbrev pub prove_words : Query → ℕ → List (List ℕ)
+prove_words query root_at = codes "prove" ∷ kind_word query.kind ∷ query.key ∷ decimal query.at ∷ decimal root_at ∷ []
+
+-- The words to verify a proof: verify ROOT KIND KEY BLOCK, ROOT in hex digits, those above 9 in lower case.
+abbrev pub verify_words : Digest → Query → List (List ℕ)
+verify_words root query = codes "verify" ∷ encode_lower root.0 ∷ query_words query
+
+-- A root that can be given: 32 bytes.
+pub record IsRootGiven (root : Digest) : Type 0 where
+  pub length_is : length root.0 ≡ 32
+  pub bytes : IsBytes root.0
+
 -- The block number of a question over the log has 32 bits, where one is given.
 abbrev pub Fits : Option ℕ → Type 0
 Fits None = Unit {0}
@@ -62,9 +82,12 @@ command_words (Gen generation) = gen_words generation
 command_words Append = codes "append" ∷ []
 command_words (Root at) = root_words at
 command_words (Ask kind key at) = ask_words kind key at
+command_words (Prove query root_at) = prove_words query root_at
+command_words (Verify root query) = verify_words root query
 
 -- A command that can be given: a question that can be asked, over the input or over the log; a
--- generation that can be made; a root of a block; or a word alone.
+-- generation that can be made; a root of a block; a word alone; a proof of a question, for the root of
+-- a block; or one that is verified by a root.
 abbrev pub CanBeGiven : Command → Type 0
 CanBeGiven (Scan query) = IsQuery query
 CanBeGiven Fmt = Unit {0}
@@ -73,6 +96,8 @@ CanBeGiven (Gen generation) = IsGeneration generation
 CanBeGiven Append = Unit {0}
 CanBeGiven (Root at) = Fits at
 CanBeGiven (Ask kind key at) = IsKey key × Fits at
+CanBeGiven (Prove query root_at) = IsQuery query × (root_at < 2 ^ 32)
+CanBeGiven (Verify root query) = IsRootGiven root × IsQuery query
 
 -- The command that the words are. They are none where no command has these words.
 abbrev pub IsCommand : List (List ℕ) → Option Command → Type 0
@@ -85,6 +110,11 @@ pub record IsOneCommand (words : List (List ℕ)) (command : Option Command) : T
   pub only : (other : Option Command) → IsCommand words other → other ≡ command
 
 -- ---- single commands
+
+-- The question that some words are.
+abbrev pub IsQueryOf : List (List ℕ) → Option Query → Type 0
+IsQueryOf words (Some query) = IsQuery query × (words ≡ query_words query)
+IsQueryOf words None = (query : Query) → IsQuery query → words ≡ query_words query → ⊥
 
 -- The question of a scan, where the words are those of one.
 abbrev pub IsScan : List (List ℕ) → Option Query → Type 0
@@ -105,6 +135,16 @@ IsAsk words None = (kind : Kind) (key : List ℕ) (at : Option ℕ) → IsKey ke
 abbrev pub IsRoot : List (List ℕ) → Option Command → Type 0
 IsRoot words (Some command) = CanBeGiven command × (words ≡ command_words command)
 IsRoot words None = (at : Option ℕ) → Fits at → words ≡ root_words at → ⊥
+
+-- The command for a proof, where the words are those of one.
+abbrev pub IsProve : List (List ℕ) → Option Command → Type 0
+IsProve words (Some command) = CanBeGiven command × (words ≡ command_words command)
+IsProve words None = (query : Query) (root_at : ℕ) → IsQuery query → root_at < 2 ^ 32 → words ≡ prove_words query root_at → ⊥
+
+-- The command to verify a proof, where the words are those of one.
+abbrev pub IsVerify : List (List ℕ) → Option Command → Type 0
+IsVerify words (Some command) = CanBeGiven command × (words ≡ command_words command)
+IsVerify words None = (root : Digest) (query : Query) → IsRootGiven root → IsQuery query → words ≡ verify_words root query → ⊥
 
 -- Whether the words are this one alone.
 abbrev pub IsAlone : List ℕ → List (List ℕ) → Bool → Type 0
@@ -132,6 +172,11 @@ IsCountOf text None = (blocks : ℕ) → IsCount blocks → text ≡ decimal blo
 abbrev pub IsKeyOf : List ℕ → Option (List ℕ) → Type 0
 IsKeyOf text (Some key) = IsKey key × (text ≡ key)
 IsKeyOf text None = IsKey text → ⊥
+
+-- The digest that a text writes in hex; none where it writes none.
+abbrev pub IsDigestOf : List ℕ → Option Digest → Type 0
+IsDigestOf text (Some digest) = IsRootGiven digest × (text ≡ encode_lower digest.0)
+IsDigestOf text None = (digest : Digest) → IsRootGiven digest → text ≡ encode_lower digest.0 → ⊥
 
 -- The kind that a text names; none where it names none.
 abbrev pub IsKindOf : List ℕ → Option Kind → Type 0

@@ -1,6 +1,9 @@
 //! The words of commands.
 #![tactic(auto)]
 
+mod proving;
+mod questions;
+mod single;
 mod words;
 
 pub use words::{Command, Generation, MAX_GENERATED_BLOCKS, command_of};

@@ -1,9 +1,12 @@
 //! The words of commands.
 
 ghost use Rattle.std.specs.Prelude.{◌≡◌, ◌↔◌, IsTrue, map, string_bytes, codes};
-ghost use Rattle.chain_words.specs.Words.{IsCommand, IsOneCommand, IsScan, IsGen, IsAsk, IsRoot, IsAlone, IsKindOf, IsKeyOf, IsNumberOf, IsCount, IsCountOf, starts_as_number};
+ghost use Rattle.chain_words.specs.Words.{IsCommand, IsOneCommand, IsGen, IsAlone};
 
-use lc_base::{Key, Kind, Query};
+use crate::proving::{prove_of, verify_of};
+use crate::questions::{ask_of, root_of, scan_of};
+use crate::single::{count_of, is_text, number_of};
+use lc_base::{Digest, Key, Kind, Query};
 
 /// The greatest number of blocks that `gen` makes.
 pub const MAX_GENERATED_BLOCKS: u32 = 100_000;
@@ -40,90 +43,17 @@ pub enum Command {
         key: Key,
         at: Option<u32>,
     },
-}
-
-/// Whether the text is `0`, or begins with another digit.
-fn starts_as_number(bytes: &[u8]) -> bool
-    ensures { result ≡ starts_as_number bytes.now }
-{
-    match bytes {
-        [b'0'] => true,
-        [b'1'..=b'9', ..] => true,
-        _ => false,
-    }
-}
-
-/// The number below 2^32 that the text writes in decimal digits, without a sign or a leading zero.
-fn number_of(text: &str) -> Option<u32>
-    ensures { IsNumberOf text.now result }
-{
-    if !starts_as_number(text.as_bytes()) {
-        return None;
-    }
-    text.parse::<u32>().ok()
-}
-
-fn is_count(number: u32) -> bool
-    ensures { IsTrue result ↔ IsCount number }
-{
-    0 < number && number <= MAX_GENERATED_BLOCKS
-}
-
-/// The number from 1 to `MAX_GENERATED_BLOCKS` that the text writes.
-fn count_of(text: &str) -> Option<u32>
-    ensures { IsCountOf text.now result }
-{
-    let number = number_of(text)?;
-    if !is_count(number) {
-        return None;
-    }
-    Some(number)
-}
-
-/// The key that the text is.
-fn key_of(text: &str) -> Option<Key>
-    ensures { IsKeyOf text.now result }
-{
-    Key::new(text.as_bytes()).ok()
-}
-
-/// The kind of question that the text names.
-fn kind_of(text: &str) -> Option<Kind>
-    ensures { IsKindOf text.now result }
-{
-    match text {
-        "hist" => Some(Kind::Hist),
-        "back" => Some(Kind::Back),
-        "fwd" => Some(Kind::Fwd),
-        _ => None,
-    }
-}
-
-fn is_scan(text: &str) -> bool
-    ensures { IsTrue result ↔ (text.now ≡ codes "scan") }
-{
-    text == "scan"
-}
-
-/// The question of the command `scan KIND KEY BLOCK`; `None` exactly where the words are no such
-/// command.
-fn query_of(words: &[String]) -> Option<Query>
-    ensures { IsScan (map string_bytes words.now) result }
-{
-    match words {
-        [scan, kind, key, at] => {
-            if !is_scan(scan.as_str()) {
-                return None;
-            }
-            let kind = kind_of(kind.as_str())?;
-            let key = key_of(key.as_str())?;
-            match number_of(at.as_str()) {
-                Some(at) => Some(Query { kind, key, at }),
-                None => None,
-            }
-        }
-        _ => None,
-    }
+    /// `prove KIND KEY BLOCK ROOTBLOCK`: tell a proof of the answer to a question over the blocks of
+    /// the log, for one who has the root at ROOTBLOCK.
+    Prove {
+        query: Query,
+        root_at: u32,
+    },
+    /// `verify ROOT KIND KEY BLOCK`: tell the answer of the proof that the input is, in hex.
+    Verify {
+        root: Digest,
+        query: Query,
+    },
 }
 
 fn is_gen(text: &str) -> bool
@@ -149,74 +79,6 @@ fn generation_of(words: &[String]) -> Option<Generation>
         }
         _ => None,
     }
-}
-
-/// The question of the command `KIND KEY` or `KIND KEY BLOCK`; `None` exactly where the words are no
-/// such command.
-fn ask_of(words: &[String]) -> Option<Command>
-    ensures { IsAsk (map string_bytes words.now) result }
-{
-    match words {
-        [kind, key] => {
-            let kind = kind_of(kind.as_str())?;
-            let key = key_of(key.as_str())?;
-            Some(Command::Ask {
-                kind,
-                key,
-                at: None,
-            })
-        }
-        [kind, key, at] => {
-            let kind = kind_of(kind.as_str())?;
-            let key = key_of(key.as_str())?;
-            match number_of(at.as_str()) {
-                Some(at) => Some(Command::Ask {
-                    kind,
-                    key,
-                    at: Some(at),
-                }),
-                None => None,
-            }
-        }
-        _ => None,
-    }
-}
-
-fn is_root(text: &str) -> bool
-    ensures { IsTrue result ↔ (text.now ≡ codes "root") }
-{
-    text == "root"
-}
-
-/// The block of the command `root` or `root BLOCK`; `None` exactly where the words are no such
-/// command.
-fn root_of(words: &[String]) -> Option<Command>
-    ensures { IsRoot (map string_bytes words.now) result }
-{
-    match words {
-        [word] => {
-            if !is_root(word.as_str()) {
-                return None;
-            }
-            Some(Command::Root(None))
-        }
-        [word, at] => {
-            if !is_root(word.as_str()) {
-                return None;
-            }
-            match number_of(at.as_str()) {
-                Some(at) => Some(Command::Root(Some(at))),
-                None => None,
-            }
-        }
-        _ => None,
-    }
-}
-
-fn is_text(text: &str, word: &str) -> bool
-    ensures { IsTrue result ↔ (text.now ≡ word.now) }
-{
-    text == word
 }
 
 /// Whether the words are this one alone.
@@ -256,8 +118,14 @@ fn found(words: &[String]) -> Option<Command>
     if let Some(generation) = generation_of(words) {
         return Some(Command::Gen(generation));
     }
-    if let Some(query) = query_of(words) {
+    if let Some(query) = scan_of(words) {
         return Some(Command::Scan(query));
+    }
+    if let Some(command) = prove_of(words) {
+        return Some(command);
+    }
+    if let Some(command) = verify_of(words) {
+        return Some(command);
     }
     match root_of(words) {
         Some(command) => Some(command),

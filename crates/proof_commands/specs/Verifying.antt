@@ -1,11 +1,18 @@
 -- What is answered of a proof in hex.
-use Rattle.std.specs.Prelude.{ℕ, ◌-◌, ◌==◌, Bool, false, if◌then◌else◌, List, length, take, slice_get, Option, Some, None, Result, Ok, Err}
+use Rattle.std.specs.Prelude.{◌≡◌, ℕ, ◌-◌, ◌%◌, ◌<◌, ◌==◌, Bool, false, if◌then◌else◌, List, length, take, slice_get, slice_index, Option, Some, None, Result, Ok, Err}
+use Rattle.std.specs.List.{AllPass}
 use Rattle.lc_base.specs.declared.answer.Answer.{Answer}
 use Rattle.lc_base.specs.declared.answer.Query.{Query}
-use Rattle.hex.specs.Hex.{decode_of}
+use Rattle.hex.specs.Hex.{decode_of, is_hex_digit}
 use Rattle.hex.specs.declared.error.FromHexError.{FromHexError}
 use Rattle.hex.specs.declared.error.FromHexError.TheVariants.{InvalidHexCharacter}
+use Rattle.byte_fields.specs.Prefixes.{IsLongestPrefix}
+use Rattle.proof_codec.specs.declared.proof.Proof.{Proof}
+use Rattle.proof_codec.specs.Spelling.{IsProof, proof_fields}
+use Rattle.proof_views.specs.Viewing.{Spells}
+use Rattle.proof_checks.specs.Checks.{verdict}
 use Rattle.proof_checks.specs.declared.reject.Reject.{Reject}
+use Rattle.proof_checks.specs.declared.reject.Reject.TheVariants.{Malformed}
 use Rattle.proof_verifier.specs.Answering.{verdict_on}
 use Rattle.proof_commands.specs.declared.verification.HexFault.{HexFault}
 use Rattle.proof_commands.specs.declared.verification.HexFault.TheVariants.{Odd, At}
@@ -21,16 +28,38 @@ is_line_end (Some byte) = byte == 10
 abbrev pub hex_text : List ℕ → List ℕ
 hex_text input = if is_line_end (slice_get input (length input - 1)) then take (length input - 1) input else input
 
+-- An answer, or why there is none.
+abbrev pub of_verdict : Result Answer Reject → Verification
+of_verdict (Ok answer) = Accepted answer
+of_verdict (Err reject) = Rejected reject
+
+-- A text of an even number of bytes has its first byte that is no digit, of either case, at this offset.
+pub record IsFirstNoDigit (text : List ℕ) (at : ℕ) : Type 0 where
+  pub even : length text % 2 ≡ 0
+  pub within : at < length text
+  pub no_digit : is_hex_digit (slice_index text at) ≡ false
+  pub before : AllPass is_hex_digit (take at text)
+
+-- What is answered of an input to one who has the root. The input is hex with digits of either case, and
+-- may end with one line end. Where the number of its other bytes is odd, that is told, else the first of
+-- them that is no digit. Where the bytes that it has in hex are no proof, the offset is told at which the
+-- first field begins that is invalid, else the verdict on the proof.
+pub data IsVerification (root : List ℕ) (query : Query) (input : List ℕ) : Verification → Type 0 where
+  OddDigits : length (hex_text input) % 2 ≡ 1 → IsVerification root query input (BadHex Odd)
+  NoDigit : (at : ℕ) → IsFirstNoDigit (hex_text input) at → IsVerification root query input (BadHex (At at))
+  NoProof : (bytes : List ℕ) → decode_of (hex_text input) ≡ Ok bytes → ((proof : Proof) → Spells bytes proof → ⊥) →
+      (at : ℕ) → IsLongestPrefix proof_fields IsProof bytes at →
+      IsVerification root query input (Rejected (Malformed at))
+  Judged : (bytes : List ℕ) → decode_of (hex_text input) ≡ Ok bytes → (proof : Proof) → Spells bytes proof →
+      IsVerification root query input (of_verdict (verdict root query proof))
+
+-- ---- the same by functions, as the code goes
+
 -- Why a text is no hex: the first byte that is no digit; any other fault is that their number is odd,
 -- which comes first.
 abbrev pub hex_fault : FromHexError → HexFault
 hex_fault (InvalidHexCharacter byte index) = At index
 hex_fault error = Odd
-
--- An answer, or why there is none.
-abbrev pub of_verdict : Result Answer Reject → Verification
-of_verdict (Ok answer) = Accepted answer
-of_verdict (Err reject) = Rejected reject
 
 -- What is answered of the proof that a text has in hex, to one who has the root.
 abbrev pub of_decoded : List ℕ → Query → Result (List ℕ) FromHexError → Verification

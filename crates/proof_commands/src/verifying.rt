@@ -2,7 +2,7 @@
 
 ghost use Rattle.std.specs.Prelude.{◌≡◌, IfOk};
 ghost use Rattle.proof_verifier.specs.Answering.{verdict_on};
-ghost use Rattle.proof_commands.specs.Verifying.{hex_text, of_verdict, verification};
+ghost use Rattle.proof_commands.specs.Verifying.{IsVerification, hex_text, of_verdict, verification};
 
 use crate::answering::answer_of;
 use crate::verification::{HexFault, Verification};
@@ -36,9 +36,7 @@ fn verify_bytes(
     }
 }
 
-/// What is answered of a proof to one who has the root and the query. The input is the proof in hex, with
-/// digits of either case, and may end with one line end.
-pub fn verify_hex(
+fn verified(
     alloc: Global,
     root: &Digest,
     query: &Query,
@@ -54,4 +52,17 @@ pub fn verify_hex(
         Err(FromHexError::OutOfMemory) => Err(Memory),
         Err(_) => Ok(Verification::BadHex(HexFault::Odd)),
     }
+}
+
+/// What is answered of a proof to one who has the root and the query. The input is the proof in hex, with
+/// digits of either case, and may end with one line end.
+pub fn verify_hex(
+    alloc: Global,
+    root: &Digest,
+    query: &Query,
+    input: &[u8],
+) -> Result<Verification, Memory>
+    ensures { IfOk result (IsVerification root.now.0 query.now input.now) }
+{
+    verified(alloc, root, query, input)
 }

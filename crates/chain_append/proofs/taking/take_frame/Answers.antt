@@ -1,8 +1,9 @@
-use Rattle.std.proofs.Common.{◌∙◌, refl}
+use Rattle.std.proofs.Common.{◌∙◌, refl, IsErrOf}
 use Rattle.block_codec.specs.Reading.{block_in}
 use Rattle.chain_exec.specs.Compiled.{compiled_in}
 use Rattle.chain_state.specs.Judging.{judged}
 use Rattle.recovery.specs.Node.{next_in_chain}
+use Rattle.chain_append.proofs.Causes.{carried, kept}
 use Rattle.chain_append.proofs.Frames.{takes_whole, takes_part, takes_none, takes_refusal, images_told}
 use Rattle.chain_append.proofs.taking.take_frame.Goals as goal
 
@@ -47,3 +48,19 @@ returns-clause-takes g c blocks is =
     let judgement = judged compiled_in blocks (block_in c.args.frame.now) in
     takes_none g.M.Clock.now g.M.Clock.disk g.M.Clock.told c.args.machine.now c.append.new.machine blocks judgement _
     (images_told g.M.Clock.now g.M.Clock.disk g.M.Clock.told c.args.machine.now c.append.new.machine blocks judgement (λ content told. c.append.ensures.images blocks content is told)) c.append.ensures.told
+
+pub returns-in-Ok-tell_line-clause-untold : goal.returns-in-Ok-tell_line-clause-untold
+returns-in-Ok-tell_line-clause-untold g c =
+    carried (g.M.Clock.wire_faults c.args.machine.now) (g.M.Clock.wire_faults c.append.new.machine) (g.M.Clock.wire_faults c.tell_line.new.machine) _ _ c.append.ensures.wire_faults c.in-Ok-tell_line.ensures.cause (λ b. absurd (cc b)) (λ b. absurd (cc b))
+
+pub returns-in-Ok-tell_line-clause-disk_fault : goal.returns-in-Ok-tell_line-clause-disk_fault
+returns-in-Ok-tell_line-clause-disk_fault g c =
+    kept (g.M.Clock.disk_faults c.args.machine.now) (g.M.Clock.disk_faults c.append.new.machine) (g.M.Clock.disk_faults c.tell_line.new.machine) _ _ c.tell_line.ensures.disk_faults c.in-Ok.ensures.cause (λ b. absurd b) (λ b. absurd (cc b))
+
+pub returns-in-Ok-appended_line-clause-untold : goal.returns-in-Ok-appended_line-clause-untold
+returns-in-Ok-appended_line-clause-untold g c =
+    carried (g.M.Clock.wire_faults c.args.machine.now) (g.M.Clock.wire_faults c.append.new.machine) (g.M.Clock.wire_faults c.tell_line.new.machine) _ _ c.append.ensures.wire_faults c.in-Err-tell_line.ensures.cause (λ b. refl) (λ b. refl)
+
+pub returns-in-Ok-appended_line-clause-disk_fault : goal.returns-in-Ok-appended_line-clause-disk_fault
+returns-in-Ok-appended_line-clause-disk_fault g c =
+    kept (g.M.Clock.disk_faults c.args.machine.now) (g.M.Clock.disk_faults c.append.new.machine) (g.M.Clock.disk_faults c.tell_line.new.machine) _ _ c.tell_line.ensures.disk_faults c.in-Ok.ensures.cause (λ b. absurd b) (λ b. absurd (cc b))

@@ -1,9 +1,9 @@
 use Rattle.std.proofs.Common.{Some, refl}
 use Rattle.recovery.specs.Node.{next_in_chain}
-use Rattle.chain_words.specs.declared.words.Command.TheVariants.{Scan, Fmt, Pack, Gen, Append, Root, Ask}
+use Rattle.chain_words.specs.declared.words.Command.TheVariants.{Scan, Fmt, Pack, Gen, Append, Root, Ask, Prove, Verify}
 use Rattle.chain_output.specs.Telling.{status_of_result}
 use Rattle.chain_cli.proofs.Ends.{done_ends, of_given, found_log}
-use Rattle.chain_cli.proofs.Runs.{scan_run, fmt_run, pack_run, gen_run, of_command}
+use Rattle.chain_cli.proofs.Runs.{scan_run, fmt_run, verify_run, pack_run, gen_run, of_command}
 use Rattle.chain_cli.proofs.run.run_command.Goals as goal
 
 pub returns-in-Scan-clause-run : goal.returns-in-Scan-clause-run
@@ -15,6 +15,11 @@ pub returns-in-Fmt-clause-run : goal.returns-in-Fmt-clause-run
 returns-in-Fmt-clause-run g c =
     of_command g.M.Clock.now g.M.Clock.disk g.M.Clock.told c.args.machine.now c.tell_result-in-Fmt.new.machine (status_of_result c.tell_result-in-Fmt.result) (g.I.Source.left c.args.source.now) (g.I.Source.left c.fmt.new.source) c.args.command.now _ c.in-Fmt.is
     (fmt_run g.M.Clock.now g.M.Clock.disk g.M.Clock.told c.args.machine.now c.tell_result-in-Fmt.new.machine c.fmt.result c.tell_result-in-Fmt.result (g.I.Source.left c.args.source.now) (g.I.Source.left c.fmt.new.source) c.requires.settled c.tell_result-in-Fmt.ensures.disk (c.tell_result-in-Fmt.ensures.says next_in_chain) c.fmt.ensures.outcome)
+
+pub returns-in-Verify-clause-run : goal.returns-in-Verify-clause-run
+returns-in-Verify-clause-run g c =
+    of_command g.M.Clock.now g.M.Clock.disk g.M.Clock.told c.args.machine.now c.tell_result-in-Verify.new.machine (status_of_result c.tell_result-in-Verify.result) (g.I.Source.left c.args.source.now) (g.I.Source.left c.verify.new.source) c.args.command.now _ c.in-Verify.is
+    (verify_run g.M.Clock.now g.M.Clock.disk g.M.Clock.told c.args.machine.now c.tell_result-in-Verify.new.machine c.in-Verify.root c.in-Verify.query c.verify.result c.tell_result-in-Verify.result (g.I.Source.left c.args.source.now) (g.I.Source.left c.verify.new.source) c.requires.settled c.tell_result-in-Verify.ensures.disk (c.tell_result-in-Verify.ensures.says next_in_chain) c.verify.ensures.outcome)
 
 pub returns-in-Pack-clause-run : goal.returns-in-Pack-clause-run
 returns-in-Pack-clause-run g c =
@@ -36,6 +41,14 @@ returns-in-Root-clause-run g c =
     of_command g.M.Clock.now g.M.Clock.disk g.M.Clock.told c.args.machine.now c.root.new.machine (status_of_result c.root.result) (g.I.Source.left c.args.source.now) (g.I.Source.left c.args.source.now) c.args.command.now _ c.in-Root.is
     (c.root.ensures.run (g.I.Source.left c.args.source.now))
 
+pub returns-in-Prove-clause-run : goal.returns-in-Prove-clause-run
+returns-in-Prove-clause-run g c =
+    of_command g.M.Clock.now g.M.Clock.disk g.M.Clock.told c.args.machine.now c.prove.new.machine (status_of_result c.prove.result) (g.I.Source.left c.args.source.now) (g.I.Source.left c.args.source.now) c.args.command.now _ c.in-Prove.is
+    (c.prove.ensures.run (g.I.Source.left c.args.source.now))
+
+pub returns-in-Prove-clause-ends : goal.returns-in-Prove-clause-ends
+returns-in-Prove-clause-ends g c = of_given (status_of_result c.prove.result) c.args.command.now (Prove c.in-Prove.query c.in-Prove.root_at) c.in-Prove.is c.prove.ensures.ends
+
 pub returns-in-Scan-clause-ends : goal.returns-in-Scan-clause-ends
 returns-in-Scan-clause-ends g c = of_given (status_of_result c.tell_result.result) c.args.command.now (Scan c.in-Scan.query) c.in-Scan.is (c.tell_result.ensures.ends (Some (Scan c.in-Scan.query)) refl c.scan.ensures.ends)
 
@@ -47,6 +60,12 @@ returns-in-Fmt-clause-ends g c = of_given (status_of_result c.tell_result-in-Fmt
 
 pub returns-in-Fmt-clause-no_log : goal.returns-in-Fmt-clause-no_log
 returns-in-Fmt-clause-no_log g c none = absurd (found_log (status_of_result c.tell_result-in-Fmt.result) Fmt refl (c.tell_result-in-Fmt.ensures.ends (Some Fmt) refl c.fmt.ensures.ends) none)
+
+pub returns-in-Verify-clause-ends : goal.returns-in-Verify-clause-ends
+returns-in-Verify-clause-ends g c = of_given (status_of_result c.tell_result-in-Verify.result) c.args.command.now (Verify c.in-Verify.root c.in-Verify.query) c.in-Verify.is (c.tell_result-in-Verify.ensures.ends (Some (Verify c.in-Verify.root c.in-Verify.query)) refl c.verify.ensures.ends)
+
+pub returns-in-Verify-clause-no_log : goal.returns-in-Verify-clause-no_log
+returns-in-Verify-clause-no_log g c none = absurd (found_log (status_of_result c.tell_result-in-Verify.result) (Verify c.in-Verify.root c.in-Verify.query) refl (c.tell_result-in-Verify.ensures.ends (Some (Verify c.in-Verify.root c.in-Verify.query)) refl c.verify.ensures.ends) none)
 
 pub returns-in-Pack-clause-ends : goal.returns-in-Pack-clause-ends
 returns-in-Pack-clause-ends g c = of_given (status_of_result c.tell_result-in-Pack.result) c.args.command.now Pack c.in-Pack.is (c.tell_result-in-Pack.ensures.ends (Some Pack) refl c.pack.ensures.ends)

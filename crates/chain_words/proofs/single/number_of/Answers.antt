@@ -1,7 +1,7 @@
 use Rattle.std.proofs.Common.{◌∙◌, ap, sym, subst}
 use Rattle.chain_words.specs.Words.{IsNumberOf, starts_as_number}
 use Rattle.chain_words.proofs.Commands.{number_is, no_number}
-use Rattle.chain_words.proofs.words.number_of.Goals as goal
+use Rattle.chain_words.proofs.single.number_of.Goals as goal
 
 pub returns-then-not-starts_as_number : goal.returns-then-not-starts_as_number
 returns-then-not-starts_as_number c = no_number c.args.text.now (ap starts_as_number (sym c.as_bytes.ensures.value) ∙ sym c.starts_as_number.ensures ∙ c.if-not-starts_as_number.true)

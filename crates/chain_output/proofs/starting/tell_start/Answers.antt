@@ -3,7 +3,7 @@ use Rattle.chain_lines.specs.Lines.{not_a_log_line, damaged_line}
 use Rattle.chain_lines.specs.Outcome.{outcome_with}
 use Rattle.chain_lines.specs.declared.outcome.Ending.TheVariants as endings
 use Rattle.chain_output.proofs.Ends.{known_ends}
-use Rattle.chain_cli.proofs.over_log.tell_start.Goals as goal
+use Rattle.chain_output.proofs.starting.tell_start.Goals as goal
 
 pub returns-in-NotALog-clause-says : goal.returns-in-NotALog-clause-says
 returns-in-NotALog-clause-says g c next = rw c.in-NotALog.is (c.tell_made.ensures.says next (outcome_with (not_a_log_line ∷ []) endings.NotALog) c.not_a_log.ensures)

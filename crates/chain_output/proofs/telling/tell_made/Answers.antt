@@ -2,8 +2,8 @@ use Rattle.std.proofs.Common.{refl}
 use Rattle.chain_output.specs.declared.stop.RunStop.TheVariants as stops
 use Rattle.recovery.specs.Node.{next_in_chain}
 use Rattle.chain_output.proofs.Ends.{made_ends}
-use Rattle.chain_cli.proofs.Runs.{made_ok, made_err}
-use Rattle.chain_cli.proofs.over_log.tell_made.Goals as goal
+use Rattle.chain_output.proofs.Meets.{made_ok, made_err}
+use Rattle.chain_output.proofs.telling.tell_made.Goals as goal
 
 pub returns-in-Ok-clause-says : goal.returns-in-Ok-clause-says
 returns-in-Ok-clause-says g c next wanted made = made_ok g.M.Clock.now g.M.Clock.disk g.M.Clock.told next c.args.machine.now c.tell_outcome.new.machine c.args.outcome c.in-Ok.outcome wanted c.tell_outcome.result c.in-Ok.is (c.tell_outcome.ensures.says next) made

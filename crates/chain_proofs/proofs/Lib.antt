@@ -1,0 +1,2 @@
+pub mod Verifies
+pub mod Proves
