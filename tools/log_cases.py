@@ -27,6 +27,7 @@ NOT_A_LOG = 6
 DAMAGED = 7
 REFUSED = 8
 BEYOND = 9
+BAD_INPUT = 11
 
 SET_FILE = block_files.block_file([[sets("raw/a", 5)]])
 SET_LOG = HEAD + OPEN + SET_FILE + CLOSED
@@ -37,6 +38,7 @@ SECOND_ROWS = [*SET_ROWS, Row("raw/b", 1, 0, 1, [])]
 SET_ANSWER = "block 0 tx 0 int 5\n"
 SET_ROOT = f"root 0 {roots([SET_FILE], SET_ROWS)[0]}\n"
 HIST = "hist raw/a 0"
+TRUNCATED = "refused frame 0 truncated\n"
 
 
 @dataclasses.dataclass
@@ -467,14 +469,34 @@ def failing_pulls():
 
 
 def pauses():
-    """A source that gives nothing once, as at the end of an input, and then a byte more: `append` has
-    ended by then, so the byte stays where it is, and the log is that of the blocks before it."""
+    """A source that gives nothing once, as at the end of an input, and then goes on: the command has
+    ended by then, so what follows stays where it is, and the log is that of the blocks before it."""
     for byte in [CLOSED, OPEN]:
         for image, told in [(b"", SET_LINE), (SET_LOG, "known 0\n")]:
             yield LogCase(
                 "append", image, told, DONE, SET_LOG, SET_FILE + byte, left=1,
                 pulls=f"pause {len(SET_FILE)}", piece=1,
             )
+    size = len(SET_FILE)
+    for pull in range(size):
+        told, status = (TRUNCATED, REFUSED) if pull else ("", DONE)
+        yield paused("append", pull, told, status)
+        yield paused("scan " + HIST, pull, *((told, status) if pull else ("beyond empty\n", BEYOND)))
+    for byte in [CLOSED, OPEN]:
+        yield paused("scan " + HIST, size, SET_ANSWER, DONE, SET_FILE + byte)
+    source = b"fn f(){}"
+    for pull in [0, len(source) - 1]:
+        yield paused("fmt", pull, f"badinput syntax {pull} end\n", BAD_INPUT, source)
+    yield paused("fmt", len(source), "fn f() {\n}\n", DONE, source + b"}")
+    for pull in range(2):
+        yield paused("pack", pull, "badinput json\n", BAD_INPUT, b"[]")
+    yield paused("pack", 2, "", DONE, b"[]]")
+
+
+def paused(words, pull, told, status, file=SET_FILE):
+    """A command over a source whose pull of this number gives nothing, one byte a pull."""
+    left = len(file) - pull
+    return LogCase(words, b"", told, status, file=file, left=left, pulls=f"pause {pull}", piece=1)
 
 
 def words():

@@ -1,15 +1,18 @@
-//! Cases of block files: what each of their blocks did, which no command prints.
+//! Cases of block files: what each of their blocks did, which no command prints, and whether their chain
+//! answers as a scan of all rows does.
 
 ghost use Rattle.std.specs.Prelude.{IfOk};
 ghost use Rattle.block_codec.specs.Spelling.{IsBlock};
 ghost use Rattle.chain_state.specs.Chain.{IsAfter};
 
+use crate::scanning::scan;
 use crate::streams::{PausingSource, source_of};
 use anyhow::{Result, bail};
 use block_codec::{Block, Frames, MAX_FRAMES, Placement, block_digest, decode};
 use chain_exec::BlockRun;
+use chain_lines::answer_lines;
 use chain_state::{Chain, Replay};
-use lc_base::{Digest, Memory};
+use lc_base::{Answer, Bytes, Digest, Kind, Memory, Query, Row, RowList, Seq};
 use std::alloc::Global;
 use std::io::Write;
 
@@ -41,14 +44,29 @@ fn run_next(alloc: Global, chain: Chain, block: &Block, digest: Digest) -> Resul
     }
 }
 
-/// Runs the block of a frame after the blocks so far, and prints what it did.
-fn run_frame<W: Write>(alloc: Global, out: &mut W, chain: Chain, frame: &[u8]) -> Result<Chain> {
+/// Prints what a block did, and appends its rows to those of the blocks before.
+fn keep_run<W: Write>(out: &mut W, number: u32, run: BlockRun, rows: &mut RowList) -> Result<()> {
+    print_run(out, number, &run)?;
+    match rows.append(run.rows) {
+        Ok(()) => Ok(()),
+        Err(Memory) => bail!("no memory for the rows of a block"),
+    }
+}
+
+/// Runs the block of a frame after the blocks so far, prints what it did, and appends its rows to theirs.
+fn run_frame<W: Write>(
+    alloc: Global,
+    out: &mut W,
+    chain: Chain,
+    rows: &mut RowList,
+    frame: &[u8],
+) -> Result<Chain> {
     let Ok(block) = decode(alloc, frame) else {
         chain.give_up();
         bail!("a frame that is no block");
     };
     let (chain, run) = run_next(alloc, chain, &block, block_digest(frame))?;
-    match print_run(out, block.number, &run) {
+    match keep_run(out, block.number, run, rows) {
         Ok(()) => Ok(chain),
         Err(error) => {
             chain.give_up();
@@ -57,15 +75,72 @@ fn run_frame<W: Write>(alloc: Global, out: &mut W, chain: Chain, frame: &[u8]) -
     }
 }
 
-/// Runs the blocks of the frames that a source gives.
+fn lines_of(alloc: Global, answer: Result<Answer, Memory>) -> Result<Seq<Bytes>> {
+    let Ok(answer) = answer else {
+        bail!("no memory for an answer");
+    };
+    match answer_lines(alloc, &answer) {
+        Ok(lines) => Ok(lines),
+        Err(Memory) => bail!("no memory for the lines of an answer"),
+    }
+}
+
+/// Whether two answers have the same lines.
+fn are_alike(one: &[Bytes], other: &[Bytes]) -> bool {
+    if one.len() != other.len() {
+        return false;
+    }
+    for (a, b) in one.iter().zip(other) {
+        if a.as_bytes() != b.as_bytes() {
+            return false;
+        }
+    }
+    true
+}
+
+/// Asks a chain and its rows one question.
+fn ask_both(alloc: Global, chain: &mut Chain, rows: &[Row], query: &Query) -> Result<()> {
+    let told = lines_of(alloc, chain.ask(query))?;
+    let scanned = lines_of(alloc, scan(alloc, rows, query))?;
+    if !are_alike(told.as_slice(), scanned.as_slice()) {
+        bail!("a chain answers otherwise than a scan of its rows");
+    }
+    Ok(())
+}
+
+/// Asks a chain and its rows each kind of question about the key of each row: at the row's block, at the
+/// block after it, and at the last one. It prints how many answers were compared.
+fn compare_answers<W: Write>(
+    alloc: Global,
+    out: &mut W,
+    chain: &mut Chain,
+    rows: &[Row],
+) -> Result<()> {
+    let last = chain.len().saturating_sub(1);
+    let mut count = 0_u64;
+    for row in rows {
+        for at in [row.block, row.block.saturating_add(1), last] {
+            for kind in [Kind::Hist, Kind::Back, Kind::Fwd] {
+                let key = row.key;
+                ask_both(alloc, chain, rows, &Query { kind, key, at })?;
+                count = count.saturating_add(1);
+            }
+        }
+    }
+    writeln!(out, "answers {count}")?;
+    Ok(())
+}
+
+/// Runs the blocks of the frames that a source gives, and then compares answers.
 fn run_frames<W: Write>(alloc: Global, out: &mut W, source: &mut PausingSource) -> Result<()> {
     let mut chain = Chain::new(alloc);
+    let mut rows = RowList::new(alloc);
     let mut frames = Frames::new();
     for _ in 0..=MAX_FRAMES {
         match frames.next(alloc, source) {
             Ok(None) => break,
             Ok(Some((frame, more))) => {
-                chain = run_frame(alloc, out, chain, frame.as_bytes())?;
+                chain = run_frame(alloc, out, chain, &mut rows, frame.as_bytes())?;
                 frames = more;
             }
             Err(_) => {
@@ -74,12 +149,14 @@ fn run_frames<W: Write>(alloc: Global, out: &mut W, source: &mut PausingSource) 
             }
         }
     }
+    let compared = compare_answers(alloc, out, &mut chain, rows.as_slice());
     chain.give_up();
-    Ok(())
+    compared
 }
 
-/// Runs the blocks of a file, which must be a chain from none, and prints the words of the case and
-/// then for each block how many rows it wrote, and for each transaction its status and its cost.
+/// Runs the blocks of a file, which must be a chain from none. It prints the words of the case, then for each
+/// block how many rows it wrote, and for each transaction its status and its cost, and then how many answers
+/// of the chain were those of a scan of its rows.
 pub fn run_blocks<W: Write>(
     alloc: Global,
     out: &mut W,

@@ -3,6 +3,7 @@
 
 mod blocks;
 mod command;
+mod scanning;
 mod streams;
 mod trees;
 

@@ -1,0 +1,205 @@
+//! A host that fails under a contract that runs: each of its calls in turn.
+
+ghost use Rattle.std.specs.Prelude.{◌≡◌, refl, [], None, IfSome, IsErrOf};
+ghost use Rattle.lc_base.specs.Faults.{HasCause};
+ghost use Rattle.block_codec.specs.Spelling.{IsBlock};
+
+use block_codec::{Block, NO_PARENT, Tx, TxList, decode, encode};
+use chain_exec::run_block;
+use contract_check::Checked;
+use lc_base::{Bytes, Dep, Host, HostError, Key, Name, TxStatus, Value, ValueList, Version};
+use lc_outside::one_more;
+use std::alloc::Global;
+use world_state::World;
+
+/// A contract whose function asks each kind of question.
+const SOURCE: &[u8] = b"fn ask() {
+  let of = \"raw/a\";
+  let n = hist_int(of, 0) + hist_block(of, 0) + hist_tx(of, 0) + seen(of, 0);
+  let counts = back_count(of, 0) + fwd_count(of, 0);
+  let blocks = back_block(of, 0, 0) + fwd_block(of, 0, 0);
+  let keys = back_key(of, 0, 0) ++ fwd_key(of, 0, 0);
+}";
+/// How many questions that are.
+const QUESTIONS: u64 = 10;
+/// The budget of the call, which is more than it costs.
+const BUDGET: u32 = 10_000;
+/// Of a host that never fails.
+const NEVER: u64 = u64::MAX;
+
+/// A host that gives one answer to each kind of question, and fails at one call.
+#[derive(Drop)]
+struct FailingHost {
+    /// The number of the call that fails, from 0.
+    failing: u64,
+    /// How many calls there were.
+    calls: u64,
+    /// How many of them failed.
+    faults: u64,
+}
+
+impl FailingHost {
+    fn new(failing: u64) -> FailingHost {
+        FailingHost {
+            failing,
+            calls: 0,
+            faults: 0,
+        }
+    }
+
+    /// Counts a call, which may be the one that fails.
+    fn call(&mut self) -> Result<(), HostError>
+        ensures { HasCause self.old.faults self.new.faults (IsErrOf result HostError.Fault) }
+    {
+        let number = self.calls;
+        self.calls = one_more(number);
+        if number == self.failing {
+            self.faults = one_more(self.faults);
+            return Err(HostError::Fault);
+        }
+        Ok(())
+    }
+}
+
+impl Host for FailingHost {
+    ghost rows = { λ _. None };
+
+    ghost host_faults = { λ s. s.faults };
+
+    ghost ready = { λ _. Unit {0} };
+
+    ghost same = { λ _ _. Unit {0} };
+
+    fn hist(&mut self, _alloc: Global, _key: &Key, _at: u32) -> Result<Option<Version>, HostError> {
+        self.call()?;
+        Ok(Some(Version {
+            block: 0,
+            tx: 0,
+            value: Value::Int(1),
+        }))
+    }
+
+    fn back_count(
+        &mut self,
+        _alloc: Global,
+        _key: &Key,
+        _at: u32,
+    ) -> Result<Option<u32>, HostError> {
+        self.call()?;
+        Ok(Some(1))
+    }
+
+    fn back_at(
+        &mut self,
+        _alloc: Global,
+        key: &Key,
+        _at: u32,
+        _index: u32,
+    ) -> Result<Option<Dep>, HostError> {
+        self.call()?;
+        Ok(Some(Dep {
+            key: *key,
+            block: 0,
+        }))
+    }
+
+    fn fwd_count(
+        &mut self,
+        _alloc: Global,
+        _key: &Key,
+        _at: u32,
+    ) -> Result<Option<u64>, HostError> {
+        self.call()?;
+        Ok(Some(1))
+    }
+
+    fn fwd_at(
+        &mut self,
+        _alloc: Global,
+        key: &Key,
+        _at: u32,
+        _index: u64,
+    ) -> Result<Option<Dep>, HostError> {
+        self.call()?;
+        Ok(Some(Dep {
+            key: *key,
+            block: 0,
+        }))
+    }
+
+    ghost same_refl = { λ _. tt };
+
+    ghost same_trans = { λ _ _ _ _ _. tt };
+
+    ghost same_ready = { λ _ _ _ ready. ready };
+
+    ghost same_rows = { λ _ _ _. refl };
+}
+
+/// A block of one transaction, as it is read again.
+fn block_of(alloc: Global, number: u32, tx: Tx) -> Option<Block>
+    ensures { IfSome result IsBlock }
+{
+    let mut txs = TxList::new(alloc);
+    txs.push(tx).ok()?;
+    let block = Block {
+        number,
+        parent: NO_PARENT,
+        txs,
+    };
+    let bytes = encode(alloc, &block).ok()?;
+    decode(alloc, bytes.as_bytes()).ok()
+}
+
+/// The state after a block that deploys the contract.
+fn deployed(alloc: Global) -> Option<World<Checked>>
+    ensures no_rows { IfSome result (λ world. world.staged ≡ []) }
+    ensures no_codes { IfSome result (λ world. world.staged_codes ≡ []) }
+{
+    let deploy = Tx::Deploy {
+        sender: Key::new(b"u").ok()?,
+        name: Name::new(b"c").ok()?,
+        source: Bytes::from_vec(Vec::from_slice(alloc, SOURCE).ok()?),
+    };
+    let block = block_of(alloc, 0, deploy)?;
+    let mut world = World::new(alloc);
+    let mut host = FailingHost::new(NEVER);
+    run_block(alloc, &mut host, &mut world, &block).ok()?;
+    world.commit().ok()
+}
+
+/// How a call of the function ends over a host: its status, or the error.
+fn call_over(alloc: Global, host: &mut FailingHost) -> Option<Result<TxStatus, HostError>> {
+    let call = Tx::Call {
+        sender: Key::new(b"u").ok()?,
+        contract: Name::new(b"c").ok()?,
+        function: Name::new(b"ask").ok()?,
+        args: ValueList::new(alloc),
+        budget: BUDGET,
+    };
+    let block = block_of(alloc, 1, call)?;
+    let mut world = deployed(alloc)?;
+    match run_block(alloc, host, &mut world, &block) {
+        Ok(run) => Some(Ok(run.receipts.get(0)?.status)),
+        Err(error) => Some(Err(error)),
+    }
+}
+
+/// Whether the call ends with the fault of a host that fails at this call, and doesn't ask it again.
+fn ends_with_fault(alloc: Global, failing: u64) -> bool {
+    let mut host = FailingHost::new(failing);
+    let ended = call_over(alloc, &mut host);
+    ended == Some(Err(HostError::Fault)) && host.faults == 1 && host.calls == one_more(failing)
+}
+
+#[test]
+fn each_call_of_a_host_fails(rt: HostRuntime) {
+    let mut host = FailingHost::new(NEVER);
+    let ended = call_over(rt.alloc(), &mut host);
+    assert!(rt; ended == Some(Ok(TxStatus::Ok)));
+    assert!(rt; host.faults == 0);
+    assert!(rt; host.calls >= QUESTIONS);
+    for failing in 0..host.calls {
+        assert!(rt; ends_with_fault(rt.alloc(), failing));
+    }
+}
