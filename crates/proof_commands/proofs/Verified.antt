@@ -19,7 +19,7 @@ use Rattle.proof_views.proofs.Viewed.{is_read, found_this, fault_this}
 use Rattle.proof_verifier.specs.Answering.{judged, verdict_on}
 use Rattle.proof_commands.specs.declared.verification.Verification.{Verification}
 use Rattle.proof_commands.specs.declared.verification.Verification.TheVariants.{BadHex}
-use Rattle.proof_commands.specs.Verifying.{hex_text, of_verdict, hex_fault, of_decoded, verification, IsFirstNoDigit, IsVerification, OddDigits, NoDigit, NoProof, Judged}
+use Rattle.proof_commands.specs.Verifying.{hex_text, of_verdict, hex_fault, bytes_or_fault, of_decoded, verification, IsFirstNoDigit, IsVerification, OddDigits, NoDigit, NoProof, Judged}
 
 -- ---- bytes, as a proof is read from them
 
@@ -104,7 +104,7 @@ module _ (root : List ℕ) (query : Query) (input : List ℕ) where
         | inr even ↦ by_digit error decoded (omega arith)
       ]
 
-  by_decoding : (r : Result (List ℕ) FromHexError) → decode_of (hex_text input) ≡ r → IsVerification root query input (of_decoded root query r)
+  by_decoding : (r : Result (List ℕ) FromHexError) → decode_of (hex_text input) ≡ r → IsVerification root query input (of_decoded root query (bytes_or_fault r))
   unfolding verdict_on
   by_decoding (Ok bytes) decoded = by_reading bytes decoded (decode_of-ok (hex_text input) bytes decoded).3 (proof_in bytes) refl
   by_decoding (Err error) decoded = by_fault error decoded
@@ -114,13 +114,16 @@ module _ (root : List ℕ) (query : Query) (input : List ℕ) where
 
   -- ---- and nothing else
 
+  abbrev after : Result (List ℕ) FromHexError → Verification
+  after r = of_decoded root query (bytes_or_fault r)
+
   only_answer : (told : Verification) → IsVerification root query input told → told ≡ verification root query input
   unfolding verdict_on
-  only_answer _ (OddDigits odd) = sym (ap (of_decoded root query) (decode_of-odd (hex_text input) odd))
-  only_answer _ (NoDigit at is) = sym (ap (of_decoded root query) (first_decoded (hex_text input) at is (decode_of (hex_text input)) refl))
+  only_answer _ (OddDigits odd) = sym (ap after (decode_of-odd (hex_text input) odd))
+  only_answer _ (NoDigit at is) = sym (ap after (first_decoded (hex_text input) at is (decode_of (hex_text input)) refl))
   only_answer _ (NoProof bytes decoded none at longest) =
-      sym (ap (of_decoded root query) decoded ∙ ap (λ (r : Result Proof ℕ). of_verdict (judged root query r)) (unread bytes (decode_of-ok (hex_text input) bytes decoded).3 none at longest (proof_in bytes) refl))
-  only_answer _ (Judged bytes decoded proof is) = sym (ap (of_decoded root query) decoded ∙ ap (λ (r : Result Proof ℕ). of_verdict (judged root query r)) (is_read bytes proof is))
+      sym (ap after decoded ∙ ap (λ (r : Result Proof ℕ). of_verdict (judged root query r)) (unread bytes (decode_of-ok (hex_text input) bytes decoded).3 none at longest (proof_in bytes) refl))
+  only_answer _ (Judged bytes decoded proof is) = sym (ap after decoded ∙ ap (λ (r : Result Proof ℕ). of_verdict (judged root query r)) (is_read bytes proof is))
 
   pub one_answer : (a b : Verification) → IsVerification root query input a → IsVerification root query input b → a ≡ b
   one_answer a b is_a is_b = only_answer a is_a ∙ sym (only_answer b is_b)

@@ -61,11 +61,16 @@ abbrev pub hex_fault : FromHexError → HexFault
 hex_fault (InvalidHexCharacter byte index) = At index
 hex_fault error = Odd
 
+-- The bytes that a text has in hex, or why it is none.
+abbrev pub bytes_or_fault : Result (List ℕ) FromHexError → Result (List ℕ) HexFault
+bytes_or_fault (Ok bytes) = Ok bytes
+bytes_or_fault (Err error) = Err (hex_fault error)
+
 -- What is answered of the proof that a text has in hex, to one who has the root.
-abbrev pub of_decoded : List ℕ → Query → Result (List ℕ) FromHexError → Verification
+abbrev pub of_decoded : List ℕ → Query → Result (List ℕ) HexFault → Verification
 of_decoded root query (Ok proof) = of_verdict (verdict_on root query proof)
-of_decoded root query (Err error) = BadHex (hex_fault error)
+of_decoded root query (Err fault) = BadHex fault
 
 -- What is answered of an input, which is hex with digits of either case, and may end with one line end.
 abbrev pub verification : List ℕ → Query → List ℕ → Verification
-verification root query input = of_decoded root query (decode_of (hex_text input))
+verification root query input = of_decoded root query (bytes_or_fault (decode_of (hex_text input)))

@@ -8,4 +8,4 @@ mod verifying;
 
 pub use lines::rejected_line;
 pub use verification::{HexFault, Verification};
-pub use verifying::verify_hex;
+pub use verifying::{decode_hex, verify_hex};

@@ -2,12 +2,13 @@
 
 ghost use Rattle.std.specs.Prelude.{◌≡◌, IfOk};
 ghost use Rattle.proof_verifier.specs.Answering.{verdict_on};
-ghost use Rattle.proof_commands.specs.Verifying.{IsVerification, hex_text, of_verdict, verification};
+ghost use Rattle.hex.specs.Hex.{decode_of};
+ghost use Rattle.proof_commands.specs.Verifying.{IsVerification, hex_text, of_verdict, bytes_or_fault, verification};
 
 use crate::answering::answer_of;
 use crate::verification::{HexFault, Verification};
 use hex::FromHexError;
-use lc_base::{Digest, Memory, Query};
+use lc_base::{Bytes, Digest, Memory, Query};
 use proof_verifier::verify;
 use std::alloc::Global;
 
@@ -36,6 +37,19 @@ fn verify_bytes(
     }
 }
 
+/// The bytes that the input has in hex, with digits of either case and at most one line end, which is its
+/// last byte; or why it is no hex.
+pub fn decode_hex(alloc: Global, input: &[u8]) -> Result<Result<Bytes, HexFault>, Memory>
+    ensures { IfOk result (λ told. told ≡ bytes_or_fault (decode_of (hex_text input.now))) }
+{
+    match hex::decode(alloc, hex_text(input)) {
+        Ok(bytes) => Ok(Ok(Bytes::from_vec(bytes))),
+        Err(FromHexError::InvalidHexCharacter { index, .. }) => Ok(Err(HexFault::At(index))),
+        Err(FromHexError::OutOfMemory) => Err(Memory),
+        Err(_) => Ok(Err(HexFault::Odd)),
+    }
+}
+
 fn verified(
     alloc: Global,
     root: &Digest,
@@ -44,13 +58,9 @@ fn verified(
 ) -> Result<Verification, Memory>
     ensures { IfOk result (λ told. told ≡ verification root.now.0 query.now input.now) }
 {
-    match hex::decode(alloc, hex_text(input)) {
-        Ok(proof) => verify_bytes(alloc, root, query, proof.as_slice()),
-        Err(FromHexError::InvalidHexCharacter { index, .. }) => {
-            Ok(Verification::BadHex(HexFault::At(index)))
-        }
-        Err(FromHexError::OutOfMemory) => Err(Memory),
-        Err(_) => Ok(Verification::BadHex(HexFault::Odd)),
+    match decode_hex(alloc, input)? {
+        Ok(proof) => verify_bytes(alloc, root, query, proof.as_bytes()),
+        Err(fault) => Ok(Verification::BadHex(fault)),
     }
 }
 

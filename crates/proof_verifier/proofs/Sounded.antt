@@ -31,6 +31,10 @@ pub read_exact : (root : List ℕ) (query : Query) (bytes : List ℕ) (proof : P
 unfolding verdict_on
 read_exact root query bytes proof result read told = subst (λ (r : Result Proof ℕ). Answers answer_seen is_told result (judged root query r)) (sym read) told
 
+pub refused_exact : (root : List ℕ) (query : Query) (bytes : List ℕ) (proof : Proof) (fault : Reject) → proof_in bytes ≡ Ok proof → verdict root query proof ≡ Err fault → verdict_on root query bytes ≡ Err fault
+unfolding verdict_on
+refused_exact root query bytes proof fault is told = ap (judged root query) is ∙ told
+
 abbrev read : Proof → Result Proof ViewError
 read proof = Ok proof
 

@@ -1,6 +1,6 @@
 //! Checking proofs.
 
-ghost use Rattle.std.specs.Prelude.{◌≡◌, ◌<◌, ◌^◌, ℕ, List, IfOk, IsErrAnd, IsSomeAnd};
+ghost use Rattle.std.specs.Prelude.{◌≡◌, ◌<◌, ◌^◌, ℕ, List, Err, true, is_ok, IfOk, IfErr, IsErrAnd, IsSomeAnd};
 ghost use Rattle.lc_base.specs.Answers.{Answers};
 ghost use Rattle.lc_base.specs.declared.digest.Digest.{Digest as DigestValue};
 ghost use Rattle.lc_base.specs.declared.row.Row.{Row};
@@ -95,6 +95,23 @@ pub fn verify<'p>(root: &Digest, query: &Query, proof: &'p [u8]) -> Result<Found
 {
     match view(proof) {
         Ok(view) => judge(root, query, &view),
+        Err(error) => Err(fault_of_view(error)),
+    }
+}
+
+/// The proof that bytes are, where `verify` finds its answer; else the first check of it that fails.
+pub fn accept<'p>(root: &Digest, query: &Query, proof: &'p [u8]) -> Result<ProofView<'p>, Reject>
+    // What is accepted is the proof that the bytes are, and no check of it fails.
+    ensures spelled { IfOk result (λ given. Spells proof.now given) }
+    ensures passes { IfOk result (λ given. is_ok (verdict root.now.0 query.now given) ≡ true) }
+    // What is not accepted, `verify` refuses so.
+    ensures fails { IfErr result (λ fault. verdict_on root.now.0 query.now proof.now ≡ Err fault) }
+{
+    match view(proof) {
+        Ok(view) => match judge(root, query, &view) {
+            Ok(_found) => Ok(view),
+            Err(fault) => Err(fault),
+        },
         Err(error) => Err(fault_of_view(error)),
     }
 }

@@ -1,3 +1,4 @@
 pub mod Adding
 pub mod Looking
 pub mod FirstPlaces
+pub mod OneFirst
