@@ -17,7 +17,12 @@ WORDS = {
     "N": ("a number from 1 to 100000, in digits without a leading zero", DECIMAL),
     "SEED": ("a number from 0 to 4294967295, in digits without a leading zero", DECIMAL),
 }
-RANGES = {"BLOCK": (0, MAX_NUMBER), "ROOTBLOCK": (0, MAX_NUMBER), "N": (1, MAX_GENERATED_BLOCKS), "SEED": (0, MAX_NUMBER)}
+RANGES = {
+    "BLOCK": (0, MAX_NUMBER),
+    "ROOTBLOCK": (0, MAX_NUMBER),
+    "N": (1, MAX_GENERATED_BLOCKS),
+    "SEED": (0, MAX_NUMBER),
+}
 
 
 class Command:
@@ -62,6 +67,13 @@ COMMANDS = [
         "what KEY was at BLOCK, by the proof on standard input, which is in hex, for one who has\n"
         "ROOT; or which check of the proof fails",
         reads_whole=True,
+    ),
+    Command(
+        "expose ROOT KIND KEY BLOCK ROOTBLOCK",
+        "two texts with one digest, one of the proof on standard input, if `verify` accepts it, and\n"
+        "one of chain.log up to ROOTBLOCK; or that there are none",
+        reads_whole=True,
+        uses_log=True,
     ),
     Command(
         "fmt",

@@ -126,7 +126,7 @@ def beyond_sentence(words):
         return f"there is no log here: {os.getcwd()} has no {LOG_FILE}, which `append` makes"
     if command and command.uses_log and log_frames_end() == FIRST_GATE:
         return f"{LOG_FILE} has no block yet"
-    if words[0] == "prove" and int(words[3]) > int(words[4]):
+    if words[0] in ("prove", "expose") and int(words[-2]) > int(words[-1]):
         return "BLOCK is past ROOTBLOCK, and a root says nothing of later blocks"
     return "there is no such block: the chain ends before it"
 
@@ -289,11 +289,11 @@ def hex_sentence(printed):
 def input_sentence(program, words, start):
     """What is wrong with an input."""
     if start is None:
-        return {"fmt": BAD_CONTRACT, "verify": NO_HEX}.get(words[0], draft_faults.NO_DRAFT)
+        return {"fmt": BAD_CONTRACT, "verify": NO_HEX, "expose": NO_HEX}.get(words[0], draft_faults.NO_DRAFT)
     printed = printed_again(program, words, start)
     if printed == b"badinput long\n":
         return TOO_LONG
-    if words[0] == "verify":
+    if words[0] in ("verify", "expose"):
         return hex_sentence(printed)
     with open("/proc/self/fd/0", "rb") as file:
         file.seek(start)

@@ -40,6 +40,7 @@ with open(f"{TOP}/examples/raw-a.proof", "rb") as raw_a:
     RAW_A_PROOF = raw_a.read()
 RAW_A_ROOT = "41f6c6fc6bc756e479b796f7f09689670bee66ffad0189a20e5bf0574966869d"
 VERIFY = f"verify {RAW_A_ROOT} hist raw/a 0".encode()
+EXPOSE = f"expose {RAW_A_ROOT} hist raw/a 0 0".encode()
 with open(RECALL, "rb") as recall:
     RECALL_FILE = recall.read()
 RECALL_LOG = log_of(RECALL_FILE)
@@ -110,6 +111,8 @@ CASES = [
     # A proof, with digits of either case and with a line end or not.
     Case(VERIFY, RAW_A_PROOF, SET_ANSWER, 0),
     Case(VERIFY, RAW_A_PROOF.rstrip().upper(), SET_ANSWER, 0, log=b"hello"),
+    Case(EXPOSE, RAW_A_PROOF, "no clash\n", 0, log=SET_LOG),
+    Case(EXPOSE, RAW_A_PROOF.rstrip().upper(), "no clash\n", 0, log=SET_LOG, is_read_only=True),
     # 1: the words are no command: none, too few, one too many before or after those of a command.
     Case(b"", ONE_SET, "usage\n", 1),
     Case(b"scan hist raw/a", ONE_SET, "usage\n", 1),
@@ -125,6 +128,8 @@ CASES = [
     Case(VERIFY.replace(b"c6bc", b"C6bc"), RAW_A_PROOF, "usage\n", 1),
     Case(b"prove hist raw/a 0", None, "usage\n", 1, log=SET_LOG),
     Case(b"prove hist raw/a 0 00", None, "usage\n", 1, log=SET_LOG),
+    Case(EXPOSE[:-2], RAW_A_PROOF, "usage\n", 1, log=SET_LOG),
+    Case(EXPOSE + b"0", RAW_A_PROOF, "usage\n", 1, log=SET_LOG),
     # 2: reading fails, and nothing is printed.
     Case(SCAN, None, "", 2, streams="<&-"),
     Case(b"fmt", None, "", 2, streams="</"),
@@ -161,6 +166,8 @@ CASES = [
     Case(b"hist raw/a", None, "not a log\n", 6, log=b"hello"),
     Case(b"prove hist raw/a 0 0", None, "not a log\n", 6, log=b"hello"),
     Case(b"prove hist raw/a 0 0", None, "damaged at 8\n", 7, log=SET_LOG[:40]),
+    Case(EXPOSE, b"zz", "not a log\n", 6, log=b"hello"),
+    Case(EXPOSE, b"zz", "damaged at 8\n", 7, log=SET_LOG[:40]),
     Case(b"append", ONE_SET, "damaged at 8\n", 7, log=SET_LOG[:40]),
     Case(b"fwd raw/a 0", None, "damaged at 8\n", 7, log=SET_LOG[:40]),
     # 8: a frame is refused.
@@ -175,6 +182,9 @@ CASES = [
     Case(b"prove fwd raw/a 0 1", None, "beyond head 0\n", 9, log=SET_LOG),
     Case(b"prove fwd raw/a 1 0", None, "beyond head 0\n", 9, log=SET_LOG),
     Case(b"prove fwd raw/a 1 0", None, "beyond empty\n", 9),
+    Case(EXPOSE, b"zz", "beyond empty\n", 9),
+    Case(EXPOSE[:-1] + b"1", None, "beyond head 0\n", 9, streams="<&-", log=SET_LOG),
+    Case(EXPOSE[:-3] + b"1 0", None, "beyond head 0\n", 9, streams="<&-", log=SET_LOG),
     Case(SCAN, b"", "beyond empty\n", 9),
     Case(b"scan hist raw/a 1", ONE_SET, "beyond head 0\n", 9),
     # 10: a proof is not accepted.
@@ -187,6 +197,14 @@ CASES = [
     Case(
         VERIFY.replace(b"41f6", b"41f7"), RAW_A_PROOF, f"rejected root {RAW_A_ROOT}\n", 10
     ),
+    Case(EXPOSE, b"\n", "rejected malformed 0\n", 10, log=SET_LOG),
+    Case(
+        EXPOSE.replace(b"41f6", b"41f7"),
+        RAW_A_PROOF,
+        f"rejected root {RAW_A_ROOT}\n",
+        10,
+        log=SET_LOG,
+    ),
     # 11: the input is no contract, no draft or no hex, or too long.
     Case(b"fmt", b"fn f()", "badinput syntax 6 end\n", 11),
     Case(b"fmt", b"fn f() { a = 1; }", "badinput check 9 unknown\n", 11),
@@ -198,6 +216,8 @@ CASES = [
     Case(b"pack", b'[[{"set":{}}]]', "badinput draft 0 0\n", 11),
     Case(b"pack", MAX_SOURCE_BYTES + 1, "badinput long\n", 11),
     Case(VERIFY, b"abc", "badinput odd\n", 11),
+    Case(EXPOSE, b"abc", "badinput odd\n", 11, log=SET_LOG),
+    Case(EXPOSE, MAX_SOURCE_BYTES + 1, "badinput long\n", 11, log=SET_LOG),
     Case(VERIFY, b"zz", "badinput at 0\n", 11),
     Case(VERIFY, RAW_A_PROOF + b"\n", "badinput odd\n", 11),
     Case(VERIFY, MAX_SOURCE_BYTES, "badinput at 0\n", 11),

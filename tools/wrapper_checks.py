@@ -70,6 +70,12 @@ SAID = [
     (f"verify {'0' * 64} hist raw/a 0", RAW_A_PROOF, None, f"to another root, {RAW_A_ROOT}"),
     (f"verify {RAW_A_ROOT} hist raw/a 0", b"abc", None, "the number of digits is odd"),
     (f"verify {RAW_A_ROOT} hist raw/a 0", b"zz", None, "the byte at offset 0 of the input"),
+    (f"expose {RAW_A_ROOT} hist raw/a 0", b"", None, "`expose ROOT KIND KEY BLOCK ROOTBLOCK`"),
+    (f"expose {RAW_A_ROOT} hist raw/a 0 0", b"", None, f"has no {LOG}"),
+    (f"expose {RAW_A_ROOT} hist raw/a 0 1", b"", SET_LOG, "the chain ends before it"),
+    (f"expose {RAW_A_ROOT} hist raw/a 1 0", b"", SET_LOG, "BLOCK is past ROOTBLOCK"),
+    (f"expose {RAW_A_ROOT} hist raw/b 0 0", RAW_A_PROOF, SET_LOG, "of another question"),
+    (f"expose {RAW_A_ROOT} hist raw/a 0 0", b"abc", SET_LOG, "the number of digits is odd"),
     ("hist raw/a", b"", b"hello", "something else than a log"),
     ("hist raw/a", b"", SET_LOG[:40], "was changed or cut"),
 ]

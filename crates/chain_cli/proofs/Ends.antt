@@ -19,7 +19,7 @@ use Rattle.chain_lines.specs.declared.outcome.Ending.TheVariants as endings
 use Rattle.chain_lines.specs.declared.status.Status.{Status}
 use Rattle.chain_lines.specs.declared.status.Status.TheVariants as statuses
 use Rattle.chain_output.specs.Blocks.{draft_outcome}
-use Rattle.chain_output.specs.Output.{Output, output_of, fmt_outcome, source_outcome, IsFmt, Long, Source, uses_disk}
+use Rattle.chain_output.specs.Output.{Output, output_of, fmt_outcome, source_outcome, IsFmtOutput, Long, Source, uses_disk}
 use Rattle.chain_output.specs.Running.{MayEnd, found_no_log}
 use Rattle.chain_output.specs.Telling.{status_of_result, append_answer}
 use Rattle.chain_output.specs.declared.stop.RunStop.{RunStop}
@@ -35,11 +35,11 @@ source_ends : (outcome : SourceOutcome) → MayEnd (status_of (source_outcome ou
 source_ends (Ok functions) = functions_end functions (check_fault functions)
 source_ends (Err fault) = refl
 
-output_ends : (input : List ℕ) (output : Output) → IsFmt input output → MayEnd output.status (Some Fmt)
+output_ends : (input : List ℕ) (output : Output) → IsFmtOutput input output → MayEnd output.status (Some Fmt)
 output_ends input _ (Long long) = refl
 output_ends input _ (Source fits outcome is) = source_ends outcome
 
-pub fmt_ends : (source : List ℕ) (outcome : Outcome) → IsFmt source (output_of outcome []) → MayEnd (status_of outcome.ending) (Some Fmt)
+pub fmt_ends : (source : List ℕ) (outcome : Outcome) → IsFmtOutput source (output_of outcome []) → MayEnd (status_of outcome.ending) (Some Fmt)
 fmt_ends source outcome is = output_ends source (output_of outcome []) is
 
 draft_ends : (found : Result (List (List ℕ)) PackError) → MayEnd (status_of (draft_outcome found).ending) (Some Pack)

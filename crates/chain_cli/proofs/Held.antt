@@ -13,7 +13,7 @@ use Rattle.chain_promises.specs.Promises.{Line, plain}
 use Rattle.chain_lines.specs.Lines.{answer_lines}
 use Rattle.chain_lines.specs.Outcome.{status_of}
 use Rattle.chain_lines.specs.declared.status.Status.TheVariants as statuses
-use Rattle.chain_output.specs.Output.{Output, IsVerify, LongProof, Verified}
+use Rattle.chain_output.specs.Output.{Output, IsVerifyOutput, LongProof, Verified}
 use Rattle.chain_output.specs.Proofs.{verification_outcome}
 use Rattle.chain_output.specs.Showing.{IsProofInHex, TellsReplays, VerifiedAnswersHold}
 

@@ -28,10 +28,12 @@ use Rattle.chain_exec.proofs.TheLaws.{one_compiler}
 use Rattle.chain_state.specs.Judging.{Taken, judged, added_by}
 use Rattle.chain_state.specs.declared.refusal.Refusal.{Refusal}
 use Rattle.scan_chain.specs.Folding.{Fold, taken_before, fold_after_frame, fold_step, fold_from, fold_input}
-use Rattle.chain_output.specs.Output.{Output, output_of, scan_output, usage_output, long_output, pack_output, gen_output, append_output, root_output, ask_output, prove_output, on_log, next_by, source_outcome, IsFmt, Long, Source, IsVerify, LongProof, Verified, Wants, IsWanted, IsOneOutput}
+use Rattle.chain_output.specs.Output.{Output, output_of, scan_output, usage_output, long_output, pack_output, gen_output, append_output, root_output, ask_output, prove_output, on_log, next_by, source_outcome, IsFmtOutput, Long, Source, IsVerifyOutput, LongProof, Verified, IsExposeOutput, IsOnLog, Wants, IsWanted, IsOneOutput}
 use Rattle.chain_output.specs.Proofs.{verification_outcome}
+use Rattle.chain_output.proofs.Exposed.{some_expose, one_expose}
+use Rattle.chain_output.proofs.Meets.{some_on_log, one_on_log}
 use Rattle.chain_words.specs.declared.words.Command.{Command}
-use Rattle.chain_words.specs.declared.words.Command.TheVariants.{Scan, Fmt, Pack, Gen, Append, Root, Ask, Prove, Verify}
+use Rattle.chain_words.specs.declared.words.Command.TheVariants.{Scan, Fmt, Pack, Gen, Append, Root, Ask, Prove, Verify, Expose}
 
 -- ---- the bytes of a frame
 
@@ -137,14 +139,14 @@ module _ (place : Placer) (a b : Decoder) (is_a : IsDecoder a) (is_b : IsDecoder
 
 -- ---- an output that is wanted
 
-some_fmt : (input : List ℕ) → (output : Output) × IsFmt input output
+some_fmt : (input : List ℕ) → (output : Output) × IsFmtOutput input output
 some_fmt input =
     elim (cases_lt MAX_WHOLE_INPUT_BYTES (length input)) [
       | inl long ↦ (long_output input, Long long)
       | inr fits ↦ let found = some_outcome input in (output_of (source_outcome found.0) [], Source fits found.0 found.1)
     ]
 
-some_verify : (root : List ℕ) (query : Query) (input : List ℕ) → (output : Output) × IsVerify root query input output
+some_verify : (root : List ℕ) (query : Query) (input : List ℕ) → (output : Output) × IsVerifyOutput root query input output
 some_verify root query input =
     elim (cases_lt MAX_WHOLE_INPUT_BYTES (length input)) [
       | inl long ↦ (long_output input, LongProof long)
@@ -163,6 +165,10 @@ some_output (Some (Root at)) input content = (on_log (root_output compiled_in at
 some_output (Some (Ask kind key at)) input content = (on_log (ask_output compiled_in kind key at input) input (standing (next_by block_in compiled_in) content), refl)
 some_output (Some (Prove query root_at)) input content = (on_log (prove_output compiled_in query root_at input) input (standing (next_by block_in compiled_in) content), refl)
 some_output (Some (Verify root query)) input content = some_verify root.0 query input
+some_output (Some (Expose root query root_at)) input content =
+    let over : List Block → Output = λ blocks. (some_expose root.0 query input compiled_in root_at blocks).0 in
+    let stands : Standing = standing (next_by block_in compiled_in) content in
+    (on_log over input stands, some_on_log (IsExposeOutput compiled_in root.0 query root_at input) over (λ blocks. (some_expose root.0 query input compiled_in root_at blocks).1) input stands)
 
 -- ---- and no other
 
@@ -172,15 +178,15 @@ on_log_same over other input same NotALog = refl
 on_log_same over other input same (Damaged before at) = refl
 on_log_same over other input same (Holds stored gate) = same (blocks_in stored)
 
-only_long : (input : List ℕ) → MAX_WHOLE_INPUT_BYTES < length input → (other : Output) → IsFmt input other → other ≡ long_output input
+only_long : (input : List ℕ) → MAX_WHOLE_INPUT_BYTES < length input → (other : Output) → IsFmtOutput input other → other ≡ long_output input
 only_long input long _ (Long _) = refl
 only_long input long _ (Source fits outcome is) = absurd (omega (arith, long, fits))
 
-only_source : (input : List ℕ) (outcome : SourceOutcome) → length input ≤ MAX_WHOLE_INPUT_BYTES → IsOutcome input outcome → (other : Output) → IsFmt input other → other ≡ output_of (source_outcome outcome) []
+only_source : (input : List ℕ) (outcome : SourceOutcome) → length input ≤ MAX_WHOLE_INPUT_BYTES → IsOutcome input outcome → (other : Output) → IsFmtOutput input other → other ≡ output_of (source_outcome outcome) []
 only_source input outcome fits is _ (Long long) = absurd (omega (arith, long, fits))
 only_source input outcome fits is _ (Source _ found i) = ap (λ (o : SourceOutcome). output_of (source_outcome o) []) (one_outcome input found outcome i is)
 
-only_fmt : (input : List ℕ) (other : Output) → IsFmt input other → other ≡ (some_fmt input).0
+only_fmt : (input : List ℕ) (other : Output) → IsFmtOutput input other → other ≡ (some_fmt input).0
 only_fmt input other is =
     elim (cases_lt MAX_WHOLE_INPUT_BYTES (length input)) [
       | inl long ↦ only_long input long other is ∙ sym (only_long input long (some_fmt input).0 (some_fmt input).1)
@@ -189,7 +195,7 @@ only_fmt input other is =
           only_source input found.0 fits found.1 other is ∙ sym (only_source input found.0 fits found.1 (some_fmt input).0 (some_fmt input).1)
     ]
 
-only_verify : (root : List ℕ) (query : Query) (input : List ℕ) (a b : Output) → IsVerify root query input a → IsVerify root query input b → a ≡ b
+only_verify : (root : List ℕ) (query : Query) (input : List ℕ) (a b : Output) → IsVerifyOutput root query input a → IsVerifyOutput root query input b → a ≡ b
 only_verify root query input _ _ (LongProof _) (LongProof _) = refl
 only_verify root query input _ _ (LongProof long) (Verified fits told is) = absurd (omega (arith, long, fits))
 only_verify root query input _ _ (Verified fits told is) (LongProof long) = absurd (omega (arith, long, fits))
@@ -221,6 +227,13 @@ same_output read compile is_read compile_is (Some (Prove query root_at)) input c
     is ∙ ap (λ (c : Compiler). on_log (prove_output c query root_at input) input (standing (next_by read c) content)) compile_is
     ∙ ap (on_log (prove_output compiled_in query root_at input) input) (standing_same (placement_in compiled_in) read block_in is_read decided content whole)
 same_output read compile is_read compile_is (Some (Verify root query)) input content fits whole other is = only_verify root.0 query input other (some_verify root.0 query input).0 is (some_verify root.0 query input).1
+same_output read compile is_read compile_is (Some (Expose root query root_at)) input content fits whole other is =
+    let some = some_output (Some (Expose root query root_at)) input content in
+    let compiled : IsOnLog (IsExposeOutput compiled_in root.0 query root_at input) input (standing (next_by read compiled_in) content) other =
+    subst (λ (c : Compiler). IsOnLog (IsExposeOutput c root.0 query root_at input) input (standing (next_by read c) content) other) compile_is is in
+    let here : IsOnLog (IsExposeOutput compiled_in root.0 query root_at input) input (standing (next_by block_in compiled_in) content) other =
+    subst (λ (stands : Standing). IsOnLog (IsExposeOutput compiled_in root.0 query root_at input) input stands other) (standing_same (placement_in compiled_in) read block_in is_read decided content whole) compiled in
+    one_on_log (IsExposeOutput compiled_in root.0 query root_at input) (one_expose root.0 query input compiled_in root_at) input (standing (next_by block_in compiled_in) content) other some.0 here some.1
 
 pub one_output : (command : Option Command) (input content : List ℕ) → IsBytes input → IsBytes content → IsOneOutput (IsWanted command input content)
 one_output command input content fits whole = record {

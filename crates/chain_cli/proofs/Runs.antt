@@ -17,7 +17,6 @@ use Rattle.chain_exec.specs.Compiled.{compiled_in}
 use Rattle.chain_state.specs.Judging.{added_by_all}
 use Rattle.scan_chain.specs.Folding.{Fold, FoldEnd, fold_from, fold_input}
 use Rattle.scan_chain.specs.declared.stop.Stop.{Stop}
-use Rattle.scan_chain.specs.declared.stop.Stop.TheVariants as reads
 use Rattle.recovery.specs.Node.{NodeState, IsNodeOf, IsNodeStarted, IsNoStart, next_in_chain}
 use Rattle.recovery.specs.declared.errors.StartError.{StartError}
 use Rattle.chain_promises.specs.Promises.{plain, NoChange, Appends, Telling, IsPartly, MayLeave, IsChanged}
@@ -36,19 +35,16 @@ use Rattle.chain_lines.specs.declared.outcome.Ending.{Ending}
 use Rattle.chain_lines.specs.declared.outcome.Ending.TheVariants as endings
 use Rattle.chain_lines.specs.declared.status.Status.{Status}
 use Rattle.chain_output.specs.Blocks.{frame}
-use Rattle.chain_output.specs.Output.{Output, output_of, usage_output, scan_output, pack_output, gen_output, append_output, on_log, fold_ending, IsFmt, Long, Source, IsVerify, LongProof, Verified}
+use Rattle.chain_output.specs.Output.{Output, output_of, usage_output, scan_output, pack_output, gen_output, append_output, on_log, fold_ending, IsFmtOutput, Long, Source, IsVerifyOutput, LongProof, Verified}
 use Rattle.chain_output.specs.Running.{came_to_end, leaves, appends_none, Meets, IsGiven, IsRun}
 use Rattle.chain_output.specs.Scanning.{GivesOutput, IsFmtOutcome, IsVerifyOutcome}
 use Rattle.chain_output.specs.Telling.{status_of_result, status_of_usage, append_stop, append_answer, TellsResult, TellsStart}
 use Rattle.chain_output.specs.declared.stop.RunStop.{RunStop}
 use Rattle.chain_output.specs.declared.stop.RunStop.TheVariants as stops
 use Rattle.chain_cli.proofs.OneOutput.{some_output}
-use Rattle.chain_output.proofs.Meets.{ending_ends, stop_stops, told_input, left_same, rests_given, same_may_leave, on_log_blocks, content_stays, quiet_images, said_met, silent_met, start_met}
+use Rattle.chain_output.proofs.Meets.{ending_ends, stop_stops, told_input, left_same, left_read, rests_given, on_log_blocks, content_stays, quiet_images, said_met, reading_since, start_met}
 
 -- ---- what is given
-
-left_read : (left : Option (List ℕ)) (input rest : List ℕ) → left ≡ Some input → Some rest ≡ leaves left rest
-left_read left input rest is = sym (ap (λ (o : Option (List ℕ)). leaves o rest) is)
 
 told_disk : (state : Option DiskState) (content : List ℕ) → IsGiven true (content_of state) content → IsTold state
 told_disk None content given = absurd given
@@ -72,11 +68,11 @@ append_may_leave content input NotALog is c same = same
 append_may_leave content input (Damaged before at) is c same = same
 append_may_leave content input (Holds stored gate) is c same = log_may_leave content (blocks_in stored) (added_by_all (fold_from block_in compiled_in (MAX_FRAMES + 1) (blocks_in stored) input).taken) c (ap blocks_of is) same
 
-fmt_no_change : (input : List ℕ) (output : Output) → IsFmt input output → output.change ≡ NoChange
+fmt_no_change : (input : List ℕ) (output : Output) → IsFmtOutput input output → output.change ≡ NoChange
 fmt_no_change input _ (Long long) = refl
 fmt_no_change input _ (Source fits outcome is) = refl
 
-verify_no_change : (root : List ℕ) (query : Query) (input : List ℕ) (output : Output) → IsVerify root query input output → output.change ≡ NoChange
+verify_no_change : (root : List ℕ) (query : Query) (input : List ℕ) (output : Output) → IsVerifyOutput root query input output → output.change ≡ NoChange
 verify_no_change root query input _ (LongProof long) = refl
 verify_no_change root query input _ (Verified fits told is) = refl
 
@@ -125,21 +121,8 @@ module _ {D : Type 0} (now : D → ℕ) (disk : D → ℕ → Option DiskState) 
       → Rests (disk old (now old)) (λ c. c ≡ content) → Stays now disk old new → left_old ≡ Some input → TellsResult next_in_chain now disk told old new found result
       → IfOk found (λ outcome. (rest : List ℕ) × (left_new ≡ Some rest) × Wanted (output_of outcome rest))
       → (output : Output) × Wanted output × Meets next_in_chain now disk told old new (status_of_result result) left_old left_new content output
-  reading_met old new Wanted some wanted none (Ok outcome) result left_old left_new input content rests stays left_is says (rest, left, is) = (
-    output_of outcome rest,
-    is,
-    said_met now disk told old new content outcome result left_old left_new rest rests stays says (left ∙ left_read left_old input rest left_is),
-  )
-  reading_met old new Wanted some wanted none (Err reads.Fault) result left_old left_new input content rests stays left_is says is = (
-    some,
-    wanted,
-    silent_met now disk told old new content some stops.Unreadable result left_old left_new (quiet_images now disk told old new content some.change rests stays (λ c same. same_may_leave content some.change c none same)) says,
-  )
-  reading_met old new Wanted some wanted none (Err reads.Memory) result left_old left_new input content rests stays left_is says is = (
-    some,
-    wanted,
-    silent_met now disk told old new content some stops.Memory result left_old left_new (quiet_images now disk told old new content some.change rests stays (λ c same. same_may_leave content some.change c none same)) says,
-  )
+  reading_met old new Wanted some wanted none found result left_old left_new input content rests stays left_is says is =
+      reading_since now disk told old old new Wanted some wanted none found result left_old left_new input content rests stays refl left_is says is
 
   gives : (found : Result Outcome Stop) (left_new : Option (List ℕ)) (wanted : Output) → IfOk found (λ outcome. GivesOutput outcome left_new wanted) → IfOk found (λ outcome. (rest : List ℕ) × (left_new ≡ Some rest) × (output_of outcome rest ≡ wanted))
   gives (Ok outcome) left_new wanted (is, left) = (wanted.left, left, sym is)
@@ -170,7 +153,7 @@ module _ {D : Type 0} (now : D → ℕ) (disk : D → ℕ → Option DiskState) 
   fmt_run old new found result left_old left_new settled stays says is input content given_input given =
       let left_is = told_input left_old input given_input in
       let some = some_output (Some Fmt) input content in
-      reading_met old new (IsFmt input) some.0 some.1 (fmt_no_change input some.0 some.1) found result left_old left_new input content (rests_given false (disk old (now old)) content settled given) stays left_is says
+      reading_met old new (IsFmtOutput input) some.0 some.1 (fmt_no_change input some.0 some.1) found result left_old left_new input content (rests_given false (disk old (now old)) content settled given) stays left_is says
       (given_here (λ input. IfOk found (λ outcome. IsFmtOutcome outcome left_new input)) left_old input left_is is)
 
   pub verify_run : (old new : D) (root : Digest) (query : Query) (found : Result Outcome Stop) (result : Result Ending RunStop) (left_old left_new : Option (List ℕ)) → IsSettled (disk old (now old)) → Stays now disk old new → TellsResult next_in_chain now disk told old new found result
@@ -178,7 +161,7 @@ module _ {D : Type 0} (now : D → ℕ) (disk : D → ℕ → Option DiskState) 
   verify_run old new root query found result left_old left_new settled stays says is input content given_input given =
       let left_is = told_input left_old input given_input in
       let some = some_output (Some (Verify root query)) input content in
-      reading_met old new (IsVerify root.0 query input) some.0 some.1 (verify_no_change root.0 query input some.0 some.1) found result left_old left_new input content (rests_given false (disk old (now old)) content settled given) stays left_is says
+      reading_met old new (IsVerifyOutput root.0 query input) some.0 some.1 (verify_no_change root.0 query input some.0 some.1) found result left_old left_new input content (rests_given false (disk old (now old)) content settled given) stays left_is says
       (given_here (λ input. IfOk found (λ outcome. IsVerifyOutcome root.0 query outcome left_new input)) left_old input left_is is)
 
   -- ---- `append`

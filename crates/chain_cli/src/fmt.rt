@@ -8,7 +8,7 @@ ghost use Rattle.chain_lines.specs.declared.whole.TheConstants.{MAX_WHOLE_INPUT_
 ghost use Rattle.chain_lines.specs.Lines.{syntax_word, syntax_cause, check_word, check_cause};
 ghost use Rattle.chain_lines.specs.Outcome.{status_of, bad_input};
 ghost use Rattle.chain_words.specs.declared.words.Command.TheVariants.{Fmt};
-ghost use Rattle.chain_output.specs.Output.{fmt_outcome, IsFmt, output_of};
+ghost use Rattle.chain_output.specs.Output.{fmt_outcome, IsFmtOutput, output_of};
 ghost use Rattle.chain_output.specs.Running.{MayEnd};
 ghost use Rattle.chain_output.specs.Scanning.{IsFmtOutcome};
 ghost use Rattle.chain_output.specs.Texts.{last_line, lines_after, lines_of};
@@ -125,7 +125,7 @@ fn contract_outcome(alloc: Global, contract: Contract) -> Result<Outcome, Memory
 /// What is told of a source that was read whole.
 fn source_outcome(alloc: Global, source: &[u8]) -> Result<Outcome, Memory>
     requires { length source.now ≤ MAX_WHOLE_INPUT_BYTES }
-    ensures { IfOk result (λ outcome. IsFmt source.now (output_of outcome [])) }
+    ensures { IfOk result (λ outcome. IsFmtOutput source.now (output_of outcome [])) }
 {
     match parse(alloc, source) {
         Ok(contract) => {

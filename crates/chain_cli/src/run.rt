@@ -15,7 +15,7 @@ ghost use Rattle.chain_promises.specs.Promises.{MayLeaveAny};
 ghost use Rattle.chain_words.specs.Words.{IsCommand, IsOneCommand};
 ghost use Rattle.chain_output.specs.Output.{FormatsAgain, IsWanted, IsOneOutput, next_by, reads_input, uses_disk, changes_log, tells_as_it_goes};
 ghost use Rattle.chain_output.specs.Running.{IsRun, IsSilent, MayEnd, found_no_log};
-ghost use Rattle.chain_output.specs.Showing.{VerifiedAnswersHold};
+ghost use Rattle.chain_output.specs.Showing.{VerifiedAnswersHold, WrongAnswersAreTold};
 ghost use Rattle.chain_output.specs.Telling.{status_of_result};
 
 use crate::fmt::fmt;
@@ -25,7 +25,7 @@ use crate::packing::pack;
 use crate::scan::scan;
 use chain_lines::{Ending, Status};
 use chain_output::{RunStop, tell_result, tell_usage};
-use chain_proofs::{prove, verify};
+use chain_proofs::{expose, prove, verify};
 use chain_words::{Command, command_of};
 use disk_model::Disk;
 use lc_outside::{Source, Wire};
@@ -62,6 +62,11 @@ fn run_command<I: Source, M: Disk + Wire>(
         Command::Ask { kind, key, at } => ask(alloc, *kind, *key, *at, machine),
         Command::Prove { query, root_at } => prove(alloc, query, *root_at, machine),
         Command::Verify { root, query } => tell_result(machine, verify(alloc, root, query, source)),
+        Command::Expose {
+            root,
+            query,
+            root_at,
+        } => expose(alloc, root, query, *root_at, source, machine),
     }
 }
 
@@ -100,7 +105,7 @@ fn run_words<I: Source, M: Disk + Wire>(
 
 /// Everything that the program does: it reads the words, the input and the disk, tells the lines, and
 /// appends to the log.
-#[tactic(auto, using(crate::proofs::OneOutput::one_output, crate::proofs::Formatted::formats_again, crate::proofs::Held::verified_holds, block_codec::proofs::WholeBlocks::decided, chain_exec::proofs::TheLaws::one_compiler))]
+#[tactic(auto, using(crate::proofs::OneOutput::one_output, crate::proofs::Formatted::formats_again, crate::proofs::Held::verified_holds, chain_output::proofs::WrongTold::wrong_answers_are_told, block_codec::proofs::WholeBlocks::decided, chain_exec::proofs::TheLaws::one_compiler))]
 pub fn run<I: Source, M: Disk + Wire>(
     alloc: Global,
     words: &[String],
@@ -124,6 +129,9 @@ pub fn run<I: Source, M: Disk + Wire>(
     // The answer that `verify` tells is that of replaying any chain with the root, up to the block where it
     // has it; or a text of the proof and one of that chain's ledger differ and have one digest.
     ensures verified { (root : List ℕ) (query : Query) (input : List ℕ) → VerifiedAnswersHold root query input }
+    // Of a proof that is accepted with another answer than that of a chain with the root, `expose` tells a
+    // text of the proof and one of that chain's ledger that differ and have one digest.
+    ensures exposed { (root : List ℕ) (query : Query) (root_at : ℕ) (input : List ℕ) → WrongAnswersAreTold root query root_at input }
     // Whatever the source has left, where the disk is told: a crash at any moment leaves what it held, or
     // the chain of that with further blocks.
     ensures goes_on { (read : Decoder) × IsDecoder read × ((compile : Compiler) × IsCompiler compile

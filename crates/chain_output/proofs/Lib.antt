@@ -1,3 +1,5 @@
 pub mod Plain
 pub mod Ends
 pub mod Meets
+pub mod Exposed
+pub mod WrongTold

@@ -6,6 +6,8 @@ use Rattle.lc_outside.specs.Outside.{Tell}
 use Rattle.disk_model.specs.Disk.{IsSettled, Keeps, Rests, content_of}
 use Rattle.disk_model.proofs.Moments.{weaker, stays_on}
 use Rattle.block_codec.specs.declared.block.Block.{Block}
+use Rattle.scan_chain.specs.declared.stop.Stop.{Stop}
+use Rattle.scan_chain.specs.declared.stop.Stop.TheVariants as reads
 use Rattle.block_log.specs.Standing.{Standing, Blank, NotALog, Damaged, Holds, NextBlock, blocks_of, blocks_in, standing}
 use Rattle.chain_state.specs.Chain.{ChainState, StandsFor}
 use Rattle.recovery.specs.Node.{NodeState, IsNodeStarted, IsChainStored, IsNoStart, next_in_chain}
@@ -20,9 +22,9 @@ use Rattle.chain_lines.specs.declared.outcome.Outcome.{Outcome}
 use Rattle.chain_lines.specs.declared.outcome.Ending.{Ending}
 use Rattle.chain_lines.specs.declared.outcome.Ending.TheVariants as endings
 use Rattle.chain_lines.specs.declared.status.Status.{Status}
-use Rattle.chain_output.specs.Output.{Output, output_of, on_log}
+use Rattle.chain_output.specs.Output.{Output, output_of, on_log, IsOnLog}
 use Rattle.chain_output.specs.Running.{came_to_end, leaves, Meets, IsGiven}
-use Rattle.chain_output.specs.Telling.{status_of_stop, status_of_result, Says, StopsSilent, TellsStart}
+use Rattle.chain_output.specs.Telling.{status_of_stop, status_of_result, Says, StopsSilent, TellsResult, TellsStart}
 use Rattle.chain_output.specs.declared.stop.RunStop.{RunStop}
 use Rattle.chain_output.specs.declared.stop.RunStop.TheVariants as stops
 
@@ -53,6 +55,9 @@ pub left_same : (left : Option (List ℕ)) (input : List ℕ) → IsGiven false 
 left_same None input given = refl
 left_same (Some bytes) input given = ap Some given
 
+pub left_read : (left : Option (List ℕ)) (input rest : List ℕ) → left ≡ Some input → Some rest ≡ leaves left rest
+left_read left input rest is = sym (ap (λ (o : Option (List ℕ)). leaves o rest) is)
+
 pub rests_given : (uses : Bool) (state : Option DiskState) (content : List ℕ) → IsSettled state → IsGiven uses (content_of state) content → Rests state (λ c. c ≡ content)
 rests_given uses None content rests given = tt
 rests_given true (Some s) content rests given = (rests, given)
@@ -79,6 +84,32 @@ on_log_blocks over input Blank blocks is = let same : [] ≡ blocks = cc is in a
 on_log_blocks over input NotALog blocks is = absurd (cc is)
 on_log_blocks over input (Damaged before at) blocks is = absurd (cc is)
 on_log_blocks over input (Holds stored gate) blocks is = let same : blocks_in stored ≡ blocks = cc is in ap over same
+
+pub is_on_log_blocks : (Over : List Block → Output → Type 0) (input : List ℕ) (stands : Standing) (blocks : List Block) (output : Output) → blocks_of stands ≡ Some blocks → Over blocks output → IsOnLog Over input stands output
+is_on_log_blocks Over input Blank blocks output is over = let same : [] ≡ blocks = cc is in subst (λ (b : List Block). Over b output) (sym same) over
+is_on_log_blocks Over input NotALog blocks output is over = absurd (cc is)
+is_on_log_blocks Over input (Damaged before at) blocks output is over = absurd (cc is)
+is_on_log_blocks Over input (Holds stored gate) blocks output is over = let same : blocks_in stored ≡ blocks = cc is in subst (λ (b : List Block). Over b output) (sym same) over
+
+-- where an output of any blocks is wanted, one of any log is
+pub some_on_log : (Over : List Block → Output → Type 0) (over : List Block → Output) → ((blocks : List Block) → Over blocks (over blocks)) → (input : List ℕ) (stands : Standing) → IsOnLog Over input stands (on_log over input stands)
+some_on_log Over over wanted input Blank = wanted []
+some_on_log Over over wanted input NotALog = refl
+some_on_log Over over wanted input (Damaged before at) = refl
+some_on_log Over over wanted input (Holds stored gate) = wanted (blocks_in stored)
+
+-- and where one alone is, one alone of any log is
+pub one_on_log : (Over : List Block → Output → Type 0) → ((blocks : List Block) (a b : Output) → Over blocks a → Over blocks b → a ≡ b) → (input : List ℕ) (stands : Standing) (a b : Output) → IsOnLog Over input stands a → IsOnLog Over input stands b → a ≡ b
+one_on_log Over one input Blank a b is_a is_b = one [] a b is_a is_b
+one_on_log Over one input NotALog a b is_a is_b = is_a ∙ sym is_b
+one_on_log Over one input (Damaged before at) a b is_a is_b = is_a ∙ sym is_b
+one_on_log Over one input (Holds stored gate) a b is_a is_b = one (blocks_in stored) a b is_a is_b
+
+pub on_log_no_change : (over : List Block → Output) → ((blocks : List Block) → (over blocks).change ≡ NoChange) → (input : List ℕ) (stands : Standing) → (on_log over input stands).change ≡ NoChange
+on_log_no_change over none input Blank = none []
+on_log_no_change over none input NotALog = refl
+on_log_no_change over none input (Damaged before at) = refl
+on_log_no_change over none input (Holds stored gate) = none (blocks_in stored)
 
 -- an outcome that is so for blocks that are so, for these blocks
 pub of_blocks : {E : Type 0} (found : Result Outcome E) (P : List Block → Type 0) (answer : List Block → Outcome) → IfOk found (λ outcome. (blocks : List Block) → P blocks → outcome ≡ answer blocks) → (blocks : List Block) → P blocks → IfOk found (λ outcome. outcome ≡ answer blocks)
@@ -139,6 +170,28 @@ module _ {D : Type 0} (now : D → ℕ) (disk : D → ℕ → Option DiskState) 
 
   pub says_since : (old mid new : D) (outcome : Outcome) (result : Result Ending RunStop) → told mid ≡ told old → Says next_in_chain now disk told mid new outcome result → Says next_in_chain now disk told old new outcome result
   says_since old mid new outcome result same says = record { lines = told_since next_in_chain now disk told old mid new (map plain outcome.pieces) (is_ok result) same says.lines; ending = says.ending }
+
+  -- ---- commands that read an input
+
+  pub reading_since : (old mid new : D) (Wanted : Output → Type 0) (some : Output) → Wanted some → some.change ≡ NoChange → (found : Result Outcome Stop) (result : Result Ending RunStop) (left_old left_new : Option (List ℕ)) (input content : List ℕ)
+      → Rests (disk old (now old)) (λ c. c ≡ content) → Stays now disk old new → told mid ≡ told old → left_old ≡ Some input → TellsResult next_in_chain now disk told mid new found result
+      → IfOk found (λ outcome. (rest : List ℕ) × (left_new ≡ Some rest) × Wanted (output_of outcome rest))
+      → (output : Output) × Wanted output × Meets next_in_chain now disk told old new (status_of_result result) left_old left_new content output
+  reading_since old mid new Wanted some wanted none (Ok outcome) result left_old left_new input content rests stays same left_is says (rest, left, is) = (
+    output_of outcome rest,
+    is,
+    said_met old new content outcome result left_old left_new rest rests stays (says_since old mid new outcome result same says) (left ∙ left_read left_old input rest left_is),
+  )
+  reading_since old mid new Wanted some wanted none (Err reads.Fault) result left_old left_new input content rests stays same left_is says is = (
+    some,
+    wanted,
+    silent_met old new content some stops.Unreadable result left_old left_new (quiet_images old new content some.change rests stays (λ c at. same_may_leave content some.change c none at)) (record { stop_is = says.stop_is; silent = says.silent ∙ same }),
+  )
+  reading_since old mid new Wanted some wanted none (Err reads.Memory) result left_old left_new input content rests stays same left_is says is = (
+    some,
+    wanted,
+    silent_met old new content some stops.Memory result left_old left_new (quiet_images old new content some.change rests stays (λ c at. same_may_leave content some.change c none at)) (record { stop_is = says.stop_is; silent = says.silent ∙ same }),
+  )
 
   -- ---- disks that hold no chain
 

@@ -27,11 +27,14 @@ use Rattle.chain_pack.specs.Draft.{packed}
 use Rattle.chain_gen.specs.Generator.{generated}
 use Rattle.proof_codec.specs.declared.proof.Proof.{Proof}
 use Rattle.proof_checks.specs.Making.{made_proof}
+use Rattle.proof_checks.specs.ProofTexts.{proof_texts}
+use Rattle.replay_soundness.specs.Soundness.{replayed_texts}
+use Rattle.text_clashes.specs.FirstClash.{IsFirstClash}
 use Rattle.proof_commands.specs.Verifying.{IsVerification}
 use Rattle.proof_commands.specs.declared.verification.Verification.{Verification}
 use Rattle.chain_words.specs.declared.words.Generation.{Generation}
 use Rattle.chain_words.specs.declared.words.Command.{Command}
-use Rattle.chain_words.specs.declared.words.Command.TheVariants.{Scan, Fmt, Pack, Gen, Append, Root, Ask, Prove, Verify}
+use Rattle.chain_words.specs.declared.words.Command.TheVariants.{Scan, Fmt, Pack, Gen, Append, Root, Ask, Prove, Verify, Expose}
 use Rattle.chain_lines.specs.Lines.{usage_line, empty_line, head_line, root_line, refused_line, answer_lines, syntax_cause, check_cause, not_a_log_line, damaged_line}
 use Rattle.chain_lines.specs.Outcome.{status_of, outcome_with, bad_input}
 use Rattle.chain_lines.specs.declared.whole.TheConstants.{MAX_WHOLE_INPUT_BYTES}
@@ -42,7 +45,7 @@ use Rattle.chain_lines.specs.declared.status.Status.{Status}
 use Rattle.chain_lines.specs.declared.status.Status.TheVariants as statuses
 use Rattle.chain_output.specs.Texts.{lines_of}
 use Rattle.chain_output.specs.Blocks.{frame, draft_outcome}
-use Rattle.chain_output.specs.Proofs.{proof_line, verification_outcome}
+use Rattle.chain_output.specs.Proofs.{proof_line, verification_outcome, is_accepted, IsAcceptedHex, clash_outcome}
 
 -- ---- outputs
 
@@ -119,24 +122,24 @@ source_outcome (Ok functions) = fmt_outcome functions (check_fault functions)
 source_outcome (Err fault) = bad_input (syntax_cause fault.0 fault.1)
 
 -- What `fmt` tells of an input: what is told of the source that it is, or that it is too long.
-pub data IsFmt (input : List ℕ) : Output → Type 0 where
-  Long : MAX_WHOLE_INPUT_BYTES < length input → IsFmt input (long_output input)
+pub data IsFmtOutput (input : List ℕ) : Output → Type 0 where
+  Long : MAX_WHOLE_INPUT_BYTES < length input → IsFmtOutput input (long_output input)
   Source : FitsInput input → (outcome : SourceOutcome) → IsOutcome input outcome →
-      IsFmt input (output_of (source_outcome outcome) [])
+      IsFmtOutput input (output_of (source_outcome outcome) [])
 
 -- What `fmt` tells of an input without a fault, it tells of what it told, where that is short
 -- enough to be read whole.
 abbrev pub FormatsAgain : List ℕ → Type 0
 FormatsAgain input =
-    (output : Output) → IsFmt input output → output.status ≡ statuses.Done → FitsInput (told_bytes output) →
-    IsFmt (told_bytes output) output
+    (output : Output) → IsFmtOutput input output → output.status ≡ statuses.Done → FitsInput (told_bytes output) →
+    IsFmtOutput (told_bytes output) output
 
 -- What `verify` tells of an input to one who has the root: what is told of what is answered of it as a
 -- proof in hex, or that it is too long.
-pub data IsVerify (root : List ℕ) (query : Query) (input : List ℕ) : Output → Type 0 where
-  LongProof : MAX_WHOLE_INPUT_BYTES < length input → IsVerify root query input (long_output input)
+pub data IsVerifyOutput (root : List ℕ) (query : Query) (input : List ℕ) : Output → Type 0 where
+  LongProof : MAX_WHOLE_INPUT_BYTES < length input → IsVerifyOutput root query input (long_output input)
   Verified : FitsInput input → (told : Verification) → IsVerification root query input told →
-      IsVerify root query input (output_of (verification_outcome told) [])
+      IsVerifyOutput root query input (output_of (verification_outcome told) [])
 
 -- What `pack` tells of an input: what is told of the draft that it is, or that it is too long.
 abbrev pub pack_output : List ℕ → Output
@@ -157,13 +160,28 @@ gen_output generation input =
 abbrev pub next_by : Decoder → Compiler → NextBlock
 next_by read compile = next_block read (placement_in compile)
 
+-- What is told where the bytes on the disk are something else than a log. The input stays as it is.
+abbrev pub not_a_log_output : List ℕ → Output
+not_a_log_output input = output_of (outcome_with (not_a_log_line ∷ []) endings.NotALog) input
+
+-- What is told where the log is damaged at an offset. The input stays as it is.
+abbrev pub damaged_output : ℕ → List ℕ → Output
+damaged_output at input = output_of (outcome_with (damaged_line at ∷ []) endings.Damaged) input
+
 -- A command over the blocks that the bytes on the disk stand for. Where they are something else than a
 -- log, or damaged, this is told, and the input and the disk stay as they are.
 abbrev pub on_log : (List Block → Output) → List ℕ → Standing → Output
 on_log over input Blank = over []
-on_log over input NotALog = output_of (outcome_with (not_a_log_line ∷ []) endings.NotALog) input
-on_log over input (Damaged before at) = output_of (outcome_with (damaged_line at ∷ []) endings.Damaged) input
+on_log over input NotALog = not_a_log_output input
+on_log over input (Damaged before at) = damaged_output at input
 on_log over input (Holds stored gate) = over (blocks_in stored)
+
+-- The same of a command that may want this output of blocks.
+abbrev pub IsOnLog : (List Block → Output → Type 0) → List ℕ → Standing → Output → Type 0
+IsOnLog Over input Blank output = Over [] output
+IsOnLog Over input NotALog output = output ≡ not_a_log_output input
+IsOnLog Over input (Damaged before at) output = output ≡ damaged_output at input
+IsOnLog Over input (Holds stored gate) output = Over (blocks_in stored) output
 
 -- How `append` ends, by where the frames end.
 abbrev pub fold_ending : FoldEnd → Ending
@@ -211,6 +229,25 @@ prove_outcome compile query root_at blocks =
 abbrev pub prove_output : Compiler → Query → ℕ → List ℕ → List Block → Output
 prove_output compile query root_at input blocks = output_of (prove_outcome compile query root_at blocks) input
 
+-- The blocks reach the block of the root, and the question is about no later one.
+abbrev pub Reach : List Block → Query → ℕ → Type 0
+Reach blocks query root_at = (root_at < length blocks) × (query.at ≤ root_at)
+
+-- What `expose` tells of an input to one who has the root, against the blocks of the log up to one. Where
+-- the log has no such block, or the question is about a later one, that is told, and the input is left as
+-- it is. Else an input that is too long, and one that `verify` does not accept, are told as `verify` tells
+-- them. Of a proof that is accepted the first clash is told, a text of it and one of the log that differ
+-- and have one digest, or that there is none.
+pub data IsExposeOutput (compile : Compiler) (root : List ℕ) (query : Query) (root_at : ℕ) (input : List ℕ) (blocks : List Block) : Output → Type 0 where
+  OutOfReach : (Reach blocks query root_at → ⊥) → IsExposeOutput compile root query root_at input blocks (output_of (beyond_head blocks) input)
+  LongExposed : Reach blocks query root_at → MAX_WHOLE_INPUT_BYTES < length input →
+      IsExposeOutput compile root query root_at input blocks (long_output input)
+  NotAccepted : Reach blocks query root_at → FitsInput input → (told : Verification) → IsVerification root query input told → is_accepted told ≡ false →
+      IsExposeOutput compile root query root_at input blocks (output_of (verification_outcome told) [])
+  Exposed : Reach blocks query root_at → FitsInput input → (proof : Proof) → IsAcceptedHex root query input proof →
+      (clash : Option (ℕ × ℕ)) → IsFirstClash (proof_texts proof) (replayed_texts compile blocks root_at) clash →
+      IsExposeOutput compile root query root_at input blocks (output_of (clash_outcome (proof_texts proof) (replayed_texts compile blocks root_at) clash) [])
+
 -- ---- what is wanted
 
 -- A command, or that the words are none, wants this output of an input and of the content of the disk,
@@ -218,7 +255,7 @@ prove_output compile query root_at input blocks = output_of (prove_outcome compi
 abbrev pub Wants : Decoder → Compiler → Option Command → List ℕ → List ℕ → Output → Type 0
 Wants read compile None input content output = output ≡ usage_output input
 Wants read compile (Some (Scan query)) input content output = output ≡ scan_output compile query (fold_input read compile input)
-Wants read compile (Some Fmt) input content output = IsFmt input output
+Wants read compile (Some Fmt) input content output = IsFmtOutput input output
 Wants read compile (Some Pack) input content output = output ≡ pack_output input
 Wants read compile (Some (Gen generation)) input content output = output ≡ gen_output generation input
 Wants read compile (Some Append) input content output =
@@ -229,7 +266,9 @@ Wants read compile (Some (Ask kind key at)) input content output =
     output ≡ on_log (ask_output compile kind key at input) input (standing (next_by read compile) content)
 Wants read compile (Some (Prove query root_at)) input content output =
     output ≡ on_log (prove_output compile query root_at input) input (standing (next_by read compile) content)
-Wants read compile (Some (Verify root query)) input content output = IsVerify root.0 query input output
+Wants read compile (Some (Verify root query)) input content output = IsVerifyOutput root.0 query input output
+Wants read compile (Some (Expose root query root_at)) input content output =
+    IsOnLog (IsExposeOutput compile root.0 query root_at input) input (standing (next_by read compile) content) output
 
 -- An output is wanted, by a decoder and a compiler that are right.
 abbrev pub IsWanted : Option Command → List ℕ → List ℕ → Output → Type 0
@@ -256,6 +295,7 @@ reads_input (Some (Root at)) = false
 reads_input (Some (Ask kind key at)) = false
 reads_input (Some (Prove query root_at)) = false
 reads_input (Some (Verify root query)) = true
+reads_input (Some (Expose root query root_at)) = true
 
 -- Whether it uses the disk.
 abbrev pub uses_disk : Option Command → Bool
@@ -269,6 +309,7 @@ uses_disk (Some (Root at)) = true
 uses_disk (Some (Ask kind key at)) = true
 uses_disk (Some (Prove query root_at)) = true
 uses_disk (Some (Verify root query)) = false
+uses_disk (Some (Expose root query root_at)) = true
 
 -- Whether it may change the log.
 abbrev pub changes_log : Option Command → Bool
@@ -282,6 +323,7 @@ changes_log (Some (Root at)) = false
 changes_log (Some (Ask kind key at)) = false
 changes_log (Some (Prove query root_at)) = false
 changes_log (Some (Verify root query)) = false
+changes_log (Some (Expose root query root_at)) = false
 
 -- Whether it takes frames of blocks.
 abbrev pub takes_frames : Option Command → Bool
@@ -295,6 +337,7 @@ takes_frames (Some (Root at)) = false
 takes_frames (Some (Ask kind key at)) = false
 takes_frames (Some (Prove query root_at)) = false
 takes_frames (Some (Verify root query)) = false
+takes_frames (Some (Expose root query root_at)) = false
 
 -- Whether it asks for a block of a chain.
 abbrev pub asks_for_block : Option Command → Bool
@@ -308,6 +351,7 @@ asks_for_block (Some (Root at)) = true
 asks_for_block (Some (Ask kind key at)) = true
 asks_for_block (Some (Prove query root_at)) = true
 asks_for_block (Some (Verify root query)) = false
+asks_for_block (Some (Expose root query root_at)) = true
 
 -- Whether it checks a proof.
 abbrev pub checks_proof : Option Command → Bool
@@ -321,6 +365,7 @@ checks_proof (Some (Root at)) = false
 checks_proof (Some (Ask kind key at)) = false
 checks_proof (Some (Prove query root_at)) = false
 checks_proof (Some (Verify root query)) = true
+checks_proof (Some (Expose root query root_at)) = true
 
 -- Whether it reads the input whole, as a text.
 abbrev pub reads_whole : Option Command → Bool
@@ -334,6 +379,7 @@ reads_whole (Some (Root at)) = false
 reads_whole (Some (Ask kind key at)) = false
 reads_whole (Some (Prove query root_at)) = false
 reads_whole (Some (Verify root query)) = true
+reads_whole (Some (Expose root query root_at)) = true
 
 -- Whether it tells lines while it makes others.
 abbrev pub tells_as_it_goes : Option Command → Bool
@@ -347,3 +393,4 @@ tells_as_it_goes (Some (Root at)) = false
 tells_as_it_goes (Some (Ask kind key at)) = false
 tells_as_it_goes (Some (Prove query root_at)) = false
 tells_as_it_goes (Some (Verify root query)) = false
+tells_as_it_goes (Some (Expose root query root_at)) = false

@@ -1,2 +1,3 @@
 pub mod Verifies
 pub mod Proves
+pub mod Exposes

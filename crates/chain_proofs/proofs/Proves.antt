@@ -25,7 +25,7 @@ use Rattle.chain_lines.specs.declared.outcome.Ending.TheVariants as endings
 use Rattle.chain_output.specs.Output.{beyond_head, prove_outcome, made_in}
 use Rattle.chain_output.specs.Proofs.{proof_line}
 
-as_many : (kept : ChainState) (blocks : List Block) → StandsFor kept blocks → length kept.digests ≡ length blocks
+pub as_many : (kept : ChainState) (blocks : List Block) → StandsFor kept blocks → length kept.digests ≡ length blocks
 as_many kept blocks stands = ap (length {A = Digest}) stands.digests_are ∙ length-map blocks digest_of
 
 -- what is told, by whether the chain has the block and the question is about no later one

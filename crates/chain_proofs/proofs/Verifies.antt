@@ -13,7 +13,7 @@ use Rattle.chain_lines.specs.declared.whole.TheConstants.{MAX_WHOLE_INPUT_BYTES}
 use Rattle.chain_lines.specs.declared.outcome.Outcome.{Outcome}
 use Rattle.chain_lines.specs.Outcome.{status_of, bad_input}
 use Rattle.chain_lines.specs.Whole.{IsWholeInput}
-use Rattle.chain_output.specs.Output.{Output, output_of, IsVerify, LongProof, Verified}
+use Rattle.chain_output.specs.Output.{Output, output_of, IsVerifyOutput, LongProof, Verified}
 use Rattle.chain_output.specs.Proofs.{hex_cause, verification_outcome}
 use Rattle.chain_output.specs.Running.{MayEnd}
 use Rattle.chain_output.specs.Scanning.{IsVerifyOutcome}
@@ -24,8 +24,8 @@ bad_at result fault at text is told made = subst (λ (t : List ℕ). IfOk result
 
 -- the outcome of an input that was read whole
 pub answered : {E : Type 0} (root : List ℕ) (query : Query) (input : List ℕ) (told : Verification) (result : Result Outcome E) → length input ≤ MAX_WHOLE_INPUT_BYTES → IsVerification root query input told
-    → IfOk result (λ outcome. outcome ≡ verification_outcome told) → IfOk result (λ outcome. IsVerify root query input (output_of outcome []))
-answered root query input told (Ok outcome) fits is made = subst (λ (o : Outcome). IsVerify root query input (output_of o [])) (sym made) (Verified fits told is)
+    → IfOk result (λ outcome. outcome ≡ verification_outcome told) → IfOk result (λ outcome. IsVerifyOutput root query input (output_of outcome []))
+answered root query input told (Ok outcome) fits is made = subst (λ (o : Outcome). IsVerifyOutput root query input (output_of o [])) (sym made) (Verified fits told is)
 answered root query input told (Err e) fits is made = tt
 
 -- an input that is too long
@@ -33,7 +33,7 @@ long_here : (root : List ℕ) (query : Query) (first left : Option (List ℕ)) (
     → IfSome first (λ input. IsVerifyOutcome root query outcome left input)
 long_here root query None left outcome whole is = tt
 long_here root query (Some input) left outcome (long, rest) is =
-    (drop (MAX_WHOLE_INPUT_BYTES + 1) input, rest, subst (λ (o : Outcome). IsVerify root query input (output_of o (drop (MAX_WHOLE_INPUT_BYTES + 1) input))) (sym is) (LongProof long))
+    (drop (MAX_WHOLE_INPUT_BYTES + 1) input, rest, subst (λ (o : Outcome). IsVerifyOutput root query input (output_of o (drop (MAX_WHOLE_INPUT_BYTES + 1) input))) (sym is) (LongProof long))
 
 pub long_verified : (root : List ℕ) (query : Query) (first left found : Option (List ℕ)) (outcome : Outcome) → found ≡ None → IfSome first (λ input. IsWholeInput found input left) → outcome ≡ bad_input (codes "long")
     → IfSome first (λ input. IsVerifyOutcome root query outcome left input)
@@ -47,9 +47,9 @@ told_ends root query (Accepted answer) = refl
 told_ends root query (Rejected reject) = refl
 told_ends root query (BadHex fault) = refl
 
-output_ends : (root : Digest) (query : Query) (input : List ℕ) (output : Output) → IsVerify root.0 query input output → MayEnd output.status (Some (Verify root query))
+output_ends : (root : Digest) (query : Query) (input : List ℕ) (output : Output) → IsVerifyOutput root.0 query input output → MayEnd output.status (Some (Verify root query))
 output_ends root query input _ (LongProof long) = refl
 output_ends root query input _ (Verified fits told is) = told_ends root query told
 
-pub verify_ends : (root : Digest) (query : Query) (input : List ℕ) (outcome : Outcome) → IsVerify root.0 query input (output_of outcome []) → MayEnd (status_of outcome.ending) (Some (Verify root query))
+pub verify_ends : (root : Digest) (query : Query) (input : List ℕ) (outcome : Outcome) → IsVerifyOutput root.0 query input (output_of outcome []) → MayEnd (status_of outcome.ending) (Some (Verify root query))
 verify_ends root query input outcome is = output_ends root query input (output_of outcome []) is

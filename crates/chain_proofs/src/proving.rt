@@ -16,6 +16,7 @@ ghost use Rattle.chain_output.specs.Running.{IsRun, IsSilent, MayEnd};
 ghost use Rattle.chain_output.specs.Scanning.{EndsAsked};
 ghost use Rattle.chain_output.specs.Telling.{status_of_result};
 
+use crate::lines::line_of;
 use answer_proof::{ProveError, prove as prove_answer};
 use chain_lines::{Ending, Outcome};
 use chain_output::{RunStop, beyond, tell_made, tell_start};
@@ -27,11 +28,9 @@ use std::alloc::Global;
 
 /// Bytes in lower-case hex, as a line.
 fn hex_line(alloc: Global, bytes: &[u8]) -> Result<Bytes, Memory>
-    ensures { IfOk result (λ line_of. line_of ≡ line (encode_lower bytes.now)) }
+    ensures { IfOk result (λ told. told ≡ line (encode_lower bytes.now)) }
 {
-    let mut text = hex::encode(alloc, bytes)?.into_bytes();
-    text.push(b'\n')?;
-    Ok(Bytes::from_vec(text))
+    line_of(hex::encode(alloc, bytes)?)
 }
 
 /// A proof of the answer to a question over the blocks of a node, or that it is beyond.

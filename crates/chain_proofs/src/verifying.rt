@@ -1,11 +1,12 @@
 //! The command `verify`: the answer of a proof, or why it is not accepted.
 
-ghost use Rattle.std.specs.Prelude.{◌≡◌, ◌≤◌, [], length, Some, IfOk, IfSome, IsErrOf};
+ghost use Rattle.std.specs.Prelude.{◌≡◌, ◌≤◌, [], ◌∷◌, length, Some, IfOk, IfSome, IsErrOf};
 ghost use Rattle.lc_base.specs.Faults.{HasCause};
 ghost use Rattle.chain_lines.specs.declared.whole.TheConstants.{MAX_WHOLE_INPUT_BYTES};
-ghost use Rattle.chain_lines.specs.Outcome.{status_of, bad_input};
+ghost use Rattle.proof_commands.specs.Lines.{rejected_line};
+ghost use Rattle.chain_lines.specs.Outcome.{status_of, outcome_with, bad_input};
 ghost use Rattle.chain_words.specs.declared.words.Command.TheVariants.{Verify};
-ghost use Rattle.chain_output.specs.Output.{IsVerify, output_of};
+ghost use Rattle.chain_output.specs.Output.{IsVerifyOutput, output_of};
 ghost use Rattle.chain_output.specs.Proofs.{hex_cause, verification_outcome};
 ghost use Rattle.chain_output.specs.Running.{MayEnd};
 ghost use Rattle.chain_output.specs.Scanning.{IsVerifyOutcome};
@@ -13,12 +14,20 @@ ghost use Rattle.chain_output.specs.Scanning.{IsVerifyOutcome};
 use chain_lines::{Ending, Outcome, answer_lines, read_whole};
 use lc_base::{Digest, Memory, Query};
 use lc_outside::Source;
+use proof_checks::Reject;
 use proof_commands::{HexFault, Verification, rejected_line, verify_hex};
 use scan_chain::Stop;
 use std::alloc::Global;
 
+/// What is told of a proof that is not accepted.
+pub(crate) fn rejected(alloc: Global, reject: &Reject) -> Result<Outcome, Memory>
+    ensures { IfOk result (λ outcome. outcome ≡ outcome_with (rejected_line reject.now ∷ []) Ending.Rejected) }
+{
+    Outcome::from_line(alloc, rejected_line(alloc, reject)?, Ending::Rejected)
+}
+
 /// What is told of an input that is no hex.
-fn bad_hex(alloc: Global, fault: &HexFault) -> Result<Outcome, Memory>
+pub(crate) fn bad_hex(alloc: Global, fault: &HexFault) -> Result<Outcome, Memory>
     ensures { IfOk result (λ outcome. outcome ≡ bad_input (hex_cause fault.now)) }
 {
     match fault {
@@ -39,9 +48,7 @@ fn verification_outcome(alloc: Global, told: &Verification) -> Result<Outcome, M
             pieces: answer_lines(alloc, answer)?,
             ending: Ending::Done,
         }),
-        Verification::Rejected(reject) => {
-            Outcome::from_line(alloc, rejected_line(alloc, reject)?, Ending::Rejected)
-        }
+        Verification::Rejected(reject) => rejected(alloc, reject),
         Verification::BadHex(fault) => bad_hex(alloc, fault),
     }
 }
@@ -54,7 +61,7 @@ fn proof_outcome(
     input: &[u8],
 ) -> Result<Outcome, Memory>
     requires { length input.now ≤ MAX_WHOLE_INPUT_BYTES }
-    ensures { IfOk result (λ outcome. IsVerify root.now.0 query.now input.now (output_of outcome [])) }
+    ensures { IfOk result (λ outcome. IsVerifyOutput root.now.0 query.now input.now (output_of outcome [])) }
 {
     let told = verify_hex(alloc, root, query, input)?;
     verification_outcome(alloc, &told)

@@ -10,8 +10,8 @@ use Rattle.lc_base.specs.declared.answer.Query.{Query}
 use Rattle.lc_base.specs.declared.digest.Digest.{Digest}
 use Rattle.chain_words.specs.declared.words.Generation.{Generation}
 use Rattle.chain_words.specs.declared.words.Command.{Command}
-use Rattle.chain_words.specs.declared.words.Command.TheVariants.{Scan, Fmt, Pack, Gen, Append, Root, Ask, Prove, Verify}
-use Rattle.chain_words.specs.Words.{kind_word, query_words, scan_words, gen_words, ask_words, root_words, prove_words, verify_words, command_words, IsQuery, IsGeneration, IsRootGiven, Fits, CanBeGiven, IsCommand, IsOneCommand}
+use Rattle.chain_words.specs.declared.words.Command.TheVariants.{Scan, Fmt, Pack, Gen, Append, Root, Ask, Prove, Verify, Expose}
+use Rattle.chain_words.specs.Words.{kind_word, query_words, scan_words, gen_words, ask_words, root_words, prove_words, verify_words, expose_words, command_words, IsQuery, IsGeneration, IsRootGiven, Fits, CanBeGiven, IsCommand, IsOneCommand}
 
 one_number : (m n : ℕ) → m < 2 ^ 32 → n < 2 ^ 32 → decimal m ≡ decimal n → m ≡ n
 one_number m n small fits same = decimal_injective m n (omega (arith, small)) (omega (arith, fits)) same
@@ -105,7 +105,7 @@ one_ask k l x y a b is_a is_b same =
     let all = one_at a b is_a is_b k l x y same in
     ap (λ (kind : Kind). Ask kind x a) all.0 ∙ ap (λ (key : List ℕ). Ask l key a) all.1 ∙ ap (λ (at : Option ℕ). Ask l y at) all.2
 
--- ---- the words about proofs are five, and those of the other commands fewer
+-- ---- the words about proofs are five or six, and those of the other commands fewer
 
 few_root : (at : Option ℕ) → length (root_words at) ≤ 4
 few_root None = omega arith
@@ -115,7 +115,7 @@ few_asked : (kind : Kind) (key : List ℕ) (at : Option ℕ) → length (ask_wor
 few_asked kind key None = omega arith
 few_asked kind key (Some at) = omega arith
 
-too_few : (few many : List (List ℕ)) → length few ≤ 4 → length many ≡ 5 → few ≡ many → ⊥
+too_few : (few many : List (List ℕ)) → length few ≤ 4 → 4 < length many → few ≡ many → ⊥
 too_few few many short long same = let count : length few ≡ length many = ap (length {A = List ℕ}) same in omega (arith, short, long, count)
 
 no_verify : (query : Query) (root_at : ℕ) (root : Digest) (other : Query) → prove_words query root_at ≡ verify_words root other → ⊥
@@ -140,6 +140,17 @@ one_verify m n a b is_a is_b same =
     let roots : encode_lower m.0 ≡ encode_lower n.0 = cc in
     ap (λ (root : Digest). Verify root a) (one_digest m n is_a.0 is_b.0 roots) ∙ ap (Verify n) (one_query a b is_a.1 is_b.1 cc)
 
+one_expose : (m n : Digest) (a b : Query) (i j : ℕ) → IsRootGiven m × IsQuery a × (i < 2 ^ 32) → IsRootGiven n × IsQuery b × (j < 2 ^ 32) → expose_words m a i ≡ expose_words n b j → Expose m a i ≡ Expose n b j
+one_expose m n a b i j is_a is_b same =
+    let roots : encode_lower m.0 ≡ encode_lower n.0 = cc in
+    let kinds : kind_word a.kind ≡ kind_word b.kind = cc in
+    let keys : a.key ≡ b.key = cc in
+    let asked : decimal a.at ≡ decimal b.at = cc in
+    let blocks : decimal i ≡ decimal j = cc in
+    ap (λ (root : Digest). Expose root a i) (one_digest m n is_a.0 is_b.0 roots)
+    ∙ ap (λ (q : Query). Expose n q i) (one_query a b is_a.1 is_b.1 cc)
+    ∙ ap (Expose n b) (one_number i j is_a.2 is_b.2 blocks)
+
 one_given : (a b : Command) → CanBeGiven a → CanBeGiven b → command_words a ≡ command_words b → a ≡ b
 one_given (Scan a) (Scan b) is_a is_b same = ap Scan (one_query a b is_a is_b cc)
 one_given (Scan a) Fmt is_a is_b same = absurd cc
@@ -150,6 +161,7 @@ one_given (Scan a) (Root b) is_a is_b same = absurd (root_scan b a (sym same))
 one_given (Scan a) (Ask bk by bt) is_a is_b same = absurd (no_scan bk by bt a (sym same))
 one_given (Scan a) (Prove b br) is_a is_b same = absurd cc
 one_given (Scan a) (Verify br b) is_a is_b same = absurd cc
+one_given (Scan a) (Expose br b bn) is_a is_b same = absurd cc
 one_given Fmt (Scan b) is_a is_b same = absurd cc
 one_given Fmt Fmt is_a is_b same = refl
 one_given Fmt Pack is_a is_b same = absurd cc
@@ -159,6 +171,7 @@ one_given Fmt (Root b) is_a is_b same = let first : 114 ≡ 102 = root_alone b (
 one_given Fmt (Ask bk by bt) is_a is_b same = absurd (no_word bk by bt _ (sym same))
 one_given Fmt (Prove b br) is_a is_b same = absurd cc
 one_given Fmt (Verify br b) is_a is_b same = absurd cc
+one_given Fmt (Expose br b bn) is_a is_b same = absurd cc
 one_given Pack (Scan b) is_a is_b same = absurd cc
 one_given Pack Fmt is_a is_b same = absurd cc
 one_given Pack Pack is_a is_b same = refl
@@ -168,6 +181,7 @@ one_given Pack (Root b) is_a is_b same = let first : 114 ≡ 112 = root_alone b 
 one_given Pack (Ask bk by bt) is_a is_b same = absurd (no_word bk by bt _ (sym same))
 one_given Pack (Prove b br) is_a is_b same = absurd cc
 one_given Pack (Verify br b) is_a is_b same = absurd cc
+one_given Pack (Expose br b bn) is_a is_b same = absurd cc
 one_given (Gen a) (Scan b) is_a is_b same = absurd cc
 one_given (Gen a) Fmt is_a is_b same = absurd cc
 one_given (Gen a) Pack is_a is_b same = absurd cc
@@ -177,6 +191,7 @@ one_given (Gen a) (Root b) is_a is_b same = absurd (root_gen b a (sym same))
 one_given (Gen a) (Ask bk by bt) is_a is_b same = absurd (no_gen bk by bt a (sym same))
 one_given (Gen a) (Prove b br) is_a is_b same = absurd cc
 one_given (Gen a) (Verify br b) is_a is_b same = absurd cc
+one_given (Gen a) (Expose br b bn) is_a is_b same = absurd cc
 one_given Append (Scan b) is_a is_b same = absurd cc
 one_given Append Fmt is_a is_b same = absurd cc
 one_given Append Pack is_a is_b same = absurd cc
@@ -186,6 +201,7 @@ one_given Append (Root b) is_a is_b same = let first : 114 ≡ 97 = root_alone b
 one_given Append (Ask bk by bt) is_a is_b same = absurd (no_word bk by bt _ (sym same))
 one_given Append (Prove b br) is_a is_b same = absurd cc
 one_given Append (Verify br b) is_a is_b same = absurd cc
+one_given Append (Expose br b bn) is_a is_b same = absurd cc
 one_given (Root a) (Scan b) is_a is_b same = absurd (root_scan a b same)
 one_given (Root a) Fmt is_a is_b same = let first : 114 ≡ 102 = root_alone a (codes "fmt") same in absurd (omega (arith, first))
 one_given (Root a) Pack is_a is_b same = let first : 114 ≡ 112 = root_alone a (codes "pack") same in absurd (omega (arith, first))
@@ -193,8 +209,9 @@ one_given (Root a) (Gen b) is_a is_b same = absurd (root_gen a b same)
 one_given (Root a) Append is_a is_b same = let first : 114 ≡ 97 = root_alone a (codes "append") same in absurd (omega (arith, first))
 one_given (Root a) (Root b) is_a is_b same = ap Root (one_root a b is_a is_b same)
 one_given (Root a) (Ask bk by bt) is_a is_b same = absurd (no_root bk by bt a (sym same))
-one_given (Root a) (Prove b br) is_a is_b same = absurd (too_few (root_words a) (prove_words b br) (few_root a) refl same)
-one_given (Root a) (Verify br b) is_a is_b same = absurd (too_few (root_words a) (verify_words br b) (few_root a) refl same)
+one_given (Root a) (Prove b br) is_a is_b same = absurd (too_few (root_words a) (prove_words b br) (few_root a) (omega arith) same)
+one_given (Root a) (Verify br b) is_a is_b same = absurd (too_few (root_words a) (verify_words br b) (few_root a) (omega arith) same)
+one_given (Root a) (Expose br b bn) is_a is_b same = absurd (too_few (root_words a) (expose_words br b bn) (few_root a) (omega arith) same)
 one_given (Ask ak ay at) (Scan b) is_a is_b same = absurd (no_scan ak ay at b same)
 one_given (Ask ak ay at) Fmt is_a is_b same = absurd (no_word ak ay at _ same)
 one_given (Ask ak ay at) Pack is_a is_b same = absurd (no_word ak ay at _ same)
@@ -202,26 +219,39 @@ one_given (Ask ak ay at) (Gen b) is_a is_b same = absurd (no_gen ak ay at b same
 one_given (Ask ak ay at) Append is_a is_b same = absurd (no_word ak ay at _ same)
 one_given (Ask ak ay at) (Root b) is_a is_b same = absurd (no_root ak ay at b same)
 one_given (Ask ak ay at) (Ask bk by bt) is_a is_b same = one_ask ak bk ay by at bt is_a.1 is_b.1 same
-one_given (Ask ak ay at) (Prove b br) is_a is_b same = absurd (too_few (ask_words ak ay at) (prove_words b br) (few_asked ak ay at) refl same)
-one_given (Ask ak ay at) (Verify br b) is_a is_b same = absurd (too_few (ask_words ak ay at) (verify_words br b) (few_asked ak ay at) refl same)
+one_given (Ask ak ay at) (Prove b br) is_a is_b same = absurd (too_few (ask_words ak ay at) (prove_words b br) (few_asked ak ay at) (omega arith) same)
+one_given (Ask ak ay at) (Verify br b) is_a is_b same = absurd (too_few (ask_words ak ay at) (verify_words br b) (few_asked ak ay at) (omega arith) same)
+one_given (Ask ak ay at) (Expose br b bn) is_a is_b same = absurd (too_few (ask_words ak ay at) (expose_words br b bn) (few_asked ak ay at) (omega arith) same)
 one_given (Prove a ar) (Scan b) is_a is_b same = absurd cc
 one_given (Prove a ar) Fmt is_a is_b same = absurd cc
 one_given (Prove a ar) Pack is_a is_b same = absurd cc
 one_given (Prove a ar) (Gen b) is_a is_b same = absurd cc
 one_given (Prove a ar) Append is_a is_b same = absurd cc
-one_given (Prove a ar) (Root b) is_a is_b same = absurd (too_few (root_words b) (prove_words a ar) (few_root b) refl (sym same))
-one_given (Prove a ar) (Ask bk by bt) is_a is_b same = absurd (too_few (ask_words bk by bt) (prove_words a ar) (few_asked bk by bt) refl (sym same))
+one_given (Prove a ar) (Root b) is_a is_b same = absurd (too_few (root_words b) (prove_words a ar) (few_root b) (omega arith) (sym same))
+one_given (Prove a ar) (Ask bk by bt) is_a is_b same = absurd (too_few (ask_words bk by bt) (prove_words a ar) (few_asked bk by bt) (omega arith) (sym same))
 one_given (Prove a ar) (Prove b br) is_a is_b same = one_prove a b ar br is_a is_b same
 one_given (Prove a ar) (Verify br b) is_a is_b same = absurd (no_verify a ar br b same)
+one_given (Prove a ar) (Expose br b bn) is_a is_b same = absurd cc
 one_given (Verify ar a) (Scan b) is_a is_b same = absurd cc
 one_given (Verify ar a) Fmt is_a is_b same = absurd cc
 one_given (Verify ar a) Pack is_a is_b same = absurd cc
 one_given (Verify ar a) (Gen b) is_a is_b same = absurd cc
 one_given (Verify ar a) Append is_a is_b same = absurd cc
-one_given (Verify ar a) (Root b) is_a is_b same = absurd (too_few (root_words b) (verify_words ar a) (few_root b) refl (sym same))
-one_given (Verify ar a) (Ask bk by bt) is_a is_b same = absurd (too_few (ask_words bk by bt) (verify_words ar a) (few_asked bk by bt) refl (sym same))
+one_given (Verify ar a) (Root b) is_a is_b same = absurd (too_few (root_words b) (verify_words ar a) (few_root b) (omega arith) (sym same))
+one_given (Verify ar a) (Ask bk by bt) is_a is_b same = absurd (too_few (ask_words bk by bt) (verify_words ar a) (few_asked bk by bt) (omega arith) (sym same))
 one_given (Verify ar a) (Prove b br) is_a is_b same = absurd (no_verify b br ar a (sym same))
 one_given (Verify ar a) (Verify br b) is_a is_b same = one_verify ar br a b is_a is_b same
+one_given (Verify ar a) (Expose br b bn) is_a is_b same = absurd cc
+one_given (Expose ar a an) (Scan b) is_a is_b same = absurd cc
+one_given (Expose ar a an) Fmt is_a is_b same = absurd cc
+one_given (Expose ar a an) Pack is_a is_b same = absurd cc
+one_given (Expose ar a an) (Gen b) is_a is_b same = absurd cc
+one_given (Expose ar a an) Append is_a is_b same = absurd cc
+one_given (Expose ar a an) (Root b) is_a is_b same = absurd (too_few (root_words b) (expose_words ar a an) (few_root b) (omega arith) (sym same))
+one_given (Expose ar a an) (Ask bk by bt) is_a is_b same = absurd (too_few (ask_words bk by bt) (expose_words ar a an) (few_asked bk by bt) (omega arith) (sym same))
+one_given (Expose ar a an) (Prove b br) is_a is_b same = absurd cc
+one_given (Expose ar a an) (Verify br b) is_a is_b same = absurd cc
+one_given (Expose ar a an) (Expose br b bn) is_a is_b same = one_expose ar br a b an bn is_a is_b same
 
 only_one : (words : List (List ℕ)) (command other : Option Command) → IsCommand words command → IsCommand words other → other ≡ command
 only_one words None None is_a is_b = refl

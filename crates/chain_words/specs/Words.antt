@@ -9,7 +9,7 @@ use Rattle.lc_base.specs.declared.digest.Digest.{Digest}
 use Rattle.chain_words.specs.declared.words.TheConstants.{MAX_GENERATED_BLOCKS}
 use Rattle.chain_words.specs.declared.words.Generation.{Generation}
 use Rattle.chain_words.specs.declared.words.Command.{Command}
-use Rattle.chain_words.specs.declared.words.Command.TheVariants.{Scan, Fmt, Pack, Gen, Append, Root, Ask, Prove, Verify}
+use Rattle.chain_words.specs.declared.words.Command.TheVariants.{Scan, Fmt, Pack, Gen, Append, Root, Ask, Prove, Verify, Expose}
 
 -- The word for what is asked.
 abbrev pub kind_word : Kind → List ℕ
@@ -63,6 +63,11 @@ prove_words query root_at = codes "prove" ∷ kind_word query.kind ∷ query.key
 abbrev pub verify_words : Digest → Query → List (List ℕ)
 verify_words root query = codes "verify" ∷ encode_lower root.0 ∷ query_words query
 
+-- The words for the first clash with a proof: expose ROOT KIND KEY BLOCK ROOTBLOCK, ROOT in hex digits,
+-- those above 9 in lower case, both numbers in decimal digits without a leading zero.
+abbrev pub expose_words : Digest → Query → ℕ → List (List ℕ)
+expose_words root query root_at = codes "expose" ∷ encode_lower root.0 ∷ kind_word query.kind ∷ query.key ∷ decimal query.at ∷ decimal root_at ∷ []
+
 -- A root that can be given: 32 bytes.
 pub record IsRootGiven (root : Digest) : Type 0 where
   pub length_is : length root.0 ≡ 32
@@ -84,10 +89,11 @@ command_words (Root at) = root_words at
 command_words (Ask kind key at) = ask_words kind key at
 command_words (Prove query root_at) = prove_words query root_at
 command_words (Verify root query) = verify_words root query
+command_words (Expose root query root_at) = expose_words root query root_at
 
 -- A command that can be given: a question that can be asked, over the input or over the log; a
 -- generation that can be made; a root of a block; a word alone; a proof of a question, for the root of
--- a block; or one that is verified by a root.
+-- a block; or one that is verified by a root, alone or against the log up to a block.
 abbrev pub CanBeGiven : Command → Type 0
 CanBeGiven (Scan query) = IsQuery query
 CanBeGiven Fmt = Unit {0}
@@ -98,6 +104,7 @@ CanBeGiven (Root at) = Fits at
 CanBeGiven (Ask kind key at) = IsKey key × Fits at
 CanBeGiven (Prove query root_at) = IsQuery query × (root_at < 2 ^ 32)
 CanBeGiven (Verify root query) = IsRootGiven root × IsQuery query
+CanBeGiven (Expose root query root_at) = IsRootGiven root × IsQuery query × (root_at < 2 ^ 32)
 
 -- The command that the words are. They are none where no command has these words.
 abbrev pub IsCommand : List (List ℕ) → Option Command → Type 0
@@ -145,6 +152,11 @@ IsProve words None = (query : Query) (root_at : ℕ) → IsQuery query → root_
 abbrev pub IsVerify : List (List ℕ) → Option Command → Type 0
 IsVerify words (Some command) = CanBeGiven command × (words ≡ command_words command)
 IsVerify words None = (root : Digest) (query : Query) → IsRootGiven root → IsQuery query → words ≡ verify_words root query → ⊥
+
+-- The command for the first clash with a proof, where the words are those of one.
+abbrev pub IsExpose : List (List ℕ) → Option Command → Type 0
+IsExpose words (Some command) = CanBeGiven command × (words ≡ command_words command)
+IsExpose words None = (root : Digest) (query : Query) (root_at : ℕ) → IsRootGiven root → IsQuery query → root_at < 2 ^ 32 → words ≡ expose_words root query root_at → ⊥
 
 -- Whether the words are this one alone.
 abbrev pub IsAlone : List ℕ → List (List ℕ) → Bool → Type 0

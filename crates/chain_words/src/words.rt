@@ -3,7 +3,7 @@
 ghost use Rattle.std.specs.Prelude.{◌≡◌, ◌↔◌, IsTrue, map, string_bytes, codes};
 ghost use Rattle.chain_words.specs.Words.{IsCommand, IsOneCommand, IsGen, IsAlone};
 
-use crate::proving::{prove_of, verify_of};
+use crate::proving::{expose_of, prove_of, verify_of};
 use crate::questions::{ask_of, root_of, scan_of};
 use crate::single::{count_of, is_text, number_of};
 use lc_base::{Digest, Key, Kind, Query};
@@ -53,6 +53,13 @@ pub enum Command {
     Verify {
         root: Digest,
         query: Query,
+    },
+    /// `expose ROOT KIND KEY BLOCK ROOTBLOCK`: tell the first two texts, one of the proof that the
+    /// input is and one of the log up to ROOTBLOCK, which differ and have one digest.
+    Expose {
+        root: Digest,
+        query: Query,
+        root_at: u32,
     },
 }
 
@@ -125,6 +132,9 @@ fn found(words: &[String]) -> Option<Command>
         return Some(command);
     }
     if let Some(command) = verify_of(words) {
+        return Some(command);
+    }
+    if let Some(command) = expose_of(words) {
         return Some(command);
     }
     match root_of(words) {

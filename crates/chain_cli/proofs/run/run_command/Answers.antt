@@ -1,6 +1,6 @@
 use Rattle.std.proofs.Common.{Some, refl}
 use Rattle.recovery.specs.Node.{next_in_chain}
-use Rattle.chain_words.specs.declared.words.Command.TheVariants.{Scan, Fmt, Pack, Gen, Append, Root, Ask, Prove, Verify}
+use Rattle.chain_words.specs.declared.words.Command.TheVariants.{Scan, Fmt, Pack, Gen, Append, Root, Ask, Prove, Verify, Expose}
 use Rattle.chain_output.specs.Telling.{status_of_result}
 use Rattle.chain_cli.proofs.Ends.{done_ends, of_given, found_log}
 use Rattle.chain_cli.proofs.Runs.{scan_run, fmt_run, verify_run, pack_run, gen_run, of_command}
@@ -48,6 +48,14 @@ returns-in-Prove-clause-run g c =
 
 pub returns-in-Prove-clause-ends : goal.returns-in-Prove-clause-ends
 returns-in-Prove-clause-ends g c = of_given (status_of_result c.prove.result) c.args.command.now (Prove c.in-Prove.query c.in-Prove.root_at) c.in-Prove.is c.prove.ensures.ends
+
+pub returns-in-Expose-clause-run : goal.returns-in-Expose-clause-run
+returns-in-Expose-clause-run g c =
+    of_command g.M.Clock.now g.M.Clock.disk g.M.Clock.told c.args.machine.now c.expose.new.machine (status_of_result c.expose.result) (g.I.Source.left c.args.source.now) (g.I.Source.left c.expose.new.source) c.args.command.now _ c.in-Expose.is
+    c.expose.ensures.run
+
+pub returns-in-Expose-clause-ends : goal.returns-in-Expose-clause-ends
+returns-in-Expose-clause-ends g c = of_given (status_of_result c.expose.result) c.args.command.now (Expose c.in-Expose.root c.in-Expose.query c.in-Expose.root_at) c.in-Expose.is c.expose.ensures.ends
 
 pub returns-in-Scan-clause-ends : goal.returns-in-Scan-clause-ends
 returns-in-Scan-clause-ends g c = of_given (status_of_result c.tell_result.result) c.args.command.now (Scan c.in-Scan.query) c.in-Scan.is (c.tell_result.ensures.ends (Some (Scan c.in-Scan.query)) refl c.scan.ensures.ends)
