@@ -26,8 +26,8 @@ fn settle<M: Disk>(machine: &mut M) -> Result<(), Failed>
     machine.sync()
 }
 
-/// The node of the log on a disk, for one who appends: where the log has a block, the disk is synced
-/// before anything is told of it. It writes nothing.
+/// The node of the log on a disk, for one who appends: the disk is synced before anything is told of it or
+/// written to it. It writes nothing.
 pub fn start<M: Disk>(alloc: Global, machine: &mut M) -> Result<Node, StartError>
     requires settled { IsSettled (M.disk machine.old (M.now machine.old)) }
     // The node is that of the chain that the content stands for, or it stands for none.
@@ -41,18 +41,13 @@ pub fn start<M: Disk>(alloc: Global, machine: &mut M) -> Result<Node, StartError
     ensures cause { HasCause (M.disk_faults machine.old) (M.disk_faults machine.new) (IsErrOf result StartError.DiskFault) }
 {
     match Node::start(alloc, machine) {
-        Ok(node) => {
-            if node.blocks() == 0 {
-                return Ok(node);
+        Ok(node) => match settle(machine) {
+            Ok(()) => Ok(node),
+            Err(Failed) => {
+                node.give_up();
+                Err(StartError::DiskFault)
             }
-            match settle(machine) {
-                Ok(()) => Ok(node),
-                Err(Failed) => {
-                    node.give_up();
-                    Err(StartError::DiskFault)
-                }
-            }
-        }
+        },
         Err(error) => Err(error),
     }
 }
