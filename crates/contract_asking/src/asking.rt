@@ -1,13 +1,13 @@
 //! What a contract asks of the past.
 
-ghost use Rattle.std.specs.Prelude.{◌≡◌, ◌<◌, ◌^◌, ℕ, Ok, Some, IfSome, IfOk, IsErrOf};
-ghost use Rattle.lc_base.specs.Faults.{HasCause};
+ghost use Rattle.std.specs.Prelude.{◌≡◌, ◌<◌, ◌^◌, ℕ, Ok, Some, IfSome, IfOk};
 ghost use Rattle.lc_base.specs.History.{scan};
 ghost use Rattle.lc_base.specs.Parts.{question, count_in, item_in};
 ghost use Rattle.contract_meaning.specs.Reading.{key_of_text};
 ghost use Rattle.contract_meaning.specs.Steps.{and_so};
 ghost use Rattle.contract_meaning.specs.Asking.{block_before, version_asked, list_asked, value_told, block_told, tx_told, seen_told, count_told, count_value, index_in, index_told, item_told, item_part_of, item_asked, key_value, block_value};
 ghost use Rattle.contract_meaning.specs.Answers.{IsResultOf, IsNoFault};
+ghost use Rattle.contract_meaning.specs.Hosts.{Asks};
 
 use contract_meaning::Stop;
 use contract_operators::truth;
@@ -114,9 +114,7 @@ pub fn version_asked<H: Host>(
     at: i64,
 ) -> Result<Option<Version>, Stop>
     requires { H.ready host.old }
-    ensures same { H.same host.old host.new }
-    ensures answer { IfSome (H.rows host.old) (λ rows. IsResultOf (λ version. version) (version_asked rows number text.now at) result) }
-    ensures cause { HasCause (H.host_faults host.old) (H.host_faults host.new) (IsErrOf result Stop.Fault) }
+    ensures { Asks H.Host host.old host.new (λ version. version) (λ rows. version_asked rows number text.now at) result }
 {
     let key = key_of_text(text)?;
     let block = block_before(number, at)?;
@@ -136,9 +134,7 @@ fn back_count<H: Host>(
     block: u32,
 ) -> Result<Option<u32>, Stop>
     requires { H.ready host.old }
-    ensures same { H.same host.old host.new }
-    ensures answer { IfSome (H.rows host.old) (λ rows. IsResultOf (λ count. count) (Ok (count_in (scan rows (question Kind.Back key.now block)))) result) }
-    ensures cause { HasCause (H.host_faults host.old) (H.host_faults host.new) (IsErrOf result Stop.Fault) }
+    ensures { Asks H.Host host.old host.new (λ count. count) (λ rows. Ok (count_in (scan rows (question Kind.Back key.now block)))) result }
 {
     match host.back_count(alloc, key, block) {
         Ok(count) => Ok(count),
@@ -154,10 +150,8 @@ fn fwd_count<H: Host>(
     block: u32,
 ) -> Result<Option<u64>, Stop>
     requires { H.ready host.old }
-    ensures same { H.same host.old host.new }
-    ensures answer { IfSome (H.rows host.old) (λ rows. IsResultOf (λ count. count) (Ok (count_in (scan rows (question Kind.Fwd key.now block)))) result) }
+    ensures asked { Asks H.Host host.old host.new (λ count. count) (λ rows. Ok (count_in (scan rows (question Kind.Fwd key.now block)))) result }
     ensures bound { IfOk result (λ count. IfSome count (λ n. n < 2 ^ 63)) }
-    ensures cause { HasCause (H.host_faults host.old) (H.host_faults host.new) (IsErrOf result Stop.Fault) }
 {
     match host.fwd_count(alloc, key, block) {
         Ok(count) => Ok(count),
@@ -195,9 +189,7 @@ pub fn back_count_asked<H: Host>(
     at: i64,
 ) -> Result<Value, Stop>
     requires { H.ready host.old }
-    ensures same { H.same host.old host.new }
-    ensures answer { IfSome (H.rows host.old) (λ rows. IsResultOf (λ value. value) (and_so (list_asked rows number Kind.Back text.now at) count_told) result) }
-    ensures cause { HasCause (H.host_faults host.old) (H.host_faults host.new) (IsErrOf result Stop.Fault) }
+    ensures { Asks H.Host host.old host.new (λ value. value) (λ rows. and_so (list_asked rows number Kind.Back text.now at) count_told) result }
 {
     let key = key_of_text(text)?;
     let block = block_before(number, at)?;
@@ -215,9 +207,7 @@ pub fn fwd_count_asked<H: Host>(
     at: i64,
 ) -> Result<Value, Stop>
     requires { H.ready host.old }
-    ensures same { H.same host.old host.new }
-    ensures answer { IfSome (H.rows host.old) (λ rows. IsResultOf (λ value. value) (and_so (list_asked rows number Kind.Fwd text.now at) count_told) result) }
-    ensures cause { HasCause (H.host_faults host.old) (H.host_faults host.new) (IsErrOf result Stop.Fault) }
+    ensures { Asks H.Host host.old host.new (λ value. value) (λ rows. and_so (list_asked rows number Kind.Fwd text.now at) count_told) result }
 {
     let key = key_of_text(text)?;
     let block = block_before(number, at)?;
@@ -235,9 +225,7 @@ fn back_at<H: Host>(
     index: u32,
 ) -> Result<Option<Dep>, Stop>
     requires { H.ready host.old }
-    ensures same { H.same host.old host.new }
-    ensures answer { IfSome (H.rows host.old) (λ rows. IsResultOf (λ dep. dep) (Ok (item_in index (scan rows (question Kind.Back key.now block)))) result) }
-    ensures cause { HasCause (H.host_faults host.old) (H.host_faults host.new) (IsErrOf result Stop.Fault) }
+    ensures { Asks H.Host host.old host.new (λ dep. dep) (λ rows. Ok (item_in index (scan rows (question Kind.Back key.now block)))) result }
 {
     match host.back_at(alloc, key, block, index) {
         Ok(dep) => Ok(dep),
@@ -254,9 +242,7 @@ fn fwd_at<H: Host>(
     index: u64,
 ) -> Result<Option<Dep>, Stop>
     requires { H.ready host.old }
-    ensures same { H.same host.old host.new }
-    ensures answer { IfSome (H.rows host.old) (λ rows. IsResultOf (λ dep. dep) (Ok (item_in index (scan rows (question Kind.Fwd key.now block)))) result) }
-    ensures cause { HasCause (H.host_faults host.old) (H.host_faults host.new) (IsErrOf result Stop.Fault) }
+    ensures { Asks H.Host host.old host.new (λ dep. dep) (λ rows. Ok (item_in index (scan rows (question Kind.Fwd key.now block)))) result }
 {
     match host.fwd_at(alloc, key, block, index) {
         Ok(dep) => Ok(dep),
@@ -308,9 +294,7 @@ fn back_item<H: Host>(
     index: i64,
 ) -> Result<Dep, Stop>
     requires { H.ready host.old }
-    ensures same { H.same host.old host.new }
-    ensures answer { IfSome (H.rows host.old) (λ rows. IsResultOf (λ dep. dep) (item_part_of (scan rows (question Kind.Back key.now block)) index) result) }
-    ensures cause { HasCause (H.host_faults host.old) (H.host_faults host.new) (IsErrOf result Stop.Fault) }
+    ensures { Asks H.Host host.old host.new (λ dep. dep) (λ rows. item_part_of (scan rows (question Kind.Back key.now block)) index) result }
 {
     let count = back_count(alloc, host, key, block)?;
     let index = back_index(count, index)?;
@@ -328,9 +312,7 @@ fn fwd_item<H: Host>(
     index: i64,
 ) -> Result<Dep, Stop>
     requires { H.ready host.old }
-    ensures same { H.same host.old host.new }
-    ensures answer { IfSome (H.rows host.old) (λ rows. IsResultOf (λ dep. dep) (item_part_of (scan rows (question Kind.Fwd key.now block)) index) result) }
-    ensures cause { HasCause (H.host_faults host.old) (H.host_faults host.new) (IsErrOf result Stop.Fault) }
+    ensures { Asks H.Host host.old host.new (λ dep. dep) (λ rows. item_part_of (scan rows (question Kind.Fwd key.now block)) index) result }
 {
     let count = fwd_count(alloc, host, key, block)?;
     let index = fwd_index(count, index)?;
@@ -348,9 +330,7 @@ pub fn back_item_asked<H: Host>(
     index: i64,
 ) -> Result<Dep, Stop>
     requires { H.ready host.old }
-    ensures same { H.same host.old host.new }
-    ensures answer { IfSome (H.rows host.old) (λ rows. IsResultOf (λ dep. dep) (item_asked rows number Kind.Back text.now at index) result) }
-    ensures cause { HasCause (H.host_faults host.old) (H.host_faults host.new) (IsErrOf result Stop.Fault) }
+    ensures { Asks H.Host host.old host.new (λ dep. dep) (λ rows. item_asked rows number Kind.Back text.now at index) result }
 {
     let key = key_of_text(text)?;
     let block = block_before(number, at)?;
@@ -367,9 +347,7 @@ pub fn fwd_item_asked<H: Host>(
     index: i64,
 ) -> Result<Dep, Stop>
     requires { H.ready host.old }
-    ensures same { H.same host.old host.new }
-    ensures answer { IfSome (H.rows host.old) (λ rows. IsResultOf (λ dep. dep) (item_asked rows number Kind.Fwd text.now at index) result) }
-    ensures cause { HasCause (H.host_faults host.old) (H.host_faults host.new) (IsErrOf result Stop.Fault) }
+    ensures { Asks H.Host host.old host.new (λ dep. dep) (λ rows. item_asked rows number Kind.Fwd text.now at index) result }
 {
     let key = key_of_text(text)?;
     let block = block_before(number, at)?;

@@ -1,9 +1,10 @@
 -- The turns of a loop.
-use Rattle.std.proofs.Common.{◌≡◌, ℕ, suc, ◌+◌, ◌-◌, ◌<◌, ◌≤◌, List, Some, Ok, Err, refl, sym, ap, ◌∙◌, arith}
+use Rattle.std.proofs.Common.{◌≡◌, ℕ, suc, ◌+◌, ◌-◌, ◌<◌, ◌≤◌, List, Option, Some, Result, Ok, Err, refl, sym, ap, ◌∙◌, subst, arith}
 use Rattle.lc_base.specs.declared.tx_status.TxStatus.TheVariants.{OutOfSteps}
 use Rattle.contract_meaning.specs.declared.variable.Variable.{Variable}
 use Rattle.contract_meaning.specs.declared.stop.Stop.{Stop}
 use Rattle.contract_meaning.specs.declared.stop.Stop.TheVariants as kinds
+use Rattle.contract_meaning.specs.Scenes.{Scene}
 use Rattle.contract_meaning.specs.Steps.{Machine, Step, Done, Failed, and_then}
 use Rattle.contract_meaning.specs.Statements.{Ending, Turn, Again, turns, after_turn}
 use Rattle.contract_statements.specs.declared.flow.Flow.{Flow}
@@ -20,6 +21,10 @@ next_turn n i turn variables m lt = let k : n - i ≡ suc (n - (i + 1)) = omega 
 pub no_turn : (n i : ℕ) (turn : List Variable → Machine → Step Turn) (variables : List Variable) (m : Machine) → n ≤ i → turns (n - i) turn variables m ≡ Failed OutOfSteps m
 unfolding turns
 no_turn n i turn variables m le = let k : n - i ≡ 0 = omega arith in rw k refl
+
+-- a turn in a scene that is the same
+pub turn_moved : (turn : Scene → List Variable → Machine → Step Turn) (s t : Scene) (variables others : List Variable) (m k : Machine) (result : Result (Option Flow) Stop) → s ≡ t → Turns (turn s variables m) result others k → Turns (turn t variables m) result others k
+turn_moved turn s t variables others m k result same at = subst (λ (s : Scene). Turns (turn s variables m) result others k) same at
 
 -- what a turn means for the whole loop
 pub one_more : (n i : ℕ) (turn : List Variable → Machine → Step Turn) (variables others : List Variable) (m k : Machine) (total : Step Ending) → i < n → turns (n - i) turn variables m ≡ total → turn variables m ≡ Done (Again others) k

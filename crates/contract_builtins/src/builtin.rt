@@ -1,26 +1,25 @@
 //! What builtins give.
 
-ghost use Rattle.std.specs.Prelude.{◌≡◌, ℕ, pos, length, ◌≤◌, Ok, IfSome, IsErrOf};
+ghost use Rattle.std.specs.Prelude.{◌≡◌, ℕ, pos, length, Ok};
 ghost use Rattle.std.specs.Fmt.{signed_decimal};
 ghost use Rattle.lc_base.specs.declared.value.Value.TheVariants as values;
 ghost use Rattle.lc_base.specs.declared.answer.Kind.TheVariants as kinds;
-ghost use Rattle.lc_base.specs.Faults.{HasCause};
 ghost use Rattle.contract_meaning.specs.Builtins.{with_args, one_text, one_int, version_value, item_value, version_part, count_part, item_part, plain_value, built, called, applied};
-ghost use Rattle.contract_meaning.specs.Steps.{machine};
-ghost use Rattle.contract_meaning.specs.Answers.{scene_in, place_in, IsResultOf, IsNoFault, Takes, Gives, Charges, IsFaithful};
+ghost use Rattle.contract_meaning.specs.Answers.{IsResultOf, IsNoFault, Takes, Gives, Charges};
+ghost use Rattle.contract_meaning.specs.Hosts.{Asks};
+ghost use Rattle.contract_builtins.specs.Runs.{Keeps, Tells};
 
 use crate::arguments::{one_int, one_text, text_and_int, text_and_ints};
 use crate::reading::{get_int, get_text, has, int_in, text_in};
+use crate::run::Run;
 use contract_asking::{
     back_count_asked, back_item_asked, block_told, block_value, fwd_count_asked, fwd_item_asked,
     key_value, seen_told, tx_told, value_told, version_asked,
 };
 use contract_meaning::{CallSite, Stop, charge_of};
 use contract_tree::Builtin;
-use dep_capture::Capture;
 use lc_base::{Dep, Host, Name, Text, TxStatus, Value, Version};
 use std::alloc::Global;
-use world_state::World;
 
 /// Takes a charge from what is left of the budget. One that is larger is not taken.
 pub fn charge(left: &mut u32, charge: u32) -> Result<(), TxStatus>
@@ -68,9 +67,7 @@ fn version_part<H: Host>(
     args: &[Value],
 ) -> Result<Value, Stop>
     requires { H.ready host.old }
-    ensures same { H.same host.old host.new }
-    ensures answer { IfSome (H.rows host.old) (λ rows. IsResultOf (λ value. value) (version_part rows number builtin args.now) result) }
-    ensures cause { HasCause (H.host_faults host.old) (H.host_faults host.new) (IsErrOf result Stop.Fault) }
+    ensures { Asks H.Host host.old host.new (λ value. value) (λ rows. version_part rows number builtin args.now) result }
 {
     match text_and_int(args) {
         None => Err(Stop::Status(TxStatus::WrongKind)),
@@ -88,9 +85,7 @@ fn back_count<H: Host>(
     args: &[Value],
 ) -> Result<Value, Stop>
     requires { H.ready host.old }
-    ensures same { H.same host.old host.new }
-    ensures answer { IfSome (H.rows host.old) (λ rows. IsResultOf (λ value. value) (count_part rows number kinds.Back args.now) result) }
-    ensures cause { HasCause (H.host_faults host.old) (H.host_faults host.new) (IsErrOf result Stop.Fault) }
+    ensures { Asks H.Host host.old host.new (λ value. value) (λ rows. count_part rows number kinds.Back args.now) result }
 {
     match text_and_int(args) {
         None => Err(Stop::Status(TxStatus::WrongKind)),
@@ -105,9 +100,7 @@ fn fwd_count<H: Host>(
     args: &[Value],
 ) -> Result<Value, Stop>
     requires { H.ready host.old }
-    ensures same { H.same host.old host.new }
-    ensures answer { IfSome (H.rows host.old) (λ rows. IsResultOf (λ value. value) (count_part rows number kinds.Fwd args.now) result) }
-    ensures cause { HasCause (H.host_faults host.old) (H.host_faults host.new) (IsErrOf result Stop.Fault) }
+    ensures { Asks H.Host host.old host.new (λ value. value) (λ rows. count_part rows number kinds.Fwd args.now) result }
 {
     match text_and_int(args) {
         None => Err(Stop::Status(TxStatus::WrongKind)),
@@ -123,9 +116,7 @@ fn back_item<H: Host>(
     args: &[Value],
 ) -> Result<Value, Stop>
     requires { H.ready host.old }
-    ensures same { H.same host.old host.new }
-    ensures answer { IfSome (H.rows host.old) (λ rows. IsResultOf (λ value. value) (item_part rows number kinds.Back builtin args.now) result) }
-    ensures cause { HasCause (H.host_faults host.old) (H.host_faults host.new) (IsErrOf result Stop.Fault) }
+    ensures { Asks H.Host host.old host.new (λ value. value) (λ rows. item_part rows number kinds.Back builtin args.now) result }
 {
     match text_and_ints(args) {
         None => Err(Stop::Status(TxStatus::WrongKind)),
@@ -144,9 +135,7 @@ fn fwd_item<H: Host>(
     args: &[Value],
 ) -> Result<Value, Stop>
     requires { H.ready host.old }
-    ensures same { H.same host.old host.new }
-    ensures answer { IfSome (H.rows host.old) (λ rows. IsResultOf (λ value. value) (item_part rows number kinds.Fwd builtin args.now) result) }
-    ensures cause { HasCause (H.host_faults host.old) (H.host_faults host.new) (IsErrOf result Stop.Fault) }
+    ensures { Asks H.Host host.old host.new (λ value. value) (λ rows. item_part rows number kinds.Fwd builtin args.now) result }
 {
     match text_and_ints(args) {
         None => Err(Stop::Status(TxStatus::WrongKind)),
@@ -192,9 +181,7 @@ fn plain_value<H: Host>(
     args: &[Value],
 ) -> Result<Value, Stop>
     requires { H.ready host.old }
-    ensures same { H.same host.old host.new }
-    ensures answer { IfSome (H.rows host.old) (λ rows. IsResultOf (λ value. value) (plain_value rows site.now builtin args.now) result) }
-    ensures cause { HasCause (H.host_faults host.old) (H.host_faults host.new) (IsErrOf result Stop.Fault) }
+    ensures { Asks H.Host host.old host.new (λ value. value) (λ rows. plain_value rows site.now builtin args.now) result }
 {
     match builtin {
         Builtin::Caller => sender_text(alloc, site),
@@ -219,61 +206,44 @@ fn plain_value<H: Host>(
 }
 
 /// What a builtin gives, and what was read by then.
-fn built<C, H: Host>(
-    alloc: Global,
-    world: &World<C>,
-    site: &CallSite,
-    host: &mut H,
-    capture: &mut Capture,
-    builtin: Builtin,
-    args: &[Value],
-) -> Result<Value, Stop>
-    requires { H.ready host.old }
-    ensures same { H.same host.old host.new }
-    ensures taken { IfSome (H.rows host.old) (λ rows. Takes (built (scene_in rows world.now site.now) builtin args.now capture.old) result capture.new) }
-    ensures faithful { IsFaithful (place_in world.now) capture.old → IsFaithful (place_in world.now) capture.new }
-    ensures cause { HasCause (H.host_faults host.old) (H.host_faults host.new) (IsErrOf result Stop.Fault) }
+fn built<C, H: Host>(run: &mut Run<C, H>, builtin: Builtin, args: &[Value]) -> Result<Value, Stop>
+    requires { H.ready run.old.host.now }
+    ensures taken { Tells H.Host run.old run.new (λ s m k. Takes (built s builtin args.now m.capture) result k.capture) }
+    ensures left { run.new.left ≡ run.old.left }
+    ensures keeps { Keeps H.Host run.old run.new result }
 {
     match builtin {
         Builtin::GetInt => match one_text(args) {
             None => Err(Stop::Status(TxStatus::WrongKind)),
-            Some(text) => get_int(alloc, world, capture, text),
+            Some(text) => get_int(run.alloc, run.world, run.capture, text),
         },
         Builtin::GetText => match one_text(args) {
             None => Err(Stop::Status(TxStatus::WrongKind)),
-            Some(text) => get_text(alloc, world, capture, text),
+            Some(text) => get_text(run.alloc, run.world, run.capture, text),
         },
         Builtin::Has => match one_text(args) {
             None => Err(Stop::Status(TxStatus::WrongKind)),
-            Some(text) => has(world, capture, text),
+            Some(text) => has(run.world, run.capture, text),
         },
-        _ => plain_value(alloc, site, host, builtin, args),
+        _ => plain_value(run.alloc, run.site, run.host, builtin, args),
     }
 }
 
 /// A call of a builtin, whose charge comes first.
 fn called<C, H: Host>(
-    alloc: Global,
-    world: &World<C>,
-    site: &CallSite,
-    host: &mut H,
-    capture: &mut Capture,
-    left: &mut u32,
+    run: &mut Run<C, H>,
     builtin: Option<Builtin>,
     args: &[Value],
 ) -> Result<Value, Stop>
-    requires { H.ready host.old }
-    ensures same { H.same host.old host.new }
-    ensures step { IfSome (H.rows host.old) (λ rows. Gives (λ value. value) (called (scene_in rows world.now site.now) builtin args.now (machine left.old capture.old)) result (machine left.new capture.new)) }
-    ensures left { left.new ≤ left.old }
-    ensures faithful { IsFaithful (place_in world.now) capture.old → IsFaithful (place_in world.now) capture.new }
-    ensures cause { HasCause (H.host_faults host.old) (H.host_faults host.new) (IsErrOf result Stop.Fault) }
+    requires { H.ready run.old.host.now }
+    ensures step { Tells H.Host run.old run.new (λ s m k. Gives (λ value. value) (called s builtin args.now m) result k) }
+    ensures keeps { Keeps H.Host run.old run.new result }
 {
     match builtin {
         None => Err(Stop::Status(TxStatus::WrongKind)),
         Some(builtin) => {
-            charge(left, charge_of(builtin))?;
-            built(alloc, world, site, host, capture, builtin, args)
+            charge(&mut run.left, charge_of(builtin))?;
+            built(run, builtin, args)
         }
     }
 }
@@ -284,23 +254,11 @@ fn called<C, H: Host>(
 ///
 /// The status with which it fails, a fault of the host, or `Memory`.
 #[tactic(auto, unfolding(contract_meaning::specs::Builtins::applied))]
-pub fn applied<C, H: Host>(
-    alloc: Global,
-    world: &World<C>,
-    site: &CallSite,
-    host: &mut H,
-    capture: &mut Capture,
-    left: &mut u32,
-    name: &Name,
-    args: &[Value],
-) -> Result<Value, Stop>
-    requires { H.ready host.old }
-    ensures same { H.same host.old host.new }
-    ensures step { IfSome (H.rows host.old) (λ rows. Gives (λ value. value) (applied (scene_in rows world.now site.now) name.now args.now (machine left.old capture.old)) result (machine left.new capture.new)) }
-    ensures left { left.new ≤ left.old }
-    ensures faithful { IsFaithful (place_in world.now) capture.old → IsFaithful (place_in world.now) capture.new }
-    ensures cause { HasCause (H.host_faults host.old) (H.host_faults host.new) (IsErrOf result Stop.Fault) }
+pub fn applied<C, H: Host>(run: &mut Run<C, H>, name: &Name, args: &[Value]) -> Result<Value, Stop>
+    requires { H.ready run.old.host.now }
+    ensures step { Tells H.Host run.old run.new (λ s m k. Gives (λ value. value) (applied s name.now args.now m) result k) }
+    ensures keeps { Keeps H.Host run.old run.new result }
 {
     let builtin = Builtin::of_name(name);
-    called(alloc, world, site, host, capture, left, builtin, args)
+    called(run, builtin, args)
 }

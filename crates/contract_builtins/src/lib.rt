@@ -4,6 +4,8 @@
 mod arguments;
 mod builtin;
 mod reading;
+mod run;
 
 pub use builtin::{applied, charge};
 pub use reading::copied;
+pub use run::Run;

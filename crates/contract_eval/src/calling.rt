@@ -13,6 +13,7 @@ ghost use Rattle.contract_meaning.specs.Calls.{is_of_kind, is_of_its_kind, are_a
 ghost use Rattle.contract_meaning.specs.Answers.{scene_in, place_in, IsFaithful};
 
 use contract_blocks::statements;
+use contract_builtins::Run;
 use contract_check::Checked;
 use contract_meaning::{CallSite, Outcome, Stop};
 use contract_statements::Flow;
@@ -99,23 +100,19 @@ fn function_run<C, H: Host>(
         Ok(variables) => variables,
         Err(Memory) => return Err(HostError::Memory),
     };
-    let mut left = site.budget;
-    let body = &function.body;
-    let ended = statements(
+    let mut run = Run {
         alloc,
         world,
         site,
         host,
-        &mut variables,
         capture,
-        &mut left,
-        body,
-    );
+        left: site.budget,
+    };
+    let body = &function.body;
+    let ended = statements(&mut run, &mut variables, body);
+    let cost = site.budget - run.left;
     let status = status_of(ended)?;
-    Ok(Outcome {
-        status,
-        cost: site.budget - left,
-    })
+    Ok(Outcome { status, cost })
 }
 
 /// A function, where the arguments are those that it takes.

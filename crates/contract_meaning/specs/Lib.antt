@@ -11,3 +11,4 @@ pub mod Puts
 pub mod Statements
 pub mod Calls
 pub mod Answers
+pub mod Hosts

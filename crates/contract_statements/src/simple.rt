@@ -1,99 +1,72 @@
 //! Statements that have no block but `put`, and conditions.
 
-ghost use Rattle.std.specs.Prelude.{◌≤◌, List, IfSome, IsErrOf};
-ghost use Rattle.lc_base.specs.Faults.{HasCause};
+ghost use Rattle.std.specs.Prelude.{◌≤◌, List};
 ghost use Rattle.lc_base.specs.declared.tx_status.TxStatus.TheVariants as statuses;
 ghost use Rattle.contract_tree.specs.Tree.{tree_of};
 ghost use Rattle.contract_meaning.specs.declared.variable.Variable.{Variable};
 ghost use Rattle.contract_meaning.specs.declared.charge.TheConstants.{CHARGE_NODE};
 ghost use Rattle.contract_meaning.specs.Steps.{machine, charged, Done, Failed};
 ghost use Rattle.contract_meaning.specs.Statements.{Returns, tested, let_run, assign_run};
-ghost use Rattle.contract_meaning.specs.Answers.{scene_in, place_in, Gives, IsNoFault, IsFaithful};
+ghost use Rattle.contract_meaning.specs.Answers.{Gives, IsNoFault};
+ghost use Rattle.contract_builtins.specs.Runs.{Keeps, Tells};
 ghost use Rattle.dep_capture.specs.Captured.{Captured};
 ghost use Rattle.contract_statements.specs.Flows.{Flows};
 
 use crate::flow::Flow;
-use contract_builtins::charge;
-use contract_meaning::{CHARGE_NODE, CallSite, Stop};
+use contract_builtins::{Run, charge};
+use contract_meaning::{CHARGE_NODE, Stop};
 use contract_operators::holds;
 use contract_tree::Expr;
 use contract_values::value;
 use contract_variables::Variables;
-use dep_capture::Capture;
 use lc_base::{Host, Name, TxStatus};
-use std::alloc::Global;
-use world_state::World;
 
 /// The charge of a statement, and whether its condition holds.
 #[inline(always)]
 pub fn tested<C, H: Host>(
-    alloc: Global,
-    world: &World<C>,
-    site: &CallSite,
-    host: &mut H,
+    run: &mut Run<C, H>,
     variables: &Variables,
-    capture: &mut Capture,
-    left: &mut u32,
     test: &Expr,
 ) -> Result<bool, Stop>
-    requires { H.ready host.old }
-    ensures same { H.same host.old host.new }
-    ensures step { IfSome (H.rows host.old) (λ rows. Gives (λ holds. holds) (tested (scene_in rows world.now site.now) (tree_of test.now) variables.now (machine left.old capture.old)) result (machine left.new capture.new)) }
-    ensures left { left.new ≤ left.old }
-    ensures faithful { IsFaithful (place_in world.now) capture.old → IsFaithful (place_in world.now) capture.new }
-    ensures cause { HasCause (H.host_faults host.old) (H.host_faults host.new) (IsErrOf result Stop.Fault) }
+    requires { H.ready run.old.host.now }
+    ensures step { Tells H.Host run.old run.new (λ s m k. Gives (λ holds. holds) (tested s (tree_of test.now) variables.now m) result k) }
+    ensures keeps { Keeps H.Host run.old run.new result }
 {
-    charge(left, CHARGE_NODE)?;
-    let value = value(alloc, world, site, host, variables, capture, left, test)?;
+    charge(&mut run.left, CHARGE_NODE)?;
+    let value = value(run, variables, test)?;
     Ok(holds(&value))
 }
 
 /// `let name = x;`
 pub fn let_statement<C, H: Host>(
-    alloc: Global,
-    world: &World<C>,
-    site: &CallSite,
-    host: &mut H,
+    run: &mut Run<C, H>,
     variables: &mut Variables,
-    capture: &mut Capture,
-    left: &mut u32,
     name: &Name,
     x: &Expr,
 ) -> Result<Flow, Stop>
-    requires { H.ready host.old }
-    ensures same { H.same host.old host.new }
-    ensures step { IfSome (H.rows host.old) (λ rows. Flows (let_run (scene_in rows world.now site.now) name.now (tree_of x.now) variables.old (machine left.old capture.old)) result variables.new (machine left.new capture.new)) }
-    ensures left { left.new ≤ left.old }
-    ensures faithful { IsFaithful (place_in world.now) capture.old → IsFaithful (place_in world.now) capture.new }
-    ensures cause { HasCause (H.host_faults host.old) (H.host_faults host.new) (IsErrOf result Stop.Fault) }
+    requires { H.ready run.old.host.now }
+    ensures step { Tells H.Host run.old run.new (λ s m k. Flows (let_run s name.now (tree_of x.now) variables.old m) result variables.new k) }
+    ensures keeps { Keeps H.Host run.old run.new result }
 {
-    charge(left, CHARGE_NODE)?;
-    let value = value(alloc, world, site, host, variables, capture, left, x)?;
+    charge(&mut run.left, CHARGE_NODE)?;
+    let value = value(run, variables, x)?;
     variables.declare(name, value)?;
     Ok(Flow::Goes)
 }
 
 /// `name = x;`
 pub fn assign_statement<C, H: Host>(
-    alloc: Global,
-    world: &World<C>,
-    site: &CallSite,
-    host: &mut H,
+    run: &mut Run<C, H>,
     variables: &mut Variables,
-    capture: &mut Capture,
-    left: &mut u32,
     name: &Name,
     x: &Expr,
 ) -> Result<Flow, Stop>
-    requires { H.ready host.old }
-    ensures same { H.same host.old host.new }
-    ensures step { IfSome (H.rows host.old) (λ rows. Flows (assign_run (scene_in rows world.now site.now) name.now (tree_of x.now) variables.old (machine left.old capture.old)) result variables.new (machine left.new capture.new)) }
-    ensures left { left.new ≤ left.old }
-    ensures faithful { IsFaithful (place_in world.now) capture.old → IsFaithful (place_in world.now) capture.new }
-    ensures cause { HasCause (H.host_faults host.old) (H.host_faults host.new) (IsErrOf result Stop.Fault) }
+    requires { H.ready run.old.host.now }
+    ensures step { Tells H.Host run.old run.new (λ s m k. Flows (assign_run s name.now (tree_of x.now) variables.old m) result variables.new k) }
+    ensures keeps { Keeps H.Host run.old run.new result }
 {
-    charge(left, CHARGE_NODE)?;
-    let value = value(alloc, world, site, host, variables, capture, left, x)?;
+    charge(&mut run.left, CHARGE_NODE)?;
+    let value = value(run, variables, x)?;
     variables.assign(name, value);
     Ok(Flow::Goes)
 }

@@ -1,23 +1,20 @@
 //! The values of expressions.
 
-ghost use Rattle.std.specs.Prelude.{◌≡◌, ◌≤◌, [], Ok, map, IfSome, IsErrOf};
+ghost use Rattle.std.specs.Prelude.{◌≡◌, [], Ok, map};
 ghost use Rattle.std.specs.Option.{option_copied};
-ghost use Rattle.lc_base.specs.Faults.{HasCause};
 ghost use Rattle.contract_tree.specs.Tree.{tree_of, trees};
 ghost use Rattle.contract_meaning.specs.Expressions.{variable_of, value_found, value_of, values_of, call_value, right_value, node_value};
-ghost use Rattle.contract_meaning.specs.Steps.{machine};
-ghost use Rattle.contract_meaning.specs.Answers.{scene_in, place_in, IsResultOf, IsNoFault, Gives, IsFaithful};
+ghost use Rattle.contract_meaning.specs.Answers.{IsResultOf, IsNoFault, Gives};
+ghost use Rattle.contract_builtins.specs.Runs.{Keeps, Tells};
 ghost use Rattle.contract_values.specs.PlainNumbers.{number_found, plain_number};
 
-use contract_builtins::{applied, charge, copied};
-use contract_meaning::{CHARGE_NODE, CallSite, Stop};
+use contract_builtins::{Run, applied, charge, copied};
+use contract_meaning::{CHARGE_NODE, Stop};
 use contract_operators::{combined, decided, prefixed};
 use contract_tree::{Expr, ExprNode, Sign};
 use contract_variables::Variables;
-use dep_capture::Capture;
 use lc_base::{Duplicate, Host, Name, TxStatus, Value};
 use std::alloc::Global;
-use world_state::World;
 
 #[tactic(auto, using(crate::proofs::PlainNumbers::found_is))]
 fn named_value(alloc: Global, variables: &Variables, name: &Name) -> Result<Value, Stop>
@@ -56,60 +53,36 @@ fn plain_number(variables: &Variables, x: &Expr) -> Option<i64>
 #[cycle(value)]
 #[tactic(auto, using(crate::proofs::Charging::charged_node, crate::proofs::PlainNumbers::plain_is))]
 pub fn value<C, H: Host>(
-    alloc: Global,
-    world: &World<C>,
-    site: &CallSite,
-    host: &mut H,
+    run: &mut Run<C, H>,
     variables: &Variables,
-    capture: &mut Capture,
-    left: &mut u32,
     x: &Expr,
 ) -> Result<Value, Stop>
-    requires { H.ready host.old }
-    ensures same { H.same host.old host.new }
-    ensures step { IfSome (H.rows host.old) (λ rows. Gives (λ value. value) (value_of (scene_in rows world.now site.now) variables.now (tree_of x.now) (machine left.old capture.old)) result (machine left.new capture.new)) }
-    ensures left { left.new ≤ left.old }
-    ensures faithful { IsFaithful (place_in world.now) capture.old → IsFaithful (place_in world.now) capture.new }
-    ensures cause { HasCause (H.host_faults host.old) (H.host_faults host.new) (IsErrOf result Stop.Fault) }
+    requires { H.ready run.old.host.now }
+    ensures step { Tells H.Host run.old run.new (λ s m k. Gives (λ value. value) (value_of s variables.now (tree_of x.now) m) result k) }
+    ensures keeps { Keeps H.Host run.old run.new result }
 {
-    charge(left, CHARGE_NODE)?;
+    charge(&mut run.left, CHARGE_NODE)?;
     match plain_number(variables, x) {
         Some(number) => Ok(Value::Int(number)),
-        None => node(alloc, world, site, host, variables, capture, left, x),
+        None => node(run, variables, x),
     }
 }
 
 /// The value of an expression, once its own part is charged.
 #[cycle(value)]
 #[inline(never)]
-fn node<C, H: Host>(
-    alloc: Global,
-    world: &World<C>,
-    site: &CallSite,
-    host: &mut H,
-    variables: &Variables,
-    capture: &mut Capture,
-    left: &mut u32,
-    x: &Expr,
-) -> Result<Value, Stop>
-    requires { H.ready host.old }
-    ensures same { H.same host.old host.new }
-    ensures step { IfSome (H.rows host.old) (λ rows. Gives (λ value. value) (node_value (scene_in rows world.now site.now) variables.now (tree_of x.now) (machine left.old capture.old)) result (machine left.new capture.new)) }
-    ensures left { left.new ≤ left.old }
-    ensures faithful { IsFaithful (place_in world.now) capture.old → IsFaithful (place_in world.now) capture.new }
-    ensures cause { HasCause (H.host_faults host.old) (H.host_faults host.new) (IsErrOf result Stop.Fault) }
+fn node<C, H: Host>(run: &mut Run<C, H>, variables: &Variables, x: &Expr) -> Result<Value, Stop>
+    requires { H.ready run.old.host.now }
+    ensures step { Tells H.Host run.old run.new (λ s m k. Gives (λ value. value) (node_value s variables.now (tree_of x.now) m) result k) }
+    ensures keeps { Keeps H.Host run.old run.new result }
 {
     match &x.node {
         ExprNode::Int(number) => Ok(Value::Int(*number)),
-        ExprNode::Text(text) => Ok(Value::Text(text.copy(alloc)?)),
-        ExprNode::Name(name) => named_value(alloc, variables, name),
-        ExprNode::Call { name, args } => {
-            call(
-                alloc, world, site, host, variables, capture, left, name, args,
-            )
-        }
+        ExprNode::Text(text) => Ok(Value::Text(text.copy(run.alloc)?)),
+        ExprNode::Name(name) => named_value(run.alloc, variables, name),
+        ExprNode::Call { name, args } => { call(run, variables, name, args) }
         ExprNode::Prefix { sign, operand } => {
-            let operand = value(alloc, world, site, host, variables, capture, left, operand)?;
+            let operand = value(run, variables, operand)?;
             Ok(prefixed(*sign, &operand)?)
         }
         ExprNode::Binary {
@@ -117,10 +90,8 @@ fn node<C, H: Host>(
             left: first,
             right: second,
         } => {
-            let first = value(alloc, world, site, host, variables, capture, left, first)?;
-            right(
-                alloc, world, site, host, variables, capture, left, *sign, first, second,
-            )
+            let first = value(run, variables, first)?;
+            right(run, variables, *sign, first, second)
         }
     }
 }
@@ -128,29 +99,21 @@ fn node<C, H: Host>(
 /// What an operator gives, once its left side has its value.
 #[cycle(value)]
 fn right<C, H: Host>(
-    alloc: Global,
-    world: &World<C>,
-    site: &CallSite,
-    host: &mut H,
+    run: &mut Run<C, H>,
     variables: &Variables,
-    capture: &mut Capture,
-    left: &mut u32,
     sign: Sign,
     first: Value,
     x: &Expr,
 ) -> Result<Value, Stop>
-    requires { H.ready host.old }
-    ensures same { H.same host.old host.new }
-    ensures step { IfSome (H.rows host.old) (λ rows. Gives (λ value. value) (right_value (scene_in rows world.now site.now) variables.now sign first (tree_of x.now) (machine left.old capture.old)) result (machine left.new capture.new)) }
-    ensures left { left.new ≤ left.old }
-    ensures faithful { IsFaithful (place_in world.now) capture.old → IsFaithful (place_in world.now) capture.new }
-    ensures cause { HasCause (H.host_faults host.old) (H.host_faults host.new) (IsErrOf result Stop.Fault) }
+    requires { H.ready run.old.host.now }
+    ensures step { Tells H.Host run.old run.new (λ s m k. Gives (λ value. value) (right_value s variables.now sign first (tree_of x.now) m) result k) }
+    ensures keeps { Keeps H.Host run.old run.new result }
 {
     match decided(sign, &first) {
         Some(number) => Ok(Value::Int(number)),
         None => {
-            let second = value(alloc, world, site, host, variables, capture, left, x)?;
-            combined(alloc, sign, &first, &second)
+            let second = value(run, variables, x)?;
+            combined(run.alloc, sign, &first, &second)
         }
     }
 }
@@ -158,58 +121,33 @@ fn right<C, H: Host>(
 /// A call of a builtin, once its part is charged.
 #[cycle(value)]
 fn call<C, H: Host>(
-    alloc: Global,
-    world: &World<C>,
-    site: &CallSite,
-    host: &mut H,
+    run: &mut Run<C, H>,
     variables: &Variables,
-    capture: &mut Capture,
-    left: &mut u32,
     name: &Name,
     args: &[Expr],
 ) -> Result<Value, Stop>
-    requires { H.ready host.old }
-    ensures same { H.same host.old host.new }
-    ensures step { IfSome (H.rows host.old) (λ rows. Gives (λ value. value) (call_value (scene_in rows world.now site.now) variables.now name.now (trees (map tree_of args.now)) (machine left.old capture.old)) result (machine left.new capture.new)) }
-    ensures left { left.new ≤ left.old }
-    ensures faithful { IsFaithful (place_in world.now) capture.old → IsFaithful (place_in world.now) capture.new }
-    ensures cause { HasCause (H.host_faults host.old) (H.host_faults host.new) (IsErrOf result Stop.Fault) }
+    requires { H.ready run.old.host.now }
+    ensures step { Tells H.Host run.old run.new (λ s m k. Gives (λ value. value) (call_value s variables.now name.now (trees (map tree_of args.now)) m) result k) }
+    ensures keeps { Keeps H.Host run.old run.new result }
 {
-    let args = values(alloc, world, site, host, variables, capture, left, args)?;
-    applied(
-        alloc,
-        world,
-        site,
-        host,
-        capture,
-        left,
-        name,
-        args.as_slice(),
-    )
+    let args = values(run, variables, args)?;
+    applied(run, name, args.as_slice())
 }
 
 /// The values of expressions, in order.
 #[cycle(value)]
 pub fn values<C, H: Host>(
-    alloc: Global,
-    world: &World<C>,
-    site: &CallSite,
-    host: &mut H,
+    run: &mut Run<C, H>,
     variables: &Variables,
-    capture: &mut Capture,
-    left: &mut u32,
     xs: &[Expr],
 ) -> Result<Vec<Value>, Stop>
-    requires { H.ready host.old }
-    ensures same { H.same host.old host.new }
-    ensures step { IfSome (H.rows host.old) (λ rows. Gives (λ values. values.items) (values_of (scene_in rows world.now site.now) variables.now [] (trees (map tree_of xs.now)) (machine left.old capture.old)) result (machine left.new capture.new)) }
-    ensures left { left.new ≤ left.old }
-    ensures faithful { IsFaithful (place_in world.now) capture.old → IsFaithful (place_in world.now) capture.new }
-    ensures cause { HasCause (H.host_faults host.old) (H.host_faults host.new) (IsErrOf result Stop.Fault) }
+    requires { H.ready run.old.host.now }
+    ensures step { Tells H.Host run.old run.new (λ s m k. Gives (λ values. values.items) (values_of s variables.now [] (trees (map tree_of xs.now)) m) result k) }
+    ensures keeps { Keeps H.Host run.old run.new result }
 {
-    let mut all = Vec::new(alloc);
+    let mut all = Vec::new(run.alloc);
     for x in xs {
-        let value = value(alloc, world, site, host, variables, capture, left, x)?;
+        let value = value(run, variables, x)?;
         all.push(value)?;
     }
     Ok(all)

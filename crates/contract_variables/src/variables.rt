@@ -16,7 +16,7 @@ use std::alloc::Global;
 use std::marker::Model;
 
 /// So many names are compared one by one; where there are more, the name is hashed.
-const FEW: usize = 16;
+const FEW: usize = 4;
 
 /// The visible variables of a function.
 ///
