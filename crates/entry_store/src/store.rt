@@ -1,0 +1,160 @@
+//! The arena of entries.
+
+ghost use Rattle.std.specs.Prelude.{◌≡◌, ◌<◌, ◌≤◌, [], ◌∷◌, ◌++◌, length, take, slice_get, Some, MatchOption, IfOk, OnOk, OnErr};
+ghost use Rattle.std.specs.List.{All};
+ghost use Rattle.std.specs.Option.{option_map};
+ghost use Rattle.std.specs.Rc.{rc_slice_items};
+ghost use Rattle.lc_base.specs.declared.limits.TheConstants.{MAX_ROWS};
+ghost use Rattle.prov_entry.specs.declared.limits.TheConstants.{MAX_LINKS};
+ghost use Rattle.entry_store.specs.declared.entry.Hop.{Hop};
+ghost use Rattle.entry_store.specs.Steps.{raised};
+ghost use Rattle.entry_store.specs.Entries.{Entry, LeadsBack, AreEntries, new_entry};
+
+use crate::entry::{EntryId, Facts, HopList, Links};
+use crate::facts::{body_digest, facts_of, links_of};
+use crate::kept::Kept;
+use crate::steps::Steps;
+use lc_base::{DepList, Digest, Key, Memory};
+use prov_entry::Header;
+use std::alloc::Global;
+use std::marker::Model;
+use std::rc::RcSlice;
+
+/// Versions in the order in which they were pushed. An entry never changes.
+#[derive(Drop)]
+pub struct Store {
+    entries: Vec<Kept>,
+}
+
+impl Model for Store {
+    ghost use Rattle.std.specs.Prelude.{List};
+    ghost use Rattle.entry_store.specs.Entries.{Entry, AreEntries};
+
+    ghost Value = { List Entry };
+
+    ghost view = { λ store. store.entries.items };
+
+    ghost invariant = { λ store. AreEntries store.entries.items };
+}
+
+impl Store {
+    /// The store without an entry.
+    pub fn new(alloc: Global) -> Result<Store, Memory>
+        ensures { IfOk result (λ store. store ≡ []) }
+    {
+        Ok(Store {
+            entries: Vec::new(alloc),
+        })
+    }
+
+    /// Adds an entry, digests its header, and gives its id. Out of memory, the store stays as it was.
+    pub fn push(
+        &mut self,
+        key: Key,
+        block: u32,
+        tx: u16,
+        hops: HopList,
+        closed: DepList,
+        closed_digest: Digest,
+        body: RcSlice<u8>,
+    ) -> Result<EntryId, Memory>
+        requires room { length self.old < MAX_ROWS }
+        requires few { length hops ≤ MAX_LINKS }
+        requires back { All (LeadsBack self.old key block) hops }
+        ensures id { IfOk result (λ id. id.0 ≡ length self.old) }
+        ensures ok { OnOk result (self.new ≡ self.old ++ new_entry self.old key block tx hops closed closed_digest (rc_slice_items body) ∷ []) }
+        ensures err { OnErr result (self.new ≡ self.old) }
+    {
+        let alloc = *self.entries.allocator();
+        let id = EntryId(self.entries.len() as u32);
+        let header = Header {
+            key,
+            block,
+            tx,
+            body: body_digest(&body),
+            closed: closed.len() as u64,
+            closed_digest,
+            links: links_of(alloc, &self.entries, hops.as_slice())?,
+        };
+        let facts = facts_of(&header);
+        let links = Links { block, hops };
+        self.entries.push(Kept::new(links, facts, closed, body))?;
+        Ok(id)
+    }
+
+    /// Reads the links of an entry, and counts it. No other call reads links.
+    pub fn entry(&self, id: EntryId, steps: &mut Steps) -> &Links
+        requires { id.0 < length self.now }
+        ensures links { option_map (λ (entry : Entry). entry.links) (slice_get self.now id.0) ≡ Some result.now }
+        ensures back { All (λ (hop : Hop). hop.id.0 < id.0) result.now.hops }
+        ensures few { length result.now.hops ≤ MAX_LINKS }
+        ensures step { steps.new ≡ raised steps.old 1 }
+        ensures never_less { steps.old ≤ steps.new }
+    {
+        steps.raise();
+        self.entries[id.0 as usize].links()
+    }
+
+    /// The other facts of an entry.
+    pub fn facts(&self, id: EntryId) -> Facts
+        requires { id.0 < length self.now }
+        ensures { option_map (λ (entry : Entry). entry.facts) (slice_get self.now id.0) ≡ Some result }
+    {
+        self.entries[id.0 as usize].facts()
+    }
+
+    /// The bytes of the body of an entry, which are shared.
+    pub fn body(&self, id: EntryId) -> Result<RcSlice<u8>, Memory>
+        requires { id.0 < length self.now }
+        ensures { IfOk result (λ body. option_map (λ (entry : Entry). entry.body) (slice_get self.now id.0) ≡ Some (rc_slice_items body)) }
+    {
+        self.entries[id.0 as usize].body()
+    }
+
+    /// The forward list that an entry closed.
+    pub fn closed_list(&self, id: EntryId) -> &DepList
+        requires { id.0 < length self.now }
+        ensures { option_map (λ (entry : Entry). entry.closed) (slice_get self.now id.0) ≡ Some result.now }
+    {
+        self.entries[id.0 as usize].closed()
+    }
+
+    /// The number of entries. What holds of the entries of every store is said here.
+    pub fn count(&self) -> u32
+        ensures count { result ≡ length self.now }
+        ensures entries { AreEntries self.now }
+    {
+        self.entries.len() as u32
+    }
+
+    /// The entry at an index in the order of `push`; `None` exactly past the end.
+    pub fn id(&self, index: u32) -> Option<EntryId>
+        ensures { MatchOption result (length self.now ≤ index) (λ id. (index < length self.now) × (id.0 ≡ index)) }
+    {
+        if index < self.count() {
+            return Some(EntryId(index));
+        }
+        None
+    }
+
+    /// A store of the first entries, with the same ids. Their bodies are shared.
+    pub fn front(&self, count: u32) -> Result<Store, Memory>
+        requires { count ≤ length self.now }
+        ensures { IfOk result (λ store. store ≡ take count self.now) }
+    {
+        let alloc = *self.entries.allocator();
+        Ok(Store {
+            entries: copied(alloc, &self.entries[..count as usize])?,
+        })
+    }
+}
+
+fn copied(alloc: Global, entries: &[Kept]) -> Result<Vec<Kept>, Memory>
+    ensures { IfOk result (λ copy. copy.items ≡ entries.now) }
+{
+    let mut copy = Vec::with_capacity(alloc, entries.len())?;
+    for entry in entries {
+        copy.push(entry.copy()?)?;
+    }
+    Ok(copy)
+}
