@@ -1,0 +1,8 @@
+pub mod LinkLevels
+pub mod Pushing
+pub mod Turns
+pub mod Lookups
+pub mod Rungs
+pub mod PathTurns
+pub mod LinkTowers
+pub mod OneList

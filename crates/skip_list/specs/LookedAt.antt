@@ -1,0 +1,22 @@
+-- The entries that a lookup looks at.
+use Rattle.std.specs.Prelude.{ℕ, suc, List, Option, Some, None, slice_get}
+use Rattle.std.specs.Option.{option_map}
+use Rattle.entry_store.specs.declared.entry.EntryId.{EntryId}
+use Rattle.entry_store.specs.Entries.{Entry}
+use Rattle.skip_list.specs.declared.lookup.Turn.{Turn}
+use Rattle.skip_list.specs.declared.lookup.Turn.TheVariants as turns
+
+-- The entry that a turn goes on to; none where the lookup ends.
+abbrev pub next_entry : Turn → Option EntryId
+next_entry turns.Answer = None
+next_entry turns.Nothing = None
+next_entry (turns.Hop id) = Some id
+
+-- The block of an entry.
+abbrev pub entry_block : List Entry → EntryId → Option ℕ
+entry_block entries id = option_map (λ (entry : Entry). entry.links.block) (slice_get entries id.0)
+
+-- How many entries there may be from one on.
+abbrev pub entries_left : Option EntryId → ℕ
+entries_left None = 0
+entries_left (Some id) = suc id.0

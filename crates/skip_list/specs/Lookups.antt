@@ -1,0 +1,42 @@
+-- Lookups of the last version up to a block.
+use Rattle.std.specs.Prelude.{ℕ, ◌+◌, ◌*◌, ◌<◌, nat_le, if◌then◌else◌, List, [], ◌∷◌, Option, Some, None}
+use Rattle.std.specs.List.{find}
+use Rattle.std.specs.Option.{option_map}
+use Rattle.version_path.specs.Paths.{onward, binary_digits}
+use Rattle.entry_store.specs.declared.entry.EntryId.{EntryId}
+use Rattle.entry_store.specs.declared.entry.Hop.{Hop}
+use Rattle.entry_store.specs.Entries.{Entry}
+use Rattle.skip_list.specs.declared.lookup.Turn.{Turn}
+use Rattle.skip_list.specs.declared.lookup.Turn.TheVariants as turns
+use Rattle.skip_list.specs.Towered.{block_of, links_over, IsTowered}
+
+-- A turn that goes on by a link; there is nothing where there is none.
+abbrev pub turn_by : Option Hop → Turn
+turn_by None = turns.Nothing
+turn_by (Some hop) = turns.Hop hop.id
+
+-- What a look at the newest of these versions says.
+abbrev pub turn_at : ℕ → List Hop → Turn
+turn_at at [] = turns.Nothing
+turn_at at (version ∷ older) = if nat_le version.block at then turns.Answer else turn_by (onward block_of at (links_over version.block older))
+
+-- Where a turn goes on to, the store is towered.
+abbrev pub IsTurnTowered : List Entry → Turn → Type 0
+IsTurnTowered entries turns.Answer = Unit {0}
+IsTurnTowered entries turns.Nothing = Unit {0}
+IsTurnTowered entries (turns.Hop id) = (versions : List Hop) × IsTowered entries id versions
+
+-- It goes on to an entry before this one.
+abbrev pub IsBack : EntryId → Turn → Type 0
+IsBack id turns.Answer = Unit {0}
+IsBack id turns.Nothing = Unit {0}
+IsBack id (turns.Hop next) = next.0 < id.0
+
+-- The last of these versions that is in a block up to `at`.
+abbrev pub latest_version : ℕ → List Hop → Option EntryId
+latest_version at versions = option_map (λ (version : Hop). version.id) (find (λ (version : Hop). nat_le version.block at) versions)
+
+-- The greatest number of versions that a lookup from the newest of these looks at.
+abbrev pub most_steps : List Hop → ℕ
+most_steps [] = 0
+most_steps (version ∷ older) = 2 * binary_digits version.block + 2

@@ -1,0 +1,70 @@
+//! The links of a new version, by climbing the links of older ones.
+
+ghost use Rattle.std.specs.Prelude.{◌≡◌, ◌+◌, ◌*◌, ◌^◌, ◌<◌, ◌≤◌, List, length, IfOk, bit_xor};
+ghost use Rattle.std.specs.List.{All};
+ghost use Rattle.version_links.specs.declared.limits.TheConstants.{MAX_HEIGHT};
+ghost use Rattle.version_path.specs.Paths.{binary_digits};
+ghost use Rattle.entry_store.specs.declared.entry.Hop.{Hop};
+ghost use Rattle.skip_list.specs.Towered.{links_over, IsTowered, AreVersions, AreOlder, LeadsToTowered};
+
+use crate::rung::{read, rung_at};
+use entry_store::{EntryId, HopList, Steps, Store};
+use lc_base::Memory;
+use std::alloc::Global;
+
+/// The height of a version, where `previous` is the block of the version before it.
+fn height_over(previous: u32, block: u32) -> u32
+    requires { previous < block }
+    ensures most { result ≤ MAX_HEIGHT }
+    ensures highest { (2 ^ result ≤ bit_xor previous block) × (bit_xor previous block < 2 * 2 ^ result) }
+{
+    (previous ^ block).ilog2()
+}
+
+/// The last version at each level from 0 to the height of a new version in this block.
+fn climb(
+    alloc: Global,
+    store: &Store,
+    newest: EntryId,
+    block: u32,
+    steps: &mut Steps,
+) -> Result<HopList, Memory>
+    requires { (versions : List Hop) × IsTowered store.now newest versions × AreOlder block versions }
+    ensures links { (versions : List Hop) → IsTowered store.now newest versions → AreOlder block versions → IfOk result (λ hops. hops ≡ links_over block versions) }
+    ensures never_less { steps.old ≤ steps.new }
+    ensures count { steps.new ≤ steps.old + binary_digits block }
+    ensures towered { IfOk result (λ hops. All (LeadsToTowered store.now) hops) }
+    ensures few { IfOk result (λ hops. length hops ≤ MAX_HEIGHT + 1) }
+{
+    let mut rung = read(store, newest, steps);
+    let height = height_over(rung.version.block, block);
+    let mut hops = HopList::new(alloc);
+    for level in 0..height + 1 {
+        rung = rung_at(store, rung, level, steps);
+        hops.push(rung.version)?;
+    }
+    Ok(hops)
+}
+
+/// The links of a new version of a key in this block, one for each level from 0 to its height; none
+/// for a first version. It reads the newest version, and one more for each level at most that the
+/// ones before are not at.
+pub fn links_for(
+    alloc: Global,
+    store: &Store,
+    newest: Option<EntryId>,
+    block: u32,
+    steps: &mut Steps,
+) -> Result<HopList, Memory>
+    requires { (versions : List Hop) × AreVersions store.now newest versions × AreOlder block versions }
+    ensures links { (versions : List Hop) → AreVersions store.now newest versions → AreOlder block versions → IfOk result (λ hops. hops ≡ links_over block versions) }
+    ensures never_less { steps.old ≤ steps.new }
+    ensures count { steps.new ≤ steps.old + binary_digits block }
+    ensures towered { IfOk result (λ hops. All (LeadsToTowered store.now) hops) }
+    ensures few { IfOk result (λ hops. length hops ≤ MAX_HEIGHT + 1) }
+{
+    match newest {
+        None => Ok(HopList::new(alloc)),
+        Some(newest) => climb(alloc, store, newest, block, steps),
+    }
+}

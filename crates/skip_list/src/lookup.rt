@@ -1,0 +1,79 @@
+//! Lookups of the last version of a key up to a block.
+
+ghost use Rattle.std.specs.Prelude.{◌≡◌, ◌^◌, ◌<◌, ◌≤◌, List, ◌∷◌, length, nat_lt, reverse, IfSome};
+ghost use Rattle.std.specs.List.{find};
+ghost use Rattle.std.specs.Option.{option_copied};
+ghost use Rattle.version_path.specs.Paths.{onward, path_over};
+ghost use Rattle.entry_store.specs.declared.entry.Hop.{Hop};
+ghost use Rattle.entry_store.specs.declared.entry.EntryId.{EntryId};
+ghost use Rattle.entry_store.specs.Steps.{raised};
+ghost use Rattle.skip_list.specs.Towered.{block_of, blocks_of, IsTowered};
+ghost use Rattle.skip_list.specs.Lookups.{turn_at, IsTurnTowered, IsBack, latest_version, most_steps};
+
+use entry_store::{EntryId, Hop, Steps, Store};
+
+/// What a look at a version says.
+#[derive(Clone, Copy, Debug, PartialEq, Eq)]
+pub enum Turn {
+    /// The version is the answer.
+    Answer,
+    /// The lookup goes on to this one.
+    Hop(EntryId),
+    /// There is no version up to the block.
+    Nothing,
+}
+
+/// The hop of the highest level that leads above a block.
+fn highest_above(hops: &[Hop], at: u32) -> Option<&Hop>
+    ensures { option_copied result ≡ find (λ (hop : Hop). nat_lt at (block_of hop)) (reverse hops.now) }
+{
+    hops.iter().rev().find(|hop| at < hop.block)
+}
+
+/// The hop by which a lookup goes on.
+fn onward(hops: &[Hop], at: u32) -> Option<Hop>
+    ensures { result ≡ onward block_of at hops.now }
+{
+    match highest_above(hops, at) {
+        Some(hop) => Some(*hop),
+        None => hops.first().copied(),
+    }
+}
+
+/// Looks at one version on the way to the last one in a block up to `at`.
+pub fn path_next(store: &Store, id: EntryId, at: u32, steps: &mut Steps) -> Turn
+    requires towered { (versions : List Hop) × IsTowered store.now id versions }
+    ensures turn { (versions : List Hop) → IsTowered store.now id versions → result ≡ turn_at at versions }
+    ensures towered { IsTurnTowered store.now result }
+    ensures back { IsBack id result }
+    ensures small { (version : Hop) (older : List Hop) → IsTowered store.now id (version ∷ older) → version.block < 2 ^ 32 }
+    ensures step { steps.new ≡ raised steps.old 1 }
+{
+    let links = store.entry(id, steps);
+    if links.block <= at {
+        return Turn::Answer;
+    }
+    match onward(links.hops.as_slice(), at) {
+        Some(hop) => Turn::Hop(hop.id),
+        None => Turn::Nothing,
+    }
+}
+
+/// The last version in a block up to `at`, from the newest one on; `None` exactly where there is
+/// none.
+pub fn find(store: &Store, newest: EntryId, at: u32, steps: &mut Steps) -> Option<EntryId>
+    requires towered { (versions : List Hop) × IsTowered store.now newest versions }
+    ensures found { (versions : List Hop) → IsTowered store.now newest versions → result ≡ latest_version at versions }
+    ensures count { (versions : List Hop) → IsTowered store.now newest versions → steps.new ≡ raised steps.old (length (path_over (blocks_of versions) at)) }
+    ensures few { (versions : List Hop) → IsTowered store.now newest versions → length (path_over (blocks_of versions) at) ≤ most_steps versions }
+    ensures towered { IfSome result (λ (id : EntryId). (versions : List Hop) × IsTowered store.now id versions) }
+{
+    let mut id = newest;
+    loop {
+        match path_next(store, id, at, steps) {
+            Turn::Answer => return Some(id),
+            Turn::Hop(next) => id = next,
+            Turn::Nothing => return None,
+        }
+    }
+}

@@ -1,0 +1,55 @@
+//! The versions that a lookup looks at.
+
+ghost use Rattle.std.specs.Prelude.{◌≡◌, Bool, true, List, length, map, Some, IfOk};
+ghost use Rattle.std.specs.List.{AllByRecursion};
+ghost use Rattle.version_path.specs.Paths.{path_over};
+ghost use Rattle.entry_store.specs.declared.entry.EntryId.{EntryId};
+ghost use Rattle.entry_store.specs.declared.entry.Hop.{Hop};
+ghost use Rattle.entry_store.specs.Steps.{raised};
+ghost use Rattle.skip_list.specs.Towered.{blocks_of, IsTowered};
+ghost use Rattle.skip_list.specs.LookedAt.{next_entry, entry_block};
+
+use crate::lookup::{Turn, path_next};
+use entry_store::{EntryId, Steps, Store};
+use lc_base::{Memory, Seq};
+use std::alloc::Global;
+
+/// Entries.
+pub type EntryList = Seq<EntryId>;
+
+fn next_entry(turn: Turn) -> Option<EntryId>
+    ensures { result ≡ next_entry turn }
+{
+    match turn {
+        Turn::Hop(id) => Some(id),
+        Turn::Answer => None,
+        Turn::Nothing => None,
+    }
+}
+
+/// The versions that a lookup from the newest one looks at, in this order: their blocks are the path,
+/// and what is said of all versions is true of them. The count rises by their number.
+pub fn path_entries(
+    alloc: Global,
+    store: &Store,
+    newest: EntryId,
+    at: u32,
+    steps: &mut Steps,
+) -> Result<EntryList, Memory>
+    requires towered { (versions : List Hop) × IsTowered store.now newest versions }
+    ensures path { (versions : List Hop) → IsTowered store.now newest versions
+        → IfOk result (λ ids. map (entry_block store.now) ids ≡ map Some (path_over (blocks_of versions) at)) }
+    ensures among { (says : EntryId → Bool) (versions : List Hop) → IsTowered store.now newest versions → AllByRecursion (λ (version : Hop). says version.id ≡ true) versions
+        → IfOk result (λ ids. AllByRecursion (λ (id : EntryId). says id ≡ true) ids) }
+    ensures count { IfOk result (λ ids. steps.new ≡ raised steps.old (length ids)) }
+{
+    // So that the count is known to be one that a u64 has.
+    let _count = steps.count();
+    let mut ids = EntryList::new(alloc);
+    let mut next = Some(newest);
+    while let Some(id) = next {
+        ids.push(id)?;
+        next = next_entry(path_next(store, id, at, steps));
+    }
+    Ok(ids)
+}
