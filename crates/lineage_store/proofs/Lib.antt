@@ -1,0 +1,10 @@
+pub mod Versions
+pub mod Links
+pub mod Hops
+pub mod Entries
+pub mod NextEntries
+pub mod OtherKeys
+pub mod ReadBack
+pub mod Looking
+pub mod MadeAgain
+pub mod Earlier

@@ -1,0 +1,46 @@
+-- Lookups over the entries of a history.
+use Rattle.std.proofs.Common.{◌≡◌, ◌∙◌, ℕ, ◌^◌, ◌<◌, List, [], length, Option, Some, None, sym, ap, arith}
+use Rattle.std.specs.Prelude.{slice_get, MatchOption}
+use Rattle.lc_base.specs.declared.row.Row.{Row}
+use Rattle.lc_base.specs.History.{latest}
+use Rattle.version_path.specs.Paths.{path, path_over}
+use Rattle.version_path.proofs.Walks.{over_none}
+use Rattle.entry_store.specs.declared.entry.EntryId.{EntryId}
+use Rattle.entry_store.specs.declared.entry.Hop.{Hop}
+use Rattle.entry_store.specs.Entries.{Entry}
+use Rattle.entry_store.specs.Steps.{raised}
+use Rattle.skip_list.specs.Towered.{blocks_of, IsTowered, AreVersions}
+use Rattle.skip_list.specs.Lookups.{latest_version}
+use Rattle.lineage_store.specs.Versions.{versions_of_key}
+use Rattle.lineage_store.specs.Entries.{IsNewestOf}
+use Rattle.lineage_store.proofs.Versions.{path_of_versions, lookup_latest}
+use Rattle.lineage_store.proofs.Entries.{all_towered}
+
+pub versions_are : (rows : List Row) (key : List ℕ) (newest : Option EntryId) (entries : List Entry) → IsNewestOf rows key newest entries → AreVersions entries newest (versions_of_key rows key)
+versions_are rows key newest entries is = rw (is.newest_is, is.entries_are) (all_towered rows rows key is.lawful)
+
+pub newest_towered : (rows : List Row) (key : List ℕ) (newest : Option EntryId) (id : EntryId) (entries : List Entry) → IsNewestOf rows key newest entries → newest ≡ Some id
+    → IsTowered entries id (versions_of_key rows key)
+newest_towered rows key newest id entries is some = rw some at (versions_are rows key newest entries is)
+
+pub found_latest : (rows : List Row) (key : List ℕ) (at : ℕ) (found : Option EntryId) → found ≡ latest_version at (versions_of_key rows key)
+    → MatchOption found (latest rows key at ≡ None) (λ (id : EntryId). slice_get rows id.0 ≡ latest rows key at)
+found_latest rows key at found is = rw is (lookup_latest rows key at)
+
+pub path_steps : (rows : List Row) (key : List ℕ) (at : ℕ) (newest : Option EntryId) (entries : List Entry) → IsNewestOf rows key newest entries
+    → length (path_over (blocks_of (versions_of_key rows key)) at) ≡ length (path rows key at)
+path_steps rows key at newest entries is = ap length (sym (path_of_versions rows key at is.lawful))
+
+-- A key without versions.
+pub none_found : (rows : List Row) (key : List ℕ) (at : ℕ) (newest : Option EntryId) (entries : List Entry) → IsNewestOf rows key newest entries → newest ≡ None → latest rows key at ≡ None
+none_found rows key at newest entries is none =
+    let empty : versions_of_key rows key ≡ [] = rw none at (versions_are rows key newest entries is) in
+    found_latest rows key at None (sym (ap (latest_version at) empty))
+
+pub no_steps : (rows : List Row) (key : List ℕ) (at count : ℕ) (newest : Option EntryId) (entries : List Entry) → IsNewestOf rows key newest entries → newest ≡ None → count < 2 ^ 64
+    → count ≡ raised count (length (path rows key at))
+no_steps rows key at count newest entries is none few =
+    let empty : versions_of_key rows key ≡ [] = rw none at (versions_are rows key newest entries is) in
+    let length_is : length (path rows key at) ≡ 0 =
+    sym (path_steps rows key at newest entries is) ∙ ap (λ (vs : List Hop). length (path_over (blocks_of vs) at)) empty ∙ ap length (over_none at) in
+    omega (arith, length_is, few)

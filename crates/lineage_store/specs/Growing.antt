@@ -1,0 +1,29 @@
+-- A version that is to become the next entry.
+use Rattle.std.specs.Prelude.{◌≡◌, ◌∷◌, ◌++◌, List, Option}
+use Rattle.std.specs.List.{concat}
+use Rattle.std.specs.Rc.{rc_slice_items}
+use Rattle.lc_base.specs.declared.row.Row.{Row}
+use Rattle.lc_base.specs.History.{IsLawful, up_to}
+use Rattle.prov_entry.specs.Spelling.{body_fields}
+use Rattle.history_root.specs.Naming.{closed, digest_of_uses, body_of}
+use Rattle.entry_store.specs.declared.entry.EntryId.{EntryId}
+use Rattle.entry_store.specs.Entries.{Entry}
+use Rattle.lineage_store.specs.declared.growing.NewVersion.{NewVersion}
+use Rattle.lineage_store.specs.Versions.{newest_entry}
+use Rattle.lineage_store.specs.Entries.{entries_of}
+
+-- The entries are those of the first rows of a lawful history, which has all rows of the block at work;
+-- the next of its rows comes behind them, this is its version, and `newest` is the entry of the newest
+-- version of its key.
+pub record IsNextVersion (all rows : List Row) (row : Row) (newest : Option EntryId) (entries : List Entry) (version : NewVersion) : Type 0 where
+  pub lawful : IsLawful all
+  pub after : List Row
+  pub first : all ≡ rows ++ row ∷ after
+  pub entries_are : entries ≡ entries_of all rows
+  pub newest_is : newest ≡ newest_entry rows row.key
+  pub key_is : version.key ≡ row.key
+  pub block_is : version.block ≡ row.block
+  pub tx_is : version.tx ≡ row.tx
+  pub closed_is : version.closed ≡ closed (up_to all row.block) row.key row.block
+  pub closed_digest_is : version.closed_digest ≡ digest_of_uses version.closed
+  pub body_is : rc_slice_items version.body ≡ concat (body_fields (body_of all row))

@@ -1,0 +1,5 @@
+pub mod Versions
+pub mod Entries
+pub mod Growing
+pub mod ReadBack
+pub mod Headers

@@ -1,0 +1,59 @@
+//! One version more.
+
+ghost use Rattle.std.specs.Prelude.{◌≡◌, ◌≤◌, ◌+◌, ◌++◌, ◌∷◌, [], List, length, OnOk, OnErr, IfOk};
+ghost use Rattle.lc_base.specs.declared.row.Row.{Row};
+ghost use Rattle.version_path.specs.Paths.{binary_digits};
+ghost use Rattle.entry_store.specs.declared.entry.EntryId.{EntryId};
+ghost use Rattle.lineage_store.specs.Entries.{entries_of};
+ghost use Rattle.lineage_store.specs.Growing.{IsNextVersion};
+
+use entry_store::{EntryId, Steps, Store};
+use lc_base::{DepList, Digest, Key, Memory};
+use skip_list::links_for;
+use std::alloc::Global;
+use std::rc::RcSlice;
+
+/// A version that is to become an entry.
+#[derive(Drop)]
+pub struct NewVersion {
+    pub key: Key,
+    /// The number of its block.
+    pub block: u32,
+    /// The index of its transaction in the block, from 0.
+    pub tx: u16,
+    /// The versions that were derived from the version of the key before it.
+    pub closed: DepList,
+    /// The digest of these, as a forward list.
+    pub closed_digest: Digest,
+    /// The fields of its body.
+    pub body: RcSlice<u8>,
+}
+
+/// Adds the version of a row, with the links to older versions of its key. `newest` is the entry of
+/// the newest one of these. Out of memory, the store stays as it was.
+pub fn push_version(
+    alloc: Global,
+    store: &mut Store,
+    newest: Option<EntryId>,
+    version: NewVersion,
+    steps: &mut Steps,
+) -> Result<EntryId, Memory>
+    requires { (all : List Row) × (rows : List Row) × (row : Row) × IsNextVersion all rows row newest store.old version }
+    ensures ok { (all rows : List Row) (row : Row) → IsNextVersion all rows row newest store.old version → OnOk result (store.new ≡ entries_of all (rows ++ row ∷ [])) }
+    ensures id { IfOk result (λ (id : EntryId). id.0 ≡ length store.old) }
+    ensures err { OnErr result (store.new ≡ store.old) }
+    ensures never_less { steps.old ≤ steps.new }
+    ensures count { steps.new ≤ steps.old + binary_digits version.block }
+{
+    let hops = links_for(alloc, store, newest, version.block, steps)?;
+    let id = store.push(
+        version.key,
+        version.block,
+        version.tx,
+        hops,
+        version.closed,
+        version.closed_digest,
+        version.body,
+    )?;
+    Ok(id)
+}

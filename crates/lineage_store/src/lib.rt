@@ -1,0 +1,20 @@
+//! The store of the rows of a history: row by row one entry, with the skip list over the versions of
+//! each key.
+#![tactic(auto)]
+
+mod growing;
+mod headers;
+mod laws;
+mod lookups;
+
+pub use growing::{NewVersion, push_version};
+pub use headers::entry_header;
+pub use laws::{
+    digests_are_those_of_the_headers, earlier_entries_are_of_the_earlier_history,
+    earlier_versions_are_towered, entries_are_towered, entries_stay_where_later_blocks_are_added,
+    first_entries_are_of_the_first_rows, hops_name_the_headers_of_the_links,
+    links_are_those_of_the_rows, lookup_ends_at_the_latest,
+    lookup_gives_the_newest_of_the_rows_up_to_the_block, newest_entry_is_the_newest_row,
+    path_is_over_the_versions, rows_are_read_back, versions_stay_where_other_keys_are_added,
+};
+pub use lookups::latest_entry;
