@@ -1,0 +1,168 @@
+//! Worked versions: how many links they have, and what lookups look at.
+
+use crate::versions::Versions;
+use lc_base::{Key, Memory};
+use std::alloc::Global;
+
+/// A lookup up to a block, and what it is to look at and to find.
+#[derive(Clone, Copy)]
+struct Lookup<'l> {
+    at: u32,
+    found: Option<u32>,
+    path: &'l [u32],
+}
+
+fn no_versions(alloc: Global) -> Result<Versions, Memory> {
+    match Key::new(b"raw/a") {
+        Ok(key) => Versions::new(alloc, key),
+        Err(_) => Err(Memory),
+    }
+}
+
+/// Adds a version, which is to have so many links.
+fn adds(alloc: Global, versions: &mut Versions, block: u32, links: usize) -> Result<bool, Memory> {
+    match versions.add(alloc, block)? {
+        None => Ok(false),
+        Some(added) => Ok(added.links == links),
+    }
+}
+
+fn looks_up(alloc: Global, versions: &Versions, lookup: Lookup) -> Result<bool, Memory> {
+    let path = versions.path(alloc, lookup.at)?;
+    let (found, read) = versions.found(lookup.at);
+    Ok(found == lookup.found && read == lookup.path.len() as u64 && path.as_slice() == lookup.path)
+}
+
+fn looks_up_each(alloc: Global, versions: &Versions, lookups: &[Lookup]) -> Result<bool, Memory> {
+    for lookup in lookups {
+        if !looks_up(alloc, versions, *lookup)? {
+            return Ok(false);
+        }
+    }
+    Ok(true)
+}
+
+fn three_are_found(alloc: Global) -> Result<bool, Memory> {
+    let mut versions = no_versions(alloc)?;
+    for (block, links) in [(2, 0), (9, 4), (10, 2)] {
+        if !adds(alloc, &mut versions, block, links)? {
+            return Ok(false);
+        }
+    }
+    let all = [10, 9, 2];
+    looks_up_each(
+        alloc,
+        &versions,
+        &[
+            Lookup {
+                at: 1,
+                found: None,
+                path: &all,
+            },
+            Lookup {
+                at: 2,
+                found: Some(2),
+                path: &all,
+            },
+            Lookup {
+                at: 9,
+                found: Some(9),
+                path: &[10, 9],
+            },
+            Lookup {
+                at: u32::MAX,
+                found: Some(10),
+                path: &[10],
+            },
+        ],
+    )
+}
+
+#[test]
+fn three_versions(rt: HostRuntime) {
+    assert!(rt; three_are_found(rt.alloc()) == Ok(true));
+}
+
+/// Versions in the blocks 0 to 63; the height of each is the number of zeros at the end of its block's
+/// binary digits, and the first has no links.
+fn low_versions(alloc: Global) -> Result<Versions, Memory> {
+    let mut versions = no_versions(alloc)?;
+    versions.add(alloc, 0)?;
+    for block in 1..64u32 {
+        if !adds(
+            alloc,
+            &mut versions,
+            block,
+            block.trailing_zeros() as usize + 1,
+        )? {
+            return no_versions(alloc);
+        }
+    }
+    Ok(versions)
+}
+
+fn far_are_found(alloc: Global) -> Result<bool, Memory> {
+    let mut versions = low_versions(alloc)?;
+    for (block, links) in [(524_287, 19), (524_288, 20)] {
+        if !adds(alloc, &mut versions, block, links)? {
+            return Ok(false);
+        }
+    }
+    looks_up_each(
+        alloc,
+        &versions,
+        &[
+            Lookup {
+                at: 31,
+                found: Some(31),
+                path: &[524_288, 524_287, 32, 31],
+            },
+            Lookup {
+                at: 40,
+                found: Some(40),
+                path: &[524_288, 524_287, 48, 44, 42, 41, 40],
+            },
+        ],
+    )
+}
+
+#[test]
+fn far_versions(rt: HostRuntime) {
+    assert!(rt; far_are_found(rt.alloc()) == Ok(true));
+}
+
+/// Adds versions in the blocks from 0 on, and tells how many entries were read for one at most.
+fn add_many(alloc: Global, versions: &mut Versions, blocks: u32) -> Result<Option<u64>, Memory> {
+    let mut most = 0;
+    for block in 0..blocks {
+        match versions.add(alloc, block)? {
+            None => return Ok(None),
+            Some(added) => most = added.read.max(most),
+        }
+    }
+    Ok(Some(most))
+}
+
+/// Looks up the version in each of these blocks, and tells how many entries were read for one at most.
+fn find_many(versions: &Versions, blocks: u32) -> Option<u64> {
+    let mut most = 0;
+    for block in 0..blocks {
+        let (found, read) = versions.found(block);
+        if found != Some(block) {
+            return None;
+        }
+        most = read.max(most);
+    }
+    Some(most)
+}
+
+fn many_are_read(alloc: Global, blocks: u32) -> Result<(Option<u64>, Option<u64>), Memory> {
+    let mut versions = no_versions(alloc)?;
+    let adding = add_many(alloc, &mut versions, blocks)?;
+    Ok((adding, find_many(&versions, blocks)))
+}
+
+#[test]
+fn many_versions(rt: HostRuntime) {
+    assert!(rt; many_are_read(rt.alloc(), 65_536) == Ok((Some(16), Some(32))));
+}
