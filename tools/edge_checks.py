@@ -9,14 +9,12 @@ import tempfile
 
 import disk_calls
 from disk_calls import CREATE, NEW, SYNCS, TRUNCATE
-from log_cases import DISK_FAULT, DONE, HEAD, SET_FILE, SET_LINE, SET_LOG, UNREADABLE, UNTOLD
+from log_cases import DISK_FAULT, DONE, HEAD, MEMORY, SET_FILE, SET_LINE, SET_LOG, UNREADABLE, UNTOLD, USAGE
 from log_cases import frames_of, log_of
 from log_runs import LOG, held_frames, known_lines
 from program_cases import RECALL_FILE, RECALL_LINES, RECALL_LOG, USED
 from program_runs import take_rights
 
-MEMORY = 5
-USAGE = 1
 # The status where a call fails, by what it touches.
 STATUSES = {"log": DISK_FAULT, "folder": DISK_FAULT, "input": UNREADABLE, "output": UNTOLD}
 FRAMES = frames_of(RECALL_FILE)
@@ -27,8 +25,10 @@ USED_LINES = USED.splitlines(keepends=True)
 # a write, by its offset and its size, and a sync; the folder, which has a new file, is synced too.
 FIRST_APPEND = ["write 0 1", "sync log", "sync folder", "write 1 8", "sync log", "write 0 1", "sync log"]
 FIRST_APPEND += [f"write 9 {len(SET_FILE) + 1}", "sync log", "write 8 1", "sync log", "tell"]
-# A block that the log has is told once it is sure to be on the disk: an earlier run may have ended before.
-KNOWN_APPEND = ["sync log", "sync folder", "tell"]
+# What is found is synced before a block of it is told of, or anything is written: an earlier run may have
+# ended before its sync.
+FOUND = ["sync log", "sync folder"]
+KNOWN_APPEND = [*FOUND, "tell"]
 
 
 def steps(calls):
@@ -107,16 +107,16 @@ def failing_call(checks, watched, run, good, setting):
 
 
 def goes_on(checks, watched, log, name):
-    """An append over what was left has the blocks that are there, synced before they are told of, and
-    stores the others."""
+    """An append over what was left has the blocks that are there, and stores the others. What is there is
+    synced before anything is told of or written."""
     held = len(held_frames(log or b""))
     again = watched.run("append", RECALL_FILE, log)
     checks.same(f"status of going on after {name}", (again.status, again.log), (DONE, RECALL_LOG))
     wanted = "".join(known_lines(held) + LINES[held:])
     checks.same(f"lines of going on after {name}", again.told, wanted)
-    if held:
-        first = steps(again.calls)[: len(KNOWN_APPEND)]
-        checks.same(f"first calls of going on after {name}", first, KNOWN_APPEND)
+    if log is not None:
+        wanted = KNOWN_APPEND if held else FOUND
+        checks.same(f"first calls of going on after {name}", steps(again.calls)[: len(wanted)], wanted)
 
 
 def log_made_meanwhile(checks, watched):
