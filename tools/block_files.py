@@ -59,7 +59,8 @@ def number(of, width):
 
 
 def string(text):
-    return number(len(text), 2) + text.encode("ascii")
+    encoded = text.encode()
+    return number(len(encoded), 2) + encoded
 
 
 def value(of):

@@ -6,6 +6,7 @@ import os
 import resource
 import shutil
 import signal
+import struct
 import subprocess
 import sys
 import tempfile
@@ -45,12 +46,15 @@ class Call:
 
 @dataclasses.dataclass
 class Ran:
-    """What a run told, its exit status, the calls that it made, and the log after it."""
+    """What a run told, its exit status, the calls that it made, the log after it, and what the disk is sure to
+    hold then, where that was asked for; how many requests for memory there were, none where a signal ended it."""
 
     told: str
     status: object
     calls: list
     log: object
+    disk: object = None
+    requests: object = None
 
 
 def build(folder):
@@ -70,6 +74,31 @@ def read_call(line):
     return Call(name, what, int(at, 8 if name == "open" else 10), int(size), int(result))
 
 
+@dataclasses.dataclass
+class Disk:
+    """What the disk is sure to hold of the log: whether its folder names it, and the bytes that were synced; and
+    the writes since, each an offset and bytes."""
+
+    is_named: bool
+    writes: list
+    synced: bytes
+
+    @staticmethod
+    def read(spelled):
+        """The disk that tools/disk_calls.c has spelled."""
+        writes, at = [], 2
+        for _ in range(spelled[1]):
+            offset, size = struct.unpack_from("=II", spelled, at)
+            writes.append((offset, spelled[at + 8 : at + 8 + size]))
+            at += 8 + size
+        return Disk(spelled[0] == 1, writes, spelled[at:])
+
+    @staticmethod
+    def of(log):
+        """The disk, spelled, where all of a log is synced; none stands for no log."""
+        return bytes(2) if log is None else b"\1\0" + log
+
+
 class Watched:
     """A program that is run so."""
 
@@ -77,20 +106,25 @@ class Watched:
         self.program = program
         self.shim = shim
 
-    def run(self, words, source=b"", log=None, file_limit=None, other=None, **numbers):
+    def run(self, words, source=b"", log=None, file_limit=None, other=None, disk=None, **numbers):
         """Runs words over an input and a log, as bytes, or none where there is no such file. A number
-        FAIL, SHORT, NOTHING, NO_MEMORY or BEFORE is that of tools/disk_calls.c; `other` are the
-        bytes of CALLS_OTHER. With `file_limit`, the greatest size of a file, no calls are told."""
+        FAIL, ERROR, SHORT, NOTHING, NO_MEMORY, NO_MORE, BEFORE or KILL is that of tools/disk_calls.c; `other`
+        are the bytes of CALLS_OTHER, and `disk` those of CALLS_DISK. With `file_limit`, the greatest size of a file,
+        no calls are told."""
         with tempfile.TemporaryDirectory() as folder, tempfile.TemporaryFile() as given:
             ledger = os.path.join(folder, "ledger")
             os.mkdir(ledger)
             settings = {f"CALLS_{name}": str(number) for name, number in numbers.items()}
             calls = os.path.join(folder, "calls")
+            settings["CALLS_REQUESTS"] = os.path.join(folder, "requests")
             # The limit would be that of this file too.
             if file_limit is None:
                 settings["CALLS_FILE"] = calls
             settings["CALLS_OTHER"] = os.path.join(folder, "other")
             put(settings["CALLS_OTHER"], other)
+            if disk is not None:
+                settings["CALLS_DISK"] = os.path.join(folder, "disk")
+                put(settings["CALLS_DISK"], disk)
             put(os.path.join(ledger, LOG), log)
             put(calls, b"")
             given.write(source)
@@ -98,7 +132,19 @@ class Watched:
             told, status = self.run_in(ledger, words, given, settings, lambda: limit_files(file_limit))
             with open(calls) as lines:
                 calls = [read_call(line) for line in lines]
-            return Ran(told, status, calls, get(os.path.join(ledger, LOG)))
+            requests = get(settings["CALLS_REQUESTS"])
+            log, disk = get(os.path.join(ledger, LOG)), get(os.path.join(folder, "disk"))
+            return Ran(told, status, calls, log, disk, int(requests) if requests else None)
+
+    def run_plain(self, words, source=b"", log=None):
+        """What a run tells with nothing between, its exit status, and the log after it."""
+        with tempfile.TemporaryDirectory() as folder:
+            put(os.path.join(folder, LOG), log)
+            words = [self.program, *words.split()]
+            ran = subprocess.run(
+                words, cwd=folder, input=source, stdout=subprocess.PIPE, timeout=RUN_LIMIT, check=False
+            )
+            return ran.stdout.decode("latin-1"), ran.returncode, get(os.path.join(folder, LOG))
 
     def run_in(self, folder, words, source, settings, prepare):
         """What a run in a folder tells, and its exit status; its process is prepared first."""
@@ -115,7 +161,7 @@ class Watched:
             )
         except subprocess.TimeoutExpired:
             return "", f"none within {RUN_LIMIT} seconds"
-        return ran.stdout.decode("ascii", "replace"), ran.returncode
+        return ran.stdout.decode("latin-1"), ran.returncode
 
 
 def limit_files(size):

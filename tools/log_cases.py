@@ -20,13 +20,16 @@ FIRST_GATE = len(HEAD)
 BYTES = [bytes([byte]) for byte in range(256)]
 
 DONE = 0
+USAGE = 1
 UNREADABLE = 2
 UNTOLD = 3
 DISK_FAULT = 4
+MEMORY = 5
 NOT_A_LOG = 6
 DAMAGED = 7
 REFUSED = 8
 BEYOND = 9
+REJECTED = 10
 BAD_INPUT = 11
 
 SET_FILE = block_files.block_file([[sets("raw/a", 5)]])
@@ -376,8 +379,9 @@ def crashes():
 
 
 # What the disk holds when the call of each number fails in an append to an empty disk: a write that
-# fails leaves it as it was. The first call reads the head.
+# fails leaves it as it was. The first call reads the head, and the next one syncs what was found.
 FAILED_CALLS = [
+    b"",
     b"",
     # The closed head gate, and its sync.
     b"",
@@ -401,8 +405,8 @@ def failing_calls():
     """An append of which one call fails."""
     size = len(SET_FILE)
     for call, after in enumerate(FAILED_CALLS):
-        # Before the log is open nothing is read.
-        left = 0 if call else size
+        # Before the log is open and synced nothing is read.
+        left = 0 if call > 1 else size
         yield LogCase(
             "append", b"", "", DISK_FAULT, after, SET_FILE, left=left, calls=f"{call}"
         )
