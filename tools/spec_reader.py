@@ -165,6 +165,19 @@ class Definitions:
                 self.add_line(item, line, indent - base, comment)
                 comment = []
 
+    def formula_of(self, item):
+        """An item as it stands, without the comments among its lines: up to the next one, or an empty line."""
+        lines = [self.lines[item.line - 1]]
+        base = len(lines[0]) - len(lines[0].lstrip())
+        is_own = re.compile(rf"{re.escape(item.name)}(?:\s|$)|[)}}\]]")
+        for line in self.lines[item.line :]:
+            text, indent = line.strip(), len(line) - len(line.lstrip())
+            if not text or indent <= base and not is_own.match(text):
+                break
+            if not text.startswith("--"):
+                lines.append(line)
+        return "\n".join(line[base:] for line in lines)
+
     def is_head(self, text):
         return self.IS_HEAD.match(text) and not text.startswith("infix")
 
