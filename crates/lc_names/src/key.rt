@@ -13,6 +13,7 @@ ghost use Rattle.lc_names.specs.declared.limits.TheConstants.{MAX_KEY_BYTES};
 ghost use Rattle.lc_names.specs.Key.{key_of};
 
 use crate::limits::MAX_KEY_BYTES;
+use crate::words::cmp_words;
 use std::cmp::Ordering;
 use std::hash::{Hash, Hasher};
 use std::marker::Model;
@@ -139,8 +140,9 @@ impl Ord for Key {
 
     ghost matches_eq = { Prim.search (comparing, rules) };
 
+    #[tactic(auto, using(crate::proofs::PaddedOrder::key_order))]
     fn cmp(&self, other: &Key) -> Ordering {
-        self.as_bytes().cmp(other.as_bytes())
+        cmp_words(&self.bytes, &other.bytes)
     }
 }
 

@@ -4,6 +4,7 @@
 mod key;
 mod limits;
 mod name;
+mod words;
 
 pub use key::{Key, KeyError};
 pub use limits::{MAX_KEY_BYTES, MAX_NAME_BYTES};

@@ -14,6 +14,7 @@ ghost use Rattle.lc_names.specs.Name.{name_of};
 
 use crate::key::KeyError;
 use crate::limits::MAX_NAME_BYTES;
+use crate::words::cmp_words;
 use std::cmp::Ordering;
 use std::hash::{Hash, Hasher};
 use std::marker::Model;
@@ -145,8 +146,9 @@ impl Ord for Name {
 
     ghost matches_eq = { Prim.search (comparing, rules) };
 
+    #[tactic(auto, using(crate::proofs::PaddedOrder::name_order))]
     fn cmp(&self, other: &Name) -> Ordering {
-        self.as_bytes().cmp(other.as_bytes())
+        cmp_words(&self.bytes, &other.bytes)
     }
 }
 
