@@ -4,15 +4,15 @@ ghost use Rattle.std.specs.Prelude.{◌≡◌, ◌==◌, ℕ, [], ◌∷◌, ◌
 ghost use Rattle.contract_check.specs.Names.{kind_in, slot_in};
 
 use contract_tree::ValueKind;
-use indexmap::IndexMap;
 use lc_base::{Memory, Name};
+use name_table::NameTable;
 use std::alloc::Global;
 use std::marker::Model;
 
 /// Names with the kinds of their values.
 #[derive(Drop)]
 pub struct Scope {
-    names: IndexMap<Name, ValueKind>,
+    names: NameTable<ValueKind>,
 }
 
 impl Model for Scope {
@@ -21,7 +21,7 @@ impl Model for Scope {
 
     ghost Value = { Names };
 
-    ghost view = { λ scope. scope.names.entries };
+    ghost view = { λ scope. scope.names };
 }
 
 impl Scope {
@@ -30,7 +30,7 @@ impl Scope {
         ensures { result ≡ [] }
     {
         Scope {
-            names: IndexMap::new(alloc),
+            names: NameTable::new(alloc),
         }
     }
 
@@ -47,7 +47,7 @@ impl Scope {
         ensures slot { result ≡ slot_in self.now name.now }
         ensures visible { is_some result ≡ is_some (kind_in self.now name.now) }
     {
-        self.names.get_index_of(name)
+        self.names.place_of(name)
     }
 
     /// The kind of a name, where it is visible.
@@ -63,14 +63,13 @@ impl Scope {
         ensures ok { OnOk result (self.new ≡ self.old ++ (name.now, kind) ∷ []) }
         ensures err { OnErr result (self.new ≡ self.old) }
     {
-        self.names.insert(*name, kind)?;
-        Ok(())
+        self.names.push(name, kind)
     }
 
     /// Forgets all names but so many of the oldest.
     pub fn keep(&mut self, count: usize)
         ensures { self.new ≡ take count self.old }
     {
-        self.names.truncate(count);
+        self.names.keep(count);
     }
 }

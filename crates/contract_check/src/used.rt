@@ -1,27 +1,27 @@
 //! The names of functions that are used.
 
-ghost use Rattle.std.specs.Prelude.{◌≡◌, [], ◌==◌, not, IfOk, OnOk};
+ghost use Rattle.std.specs.Prelude.{◌≡◌, [], ◌==◌, ◌∷◌, ◌++◌, not, if◌then◌else◌, IfOk, OnOk};
 ghost use Rattle.std.specs.List.{list_any};
 ghost use Rattle.std.specs.Cmp.Lexicographic.{pointwise};
-ghost use Rattle.indexmap.specs.IndexSet.{insert_key};
 
-use indexmap::IndexSet;
 use lc_base::{Memory, Name};
+use name_table::NameTable;
 use std::alloc::Global;
 use std::marker::Model;
 
 /// Names, oldest first.
 #[derive(Drop)]
 pub struct Used {
-    names: IndexSet<Name>,
+    names: NameTable<()>,
 }
 
 impl Model for Used {
     ghost use Rattle.std.specs.Prelude.{ℕ, List};
+    ghost use Rattle.std.specs.Map.{keys_of};
 
     ghost Value = { List (List ℕ) };
 
-    ghost view = { λ used. used.names.keys };
+    ghost view = { λ used. keys_of used.names };
 }
 
 impl Used {
@@ -30,15 +30,19 @@ impl Used {
         ensures { result ≡ [] }
     {
         Used {
-            names: IndexSet::new(alloc),
+            names: NameTable::new(alloc),
         }
     }
 
     /// Adds a name, and tells whether it is new.
     pub fn add(&mut self, name: &Name) -> Result<bool, Memory>
         ensures is_new { IfOk result (λ is_new. is_new ≡ not (list_any (pointwise ◌==◌ name.now) self.old)) }
-        ensures added { OnOk result (self.new ≡ insert_key (pointwise ◌==◌) self.old name.now) }
+        ensures added { OnOk result (self.new ≡ (if list_any (pointwise ◌==◌ name.now) self.old then self.old else self.old ++ name.now ∷ [])) }
     {
-        Ok(self.names.insert(*name)?)
+        let is_new = !self.names.contains(name);
+        if is_new {
+            self.names.push(name, ())?;
+        }
+        Ok(is_new)
     }
 }

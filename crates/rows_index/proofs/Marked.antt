@@ -3,6 +3,7 @@ use Rattle.std.proofs.Common.{◌≡◌, ◌&&◌, ℕ, zero, suc, ◌+◌, ◌<
 use Rattle.std.specs.List.{find}
 use Rattle.std.specs.List.Sorted.{IsNonDecreasingBy}
 use Rattle.std.specs.Option.{option_or, option_map}
+use Rattle.std.specs.BTreeMap.{BTreeMap}
 use Rattle.std.proofs.lemmas.List.{reverse-append, append_assoc, length-append}
 use Rattle.std.proofs.lemmas.List.Folds.{find-append}
 use Rattle.std.proofs.lemmas.Option.{none-some, same_Some}
@@ -135,12 +136,12 @@ latest_up_to rows key at = found_row rows (last_up_to at (places rows key)) (lat
 
 -- ---- a row more is kept
 
-pub places_more : (rows : List Row) (lists with_row : List (List ℕ × List Place)) (row : Row) (n : ℕ) → length rows ≡ n → ArePlaces rows lists →
-    ((key : List ℕ) → places_in with_row key ≡ cond (is_of key row) (places_in lists key ++ place_of n row ∷ []) (places_in lists key)) →
-    ArePlaces (rows ++ row ∷ []) with_row
-places_more rows lists with_row row n len kept more key =
+pub places_more : (rows : List Row) (before after : BTreeMap (List ℕ) (List Place)) (row : Row) (n : ℕ) → length rows ≡ n → ArePlaces rows before →
+    ((key : List ℕ) → places_in after key ≡ cond (is_of key row) (places_in before key ++ place_of n row ∷ []) (places_in before key)) →
+    ArePlaces (rows ++ row ∷ []) after
+places_more rows before after row n len kept more key =
     let e : n ≡ 0 + length rows = omega (arith, len) in
     more key
-    ∙ ap (λ k. cond (is_of key row) (places_in lists key ++ place_of k row ∷ []) (places_in lists key)) e
+    ∙ ap (λ k. cond (is_of key row) (places_in before key ++ place_of k row ∷ []) (places_in before key)) e
     ∙ ap (λ (l : List Place). cond (is_of key row) (l ++ place_of (0 + length rows) row ∷ []) l) (kept key)
     ∙ sym (marked_more place_of (is_of key) 0 rows row)

@@ -3,6 +3,7 @@ use Rattle.std.proofs.Common.{◌≡◌, ℕ, ◌+◌, ◌<◌, ◌≤◌, List,
 use Rattle.std.proofs.lemmas.List.{append_assoc, length-append, take-append-drop, take_more, get_or_append_left}
 use Rattle.std.proofs.Math.Seq.{get_or-append_seam}
 use Rattle.std.proofs.lemmas.Option.{slice_get_within, get_or_from_slice_get}
+use Rattle.std.specs.BTreeMap.{BTreeMap}
 use Rattle.lc_base.specs.declared.row.Row.{Row}
 use Rattle.lc_base.specs.History.{IsLawful, HasLawfulDeps, StandsBefore}
 use Rattle.rows_index.specs.declared.places.Place.{Place}
@@ -26,8 +27,8 @@ module _ (done rest : List Row) (row : Row) (lawful : IsLawful (done ++ row ∷ 
   own_deps = subst (HasLawfulDeps (done ++ row ∷ rest)) (get_or-append_seam done row rest row)
       (lawful.lawful_deps (length done) row (omega (arith, length-append done (row ∷ rest))))
 
-  pub can_use : (entries : List (List ℕ × List Place)) (lists : List (List ℕ)) → ArePlaces done entries → AreUsers done lists → CanUse done row.deps entries lists
-  can_use entries lists kept users = record {
+  pub can_use : (places : BTreeMap (List ℕ) (List Place)) (lists : List (List ℕ)) → ArePlaces done places → AreUsers done lists → CanUse done row.deps places lists
+  can_use places lists kept users = record {
     ordered = λ i j d l k.
         let whole = lawful.ordered i j d l (omega (arith, length-append done (row ∷ rest), k)) in
         subst (λ (b : Row). StandsBefore (get_or done i d) b) (get_or_append_left done (row ∷ rest) d j k)

@@ -8,7 +8,7 @@ use Rattle.rows_index.specs.Users.{AreUsers}
 
 -- This is the index over these rows.
 pub record IsIndexOf (rows : List Row) (index : RowsIndex) : Type 0 where
-  pub places_are : ArePlaces rows index.places.entries
+  pub places_are : ArePlaces rows index.places
   pub users_are : AreUsers rows index.users.items
 
 -- A row that comes next after these in some lawful history.

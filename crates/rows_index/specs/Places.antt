@@ -1,9 +1,10 @@
 -- Where the versions of keys stand in a history.
 use Rattle.std.specs.Prelude.{◌≡◌, ◌==◌, ℕ, suc, Bool, if◌then◌else◌, List, [], ◌∷◌, Option, None, Some, reverse, nat_le, slice_get}
 use Rattle.std.specs.List.{find}
-use Rattle.std.specs.Map.{lookup}
+use Rattle.std.specs.BTreeMap.{BTreeMap, get}
 use Rattle.std.specs.Option.{option_map}
-use Rattle.std.specs.Cmp.Lexicographic.{pointwise}
+use Rattle.std.specs.Ordering.{nat_cmp}
+use Rattle.std.specs.Cmp.Lexicographic.{pointwise, slice_cmp}
 use Rattle.lc_base.specs.declared.row.Row.{Row}
 use Rattle.lc_base.specs.declared.row.Dep.{Dep}
 use Rattle.rows_index.specs.declared.places.Place.{Place}
@@ -37,12 +38,12 @@ listed None = []
 listed (Some list) = list
 
 -- The places that are kept of a key.
-abbrev pub places_in : List (List ℕ × List Place) → List ℕ → List Place
-places_in entries key = listed (lookup (pointwise ◌==◌ key) entries)
+abbrev pub places_in : BTreeMap (List ℕ) (List Place) → List ℕ → List Place
+places_in kept key = listed (get (slice_cmp nat_cmp) kept key)
 
 -- Of each key the places of its versions are kept.
-abbrev pub ArePlaces : List Row → List (List ℕ × List Place) → Type 0
-ArePlaces rows entries = (key : List ℕ) → places_in entries key ≡ places rows key
+abbrev pub ArePlaces : List Row → BTreeMap (List ℕ) (List Place) → Type 0
+ArePlaces rows kept = (key : List ℕ) → places_in kept key ≡ places rows key
 
 -- The last place of a block up to this one.
 abbrev pub last_up_to : ℕ → List Place → Option Place

@@ -2,6 +2,7 @@
 use Rattle.std.specs.Prelude.{◌≡◌, ◌==◌, ◌&&◌, ◌++◌, ◌<◌, ◌≢◌, ℕ, Bool, false, if◌then◌else◌, List, [], ◌∷◌, length, map, slice_get, slice_index_or, Option, Some}
 use Rattle.std.specs.List.{list_any, AllPairs}
 use Rattle.std.specs.Option.{option_map}
+use Rattle.std.specs.BTreeMap.{BTreeMap}
 use Rattle.std.specs.Cmp.Lexicographic.{pointwise}
 use Rattle.lc_base.specs.declared.row.Row.{Row}
 use Rattle.lc_base.specs.declared.row.Dep.{Dep}
@@ -42,9 +43,9 @@ abbrev pub AreVersionsAt : List Row → List ℕ → List Dep → Type 0
 AreVersionsAt rows indexes deps = map (version_at rows) indexes ≡ map there deps
 
 -- What it takes to add a row that depends on these versions: they stand in the rows, none twice.
-pub record CanUse (rows : List Row) (deps : List Dep) (entries : List (List ℕ × List Place)) (lists : List (List ℕ)) : Type 0 where
+pub record CanUse (rows : List Row) (deps : List Dep) (places : BTreeMap (List ℕ) (List Place)) (lists : List (List ℕ)) : Type 0 where
   pub ordered : AllPairs StandsBefore rows
-  pub kept : ArePlaces rows entries
+  pub kept : ArePlaces rows places
   pub once : AllPairs ◌≢◌ deps
   pub stand : (i : ℕ) (d : Dep) → i < length deps → (index : ℕ) × StandsAt rows (slice_index_or deps i d) index
   pub users : AreUsers rows lists

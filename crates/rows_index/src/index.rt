@@ -10,31 +10,31 @@ ghost use Rattle.rows_index.specs.Index.{IsIndexOf, IsNext};
 
 use crate::places::{Place, PlaceList, push_place, row_up_to};
 use crate::users::{IndexList, add_users};
-use indexmap::IndexMap;
 use lc_base::{Key, Memory, Row};
 use std::alloc::Global;
+use std::collections::BTreeMap;
 
 /// Of each key the places of its versions, and of each row the rows that were derived from it. It
 /// does not keep the rows.
 #[derive(Drop)]
 pub struct RowsIndex {
-    places: IndexMap<Key, PlaceList>,
+    places: BTreeMap<Key, PlaceList>,
     users: Vec<IndexList>,
 }
 
 /// Adds a row behind those so far, and gives the indexes of its dependencies.
 fn add_row(
     alloc: Global,
-    places: &mut IndexMap<Key, PlaceList>,
+    places: &mut BTreeMap<Key, PlaceList>,
     users: &mut Vec<IndexList>,
     row: &Row,
 ) -> Result<IndexList, Memory>
-    requires { (rows : List Row) × IsNext rows row.now × ArePlaces rows places.old.entries × AreUsers rows users.old.items }
-    ensures places { (rows : List Row) → IsNext rows row.now → ArePlaces rows places.old.entries → AreUsers rows users.old.items
-        → OnOk result (ArePlaces (rows ++ row.now ∷ []) places.new.entries) }
-    ensures users { (rows : List Row) → IsNext rows row.now → ArePlaces rows places.old.entries → AreUsers rows users.old.items
+    requires { (rows : List Row) × IsNext rows row.now × ArePlaces rows places.old × AreUsers rows users.old.items }
+    ensures places { (rows : List Row) → IsNext rows row.now → ArePlaces rows places.old → AreUsers rows users.old.items
+        → OnOk result (ArePlaces (rows ++ row.now ∷ []) places.new) }
+    ensures users { (rows : List Row) → IsNext rows row.now → ArePlaces rows places.old → AreUsers rows users.old.items
         → OnOk result (AreUsers (rows ++ row.now ∷ []) users.new.items) }
-    ensures deps { (rows : List Row) → IsNext rows row.now → ArePlaces rows places.old.entries → AreUsers rows users.old.items
+    ensures deps { (rows : List Row) → IsNext rows row.now → ArePlaces rows places.old → AreUsers rows users.old.items
         → IfOk result (λ indexes. AreVersionsAt rows indexes row.now.deps) }
 {
     let index = users.len() as u32;
@@ -62,7 +62,7 @@ impl RowsIndex {
         ensures { IsIndexOf [] result }
     {
         RowsIndex {
-            places: IndexMap::new(alloc),
+            places: BTreeMap::new(alloc),
             users: Vec::new(alloc),
         }
     }

@@ -8,9 +8,9 @@ ghost use Rattle.lc_base.specs.declared.row.Row.{Row};
 ghost use Rattle.lc_base.specs.History.{StandsBefore};
 ghost use Rattle.rows_index.specs.Places.{ArePlaces, block_of, index_up_to, last_up_to, places_in};
 
-use indexmap::IndexMap;
 use lc_base::{Key, Memory, Seq};
 use std::alloc::Global;
+use std::collections::BTreeMap;
 
 /// Where a version stands: its block, and the index of its row.
 #[derive(Clone, Copy, Debug, PartialEq, Eq)]
@@ -25,12 +25,12 @@ pub type PlaceList = Seq<Place>;
 /// Appends a place to those of a key.
 pub(crate) fn push_place(
     alloc: Global,
-    places: &mut IndexMap<Key, PlaceList>,
+    places: &mut BTreeMap<Key, PlaceList>,
     key: &Key,
     place: Place,
 ) -> Result<(), Memory>
-    ensures { OnOk result ((other : List ℕ) → places_in places.new.entries other
-        ≡ (if pointwise ◌==◌ key.now other then places_in places.old.entries other ++ place ∷ [] else places_in places.old.entries other)) }
+    ensures { OnOk result ((other : List ℕ) → places_in places.new other
+        ≡ (if pointwise ◌==◌ key.now other then places_in places.old other ++ place ∷ [] else places_in places.old other)) }
 {
     match places.get_mut(key) {
         Some(list) => {
@@ -62,9 +62,9 @@ fn last_place(places: &[Place], at: u32) -> Option<Place>
 }
 
 /// The index of the last row of the key with a block up to `at`.
-pub(crate) fn row_up_to(places: &IndexMap<Key, PlaceList>, key: &Key, at: u32) -> Option<u32>
-    requires { (rows : List Row) × AllPairs StandsBefore rows × ArePlaces rows places.now.entries }
-    ensures { (rows : List Row) → ArePlaces rows places.now.entries → result ≡ index_up_to rows key.now at }
+pub(crate) fn row_up_to(places: &BTreeMap<Key, PlaceList>, key: &Key, at: u32) -> Option<u32>
+    requires { (rows : List Row) × AllPairs StandsBefore rows × ArePlaces rows places.now }
+    ensures { (rows : List Row) → ArePlaces rows places.now → result ≡ index_up_to rows key.now at }
 {
     match places.get(key) {
         None => None,

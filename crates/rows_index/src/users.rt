@@ -8,9 +8,9 @@ ghost use Rattle.rows_index.specs.Places.{ArePlaces, StandsAt};
 ghost use Rattle.rows_index.specs.Users.{AreUsers, AreUsersWith, AreVersionsAt, CanUse, IsUnused};
 
 use crate::places::{PlaceList, row_up_to};
-use indexmap::IndexMap;
 use lc_base::{Dep, Key, Memory, Row, Seq};
 use std::alloc::Global;
+use std::collections::BTreeMap;
 
 /// Indexes of rows.
 pub type IndexList = Seq<u32>;
@@ -24,9 +24,9 @@ fn push_user(users: &mut Vec<IndexList>, index: usize, row: u32) -> Result<(), M
 }
 
 /// The index of the row that is this version.
-fn row_of_version(places: &IndexMap<Key, PlaceList>, dep: &Dep) -> u32
-    requires { (rows : List Row) × AllPairs StandsBefore rows × ArePlaces rows places.now.entries × ((index : ℕ) × StandsAt rows dep.now index) }
-    ensures { (rows : List Row) (index : ℕ) → AllPairs StandsBefore rows → ArePlaces rows places.now.entries → StandsAt rows dep.now index → result ≡ index }
+fn row_of_version(places: &BTreeMap<Key, PlaceList>, dep: &Dep) -> u32
+    requires { (rows : List Row) × AllPairs StandsBefore rows × ArePlaces rows places.now × ((index : ℕ) × StandsAt rows dep.now index) }
+    ensures { (rows : List Row) (index : ℕ) → AllPairs StandsBefore rows → ArePlaces rows places.now → StandsAt rows dep.now index → result ≡ index }
 {
     match row_up_to(places, &dep.key, dep.block) {
         Some(index) => index,
@@ -38,15 +38,15 @@ fn row_of_version(places: &IndexMap<Key, PlaceList>, dep: &Dep) -> u32
 /// the versions.
 fn add_to_versions(
     alloc: Global,
-    places: &IndexMap<Key, PlaceList>,
+    places: &BTreeMap<Key, PlaceList>,
     users: &mut Vec<IndexList>,
     row: u32,
     deps: &[Dep],
 ) -> Result<IndexList, Memory>
-    requires { (rows : List Row) × CanUse rows deps.now places.now.entries users.old.items }
-    ensures users { (rows : List Row) → CanUse rows deps.now places.now.entries users.old.items
+    requires { (rows : List Row) × CanUse rows deps.now places.now users.old.items }
+    ensures users { (rows : List Row) → CanUse rows deps.now places.now users.old.items
         → OnOk result (AreUsersWith rows deps.now row users.new.items) }
-    ensures indexes { (rows : List Row) → CanUse rows deps.now places.now.entries users.old.items
+    ensures indexes { (rows : List Row) → CanUse rows deps.now places.now users.old.items
         → IfOk result (λ indexes. AreVersionsAt rows indexes deps.now) }
 {
     let mut indexes = Vec::with_capacity(alloc, deps.len())?;
@@ -62,15 +62,15 @@ fn add_to_versions(
 /// from which none was derived. It gives the indexes of its dependencies.
 pub(crate) fn add_users(
     alloc: Global,
-    places: &IndexMap<Key, PlaceList>,
+    places: &BTreeMap<Key, PlaceList>,
     users: &mut Vec<IndexList>,
     index: u32,
     row: &Row,
 ) -> Result<IndexList, Memory>
-    requires { (rows : List Row) × CanUse rows row.now.deps places.now.entries users.old.items }
-    ensures users { (rows : List Row) → CanUse rows row.now.deps places.now.entries users.old.items → index ≡ length rows → IsUnused (rows ++ row.now ∷ []) row.now
+    requires { (rows : List Row) × CanUse rows row.now.deps places.now users.old.items }
+    ensures users { (rows : List Row) → CanUse rows row.now.deps places.now users.old.items → index ≡ length rows → IsUnused (rows ++ row.now ∷ []) row.now
         → OnOk result (AreUsers (rows ++ row.now ∷ []) users.new.items) }
-    ensures deps { (rows : List Row) → CanUse rows row.now.deps places.now.entries users.old.items
+    ensures deps { (rows : List Row) → CanUse rows row.now.deps places.now users.old.items
         → IfOk result (λ indexes. AreVersionsAt rows indexes row.now.deps) }
 {
     let deps = add_to_versions(alloc, places, users, index, row.deps.as_slice())?;

@@ -3,4 +3,3 @@ pub mod Positions
 pub mod Covered
 pub mod Threads
 pub mod Together
-pub mod Tables

@@ -1,5 +1,5 @@
 -- What some leaves say, set together, and the hashes that are stale.
-use Rattle.std.proofs.Common.{◌≡◌, ℕ, zero, suc, ◌+◌, ◌<◌, ◌≢◌, Bool, true, false, ◌==◌, List, [], ◌∷◌, ◌++◌, length, get_or, map, Option, refl, sym, ap, subst, ◌∙◌, arith, inl, inr}
+use Rattle.std.proofs.Common.{◌≡◌, ℕ, zero, suc, ◌+◌, ◌<◌, ◌≢◌, Bool, true, false, ◌==◌, List, [], ◌∷◌, ◌++◌, length, get_or, map, refl, sym, ap, subst, ◌∙◌, arith, inl, inr}
 use Rattle.std.proofs.Math.ListN.{set}
 use Rattle.std.specs.Prelude.{reverse}
 use Rattle.std.specs.List.{All, Contains}
@@ -212,12 +212,11 @@ texts_hashed leaves view hashes stale but none is = ap leaf_hashes (sym is) ∙ 
     no_items (x ∷ xs) e = absurd (omega arith)
 
 -- After leaves were set and hashed.
-pub tree_renewed : (leaves last : List Leaf) (order : BTreeMap (List ℕ) ℕ) (found : List ℕ → Option ℕ) (hashes hashes' : List Digest) (stale stale' : List ℕ) (states : List LeafState) → IsTree leaves order found hashes stale
+pub tree_renewed : (leaves last : List Leaf) (order : BTreeMap (List ℕ) ℕ) (hashes hashes' : List Digest) (stale stale' : List ℕ) (states : List LeafState) → IsTree leaves order hashes stale
     → All (λ (state : LeafState). 0 < state.index) states → All (λ (state : LeafState). state.index < length leaves) states → last ≡ with_states leaves states
-    → hashes' ≡ leaf_hashes (with_states leaves states) → stale' ≡ [] → IsTree last order found hashes' stale'
-tree_renewed leaves last order found hashes hashes' stale stale' states tree own below is hashes_are none =
-    subst (λ (ls : List Leaf). IsTree ls order found hashes' stale') (sym is) (record {
+    → hashes' ≡ leaf_hashes (with_states leaves states) → stale' ≡ [] → IsTree last order hashes' stale'
+tree_renewed leaves last order hashes hashes' stale stale' states tree own below is hashes_are none =
+    subst (λ (ls : List Leaf). IsTree ls order hashes' stale') (sym is) (record {
       in_order = order_states leaves order states tree.in_order own below;
-      found_is = tree.found_is;
       hashed = rw none (none_stale (with_states leaves states) hashes' hashes_are);
     })

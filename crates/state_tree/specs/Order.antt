@@ -53,9 +53,7 @@ pub record AreHashedBut (leaves : List Leaf) (hashes : List Digest) (stale : Lis
   pub within : All (λ (index : ℕ). index < length leaves) stale
   pub others : (index : ℕ) → index < length leaves → (Contains stale index → ⊥) → (index < length hashes) × (slice_index_or hashes index no_hash ≡ slice_index_or (leaf_hashes leaves) index no_hash)
 
--- The leaves, with the order of their keys, the indexes that are found for these, and the hashes of the
--- leaves, but for some that are stale.
-pub record IsTree (leaves : List Leaf) (order : BTreeMap (List ℕ) ℕ) (found : List ℕ → Option ℕ) (hashes : List Digest) (stale : List ℕ) : Type 0 where
+-- The leaves, with the order of their keys, and the hashes of the leaves, but for some that are stale.
+pub record IsTree (leaves : List Leaf) (order : BTreeMap (List ℕ) ℕ) (hashes : List Digest) (stale : List ℕ) : Type 0 where
   pub in_order : AreInOrder leaves order
-  pub found_is : (key : List ℕ) → found key ≡ kept_for order key
   pub hashed : AreHashedBut leaves hashes stale

@@ -1,16 +1,12 @@
 //! One more leaf. Its hash is made later.
 
-ghost use Rattle.std.specs.Prelude.{◌≡◌, ◌≢◌, ◌==◌, ◌<◌, ◌∷◌, [], ◌++◌, ℕ, List, length, Some, None, OnOk, OnErr};
-ghost use Rattle.std.specs.Cmp.Lexicographic.{pointwise};
-ghost use Rattle.indexmap.specs.IndexMap.{get};
+ghost use Rattle.std.specs.Prelude.{◌≡◌, ◌≢◌, ◌<◌, ◌∷◌, [], ◌++◌, ℕ, List, length, Some, None, OnOk, OnErr};
 ghost use Rattle.lc_names.specs.KeyBytes.{IsKey};
 ghost use Rattle.merkle_tree.specs.declared.limits.TheConstants.{MAX_LEAVES};
 ghost use Rattle.history_root.specs.Root.{sentinel};
 ghost use Rattle.state_tree.specs.Leaves.{fresh_leaf};
 ghost use Rattle.state_tree.specs.Order.{kept_for};
 
-use crate::order::{insert_key, remove_key};
-use indexmap::IndexMap;
 use lc_base::{Digest, Key, Memory};
 use prov_entry::{Leaf, no_uses};
 use std::collections::BTreeMap;
@@ -60,24 +56,21 @@ pub(crate) fn with_next(leaf: &Leaf, next: &Key) -> Leaf
 /// of memory, all stays as it was.
 fn add_index(
     order: &mut BTreeMap<Key, u32>,
-    table: &mut IndexMap<Key, u32>,
     stale: &mut Vec<u32>,
     key: &Key,
     cover: u32,
     index: u32,
 ) -> Result<(), Memory>
     requires absent { kept_for order.old key.now ≡ None }
-    requires same { (other : List ℕ) → get (pointwise ◌==◌) table.old other ≡ kept_for order.old other }
-    ensures same { (other : List ℕ) → get (pointwise ◌==◌) table.new other ≡ kept_for order.new other }
     ensures kept { OnOk result (kept_for order.new key.now ≡ Some index) }
     ensures kept_err { OnErr result (kept_for order.new key.now ≡ None) }
     ensures others { (other : List ℕ) → key.now ≢ other → kept_for order.new other ≡ kept_for order.old other }
     ensures stale { OnOk result (stale.new.items ≡ stale.old.items ++ cover ∷ index ∷ []) }
     ensures stale_err { OnErr result (stale.new.items ≡ stale.old.items) }
 {
-    insert_key(order, table, key, index)?;
+    order.insert(*key, index)?;
     if stale.extend_from_slice(&[cover, index]).is_err() {
-        remove_key(order, table, key);
+        order.remove(key);
         return Err(Memory);
     }
     Ok(())
@@ -88,7 +81,6 @@ fn add_index(
 pub(crate) fn add_leaf(
     leaves: &mut Vec<Leaf>,
     order: &mut BTreeMap<Key, u32>,
-    table: &mut IndexMap<Key, u32>,
     stale: &mut Vec<u32>,
     key: &Key,
     cover: u32,
@@ -96,8 +88,6 @@ pub(crate) fn add_leaf(
 ) -> Result<(), Memory>
     requires few { length leaves.old.items < MAX_LEAVES }
     requires absent { kept_for order.old key.now ≡ None }
-    requires same { (other : List ℕ) → get (pointwise ◌==◌) table.old other ≡ kept_for order.old other }
-    ensures same { (other : List ℕ) → get (pointwise ◌==◌) table.new other ≡ kept_for order.new other }
     ensures leaves { OnOk result (leaves.new.items ≡ leaves.old.items ++ leaf.now ∷ []) }
     ensures leaves_err { OnErr result (leaves.new.items ≡ leaves.old.items) }
     ensures kept { OnOk result (kept_for order.new key.now ≡ Some (length leaves.old.items)) }
@@ -108,7 +98,7 @@ pub(crate) fn add_leaf(
 {
     let index = leaves.len() as u32;
     leaves.push(*leaf)?;
-    if add_index(order, table, stale, key, cover, index).is_err() {
+    if add_index(order, stale, key, cover, index).is_err() {
         leaves.pop();
         return Err(Memory);
     }

@@ -17,7 +17,6 @@ use crate::order::last_up_to;
 use crate::setting::{indexes_with, renew};
 use crate::states::LeafState;
 use crate::whole::{whole_audit, whole_hash};
-use indexmap::IndexMap;
 use lc_base::{Digest, DigestList, Key, Memory};
 use merkle_tree::Levels;
 use prov_entry::Leaf;
@@ -32,16 +31,13 @@ use std::marker::Model;
 pub struct Tree {
     leaves: Vec<Leaf>,
     order: BTreeMap<Key, u32>,
-    table: IndexMap<Key, u32>,
     levels: Levels,
     stale: Vec<u32>,
 }
 
 // Contracts see the leaves.
 impl Model for Tree {
-    ghost use Rattle.std.specs.Prelude.{◌==◌, List};
-    ghost use Rattle.std.specs.Cmp.Lexicographic.{pointwise};
-    ghost use Rattle.indexmap.specs.IndexMap.{get};
+    ghost use Rattle.std.specs.Prelude.{List};
     ghost use Rattle.prov_entry.specs.declared.entry.Leaf.{Leaf};
     ghost use Rattle.state_tree.specs.Order.{IsTree};
 
@@ -49,7 +45,7 @@ impl Model for Tree {
 
     ghost view = { λ tree. tree.leaves.items };
 
-    ghost invariant = { λ tree. IsTree tree.leaves.items tree.order (get (pointwise ◌==◌) tree.table) tree.levels tree.stale.items };
+    ghost invariant = { λ tree. IsTree tree.leaves.items tree.order tree.levels tree.stale.items };
 }
 
 impl Tree {
@@ -65,7 +61,6 @@ impl Tree {
         Ok(Tree {
             leaves,
             order: BTreeMap::new(alloc),
-            table: IndexMap::new(alloc),
             levels,
             stale: Vec::new(alloc),
         })
@@ -83,7 +78,7 @@ impl Tree {
     pub fn index_of(&self, key: &Key) -> Option<u32>
         ensures { result ≡ index_of self.now key.now }
     {
-        self.table.get(key).copied()
+        self.order.get(key).copied()
     }
 
     /// The index of the leaf of this key, else of the leaf with the greatest smaller key, else 0.
@@ -120,7 +115,6 @@ impl Tree {
         add_leaf(
             &mut self.leaves,
             &mut self.order,
-            &mut self.table,
             &mut self.stale,
             &key,
             cover,

@@ -1,13 +1,16 @@
 -- One text more.
 use Rattle.std.proofs.Common.{◌≡◌, ◌≢◌, inl, inr, ℕ, ◌+◌, ◌<◌, ◌≤◌, Bool, true, false, cond, not, ◌&&◌, List, [], ◌∷◌, ◌++◌, length, Option, Some, None, refl, sym, ap, subst, ◌∙◌, arith}
 use Rattle.std.specs.Prelude.{◌==◌, is_none}
-use Rattle.std.specs.Cmp.Lexicographic.{pointwise, bytes_decides}
+use Rattle.std.specs.Ordering.{nat_cmp, is_eq}
+use Rattle.std.specs.BTreeMap.{BTreeMap}
+use Rattle.std.specs.Cmp.Lexicographic.{pointwise, slice_cmp, bytes_decides}
 use Rattle.std.proofs.lemmas.Bool.{cases_lt, both_ways}
+use Rattle.std.proofs.lemmas.Map.Text.{is_eq-slice_cmp}
 use Rattle.std.proofs.lemmas.List.{length-append, get_or_append_left, get_or_push}
 use Rattle.sha2.specs.Sha256.{sha256}
 use Rattle.text_clashes.specs.declared.table.Places.{Places}
 use Rattle.text_clashes.specs.FirstClash.{text_at}
-use Rattle.text_clashes.specs.Places.{IsOtherAt, IsFirstOther, ArePlaces, IsEntry, IsTable, places_with, entry_with}
+use Rattle.text_clashes.specs.Places.{IsOtherAt, IsFirstOther, ArePlaces, IsEntry, IsTable, places_with, entry_with, entry_of}
 
 module _ (texts : List (List ℕ)) (last : List ℕ) where
   abbrev more : List (List ℕ)
@@ -112,12 +115,15 @@ module _ (texts : List (List ℕ)) (last : List ℕ) where
   entry_after None none = entry_new (sha256 last) none refl
   entry_after (Some places) are = entry_more (sha256 last) places are refl
 
-  pub table_after : (look new : List ℕ → Option Places) → IsTable texts look
-      → ((digest : List ℕ) → new digest ≡ cond (pointwise ◌==◌ (sha256 last) digest) (Some (entry_with texts last (look (sha256 last)))) (look digest)) → IsTable more new
-  table_after look new table added digest = subst (IsEntry digest more) (sym (added digest)) (by (pointwise ◌==◌ (sha256 last) digest) refl)
+  pub table_after : (table new : BTreeMap (List ℕ) Places) → IsTable texts table
+      → ((digest : List ℕ) → entry_of new digest ≡ cond (is_eq (slice_cmp nat_cmp (sha256 last) digest)) (Some (entry_with texts last (entry_of table (sha256 last)))) (entry_of table digest)) → IsTable more new
+  table_after table new is added digest = subst (IsEntry digest more) (sym (added digest)) (by (is_eq (slice_cmp nat_cmp (sha256 last) digest)) refl)
     where
-      by : (same : Bool) → pointwise ◌==◌ (sha256 last) digest ≡ same → IsEntry digest more (cond same (Some (entry_with texts last (look (sha256 last)))) (look digest))
+      equal_is : is_eq (slice_cmp nat_cmp (sha256 last) digest) ≡ pointwise ◌==◌ (sha256 last) digest
+      equal_is = is_eq-slice_cmp (sha256 last) digest
+
+      by : (same : Bool) → is_eq (slice_cmp nat_cmp (sha256 last) digest) ≡ same → IsEntry digest more (cond same (Some (entry_with texts last (entry_of table (sha256 last)))) (entry_of table digest))
       by true f =
-          let is : sha256 last ≡ digest = (bytes_decides (sha256 last) digest).0 f in
-          subst (λ (d : List ℕ). IsEntry d more (Some (entry_with texts last (look (sha256 last))))) is (entry_after (look (sha256 last)) (table (sha256 last)))
-      by false f = entry_stays digest (look digest) (table digest) (λ is. both_ways _ f ((bytes_decides (sha256 last) digest).1 is))
+          let equal : sha256 last ≡ digest = (bytes_decides (sha256 last) digest).0 (sym equal_is ∙ f) in
+          subst (λ (d : List ℕ). IsEntry d more (Some (entry_with texts last (entry_of table (sha256 last))))) equal (entry_after (entry_of table (sha256 last)) (is (sha256 last)))
+      by false f = entry_stays digest (entry_of table digest) (is digest) (λ equal. both_ways _ f (equal_is ∙ (bytes_decides (sha256 last) digest).1 equal))

@@ -1,6 +1,8 @@
 -- Where the texts of a list stand that have one digest.
 use Rattle.std.specs.Prelude.{◌≡◌, ◌≢◌, ◌<◌, ◌==◌, ◌&&◌, not, if◌then◌else◌, ℕ, List, length, Option, Some, None, is_none}
-use Rattle.std.specs.Cmp.Lexicographic.{pointwise}
+use Rattle.std.specs.Ordering.{nat_cmp}
+use Rattle.std.specs.Cmp.Lexicographic.{pointwise, slice_cmp}
+use Rattle.std.specs.BTreeMap.{BTreeMap, get}
 use Rattle.sha2.specs.Sha256.{sha256}
 use Rattle.text_clashes.specs.declared.table.Places.{Places}
 use Rattle.text_clashes.specs.FirstClash.{text_at}
@@ -37,9 +39,13 @@ abbrev pub IsEntry : List ℕ → List (List ℕ) → Option Places → Type 0
 IsEntry digest texts None = HasNoneBefore digest texts (length texts)
 IsEntry digest texts (Some places) = ArePlaces digest texts places
 
--- What is looked up of each digest.
-abbrev pub IsTable : List (List ℕ) → (List ℕ → Option Places) → Type 0
-IsTable texts look = (digest : List ℕ) → IsEntry digest texts (look digest)
+-- What a table has of a digest.
+abbrev pub entry_of : BTreeMap (List ℕ) Places → List ℕ → Option Places
+entry_of table digest = get (slice_cmp nat_cmp) table digest
+
+-- The table of a list has of each digest where its texts stand.
+abbrev pub IsTable : List (List ℕ) → BTreeMap (List ℕ) Places → Type 0
+IsTable texts table = (digest : List ℕ) → IsEntry digest texts (entry_of table digest)
 
 -- Where texts of one digest stand, with one more text of it behind these.
 abbrev pub places_with : List (List ℕ) → List ℕ → Places → Places

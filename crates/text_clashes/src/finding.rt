@@ -1,8 +1,6 @@
 //! The first clash.
 
-ghost use Rattle.std.specs.Prelude.{◌==◌, IfOk};
-ghost use Rattle.std.specs.Cmp.Lexicographic.{pointwise};
-ghost use Rattle.indexmap.specs.IndexMap.{get};
+ghost use Rattle.std.specs.Prelude.{IfOk};
 ghost use Rattle.text_clashes.specs.FirstClash.{IsFirstClash};
 ghost use Rattle.text_clashes.specs.Places.{IsTable};
 
@@ -12,7 +10,7 @@ use std::alloc::Global;
 
 /// The first clash, by a table of the second list.
 fn clash_by(table: &Table, given: &[Bytes], own: &[Bytes]) -> Option<(usize, usize)>
-    requires { IsTable own.now (get (pointwise ◌==◌) table.now) }
+    requires { IsTable own.now table.now }
     ensures { IsFirstClash given.now own.now result }
 {
     for place in 0..given.len() {
@@ -26,7 +24,7 @@ fn clash_by(table: &Table, given: &[Bytes], own: &[Bytes]) -> Option<(usize, usi
 
 /// The places of the first clash: of a text of each list that differ and have one digest, with the
 /// least place in the first list, and then in the second; `None` exactly where there is none. Places
-/// count from 0. It takes time by the number of texts, and not by that of pairs.
+/// count from 0. For each text it looks a digest up once or twice, and goes over no pairs.
 pub fn first_clash(
     alloc: Global,
     given: &TextList,

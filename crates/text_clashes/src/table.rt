@@ -2,14 +2,13 @@
 
 ghost use Rattle.std.specs.Prelude.{◌≡◌, ◌==◌, ◌<◌, [], ◌∷◌, ◌++◌, length, IfSome, OnOk, IfOk};
 ghost use Rattle.std.specs.Cmp.Lexicographic.{pointwise};
-ghost use Rattle.indexmap.specs.IndexMap.{get};
 ghost use Rattle.sha2.specs.Sha256.{sha256};
 ghost use Rattle.text_clashes.specs.Places.{IsTable, IsFirstOther, places_with, entry_with, other_in};
 
-use indexmap::IndexMap;
 use lc_base::{Bytes, Memory};
 use sha2::{Digest as _, Sha256};
 use std::alloc::Global;
+use std::collections::BTreeMap;
 
 /// Where texts of one digest stand.
 #[derive(Clone, Copy, Debug, PartialEq, Eq)]
@@ -21,7 +20,7 @@ pub(crate) struct Places {
 }
 
 /// Of each digest where its texts stand.
-pub(crate) type Table = IndexMap<[u8; 32], Places>;
+pub(crate) type Table = BTreeMap<[u8; 32], Places>;
 
 /// The digest of a text.
 fn text_digest(text: &[u8]) -> [u8; 32]
@@ -69,8 +68,8 @@ fn places_after(found: Option<Places>, texts: &[Bytes], text: &[u8]) -> Places
 
 /// Adds a text to the table of those before it.
 fn add_text(table: &mut Table, before: &[Bytes], text: &[u8]) -> Result<(), Memory>
-    requires { IsTable before.now (get (pointwise ◌==◌) table.old) }
-    ensures { OnOk result (IsTable (before.now ++ text.now ∷ []) (get (pointwise ◌==◌) table.new)) }
+    requires { IsTable before.now table.old }
+    ensures { OnOk result (IsTable (before.now ++ text.now ∷ []) table.new) }
 {
     let digest = text_digest(text);
     let places = places_after(table.get(&digest).copied(), before, text);
@@ -80,9 +79,9 @@ fn add_text(table: &mut Table, before: &[Bytes], text: &[u8]) -> Result<(), Memo
 
 /// The table of some texts.
 pub(crate) fn table_of(alloc: Global, texts: &[Bytes]) -> Result<Table, Memory>
-    ensures { IfOk result (λ table. IsTable texts.now (get (pointwise ◌==◌) table)) }
+    ensures { IfOk result (IsTable texts.now) }
 {
-    let mut table = IndexMap::new(alloc);
+    let mut table = BTreeMap::new(alloc);
     for place in 0..texts.len() {
         add_text(&mut table, &texts[..place], texts[place].as_slice())?;
     }
@@ -109,7 +108,7 @@ fn other_at(found: Option<Places>, texts: &[Bytes], text: &[u8]) -> Option<usize
 
 /// The first place of a text that differs from this one and has its digest.
 pub(crate) fn first_other(table: &Table, texts: &[Bytes], text: &[u8]) -> Option<usize>
-    requires { IsTable texts.now (get (pointwise ◌==◌) table.now) }
+    requires { IsTable texts.now table.now }
     ensures { IsFirstOther text.now texts.now result }
 {
     let digest = text_digest(text);

@@ -4,9 +4,8 @@ use Rattle.std.specs.List.{find}
 use Rattle.std.specs.Map.{update, update_all}
 use Rattle.std.specs.Option.{option_or, option_map}
 use Rattle.std.specs.Cmp.Lexicographic.{pointwise}
-use Rattle.std.proofs.lemmas.List.{reverse-append}
+use Rattle.std.proofs.lemmas.List.{reverse-append, map-append}
 use Rattle.std.proofs.lemmas.List.Folds.{find-append}
-use Rattle.indexmap.proofs.ReorderLemmas.{map-reverse}
 use Rattle.lc_base.specs.declared.row.Row.{Row}
 use Rattle.world_state.specs.declared.held.Held.{Held}
 use Rattle.world_state.specs.Rows.{entry_of, held_of, newest_staged, held_in}
@@ -27,6 +26,14 @@ or_cond (Some y) b x p = refl
 map_map : {A B C : Type 0} (g : B → C) (f : A → B) (o : Option A) → option_map g (option_map f o) ≡ option_map (λ x. g (f x)) o
 map_map g f None = refl
 map_map g f (Some x) = refl
+
+map_reverse : {A B : Type 0} (f : A → B) (xs : List A) → map f (reverse xs) ≡ reverse (map f xs)
+map_reverse f [] = refl
+map_reverse f (x ∷ xs) =
+    ap (map f) (reverse-append (x ∷ []) xs)
+    ∙ map-append f (reverse xs) (x ∷ [])
+    ∙ ap (λ (ys : List _). ys ++ f x ∷ []) (map_reverse f xs)
+    ∙ sym (reverse-append (f x ∷ []) (map f xs))
 
 found_map : {A B : Type 0} (f : A → B) (p : B → Bool) (xs : List A) → find p (map f xs) ≡ option_map f (find (λ x. p (f x)) xs)
 found_map f p [] = refl
@@ -63,7 +70,7 @@ is_row_of key row = pointwise ◌==◌ row.key key
 -- the last of the entries of rows is that of the newest row
 held_in_staged : (rows : List Row) (key : List ℕ) → newest_staged (map entry_of rows) key ≡ held_in rows key
 held_in_staged rows key =
-    ap (λ all. option_map held (find (is_of key) all)) (sym (map-reverse entry_of rows))
+    ap (λ all. option_map held (find (is_of key) all)) (sym (map_reverse entry_of rows))
     ∙ ap (option_map held) (found_map entry_of (is_of key) (reverse rows))
     ∙ map_map held entry_of (find (is_row_of key) (reverse rows))
 

@@ -1,7 +1,10 @@
 -- The codes of contracts, as a world keeps them.
-use Rattle.std.specs.Prelude.{◌≡◌, ◌==◌, ◌||◌, ℕ, Bool, List, [], ◌∷◌, ◌++◌, None, is_some}
+use Rattle.std.specs.Prelude.{◌≡◌, ◌==◌, ◌||◌, ◌≤◌, ℕ, suc, Bool, if◌then◌else◌, List, [], ◌∷◌, length, Option, None, Some, is_some}
 use Rattle.std.specs.Map.{lookup}
-use Rattle.std.specs.Cmp.Lexicographic.{pointwise}
+use Rattle.std.specs.Option.{option_map}
+use Rattle.std.specs.Ordering.{nat_cmp}
+use Rattle.std.specs.BTreeMap.{BTreeMap, get}
+use Rattle.std.specs.Cmp.Lexicographic.{pointwise, slice_cmp}
 
 -- The codes of the blocks so far, and those of the block at work, each in the order of deployment.
 pub record KnownCodes (C : Type 0) : Type 0 where
@@ -14,8 +17,16 @@ is_used codes name =
     is_some (lookup (pointwise ◌==◌ name) codes.committed)
     || is_some (lookup (pointwise ◌==◌ name) codes.staged)
 
--- Each code has a name that no other has of these and those before it.
-abbrev pub AreNew : {C : Type 0} → List (List ℕ × C) → List (List ℕ × C) → Type 0
-AreNew codes [] = Unit {0}
-AreNew codes (entry ∷ entries) =
-    (lookup (pointwise ◌==◌ entry.0) codes ≡ None) × AreNew (codes ++ entry ∷ []) entries
+abbrev pub code : {C : Type 0} → List ℕ × C → C
+code entry = entry.1
+
+-- The place of the first code of this name.
+abbrev pub place_of : {C : Type 0} → List (List ℕ × C) → List ℕ → Option ℕ
+place_of [] name = None
+place_of (entry ∷ entries) name =
+    if pointwise ◌==◌ name entry.0 then Some 0 else option_map suc (place_of entries name)
+
+-- Of each name the place of its code is kept, and that many of the codes can be called.
+pub record AreKept {C : Type 0} (kept : BTreeMap (List ℕ) ℕ) (committed : ℕ) (codes : List (List ℕ × C)) : Type 0 where
+  pub places : (name : List ℕ) → get (slice_cmp nat_cmp) kept name ≡ place_of codes name
+  pub within : committed ≤ length codes

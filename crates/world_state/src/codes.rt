@@ -1,32 +1,45 @@
 //! The codes of contracts, of the blocks so far and of the block at work.
 
-ghost use Rattle.std.specs.Prelude.{◌≡◌, ◌==◌, [], ◌∷◌, ◌++◌, false, IfOk, OnOk, OnErr};
-ghost use Rattle.std.specs.Option.{option_copied};
+ghost use Rattle.std.specs.Prelude.{◌≡◌, ◌==◌, [], ◌∷◌, ◌++◌, false, take, slice_get, OnOk, OnErr};
+ghost use Rattle.std.specs.Option.{option_copied, option_map};
 ghost use Rattle.std.specs.Map.{lookup};
 ghost use Rattle.std.specs.Cmp.Lexicographic.{pointwise};
-ghost use Rattle.world_state.specs.KnownCodes.{KnownCodes, is_used};
+ghost use Rattle.world_state.specs.KnownCodes.{KnownCodes, code, is_used};
 
-use indexmap::IndexMap;
 use lc_base::{Memory, Name};
 use std::alloc::Global;
+use std::collections::BTreeMap;
 use std::marker::Model;
 
-/// The codes that can be called, and those that the block at work deployed.
+/// The codes in the order of deployment: those that can be called, and then those that the block at
+/// work deployed.
 #[derive(Drop)]
 pub(crate) struct Codes<C> {
-    committed: IndexMap<Name, C>,
-    staged: IndexMap<Name, C>,
+    codes: Vec<(Name, C)>,
+    places: BTreeMap<Name, usize>,
+    /// How many of the codes can be called.
+    committed: usize,
 }
 
 impl<C> Model for Codes<C> {
-    ghost use Rattle.std.specs.Prelude.{ℕ, List};
-    ghost use Rattle.world_state.specs.KnownCodes.{KnownCodes, AreNew};
+    ghost use Rattle.std.specs.Prelude.{ℕ, List, take, drop};
+    ghost use Rattle.world_state.specs.KnownCodes.{KnownCodes, AreKept};
 
     ghost Value = { KnownCodes C };
 
-    ghost view = { λ codes. record { committed = codes.committed.entries; staged = codes.staged.entries } };
+    ghost view = { λ codes. record { committed = take codes.committed codes.codes.items; staged = drop codes.committed codes.codes.items } };
 
-    ghost invariant = { λ codes. AreNew codes.committed.entries codes.staged.entries };
+    ghost invariant = { λ codes. AreKept codes.places codes.committed codes.codes.items };
+}
+
+/// The code at a place.
+fn code_at<C>(codes: &[(Name, C)], place: usize) -> Option<&C>
+    ensures { option_copied result ≡ option_map code (slice_get codes.now place) }
+{
+    match codes.get(place) {
+        None => None,
+        Some((_, code)) => Some(code),
+    }
 }
 
 impl<C> Codes<C> {
@@ -35,8 +48,9 @@ impl<C> Codes<C> {
         ensures { result ≡ record { committed = []; staged = [] } }
     {
         Codes {
-            committed: IndexMap::new(alloc),
-            staged: IndexMap::new(alloc),
+            codes: Vec::new(alloc),
+            places: BTreeMap::new(alloc),
+            committed: 0,
         }
     }
 
@@ -44,14 +58,24 @@ impl<C> Codes<C> {
     pub(crate) fn get(&self, name: &Name) -> Option<&C>
         ensures { option_copied result ≡ lookup (pointwise ◌==◌ name.now) self.now.committed }
     {
-        self.committed.get(name)
+        match self.places.get(name) {
+            None => None,
+            Some(place) => code_at(&self.codes[..self.committed], *place),
+        }
     }
 
     /// Whether a code has this name.
     pub(crate) fn is_used(&self, name: &Name) -> bool
         ensures { result ≡ is_used self.now name.now }
     {
-        self.committed.contains_key(name) || self.staged.contains_key(name)
+        self.places.contains_key(name)
+    }
+
+    /// The staged codes become codes that can be called, after those so far.
+    pub(crate) fn commit(&mut self)
+        ensures { self.new ≡ record { committed = self.old.committed ++ self.old.staged; staged = [] } }
+    {
+        self.committed = self.codes.len();
     }
 }
 
@@ -62,19 +86,14 @@ impl<C: Drop> Codes<C> {
         ensures ok { OnOk result (self.new ≡ record self.old { staged = self.old.staged ++ (name, code) ∷ [] }) }
         ensures err { OnErr result (self.new ≡ self.old) }
     {
-        self.staged.insert(name, code)?;
-        Ok(())
-    }
-
-    /// The staged codes become codes that can be called, after those so far.
-    pub(crate) fn commit(self) -> Result<Codes<C>, Memory>
-        ensures { IfOk result (λ codes. codes ≡ record { committed = self.committed ++ self.staged; staged = [] }) }
-    {
-        let Codes {
-            mut committed,
-            mut staged,
-        } = self;
-        committed.append(&mut staged)?;
-        Ok(Codes { committed, staged })
+        let place = self.codes.len();
+        self.codes.push((name, code))?;
+        match self.places.insert(name, place) {
+            Ok(_) => Ok(()),
+            Err(_) => {
+                self.codes.pop();
+                Err(Memory)
+            }
+        }
     }
 }

@@ -1,23 +1,21 @@
 //! What the block at work has written.
 
-ghost use Rattle.std.specs.Prelude.{◌≡◌, ◌==◌, ◌||◌, ℕ, List, [], ◌++◌, map, OnOk, OnErr};
+ghost use Rattle.std.specs.Prelude.{◌≡◌, ◌==◌, ◌||◌, ◌&&◌, not, true, false, ℕ, List, [], ◌++◌, map, IfOk, OnOk, OnErr};
 ghost use Rattle.std.specs.List.{list_any};
 ghost use Rattle.std.specs.Cmp.Lexicographic.{pointwise};
-ghost use Rattle.indexmap.specs.IndexSet.{contains};
-ghost use Rattle.lc_base.specs.declared.row.Row.{Row};
-ghost use Rattle.world_state.specs.Rows.{entry_of, is_staged};
+ghost use Rattle.world_state.specs.Rows.{entry_of, has, is_staged, missing_keys};
 
 use crate::held::{Held, entries_of};
-use indexmap::IndexSet;
 use lc_base::{Key, Memory, Row};
 use std::alloc::Global;
+use std::collections::BTreeSet;
 use std::marker::Model;
 
 /// Versions in the order in which they were written, and the set of their keys.
 #[derive(Drop)]
 pub(crate) struct Staged {
     entries: Vec<(Key, Held)>,
-    written: IndexSet<Key>,
+    written: BTreeSet<Key>,
 }
 
 impl Model for Staged {
@@ -29,19 +27,44 @@ impl Model for Staged {
 
     ghost view = { λ staged. staged.entries.items };
 
-    ghost invariant = { λ staged. AreKeysOf staged.written.keys staged.entries.items };
+    ghost invariant = { λ staged. AreKeysOf staged.written staged.entries.items };
 }
 
-/// Adds the keys of the rows to a set. Out of memory, the set stays as it was.
-fn add_keys(written: &mut IndexSet<Key>, rows: &[Row]) -> Result<(), Memory>
-    ensures ok { OnOk result ((key : List ℕ) → contains (pointwise ◌==◌) written.new key ≡ (contains (pointwise ◌==◌) written.old key || list_any (λ (row : Row). pointwise ◌==◌ row.key key) rows.now)) }
-    ensures err { OnErr result (written.new.keys ≡ written.old.keys) }
+/// The keys of the rows that a set has not.
+fn missing_keys(alloc: Global, written: &BTreeSet<Key>, rows: &[Row]) -> Result<Vec<Key>, Memory>
+    ensures { IfOk result (λ keys. keys.items ≡ missing_keys written.now rows.now) }
 {
-    written.reserve(rows.len())?;
+    let mut keys = Vec::new(alloc);
     for row in rows {
-        match written.insert(row.key) {
+        if !written.contains(&row.key) {
+            keys.push(row.key)?;
+        }
+    }
+    Ok(keys)
+}
+
+/// Takes keys out of a set.
+fn remove_keys(written: &mut BTreeSet<Key>, keys: &[Key])
+    ensures { (key : List ℕ) → has written.new key ≡ (has written.old key && not (list_any (pointwise ◌==◌ key) keys.now)) }
+{
+    for key in keys {
+        written.remove(key);
+    }
+}
+
+/// Adds keys that a set has not. Out of memory, the set has the keys that it had.
+fn add_keys(written: &mut BTreeSet<Key>, keys: &[Key]) -> Result<(), Memory>
+    requires { (key : List ℕ) → list_any (pointwise ◌==◌ key) keys.now ≡ true → has written.old key ≡ false }
+    ensures ok { OnOk result ((key : List ℕ) → has written.new key ≡ (has written.old key || list_any (pointwise ◌==◌ key) keys.now)) }
+    ensures err { OnErr result ((key : List ℕ) → has written.new key ≡ has written.old key) }
+{
+    for key in keys {
+        match written.insert(*key) {
             Ok(_) => {}
-            Err(_) => unreachable!(),
+            Err(_) => {
+                remove_keys(written, keys);
+                return Err(Memory);
+            }
         }
     }
     Ok(())
@@ -54,7 +77,7 @@ impl Staged {
     {
         Staged {
             entries: Vec::new(alloc),
-            written: IndexSet::new(alloc),
+            written: BTreeSet::new(alloc),
         }
     }
 
@@ -70,10 +93,12 @@ impl Staged {
         ensures ok { OnOk result (self.new ≡ self.old ++ map entry_of rows.now) }
         ensures err { OnErr result (self.new ≡ self.old) }
     {
+        let alloc = *self.entries.allocator();
         let len = self.entries.len();
-        let mut more = entries_of(*self.entries.allocator(), rows)?;
+        let keys = missing_keys(alloc, &self.written, rows)?;
+        let mut more = entries_of(alloc, rows)?;
         self.entries.append(&mut more)?;
-        match add_keys(&mut self.written, rows) {
+        match add_keys(&mut self.written, keys.as_slice()) {
             Ok(()) => Ok(()),
             Err(Memory) => {
                 self.entries.truncate(len);

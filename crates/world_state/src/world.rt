@@ -3,7 +3,7 @@
 ghost use Rattle.std.specs.Prelude.{◌≡◌, ◌==◌, false, ℕ, List, [], ◌∷◌, ◌++◌, map, None, Some, MatchOption, IfOk, OnOk, OnErr};
 ghost use Rattle.std.specs.Option.{option_copied, option_or};
 ghost use Rattle.std.specs.Cmp.Lexicographic.{pointwise};
-ghost use Rattle.indexmap.specs.IndexMap.{get};
+ghost use Rattle.std.specs.Map.{lookup};
 ghost use Rattle.lc_base.specs.declared.row.Row.{Row};
 ghost use Rattle.world_state.specs.Rows.{entry_of, newest_staged, held_in};
 ghost use Rattle.world_state.specs.World.{newest_of, newest_after, is_written, code_of, is_raw, is_taken, StandsForRows};
@@ -12,16 +12,16 @@ use crate::codes::Codes;
 use crate::held::Held;
 use crate::limits::RAW_NAME;
 use crate::staged::Staged;
-use indexmap::IndexMap;
 use lc_base::{Key, Memory, Name, RowList, Value};
 use std::alloc::Global;
+use std::collections::BTreeMap;
 use std::marker::Model;
 
 /// The newest version of each key, the codes that can be called, and what the block at work has
 /// staged. `C` is what is kept of a contract.
 #[derive(Drop)]
 pub struct World<C> {
-    newest: IndexMap<Key, Held>,
+    newest: BTreeMap<Key, Held>,
     codes: Codes<C>,
     staged: Staged,
 }
@@ -41,8 +41,8 @@ fn is_raw(name: &Name) -> bool
 }
 
 /// Each entry in turn becomes the newest version of its key.
-fn add_newest(newest: &mut IndexMap<Key, Held>, entries: Vec<(Key, Held)>) -> Result<(), Memory>
-    ensures { OnOk result ((key : List ℕ) → get (pointwise ◌==◌) newest.new key ≡ option_or (newest_staged entries.items key) (get (pointwise ◌==◌) newest.old key)) }
+fn add_newest(newest: &mut BTreeMap<Key, Held>, entries: Vec<(Key, Held)>) -> Result<(), Memory>
+    ensures { OnOk result ((key : List ℕ) → lookup (pointwise ◌==◌ key) newest.new.entries ≡ option_or (newest_staged entries.items key) (lookup (pointwise ◌==◌ key) newest.old.entries)) }
 {
     newest.extend(entries)?;
     Ok(())
@@ -54,7 +54,7 @@ impl<C> World<C> {
         ensures { result ≡ record { newest = []; codes = []; staged = []; staged_codes = [] } }
     {
         World {
-            newest: IndexMap::new(alloc),
+            newest: BTreeMap::new(alloc),
             codes: Codes::new(alloc),
             staged: Staged::new(alloc),
         }
@@ -128,12 +128,13 @@ impl<C: Drop> World<C> {
     {
         let World {
             mut newest,
-            codes,
+            mut codes,
             staged,
         } = self;
-        let alloc = *newest.allocator();
-        let codes = codes.commit()?;
-        add_newest(&mut newest, staged.into_entries())?;
+        let entries = staged.into_entries();
+        let alloc = *entries.allocator();
+        add_newest(&mut newest, entries)?;
+        codes.commit();
         Ok(World {
             newest,
             codes,

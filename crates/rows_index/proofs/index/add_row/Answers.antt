@@ -13,12 +13,12 @@ pub add_users-requires : goal.add_users-requires
 add_users-requires c =
     let rows = c.requires.0 in
     let next = c.requires.1 in
-    (rows, can_use rows next.rest c.args.row.now next.lawful c.args.places.now.entries c.args.users.now.items c.requires.2 c.requires.3)
+    (rows, can_use rows next.rest c.args.row.now next.lawful c.args.places.now c.args.users.now.items c.requires.2 c.requires.3)
 
 pub returns-clause-places : goal.returns-clause-places
 returns-clause-places c rows next kept used =
     let long : length rows ≡ c.len-index.result = omega (arith, few rows c.args.row.now next, used.long, c.len-index.ensures) in
-    places_more rows _ _ c.args.row.now c.len-index.result long kept c.in_ok-push_place.ensures
+    places_more rows c.args.places.now c.push_place.new.places c.args.row.now c.len-index.result long kept c.in_ok-push_place.ensures
 
 pub returns-clause-users : goal.returns-clause-users
 returns-clause-users c rows next kept used =

@@ -18,7 +18,6 @@ invariant_of-self c =
     let err = c.in_err-add_leaf.ensures in
     record {
       in_order = order_same c.self.inside.leaves.items _ c.self.inside.order _ c.args.key c.self.invariant.in_order none err.leaves_err err.kept_err err.others;
-      found_is = c.add_leaf.ensures.same;
       hashed = stale_same c.self.inside.leaves.items _ c.self.inside.levels c.self.inside.stale.items _ c.self.invariant.hashed err.leaves_err err.stale_err;
     }
 
@@ -54,7 +53,7 @@ hashed c =
     (ap (λ (ls : List Leaf). set ls cover c.with_next.result) ok.leaves) ok.stale
 
 pub invariant_of-self-2 : goal.invariant_of-self-2
-invariant_of-self-2 c = record { in_order = (after c).0; found_is = c.add_leaf.ensures.same; hashed = hashed c }
+invariant_of-self-2 c = record { in_order = (after c).0; hashed = hashed c }
 
 pub returns-clause-added : goal.returns-clause-added
 returns-clause-added c = (after c).1 ∙ ap (λ (leaves : List Leaf). with_leaf_of leaves c.args.key) c.self.view_is

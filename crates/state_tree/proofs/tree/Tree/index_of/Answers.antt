@@ -5,5 +5,5 @@ use Rattle.state_tree.proofs.tree.Tree.index_of.Goals as goal
 
 pub returns : goal.returns
 returns c =
-    c.copied.ensures ∙ c.get.ensures.value ∙ c.self.invariant.found_is c.args.key.now ∙ c.self.invariant.in_order.indexes c.args.key.now
+    c.copied.ensures ∙ c.get.ensures.value ∙ c.self.invariant.in_order.indexes c.args.key.now
     ∙ ap (λ (leaves : List Leaf). index_of leaves c.args.key.now) c.self.view_is

@@ -12,7 +12,6 @@ invariant_of-self c =
     let held = subst (λ (ls : List Leaf). slice_get ls c.args.index ≡ Some c.leaf.result) (sym c.self.view_is) c.leaf.ensures in
     record {
       in_order = order_set c.self.inside.leaves.items c.self.inside.order c.args.index c.leaf.result _ c.self.invariant.in_order held c.requires.own refl refl;
-      found_is = c.self.invariant.found_is;
       hashed = stale_set c.self.inside.leaves.items c.self.inside.levels c.set_hash.new.levels c.self.inside.stale.items c.args.index _ c.self.invariant.hashed
           (c.set_hash.ensures ∙ ap (λ (hash : Digest). set c.self.inside.levels c.args.index hash) c.hash_of.ensures.hash);
     }

@@ -23,5 +23,5 @@ invariant_of-self-2 c =
     let written : last ≡ c.renew.new.leaves = with_items_is before c.renew.new.leaves (omega arith) in
     let is : last ≡ with_states before.items c.args.states.now = written ∙ c.in_ok-renew.ensures.leaves ∙ ap (λ (leaves : List Leaf). with_states leaves c.args.states.now) c.as_mut_slice.ensures.value in
     let below : All (λ (state : LeafState). state.index < length before.items) c.args.states.now = rw (← c.self.view_is) at c.requires.below in
-    tree_renewed before.items last c.self.inside.order _ c.self.inside.levels c.renew.new.levels c.self.inside.stale.items c.clear.new.self.items c.args.states.now c.self.invariant c.requires.own below is
+    tree_renewed before.items last c.self.inside.order c.self.inside.levels c.renew.new.levels c.self.inside.stale.items c.clear.new.self.items c.args.states.now c.self.invariant c.requires.own below is
     (c.in_ok-renew.ensures.hashes ∙ ap (λ (leaves : List Leaf). leaf_hashes (with_states leaves c.args.states.now)) c.as_mut_slice.ensures.value) c.clear.ensures.items

@@ -1,17 +1,23 @@
-use Rattle.std.proofs.Common.{◌≡◌, ◌∙◌, sym, subst, false}
-use Rattle.world_state.specs.KnownCodes.{AreNew, is_used}
-use Rattle.world_state.proofs.NewCodes.{staged_last, staged_new}
+use Rattle.std.proofs.Common.{◌≡◌, ◌∷◌, [], ◌∙◌, length, cond, Some, sym, ap, subst, false, arith}
+use Rattle.std.specs.Ordering.{nat_cmp, is_eq}
+use Rattle.std.specs.Cmp.Lexicographic.{slice_cmp}
+use Rattle.std.proofs.lemmas.List.{length-append}
+use Rattle.world_state.specs.KnownCodes.{is_used, place_of}
+use Rattle.world_state.proofs.CodePlaces.{none_of, used_at, placed_more}
 use Rattle.world_state.proofs.codes.Codes.add.Goals as goal
 
-pub invariant_of-self-2 : goal.invariant_of-self-2
-invariant_of-self-2 g c =
-    let free = subst (λ codes. is_used codes c.args.name ≡ false) (sym c.self.view_is) c.requires in
-    let last = staged_last c.self.inside.committed.entries c.self.inside.staged.entries c.args.name c.args.code free in
-    subst (AreNew c.self.inside.committed.entries) (sym (c.in_ok-insert.ensures.entries ∙ last))
-    (staged_new c.self.inside.committed.entries c.self.inside.staged.entries c.args.name c.args.code free c.self.invariant)
-
-pub returns-clause-ok : goal.returns-clause-ok
-returns-clause-ok g c =
-    let free = subst (λ codes. is_used codes c.args.name ≡ false) (sym c.self.view_is) c.requires in
-    let last = staged_last c.self.inside.committed.entries c.self.inside.staged.entries c.args.name c.args.code free in
-    rw (← c.self.view_is) (λ i. record { committed = c.self.inside.committed.entries; staged = (c.in_ok-insert.ensures.entries ∙ last) i })
+pub invariant_of-self-in-Ok : goal.invariant_of-self-in-Ok
+invariant_of-self-in-Ok g c =
+    let codes = c.self.inside.codes.items in
+    let name = c.args.name in
+    let items = c.in_ok-push.ensures.items in
+    let free = subst (λ known. is_used known name ≡ false) (sym c.self.view_is) c.requires in
+    let none = none_of (place_of codes name) (used_at codes c.self.inside.committed name ∙ free) in
+    record {
+      places = λ other.
+          c.in-Ok.ensures.updates.0 other
+          ∙ (λ i. cond (is_eq (slice_cmp nat_cmp name other)) (Some ((c.len-place.ensures ∙ c.self.inside.codes.ok.0) i)) (c.self.invariant.places other i))
+          ∙ placed_more codes name c.args.code other none
+          ∙ ap (λ all. place_of all other) (sym items);
+      within = omega (arith, c.self.invariant.within, ap length items, length-append codes ((name, c.args.code) ∷ []));
+    }

@@ -1,7 +1,7 @@
 use Rattle.std.proofs.Common.{◌==◌, ◌∙◌, ap, sym}
 use Rattle.std.specs.Option.{option_or}
 use Rattle.std.specs.Cmp.Lexicographic.{pointwise}
-use Rattle.indexmap.specs.IndexMap.{get}
+use Rattle.std.specs.Map.{lookup}
 use Rattle.world_state.specs.Rows.{newest_staged}
 use Rattle.world_state.proofs.Newest.{held_in_more}
 use Rattle.world_state.proofs.world.World.commit.Goals as goal
@@ -9,10 +9,10 @@ use Rattle.world_state.proofs.world.World.commit.Goals as goal
 pub returns-clause-newest : goal.returns-clause-newest
 returns-clause-newest g c = λ key.
     rw (← c.self.view_is) (c.in_ok-add_newest.ensures key
-    ∙ ap (λ entries. option_or (newest_staged entries key) (get (pointwise ◌==◌) c.self.inside.newest key)) c.into_entries.ensures)
+    ∙ ap (λ entries. option_or (newest_staged entries key) (lookup (pointwise ◌==◌ key) c.self.inside.newest.entries)) c.into_entries-entries.ensures)
 
 pub returns-clause-codes : goal.returns-clause-codes
-returns-clause-codes g c = rw (← c.self.view_is) (ap (λ codes. codes.committed) c.in_ok-codes.ensures)
+returns-clause-codes g c = rw (← c.self.view_is) (ap (λ codes. codes.committed) c.commit.ensures)
 
 pub returns-clause-rows : goal.returns-clause-rows
 returns-clause-rows g c = λ rows more stands staged key.

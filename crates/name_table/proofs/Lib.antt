@@ -1,0 +1,3 @@
+pub mod FirstPlaces
+pub mod OneCode
+pub mod Noting

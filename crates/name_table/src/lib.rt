@@ -1,0 +1,8 @@
+//! What names stand for, oldest first, found by name.
+#![tactic(auto)]
+
+mod code;
+mod places;
+mod table;
+
+pub use table::NameTable;

@@ -1,0 +1,127 @@
+//! A table of what names stand for.
+
+ghost use Rattle.std.specs.Prelude.{◌≡◌, ◌==◌, ◌<◌, [], ◌∷◌, ◌++◌, length, take, position, is_some, IfSome, OnOk, OnErr};
+ghost use Rattle.std.specs.Option.{option_copied};
+ghost use Rattle.std.specs.List.{list_any};
+ghost use Rattle.std.specs.Map.{keys_of, lookup, set_value};
+ghost use Rattle.std.specs.Cmp.Lexicographic.{pointwise};
+
+use crate::code::code_of;
+use crate::places::{forget_places, note_place, place_among};
+use lc_base::{Memory, Name};
+use std::alloc::Global;
+use std::collections::BTreeMap;
+use std::marker::Model;
+
+/// So many names are compared one by one; where there are more, the name is looked for in the tree.
+const FEW: usize = 4;
+
+/// Names and what they stand for, oldest first.
+///
+/// A name may be there more than once, and then it stands for what was added first. Beside the entries
+/// stands a tree with the place of each name, in the order of the numbers that the names are: a look-up
+/// makes as many comparisons whatever names there are.
+#[derive(Drop)]
+pub struct NameTable<T> {
+    entries: Vec<(Name, T)>,
+    places: BTreeMap<u128, usize>,
+}
+
+impl<T> Model for NameTable<T> {
+    ghost use Rattle.std.specs.Prelude.{ℕ, List};
+    ghost use Rattle.name_table.specs.Places.{AreNoted};
+
+    ghost Value = { List (List ℕ × T) };
+
+    ghost view = { λ table. table.entries.items };
+
+    ghost invariant = { λ table. AreNoted table.entries.items table.places };
+}
+
+impl<T> NameTable<T> {
+    /// No name. It takes no memory.
+    pub fn new(alloc: Global) -> Self
+        ensures { result ≡ [] }
+    {
+        NameTable {
+            entries: Vec::new(alloc),
+            places: BTreeMap::new(alloc),
+        }
+    }
+
+    /// The number of entries.
+    pub fn len(&self) -> usize
+        ensures { result ≡ length self.now }
+    {
+        self.entries.len()
+    }
+
+    /// The place of the first entry of a name; `None` exactly where it stands for nothing.
+    #[tactic(auto, using(crate::proofs::FirstPlaces::found_where_placed))]
+    pub fn place_of(&self, name: &Name) -> Option<usize>
+        ensures place { result ≡ position (pointwise ◌==◌ name.now) (keys_of self.now) }
+        ensures found { is_some result ≡ is_some (lookup (pointwise ◌==◌ name.now) self.now) }
+        ensures within { IfSome result (λ place. place < length self.now) }
+    {
+        if self.entries.len() > FEW {
+            self.places.get(&code_of(name)).copied()
+        } else {
+            place_among(self.entries.as_slice(), name)
+        }
+    }
+
+    /// Whether a name has an entry.
+    #[tactic(auto, using(crate::proofs::FirstPlaces::known))]
+    pub fn contains(&self, name: &Name) -> bool
+        ensures { result ≡ list_any (pointwise ◌==◌ name.now) (keys_of self.now) }
+    {
+        self.place_of(name).is_some()
+    }
+
+    /// What a name stands for; `None` exactly where it has no entry.
+    pub fn get(&self, name: &Name) -> Option<&T>
+        ensures { option_copied result ≡ lookup (pointwise ◌==◌ name.now) self.now }
+    {
+        match self.place_of(name) {
+            None => None,
+            Some(place) => Some(&self.entries[place].1),
+        }
+    }
+}
+
+impl<T: Drop> NameTable<T> {
+    /// Lets a name stand for something else. A name that has no entry changes nothing.
+    pub fn set(&mut self, name: &Name, value: T)
+        ensures { self.new ≡ set_value (pointwise ◌==◌ name.now) self.old value }
+    {
+        if let Some(place) = self.place_of(name) {
+            self.entries[place].1 = value;
+        }
+    }
+
+    /// Adds an entry after the others. Out of memory, nothing changes.
+    pub fn push(&mut self, name: &Name, value: T) -> Result<(), Memory>
+        ensures ok { OnOk result (self.new ≡ self.old ++ (name.now, value) ∷ []) }
+        ensures err { OnErr result (self.new ≡ self.old) }
+    {
+        let place = self.entries.len();
+        self.entries.push((*name, value))?;
+        match note_place(&mut self.places, name, place) {
+            Ok(()) => Ok(()),
+            Err(Memory) => {
+                self.entries.truncate(place);
+                Err(Memory)
+            }
+        }
+    }
+
+    /// Forgets all entries but so many of the oldest. Most blocks add none, so that is tested first.
+    pub fn keep(&mut self, count: usize)
+        ensures { self.new ≡ take count self.old }
+    {
+        if self.entries.len() > count {
+            forget_places(&mut self.places, self.entries.as_slice(), count);
+            self.entries.truncate(count);
+        }
+    }
+}
