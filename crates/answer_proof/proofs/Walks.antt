@@ -1,128 +1,62 @@
--- A walk over the path of a lookup, from header to header.
-use Rattle.std.proofs.Common.{◌≡◌, ◌∙◌, ℕ, suc, ◌+◌, ◌-◌, ◌<◌, ◌≤◌, ◌==◌, nat_le, List, [], ◌∷◌, ◌++◌, length, reverse, slice_get, Option, Some, None, refl, sym, ap, subst, arith, inl, inr}
-use Rattle.std.specs.Prelude.{IfSome}
-use Rattle.std.specs.List.{filter_map, Contains}
-use Rattle.std.specs.Cmp.Lexicographic.{pointwise}
-use Rattle.std.proofs.lemmas.Bool.{cases_Bool, and_parts}
-use Rattle.std.proofs.lemmas.Option.{slice_get_within, get_or_from_slice_get}
-use Rattle.std.proofs.lemmas.List.{append-nil, append_assoc}
+-- The headers on a path, row by row.
+use Rattle.std.proofs.Common.{◌≡◌, ◌∙◌, ℕ, ◌+◌, List, [], ◌∷◌, ◌++◌, length, get_or, take, Option, Some, None, refl, sym, ap}
+use Rattle.std.specs.Prelude.{slice_get}
+use Rattle.std.specs.List.{cons_option, filter_map, Contains}
+use Rattle.std.specs.Option.{option_map}
+use Rattle.std.proofs.lemmas.List.{length-map, take_more}
+use Rattle.std.proofs.lemmas.Option.{slice_get-map, slice_get_within, get_or_from_slice_get, none-some, same_Some}
+use Rattle.lc_base.specs.declared.row.Dep.{Dep}
 use Rattle.lc_base.specs.declared.row.Row.{Row}
-use Rattle.lc_base.specs.History.{IsLawful, newest}
-use Rattle.rows_index.specs.Places.{IsRowAt}
-use Rattle.version_links.specs.Links.{links}
-use Rattle.version_path.specs.Paths.{path_from, path}
-use Rattle.version_path.proofs.Walks.{ended}
-use Rattle.prov_entry.specs.declared.entry.Link.{Link}
+use Rattle.lc_base.specs.History.{IsLawful, version_of}
 use Rattle.prov_entry.specs.declared.entry.Header.{Header}
 use Rattle.history_root.specs.Naming.{header_of}
-use Rattle.history_root.specs.WalkLaws.{is_version_in}
-use Rattle.history_root.proofs.Lists.{found_passes}
-use Rattle.history_root.proofs.Keys.{same_key}
-use Rattle.history_root.proofs.Headers.{newest_is_key}
-use Rattle.proof_checks.specs.Checks.{expected_after}
-use Rattle.proof_checks.specs.Making.{header_in, path_headers}
-use Rattle.proof_checks.proofs.Onward.{GoesOn, onward}
-use Rattle.proof_checks.proofs.MadeWalks.{version_found, header_found, one_header, expected_is, next_block, link_in, no_block, a_block, path_end, path_on, path_stops}
-use Rattle.answer_proof.specs.Walking.{version_in, led_to, headers_from, IsOnPath}
+use Rattle.entry_store.specs.declared.entry.EntryId.{EntryId}
+use Rattle.lineage_store.specs.OnPath.{version_in, version_of_entry, AreEntriesIn}
+use Rattle.proof_checks.specs.Making.{header_in}
+use Rattle.proof_checks.proofs.MadeWalks.{header_found}
 
--- ---- one turn
+abbrev some_version : List ℕ → ℕ → Option Dep
+some_version key block = Some (version_in key block)
 
-no_more : (n : ℕ) (rows : List Row) (key : List ℕ) (at : ℕ) → headers_from n rows key at None ≡ []
-no_more n rows key at = ap (filter_map (header_in rows key)) (ended n at (links rows key))
+pub as_long : (rows : List Row) (key blocks : List ℕ) (ids : List EntryId) → AreEntriesIn rows key blocks ids → length ids ≡ length blocks
+as_long rows key blocks ids are = sym (length-map ids (version_of_entry rows)) ∙ ap length are ∙ length-map blocks (some_version key)
 
-no_turn : (rows : List Row) (key : List ℕ) (at : ℕ) (version : Option Row) → headers_from 0 rows key at version ≡ []
-unfolding path_from
-no_turn rows key at version = refl
-
--- The header of a version on the path, and those from the version on that its link leads to.
-one_turn : (n : ℕ) (rows : List Row) (key : List ℕ) (at : ℕ) (row : Row) → IsLawful rows → Contains rows row → row.key ≡ key
-    → headers_from (suc n) rows key at (Some row) ≡ header_of rows row ∷ headers_from n rows key at (led_to rows key (expected_after at (header_of rows row)))
-one_turn n rows key at row lawful has k =
-    let header : Header = header_of rows row in
-    let found = header_found rows key row lawful has k in
-    let nothing : (o : Option Link) → o ≡ None → [] ≡ headers_from n rows key at (led_to rows key o) = λ o e. sym (ap (λ (l : Option Link). headers_from n rows key at (led_to rows key l)) e ∙ no_more n rows key at) in
-    elim (cases_Bool (nat_le row.block at)) [
-      | inl t ↦
-          let none : expected_after at header ≡ None = rw t refl in
-          ap (filter_map (header_in rows key)) (path_end n rows key at row.block t) ∙ one_header rows key row.block [] header found
-          ∙ ap (λ (rest : List Header). header ∷ rest) (nothing (expected_after at header) none)
-      | inr f ↦
-          let goes : GoesOn rows key at row = subst (λ (x : List ℕ). GoesOn rows x at row) k (onward rows at row lawful has f) in
-          let after = expected_is rows row at f in
-          elim goes [
-            | inl stop ↦
-                let no : next_block at (links rows row.key row.block) ≡ None = no_block (link_in rows row) (next_block at (links rows row.key row.block)) (sym after ∙ stop.0) in
-                let no_key : next_block at (links rows key row.block) ≡ None = subst (λ (x : List ℕ). next_block at (links rows x row.block) ≡ None) k no in
-                ap (filter_map (header_in rows key)) (path_stops n rows key at row.block f no_key) ∙ one_header rows key row.block [] header found
-                ∙ ap (λ (rest : List Header). header ∷ rest) (nothing (expected_after at header) stop.0)
-            | inr next ↦
-                let to : next_block at (links rows row.key row.block) ≡ Some next.0.block = a_block rows row next.0 (next_block at (links rows row.key row.block)) (sym after ∙ next.1) in
-                let to_key : next_block at (links rows key row.block) ≡ Some next.0.block = subst (λ (x : List ℕ). next_block at (links rows x row.block) ≡ Some next.0.block) k to in
-                let there : version_in rows key next.0.block ≡ Some next.0 = ap (λ (x : List ℕ). version_in rows x next.0.block) (sym next.2.key_is) ∙ version_found rows next.0 lawful next.2.there in
-                let led : led_to rows key (expected_after at header) ≡ Some next.0 = ap (led_to rows key) next.1 ∙ there in
-                ap (filter_map (header_in rows key)) (path_on n rows key at row.block (Some next.0.block) f to_key) ∙ one_header rows key row.block (path_from n (links rows key) at (Some next.0.block)) header found
-                ∙ ap (λ (o : Option Row). header ∷ headers_from n rows key at o) (sym led)
-          ]
-    ]
-
-of_led : (rows : List Row) (key : List ℕ) (link : Option Link) → IfSome (led_to rows key link) (λ (row : Row). row.key ≡ key)
-of_led rows key None = tt
-of_led rows key (Some link) = go (version_in rows key link.block) refl
+-- The row of an entry is the version of the key in its block.
+pub row_in : (rows : List Row) (key blocks : List ℕ) (ids : List EntryId) (i : ℕ) (id : EntryId) → AreEntriesIn rows key blocks ids → slice_get ids i ≡ Some id
+    → (row : Row) × (block : ℕ) × (slice_get rows id.0 ≡ Some row) × (row.key ≡ key) × (row.block ≡ block) × (slice_get blocks i ≡ Some block)
+row_in rows key blocks ids i id are at =
+    by_block (slice_get blocks i) refl
+    (ap (option_map (version_of_entry rows)) (sym at) ∙ sym (slice_get-map (version_of_entry rows) ids i) ∙ ap (λ (vs : List (Option Dep)). slice_get vs i) are ∙ slice_get-map (some_version key) blocks i)
   where
-    go : (o : Option Row) → version_in rows key link.block ≡ o → IfSome o (λ (row : Row). row.key ≡ key)
-    go None e = tt
-    go (Some row) e = same_key row.key key (and_parts (pointwise ◌==◌ row.key key) (row.block == link.block) (found_passes (is_version_in key link.block) (reverse rows) row e)).0
+    by_row : (o : Option Row) (block : ℕ) → slice_get rows id.0 ≡ o → option_map version_of o ≡ Some (version_in key block) → slice_get blocks i ≡ Some block
+        → (row : Row) × (block : ℕ) × (slice_get rows id.0 ≡ Some row) × (row.key ≡ key) × (row.block ≡ block) × (slice_get blocks i ≡ Some block)
+    by_row None block is same there = absurd (none-some (version_in key block) same)
+    by_row (Some row) block is same there =
+        let version : version_of row ≡ version_in key block = same_Some (version_of row) (version_in key block) same in
+        (row, block, is, ap (λ (d : Dep). d.key) version, ap (λ (d : Dep). d.block) version, there)
 
-of_newest : (rows : List Row) (key : List ℕ) → IfSome (newest rows key) (λ (row : Row). row.key ≡ key)
-of_newest rows key = go (newest rows key) refl
+    by_block : (o : Option ℕ) → slice_get blocks i ≡ o → Some (version_of_entry rows id) ≡ option_map (some_version key) o
+        → (row : Row) × (block : ℕ) × (slice_get rows id.0 ≡ Some row) × (row.key ≡ key) × (row.block ≡ block) × (slice_get blocks i ≡ Some block)
+    by_block None is same = absurd (none-some (version_of_entry rows id) (sym same))
+    by_block (Some block) is same = by_row (slice_get rows id.0) block refl (same_Some (version_of_entry rows id) (some_version key block) same) is
+
+filter_more : {X Y : Type 0} (f : X → Option Y) (xs : List X) (x : X) (y : Y) → f x ≡ Some y → filter_map f (xs ++ x ∷ []) ≡ filter_map f xs ++ y ∷ []
+filter_more f [] x y is = rw is refl
+filter_more {Y = Y} f (first ∷ xs) x y is = go (f first) (filter_more f xs x y is)
   where
-    go : (o : Option Row) → newest rows key ≡ o → IfSome o (λ (row : Row). row.key ≡ key)
-    go None e = tt
-    go (Some row) e = newest_is_key rows key row e
+    go : (o : Option Y) → filter_map f (xs ++ x ∷ []) ≡ filter_map f xs ++ y ∷ [] → cons_option o (filter_map f (xs ++ x ∷ [])) ≡ cons_option o (filter_map f xs) ++ y ∷ []
+    go None rest = rest
+    go (Some z) rest = ap (λ (others : List Y). z ∷ others) rest
 
--- ---- the walk
-
-pub walk_begins : (rows : List Row) (key : List ℕ) (at : ℕ) (index : Option ℕ) → IsRowAt rows index (newest rows key) → IsOnPath rows key at (length rows - 0) index []
-unfolding path
-walk_begins rows key at index stands =
-    let e : length rows - 0 ≡ length rows = omega arith in
-    record {
-      version = newest rows key;
-      stands = stands;
-      of_key = of_newest rows key;
-      on_path = ap (λ (n : ℕ). headers_from n rows key at (newest rows key)) e;
-    }
-
-pub index_within : (n : ℕ) (rows : List Row) (key : List ℕ) (at index : ℕ) (headers : List Header) → IsOnPath rows key at n (Some index) headers → index < length rows
-index_within n rows key at index headers on = slice_get_within rows index on.stands.0 on.stands.2
-
-pub walk_goes_on : (turn long : ℕ) (rows : List Row) (key : List ℕ) (at index : ℕ) (next : Option ℕ) (header : Header) (headers : List Header) → IsLawful rows → turn < long
-    → IsOnPath rows key at (long - turn) (Some index) headers → ((row : Row) → slice_get rows index ≡ Some row → header ≡ header_of rows row)
-    → IsRowAt rows next (led_to rows key (expected_after at header)) → IsOnPath rows key at (long - (turn + 1)) next (headers ++ header ∷ [])
-walk_goes_on turn long rows key at index next header headers lawful more on is stands =
-    let left : long - turn ≡ suc (long - (turn + 1)) = omega (arith, more) in
-    let n : ℕ = long - (turn + 1) in
-    let (row, version, at_index) = on.stands in
-    let own : header ≡ header_of rows row = is row at_index in
-    let has : Contains rows row = (index, slice_get_within rows index row at_index, get_or_from_slice_get rows index row row at_index) in
-    let key_is : row.key ≡ key = subst (λ (o : Option Row). IfSome o (λ (r : Row). r.key ≡ key)) version on.of_key in
-    let turned : headers_from (long - turn) rows key at on.version ≡ header ∷ headers_from n rows key at (led_to rows key (expected_after at header)) =
-    ap (λ (o : Option Row). headers_from (long - turn) rows key at o) version ∙ ap (λ (m : ℕ). headers_from m rows key at (Some row)) left ∙ one_turn n rows key at row lawful has key_is
-    ∙ ap (λ (h : Header). h ∷ headers_from n rows key at (led_to rows key (expected_after at h))) (sym own) in
-    record {
-      version = led_to rows key (expected_after at header);
-      stands = stands;
-      of_key = of_led rows key (expected_after at header);
-      on_path =
-          append_assoc headers (header ∷ []) (headers_from n rows key at (led_to rows key (expected_after at header)))
-          ∙ ap (λ (rest : List Header). headers ++ rest) (sym turned) ∙ on.on_path;
-    }
-
-pub walk_ends : (n : ℕ) (rows : List Row) (key : List ℕ) (at : ℕ) (headers : List Header) → IsOnPath rows key at n None headers → headers ≡ path_headers rows key at
-walk_ends n rows key at headers on =
-    sym (ap (λ (rest : List Header). headers ++ rest) (ap (λ (o : Option Row). headers_from n rows key at o) on.stands ∙ no_more n rows key at) ∙ append-nil headers) ∙ on.on_path
-
-pub walk_is_over : (turn long : ℕ) (rows : List Row) (key : List ℕ) (at : ℕ) (index : Option ℕ) (headers : List Header) → long ≤ turn → IsOnPath rows key at (long - turn) index headers → headers ≡ path_headers rows key at
-walk_is_over turn long rows key at index headers over on =
-    let e : long - turn ≡ 0 = omega (arith, over) in
-    sym (ap (λ (rest : List Header). headers ++ rest) (ap (λ (n : ℕ). headers_from n rows key at on.version) e ∙ no_turn rows key at on.version) ∙ append-nil headers) ∙ on.on_path
+pub header_more : (rows : List Row) (key blocks : List ℕ) (ids : List EntryId) (i : ℕ) (id : EntryId) (header : Header) (headers : List Header) → IsLawful rows → AreEntriesIn rows key blocks ids
+    → slice_get ids i ≡ Some id → ((row : Row) → slice_get rows id.0 ≡ Some row → header ≡ header_of rows row) → headers ≡ filter_map (header_in rows key) (take i blocks)
+    → headers ++ header ∷ [] ≡ filter_map (header_in rows key) (take (i + 1) blocks)
+header_more rows key blocks ids i id header headers lawful are at is before =
+    let found = row_in rows key blocks ids i id are at in
+    let row = found.0 in
+    let block = found.1 in
+    let has : Contains rows row = (id.0, slice_get_within rows id.0 row found.2, get_or_from_slice_get rows id.0 row row found.2) in
+    let there : header_in rows key block ≡ Some header = ap (header_in rows key) (sym found.4) ∙ header_found rows key row lawful has found.3 ∙ ap (λ (h : Header). Some h) (sym (is row found.2)) in
+    let here : get_or blocks i block ≡ block = get_or_from_slice_get blocks i block block found.5 in
+    ap (λ (hs : List Header). hs ++ header ∷ []) before ∙ sym (filter_more (header_in rows key) (take i blocks) block header there)
+    ∙ ap (λ (bs : List ℕ). filter_map (header_in rows key) bs) (ap (λ (b : ℕ). take i blocks ++ b ∷ []) (sym here) ∙ sym (take_more blocks i block (slice_get_within blocks i block found.5)))

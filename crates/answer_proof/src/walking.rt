@@ -1,59 +1,32 @@
-//! The headers on the path of a lookup, gathered from the newest version's on along the links.
+//! The headers on the path of a lookup, from the newest version's on.
 
-ghost use Rattle.std.specs.Prelude.{◌≡◌, nat_lt, reverse, IfOk};
-ghost use Rattle.std.specs.List.{find};
-ghost use Rattle.std.specs.Option.{option_copied};
-ghost use Rattle.prov_entry.specs.declared.entry.Link.{Link as LinkValue};
-ghost use Rattle.rows_index.specs.Places.{IsRowAt};
-ghost use Rattle.proof_checks.specs.Checks.{chosen, expected_after};
-ghost use Rattle.proof_checks.specs.Making.{path_headers};
-ghost use Rattle.answer_proof.specs.Walking.{led_to};
+ghost use Rattle.std.specs.Prelude.{◌≡◌, ℕ, List, IfOk};
+ghost use Rattle.std.specs.List.{filter_map};
+ghost use Rattle.lineage_store.specs.OnPath.{AreEntriesIn};
+ghost use Rattle.proof_checks.specs.Making.{header_in, path_headers};
 
+use entry_store::EntryId;
 use lc_base::{Key, Memory};
 use merkle_dag::Lineage;
 use proof_codec::HeaderList;
-use prov_entry::{Header, Link};
 use std::alloc::Global;
 
-/// The highest link to a block after this one.
-fn highest_above(links: &[Link], at: u32) -> Option<&Link>
-    ensures { option_copied result ≡ find (λ (link : LinkValue). nat_lt at link.block) (reverse links.now) }
+/// The headers of rows of a key, by their entries.
+fn headers_of(alloc: Global, lineage: &Lineage, ids: &[EntryId]) -> Result<HeaderList, Memory>
+    requires { (key : List ℕ) × (blocks : List ℕ) × AreEntriesIn lineage.now.rows key blocks ids.now }
+    ensures { (key blocks : List ℕ) → AreEntriesIn lineage.now.rows key blocks ids.now → IfOk result (λ headers. headers ≡ filter_map (header_in lineage.now.rows key) blocks) }
 {
-    links.iter().rev().find(|link| at < link.block)
-}
-
-/// The link to follow: the highest one to a block after this one, or else the lowest.
-fn chosen(links: &[Link], at: u32) -> Option<Link>
-    ensures { result ≡ chosen at links.now }
-{
-    match highest_above(links, at) {
-        Some(link) => Some(*link),
-        None => links.first().copied(),
+    // So that the rows are known to be lawful.
+    let _rows = lineage.row_count();
+    let mut headers = HeaderList::new(alloc);
+    for id in ids {
+        let header = lineage.header(id.0)?;
+        headers.push(header)?;
     }
+    Ok(headers)
 }
 
-/// The link that a lookup follows from a header; none where it ends there.
-fn link_after(header: &Header, at: u32) -> Option<Link>
-    ensures { result ≡ expected_after at header.now }
-{
-    if header.block <= at {
-        return None;
-    }
-    chosen(header.links.as_slice(), at)
-}
-
-/// The index of the version that a lookup goes on to from a header; none where it ends there.
-fn next_row(lineage: &Lineage, key: &Key, at: u32, header: &Header) -> Option<u32>
-    ensures { IsRowAt lineage.now.rows result (led_to lineage.now.rows key.now (expected_after at header.now)) }
-{
-    match link_after(header, at) {
-        None => None,
-        Some(link) => lineage.row_place(key, link.block),
-    }
-}
-
-/// The headers on the path of a lookup of the last version of a key up to a block. There are at most as
-/// many turns as rows.
+/// The headers on the path of a lookup of the last version of a key up to a block.
 pub(crate) fn path_headers(
     alloc: Global,
     lineage: &Lineage,
@@ -62,17 +35,6 @@ pub(crate) fn path_headers(
 ) -> Result<HeaderList, Memory>
     ensures { IfOk result (λ headers. headers ≡ path_headers lineage.now.rows key.now at) }
 {
-    let mut headers = HeaderList::new(alloc);
-    let mut next = lineage.newest_row(key);
-    for _turn in 0..lineage.row_count() {
-        match next {
-            None => return Ok(headers),
-            Some(index) => {
-                let header = lineage.header(index)?;
-                next = next_row(lineage, key, at, &header);
-                headers.push(header)?;
-            }
-        }
-    }
-    Ok(headers)
+    let ids = lineage.path(key, at)?;
+    headers_of(alloc, lineage, ids.as_slice())
 }

@@ -4,7 +4,6 @@ use Rattle.std.specs.List.{All}
 use Rattle.sha2.specs.Sha256.{sha256}
 use Rattle.lc_base.specs.declared.digest.Digest.{Digest}
 use Rattle.lc_base.specs.declared.limits.TheConstants.{MAX_ROWS}
-use Rattle.lc_base.specs.declared.row.Dep.{Dep}
 use Rattle.prov_entry.specs.declared.entry.Header.{Header}
 use Rattle.prov_entry.specs.declared.entry.Link.{Link}
 use Rattle.prov_entry.specs.declared.limits.TheConstants.{BODY, MAX_LINKS}
@@ -13,12 +12,11 @@ use Rattle.entry_store.specs.declared.entry.Hop.{Hop}
 use Rattle.entry_store.specs.declared.entry.Links.{Links}
 use Rattle.entry_store.specs.declared.entry.Facts.{Facts}
 
--- What is kept of a version: what lookups read, the other facts of its header, the forward list that
--- it closed, and the bytes of its body.
+-- What is kept of a version: what lookups read, the other facts of its header, and the bytes of its
+-- body.
 pub record Entry : Type 0 where
   pub links : Links
   pub facts : Facts
-  pub closed : List Dep
   pub body : List ℕ
 
 -- ---- what is computed of a new entry
@@ -57,11 +55,10 @@ facts_of header = record {
 }
 
 -- A new entry, where these are the entries before.
-abbrev pub new_entry : List Entry → List ℕ → ℕ → ℕ → List Hop → List Dep → Digest → List ℕ → Entry
+abbrev pub new_entry : List Entry → List ℕ → ℕ → ℕ → List Hop → ℕ → Digest → List ℕ → Entry
 new_entry entries key block tx hops closed closed_digest body = record {
   links = record { block = block; hops = hops };
-  facts = facts_of (new_header entries key block tx hops (length closed) closed_digest body);
-  closed = closed;
+  facts = facts_of (new_header entries key block tx hops closed closed_digest body);
   body = body;
 }
 

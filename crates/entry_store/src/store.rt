@@ -1,6 +1,6 @@
 //! The arena of entries.
 
-ghost use Rattle.std.specs.Prelude.{◌≡◌, ◌<◌, ◌≤◌, [], ◌∷◌, ◌++◌, length, take, slice_get, Some, MatchOption, IfOk, OnOk, OnErr};
+ghost use Rattle.std.specs.Prelude.{◌≡◌, ◌<◌, ◌≤◌, [], ◌∷◌, ◌++◌, length, map, slice_get, Some, MatchOption, IfOk, OnOk, OnErr};
 ghost use Rattle.std.specs.List.{All};
 ghost use Rattle.std.specs.Option.{option_map};
 ghost use Rattle.std.specs.Rc.{rc_slice_items};
@@ -8,14 +8,14 @@ ghost use Rattle.lc_base.specs.declared.limits.TheConstants.{MAX_ROWS};
 ghost use Rattle.prov_entry.specs.declared.limits.TheConstants.{MAX_LINKS};
 ghost use Rattle.entry_store.specs.declared.entry.Hop.{Hop};
 ghost use Rattle.entry_store.specs.Steps.{raised};
-ghost use Rattle.entry_store.specs.Entries.{Entry, LeadsBack, AreEntries, new_entry};
+ghost use Rattle.entry_store.specs.Entries.{Entry, LeadsBack, AreEntries, named_link, new_entry};
 
-use crate::entry::{EntryId, Facts, HopList, Links};
+use crate::entry::{EntryId, Facts, Hop, HopList, Links};
 use crate::facts::{body_digest, facts_of, links_of};
 use crate::kept::Kept;
 use crate::steps::Steps;
-use lc_base::{DepList, Digest, Key, Memory};
-use prov_entry::Header;
+use lc_base::{Digest, Key, Memory};
+use prov_entry::{Header, LinkList};
 use std::alloc::Global;
 use std::marker::Model;
 use std::rc::RcSlice;
@@ -47,14 +47,16 @@ impl Store {
         })
     }
 
-    /// Adds an entry, digests its header, and gives its id. Out of memory, the store stays as it was.
+    /// Adds an entry, digests its header, and gives its id. `closed` is the number of versions that were
+    /// derived from the version of the key before, and `closed_digest` their digest as a forward list. Out
+    /// of memory, the store stays as it was.
     pub fn push(
         &mut self,
         key: Key,
         block: u32,
         tx: u16,
         hops: HopList,
-        closed: DepList,
+        closed: u64,
         closed_digest: Digest,
         body: RcSlice<u8>,
     ) -> Result<EntryId, Memory>
@@ -72,13 +74,13 @@ impl Store {
             block,
             tx,
             body: body_digest(&body),
-            closed: closed.len() as u64,
+            closed,
             closed_digest,
             links: links_of(alloc, &self.entries, hops.as_slice())?,
         };
         let facts = facts_of(&header);
         let links = Links { block, hops };
-        self.entries.push(Kept::new(links, facts, closed, body))?;
+        self.entries.push(Kept::new(links, facts, &body))?;
         Ok(id)
     }
 
@@ -103,20 +105,12 @@ impl Store {
         self.entries[id.0 as usize].facts()
     }
 
-    /// The bytes of the body of an entry, which are shared.
-    pub fn body(&self, id: EntryId) -> Result<RcSlice<u8>, Memory>
-        requires { id.0 < length self.now }
-        ensures { IfOk result (λ body. option_map (λ (entry : Entry). entry.body) (slice_get self.now id.0) ≡ Some (rc_slice_items body)) }
+    /// Hops with the digests of the headers that they lead to.
+    pub fn named_links(&self, alloc: Global, hops: &[Hop]) -> Result<LinkList, Memory>
+        requires { All (λ (hop : Hop). hop.id.0 < length self.now) hops.now }
+        ensures { IfOk result (λ links. links ≡ map (named_link self.now) hops.now) }
     {
-        self.entries[id.0 as usize].body()
-    }
-
-    /// The forward list that an entry closed.
-    pub fn closed_list(&self, id: EntryId) -> &DepList
-        requires { id.0 < length self.now }
-        ensures { option_map (λ (entry : Entry). entry.closed) (slice_get self.now id.0) ≡ Some result.now }
-    {
-        self.entries[id.0 as usize].closed()
+        links_of(alloc, &self.entries, hops)
     }
 
     /// The number of entries. What holds of the entries of every store is said here.
@@ -136,25 +130,4 @@ impl Store {
         }
         None
     }
-
-    /// A store of the first entries, with the same ids. Their bodies are shared.
-    pub fn front(&self, count: u32) -> Result<Store, Memory>
-        requires { count ≤ length self.now }
-        ensures { IfOk result (λ store. store ≡ take count self.now) }
-    {
-        let alloc = *self.entries.allocator();
-        Ok(Store {
-            entries: copied(alloc, &self.entries[..count as usize])?,
-        })
-    }
-}
-
-fn copied(alloc: Global, entries: &[Kept]) -> Result<Vec<Kept>, Memory>
-    ensures { IfOk result (λ copy. copy.items ≡ entries.now) }
-{
-    let mut copy = Vec::with_capacity(alloc, entries.len())?;
-    for entry in entries {
-        copy.push(entry.copy()?)?;
-    }
-    Ok(copy)
 }

@@ -1,21 +1,19 @@
 -- What the body of a row names: the versions at the indexes that are kept of it.
-use Rattle.std.proofs.Common.{◌≡◌, ◌∙◌, ℕ, ◌+◌, ◌<◌, ◌≤◌, List, [], ◌∷◌, ◌++◌, length, get_or, take, map, Option, Some, None, refl, sym, ap, subst, arith}
+use Rattle.std.proofs.Common.{◌≡◌, ◌∙◌, ℕ, ◌+◌, ◌<◌, List, [], ◌∷◌, ◌++◌, length, get_or, take, map, Option, Some, None, refl, sym, ap, subst, arith}
 use Rattle.std.specs.Prelude.{slice_get}
 use Rattle.std.specs.List.{Contains}
 use Rattle.std.specs.Option.{option_map}
-use Rattle.std.proofs.lemmas.List.{length-map, map-append, take_more}
+use Rattle.std.proofs.lemmas.List.{map-append, take_more}
 use Rattle.std.proofs.lemmas.List.Elements.{recursion_from_All, All-from_recursion}
 use Rattle.std.proofs.lemmas.Option.{get_or_from_slice_get, slice_get-get_or, slice_get_within, none-some, same_Some}
-use Rattle.lc_base.specs.declared.limits.TheConstants.{MAX_DEPS}
 use Rattle.lc_base.specs.declared.digest.Digest.{Digest}
 use Rattle.lc_base.specs.declared.row.Row.{Row}
 use Rattle.lc_base.specs.declared.row.Dep.{Dep}
 use Rattle.lc_base.specs.History.{IsLawful, HasLawfulDeps, IsRecordedFrom, version_of}
 use Rattle.rows_index.specs.Users.{AreVersionsAt, version_at}
 use Rattle.plain_rows.proofs.Lists.{as_long, version_there}
-use Rattle.prov_entry.specs.declared.entry.Body.{Body}
 use Rattle.prov_entry.specs.declared.entry.BodyDep.{BodyDep}
-use Rattle.history_root.specs.Naming.{named_before, with_digest, body_of}
+use Rattle.history_root.specs.Naming.{named_before, with_digest}
 use Rattle.history_root.proofs.Headers.{row_is_named, recorded_is_older}
 use Rattle.history_root.proofs.Lists.{all_weaker, contained}
 use Rattle.lineage_entries.specs.Entries.{named_at, AreOlder}
@@ -65,12 +63,3 @@ pub older_deps : (rows : List Row) (row : Row) → IsLawful rows → Contains ro
 older_deps rows row lawful has =
     let deps : HasLawfulDeps rows row = contained (HasLawfulDeps rows) rows row (recursion_from_All (HasLawfulDeps rows) rows lawful.lawful_deps) has in
     all_weaker (IsRecordedFrom rows row) (λ (dep : Dep). dep.block < row.block) (λ dep r. (recorded_is_older rows row dep r).4) row.deps (recursion_from_All (IsRecordedFrom rows row) row.deps deps.newest)
-
-pub few_deps : (rows : List Row) (row : Row) → IsLawful rows → Contains rows row → length row.deps ≤ MAX_DEPS
-few_deps rows row lawful has = (contained (HasLawfulDeps rows) rows row (recursion_from_All (HasLawfulDeps rows) rows lawful.lawful_deps) has).few
-
-pub few_named : (rows : List Row) (row : Row) (body : Body) → IsLawful rows → Contains rows row → body ≡ body_of rows row → length body.deps ≤ MAX_DEPS
-few_named rows row body lawful has is =
-    let few = few_deps rows row lawful has in
-    let same = length-map row.deps (with_digest (named_before rows row.block)) in
-    subst (λ (b : Body). length b.deps ≤ MAX_DEPS) (sym is) (omega (arith, few, same))

@@ -1,2 +1,1 @@
 pub mod Dependencies
-pub mod HeaderParts

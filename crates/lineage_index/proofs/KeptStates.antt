@@ -15,10 +15,10 @@ use Rattle.state_tree.specs.Leaves.{index_of, with_leaf_of}
 use Rattle.forward_links.specs.declared.open_list.OpenList.{OpenList}
 use Rattle.forward_links.specs.Lists.{open_of, emptied_at}
 use Rattle.lineage_index.specs.Growth.{Entry, leaf_with}
-use Rattle.lineage_index.specs.Heads.{leaves_with, KeyStates, AreHeads, AreLists, with_key_more, with_version_more, with_version, newest_of}
+use Rattle.lineage_index.specs.Heads.{leaves_with, KeyStates, AreHeads, AreLists, with_key_more, with_version_more, with_version}
 use Rattle.lineage_index.proofs.ByKey.{push_key}
 use Rattle.lineage_index.proofs.KeyLeaves.{IsPlace, leaf_place, leaf_added}
-use Rattle.lineage_index.proofs.KeyLists.{value_set, value_at}
+use Rattle.lineage_index.proofs.KeyLists.{value_set}
 
 -- a key at an index is among the keys
 pub index_among : (keys : List (List ℕ)) (key : List ℕ) (i : ℕ) → slice_get keys i ≡ Some key → is_among keys key ≡ true
@@ -67,14 +67,8 @@ heads_replaced tree lists newest states key i row a at = record {
   newest_are = ap (λ (is : List ℕ). slice_set is i row) a.newest_are ∙ value_set states.index states.keys key i row a.apart at;
 }
 
-pub version_new : (states : KeyStates) (key : List ℕ) (row : ℕ) → is_among states.keys key ≡ false → (with_version states key row ≡ with_key_more states key row) × (newest_of states key ≡ None)
-version_new states key row none = rw none (refl, refl)
+pub version_new : (states : KeyStates) (key : List ℕ) (row : ℕ) → is_among states.keys key ≡ false → with_version states key row ≡ with_key_more states key row
+version_new states key row none = rw none refl
 
-pub version_old : (states : KeyStates) (key : List ℕ) (row : ℕ) → is_among states.keys key ≡ true → (with_version states key row ≡ with_version_more states key row) × (newest_of states key ≡ Some (states.index key))
-version_old states key row there = rw there (refl, refl)
-
-pub newest_before : (tree : List Leaf) (lists : List OpenList) (newest : List ℕ) (states : KeyStates) (key : List ℕ) (i before : ℕ) → AreHeads tree lists newest states → slice_get states.keys i ≡ Some key
-    → slice_get newest i ≡ Some before → Some before ≡ newest_of states key
-newest_before tree lists newest states key i before a at found =
-    let is : before ≡ states.index key = sym (get_or_from_slice_get newest i before before found) ∙ ap (λ (is : List ℕ). get_or is i before) a.newest_are ∙ (value_at states.index states.keys key i before at).1 in
-    ap (λ (n : ℕ). Some n) is ∙ sym (version_old states key 0 (index_among states.keys key i at)).1
+pub version_old : (states : KeyStates) (key : List ℕ) (row : ℕ) → is_among states.keys key ≡ true → with_version states key row ≡ with_version_more states key row
+version_old states key row there = rw there refl

@@ -8,9 +8,7 @@ use Rattle.std.specs.Cmp.Lexicographic.{pointwise}
 use Rattle.std.proofs.lemmas.List.{append-nil, append_assoc, length-map, get_or-map}
 use Rattle.std.proofs.lemmas.List.Elements.{All-from_recursion, recursion_from_All, All-contains, Contains-get_or}
 use Rattle.std.proofs.lemmas.Option.{get_or_from_slice_get}
-use Rattle.lc_base.specs.declared.digest.Digest.{Digest}
 use Rattle.lc_base.specs.declared.row.Row.{Row}
-use Rattle.version_links.specs.declared.versions.VersionRef.{VersionRef}
 use Rattle.prov_entry.specs.declared.entry.Leaf.{Leaf}
 use Rattle.history_root.specs.Root.{is_among, keys_of, sentinel}
 use Rattle.history_root.proofs.Lists.{all_weaker, all_map, all_filter_map, not_both, option_cases}
@@ -18,6 +16,7 @@ use Rattle.history_root.proofs.Keys.{all_among}
 use Rattle.state_tree.specs.declared.states.LeafState.{LeafState}
 use Rattle.state_tree.specs.Leaves.{index_of, with_state, with_states}
 use Rattle.forward_links.specs.declared.open_list.OpenList.{OpenList}
+use Rattle.entry_store.specs.Entries.{Entry as StoreEntry}
 use Rattle.lineage_index.specs.Growth.{Entry, entry_of, leaf_with, changed, renewed}
 use Rattle.lineage_index.specs.Heads.{leaves_with}
 use Rattle.lineage_index.specs.Settling.{renewing, AreRenewing}
@@ -121,21 +120,21 @@ leaves_told keys old new done (index ∷ indexes) apart within =
 
 -- ---- the keys that a block touches
 
-pub beside_leaves : (rows : List Row) (entry : List ℕ → Entry) (done : List (List ℕ)) (tree : List Leaf) (lists : List OpenList) (newest : List ℕ) (versions : List VersionRef) (headers : List Digest)
-    → AreRenewing rows entry done tree lists newest versions headers → AreBesideLeaves rows lists newest versions headers
-beside_leaves rows entry done tree lists newest versions headers a = record { records = a.records; lists_are = a.heads.lists_are; newest_are = a.heads.newest_are }
+pub beside_leaves : (rows : List Row) (entry : List ℕ → Entry) (done : List (List ℕ)) (tree : List Leaf) (lists : List OpenList) (newest : List ℕ) (entries : List StoreEntry)
+    → AreRenewing rows entry done tree lists newest entries → AreBesideLeaves rows lists newest entries
+beside_leaves rows entry done tree lists newest entries a = record { store = a.store; lists_are = a.heads.lists_are; newest_are = a.heads.newest_are }
 
-pub touched_within : (rows : List Row) (entry : List ℕ → Entry) (tree : List Leaf) (lists : List OpenList) (newest : List ℕ) (versions : List VersionRef) (headers : List Digest) (touched : List (List ℕ)) (indexes : List ℕ)
-    → AreRenewing rows entry [] tree lists newest versions headers → HaveSameItems (leaf_indexes tree touched) indexes → All (IsLeafIndex (keys_of rows)) indexes
-touched_within rows entry tree lists newest versions headers touched indexes a same =
+pub touched_within : (rows : List Row) (entry : List ℕ → Entry) (tree : List Leaf) (lists : List OpenList) (newest : List ℕ) (entries : List StoreEntry) (touched : List (List ℕ)) (indexes : List ℕ)
+    → AreRenewing rows entry [] tree lists newest entries → HaveSameItems (leaf_indexes tree touched) indexes → All (IsLeafIndex (keys_of rows)) indexes
+touched_within rows entry tree lists newest entries touched indexes a same =
     let there = subst (λ (leaves : List Leaf). HaveSameItems (leaf_indexes leaves touched) indexes) a.heads.leaves_are same in
     all_alike (IsLeafIndex (keys_of rows)) (leaf_indexes (leaves_with (keys_of rows) (renewed entry (entry_of rows) [])) touched) indexes there (indexes_within (keys_of rows) (renewed entry (entry_of rows) []) touched)
 
 -- What is told is for leaves of the tree.
-pub states_within : (rows : List Row) (entry : List ℕ → Entry) (tree : List Leaf) (lists : List OpenList) (newest : List ℕ) (versions : List VersionRef) (headers : List Digest) (indexes : List ℕ) (states : List LeafState)
-    → AreRenewing rows entry [] tree lists newest versions headers → All (IsLeafIndex (keys_of rows)) indexes → states ≡ map (state_of rows) indexes
+pub states_within : (rows : List Row) (entry : List ℕ → Entry) (tree : List Leaf) (lists : List OpenList) (newest : List ℕ) (entries : List StoreEntry) (indexes : List ℕ) (states : List LeafState)
+    → AreRenewing rows entry [] tree lists newest entries → All (IsLeafIndex (keys_of rows)) indexes → states ≡ map (state_of rows) indexes
     → All (λ (state : LeafState). 0 < state.index) states × All (λ (state : LeafState). state.index < length tree) states
-states_within rows entry tree lists newest versions headers indexes states a within is =
+states_within rows entry tree lists newest entries indexes states a within is =
     let many = as_many tree lists newest (renewing rows entry []) a.heads in
     let each = recursion_from_All (IsLeafIndex (keys_of rows)) indexes within in (
       subst (All (λ (state : LeafState). 0 < state.index)) (sym is) (All-from_recursion (λ (state : LeafState). 0 < state.index) (map (state_of rows) indexes)
@@ -147,15 +146,15 @@ states_within rows entry tree lists newest versions headers indexes states a wit
     )
 
 -- Told what a history says, the leaves of the keys that are touched are made anew.
-pub leaves_renewed : (rows : List Row) (entry : List ℕ → Entry) (tree after : List Leaf) (lists : List OpenList) (newest : List ℕ) (versions : List VersionRef) (headers : List Digest) (touched : List (List ℕ)) (indexes : List ℕ)
-    → AreRenewing rows entry [] tree lists newest versions headers → HaveSameItems (leaf_indexes tree touched) indexes → after ≡ with_states tree (map (state_of rows) indexes)
-    → AreRenewing rows entry touched after lists newest versions headers
-leaves_renewed rows entry tree after lists newest versions headers touched indexes a same is =
+pub leaves_renewed : (rows : List Row) (entry : List ℕ → Entry) (tree after : List Leaf) (lists : List OpenList) (newest : List ℕ) (entries : List StoreEntry) (touched : List (List ℕ)) (indexes : List ℕ)
+    → AreRenewing rows entry [] tree lists newest entries → HaveSameItems (leaf_indexes tree touched) indexes → after ≡ with_states tree (map (state_of rows) indexes)
+    → AreRenewing rows entry touched after lists newest entries
+leaves_renewed rows entry tree after lists newest entries touched indexes a same is =
     let keys = keys_of rows in
-    let within = recursion_from_All (IsLeafIndex keys) indexes (touched_within rows entry tree lists newest versions headers touched indexes a same) in
+    let within = recursion_from_All (IsLeafIndex keys) indexes (touched_within rows entry tree lists newest entries touched indexes a same) in
     let there = subst (λ (leaves : List Leaf). HaveSameItems (leaf_indexes leaves touched) indexes) a.heads.leaves_are same in
     record {
-      records = a.records;
+      store = a.store;
       heads = record {
         apart = a.heads.apart;
         leaves_are =

@@ -3,9 +3,7 @@ pub mod ByKey
 pub mod Using
 pub mod Room
 pub mod ClosedLists
-pub mod HeaderDigests
 pub mod Entries
-pub mod Linked
 pub mod KeyLeaves
 pub mod KeyLists
 pub mod OldVersions
@@ -14,8 +12,7 @@ pub mod Settled
 pub mod Renewed
 pub mod LeafStates
 pub mod Touched
-pub mod NewHeaders
+pub mod NewEntries
 pub mod BlockSteps
 pub mod Keeping
 pub mod NewestRows
-pub mod RowEntries

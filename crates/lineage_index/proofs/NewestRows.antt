@@ -1,12 +1,20 @@
 -- The newest row of a key.
-use Rattle.std.proofs.Common.{◌≡◌, ◌∙◌, ℕ, ◌<◌, false, List, length, get_or, Some, None, sym, ap}
+use Rattle.std.proofs.Common.{◌≡◌, ◌∙◌, ℕ, zero, suc, ◌<◌, false, List, [], ◌∷◌, length, get_or, Option, Some, None, refl, sym, ap, arith}
 use Rattle.std.specs.Prelude.{slice_get}
-use Rattle.std.proofs.lemmas.Option.{get_or_from_slice_get}
+use Rattle.std.specs.Option.{option_map}
+use Rattle.std.proofs.lemmas.Option.{get_or_from_slice_get, none-some, same_Some}
 use Rattle.lc_base.specs.declared.row.Row.{Row}
 use Rattle.version_links.specs.Versions.{newest_index}
 use Rattle.prov_entry.specs.declared.entry.Leaf.{Leaf}
 use Rattle.history_root.specs.Root.{is_among, keys_of}
+use Rattle.rows_index.specs.Places.{IsRowAt}
+use Rattle.entry_store.specs.declared.entry.EntryId.{EntryId}
+use Rattle.entry_store.specs.Entries.{Entry as StoreEntry}
+use Rattle.lineage_store.specs.Versions.{newest_entry}
+use Rattle.lineage_store.specs.Entries.{IsNewestOf}
+use Rattle.lineage_store.proofs.Versions.{newest_is_index}
 use Rattle.lineage_index.specs.Heads.{newest_at}
+use Rattle.lineage_index.specs.Settling.{IsStoreOf}
 use Rattle.lineage_index.specs.NewestRows.{AreNewest}
 use Rattle.lineage_index.proofs.KeyLists.{value_at}
 use Rattle.lineage_index.proofs.KeptStates.{index_among}
@@ -23,3 +31,32 @@ newest_unknown rows key none = sym (index_nowhere rows key none)
 
 pub newest_within : (rows : List Row) (tree : List Leaf) (newest_rows : List ℕ) (key : List ℕ) (i : ℕ) → AreNewest rows tree newest_rows → slice_get (keys_of rows) i ≡ Some key → i < length newest_rows
 newest_within rows tree newest_rows key i a place = rw a.newest_are (value_at (newest_at rows) (keys_of rows) key i 0 place).0
+
+-- ---- its entry
+
+entry_of_index : (id : Option EntryId) (index : Option ℕ) → option_map (λ (i : EntryId). i.0) id ≡ index → (o : ℕ) → index ≡ Some o → Some (record { 0 = o }) ≡ id
+entry_of_index None index is o some = absurd (none-some o (is ∙ some))
+entry_of_index (Some id) index is o some = ap (λ (i : ℕ). let e : EntryId = record { 0 = i } in Some e) (sym (same_Some id.0 o (is ∙ some)))
+
+no_entry : (id : Option EntryId) → option_map (λ (i : EntryId). i.0) id ≡ None → None ≡ id
+no_entry None is = refl
+no_entry (Some id) is = absurd (none-some id.0 (sym is))
+
+pub entry_known : (rows : List Row) (key : List ℕ) (index : ℕ) → newest_index rows key ≡ Some index → Some (record { 0 = index }) ≡ newest_entry rows key
+entry_known rows key index is = entry_of_index (newest_entry rows key) (newest_index rows key) (newest_is_index rows key) index is
+
+pub entry_unknown : (rows : List Row) (key : List ℕ) → newest_index rows key ≡ None → None ≡ newest_entry rows key
+entry_unknown rows key none = no_entry (newest_entry rows key) (newest_is_index rows key ∙ none)
+
+-- ---- lookups
+
+pub newest_of : (rows : List Row) (key : List ℕ) (newest : Option EntryId) (entries : List StoreEntry) → IsStoreOf rows entries → newest ≡ newest_entry rows key → IsNewestOf rows key newest entries
+newest_of rows key newest entries store is = record { lawful = store.lawful; entries_are = store.entries_are; newest_is = is }
+
+pub row_at : (rows : List Row) (index : ℕ) → index < length rows → (row : Row) × (slice_get rows index ≡ Some row)
+row_at [] index l = absurd (omega (arith, l))
+row_at (row ∷ rows) zero l = (row, refl)
+row_at (row ∷ rows) (suc index) l = row_at rows index (omega (arith, l))
+
+pub row_found : (rows : List Row) (found : Option Row) (index : ℕ) → (index < length rows) × (slice_get rows index ≡ found) → IsRowAt rows (Some index) found
+row_found rows found index is = let at = row_at rows index is.0 in (at.0, sym is.1 ∙ at.1, at.1)

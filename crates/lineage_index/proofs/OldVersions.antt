@@ -1,24 +1,18 @@
 -- What a new row names of older versions is that of the rows before its block.
-use Rattle.std.proofs.Common.{◌≡◌, ◌∙◌, ℕ, suc, ◌<◌, List, ◌++◌, Option, Some, None, refl, sym, ap, arith}
+use Rattle.std.proofs.Common.{◌≡◌, ◌∙◌, ℕ, suc, ◌<◌, List, Option, Some, None, refl, sym, ap, arith}
 use Rattle.std.specs.Option.{IsSomeAnd}
 use Rattle.lc_base.specs.declared.digest.Digest.{Digest}
 use Rattle.lc_base.specs.declared.row.Row.{Row}
 use Rattle.lc_base.specs.declared.row.Dep.{Dep}
 use Rattle.lc_base.specs.History.{newest}
-use Rattle.version_links.specs.Links.{links}
 use Rattle.prov_entry.specs.declared.entry.BodyDep.{BodyDep}
 use Rattle.history_root.specs.Naming.{named_before, digest_among, with_digest, header_digest}
 use Rattle.history_root.specs.NamingLaws.{digest_of_row}
 use Rattle.history_root.specs.Root.{block_of}
 use Rattle.history_root.proofs.Lists.{all_contained}
 use Rattle.history_root.proofs.Headers.{row_is_named, newest_has, newest_is_key}
-use Rattle.history_root.proofs.UpToBlock.{links_below}
 use Rattle.lineage_index.specs.Growth.{Grows, entry_of}
-use Rattle.lineage_index.proofs.Blocks.{rows_before, before_are, IsOnNewest}
-
--- the links of a version of the block, over the rows before it
-pub links_from_before : (rows new : List Row) (n : ℕ) (key : List ℕ) → Grows rows new n → links rows key n ≡ links (rows ++ new) key n
-links_from_before rows new n key g = ap (λ (rs : List Row). links rs key n) (sym (before_are rows new n g)) ∙ links_below (rows ++ new) key n
+use Rattle.lineage_index.proofs.Blocks.{rows_before, IsOnNewest}
 
 -- the digest of a dependency stands in the entry of its key
 pub dep_is_named : (rows new : List Row) (n : ℕ) (dep : Dep) (named : List BodyDep) → Grows rows new n → IsOnNewest rows dep → named_before rows n ≡ named

@@ -1,74 +1,47 @@
 -- What a leaf is to say is the entry of its key.
-use Rattle.std.proofs.Common.{◌≡◌, ◌∙◌, ℕ, zero, suc, ◌-◌, ◌<◌, List, [], ◌∷◌, ◌++◌, length, map, get_or, take, Option, Some, refl, sym, ap, arith}
+use Rattle.std.proofs.Common.{◌≡◌, ◌∙◌, ℕ, suc, ◌-◌, ◌<◌, List, [], length, map, get_or, Some, refl, sym, ap, arith}
 use Rattle.std.specs.Prelude.{slice_get}
-use Rattle.std.proofs.lemmas.List.{append-nil, append_assoc, length-map, get_or-map}
-use Rattle.std.proofs.lemmas.List.Elements.{recursion_from_All}
-use Rattle.std.proofs.lemmas.Option.{none-some, same_Some, slice_get_within, slice_get-get_or, get_or_from_slice_get}
+use Rattle.std.specs.Option.{option_map}
+use Rattle.std.proofs.lemmas.List.{length-map, get_or-map}
+use Rattle.std.proofs.lemmas.Option.{slice_get_within, slice_get-get_or, get_or_from_slice_get}
 use Rattle.lc_base.specs.declared.digest.Digest.{Digest}
 use Rattle.lc_base.specs.declared.row.Row.{Row}
 use Rattle.lc_base.specs.declared.row.Dep.{Dep}
 use Rattle.lc_base.specs.History.{newest, uses}
-use Rattle.version_links.specs.declared.versions.VersionRef.{VersionRef}
-use Rattle.version_links.specs.Versions.{version_after, versions_after, versions_of}
-use Rattle.prov_entry.specs.declared.entry.BodyDep.{BodyDep}
 use Rattle.prov_entry.specs.ForwardLists.{uses_digest}
-use Rattle.history_root.specs.Naming.{uses_of, digest_of_uses, digest_among, header_digest}
+use Rattle.history_root.specs.Naming.{uses_of, digest_of_uses, header_digest, header_of}
 use Rattle.history_root.specs.NamingLaws.{digest_of_row}
 use Rattle.history_root.specs.Root.{keys_of, block_of}
 use Rattle.history_root.proofs.Lists.{all_contained}
 use Rattle.history_root.proofs.Headers.{row_is_named, newest_has, newest_is_key}
 use Rattle.forward_links.specs.declared.open_list.OpenList.{OpenList}
 use Rattle.forward_links.specs.Lists.{open_of, kept_at}
-use Rattle.lineage_index.specs.Growth.{Entry, entry_of, named_from}
+use Rattle.entry_store.specs.declared.entry.Facts.{Facts}
+use Rattle.entry_store.specs.Entries.{Entry as StoreEntry, facts_of}
+use Rattle.lineage_store.proofs.Entries.{row_facts, as_many}
+use Rattle.lineage_index.specs.Growth.{Entry, entry_of}
 use Rattle.lineage_index.specs.Heads.{newest_at, open_list}
-use Rattle.lineage_index.specs.Settling.{AreRecords}
+use Rattle.lineage_index.specs.Settling.{IsStoreOf}
 use Rattle.lineage_index.specs.Leaves.{IsLeafIndex, key_at, told, state_of, AreBesideLeaves}
 use Rattle.lineage_index.proofs.KeyLists.{value_at}
 use Rattle.lineage_index.proofs.KeptStates.{index_among}
-use Rattle.lineage_index.proofs.HeaderDigests.{digest_at_index}
-use Rattle.lineage_index.proofs.Settled.{row_there, index_there, as_many_versions}
-
--- the version at the index of a row
-version_is : (before rows : List Row) (i : ℕ) (row : Row) → slice_get rows i ≡ Some row → slice_get (versions_after before rows) i ≡ Some (version_after (before ++ take i rows) row)
-version_is before [] i row e = absurd (none-some row e)
-version_is before (x ∷ rows) zero row e =
-    let same : x ≡ row = same_Some x row e in
-    rw (append-nil before) (ap (λ (r : Row). let v : Option VersionRef = Some (version_after before r) in v) same)
-version_is before (x ∷ rows) (suc i) row e =
-    version_is (before ++ x ∷ []) rows i row e ∙ ap (λ (rs : List Row). let v : Option VersionRef = Some (version_after rs row) in v) (append_assoc before (x ∷ []) (take i rows))
-
--- the version of a row names the one of its key before it
-pub version_read : (rows : List Row) (i : ℕ) (row : Row) → slice_get rows i ≡ Some row → slice_get (versions_of rows) i ≡ Some (version_after (take i rows) row)
-unfolding versions_of
-version_read rows i row e = version_is [] rows i row e
+use Rattle.lineage_index.proofs.Settled.{row_there, index_there}
 
 -- ---- what is read for the entry of a key
 
 -- The index of the newest row of a key, with the row.
-newest_read : (rows : List Row) (lists : List OpenList) (newest_rows : List ℕ) (versions : List VersionRef) (headers : List Digest) (key : List ℕ) (i at : ℕ)
-    → AreBesideLeaves rows lists newest_rows versions headers → slice_get (keys_of rows) i ≡ Some key → slice_get newest_rows i ≡ Some at
+newest_read : (rows : List Row) (lists : List OpenList) (newest_rows : List ℕ) (entries : List StoreEntry) (key : List ℕ) (i at : ℕ)
+    → AreBesideLeaves rows lists newest_rows entries → slice_get (keys_of rows) i ≡ Some key → slice_get newest_rows i ≡ Some at
     → (row : Row) × (newest rows key ≡ Some row) × (slice_get rows at ≡ Some row)
-newest_read rows lists newest_rows versions headers key i at a place read =
+newest_read rows lists newest_rows entries key i at a place read =
     let is : at ≡ newest_at rows key = sym (get_or_from_slice_get newest_rows i at at read) ∙ ap (λ (is : List ℕ). get_or is i at) a.newest_are ∙ (value_at (newest_at rows) (keys_of rows) key i at place).1 in
     row_there rows key at (index_there rows key (index_among (keys_of rows) key i place) ∙ ap (λ (n : ℕ). Some n) (sym is))
 
-block_read : (rows : List Row) (versions : List VersionRef) (headers : List Digest) (at : ℕ) (row : Row) (version : VersionRef) → AreRecords rows versions headers → slice_get rows at ≡ Some row → slice_get versions at ≡ Some version → version.block ≡ row.block
-block_read rows versions headers at row version r there read =
-    let is : version ≡ version_after (take at rows) row = same_Some version (version_after (take at rows) row) (sym read ∙ ap (λ (vs : List VersionRef). slice_get vs at) r.versions_are ∙ version_read rows at row there) in
-    ap (λ (v : VersionRef). v.block) is
-
-digest_read : (rows : List Row) (versions : List VersionRef) (headers : List Digest) (key : List ℕ) (at : ℕ) (row : Row) (digest : Digest) → AreRecords rows versions headers → newest rows key ≡ Some row → slice_get rows at ≡ Some row → slice_get headers at ≡ Some digest
-    → digest ≡ header_digest rows key row.block
-digest_read rows versions headers key at row digest r newest_is there read =
+digest_read : (rows : List Row) (entries : List StoreEntry) (key : List ℕ) (row : Row) → IsStoreOf rows entries → newest rows key ≡ Some row → digest_of_row rows row ≡ header_digest rows key row.block
+digest_read rows entries key row store newest_is =
     let has = newest_has _ rows key row (all_contained rows) newest_is in
     let same : row.key ≡ key = newest_is_key rows key row newest_is in
-    let low : row.block < r.block = newest_has (λ (y : Row). y.block < r.block) rows key row (recursion_from_All (λ (y : Row). y.block < r.block) rows r.within) newest_is in
-    let row_is : get_or rows at row ≡ row = get_or_from_slice_get rows at row row there in
-    let found = digest_at_index rows headers at row digest r.lawful r.long (slice_get_within rows at row there) in
-    let named : digest_among (named_from rows headers) row.key row.block ≡ digest =
-    ap (λ (y : Row). digest_among (named_from rows headers) y.key y.block) (sym row_is) ∙ found ∙ get_or_from_slice_get headers at digest digest read in
-    let of_row : digest ≡ digest_of_row rows row = sym named ∙ ap (λ (names : List BodyDep). digest_among names row.key row.block) (sym r.named) ∙ row_is_named rows row r.block r.lawful has low in
-    of_row ∙ sym (ap (λ (k : List ℕ). header_digest rows k row.block) (sym same) ∙ row_is_named rows row (suc row.block) r.lawful has (omega arith))
+    sym (ap (λ (k : List ℕ). header_digest rows k row.block) (sym same) ∙ row_is_named rows row (suc row.block) store.lawful has (omega arith))
 
 -- ---- what a leaf is to say
 
@@ -92,34 +65,34 @@ pub key_there : (keys : List (List ℕ)) (index : ℕ) → IsLeafIndex keys inde
 key_there keys index at = slice_get-get_or keys (index - 1) [] (omega (arith, at))
 
 -- It is told the entry of its key.
-pub state_told : (rows : List Row) (lists : List OpenList) (newest_rows : List ℕ) (versions : List VersionRef) (headers : List Digest) (index at : ℕ) (version : VersionRef) (digest : Digest) (kept : OpenList)
-    → AreBesideLeaves rows lists newest_rows versions headers → IsLeafIndex (keys_of rows) index → slice_get newest_rows (index - 1) ≡ Some at → slice_get versions at ≡ Some version → slice_get headers at ≡ Some digest
-    → kept ≡ kept_at lists (index - 1)
-    → record { index = index; newest_block = version.block; newest = digest; open_count = kept.count; open_digest = kept.digest } ≡ state_of rows index
-state_told rows lists newest_rows versions headers index at version digest kept a within read version_read header_read kept_is =
+pub state_told : (rows : List Row) (lists : List OpenList) (newest_rows : List ℕ) (entries : List StoreEntry) (index at : ℕ) (facts : Facts) (kept : OpenList)
+    → AreBesideLeaves rows lists newest_rows entries → IsLeafIndex (keys_of rows) index → slice_get newest_rows (index - 1) ≡ Some at
+    → option_map (λ (entry : StoreEntry). entry.facts) (slice_get entries at) ≡ Some facts → kept ≡ kept_at lists (index - 1)
+    → record { index = index; newest_block = facts.block; newest = facts.digest; open_count = kept.count; open_digest = kept.digest } ≡ state_of rows index
+state_told rows lists newest_rows entries index at facts kept a within read facts_read kept_is =
     let keys = keys_of rows in
     let i = index - 1 in
     let key = key_at keys index in
     let place = key_there keys index within in
-    let row = newest_read rows lists newest_rows versions headers key i at a place read in
+    let row = newest_read rows lists newest_rows entries key i at a place read in
     let there = value_at (open_list rows) keys key i [] place in
     let is : kept ≡ open_of (open_list rows key) =
     kept_is ∙ ap (λ (all : List OpenList). kept_at all i) a.lists_are ∙ get_or-map open_of (map (open_list rows) keys) i [] (open_of []) there.0 ∙ ap open_of there.1 in
-    ap (told index) (entry_is rows key row.0 version.block digest (open_list rows key) kept.count kept.digest row.1
-    (block_read rows versions headers at row.0 version a.records row.2 version_read) (digest_read rows versions headers key at row.0 digest a.records row.1 row.2 header_read) refl (ap (λ (one : OpenList). one.count) is) (ap (λ (one : OpenList). one.digest.0) is))
+    let says : facts ≡ facts_of (header_of rows row.0) = row_facts entries rows at row.0 facts a.store.entries_are row.2 facts_read in
+    ap (told index) (entry_is rows key row.0 facts.block facts.digest (open_list rows key) kept.count kept.digest row.1
+    (ap (λ (f : Facts). f.block) says) (ap (λ (f : Facts). f.digest) says ∙ digest_read rows entries key row.0 a.store row.1) refl (ap (λ (one : OpenList). one.count) is) (ap (λ (one : OpenList). one.digest.0) is))
 
 -- What is read for it is there.
-pub read_within : (rows : List Row) (lists : List OpenList) (newest_rows : List ℕ) (versions : List VersionRef) (headers : List Digest) (index : ℕ)
-    → AreBesideLeaves rows lists newest_rows versions headers → IsLeafIndex (keys_of rows) index → (index - 1 < length newest_rows) × (index - 1 < length lists)
-read_within rows lists newest_rows versions headers index a within = (
+pub read_within : (rows : List Row) (lists : List OpenList) (newest_rows : List ℕ) (entries : List StoreEntry) (index : ℕ)
+    → AreBesideLeaves rows lists newest_rows entries → IsLeafIndex (keys_of rows) index → (index - 1 < length newest_rows) × (index - 1 < length lists)
+read_within rows lists newest_rows entries index a within = (
   omega (arith, within, ap length a.newest_are, length-map (keys_of rows) (newest_at rows)),
   omega (arith, within, ap length a.lists_are, length-map (map (open_list rows) (keys_of rows)) open_of, length-map (keys_of rows) (open_list rows)),
 )
 
-pub row_within : (rows : List Row) (lists : List OpenList) (newest_rows : List ℕ) (versions : List VersionRef) (headers : List Digest) (index at : ℕ)
-    → AreBesideLeaves rows lists newest_rows versions headers → IsLeafIndex (keys_of rows) index → slice_get newest_rows (index - 1) ≡ Some at → (at < length versions) × (at < length headers)
-row_within rows lists newest_rows versions headers index at a within read =
-    let row = newest_read rows lists newest_rows versions headers (key_at (keys_of rows) index) (index - 1) at a (key_there (keys_of rows) index within) read in
+pub row_within : (rows : List Row) (lists : List OpenList) (newest_rows : List ℕ) (entries : List StoreEntry) (index at : ℕ)
+    → AreBesideLeaves rows lists newest_rows entries → IsLeafIndex (keys_of rows) index → slice_get newest_rows (index - 1) ≡ Some at → at < length entries
+row_within rows lists newest_rows entries index at a within read =
+    let row = newest_read rows lists newest_rows entries (key_at (keys_of rows) index) (index - 1) at a (key_there (keys_of rows) index within) read in
     let below = slice_get_within rows at row.0 row.2 in
-    let long : length versions ≡ length rows = ap length a.records.versions_are ∙ as_many_versions rows in
-    (omega (arith, below, long), omega (arith, below, a.records.long))
+    omega (arith, below, ap length a.store.entries_are, as_many rows [] rows)

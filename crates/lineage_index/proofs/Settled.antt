@@ -8,9 +8,8 @@ use Rattle.std.proofs.lemmas.Bool.{cases_Bool}
 use Rattle.lc_base.specs.declared.row.Row.{Row}
 use Rattle.lc_base.specs.declared.row.Dep.{Dep}
 use Rattle.lc_base.specs.History.{newest}
-use Rattle.version_links.specs.declared.versions.VersionRef.{VersionRef}
-use Rattle.version_links.specs.Versions.{newest_index, version_after, versions_after, versions_of}
-use Rattle.version_links.proofs.Threads.{versions_more, newest_more, newest_found, newest_below}
+use Rattle.version_links.specs.Versions.{newest_index}
+use Rattle.version_links.proofs.Threads.{newest_more, newest_found, newest_below}
 use Rattle.prov_entry.specs.declared.entry.Leaf.{Leaf}
 use Rattle.history_root.specs.Root.{is_among, with_key, keys_of}
 use Rattle.history_root.proofs.Lists.{not_both}
@@ -19,8 +18,8 @@ use Rattle.history_root.proofs.Growing.{newest_append}
 use Rattle.forward_links.specs.declared.open_list.OpenList.{OpenList}
 use Rattle.forward_links.specs.Lists.{open_of}
 use Rattle.lineage_index.specs.Growth.{changed}
-use Rattle.lineage_index.specs.Heads.{KeyStates, AreHeads, leaves_with, with_version, with_key_more, with_version_more, newest_of, fresh_entry, newest_at, index_or_zero}
-use Rattle.lineage_index.specs.Settling.{entry_or_fresh, settling, AreSettled}
+use Rattle.lineage_index.specs.Heads.{KeyStates, AreHeads, leaves_with, with_version, with_key_more, with_version_more, fresh_entry, newest_at, index_or_zero}
+use Rattle.lineage_index.specs.Settling.{entry_or_fresh, settling}
 use Rattle.lineage_index.proofs.ByKey.{same_everywhere}
 use Rattle.lineage_index.proofs.KeyLeaves.{leaves_same}
 use Rattle.lineage_index.proofs.KeptStates.{version_new, version_old, as_many}
@@ -72,12 +71,6 @@ index_nowhere rows key f = go (newest_index rows key) refl
         let on : is_among (keys_of rows) key ≡ true = among_is_some rows key ∙ rw there.1 refl in
         absurd (not_both (is_among (keys_of rows) key) on f)
 
-pub index_of_states : (rows : List Row) (list : List ℕ → List Dep) (done : List Row) (key : List ℕ) → newest_of (settling rows list done) key ≡ newest_index (rows ++ done) key
-index_of_states rows list done key = elim (cases_Bool (is_among (keys_of (rows ++ done)) key)) [
-  | inl t ↦ rw t (sym (index_there (rows ++ done) key t))
-  | inr f ↦ rw f (sym (index_nowhere (rows ++ done) key f))
-]
-
 -- ---- one row more
 
 keys_more : (rows done : List Row) (row : Row) → keys_of (rows ++ (done ++ row ∷ [])) ≡ with_key (keys_of (rows ++ done)) row
@@ -112,40 +105,21 @@ states_more : (rows done : List Row) (list : List ℕ → List Dep) (row : Row) 
     → AreHeads tree lists newest (settling rows list (done ++ row ∷ []))
 states_more rows done list row tree lists newest a = elim (cases_Bool (is_among (keys_of (rows ++ done)) row.key)) [
   | inl t ↦ heads_same tree lists newest (with_version_more (settling rows list done) row.key (length (rows ++ done))) (settling rows list (done ++ row ∷ []))
-      (subst (λ (s : KeyStates). AreHeads tree lists newest s) (version_old (settling rows list done) row.key (length (rows ++ done)) t).0 a)
+      (subst (λ (s : KeyStates). AreHeads tree lists newest s) (version_old (settling rows list done) row.key (length (rows ++ done)) t) a)
       (sym (keys_more rows done row ∙ rw t refl)) (λ key. refl) (λ key. one_key_more list done row key) (λ key. index_more rows done row key)
   | inr f ↦ heads_same tree lists newest (with_key_more (settling rows list done) row.key (length (rows ++ done))) (settling rows list (done ++ row ∷ []))
-      (subst (λ (s : KeyStates). AreHeads tree lists newest s) (version_new (settling rows list done) row.key (length (rows ++ done)) f).0 a)
+      (subst (λ (s : KeyStates). AreHeads tree lists newest s) (version_new (settling rows list done) row.key (length (rows ++ done)) f) a)
       (sym (keys_more rows done row ∙ rw f refl)) (λ key. fresh_stays rows done row.key key f) (λ key. one_key_more list done row key) (λ key. index_more rows done row key)
 ]
 
-versions_long : (before rows : List Row) → length (versions_after before rows) ≡ length rows
-versions_long before [] = refl
-versions_long before (row ∷ rows) = let rest = versions_long (before ++ row ∷ []) rows in omega (arith, rest)
-
--- there are as many versions as rows
-pub as_many_versions : (rows : List Row) → length (versions_of rows) ≡ length rows
-unfolding versions_of
-as_many_versions rows = versions_long [] rows
-
-pub settled_long : (rows done : List Row) (list : List ℕ → List Dep) (tree : List Leaf) (lists : List OpenList) (newest : List ℕ) (versions : List VersionRef) → AreSettled rows done list tree lists newest versions
-    → (length versions ≡ length (rows ++ done)) × (length newest ≤ length versions)
-settled_long rows done list tree lists newest versions a =
-    let long : length versions ≡ length (rows ++ done) = ap length a.versions_are ∙ as_many_versions (rows ++ done) in
-    let many = as_many tree lists newest (settling rows list done) a.heads in
+-- there are no more keys than rows
+pub settled_short : (rows done : List Row) (list : List ℕ → List Dep) (tree : List Leaf) (lists : List OpenList) (newest : List ℕ) → AreHeads tree lists newest (settling rows list done) → length newest ≤ length (rows ++ done)
+settled_short rows done list tree lists newest a =
+    let many = as_many tree lists newest (settling rows list done) a in
     let short = keys_short [] (rows ++ done) in
-    (long, omega (arith, long, many.1, short))
+    omega (arith, many.1, short)
 
-pub settled_more : (rows done : List Row) (list : List ℕ → List Dep) (row : Row) (tree new_tree : List Leaf) (lists new_lists : List OpenList) (newest new_newest : List ℕ) (versions : List VersionRef) (index : ℕ) (previous : Option ℕ)
-    → AreSettled rows done list tree lists newest versions → index ≡ length versions → AreHeads new_tree new_lists new_newest (with_version (settling rows list done) row.key index) → previous ≡ newest_of (settling rows list done) row.key
-    → AreSettled rows (done ++ row ∷ []) list new_tree new_lists new_newest (versions ++ record { block = row.block; previous = previous } ∷ [])
-settled_more rows done list row tree new_tree lists new_lists newest new_newest versions index previous a at heads before =
-    let long = settled_long rows done list tree lists newest versions a in
-    let version : VersionRef = record { block = row.block; previous = previous } in
-    let is : version ≡ version_after (rows ++ done) row = ap (λ (p : Option ℕ). let v : VersionRef = record { block = row.block; previous = p } in v) (before ∙ index_of_states rows list done row.key) in
-    record {
-      heads = states_more rows done list row new_tree new_lists new_newest (subst (λ (i : ℕ). AreHeads new_tree new_lists new_newest (with_version (settling rows list done) row.key i)) (at ∙ long.0) heads);
-      versions_are =
-          ap (λ (vs : List VersionRef). vs ++ version ∷ []) a.versions_are ∙ ap (λ (v : VersionRef). versions_of (rows ++ done) ++ v ∷ []) is
-          ∙ sym (versions_more (rows ++ done) row) ∙ ap versions_of (append_assoc rows done (row ∷ []));
-    }
+pub settled_more : (rows done : List Row) (list : List ℕ → List Dep) (row : Row) (tree : List Leaf) (lists : List OpenList) (newest : List ℕ) (index : ℕ) → index ≡ length (rows ++ done)
+    → AreHeads tree lists newest (with_version (settling rows list done) row.key index) → AreHeads tree lists newest (settling rows list (done ++ row ∷ []))
+settled_more rows done list row tree lists newest index at heads =
+    states_more rows done list row tree lists newest (subst (λ (i : ℕ). AreHeads tree lists newest (with_version (settling rows list done) row.key i)) at heads)

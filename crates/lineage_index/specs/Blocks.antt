@@ -1,16 +1,15 @@
 -- What is kept of a history.
-use Rattle.std.specs.Prelude.{◌≡◌, ℕ, List}
-use Rattle.lc_base.specs.declared.digest.Digest.{Digest}
+use Rattle.std.specs.Prelude.{ℕ, ◌<◌, List}
+use Rattle.std.specs.List.{All}
 use Rattle.lc_base.specs.declared.row.Row.{Row}
-use Rattle.version_links.specs.declared.versions.VersionRef.{VersionRef}
 use Rattle.prov_entry.specs.declared.entry.Leaf.{Leaf}
+use Rattle.entry_store.specs.Entries.{Entry as StoreEntry}
 use Rattle.forward_links.specs.declared.open_list.OpenList.{OpenList}
 use Rattle.lineage_index.specs.Heads.{AreHeads, states_of}
-use Rattle.lineage_index.specs.Settling.{AreRecords}
+use Rattle.lineage_index.specs.Settling.{IsStoreOf}
 
--- The leaves, lists, indexes, versions and header digests are those of the rows of the blocks before
--- this one.
-pub record IsKept (rows : List Row) (block : ℕ) (tree : List Leaf) (lists : List OpenList) (newest : List ℕ) (versions : List VersionRef) (headers : List Digest) : Type 0 where
-  pub records : AreRecords rows versions headers
-  pub block_is : records.block ≡ block
+-- The leaves, lists, indexes and entries are those of the rows of the blocks before this one.
+pub record IsKept (rows : List Row) (block : ℕ) (tree : List Leaf) (lists : List OpenList) (newest : List ℕ) (entries : List StoreEntry) : Type 0 where
+  pub store : IsStoreOf rows entries
+  pub within : All (λ (row : Row). row.block < block) rows
   pub heads : AreHeads tree lists newest (states_of rows)

@@ -7,7 +7,6 @@ use Rattle.lc_base.specs.declared.digest.Digest.{Digest}
 use Rattle.lc_base.specs.declared.row.Row.{Row}
 use Rattle.lc_base.specs.declared.row.Dep.{Dep}
 use Rattle.lc_base.specs.History.{IsLawful, newest, uses, version_of}
-use Rattle.prov_entry.specs.declared.entry.BodyDep.{BodyDep}
 use Rattle.prov_entry.specs.declared.entry.Leaf.{Leaf}
 use Rattle.history_root.specs.Naming.{uses_of, digest_of_uses, header_digest}
 use Rattle.history_root.specs.Root.{block_of, is_among, next_key}
@@ -62,14 +61,6 @@ is_of_key key row = pointwise ◌==◌ row.key key
 -- The list of a key after these rows closed the lists of their keys.
 abbrev pub settled : (List ℕ → List Dep) → List Row → List ℕ → List Dep
 settled list done key = if list_any (is_of_key key) done then [] else list key
-
--- ---- header digests
-
--- The versions of these rows, with these digests of their headers.
-abbrev pub named_from : List Row → List Digest → List BodyDep
-named_from [] digests = []
-named_from (row ∷ rows) [] = []
-named_from (row ∷ rows) (digest ∷ digests) = record { key = row.key; block = row.block; digest = digest } ∷ named_from rows digests
 
 -- ---- leaves
 

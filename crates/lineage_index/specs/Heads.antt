@@ -88,10 +88,6 @@ with_version_more states key row = record {
 abbrev pub with_version : KeyStates → List ℕ → ℕ → KeyStates
 with_version states key row = if is_among states.keys key then with_version_more states key row else with_key_more states key row
 
--- The index of the newest row of a key, where the key is there.
-abbrev pub newest_of : KeyStates → List ℕ → Option ℕ
-newest_of states key = if is_among states.keys key then Some (states.index key) else None
-
 -- The states of the keys of a history.
 abbrev pub states_of : List Row → KeyStates
 states_of rows = record { keys = keys_of rows; entry = entry_of rows; list = open_list rows; index = newest_at rows }

@@ -6,4 +6,4 @@ use Rattle.lineage_index.specs.Blocks.{IsKept}
 
 -- This is the index over the rows of this many blocks.
 abbrev pub IsIndexOf : List Row → ℕ → LineageIndex → Type 0
-IsIndexOf rows blocks index = IsKept rows blocks index.tree index.lists index.newest.items index.versions.items index.headers.items
+IsIndexOf rows blocks index = IsKept rows blocks index.tree index.lists index.newest.items index.store

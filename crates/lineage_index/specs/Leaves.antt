@@ -1,10 +1,9 @@
 -- What the leaves of the keys that a block touches are to say.
 use Rattle.std.specs.Prelude.{◌≡◌, ℕ, ◌-◌, ◌<◌, ◌≤◌, List, [], length, map, slice_index_or}
 use Rattle.std.specs.List.{filter_map, Contains}
-use Rattle.lc_base.specs.declared.digest.Digest.{Digest}
 use Rattle.lc_base.specs.declared.row.Row.{Row}
-use Rattle.version_links.specs.declared.versions.VersionRef.{VersionRef}
 use Rattle.prov_entry.specs.declared.entry.Leaf.{Leaf}
+use Rattle.entry_store.specs.Entries.{Entry as StoreEntry}
 use Rattle.history_root.specs.Root.{keys_of}
 use Rattle.state_tree.specs.declared.states.LeafState.{LeafState}
 use Rattle.state_tree.specs.Leaves.{index_of}
@@ -12,7 +11,7 @@ use Rattle.forward_links.specs.declared.open_list.OpenList.{OpenList}
 use Rattle.forward_links.specs.Lists.{open_of}
 use Rattle.lineage_index.specs.Growth.{Entry, entry_of}
 use Rattle.lineage_index.specs.Heads.{newest_at, open_list}
-use Rattle.lineage_index.specs.Settling.{AreRecords}
+use Rattle.lineage_index.specs.Settling.{IsStoreOf}
 
 -- The indexes of the leaves of some keys, one after another; a key without a leaf has none.
 abbrev pub leaf_indexes : List Leaf → List (List ℕ) → List ℕ
@@ -46,7 +45,7 @@ abbrev pub state_of : List Row → ℕ → LeafState
 state_of rows index = told index (entry_of rows (key_at (keys_of rows) index))
 
 -- What is kept of the rows of a history, and beside the leaves of its keys.
-pub record AreBesideLeaves (rows : List Row) (lists : List OpenList) (newest : List ℕ) (versions : List VersionRef) (headers : List Digest) : Type 0 where
-  pub records : AreRecords rows versions headers
+pub record AreBesideLeaves (rows : List Row) (lists : List OpenList) (newest : List ℕ) (entries : List StoreEntry) : Type 0 where
+  pub store : IsStoreOf rows entries
   pub lists_are : lists ≡ map open_of (map (open_list rows) (keys_of rows))
   pub newest_are : newest ≡ map (newest_at rows) (keys_of rows)

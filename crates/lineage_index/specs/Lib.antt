@@ -1,9 +1,8 @@
 pub mod Growth
-pub mod Linking
 pub mod Heads
 pub mod Settling
 pub mod Leaves
-pub mod Headers
+pub mod NewEntries
 pub mod Blocks
 pub mod Index
 pub mod NewestRows

@@ -1,18 +1,15 @@
 -- What is kept of the keys while the rows of a block become their newest versions, and while leaves are
 -- made anew.
-use Rattle.std.specs.Prelude.{◌≡◌, ℕ, ◌<◌, if◌then◌else◌, List, ◌++◌, length}
-use Rattle.std.specs.List.{All}
-use Rattle.lc_base.specs.declared.digest.Digest.{Digest}
+use Rattle.std.specs.Prelude.{◌≡◌, ℕ, if◌then◌else◌, List, ◌++◌}
 use Rattle.lc_base.specs.declared.row.Row.{Row}
 use Rattle.lc_base.specs.declared.row.Dep.{Dep}
 use Rattle.lc_base.specs.History.{IsLawful}
-use Rattle.version_links.specs.declared.versions.VersionRef.{VersionRef}
-use Rattle.version_links.specs.Versions.{versions_of}
 use Rattle.prov_entry.specs.declared.entry.Leaf.{Leaf}
-use Rattle.history_root.specs.Naming.{named_before}
+use Rattle.entry_store.specs.Entries.{Entry as StoreEntry}
+use Rattle.lineage_store.specs.Entries.{entries_of}
 use Rattle.history_root.specs.Root.{is_among, keys_of}
 use Rattle.forward_links.specs.declared.open_list.OpenList.{OpenList}
-use Rattle.lineage_index.specs.Growth.{Entry, entry_of, settled, named_from, renewed}
+use Rattle.lineage_index.specs.Growth.{Entry, entry_of, settled, renewed}
 use Rattle.lineage_index.specs.Heads.{KeyStates, AreHeads, fresh_entry, newest_at, open_list}
 
 -- The entry of a key of a history, or that of a key without versions.
@@ -29,11 +26,6 @@ settling rows list done = record {
   index = newest_at (rows ++ done);
 }
 
--- The same of what is kept.
-pub record AreSettled (rows done : List Row) (list : List ℕ → List Dep) (tree : List Leaf) (lists : List OpenList) (newest : List ℕ) (versions : List VersionRef) : Type 0 where
-  pub heads : AreHeads tree lists newest (settling rows list done)
-  pub versions_are : versions ≡ versions_of (rows ++ done)
-
 -- The states of the keys of a history, where the leaves of these keys were made anew.
 abbrev pub renewing : List Row → (List ℕ → Entry) → List (List ℕ) → KeyStates
 renewing rows entry done = record {
@@ -43,17 +35,13 @@ renewing rows entry done = record {
   index = newest_at rows;
 }
 
--- The versions of a lawful history, and the digests of the headers of its rows.
-pub record AreRecords (rows : List Row) (versions : List VersionRef) (headers : List Digest) : Type 0 where
-  pub block : ℕ
+-- The entries of a lawful history.
+pub record IsStoreOf (rows : List Row) (entries : List StoreEntry) : Type 0 where
   pub lawful : IsLawful rows
-  pub within : All (λ (row : Row). row.block < block) rows
-  pub versions_are : versions ≡ versions_of rows
-  pub long : length headers ≡ length rows
-  pub named : named_before rows block ≡ named_from rows headers
+  pub entries_are : entries ≡ entries_of rows rows
 
 -- What is kept of all rows of a history, and of its keys, where the leaves of these keys were made
 -- anew.
-pub record AreRenewing (rows : List Row) (entry : List ℕ → Entry) (done : List (List ℕ)) (tree : List Leaf) (lists : List OpenList) (newest : List ℕ) (versions : List VersionRef) (headers : List Digest) : Type 0 where
-  pub records : AreRecords rows versions headers
+pub record AreRenewing (rows : List Row) (entry : List ℕ → Entry) (done : List (List ℕ)) (tree : List Leaf) (lists : List OpenList) (newest : List ℕ) (entries : List StoreEntry) : Type 0 where
+  pub store : IsStoreOf rows entries
   pub heads : AreHeads tree lists newest (renewing rows entry done)

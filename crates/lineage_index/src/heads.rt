@@ -1,11 +1,11 @@
 //! What is kept of the newest version of each key, by the index of the key among all keys.
 
-ghost use Rattle.std.specs.Prelude.{◌≡◌, ◌<◌, ◌+◌, ◌^◌, false, ℕ, List, length, slice_get, slice_set, Some, OnOk, IfOk, IfSome};
+ghost use Rattle.std.specs.Prelude.{◌≡◌, ◌<◌, ◌+◌, ◌^◌, false, ℕ, List, length, slice_set, OnOk, IfSome};
 ghost use Rattle.lc_base.specs.declared.limits.TheConstants.{MAX_ROWS};
 ghost use Rattle.history_root.specs.Root.{is_among};
 ghost use Rattle.forward_links.specs.Lists.{emptied_at};
 ghost use Rattle.lineage_index.specs.Growth.{Entry};
-ghost use Rattle.lineage_index.specs.Heads.{leaves_with, IsKeyIndex, KeyStates, AreHeads, with_key_more, with_version, newest_of};
+ghost use Rattle.lineage_index.specs.Heads.{leaves_with, IsKeyIndex, KeyStates, AreHeads, with_key_more, with_version};
 
 use forward_links::OpenLists;
 use lc_base::{Key, Memory};
@@ -42,42 +42,35 @@ fn add_key(
     Ok(())
 }
 
-/// Puts the row at an index in the place of the newest version of a key, whose list is closed. It
-/// gives the index of the row that was the newest one.
-fn replace_newest(lists: &mut OpenLists, newest: &mut Vec<u32>, index: u32, row: u32) -> u32
+/// Puts the row at an index in the place of the newest version of a key, whose list is closed.
+fn replace_newest(lists: &mut OpenLists, newest: &mut Vec<u32>, index: u32, row: u32)
     requires lists { index < length lists.old }
     requires newest { index < length newest.old.items }
     ensures lists { lists.new ≡ emptied_at lists.old index }
     ensures newest { newest.new.items ≡ slice_set newest.old.items index row }
-    ensures before { slice_get newest.old.items index ≡ Some result }
 {
     lists.close(index);
-    let before = newest[index as usize];
     newest[index as usize] = row;
-    before
 }
 
-/// Makes the row at an index the newest version of a key. It gives the index of the row that was
-/// the newest one.
+/// Makes the row at an index the newest version of a key.
 pub(crate) fn set_newest(
     tree: &mut Tree,
     lists: &mut OpenLists,
     newest: &mut Vec<u32>,
     key: &Key,
     row: u32,
-) -> Result<Option<u32>, Memory>
+) -> Result<(), Memory>
     requires room { length newest.old.items < MAX_ROWS }
     requires heads { (states : KeyStates) × AreHeads tree.old lists.old newest.old.items states }
-    ensures heads { (states : KeyStates) → AreHeads tree.old lists.old newest.old.items states
+    ensures { (states : KeyStates) → AreHeads tree.old lists.old newest.old.items states
         → OnOk result (AreHeads tree.new lists.new newest.new.items (with_version states key.now row)) }
-    ensures before { (states : KeyStates) → AreHeads tree.old lists.old newest.old.items states
-        → IfOk result (λ before. before ≡ newest_of states key.now) }
 {
     match index_of(tree, key) {
-        None => {
-            add_key(tree, lists, newest, key, row)?;
-            Ok(None)
+        None => add_key(tree, lists, newest, key, row),
+        Some(index) => {
+            replace_newest(lists, newest, index, row);
+            Ok(())
         }
-        Some(index) => Ok(Some(replace_newest(lists, newest, index, row))),
     }
 }

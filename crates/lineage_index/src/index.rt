@@ -1,35 +1,34 @@
 //! The index over the rows of a lineage.
 
-ghost use Rattle.std.specs.Prelude.{◌≡◌, ℕ, ◌<◌, ◌≤◌, List, [], ◌+◌, ◌++◌, length, slice_get, Some, IfOk, OnOk};
+ghost use Rattle.std.specs.Prelude.{◌≡◌, ℕ, ◌<◌, List, [], ◌+◌, ◌++◌, length, slice_get, Some, IfOk, OnOk};
 ghost use Rattle.lc_base.specs.declared.row.Row.{Row};
-ghost use Rattle.lc_base.specs.History.{below};
+ghost use Rattle.lc_base.specs.History.{latest};
 ghost use Rattle.version_links.specs.Versions.{newest_index};
-ghost use Rattle.prov_entry.specs.declared.limits.TheConstants.{MAX_LINKS};
-ghost use Rattle.history_root.specs.Naming.{header_of};
+ghost use Rattle.version_path.specs.Paths.{path};
+ghost use Rattle.rows_index.specs.Places.{IsRowAt};
 ghost use Rattle.history_root.specs.NamingLaws.{digest_of_row};
 ghost use Rattle.history_root.specs.Root.{leaves};
+ghost use Rattle.entry_store.specs.Steps.{raised};
+ghost use Rattle.lineage_store.specs.Entries.{entries_of};
+ghost use Rattle.lineage_store.specs.OnPath.{AreEntriesIn};
 ghost use Rattle.lineage_index.specs.Growth.{Grows};
 ghost use Rattle.lineage_index.specs.Index.{IsIndexOf};
 
 use crate::advancing::advance;
-use crate::newest_row::newest_row_of;
-use crate::row_parts::{header_digest_of_row, links_of_row, previous_of_row};
+use crate::newest_row::{latest_row_of, newest_row_of, path_of};
+use entry_store::{EntryId, EntryList, Steps, Store};
 use forward_links::OpenLists;
 use lc_base::{Digest, Key, Memory, Row};
-use prov_entry::LinkList;
 use state_tree::Tree;
 use std::alloc::Global;
-use version_links::VersionRef;
 
-/// The leaves, open lists and newest rows of keys, and the versions and header digests of rows. It
-/// does not keep the rows.
+/// The leaves, open lists and newest rows of keys, and the entries of rows. It does not keep the rows.
 #[derive(Drop)]
 pub struct LineageIndex {
     tree: Tree,
     lists: OpenLists,
     newest: Vec<u32>,
-    versions: Vec<VersionRef>,
-    headers: Vec<Digest>,
+    store: Store,
 }
 
 impl LineageIndex {
@@ -39,12 +38,12 @@ impl LineageIndex {
         ensures { IfOk result (IsIndexOf [] 0) }
     {
         let tree = Tree::new(alloc)?;
+        let store = Store::new(alloc)?;
         Ok(LineageIndex {
             tree,
             lists: OpenLists::new(alloc),
             newest: Vec::new(alloc),
-            versions: Vec::new(alloc),
-            headers: Vec::new(alloc),
+            store,
         })
     }
 
@@ -60,8 +59,7 @@ impl LineageIndex {
             &mut self.tree,
             &mut self.lists,
             &mut self.newest,
-            &mut self.versions,
-            &mut self.headers,
+            &mut self.store,
             new,
         )?;
         Ok(())
@@ -74,6 +72,13 @@ impl LineageIndex {
         &self.tree
     }
 
+    /// The entries of the rows, each with the index of its row as its id.
+    pub fn store(&self) -> &Store
+        ensures { (rows : List Row) (n : ℕ) → IsIndexOf rows n self.now → result.now ≡ entries_of rows rows }
+    {
+        &self.store
+    }
+
     /// The index of the newest row of a key; `None` exactly where the key has none.
     pub fn newest_row(&self, key: &Key) -> Option<u32>
         requires { (rows : List Row) × (n : ℕ) × IsIndexOf rows n self.now }
@@ -82,14 +87,39 @@ impl LineageIndex {
         newest_row_of(&self.tree, self.newest.as_slice(), key)
     }
 
-    /// The index of the version of its key before the row at an index; `None` exactly for a first
-    /// version.
-    pub fn previous_row(&self, index: u32) -> Option<u32>
-        requires { (rows : List Row) × (n : ℕ) × IsIndexOf rows n self.now × (index < length rows) }
-        ensures { (rows : List Row) (n : ℕ) (row : Row) → IsIndexOf rows n self.now → slice_get rows index ≡ Some row
-            → result ≡ newest_index (below rows row.block) row.key }
+    /// The index of the last row of a key in a block up to `at`; `None` exactly where there is none. The
+    /// count rises by the length of the path, and by 0 for a key without rows.
+    pub fn latest_row(&self, key: &Key, at: u32, steps: &mut Steps) -> Option<u32>
+        requires { (rows : List Row) × (n : ℕ) × IsIndexOf rows n self.now }
+        ensures latest { (rows : List Row) (n : ℕ) → IsIndexOf rows n self.now → IsRowAt rows result (latest rows key.now at) }
+        ensures count { (rows : List Row) (n : ℕ) → IsIndexOf rows n self.now → steps.new ≡ raised steps.old (length (path rows key.now at)) }
     {
-        previous_of_row(self.versions.as_slice(), index)
+        latest_row_of(
+            &self.tree,
+            self.newest.as_slice(),
+            &self.store,
+            key,
+            at,
+            steps,
+        )
+    }
+
+    /// The entries of the rows of a key that such a lookup looks at, in this order. The count rises by their
+    /// number.
+    pub fn path(&self, key: &Key, at: u32, steps: &mut Steps) -> Result<EntryList, Memory>
+        requires { (rows : List Row) × (n : ℕ) × IsIndexOf rows n self.now }
+        ensures path { (rows : List Row) (n : ℕ) → IsIndexOf rows n self.now → IfOk result (AreEntriesIn rows key.now (path rows key.now at)) }
+        ensures count { IfOk result (λ ids. steps.new ≡ raised steps.old (length ids)) }
+    {
+        path_of(
+            *self.newest.allocator(),
+            &self.tree,
+            self.newest.as_slice(),
+            &self.store,
+            key,
+            at,
+            steps,
+        )
     }
 
     /// The digest of the header of the row at an index.
@@ -98,23 +128,7 @@ impl LineageIndex {
         ensures { (rows : List Row) (n : ℕ) (row : Row) → IsIndexOf rows n self.now → slice_get rows index ≡ Some row
             → result ≡ digest_of_row rows row }
     {
-        header_digest_of_row(self.headers.as_slice(), index)
-    }
-
-    /// The links of the header of the row at an index.
-    pub fn links(&self, index: u32) -> Result<LinkList, Memory>
-        requires { (rows : List Row) × (n : ℕ) × IsIndexOf rows n self.now × (index < length rows) }
-        ensures links { (rows : List Row) (n : ℕ) (row : Row) → IsIndexOf rows n self.now → slice_get rows index ≡ Some row
-            → IfOk result (λ list. list ≡ (header_of rows row).links) }
-        ensures few { IfOk result (λ list. length list ≤ MAX_LINKS) }
-    {
-        let alloc = *self.newest.allocator();
-        links_of_row(
-            alloc,
-            self.versions.as_slice(),
-            self.headers.as_slice(),
-            index,
-        )
+        self.store.facts(EntryId(index)).digest
     }
 
     /// Ends the index, whose many parts are dropped here alone.

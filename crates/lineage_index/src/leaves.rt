@@ -9,11 +9,11 @@ ghost use Rattle.lineage_index.specs.Leaves.{AreBesideLeaves, IsLeafIndex, state
 ghost use Rattle.lineage_index.specs.Settling.{AreRenewing};
 
 use crate::indexes::touched_indexes;
+use entry_store::{EntryId, Store};
 use forward_links::OpenLists;
-use lc_base::{Digest, Memory, Row};
+use lc_base::{Memory, Row};
 use state_tree::{LeafState, Tree};
 use std::alloc::Global;
-use version_links::VersionRef;
 
 /// The index of the newest row of the key at an index.
 pub(crate) fn newest_at(newest: &[u32], index: u32) -> u32
@@ -23,39 +23,19 @@ pub(crate) fn newest_at(newest: &[u32], index: u32) -> u32
     newest[index as usize]
 }
 
-fn version_at(versions: &[VersionRef], index: u32) -> VersionRef
-    requires { index < length versions.now }
-    ensures { slice_get versions.now index ≡ Some result }
-{
-    versions[index as usize]
-}
-
-fn digest_at(headers: &[Digest], index: u32) -> Digest
-    requires { index < length headers.now }
-    ensures { slice_get headers.now index ≡ Some result }
-{
-    headers[index as usize]
-}
-
 /// What the leaf at an index is to say, by what is kept of the newest version of its key.
-fn leaf_state(
-    lists: &OpenLists,
-    newest: &[u32],
-    versions: &[VersionRef],
-    headers: &[Digest],
-    index: u32,
-) -> LeafState
-    requires { (rows : List Row) × AreBesideLeaves rows lists.now newest.now versions.now headers.now × IsLeafIndex (keys_of rows) index }
-    ensures { (rows : List Row) → AreBesideLeaves rows lists.now newest.now versions.now headers.now → IsLeafIndex (keys_of rows) index
+fn leaf_state(lists: &OpenLists, newest: &[u32], store: &Store, index: u32) -> LeafState
+    requires { (rows : List Row) × AreBesideLeaves rows lists.now newest.now store.now × IsLeafIndex (keys_of rows) index }
+    ensures { (rows : List Row) → AreBesideLeaves rows lists.now newest.now store.now → IsLeafIndex (keys_of rows) index
         → result ≡ state_of rows index }
 {
     let key = index - 1;
-    let row = newest_at(newest, key);
+    let facts = store.facts(EntryId(newest_at(newest, key)));
     let kept = lists.peek(key);
     LeafState {
         index,
-        newest_block: version_at(versions, row).block,
-        newest: digest_at(headers, row),
+        newest_block: facts.block,
+        newest: facts.digest,
         open_count: kept.count,
         open_digest: kept.digest,
     }
@@ -66,17 +46,16 @@ fn leaf_states(
     alloc: Global,
     lists: &OpenLists,
     newest: &[u32],
-    versions: &[VersionRef],
-    headers: &[Digest],
+    store: &Store,
     indexes: &[u32],
 ) -> Result<Vec<LeafState>, Memory>
-    requires { (rows : List Row) × AreBesideLeaves rows lists.now newest.now versions.now headers.now × All (IsLeafIndex (keys_of rows)) indexes.now }
-    ensures { (rows : List Row) → AreBesideLeaves rows lists.now newest.now versions.now headers.now → All (IsLeafIndex (keys_of rows)) indexes.now
+    requires { (rows : List Row) × AreBesideLeaves rows lists.now newest.now store.now × All (IsLeafIndex (keys_of rows)) indexes.now }
+    ensures { (rows : List Row) → AreBesideLeaves rows lists.now newest.now store.now → All (IsLeafIndex (keys_of rows)) indexes.now
         → IfOk result (λ states. states.items ≡ map (state_of rows) indexes.now) }
 {
     let mut states = Vec::new(alloc);
     for index in indexes {
-        states.push(leaf_state(lists, newest, versions, headers, *index))?;
+        states.push(leaf_state(lists, newest, store, *index))?;
     }
     Ok(states)
 }
@@ -88,16 +67,15 @@ pub(crate) fn renew_leaves(
     tree: &mut Tree,
     lists: &OpenLists,
     newest: &[u32],
-    versions: &[VersionRef],
-    headers: &[Digest],
+    store: &Store,
     new: &[Row],
 ) -> Result<(), Memory>
-    requires { (rows : List Row) × (entry : List ℕ → Entry) × AreRenewing rows entry [] tree.old lists.now newest.now versions.now headers.now }
-    ensures { (rows : List Row) (entry : List ℕ → Entry) → AreRenewing rows entry [] tree.old lists.now newest.now versions.now headers.now
-        → OnOk result (AreRenewing rows entry (keys_touched new.now) tree.new lists.now newest.now versions.now headers.now) }
+    requires { (rows : List Row) × (entry : List ℕ → Entry) × AreRenewing rows entry [] tree.old lists.now newest.now store.now }
+    ensures { (rows : List Row) (entry : List ℕ → Entry) → AreRenewing rows entry [] tree.old lists.now newest.now store.now
+        → OnOk result (AreRenewing rows entry (keys_touched new.now) tree.new lists.now newest.now store.now) }
 {
     let indexes = touched_indexes(alloc, tree, new)?;
-    let states = leaf_states(alloc, lists, newest, versions, headers, &indexes)?;
+    let states = leaf_states(alloc, lists, newest, store, &indexes)?;
     tree.set_leaves(&states)?;
     Ok(())
 }

@@ -1,16 +1,14 @@
 //! What is kept beside the rows of a lineage: the leaves and the open forward lists of their keys, and
-//! the versions and the header digests of the rows.
+//! the entries of the rows.
 #![tactic(auto)]
 
 mod advancing;
-mod headers;
 mod heads;
 mod index;
 mod indexes;
 mod leaves;
-mod linking;
+mod new_entries;
 mod newest_row;
-mod row_parts;
 mod settling;
 mod uses;
 

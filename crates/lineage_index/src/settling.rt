@@ -4,53 +4,50 @@ ghost use Rattle.std.specs.Prelude.{◌≡◌, ◌<◌, ◌≤◌, ◌+◌, ◌+
 ghost use Rattle.lc_base.specs.declared.limits.TheConstants.{MAX_ROWS};
 ghost use Rattle.lc_base.specs.declared.row.Row.{Row};
 ghost use Rattle.lc_base.specs.declared.row.Dep.{Dep};
-ghost use Rattle.lineage_index.specs.Settling.{AreSettled};
+ghost use Rattle.lineage_index.specs.Heads.{AreHeads};
+ghost use Rattle.lineage_index.specs.Settling.{settling};
 
 use crate::heads::set_newest;
 use forward_links::OpenLists;
 use lc_base::{Memory, Row};
 use state_tree::Tree;
-use version_links::VersionRef;
 
+/// Makes the row at an index, behind all rows that were settled, the newest version of its key.
 fn settle_row(
     tree: &mut Tree,
     lists: &mut OpenLists,
     newest: &mut Vec<u32>,
-    versions: &mut Vec<VersionRef>,
     row: &Row,
+    index: u32,
 ) -> Result<(), Memory>
-    requires room { length versions.old.items < MAX_ROWS }
+    requires room { index < MAX_ROWS }
     requires settled { (rows : List Row) × (done : List Row) × (list : List ℕ → List Dep)
-        × AreSettled rows done list tree.old lists.old newest.old.items versions.old.items }
-    ensures long { OnOk result (length versions.new.items ≡ length versions.old.items + 1) }
-    ensures settled { (rows done : List Row) (list : List ℕ → List Dep) → AreSettled rows done list tree.old lists.old newest.old.items versions.old.items
-        → OnOk result (AreSettled rows (done ++ row.now ∷ []) list tree.new lists.new newest.new.items versions.new.items) }
+        × AreHeads tree.old lists.old newest.old.items (settling rows list done) × (index ≡ length (rows ++ done)) }
+    ensures { (rows done : List Row) (list : List ℕ → List Dep) → AreHeads tree.old lists.old newest.old.items (settling rows list done) → index ≡ length (rows ++ done)
+        → OnOk result (AreHeads tree.new lists.new newest.new.items (settling rows list (done ++ row.now ∷ []))) }
 {
-    let index = versions.len() as u32;
-    let previous = set_newest(tree, lists, newest, &row.key, index)?;
-    versions.push(VersionRef {
-        block: row.block,
-        previous,
-    })?;
+    set_newest(tree, lists, newest, &row.key, index)?;
     Ok(())
 }
 
-/// Makes these rows, one after another, the newest versions of their keys, and closes the lists of
-/// the versions before.
+/// Makes these rows, the first of which has this index, one after another the newest versions of their
+/// keys, and closes the lists of the versions before.
 pub(crate) fn settle_rows(
     tree: &mut Tree,
     lists: &mut OpenLists,
     newest: &mut Vec<u32>,
-    versions: &mut Vec<VersionRef>,
+    first: u32,
     new: &[Row],
 ) -> Result<(), Memory>
-    requires room { length versions.old.items + length new.now ≤ MAX_ROWS }
-    requires settled { (rows : List Row) × (list : List ℕ → List Dep) × AreSettled rows [] list tree.old lists.old newest.old.items versions.old.items }
-    ensures { (rows : List Row) (list : List ℕ → List Dep) → AreSettled rows [] list tree.old lists.old newest.old.items versions.old.items
-        → OnOk result (AreSettled rows new.now list tree.new lists.new newest.new.items versions.new.items) }
+    requires room { first + length new.now ≤ MAX_ROWS }
+    requires settled { (rows : List Row) × (list : List ℕ → List Dep) × AreHeads tree.old lists.old newest.old.items (settling rows list []) × (first ≡ length rows) }
+    ensures { (rows : List Row) (list : List ℕ → List Dep) → AreHeads tree.old lists.old newest.old.items (settling rows list []) → first ≡ length rows
+        → OnOk result (AreHeads tree.new lists.new newest.new.items (settling rows list new.now)) }
 {
+    let mut index = first;
     for row in new {
-        settle_row(tree, lists, newest, versions, row)?;
+        settle_row(tree, lists, newest, row, index)?;
+        index += 1;
     }
     Ok(())
 }

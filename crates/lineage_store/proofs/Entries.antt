@@ -3,21 +3,22 @@
 use Rattle.std.proofs.Common.{◌≡◌, ◌∙◌, ℕ, zero, suc, ◌<◌, ◌≤◌, List, [], ◌∷◌, ◌++◌, length, map, take, Some, refl, sym, ap, arith}
 use Rattle.std.specs.Prelude.{slice_get}
 use Rattle.std.specs.List.{All, AllByRecursion, concat}
+use Rattle.std.specs.Option.{option_map}
 use Rattle.std.proofs.lemmas.List.{append-nil, append_assoc}
 use Rattle.std.proofs.lemmas.List.Elements.{recursion_from_All, All-from_recursion}
 use Rattle.std.proofs.lemmas.Option.{none-some, same_Some}
 use Rattle.lc_base.specs.declared.digest.Digest.{Digest}
-use Rattle.lc_base.specs.declared.row.Dep.{Dep}
 use Rattle.lc_base.specs.declared.row.Row.{Row}
-use Rattle.lc_base.specs.History.{IsLawful, up_to}
+use Rattle.lc_base.specs.History.{IsLawful}
 use Rattle.prov_entry.specs.declared.entry.Header.{Header}
 use Rattle.prov_entry.specs.declared.entry.Body.{Body}
 use Rattle.prov_entry.specs.Spelling.{body_fields}
-use Rattle.history_root.specs.Naming.{closed, header_of, body_of}
+use Rattle.history_root.specs.Naming.{header_of, body_of}
 use Rattle.history_root.specs.NamingLaws.{digest_of_row}
 use Rattle.history_root.specs.GrowthLaws.{AreFrom}
-use Rattle.history_root.proofs.Growing.{up_to_low, earlier_headers_stay}
+use Rattle.history_root.proofs.Growing.{earlier_headers_stay}
 use Rattle.history_root.proofs.Lists.{all_weaker}
+use Rattle.entry_store.specs.declared.entry.Facts.{Facts}
 use Rattle.entry_store.specs.declared.entry.Links.{Links}
 use Rattle.entry_store.specs.Entries.{Entry, entry_digest, facts_of}
 use Rattle.skip_list.specs.Towered.{AreVersions}
@@ -56,6 +57,20 @@ digest_at all before [] index row at = absurd (none-some row at)
 digest_at all before (first ∷ rows) zero row at = ap (digest_of_row all) (same_Some first row at)
 digest_at all before (first ∷ rows) (suc index) row at = digest_at all (before ++ first ∷ []) rows index row at
 
+pub facts_at : (all before rows : List Row) (index : ℕ) (row : Row) → slice_get rows index ≡ Some row
+    → option_map (λ (entry : Entry). entry.facts) (slice_get (entries_after all before rows) index) ≡ Some (facts_of (header_of all row))
+unfolding entries_after
+facts_at all before [] index row at = absurd (none-some row at)
+facts_at all before (first ∷ rows) zero row at = ap (λ (r : Row). Some (facts_of (header_of all r))) (same_Some first row at)
+facts_at all before (first ∷ rows) (suc index) row at = facts_at all (before ++ first ∷ []) rows index row at
+
+-- What is read of the entry at the index of a row is what its header says.
+pub row_facts : (entries : List Entry) (rows : List Row) (index : ℕ) (row : Row) (facts : Facts) → entries ≡ entries_of rows rows → slice_get rows index ≡ Some row
+    → option_map (λ (entry : Entry). entry.facts) (slice_get entries index) ≡ Some facts → facts ≡ facts_of (header_of rows row)
+row_facts entries rows index row facts are at read =
+    same_Some facts (facts_of (header_of rows row))
+    (sym read ∙ ap (λ (es : List Entry). option_map (λ (entry : Entry). entry.facts) (slice_get es index)) are ∙ facts_at rows [] rows index row at)
+
 pub digests_are : (all before rows : List Row) → map (λ (entry : Entry). entry.facts.digest) (entries_after all before rows) ≡ map (digest_of_row all) rows
 unfolding entries_after
 digests_are all before [] = refl
@@ -87,22 +102,19 @@ front_entries all rows n = taken n all [] rows
 
 -- ---- after later blocks
 
--- The entry of a row with this header, closed list and body.
-abbrev entry_with : List Row → Row → Header → List Dep → Body → Entry
-entry_with before row header closed_list body = record {
+-- The entry of a row with this header and body.
+abbrev entry_with : List Row → Row → Header → Body → Entry
+entry_with before row header body = record {
   links = links_after before row;
   facts = facts_of header;
-  closed = closed_list;
   body = concat (body_fields body);
 }
 
 entry_stays : (all more before : List Row) (row : Row) → AreFrom (suc row.block) more → entry_for (all ++ more) before row ≡ entry_for all before row
 entry_stays all more before row from =
     let stay = earlier_headers_stay all more row from in
-    let low = up_to_low all more row.block (recursion_from_All (λ (other : Row). suc row.block ≤ other.block) more from) in
-    ap (λ (header : Header). entry_with before row header (closed (up_to (all ++ more) row.block) row.key row.block) (body_of (all ++ more) row)) stay.0
-    ∙ ap (λ (rows : List Row). entry_with before row (header_of all row) (closed rows row.key row.block) (body_of (all ++ more) row)) low
-    ∙ ap (λ (body : Body). entry_with before row (header_of all row) (closed (up_to all row.block) row.key row.block) body) stay.1
+    ap (λ (header : Header). entry_with before row header (body_of (all ++ more) row)) stay.0
+    ∙ ap (entry_with before row (header_of all row)) stay.1
 
 later : (more : List Row) (n block : ℕ) → AreFrom n more → block < n → AreFrom (suc block) more
 later more n block from less = All-from_recursion (λ (row : Row). suc block ≤ row.block) more

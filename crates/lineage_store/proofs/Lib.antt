@@ -8,3 +8,4 @@ pub mod ReadBack
 pub mod Looking
 pub mod MadeAgain
 pub mod Earlier
+pub mod OnPath

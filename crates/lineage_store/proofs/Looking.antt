@@ -1,6 +1,6 @@
 -- Lookups over the entries of a history.
 use Rattle.std.proofs.Common.{◌≡◌, ◌∙◌, ℕ, ◌^◌, ◌<◌, List, [], length, Option, Some, None, sym, ap, arith}
-use Rattle.std.specs.Prelude.{slice_get, MatchOption}
+use Rattle.std.specs.Prelude.{slice_get, MatchOption, IfSome}
 use Rattle.lc_base.specs.declared.row.Row.{Row}
 use Rattle.lc_base.specs.History.{latest}
 use Rattle.version_path.specs.Paths.{path, path_over}
@@ -11,10 +11,11 @@ use Rattle.entry_store.specs.Entries.{Entry}
 use Rattle.entry_store.specs.Steps.{raised}
 use Rattle.skip_list.specs.Towered.{blocks_of, IsTowered, AreVersions}
 use Rattle.skip_list.specs.Lookups.{latest_version}
+use Rattle.skip_list.proofs.Turns.{within}
 use Rattle.lineage_store.specs.Versions.{versions_of_key}
 use Rattle.lineage_store.specs.Entries.{IsNewestOf}
 use Rattle.lineage_store.proofs.Versions.{path_of_versions, lookup_latest}
-use Rattle.lineage_store.proofs.Entries.{all_towered}
+use Rattle.lineage_store.proofs.Entries.{all_towered, as_many}
 
 pub versions_are : (rows : List Row) (key : List ℕ) (newest : Option EntryId) (entries : List Entry) → IsNewestOf rows key newest entries → AreVersions entries newest (versions_of_key rows key)
 versions_are rows key newest entries is = rw (is.newest_is, is.entries_are) (all_towered rows rows key is.lawful)
@@ -30,6 +31,16 @@ found_latest rows key at found is = rw is (lookup_latest rows key at)
 pub path_steps : (rows : List Row) (key : List ℕ) (at : ℕ) (newest : Option EntryId) (entries : List Entry) → IsNewestOf rows key newest entries
     → length (path_over (blocks_of (versions_of_key rows key)) at) ≡ length (path rows key at)
 path_steps rows key at newest entries is = ap length (sym (path_of_versions rows key at is.lawful))
+
+-- The entry that is found is one of those of the rows.
+pub found_within : (rows : List Row) (key : List ℕ) (at : ℕ) (newest : Option EntryId) (entries : List Entry) (found : Option EntryId) → IsNewestOf rows key newest entries
+    → IfSome found (λ (id : EntryId). (versions : List Hop) × IsTowered entries id versions)
+    → MatchOption found (latest rows key at ≡ None) (λ (id : EntryId). slice_get rows id.0 ≡ latest rows key at)
+    → MatchOption found (latest rows key at ≡ None) (λ (id : EntryId). (id.0 < length rows) × (slice_get rows id.0 ≡ latest rows key at))
+found_within rows key at newest entries None is towered there = there
+found_within rows key at newest entries (Some id) is towered there =
+    let many : length entries ≡ length rows = ap length is.entries_are ∙ as_many rows [] rows in
+    (omega (arith, many, within entries id towered.0 towered.1), there)
 
 -- A key without versions.
 pub none_found : (rows : List Row) (key : List ℕ) (at : ℕ) (newest : Option EntryId) (entries : List Entry) → IsNewestOf rows key newest entries → newest ≡ None → latest rows key at ≡ None

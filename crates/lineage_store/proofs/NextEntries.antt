@@ -7,7 +7,6 @@ use Rattle.std.specs.List.{All, AllByRecursion, AllPairs, Contains, concat}
 use Rattle.std.specs.Rc.{rc_slice_items}
 use Rattle.lc_base.specs.declared.digest.Digest.{Digest}
 use Rattle.lc_base.specs.declared.limits.TheConstants.{MAX_ROWS}
-use Rattle.lc_base.specs.declared.row.Dep.{Dep}
 use Rattle.lc_base.specs.declared.row.Row.{Row}
 use Rattle.lc_base.specs.History.{IsLawful, StandsBefore, up_to}
 use Rattle.version_links.specs.Links.{links}
@@ -148,7 +147,7 @@ header_is : (all rows : List Row) (row : Row) (after : List Row) → IsLawful al
 header_is all rows row after lawful first = rw (header_links all rows row after rows lawful first (λ index older at. at)) refl
 
 entry_is : (all rows : List Row) (row : Row) (after : List Row) → IsLawful all → all ≡ rows ++ row ∷ after
-    → new_entry (entries_of all rows) row.key row.block row.tx (links_over row.block (versions_of_key rows row.key)) (closed (up_to all row.block) row.key row.block)
+    → new_entry (entries_of all rows) row.key row.block row.tx (links_over row.block (versions_of_key rows row.key)) (length (closed (up_to all row.block) row.key row.block))
     (digest_of_uses (closed (up_to all row.block) row.key row.block)) (concat (body_fields (body_of all row)))
     ≡ entry_for all rows row
 entry_is all rows row after lawful first =
@@ -156,7 +155,6 @@ entry_is all rows row after lawful first =
     let entry : Entry = record {
       links = links_after rows row;
       facts = facts_of header;
-      closed = closed (up_to all row.block) row.key row.block;
       body = concat (body_fields (body_of all row));
     } in
     entry)
@@ -176,8 +174,8 @@ new_is all rows row newest entries version hops next are =
     ∙ ap (λ (tx : ℕ). new_entry before row.key row.block tx hops version.closed version.closed_digest body) next.tx_is
     ∙ ap (λ (hs : List Hop). new_entry before row.key row.block row.tx hs version.closed version.closed_digest body) (next_links all rows row newest entries version hops next are)
     ∙ ap (λ (digest : Digest). new_entry before row.key row.block row.tx (links_over row.block versions) version.closed digest body) next.closed_digest_is
-    ∙ ap (λ (deps : List Dep). new_entry before row.key row.block row.tx (links_over row.block versions) deps (digest_of_uses deps) body) next.closed_is
-    ∙ ap (λ (bytes : List ℕ). new_entry before row.key row.block row.tx (links_over row.block versions) uses (digest_of_uses uses) bytes) next.body_is
+    ∙ ap (λ (count : ℕ). new_entry before row.key row.block row.tx (links_over row.block versions) count (digest_of_uses uses) body) next.closed_is
+    ∙ ap (λ (bytes : List ℕ). new_entry before row.key row.block row.tx (links_over row.block versions) (length uses) (digest_of_uses uses) bytes) next.body_is
     ∙ entry_is all rows row next.after next.lawful next.first
 
 pub next_entries : (all rows : List Row) (row : Row) (newest : Option EntryId) (entries : List Entry) (version : NewVersion) (hops : List Hop) → IsNextVersion all rows row newest entries version

@@ -93,7 +93,7 @@ lookup_latest rows key at = moved (reverse (reverse rows) ++ []) rows (append-ni
 -- ---- the versions before a row are those of the rows before it
 
 -- All rows before a row stand before it, and it stands before all behind it.
-split_pairs : (before : List Row) (row : Row) (after : List Row) → AllPairs StandsBefore (before ++ row ∷ after)
+pub split_pairs : (before : List Row) (row : Row) (after : List Row) → AllPairs StandsBefore (before ++ row ∷ after)
     → AllByRecursion (λ (other : Row). StandsBefore other row) before × AllByRecursion (λ (other : Row). StandsBefore row other) after
 split_pairs [] row after pairs = (tt, behind after (λ j d l. pairs 0 (suc j) d (omega arith) (omega (arith, l))))
   where

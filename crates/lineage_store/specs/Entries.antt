@@ -2,20 +2,19 @@
 use Rattle.std.specs.Prelude.{◌≡◌, ℕ, List, [], ◌∷◌, ◌++◌, Option}
 use Rattle.std.specs.List.{concat}
 use Rattle.lc_base.specs.declared.row.Row.{Row}
-use Rattle.lc_base.specs.History.{IsLawful, up_to}
+use Rattle.lc_base.specs.History.{IsLawful}
 use Rattle.prov_entry.specs.Spelling.{body_fields}
-use Rattle.history_root.specs.Naming.{closed, header_of, body_of}
+use Rattle.history_root.specs.Naming.{header_of, body_of}
 use Rattle.entry_store.specs.declared.entry.EntryId.{EntryId}
 use Rattle.entry_store.specs.Entries.{Entry, facts_of}
 use Rattle.lineage_store.specs.Versions.{links_after, newest_entry}
 
 -- The entry of a row of a history, where these are the rows before it: the links to the versions of its
--- key before it, what its header says, the forward list that it closes, and the fields of its body.
+-- key before it, what its header says, and the fields of its body.
 abbrev pub entry_for : List Row → List Row → Row → Entry
 entry_for all before row = record {
   links = links_after before row;
   facts = facts_of (header_of all row);
-  closed = closed (up_to all row.block) row.key row.block;
   body = concat (body_fields (body_of all row));
 }
 

@@ -1,5 +1,5 @@
 -- A version that is to become the next entry.
-use Rattle.std.specs.Prelude.{◌≡◌, ◌∷◌, ◌++◌, List, Option}
+use Rattle.std.specs.Prelude.{◌≡◌, ◌∷◌, ◌++◌, List, length, Option}
 use Rattle.std.specs.List.{concat}
 use Rattle.std.specs.Rc.{rc_slice_items}
 use Rattle.lc_base.specs.declared.row.Row.{Row}
@@ -24,6 +24,6 @@ pub record IsNextVersion (all rows : List Row) (row : Row) (newest : Option Entr
   pub key_is : version.key ≡ row.key
   pub block_is : version.block ≡ row.block
   pub tx_is : version.tx ≡ row.tx
-  pub closed_is : version.closed ≡ closed (up_to all row.block) row.key row.block
-  pub closed_digest_is : version.closed_digest ≡ digest_of_uses version.closed
+  pub closed_is : version.closed ≡ length (closed (up_to all row.block) row.key row.block)
+  pub closed_digest_is : version.closed_digest ≡ digest_of_uses (closed (up_to all row.block) row.key row.block)
   pub body_is : rc_slice_items version.body ≡ concat (body_fields (body_of all row))

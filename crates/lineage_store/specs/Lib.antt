@@ -3,3 +3,4 @@ pub mod Entries
 pub mod Growing
 pub mod ReadBack
 pub mod Headers
+pub mod OnPath

@@ -8,7 +8,7 @@ ghost use Rattle.lineage_store.specs.Entries.{entries_of};
 ghost use Rattle.lineage_store.specs.Growing.{IsNextVersion};
 
 use entry_store::{EntryId, Steps, Store};
-use lc_base::{DepList, Digest, Key, Memory};
+use lc_base::{Digest, Key, Memory};
 use skip_list::links_for;
 use std::alloc::Global;
 use std::rc::RcSlice;
@@ -21,8 +21,8 @@ pub struct NewVersion {
     pub block: u32,
     /// The index of its transaction in the block, from 0.
     pub tx: u16,
-    /// The versions that were derived from the version of the key before it.
-    pub closed: DepList,
+    /// How many versions were derived from the version of the key before it.
+    pub closed: u64,
     /// The digest of these, as a forward list.
     pub closed_digest: Digest,
     /// The fields of its body.

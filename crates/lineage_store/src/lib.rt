@@ -17,4 +17,4 @@ pub use laws::{
     lookup_gives_the_newest_of_the_rows_up_to_the_block, newest_entry_is_the_newest_row,
     path_is_over_the_versions, rows_are_read_back, versions_stay_where_other_keys_are_added,
 };
-pub use lookups::latest_entry;
+pub use lookups::{entries_on_path, latest_entry};

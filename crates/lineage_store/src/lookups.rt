@@ -1,15 +1,18 @@
 //! Lookups over the entries of a history.
 
-ghost use Rattle.std.specs.Prelude.{◌≡◌, ℕ, List, length, None, slice_get, MatchOption};
+ghost use Rattle.std.specs.Prelude.{◌≡◌, ◌<◌, ℕ, List, length, None, slice_get, IfOk, MatchOption};
 ghost use Rattle.lc_base.specs.declared.row.Row.{Row};
 ghost use Rattle.lc_base.specs.History.{latest};
 ghost use Rattle.version_path.specs.Paths.{path};
 ghost use Rattle.entry_store.specs.declared.entry.EntryId.{EntryId};
 ghost use Rattle.entry_store.specs.Steps.{raised};
 ghost use Rattle.lineage_store.specs.Entries.{IsNewestOf};
+ghost use Rattle.lineage_store.specs.OnPath.{AreEntriesIn};
 
-use entry_store::{EntryId, Steps, Store};
-use skip_list::find;
+use entry_store::{EntryId, EntryList, Steps, Store};
+use lc_base::Memory;
+use skip_list::{find, path_entries};
+use std::alloc::Global;
 
 /// The entry of the last row of a key in a block up to `at`; `None` exactly where there is no such
 /// row. `newest` is the entry of the key's newest version. The count rises by the length of the path,
@@ -22,7 +25,7 @@ pub fn latest_entry(
 ) -> Option<EntryId>
     requires { (rows : List Row) × (key : List ℕ) × IsNewestOf rows key newest store.now }
     ensures latest { (rows : List Row) (key : List ℕ) → IsNewestOf rows key newest store.now
-        → MatchOption result (latest rows key at ≡ None) (λ (id : EntryId). slice_get rows id.0 ≡ latest rows key at) }
+        → MatchOption result (latest rows key at ≡ None) (λ (id : EntryId). (id.0 < length rows) × (slice_get rows id.0 ≡ latest rows key at)) }
     ensures count { (rows : List Row) (key : List ℕ) → IsNewestOf rows key newest store.now → steps.new ≡ raised steps.old (length (path rows key at)) }
 {
     // So that the count is known to be one that a u64 has.
@@ -30,5 +33,26 @@ pub fn latest_entry(
     match newest {
         None => None,
         Some(newest) => find(store, newest, at, steps),
+    }
+}
+
+/// The entries that such a lookup looks at, in this order: those of the versions on the path. The count
+/// rises by their number.
+pub fn entries_on_path(
+    alloc: Global,
+    store: &Store,
+    newest: Option<EntryId>,
+    at: u32,
+    steps: &mut Steps,
+) -> Result<EntryList, Memory>
+    requires { (rows : List Row) × (key : List ℕ) × IsNewestOf rows key newest store.now }
+    ensures path { (rows : List Row) (key : List ℕ) → IsNewestOf rows key newest store.now → IfOk result (AreEntriesIn rows key (path rows key at)) }
+    ensures count { IfOk result (λ ids. steps.new ≡ raised steps.old (length ids)) }
+{
+    // So that the count is known to be one that a u64 has.
+    let _count = steps.count();
+    match newest {
+        None => Ok(EntryList::new(alloc)),
+        Some(newest) => path_entries(alloc, store, newest, at, steps),
     }
 }

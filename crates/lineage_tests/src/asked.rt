@@ -2,6 +2,7 @@
 //! `examples/recall.blocks`.
 
 use chain_state::{Judged, Replay};
+use entry_store::Steps;
 use lc_base::{Answer, Dep, Digest, Key, Kind, Query, Value};
 use lineage_chain::LineageChain;
 use merkle_dag::Lineage;
@@ -111,33 +112,36 @@ fn is_int(value: &Value, wanted: i64) -> bool {
     }
 }
 
-/// Whether the uses of the first part are its two lots.
+/// Whether the uses of the first part are its two lots. One version is looked at.
 fn tells_uses(lineage: &mut Lineage) -> Option<bool> {
+    let mut steps = Steps::new();
     let key = Key::new(b"raw/part/p1").ok()?;
     let lots = [version(b"raw/lot/l1", 1)?, version(b"raw/lot/l3", 2)?];
     let kind = Kind::Fwd;
-    match ask(lineage, &Query { kind, key, at: 2 }) {
-        Ok(answer) => Some(has_versions(&answer, 0, lots.as_slice())),
+    match ask(lineage, &Query { kind, key, at: 2 }, &mut steps) {
+        Ok(answer) => Some(has_versions(&answer, 0, lots.as_slice()) && steps.count() == 1),
         Err(_) => None,
     }
 }
 
-/// Whether a question past the last block is answered with its number.
+/// Whether a question past the last block is answered with its number, and looks at nothing.
 fn tells_the_head(lineage: &mut Lineage) -> Option<bool> {
+    let mut steps = Steps::new();
     let key = Key::new(b"raw/part/p1").ok()?;
     let kind = Kind::Fwd;
-    match ask(lineage, &Query { kind, key, at: 3 }) {
+    match ask(lineage, &Query { kind, key, at: 3 }, &mut steps) {
         Ok(_) => None,
-        Err(error) => Some(error == AskError::Beyond { head: Some(2) }),
+        Err(error) => Some(error == AskError::Beyond { head: Some(2) } && steps.count() == 0),
     }
 }
 
 /// Whether the lineage itself tells what the third lot was made of.
 fn tells_parts(lineage: &mut Lineage) -> Option<bool> {
+    let mut steps = Steps::new();
     let key = Key::new(b"raw/lot/l3").ok()?;
     let parts = [version(b"raw/part/p1", 0)?, version(b"raw/part/p2", 0)?];
     let kind = Kind::Back;
-    match lineage.ask(&Query { kind, key, at: 2 }) {
+    match lineage.ask(&Query { kind, key, at: 2 }, &mut steps) {
         Ok(answer) => Some(has_versions(&answer, 2, parts.as_slice())),
         Err(_) => None,
     }
@@ -145,9 +149,10 @@ fn tells_parts(lineage: &mut Lineage) -> Option<bool> {
 
 /// Whether the lineage itself tells the number of the third lot, also past the last block.
 fn tells_number(lineage: &mut Lineage) -> Option<bool> {
+    let mut steps = Steps::new();
     let key = Key::new(b"raw/lot/l3").ok()?;
     let kind = Kind::Hist;
-    match lineage.ask(&Query { kind, key, at: 9 }) {
+    match lineage.ask(&Query { kind, key, at: 9 }, &mut steps) {
         Ok(answer) => Some(has_int(&answer, 2, 200)),
         Err(_) => None,
     }

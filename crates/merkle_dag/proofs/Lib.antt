@@ -1,3 +1,4 @@
 pub mod LedgerSteps
 pub mod Keeping
 pub mod FirstBlocks
+pub mod Answering

@@ -1,6 +1,7 @@
 //! The lineage of a ledger: the rows of its blocks, with the digest and the root of each block.
 #![tactic(auto)]
 
+mod asking;
 mod host;
 mod kept;
 mod limits;

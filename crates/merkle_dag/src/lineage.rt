@@ -4,7 +4,10 @@ ghost use Rattle.std.specs.Prelude.{◌≡◌, ◌≤◌, ◌<◌, ◌+◌, ◌+
 ghost use Rattle.std.specs.List.{All, find};
 ghost use Rattle.lc_base.specs.History.{IsLawful, newest, scan, up_to, uses};
 ghost use Rattle.lc_base.specs.declared.row.Row.{Row};
+ghost use Rattle.version_path.specs.Paths.{path};
 ghost use Rattle.rows_index.specs.Places.{IsRowAt};
+ghost use Rattle.entry_store.specs.Steps.{raised};
+ghost use Rattle.lineage_store.specs.OnPath.{AreEntriesIn};
 ghost use Rattle.history_root.specs.Naming.{header_of, body_of};
 ghost use Rattle.history_root.specs.Root.{root_of, leaves};
 ghost use Rattle.history_root.specs.WalkLaws.{is_version_in};
@@ -12,8 +15,10 @@ ghost use Rattle.typed_ledger.specs.TypedLedger.{IsTypedLedger};
 ghost use Rattle.merkle_dag.specs.declared.limits.TheConstants.{MAX_LINEAGE_BLOCKS};
 ghost use Rattle.merkle_dag.specs.Ledger.{Ledger, IsLedger, IsHead};
 
+use crate::asking::asked;
 use crate::kept::{Kept, discard, grow};
 use crate::rewinding::copy_blocks;
+use entry_store::{EntryList, Steps};
 use lc_base::{Answer, DepList, Digest, Key, Memory, Query, RowList};
 use lineage_index::LineageIndex;
 use plain_rows::PlainRows;
@@ -160,13 +165,22 @@ impl Lineage {
         self.kept.index.newest_row(key)
     }
 
+    /// The rows of the key that a lookup of its last version up to a block looks at, from the newest one
+    /// on; the id of a row's entry is its index.
+    pub fn path(&self, key: &Key, at: u32) -> Result<EntryList, Memory>
+        ensures { IfOk result (AreEntriesIn self.now.rows key.now (path self.now.rows key.now at)) }
+    {
+        let mut steps = Steps::new();
+        self.kept.index.path(key, at, &mut steps)
+    }
+
     /// The header of the row at an index.
     pub fn header(&self, index: u32) -> Result<Header, Memory>
         requires { index < length self.now.rows }
         ensures { (row : Row) → slice_get self.now.rows index ≡ Some row → IfOk result (λ header. header ≡ header_of self.now.rows row) }
     {
         let alloc = *self.kept.digests.allocator();
-        lineage_entries::header(alloc, &self.kept.rows, &self.kept.index, index)
+        lineage_entries::header(alloc, &self.kept.index, index)
     }
 
     /// The body of the row at an index.
@@ -202,12 +216,15 @@ impl Lineage {
         }
     }
 
-    /// The answer to a question over all rows. `Memory` changes nothing either.
-    pub fn ask(&mut self, query: &Query) -> Result<Answer, Memory>
+    /// The answer to a question over all rows. `Memory` changes nothing either. The count rises by the
+    /// number of the versions of the key that are looked at, also where there is no answer.
+    pub fn ask(&mut self, query: &Query, steps: &mut Steps) -> Result<Answer, Memory>
         ensures answer { IfOk result (λ answer. answer ≡ scan self.old.rows query.now) }
         ensures unchanged { self.new ≡ self.old }
+        ensures count { steps.new ≡ raised steps.old (length (path self.old.rows query.now.key query.now.at)) }
     {
-        self.kept.rows.ask(query)
+        let alloc = *self.kept.digests.allocator();
+        asked(alloc, &self.kept, query, steps)
     }
 
     /// The leaves at the last block.

@@ -1,8 +1,10 @@
 -- What a question about a ledger is answered.
-use Rattle.std.specs.Prelude.{◌≡◌, ◌<◌, ◌≤◌, length, Result, Ok, Err}
+use Rattle.std.specs.Prelude.{◌≡◌, ℕ, ◌<◌, ◌≤◌, length, Result, Ok, Err}
 use Rattle.lc_base.specs.History.{scan}
 use Rattle.lc_base.specs.declared.answer.Answer.{Answer}
 use Rattle.lc_base.specs.declared.answer.Query.{Query}
+use Rattle.version_path.specs.Paths.{path}
+use Rattle.entry_store.specs.Steps.{raised}
 use Rattle.merkle_dag.specs.Ledger.{Ledger, IsHead}
 use Rattle.prov_query.specs.declared.questions.AskError.{AskError}
 use Rattle.prov_query.specs.declared.questions.AskError.TheVariants as errors
@@ -13,3 +15,10 @@ abbrev pub IsAnswered : Ledger → Query → Result Answer AskError → Type 0
 IsAnswered ledger query (Ok answer) = (query.at < length ledger.digests) × (answer ≡ scan ledger.rows query)
 IsAnswered ledger query (Err (errors.Beyond head)) = (length ledger.digests ≤ query.at) × IsHead ledger.digests head
 IsAnswered ledger query (Err errors.Memory) = query.at < length ledger.digests
+
+-- A count of the versions that lookups look at rises by the length of the path over the rows; it stays
+-- where the question is past the last block.
+abbrev pub IsCounted : Ledger → Query → Result Answer AskError → ℕ → ℕ → Type 0
+IsCounted ledger query (Err (errors.Beyond head)) before after = after ≡ before
+IsCounted ledger query (Ok answer) before after = after ≡ raised before (length (path ledger.rows query.key query.at))
+IsCounted ledger query (Err errors.Memory) before after = after ≡ raised before (length (path ledger.rows query.key query.at))

@@ -1,8 +1,9 @@
 //! The answer to a question about the rows of a lineage.
 
 ghost use Rattle.std.specs.Prelude.{◌≡◌};
-ghost use Rattle.prov_query.specs.Asking.{IsAnswered};
+ghost use Rattle.prov_query.specs.Asking.{IsAnswered, IsCounted};
 
+use entry_store::Steps;
 use lc_base::{Answer, Memory, Query};
 use merkle_dag::Lineage;
 
@@ -25,17 +26,19 @@ impl From<Memory> for AskError {
 }
 
 /// The answer to a question about the blocks up to the one that it names. The lineage stays as it
-/// was, also where there is no answer.
-pub fn ask(lineage: &mut Lineage, query: &Query) -> Result<Answer, AskError>
+/// was, also where there is no answer. The count rises by the number of the versions of the key that
+/// are looked at: those of the path, also out of memory, and none past the last block.
+pub fn ask(lineage: &mut Lineage, query: &Query, steps: &mut Steps) -> Result<Answer, AskError>
     ensures answered { IsAnswered lineage.old query.now result }
     ensures unchanged { lineage.new ≡ lineage.old }
+    ensures counted { IsCounted lineage.old query.now result steps.old steps.new }
 {
     if lineage.digest(query.at).is_none() {
         return Err(AskError::Beyond {
             head: lineage.head(),
         });
     }
-    match lineage.ask(query) {
+    match lineage.ask(query, steps) {
         Ok(answer) => Ok(answer),
         Err(Memory) => Err(AskError::Memory),
     }

@@ -12,4 +12,4 @@ pub use climbing::links_for;
 pub use examples::{far_heights, low_heights};
 pub use laws::{new_entry_is_towered, towered_entries_stay_towered, versions_are_determined};
 pub use lookup::{Turn, find, path_next};
-pub use path::{EntryList, path_entries};
+pub use path::path_entries;

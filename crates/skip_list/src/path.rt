@@ -10,12 +10,9 @@ ghost use Rattle.skip_list.specs.Towered.{blocks_of, IsTowered};
 ghost use Rattle.skip_list.specs.LookedAt.{next_entry, entry_block};
 
 use crate::lookup::{Turn, path_next};
-use entry_store::{EntryId, Steps, Store};
-use lc_base::{Memory, Seq};
+use entry_store::{EntryId, EntryList, Steps, Store};
+use lc_base::Memory;
 use std::alloc::Global;
-
-/// Entries.
-pub type EntryList = Seq<EntryId>;
 
 fn next_entry(turn: Turn) -> Option<EntryId>
     ensures { result ≡ next_entry turn }

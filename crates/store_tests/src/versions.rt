@@ -7,7 +7,7 @@ ghost use Rattle.entry_store.specs.declared.entry.Hop.{Hop};
 ghost use Rattle.store_tests.specs.Versions.{HasVersions, IsAbove};
 
 use entry_store::{EntryId, Hop, Steps, Store};
-use lc_base::{DepList, Digest, Key, MAX_ROWS, Memory};
+use lc_base::{Digest, Key, MAX_ROWS, Memory};
 use skip_list::{find, links_for, path_entries};
 use std::alloc::Global;
 use std::marker::Model;
@@ -84,9 +84,8 @@ fn push(
         links: hops.len(),
         read: steps.count(),
     };
-    let closed = DepList::new(alloc);
     let body = RcSlice::from_slice(alloc, b"body")?;
-    let id = store.push(key, block, 0, hops, closed, Digest([0; 32]), body)?;
+    let id = store.push(key, block, 0, hops, 0, Digest([0; 32]), body)?;
     Ok((Hop { block, id }, added))
 }
 

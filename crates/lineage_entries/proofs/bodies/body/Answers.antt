@@ -1,6 +1,6 @@
 use Rattle.std.proofs.Common.{◌∙◌, ℕ, List, sym, subst}
 use Rattle.rows_index.specs.Users.{AreVersionsAt}
-use Rattle.lineage_index.proofs.RowEntries.{row_at}
+use Rattle.lineage_index.proofs.NewestRows.{row_at}
 use Rattle.lineage_entries.proofs.Dependencies.{row_there, older_deps}
 use Rattle.lineage_entries.proofs.bodies.body.Goals as goal
 
@@ -17,6 +17,6 @@ returns c blocks row is at =
     let rows = c.args.rows.now in
     let so = c.row-row.ensures row at in
     let are = subst (λ (places : List ℕ). AreVersionsAt rows places row.deps) (sym c.as_slice.ensures) so.deps_are in
-    let deps = c.in_ok-deps.ensures blocks row.block row.deps is are (older_deps rows row is.records.lawful (row_there rows c.args.place row at)) in
+    let deps = c.in_ok-deps.ensures blocks row.block row.deps is are (older_deps rows row is.store.lawful (row_there rows c.args.place row at)) in
     let value = c.in_ok-value.ensures ∙ so.value_is in
     λ i. record { value = value i; deps = deps i }

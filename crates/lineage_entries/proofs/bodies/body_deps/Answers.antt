@@ -19,7 +19,7 @@ loop-place-preserved c blocks block deps is are older =
     let i = c.loop-place.place-index in
     let place = get_or c.args.places.now i 0 in
     c.in_ok-push.ensures.ok
-    ∙ one_more c.args.rows.now c.args.places.now deps block i place c.loop-place.list c.body_dep.result is.records.lawful are older (slice_get-get_or c.args.places.now i 0 c.loop-place-test.true)
+    ∙ one_more c.args.rows.now c.args.places.now deps block i place c.loop-place.list c.body_dep.result is.store.lawful are older (slice_get-get_or c.args.places.now i 0 c.loop-place-test.true)
     (λ row at. c.body_dep.ensures blocks row is at) (c.loop-place.invariant blocks block deps is are older)
 
 pub returns : goal.returns

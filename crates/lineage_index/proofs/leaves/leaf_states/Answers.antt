@@ -1,7 +1,7 @@
 use Rattle.std.proofs.Common.{◌∙◌, get_or}
 use Rattle.std.proofs.lemmas.List.{get_or_default}
 use Rattle.lineage_index.specs.Leaves.{state_of}
-use Rattle.lineage_index.proofs.NewHeaders.{mapped_more}
+use Rattle.lineage_index.proofs.NewEntries.{mapped_more}
 use Rattle.lineage_index.proofs.leaves.leaf_states.Goals as goal
 
 pub loop-index-preserved : goal.loop-index-preserved

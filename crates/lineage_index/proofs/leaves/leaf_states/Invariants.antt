@@ -7,4 +7,4 @@ use Rattle.lineage_index.proofs.leaves.leaf_states.Given as goal
 
 abbrev pub invariant-loop-index : goal.invariant-loop-index
 invariant-loop-index l =
-    (rows : List Row) → AreBesideLeaves rows l.lists l.newest l.versions l.headers → All (IsLeafIndex (keys_of rows)) l.indexes → l.states.items ≡ map (state_of rows) (take l.index-index l.indexes)
+    (rows : List Row) → AreBesideLeaves rows l.lists l.newest l.store → All (IsLeafIndex (keys_of rows)) l.indexes → l.states.items ≡ map (state_of rows) (take l.index-index l.indexes)

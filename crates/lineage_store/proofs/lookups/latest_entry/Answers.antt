@@ -1,7 +1,7 @@
 use Rattle.std.proofs.Common.{◌∙◌, ap, arith}
 use Rattle.entry_store.specs.Steps.{raised}
 use Rattle.lineage_store.specs.Versions.{versions_of_key}
-use Rattle.lineage_store.proofs.Looking.{newest_towered, found_latest, path_steps, none_found, no_steps}
+use Rattle.lineage_store.proofs.Looking.{newest_towered, found_latest, found_within, path_steps, none_found, no_steps}
 use Rattle.lineage_store.proofs.lookups.latest_entry.Goals as goal
 
 pub find-requires : goal.find-requires
@@ -17,7 +17,8 @@ returns-in-None-clause-count c rows key is = no_steps rows key c.args.at c.args.
 
 pub returns-in-Some-clause-latest : goal.returns-in-Some-clause-latest
 returns-in-Some-clause-latest c rows key is =
-    found_latest rows key c.args.at c.find.result (c.find.ensures.found (versions_of_key rows key) (newest_towered rows key c.args.newest c.in-Some.newest c.args.store.now is c.in-Some.is))
+    found_within rows key c.args.at c.args.newest c.args.store.now c.find.result is c.find.ensures.towered
+    (found_latest rows key c.args.at c.find.result (c.find.ensures.found (versions_of_key rows key) (newest_towered rows key c.args.newest c.in-Some.newest c.args.store.now is c.in-Some.is)))
 
 pub returns-in-Some-clause-count : goal.returns-in-Some-clause-count
 returns-in-Some-clause-count c rows key is =

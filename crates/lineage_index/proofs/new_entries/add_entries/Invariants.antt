@@ -1,0 +1,9 @@
+use Rattle.std.proofs.Common.{◌≡◌, ◌++◌, ℕ, List, take}
+use Rattle.lc_base.specs.declared.row.Row.{Row}
+use Rattle.lineage_store.specs.Entries.{entries_of}
+use Rattle.lineage_index.specs.NewEntries.{AreUsing}
+use Rattle.lineage_index.proofs.new_entries.add_entries.Given as goal
+
+abbrev pub invariant-loop-row : goal.invariant-loop-row
+invariant-loop-row l =
+    (rows : List Row) (n : ℕ) → AreUsing rows l.new n l.tree l.lists l.newest → l.initial.store ≡ entries_of rows rows → l.store ≡ entries_of (rows ++ l.new) (rows ++ take l.row-index l.new)

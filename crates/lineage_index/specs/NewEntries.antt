@@ -1,0 +1,73 @@
+-- What stands when the entries of a block's rows are made: the leaves and indexes are those of the
+-- rows before, and the lists have the uses of all rows of the block.
+use Rattle.std.specs.Prelude.{◌≡◌, ℕ, if◌then◌else◌, List, [], ◌∷◌, ◌++◌, length, map, replicate, slice_index_or, Option, Some, None}
+use Rattle.std.specs.List.{concat}
+use Rattle.std.specs.Rc.{rc_slice_items}
+use Rattle.lc_base.specs.declared.digest.Digest.{Digest}
+use Rattle.lc_base.specs.declared.row.Row.{Row}
+use Rattle.lc_base.specs.declared.row.Dep.{Dep}
+use Rattle.prov_entry.specs.declared.entry.Leaf.{Leaf}
+use Rattle.prov_entry.specs.declared.entry.BodyDep.{BodyDep}
+use Rattle.prov_entry.specs.declared.entry.Body.{Body}
+use Rattle.prov_entry.specs.Spelling.{body_fields}
+use Rattle.history_root.specs.Naming.{digest_of_uses}
+use Rattle.history_root.specs.Root.{is_among, keys_of, sentinel}
+use Rattle.state_tree.specs.Leaves.{index_of}
+use Rattle.forward_links.specs.declared.open_list.OpenList.{OpenList}
+use Rattle.entry_store.specs.Entries.{Entry as StoreEntry}
+use Rattle.lineage_store.specs.Entries.{entries_of}
+use Rattle.lineage_store.specs.declared.growing.NewVersion.{NewVersion}
+use Rattle.lineage_index.specs.Growth.{Grows, Entry, entry_of, held}
+use Rattle.lineage_index.specs.Heads.{KeyStates, AreHeads, newest_at}
+
+-- The states of the keys of a history, with the uses of these rows behind it.
+abbrev pub using : List Row → List Row → KeyStates
+using rows new = record { keys = keys_of rows; entry = entry_of rows; list = held rows new; index = newest_at rows }
+
+pub record AreUsing (rows new : List Row) (n : ℕ) (tree : List Leaf) (lists : List OpenList) (newest : List ℕ) : Type 0 where
+  pub grows : Grows rows new n
+  pub heads : AreHeads tree lists newest (using rows new)
+
+-- The entries are those of the first rows of a history that ends with this block, which are all rows before
+-- the block and some of its own; this row comes next.
+pub record IsNextRow (rows new done : List Row) (row : Row) (entries : List StoreEntry) : Type 0 where
+  pub after : List Row
+  pub first : new ≡ done ++ row ∷ after
+  pub entries_are : entries ≡ entries_of (rows ++ new) (rows ++ done)
+
+-- A dependency with the digest in the entry of its key.
+abbrev pub dep_with : (List ℕ → Entry) → Dep → BodyDep
+dep_with entry dep = record { key = dep.key; block = dep.block; digest = (entry dep.key).newest }
+
+-- The list of a key, where the key is among these; else none.
+abbrev pub list_if_among : List (List ℕ) → (List ℕ → List Dep) → List ℕ → List Dep
+list_if_among keys list key = if is_among keys key then list key else []
+
+-- The body of a row, where the digests of its dependencies are in the entries of their keys.
+abbrev pub body_with : (List ℕ → Entry) → Row → Body
+body_with entry row = record { value = row.value; deps = map (dep_with entry) row.deps }
+
+-- The digest of the header of the newest version of a key, in its leaf; zeros where it has none.
+abbrev pub newest_of_leaf : List Leaf → Option ℕ → Digest
+newest_of_leaf tree None = record { 0 = replicate 32 0 }
+newest_of_leaf tree (Some index) = (slice_index_or tree index (sentinel [])).newest
+
+abbrev pub newest_in : List Leaf → List ℕ → Digest
+newest_in tree key = newest_of_leaf tree (index_of tree key)
+
+-- A dependency with the digest in the leaf of its key.
+abbrev pub dep_in : List Leaf → Dep → BodyDep
+dep_in tree dep = record { key = dep.key; block = dep.block; digest = newest_in tree dep.key }
+
+-- The body of a row, where the digests of its dependencies are in the leaves of their keys.
+abbrev pub body_in : List Leaf → Row → Body
+body_in tree row = record { value = row.value; deps = map (dep_in tree) row.deps }
+
+-- A version of a row, which closes this list. Its body names the digests in the leaves.
+pub record IsVersionOf (tree : List Leaf) (list : List Dep) (row : Row) (version : NewVersion) : Type 0 where
+  pub key_is : version.key ≡ row.key
+  pub block_is : version.block ≡ row.block
+  pub tx_is : version.tx ≡ row.tx
+  pub closed_is : version.closed ≡ length list
+  pub closed_digest_is : version.closed_digest ≡ digest_of_uses list
+  pub body_is : rc_slice_items version.body ≡ concat (body_fields (body_in tree row))

@@ -1,0 +1,5 @@
+use Rattle.std.proofs.Common.{length}
+use Rattle.merkle_dag.proofs.lineage.Lineage.path.Goals as goal
+
+pub returns : goal.returns
+returns c = rw (← c.self.view_is) (c.path.ensures.path c.self.inside.kept.rows (length c.self.inside.kept.digests.items) c.self.invariant.index_is)
