@@ -10,8 +10,10 @@ use Rattle.chain_append.specs.declared.ending.AppendEnd.{AppendEnd}
 use Rattle.chain_append.specs.declared.ending.AppendEnd.TheVariants as appends
 use Rattle.chain_append.specs.declared.ending.AppendStop.{AppendStop}
 use Rattle.chain_append.specs.declared.ending.AppendStop.TheVariants as halts
+use Rattle.chain_words.specs.Words.{CanBeGiven, IsCount}
+use Rattle.chain_words.specs.declared.words.Generation.{Generation}
 use Rattle.chain_words.specs.declared.words.Command.{Command}
-use Rattle.chain_words.specs.declared.words.Command.TheVariants.{Fmt, Pack, Append}
+use Rattle.chain_words.specs.declared.words.Command.TheVariants.{Fmt, Pack, Load, Append}
 use Rattle.chain_lines.specs.Outcome.{status_of}
 use Rattle.chain_lines.specs.declared.outcome.Outcome.{Outcome}
 use Rattle.chain_lines.specs.declared.outcome.Ending.{Ending}
@@ -76,6 +78,14 @@ done_ends (Err stops.Unreadable) command done reads writes = absurd (reads refl)
 done_ends (Err stops.Untold) command done reads writes = tt
 done_ends (Err stops.DiskFault) command done reads writes = absurd (writes refl)
 done_ends (Err stops.Memory) command done reads writes = tt
+
+pub load_ends : {E : Type 0} (generation : Generation) (found : Result Outcome E) → IfOk found (λ outcome. outcome.ending ≡ endings.Done) → IfOk found (λ outcome. MayEnd (status_of outcome.ending) (Some (Load generation)))
+load_ends generation (Ok outcome) done = subst (λ (e : Ending). MayEnd (status_of e) (Some (Load generation))) (sym done) refl
+load_ends generation (Err error) done = tt
+
+-- a load that can be given is of as many blocks as may be made
+pub is_count : (command : Command) (generation : Generation) → command ≡ Load generation → CanBeGiven command → IsCount generation.blocks
+is_count command generation is given = let can : CanBeGiven (Load generation) = subst CanBeGiven is given in can.count
 
 pub of_given : (status : Status) (command given : Command) → command ≡ given → MayEnd status (Some given) → MayEnd status (Some command)
 of_given status command given is ends = subst (λ (c : Command). MayEnd status (Some c)) (sym is) ends

@@ -28,12 +28,12 @@ use Rattle.chain_exec.proofs.TheLaws.{one_compiler}
 use Rattle.chain_state.specs.Judging.{Taken, judged, added_by}
 use Rattle.chain_state.specs.declared.refusal.Refusal.{Refusal}
 use Rattle.scan_chain.specs.Folding.{Fold, taken_before, fold_after_frame, fold_step, fold_from, fold_input}
-use Rattle.chain_output.specs.Output.{Output, output_of, scan_output, usage_output, long_output, pack_output, gen_output, append_output, root_output, ask_output, prove_output, on_log, next_by, source_outcome, IsFmtOutput, Long, Source, IsVerifyOutput, LongProof, Verified, IsExposeOutput, IsOnLog, Wants, IsWanted, IsOneOutput}
+use Rattle.chain_output.specs.Output.{Output, output_of, scan_output, usage_output, long_output, pack_output, gen_output, load_output, append_output, root_output, ask_output, prove_output, on_log, next_by, source_outcome, IsFmtOutput, Long, Source, IsVerifyOutput, LongProof, Verified, IsExposeOutput, IsOnLog, Wants, IsWanted, IsOneOutput}
 use Rattle.chain_output.specs.Proofs.{verification_outcome}
 use Rattle.chain_output.proofs.Exposed.{some_expose, one_expose}
 use Rattle.chain_output.proofs.Meets.{some_on_log, one_on_log}
 use Rattle.chain_words.specs.declared.words.Command.{Command}
-use Rattle.chain_words.specs.declared.words.Command.TheVariants.{Scan, Fmt, Pack, Gen, Append, Root, Ask, Prove, Verify, Expose}
+use Rattle.chain_words.specs.declared.words.Command.TheVariants.{Scan, Fmt, Pack, Gen, Load, Append, Root, Ask, Prove, Verify, Expose}
 
 -- ---- the bytes of a frame
 
@@ -160,6 +160,7 @@ some_output (Some (Scan query)) input content = (scan_output compiled_in query (
 some_output (Some Fmt) input content = some_fmt input
 some_output (Some Pack) input content = (pack_output input, refl)
 some_output (Some (Gen generation)) input content = (gen_output generation input, refl)
+some_output (Some (Load generation)) input content = (load_output compiled_in generation input, refl)
 some_output (Some Append) input content = (on_log (λ blocks. append_output compiled_in blocks (fold_from block_in compiled_in (MAX_FRAMES + 1) blocks input)) input (standing (next_by block_in compiled_in) content), refl)
 some_output (Some (Root at)) input content = (on_log (root_output compiled_in at input) input (standing (next_by block_in compiled_in) content), refl)
 some_output (Some (Ask kind key at)) input content = (on_log (ask_output compiled_in kind key at input) input (standing (next_by block_in compiled_in) content), refl)
@@ -212,6 +213,7 @@ same_output read compile is_read compile_is (Some (Scan query)) input content fi
 same_output read compile is_read compile_is (Some Fmt) input content fits whole other is = only_fmt input other is
 same_output read compile is_read compile_is (Some Pack) input content fits whole other is = is
 same_output read compile is_read compile_is (Some (Gen generation)) input content fits whole other is = is
+same_output read compile is_read compile_is (Some (Load generation)) input content fits whole other is = is ∙ ap (λ (c : Compiler). load_output c generation input) compile_is
 same_output read compile is_read compile_is (Some Append) input content fits whole other is =
     is ∙ ap (λ (c : Compiler). on_log (λ blocks. append_output c blocks (fold_from read c (MAX_FRAMES + 1) blocks input)) input (standing (next_by read c) content)) compile_is
     ∙ ap (on_log (λ blocks. append_output compiled_in blocks (fold_from read compiled_in (MAX_FRAMES + 1) blocks input)) input) (standing_same (placement_in compiled_in) read block_in is_read decided content whole)

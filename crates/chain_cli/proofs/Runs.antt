@@ -27,7 +27,7 @@ use Rattle.chain_append.specs.declared.ending.AppendStop.{AppendStop}
 use Rattle.chain_gen.specs.Generator.{generated}
 use Rattle.chain_words.specs.declared.words.Generation.{Generation}
 use Rattle.chain_words.specs.declared.words.Command.{Command}
-use Rattle.chain_words.specs.declared.words.Command.TheVariants.{Scan, Fmt, Pack, Gen, Append, Verify}
+use Rattle.chain_words.specs.declared.words.Command.TheVariants.{Scan, Fmt, Pack, Gen, Load, Append, Verify}
 use Rattle.chain_lines.specs.Lines.{usage_line}
 use Rattle.chain_lines.specs.Outcome.{status_of, outcome_with}
 use Rattle.chain_lines.specs.declared.outcome.Outcome.{Outcome}
@@ -35,10 +35,10 @@ use Rattle.chain_lines.specs.declared.outcome.Ending.{Ending}
 use Rattle.chain_lines.specs.declared.outcome.Ending.TheVariants as endings
 use Rattle.chain_lines.specs.declared.status.Status.{Status}
 use Rattle.chain_output.specs.Blocks.{frame}
-use Rattle.chain_output.specs.Output.{Output, output_of, usage_output, scan_output, pack_output, gen_output, append_output, on_log, fold_ending, IsFmtOutput, Long, Source, IsVerifyOutput, LongProof, Verified}
+use Rattle.chain_output.specs.Output.{Output, output_of, usage_output, scan_output, pack_output, gen_output, load_outcome, load_output, append_output, on_log, fold_ending, IsFmtOutput, Long, Source, IsVerifyOutput, LongProof, Verified}
 use Rattle.chain_output.specs.Running.{came_to_end, leaves, appends_none, Meets, IsGiven, IsRun}
 use Rattle.chain_output.specs.Scanning.{GivesOutput, IsFmtOutcome, IsVerifyOutcome}
-use Rattle.chain_output.specs.Telling.{status_of_result, status_of_usage, append_stop, append_answer, TellsResult, TellsStart}
+use Rattle.chain_output.specs.Telling.{status_of_result, status_of_usage, append_stop, append_answer, Says, TellsResult, TellsStart}
 use Rattle.chain_output.specs.declared.stop.RunStop.{RunStop}
 use Rattle.chain_output.specs.declared.stop.RunStop.TheVariants as stops
 use Rattle.chain_cli.proofs.OneOutput.{some_output}
@@ -82,7 +82,7 @@ no_blocks [] none = refl
 no_blocks (block ∷ blocks) none = absurd (cc none)
 
 module _ {D : Type 0} (now : D → ℕ) (disk : D → ℕ → Option DiskState) (told : D → Option (List Tell)) where
-  -- ---- words that are no command, and `gen`
+  -- ---- words that are no command, `gen` and `load`
 
   usage_met : {T : Type 0} (old new : D) (result : Result T RunStop) (left : Option (List ℕ)) (input content : List ℕ) → Rests (disk old (now old)) (λ c. c ≡ content) → Stays now disk old new → left ≡ leaves left input
       → Telling next_in_chain now disk told old new (plain usage_line ∷ []) (is_ok result) → Meets next_in_chain now disk told old new (status_of_usage result) left left content (usage_output input)
@@ -113,6 +113,15 @@ module _ {D : Type 0} (now : D → ℕ) (disk : D → ℕ → Option DiskState) 
     gen_output generation input,
     refl,
     said_met now disk told old new content (outcome_with (map frame (generated generation.blocks generation.seed)) endings.Done) result left left input (rests_given false (disk old (now old)) content settled given) stays (record { lines = lines; ending = ending }) (left_same left input given_input),
+  )
+
+  pub load_run : {E : Type 0} (old new : D) (generation : Generation) (found : Result Outcome E) (result : Result Ending RunStop) (left : Option (List ℕ)) → IsSettled (disk old (now old)) → Stays now disk old new
+      → ((wanted : Outcome) → IfOk found (λ outcome. outcome ≡ wanted) → Says next_in_chain now disk told old new wanted result) → IfOk found (λ outcome. outcome ≡ load_outcome compiled_in generation)
+      → IsRun now disk told old new (status_of_result result) left left block_in compiled_in (Some (Load generation))
+  load_run old new generation found result left settled stays says is input content given_input given = (
+    load_output compiled_in generation input,
+    refl,
+    said_met now disk told old new content (load_outcome compiled_in generation) result left left input (rests_given false (disk old (now old)) content settled given) stays (says (load_outcome compiled_in generation) is) (left_same left input given_input),
   )
 
   -- ---- commands that read an input

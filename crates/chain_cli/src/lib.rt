@@ -3,6 +3,7 @@
 
 mod fmt;
 mod generating;
+mod loading;
 mod over_log;
 mod packing;
 pub mod run;

@@ -1,6 +1,6 @@
 //! The top call: everything that the program does.
 
-ghost use Rattle.std.specs.Prelude.{◌≡◌, ℕ, List, Option, Some, map, string_bytes, true, false, IsErrOf};
+ghost use Rattle.std.specs.Prelude.{◌≡◌, ℕ, List, Option, Some, map, string_bytes, true, false, IfSome, IsErrOf};
 ghost use Rattle.lc_base.specs.Faults.{HasCause};
 ghost use Rattle.lc_outside.specs.Disk.{Stays};
 ghost use Rattle.disk_model.specs.Disk.{IsSettled, Keeps, content_of};
@@ -12,7 +12,7 @@ ghost use Rattle.chain_exec.specs.Compiled.{Compiler, IsCompiler, compiled_in};
 ghost use Rattle.chain_words.specs.declared.words.Command.{Command as Commands};
 ghost use Rattle.recovery.specs.Node.{next_in_chain};
 ghost use Rattle.chain_promises.specs.Promises.{MayLeaveAny};
-ghost use Rattle.chain_words.specs.Words.{IsCommand, IsOneCommand};
+ghost use Rattle.chain_words.specs.Words.{CanBeGiven, IsCommand, IsOneCommand};
 ghost use Rattle.chain_output.specs.Output.{FormatsAgain, IsWanted, IsOneOutput, next_by, reads_input, uses_disk, changes_log, tells_as_it_goes};
 ghost use Rattle.chain_output.specs.Running.{IsRun, IsSilent, MayEnd, found_no_log};
 ghost use Rattle.chain_output.specs.Showing.{VerifiedAnswersHold, WrongAnswersAreTold};
@@ -20,11 +20,12 @@ ghost use Rattle.chain_output.specs.Telling.{status_of_result};
 
 use crate::fmt::fmt;
 use crate::generating::generate;
+use crate::loading::load_outcome;
 use crate::over_log::{append, ask, root};
 use crate::packing::pack;
 use crate::scan::scan;
 use chain_lines::{Ending, Status};
-use chain_output::{RunStop, tell_result, tell_usage};
+use chain_output::{RunStop, tell_made, tell_result, tell_usage};
 use chain_proofs::{expose, prove, verify};
 use chain_words::{Command, command_of};
 use disk_model::Disk;
@@ -38,6 +39,7 @@ fn run_command<I: Source, M: Disk + Wire>(
     source: &mut I,
     machine: &mut M,
 ) -> Result<Ending, RunStop>
+    requires given { CanBeGiven command.now }
     requires settled { IsSettled (M.disk machine.old (M.now machine.old)) }
     ensures run { IsRun M.now M.disk M.told machine.old machine.new (status_of_result result) (I.left source.old) (I.left source.new) block_in compiled_in (Some command.now) }
     ensures untouched { changes_log (Some command.now) ≡ false → Stays M.now M.disk machine.old machine.new }
@@ -57,6 +59,7 @@ fn run_command<I: Source, M: Disk + Wire>(
         Command::Fmt => tell_result(machine, fmt(alloc, source)),
         Command::Pack => tell_result(machine, pack(alloc, source)),
         Command::Gen(generation) => generate(alloc, machine, generation),
+        Command::Load(generation) => tell_made(machine, load_outcome(alloc, generation)),
         Command::Append => append(alloc, source, machine),
         Command::Root(at) => root(alloc, *at, machine),
         Command::Ask { kind, key, at } => ask(alloc, *kind, *key, *at, machine),
@@ -77,6 +80,7 @@ fn run_words<I: Source, M: Disk + Wire>(
     source: &mut I,
     machine: &mut M,
 ) -> Status
+    requires given { IfSome command CanBeGiven }
     requires settled { IsSettled (M.disk machine.old (M.now machine.old)) }
     ensures run { IsRun M.now M.disk M.told machine.old machine.new result (I.left source.old) (I.left source.new) block_in compiled_in command }
     ensures untouched { changes_log command ≡ false → Stays M.now M.disk machine.old machine.new }

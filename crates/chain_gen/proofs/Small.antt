@@ -22,7 +22,7 @@ use Rattle.lc_base.specs.declared.value.Value.TheVariants.{Int}
 use Rattle.chain_gen.specs.Draws.{number_below, number_of_key, key_drawn, repeated}
 use Rattle.chain_gen.specs.Transactions.{sender, contract, function, deploy, call_with, set_drawn, later_txs, txs_drawn}
 use Rattle.chain_gen.specs.Generator.{block_drawn, spelling, IsPlaced}
-use Rattle.chain_gen.specs.declared.limits.TheConstants.{FEW_KEYS, MANY_KEYS, ARGS, VALUES, DEP_COUNTS, SETS}
+use Rattle.chain_gen.specs.declared.limits.TheConstants.{FEW_KEYS, MANY_KEYS, ARGS, VALUES, DEP_COUNTS, SETS, MAX_TXS_MADE}
 use Rattle.chain_gen.proofs.Keys.{raw_key_is_key}
 
 -- ---- draws
@@ -179,3 +179,8 @@ is_next number state parent room rows few_rows =
 
 pub drawn_is_placed : (number state : ℕ) (parent : Digest) → IsPlaced number parent (block_drawn number parent state).0
 drawn_is_placed number state parent = record { next = is_next number state parent }
+
+-- it has few transactions
+pub drawn_are_few : (number state : ℕ) (parent : Digest) → length (block_drawn number parent state).0.txs ≤ MAX_TXS_MADE
+unfolding block_drawn
+drawn_are_few number state parent = let small = drawn_are_small number state in small.few

@@ -1,8 +1,9 @@
 //! Blocks, one after another.
 
-ghost use Rattle.std.specs.Prelude.{◌≡◌, ℕ, ◌<◌, length, IfOk, IfSome};
+ghost use Rattle.std.specs.Prelude.{◌≡◌, ℕ, ◌<◌, ◌≤◌, length, IfOk, IfSome};
 ghost use Rattle.block_codec.specs.Spelling.{Spells};
 ghost use Rattle.chain_gen.specs.Draws.{number_below, key_drawn};
+ghost use Rattle.chain_gen.specs.declared.limits.TheConstants.{MAX_TXS_MADE};
 ghost use Rattle.chain_gen.specs.Generator.{block_drawn, generated, made, none_made, next_block, progress, spelling, standing_at, GoesOn, IsPlaced};
 
 use crate::draws::Draws;
@@ -22,6 +23,7 @@ pub struct Gen {
 
 impl Model for Gen {
     ghost use Rattle.std.specs.Prelude.{◌≤◌};
+    ghost use Rattle.chain_gen.specs.declared.limits.TheConstants.{MAX_TXS_MADE};
     ghost use Rattle.chain_gen.specs.Generator.{Progress};
 
     ghost Value = { Progress };
@@ -116,10 +118,11 @@ impl Gen {
 
     /// The bytes of the next block, whose parent is the argument, and the blocks after it; `None`
     /// once all were given.
-    #[tactic(auto, using(crate::proofs::Small::drawn_is_placed))]
+    #[tactic(auto, using(crate::proofs::Small::drawn_is_placed, crate::proofs::Small::drawn_are_few))]
     pub fn next(self, alloc: Global, parent: Digest) -> Result<Option<(Bytes, Gen)>, Memory>
         ensures next { IfOk result (λ next. next ≡ next_block self parent) }
         ensures lawful { IfOk result (λ next. IfSome next (λ next. Spells next.0 (block_drawn self.given parent self.state).0)) }
+        ensures few { length (block_drawn self.given parent self.state).0.txs ≤ MAX_TXS_MADE }
         ensures placed { IsPlaced self.given parent (block_drawn self.given parent self.state).0 }
         ensures goes_on { IfOk result (λ next. (seed : ℕ) → self ≡ progress seed self.count self.given → parent ≡ (made seed self.given).parent → GoesOn seed self next) }
     {

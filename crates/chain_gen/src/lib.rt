@@ -7,3 +7,4 @@ mod limits;
 mod txs;
 
 pub use generator::{Gen, generated};
+pub use limits::MAX_TXS_MADE;

@@ -29,3 +29,6 @@ pub const SETS: u32 = 4;
 
 /// The budget of each call, in steps.
 pub const BUDGET: u32 = 10_000;
+
+/// The greatest number of transactions of a block: a call, and the Sets.
+pub const MAX_TXS_MADE: u32 = SETS + 1;

@@ -16,6 +16,7 @@ use Rattle.chain_state.specs.declared.refusal.Refusal.{Refusal}
 use Rattle.chain_state.specs.declared.refusal.Refusal.TheVariants as refusals
 use Rattle.scan_chain.specs.declared.cause.Cause.{Cause}
 use Rattle.scan_chain.specs.declared.cause.Cause.TheVariants as causes
+use Rattle.chain_load.specs.declared.loading.Load.{Load}
 
 -- A line ends with the byte 0x0A.
 abbrev pub line : List ℕ → List ℕ
@@ -52,6 +53,13 @@ head_line head = line (codes "beyond head " ++ decimal head)
 -- The root at a block.
 abbrev pub root_line : ℕ → List ℕ → List ℕ
 root_line number root = line (codes "root " ++ decimal number ++ codes " " ++ encode_lower root)
+
+-- What a load tells, after a word for each: the blocks, the rows and the root at the last block; the
+-- look-ups, the entries that all of them looked at, and the most that one did.
+abbrev pub load_line : Load → List ℕ
+load_line load =
+    line (codes "blocks " ++ decimal load.blocks ++ codes " rows " ++ decimal load.rows ++ codes " root " ++ encode_lower load.root.0
+    ++ codes " lookups " ++ decimal load.lookups ++ codes " entries " ++ decimal load.entries ++ codes " most " ++ decimal load.most)
 
 -- Why a chain refuses bytes.
 abbrev pub refusal_text : Refusal → List ℕ

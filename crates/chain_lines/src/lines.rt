@@ -2,9 +2,10 @@
 
 ghost use Rattle.std.specs.Prelude.{◌≡◌, [], ◌∷◌, ◌++◌, codes, decimal, map, string_bytes, IfOk};
 ghost use Rattle.std.specs.Fmt.{signed_decimal};
-ghost use Rattle.chain_lines.specs.Lines.{usage_line, empty_line, head_line, refusal_text, cause_text, refused_line, value_text, dep_line, answer_lines, bad_input_line, not_a_log_line, damaged_line, root_line, line};
+ghost use Rattle.chain_lines.specs.Lines.{usage_line, empty_line, head_line, refusal_text, cause_text, refused_line, value_text, dep_line, answer_lines, bad_input_line, not_a_log_line, damaged_line, root_line, load_line, line};
 ghost use Rattle.hex.specs.Hex.{encode_lower};
 
+use chain_load::Load;
 use chain_state::Refusal;
 use lc_base::{Answer, Bytes, Dep, DepList, Digest, Memory, Seq, Value};
 use scan_chain::Cause;
@@ -56,6 +57,36 @@ pub fn root_line(alloc: Global, number: u32, root: &Digest) -> Result<Bytes, Mem
 {
     let head = format!(in alloc; "root {number} ")?;
     let text = digest_text(alloc, head.as_str(), root)?;
+    line(alloc, text.as_str())
+}
+
+/// How many blocks and rows a load has.
+fn load_head(alloc: Global, load: &Load) -> Result<String, AllocError>
+    ensures { IfOk result (λ text. string_bytes text ≡ codes "blocks " ++ decimal load.now.blocks ++ codes " rows " ++ decimal load.now.rows ++ codes " root ") }
+{
+    let blocks = load.blocks;
+    let rows = load.rows;
+    format!(in alloc; "blocks {blocks} rows {rows} root ")
+}
+
+/// What a load counted, after a word for each number.
+fn counts_text(alloc: Global, load: &Load) -> Result<String, AllocError>
+    ensures { IfOk result (λ text. string_bytes text ≡ codes " lookups " ++ decimal load.now.lookups ++ codes " entries " ++ decimal load.now.entries ++ codes " most " ++ decimal load.now.most) }
+{
+    let lookups = load.lookups;
+    let entries = load.entries;
+    let most = load.most;
+    format!(in alloc; " lookups {lookups} entries {entries} most {most}")
+}
+
+/// What a load tells.
+pub fn load_line(alloc: Global, load: &Load) -> Result<Bytes, Memory>
+    ensures { IfOk result (λ bytes. bytes ≡ load_line load.now) }
+{
+    let head = load_head(alloc, load)?;
+    let mut text = digest_text(alloc, head.as_str(), &load.root)?;
+    let counts = counts_text(alloc, load)?;
+    text.push_str(counts.as_str())?;
     line(alloc, text.as_str())
 }
 

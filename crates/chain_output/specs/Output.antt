@@ -25,6 +25,7 @@ use Rattle.chain_promises.specs.Promises.{Line, plain, Change, NoChange, Appends
 use Rattle.chain_append.specs.Appending.{fold_lines}
 use Rattle.chain_pack.specs.Draft.{packed}
 use Rattle.chain_gen.specs.Generator.{generated}
+use Rattle.chain_load.specs.Loads.{load_of}
 use Rattle.proof_codec.specs.declared.proof.Proof.{Proof}
 use Rattle.proof_checks.specs.Making.{made_proof}
 use Rattle.proof_checks.specs.ProofTexts.{proof_texts}
@@ -34,8 +35,8 @@ use Rattle.proof_commands.specs.Verifying.{IsVerification}
 use Rattle.proof_commands.specs.declared.verification.Verification.{Verification}
 use Rattle.chain_words.specs.declared.words.Generation.{Generation}
 use Rattle.chain_words.specs.declared.words.Command.{Command}
-use Rattle.chain_words.specs.declared.words.Command.TheVariants.{Scan, Fmt, Pack, Gen, Append, Root, Ask, Prove, Verify, Expose}
-use Rattle.chain_lines.specs.Lines.{usage_line, empty_line, head_line, root_line, refused_line, answer_lines, syntax_cause, check_cause, not_a_log_line, damaged_line}
+use Rattle.chain_words.specs.declared.words.Command.TheVariants.{Scan, Fmt, Pack, Gen, Load, Append, Root, Ask, Prove, Verify, Expose}
+use Rattle.chain_lines.specs.Lines.{usage_line, empty_line, head_line, root_line, load_line, refused_line, answer_lines, syntax_cause, check_cause, not_a_log_line, damaged_line}
 use Rattle.chain_lines.specs.Outcome.{status_of, outcome_with, bad_input}
 use Rattle.chain_lines.specs.declared.whole.TheConstants.{MAX_WHOLE_INPUT_BYTES}
 use Rattle.chain_lines.specs.declared.outcome.Outcome.{Outcome}
@@ -154,6 +155,14 @@ abbrev pub gen_output : Generation → List ℕ → Output
 gen_output generation input =
     record { lines = map plain (map frame (generated generation.blocks generation.seed)); status = statuses.Done; left = input; change = NoChange }
 
+-- What `load` tells: one line of the load of these blocks.
+abbrev pub load_outcome : Compiler → Generation → Outcome
+load_outcome compile generation = outcome_with (load_line (load_of compile generation.blocks generation.seed) ∷ []) endings.Done
+
+-- The same as an output, which leaves the input.
+abbrev pub load_output : Compiler → Generation → List ℕ → Output
+load_output compile generation input = output_of (load_outcome compile generation) input
+
 -- ---- the log
 
 -- The next block of a chain, by a decoder and a compiler.
@@ -258,6 +267,7 @@ Wants read compile (Some (Scan query)) input content output = output ≡ scan_ou
 Wants read compile (Some Fmt) input content output = IsFmtOutput input output
 Wants read compile (Some Pack) input content output = output ≡ pack_output input
 Wants read compile (Some (Gen generation)) input content output = output ≡ gen_output generation input
+Wants read compile (Some (Load generation)) input content output = output ≡ load_output compile generation input
 Wants read compile (Some Append) input content output =
     output ≡ on_log (λ blocks. append_output compile blocks (fold_from read compile (MAX_FRAMES + 1) blocks input)) input (standing (next_by read compile) content)
 Wants read compile (Some (Root at)) input content output =
@@ -290,6 +300,7 @@ reads_input (Some (Scan query)) = true
 reads_input (Some Fmt) = true
 reads_input (Some Pack) = true
 reads_input (Some (Gen generation)) = false
+reads_input (Some (Load generation)) = false
 reads_input (Some Append) = true
 reads_input (Some (Root at)) = false
 reads_input (Some (Ask kind key at)) = false
@@ -304,6 +315,7 @@ uses_disk (Some (Scan query)) = false
 uses_disk (Some Fmt) = false
 uses_disk (Some Pack) = false
 uses_disk (Some (Gen generation)) = false
+uses_disk (Some (Load generation)) = false
 uses_disk (Some Append) = true
 uses_disk (Some (Root at)) = true
 uses_disk (Some (Ask kind key at)) = true
@@ -318,6 +330,7 @@ changes_log (Some (Scan query)) = false
 changes_log (Some Fmt) = false
 changes_log (Some Pack) = false
 changes_log (Some (Gen generation)) = false
+changes_log (Some (Load generation)) = false
 changes_log (Some Append) = true
 changes_log (Some (Root at)) = false
 changes_log (Some (Ask kind key at)) = false
@@ -332,6 +345,7 @@ takes_frames (Some (Scan query)) = true
 takes_frames (Some Fmt) = false
 takes_frames (Some Pack) = false
 takes_frames (Some (Gen generation)) = false
+takes_frames (Some (Load generation)) = false
 takes_frames (Some Append) = true
 takes_frames (Some (Root at)) = false
 takes_frames (Some (Ask kind key at)) = false
@@ -346,6 +360,7 @@ asks_for_block (Some (Scan query)) = true
 asks_for_block (Some Fmt) = false
 asks_for_block (Some Pack) = false
 asks_for_block (Some (Gen generation)) = false
+asks_for_block (Some (Load generation)) = false
 asks_for_block (Some Append) = false
 asks_for_block (Some (Root at)) = true
 asks_for_block (Some (Ask kind key at)) = true
@@ -360,6 +375,7 @@ checks_proof (Some (Scan query)) = false
 checks_proof (Some Fmt) = false
 checks_proof (Some Pack) = false
 checks_proof (Some (Gen generation)) = false
+checks_proof (Some (Load generation)) = false
 checks_proof (Some Append) = false
 checks_proof (Some (Root at)) = false
 checks_proof (Some (Ask kind key at)) = false
@@ -374,6 +390,7 @@ reads_whole (Some (Scan query)) = false
 reads_whole (Some Fmt) = true
 reads_whole (Some Pack) = true
 reads_whole (Some (Gen generation)) = false
+reads_whole (Some (Load generation)) = false
 reads_whole (Some Append) = false
 reads_whole (Some (Root at)) = false
 reads_whole (Some (Ask kind key at)) = false
@@ -388,6 +405,7 @@ tells_as_it_goes (Some (Scan query)) = false
 tells_as_it_goes (Some Fmt) = false
 tells_as_it_goes (Some Pack) = false
 tells_as_it_goes (Some (Gen generation)) = true
+tells_as_it_goes (Some (Load generation)) = false
 tells_as_it_goes (Some Append) = true
 tells_as_it_goes (Some (Root at)) = false
 tells_as_it_goes (Some (Ask kind key at)) = false

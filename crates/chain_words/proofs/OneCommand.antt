@@ -1,6 +1,6 @@
 -- Words are one command, or none.
 use Rattle.std.proofs.Common.{◌≡◌, ℕ, ◌<◌, ◌≤◌, ◌^◌, List, [], ◌∷◌, length, Option, Some, None, refl, sym, ap, ◌∙◌, arith}
-use Rattle.std.specs.Prelude.{decimal, codes}
+use Rattle.std.specs.Prelude.{decimal, codes, IfSome}
 use Rattle.std.proofs.lemmas.Fmt.{decimal_injective}
 use Rattle.hex.specs.Hex.{decode_of, encode_lower}
 use Rattle.hex.proofs.HexLemmas.{decode_of-encode_lower}
@@ -10,8 +10,8 @@ use Rattle.lc_base.specs.declared.answer.Query.{Query}
 use Rattle.lc_base.specs.declared.digest.Digest.{Digest}
 use Rattle.chain_words.specs.declared.words.Generation.{Generation}
 use Rattle.chain_words.specs.declared.words.Command.{Command}
-use Rattle.chain_words.specs.declared.words.Command.TheVariants.{Scan, Fmt, Pack, Gen, Append, Root, Ask, Prove, Verify, Expose}
-use Rattle.chain_words.specs.Words.{kind_word, query_words, scan_words, gen_words, ask_words, root_words, prove_words, verify_words, expose_words, command_words, IsQuery, IsGeneration, IsRootGiven, Fits, CanBeGiven, IsCommand, IsOneCommand}
+use Rattle.chain_words.specs.declared.words.Command.TheVariants.{Scan, Fmt, Pack, Gen, Load, Append, Root, Ask, Prove, Verify, Expose}
+use Rattle.chain_words.specs.Words.{kind_word, query_words, scan_words, generation_words, ask_words, root_words, prove_words, verify_words, expose_words, command_words, IsQuery, IsGeneration, IsRootGiven, Fits, CanBeGiven, IsCommand, IsOneCommand}
 
 one_number : (m n : ℕ) → m < 2 ^ 32 → n < 2 ^ 32 → decimal m ≡ decimal n → m ≡ n
 one_number m n small fits same = decimal_injective m n (omega (arith, small)) (omega (arith, fits)) same
@@ -42,8 +42,8 @@ one_query a b is_a is_b same =
     ∙ ap (λ (k : List ℕ). record { kind = b.kind; key = k; at = a.at }) keys
     ∙ ap (λ (n : ℕ). record { kind = b.kind; key = b.key; at = n }) at_is
 
-one_generation : (a b : Generation) → IsGeneration a → IsGeneration b → gen_words a ≡ gen_words b → a ≡ b
-one_generation a b is_a is_b same =
+one_generation : (word : List ℕ) (a b : Generation) → IsGeneration a → IsGeneration b → generation_words word a ≡ generation_words word b → a ≡ b
+one_generation word a b is_a is_b same =
     let counts : decimal a.blocks ≡ decimal b.blocks = cc in
     let seeds : decimal a.seed ≡ decimal b.seed = cc in
     let blocks_are = one_number a.blocks b.blocks (omega (arith, is_a.count.1)) (omega (arith, is_b.count.1)) counts in
@@ -51,11 +51,22 @@ one_generation a b is_a is_b same =
     ap (λ (n : ℕ). record { blocks = n; seed = a.seed }) blocks_are ∙ ap (λ (n : ℕ). record { blocks = b.blocks; seed = n }) seed_is
 
 -- the words of no other command are those of a question over the log
-no_gen : (kind : Kind) (key : List ℕ) (at : Option ℕ) (generation : Generation) → ask_words kind key at ≡ gen_words generation → ⊥
-no_gen kind key None generation same = absurd cc
-no_gen Hist key (Some at) generation same = let words : codes "hist" ≡ codes "gen" = cc in let first : 104 ≡ 103 = ap first_byte words in absurd (omega (arith, first))
-no_gen Back key (Some at) generation same = let words : codes "back" ≡ codes "gen" = cc in let first : 98 ≡ 103 = ap first_byte words in absurd (omega (arith, first))
-no_gen Fwd key (Some at) generation same = let words : codes "fwd" ≡ codes "gen" = cc in let first : 102 ≡ 103 = ap first_byte words in absurd (omega (arith, first))
+no_made : (kind : Kind) (key : List ℕ) (at : Option ℕ) (word : List ℕ) (generation : Generation) → ask_words kind key at ≡ generation_words word generation → kind_word kind ≡ word
+no_made kind key None word generation same = absurd cc
+no_made kind key (Some at) word generation same = cc
+
+no_gen : (kind : Kind) → kind_word kind ≡ codes "gen" → ⊥
+no_gen Hist same = let first : 104 ≡ 103 = ap first_byte same in absurd (omega (arith, first))
+no_gen Back same = let first : 98 ≡ 103 = ap first_byte same in absurd (omega (arith, first))
+no_gen Fwd same = let first : 102 ≡ 103 = ap first_byte same in absurd (omega (arith, first))
+
+no_load : (kind : Kind) → kind_word kind ≡ codes "load" → ⊥
+no_load Hist same = let first : 104 ≡ 108 = ap first_byte same in absurd (omega (arith, first))
+no_load Back same = let first : 98 ≡ 108 = ap first_byte same in absurd (omega (arith, first))
+no_load Fwd same = let first : 102 ≡ 108 = ap first_byte same in absurd (omega (arith, first))
+
+gen_load : (a b : Generation) → generation_words (codes "gen") a ≡ generation_words (codes "load") b → ⊥
+gen_load a b same = let words : codes "gen" ≡ codes "load" = cc in let first : 103 ≡ 108 = ap first_byte words in absurd (omega (arith, first))
 
 no_scan : (kind : Kind) (key : List ℕ) (at : Option ℕ) (query : Query) → ask_words kind key at ≡ scan_words query → ⊥
 no_scan kind key None query same = absurd cc
@@ -78,9 +89,9 @@ root_scan : (at : Option ℕ) (query : Query) → root_words at ≡ scan_words q
 root_scan None query same = absurd cc
 root_scan (Some n) query same = absurd cc
 
-root_gen : (at : Option ℕ) (generation : Generation) → root_words at ≡ gen_words generation → ⊥
-root_gen None generation same = absurd cc
-root_gen (Some n) generation same = absurd cc
+root_made : (at : Option ℕ) (word : List ℕ) (generation : Generation) → root_words at ≡ generation_words word generation → ⊥
+root_made None word generation same = absurd cc
+root_made (Some n) word generation same = absurd cc
 
 root_alone : (at : Option ℕ) (word : List ℕ) → root_words at ≡ word ∷ [] → 114 ≡ first_byte word
 root_alone None word same = let words : codes "root" ≡ word = cc in ap first_byte words
@@ -156,6 +167,7 @@ one_given (Scan a) (Scan b) is_a is_b same = ap Scan (one_query a b is_a is_b cc
 one_given (Scan a) Fmt is_a is_b same = absurd cc
 one_given (Scan a) Pack is_a is_b same = absurd cc
 one_given (Scan a) (Gen b) is_a is_b same = absurd cc
+one_given (Scan a) (Load b) is_a is_b same = absurd cc
 one_given (Scan a) Append is_a is_b same = absurd cc
 one_given (Scan a) (Root b) is_a is_b same = absurd (root_scan b a (sym same))
 one_given (Scan a) (Ask bk by bt) is_a is_b same = absurd (no_scan bk by bt a (sym same))
@@ -166,6 +178,7 @@ one_given Fmt (Scan b) is_a is_b same = absurd cc
 one_given Fmt Fmt is_a is_b same = refl
 one_given Fmt Pack is_a is_b same = absurd cc
 one_given Fmt (Gen b) is_a is_b same = absurd cc
+one_given Fmt (Load b) is_a is_b same = absurd cc
 one_given Fmt Append is_a is_b same = absurd cc
 one_given Fmt (Root b) is_a is_b same = let first : 114 ≡ 102 = root_alone b (codes "fmt") (sym same) in absurd (omega (arith, first))
 one_given Fmt (Ask bk by bt) is_a is_b same = absurd (no_word bk by bt _ (sym same))
@@ -176,6 +189,7 @@ one_given Pack (Scan b) is_a is_b same = absurd cc
 one_given Pack Fmt is_a is_b same = absurd cc
 one_given Pack Pack is_a is_b same = refl
 one_given Pack (Gen b) is_a is_b same = absurd cc
+one_given Pack (Load b) is_a is_b same = absurd cc
 one_given Pack Append is_a is_b same = absurd cc
 one_given Pack (Root b) is_a is_b same = let first : 114 ≡ 112 = root_alone b (codes "pack") (sym same) in absurd (omega (arith, first))
 one_given Pack (Ask bk by bt) is_a is_b same = absurd (no_word bk by bt _ (sym same))
@@ -185,17 +199,30 @@ one_given Pack (Expose br b bn) is_a is_b same = absurd cc
 one_given (Gen a) (Scan b) is_a is_b same = absurd cc
 one_given (Gen a) Fmt is_a is_b same = absurd cc
 one_given (Gen a) Pack is_a is_b same = absurd cc
-one_given (Gen a) (Gen b) is_a is_b same = ap Gen (one_generation a b is_a is_b same)
+one_given (Gen a) (Gen b) is_a is_b same = ap Gen (one_generation _ a b is_a is_b same)
+one_given (Gen a) (Load b) is_a is_b same = absurd (gen_load a b same)
 one_given (Gen a) Append is_a is_b same = absurd cc
-one_given (Gen a) (Root b) is_a is_b same = absurd (root_gen b a (sym same))
-one_given (Gen a) (Ask bk by bt) is_a is_b same = absurd (no_gen bk by bt a (sym same))
+one_given (Gen a) (Root b) is_a is_b same = absurd (root_made b _ a (sym same))
+one_given (Gen a) (Ask bk by bt) is_a is_b same = absurd (no_gen bk (no_made bk by bt _ a (sym same)))
 one_given (Gen a) (Prove b br) is_a is_b same = absurd cc
 one_given (Gen a) (Verify br b) is_a is_b same = absurd cc
 one_given (Gen a) (Expose br b bn) is_a is_b same = absurd cc
+one_given (Load a) (Scan b) is_a is_b same = absurd cc
+one_given (Load a) Fmt is_a is_b same = absurd cc
+one_given (Load a) Pack is_a is_b same = absurd cc
+one_given (Load a) (Gen b) is_a is_b same = absurd (gen_load b a (sym same))
+one_given (Load a) (Load b) is_a is_b same = ap Load (one_generation _ a b is_a is_b same)
+one_given (Load a) Append is_a is_b same = absurd cc
+one_given (Load a) (Root b) is_a is_b same = absurd (root_made b _ a (sym same))
+one_given (Load a) (Ask bk by bt) is_a is_b same = absurd (no_load bk (no_made bk by bt _ a (sym same)))
+one_given (Load a) (Prove b br) is_a is_b same = absurd cc
+one_given (Load a) (Verify br b) is_a is_b same = absurd cc
+one_given (Load a) (Expose br b bn) is_a is_b same = absurd cc
 one_given Append (Scan b) is_a is_b same = absurd cc
 one_given Append Fmt is_a is_b same = absurd cc
 one_given Append Pack is_a is_b same = absurd cc
 one_given Append (Gen b) is_a is_b same = absurd cc
+one_given Append (Load b) is_a is_b same = absurd cc
 one_given Append Append is_a is_b same = refl
 one_given Append (Root b) is_a is_b same = let first : 114 ≡ 97 = root_alone b (codes "append") (sym same) in absurd (omega (arith, first))
 one_given Append (Ask bk by bt) is_a is_b same = absurd (no_word bk by bt _ (sym same))
@@ -205,7 +232,8 @@ one_given Append (Expose br b bn) is_a is_b same = absurd cc
 one_given (Root a) (Scan b) is_a is_b same = absurd (root_scan a b same)
 one_given (Root a) Fmt is_a is_b same = let first : 114 ≡ 102 = root_alone a (codes "fmt") same in absurd (omega (arith, first))
 one_given (Root a) Pack is_a is_b same = let first : 114 ≡ 112 = root_alone a (codes "pack") same in absurd (omega (arith, first))
-one_given (Root a) (Gen b) is_a is_b same = absurd (root_gen a b same)
+one_given (Root a) (Gen b) is_a is_b same = absurd (root_made a _ b same)
+one_given (Root a) (Load b) is_a is_b same = absurd (root_made a _ b same)
 one_given (Root a) Append is_a is_b same = let first : 114 ≡ 97 = root_alone a (codes "append") same in absurd (omega (arith, first))
 one_given (Root a) (Root b) is_a is_b same = ap Root (one_root a b is_a is_b same)
 one_given (Root a) (Ask bk by bt) is_a is_b same = absurd (no_root bk by bt a (sym same))
@@ -215,7 +243,8 @@ one_given (Root a) (Expose br b bn) is_a is_b same = absurd (too_few (root_words
 one_given (Ask ak ay at) (Scan b) is_a is_b same = absurd (no_scan ak ay at b same)
 one_given (Ask ak ay at) Fmt is_a is_b same = absurd (no_word ak ay at _ same)
 one_given (Ask ak ay at) Pack is_a is_b same = absurd (no_word ak ay at _ same)
-one_given (Ask ak ay at) (Gen b) is_a is_b same = absurd (no_gen ak ay at b same)
+one_given (Ask ak ay at) (Gen b) is_a is_b same = absurd (no_gen ak (no_made ak ay at _ b same))
+one_given (Ask ak ay at) (Load b) is_a is_b same = absurd (no_load ak (no_made ak ay at _ b same))
 one_given (Ask ak ay at) Append is_a is_b same = absurd (no_word ak ay at _ same)
 one_given (Ask ak ay at) (Root b) is_a is_b same = absurd (no_root ak ay at b same)
 one_given (Ask ak ay at) (Ask bk by bt) is_a is_b same = one_ask ak bk ay by at bt is_a.1 is_b.1 same
@@ -226,6 +255,7 @@ one_given (Prove a ar) (Scan b) is_a is_b same = absurd cc
 one_given (Prove a ar) Fmt is_a is_b same = absurd cc
 one_given (Prove a ar) Pack is_a is_b same = absurd cc
 one_given (Prove a ar) (Gen b) is_a is_b same = absurd cc
+one_given (Prove a ar) (Load b) is_a is_b same = absurd cc
 one_given (Prove a ar) Append is_a is_b same = absurd cc
 one_given (Prove a ar) (Root b) is_a is_b same = absurd (too_few (root_words b) (prove_words a ar) (few_root b) (omega arith) (sym same))
 one_given (Prove a ar) (Ask bk by bt) is_a is_b same = absurd (too_few (ask_words bk by bt) (prove_words a ar) (few_asked bk by bt) (omega arith) (sym same))
@@ -236,6 +266,7 @@ one_given (Verify ar a) (Scan b) is_a is_b same = absurd cc
 one_given (Verify ar a) Fmt is_a is_b same = absurd cc
 one_given (Verify ar a) Pack is_a is_b same = absurd cc
 one_given (Verify ar a) (Gen b) is_a is_b same = absurd cc
+one_given (Verify ar a) (Load b) is_a is_b same = absurd cc
 one_given (Verify ar a) Append is_a is_b same = absurd cc
 one_given (Verify ar a) (Root b) is_a is_b same = absurd (too_few (root_words b) (verify_words ar a) (few_root b) (omega arith) (sym same))
 one_given (Verify ar a) (Ask bk by bt) is_a is_b same = absurd (too_few (ask_words bk by bt) (verify_words ar a) (few_asked bk by bt) (omega arith) (sym same))
@@ -246,6 +277,7 @@ one_given (Expose ar a an) (Scan b) is_a is_b same = absurd cc
 one_given (Expose ar a an) Fmt is_a is_b same = absurd cc
 one_given (Expose ar a an) Pack is_a is_b same = absurd cc
 one_given (Expose ar a an) (Gen b) is_a is_b same = absurd cc
+one_given (Expose ar a an) (Load b) is_a is_b same = absurd cc
 one_given (Expose ar a an) Append is_a is_b same = absurd cc
 one_given (Expose ar a an) (Root b) is_a is_b same = absurd (too_few (root_words b) (expose_words ar a an) (few_root b) (omega arith) (sym same))
 one_given (Expose ar a an) (Ask bk by bt) is_a is_b same = absurd (too_few (ask_words bk by bt) (expose_words ar a an) (few_asked bk by bt) (omega arith) (sym same))
@@ -261,3 +293,7 @@ only_one words (Some a) (Some b) (can_a, is_a) (can_b, is_b) = ap Some (one_give
 
 pub one_command : (words : List (List ℕ)) (command : Option Command) → IsCommand words command → IsOneCommand words command
 one_command words command is = record { is_command = is; only = λ other is_other. only_one words command other is is_other }
+
+pub is_given : (words : List (List ℕ)) (command : Option Command) → IsCommand words command → IfSome command CanBeGiven
+is_given words None is = tt
+is_given words (Some command) is = is.0

@@ -9,7 +9,7 @@ use Rattle.lc_base.specs.declared.digest.Digest.{Digest}
 use Rattle.chain_words.specs.declared.words.TheConstants.{MAX_GENERATED_BLOCKS}
 use Rattle.chain_words.specs.declared.words.Generation.{Generation}
 use Rattle.chain_words.specs.declared.words.Command.{Command}
-use Rattle.chain_words.specs.declared.words.Command.TheVariants.{Scan, Fmt, Pack, Gen, Append, Root, Ask, Prove, Verify, Expose}
+use Rattle.chain_words.specs.declared.words.Command.TheVariants.{Scan, Fmt, Pack, Gen, Load, Append, Root, Ask, Prove, Verify, Expose}
 
 -- The word for what is asked.
 abbrev pub kind_word : Kind → List ℕ
@@ -30,9 +30,9 @@ pub record IsQuery (query : Query) : Type 0 where
   pub key_is_key : IsKey query.key
   pub at_fits : query.at < 2 ^ 32
 
--- The words of a generation: gen N SEED, both in decimal digits without a leading zero.
-abbrev pub gen_words : Generation → List (List ℕ)
-gen_words generation = codes "gen" ∷ decimal generation.blocks ∷ decimal generation.seed ∷ []
+-- The words of a generation: WORD N SEED, both numbers in decimal digits without a leading zero.
+abbrev pub generation_words : List ℕ → Generation → List (List ℕ)
+generation_words word generation = word ∷ decimal generation.blocks ∷ decimal generation.seed ∷ []
 
 -- As many blocks as may be made at once.
 abbrev pub IsCount : ℕ → Type 0
@@ -83,7 +83,8 @@ abbrev pub command_words : Command → List (List ℕ)
 command_words (Scan query) = scan_words query
 command_words Fmt = codes "fmt" ∷ []
 command_words Pack = codes "pack" ∷ []
-command_words (Gen generation) = gen_words generation
+command_words (Gen generation) = generation_words (codes "gen") generation
+command_words (Load generation) = generation_words (codes "load") generation
 command_words Append = codes "append" ∷ []
 command_words (Root at) = root_words at
 command_words (Ask kind key at) = ask_words kind key at
@@ -99,6 +100,7 @@ CanBeGiven (Scan query) = IsQuery query
 CanBeGiven Fmt = Unit {0}
 CanBeGiven Pack = Unit {0}
 CanBeGiven (Gen generation) = IsGeneration generation
+CanBeGiven (Load generation) = IsGeneration generation
 CanBeGiven Append = Unit {0}
 CanBeGiven (Root at) = Fits at
 CanBeGiven (Ask kind key at) = IsKey key × Fits at
@@ -128,10 +130,10 @@ abbrev pub IsScan : List (List ℕ) → Option Query → Type 0
 IsScan words (Some query) = IsQuery query × (words ≡ scan_words query)
 IsScan words None = (query : Query) → IsQuery query → words ≡ scan_words query → ⊥
 
--- The blocks of a generation, where the words are those of one.
-abbrev pub IsGen : List (List ℕ) → Option Generation → Type 0
-IsGen words (Some generation) = IsGeneration generation × (words ≡ gen_words generation)
-IsGen words None = (generation : Generation) → IsGeneration generation → words ≡ gen_words generation → ⊥
+-- The blocks of a generation, where the words are those of one with this word first.
+abbrev pub IsGenerationOf : List ℕ → List (List ℕ) → Option Generation → Type 0
+IsGenerationOf word words (Some generation) = IsGeneration generation × (words ≡ generation_words word generation)
+IsGenerationOf word words None = (generation : Generation) → IsGeneration generation → words ≡ generation_words word generation → ⊥
 
 -- The command of a question over the log, where the words are those of one.
 abbrev pub IsAsk : List (List ℕ) → Option Command → Type 0

@@ -1,17 +1,17 @@
 //! The words of commands.
 
-ghost use Rattle.std.specs.Prelude.{◌≡◌, ◌↔◌, IsTrue, map, string_bytes, codes};
-ghost use Rattle.chain_words.specs.Words.{IsCommand, IsOneCommand, IsGen, IsAlone};
+ghost use Rattle.std.specs.Prelude.{map, string_bytes, IfSome};
+ghost use Rattle.chain_words.specs.Words.{CanBeGiven, IsCommand, IsOneCommand, IsGenerationOf, IsAlone};
 
 use crate::proving::{expose_of, prove_of, verify_of};
 use crate::questions::{ask_of, root_of, scan_of};
 use crate::single::{count_of, is_text, number_of};
 use lc_base::{Digest, Key, Kind, Query};
 
-/// The greatest number of blocks that `gen` makes.
+/// The greatest number of blocks that `gen` and `load` make.
 pub const MAX_GENERATED_BLOCKS: u32 = 100_000;
 
-/// Which blocks `gen` makes.
+/// Which blocks `gen` and `load` make.
 #[derive(Clone, Copy, Debug, PartialEq, Eq)]
 pub struct Generation {
     /// How many, from 1 to `MAX_GENERATED_BLOCKS`.
@@ -31,6 +31,8 @@ pub enum Command {
     Pack,
     /// `gen N SEED`: tell a block file of N blocks.
     Gen(Generation),
+    /// `load N SEED`: add these N blocks to a chain in memory, and tell what look-ups of it cost.
+    Load(Generation),
     /// `append`: take the blocks of the input into the chain of the log.
     Append,
     /// `root` or `root BLOCK`: tell the root at a block of the log, the last one where no BLOCK is
@@ -63,19 +65,13 @@ pub enum Command {
     },
 }
 
-fn is_gen(text: &str) -> bool
-    ensures { IsTrue result ↔ (text.now ≡ codes "gen") }
-{
-    text == "gen"
-}
-
-/// The blocks of the command `gen N SEED`; `None` exactly where the words are no such command.
-fn generation_of(words: &[String]) -> Option<Generation>
-    ensures { IsGen (map string_bytes words.now) result }
+/// The blocks of the words `WORD N SEED`; `None` exactly where the words are no such ones.
+fn generation_of(words: &[String], word: &str) -> Option<Generation>
+    ensures { IsGenerationOf word.now (map string_bytes words.now) result }
 {
     match words {
-        [word, blocks, seed] => {
-            if !is_gen(word.as_str()) {
+        [first, blocks, seed] => {
+            if !is_text(first.as_str(), word) {
                 return None;
             }
             let blocks = count_of(blocks.as_str())?;
@@ -105,7 +101,8 @@ fn is_alone(words: &[String], word: &str) -> bool
 
 /// The command that the words are; `None` exactly where they are none.
 pub fn command_of(words: &[String]) -> Option<Command>
-    ensures { IsOneCommand (map string_bytes words.now) result }
+    ensures one { IsOneCommand (map string_bytes words.now) result }
+    ensures given { IfSome result CanBeGiven }
 {
     found(words)
 }
@@ -122,8 +119,11 @@ fn found(words: &[String]) -> Option<Command>
     if is_alone(words, "append") {
         return Some(Command::Append);
     }
-    if let Some(generation) = generation_of(words) {
+    if let Some(generation) = generation_of(words, "gen") {
         return Some(Command::Gen(generation));
+    }
+    if let Some(generation) = generation_of(words, "load") {
+        return Some(Command::Load(generation));
     }
     if let Some(query) = scan_of(words) {
         return Some(Command::Scan(query));

@@ -1,6 +1,7 @@
 //! The next block of a chain.
 
-ghost use Rattle.std.specs.Prelude.{◌≡◌, List, [], ◌∷◌, ◌++◌, IfOk};
+ghost use Rattle.std.specs.Prelude.{◌≡◌, ◌≤◌, ◌+◌, ◌*◌, List, [], ◌∷◌, ◌++◌, length, IfOk};
+ghost use Rattle.dep_capture.specs.declared.limits.TheConstants.{MAX_KEYS_PUT};
 ghost use Rattle.block_codec.specs.Spelling.{IsBlock};
 ghost use Rattle.block_codec.specs.Placement.{digest_of};
 ghost use Rattle.block_codec.specs.declared.block.Block.{Block as Blocks};
@@ -30,6 +31,7 @@ impl LineageChain {
         requires is_block { IsBlock block.now }
         ensures after { IfOk result (λ done. IsAfter self block.now digest done.0 done.1) }
         ensures stands { IfOk result (λ done. (blocks : List Blocks) → StandsFor self blocks → digest ≡ digest_of block.now → placement_in compiled_in blocks block.now ≡ Placement.Next → StandsFor done.0 (blocks ++ block.now ∷ [])) }
+        ensures few { IfOk result (λ done. length done.0.rows ≤ length self.rows + MAX_KEYS_PUT * length block.now.txs) }
         ensures root { IfOk result (λ done. done.2.0 ≡ root_of done.0.rows done.0.digests block.now.number) }
         ensures root_in { IfOk result (λ done. (blocks : List Blocks) → StandsFor self blocks → digest ≡ digest_of block.now → placement_in compiled_in blocks block.now ≡ Placement.Next
             → done.2.0 ≡ root_in compiled_in (blocks ++ block.now ∷ []) block.now.number) }

@@ -16,7 +16,7 @@ returns-clause-output g c = (
     compiled_in,
     one_compiler.is_compiler,
     λ command is. with_status g.M.Clock.now g.M.Clock.disk g.M.Clock.told c.args.machine.now c.run_words.new.machine c.run_words.result c.run_words.result (g.I.Source.left c.args.source.now) (g.I.Source.left c.run_words.new.source) c.command_of-command.result command
-        refl (c.command_of-command.ensures.only command is) c.run_words.ensures.run,
+        refl (c.command_of-command.ensures.one.only command is) c.run_words.ensures.run,
   ),
 )
 

@@ -1,9 +1,9 @@
 use Rattle.std.proofs.Common.{Some, refl}
 use Rattle.recovery.specs.Node.{next_in_chain}
-use Rattle.chain_words.specs.declared.words.Command.TheVariants.{Scan, Fmt, Pack, Gen, Append, Root, Ask, Prove, Verify, Expose}
+use Rattle.chain_words.specs.declared.words.Command.TheVariants.{Scan, Fmt, Pack, Gen, Load, Append, Root, Ask, Prove, Verify, Expose}
 use Rattle.chain_output.specs.Telling.{status_of_result}
-use Rattle.chain_cli.proofs.Ends.{done_ends, of_given, found_log}
-use Rattle.chain_cli.proofs.Runs.{scan_run, fmt_run, verify_run, pack_run, gen_run, of_command}
+use Rattle.chain_cli.proofs.Ends.{done_ends, load_ends, of_given, found_log, is_count}
+use Rattle.chain_cli.proofs.Runs.{scan_run, fmt_run, verify_run, pack_run, gen_run, load_run, of_command}
 use Rattle.chain_cli.proofs.run.run_command.Goals as goal
 
 pub returns-in-Scan-clause-run : goal.returns-in-Scan-clause-run
@@ -30,6 +30,14 @@ pub returns-in-Gen-clause-run : goal.returns-in-Gen-clause-run
 returns-in-Gen-clause-run g c =
     of_command g.M.Clock.now g.M.Clock.disk g.M.Clock.told c.args.machine.now c.generate.new.machine (status_of_result c.generate.result) (g.I.Source.left c.args.source.now) (g.I.Source.left c.args.source.now) c.args.command.now _ c.in-Gen.is
     (gen_run g.M.Clock.now g.M.Clock.disk g.M.Clock.told c.args.machine.now c.generate.new.machine c.in-Gen.generation c.generate.result (g.I.Source.left c.args.source.now) c.requires.settled c.generate.ensures.disk (c.generate.ensures.lines next_in_chain) c.generate.ensures.ending)
+
+pub load_outcome-requires : goal.load_outcome-requires
+load_outcome-requires g c = is_count c.args.command.now c.in-Load.generation c.in-Load.is c.requires.given
+
+pub returns-in-Load-clause-run : goal.returns-in-Load-clause-run
+returns-in-Load-clause-run g c =
+    of_command g.M.Clock.now g.M.Clock.disk g.M.Clock.told c.args.machine.now c.tell_made.new.machine (status_of_result c.tell_made.result) (g.I.Source.left c.args.source.now) (g.I.Source.left c.args.source.now) c.args.command.now _ c.in-Load.is
+    (load_run g.M.Clock.now g.M.Clock.disk g.M.Clock.told c.args.machine.now c.tell_made.new.machine c.in-Load.generation c.load_outcome.result c.tell_made.result (g.I.Source.left c.args.source.now) c.requires.settled c.tell_made.ensures.disk (c.tell_made.ensures.says next_in_chain) c.load_outcome.ensures.outcome)
 
 pub returns-in-Ask-clause-run : goal.returns-in-Ask-clause-run
 returns-in-Ask-clause-run g c =
@@ -83,6 +91,12 @@ returns-in-Pack-clause-no_log g c none = absurd (found_log (status_of_result c.t
 
 pub returns-in-Gen-clause-ends : goal.returns-in-Gen-clause-ends
 returns-in-Gen-clause-ends g c = done_ends c.generate.result c.args.command.now c.generate.ensures.ending c.generate.ensures.reads c.generate.ensures.writes
+
+pub returns-in-Load-clause-ends : goal.returns-in-Load-clause-ends
+returns-in-Load-clause-ends g c = of_given (status_of_result c.tell_made.result) c.args.command.now (Load c.in-Load.generation) c.in-Load.is (c.tell_made.ensures.ends (Some (Load c.in-Load.generation)) (load_ends c.in-Load.generation c.load_outcome.result c.load_outcome.ensures.ending))
+
+pub returns-in-Load-clause-no_log : goal.returns-in-Load-clause-no_log
+returns-in-Load-clause-no_log g c none = absurd (found_log (status_of_result c.tell_made.result) (Load c.in-Load.generation) refl (c.tell_made.ensures.ends (Some (Load c.in-Load.generation)) (load_ends c.in-Load.generation c.load_outcome.result c.load_outcome.ensures.ending)) none)
 
 pub returns-in-Append-clause-ends : goal.returns-in-Append-clause-ends
 returns-in-Append-clause-ends g c = of_given (status_of_result c.append.result) c.args.command.now Append c.in-Append.is c.append.ensures.ends

@@ -1,5 +1,6 @@
-use Rattle.std.proofs.Common.{◌≡◌, ◌<◌, ◌≤◌, ℕ, List, [], ◌∷◌, ◌++◌, length, ap, subst, sym, ◌∙◌}
+use Rattle.std.proofs.Common.{◌≡◌, ◌<◌, ◌≤◌, ℕ, List, [], ◌∷◌, ◌++◌, length, ap, subst, sym, ◌∙◌, arith}
 use Rattle.std.specs.Prelude.{◌==◌}
+use Rattle.std.proofs.lemmas.List.{length-append}
 use Rattle.std.specs.Map.{lookup}
 use Rattle.std.specs.Cmp.Lexicographic.{pointwise}
 use Rattle.block_codec.specs.declared.limits.TheConstants.{MAX_BLOCKS, MAX_ROWS_BEFORE_BLOCK}
@@ -51,3 +52,14 @@ returns-in-Ok-add_block-clause-root_in c blocks stands is next =
     let stand = stands_after _ _ blocks c.args.block.now c.args.digest c.in-Ok.run' after (subst (λ (kept : ChainState). StandsFor kept blocks) (sym c.self.view_is) stands) is next in
     c.in-Ok-add_block.ensures.root ∙ ap (λ (ledger : Ledger). root_of ledger.rows ledger.digests c.args.block.now.number) (sym c.in-Ok-add_block.ensures.kept)
     ∙ rooted _ (blocks ++ c.args.block.now ∷ []) c.args.block.now.number stand
+
+pub returns-in-Ok-add_block-clause-few : goal.returns-in-Ok-add_block-clause-few
+returns-in-Ok-add_block-clause-few c =
+    let before = c.self.inside.lineage.rows in
+    let written = c.in-Ok.run'.rows in
+    let longer = c.in-Ok-add_block.ensures.kept
+    ∙ ap (λ (before : Ledger). record { rows = before.rows ++ written; digests = before.digests ++ c.args.digest ∷ [] }) c.in-Ok.ensures.same in
+    let rows = ap (λ (ledger : Ledger). length ledger.rows) longer in
+    let same = ap (λ (kept : ChainState). length kept.rows) c.self.view_is in
+    let few = c.in-Ok.ensures.lawful.few in
+    omega (arith, rows, same, few, length-append before written)

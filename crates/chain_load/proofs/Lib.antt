@@ -1,0 +1,4 @@
+pub mod Lengths
+pub mod Placed
+pub mod Counting
+pub mod Told

@@ -1,0 +1,38 @@
+-- What a load tells.
+use Rattle.std.specs.Prelude.{ℕ, ◌-◌, List, length, map}
+use Rattle.std.specs.List.{sum}
+use Rattle.lc_base.specs.declared.row.Row.{Row}
+use Rattle.block_codec.specs.declared.block.Block.{Block}
+use Rattle.chain_exec.specs.Compiled.{Compiler}
+use Rattle.chain_exec.specs.Replay.{replay}
+use Rattle.lineage_chain.specs.Roots.{root_in}
+use Rattle.chain_gen.specs.Generator.{made}
+use Rattle.chain_load.specs.declared.loading.Load.{Load}
+use Rattle.chain_load.specs.Lookups.{lookups_drawn, looked_at, greatest}
+
+-- The blocks of a load: so many of a seed.
+abbrev pub blocks_of : ℕ → ℕ → List Block
+blocks_of blocks seed = (made seed blocks).blocks
+
+-- The rows that replaying them gives.
+abbrev pub rows_of : Compiler → ℕ → ℕ → List Row
+rows_of compile blocks seed = (replay compile (blocks_of blocks seed)).rows
+
+-- How many versions each look-up looks at. There are as many of them as blocks, and they are drawn after
+-- the blocks.
+abbrev pub counts_of : Compiler → ℕ → ℕ → List ℕ
+counts_of compile blocks seed = map (looked_at (rows_of compile blocks seed)) (lookups_drawn blocks blocks (made seed blocks).state)
+
+-- What a load of so many blocks of a seed tells: how many blocks and rows there are, and the root at the
+-- last block; how many look-ups, how many versions all of them look at, and the most that one does.
+abbrev pub load_of : Compiler → ℕ → ℕ → Load
+load_of compile blocks seed =
+    let counts = counts_of compile blocks seed in
+    record {
+      blocks = blocks;
+      rows = length (rows_of compile blocks seed);
+      root = record { 0 = root_in compile (blocks_of blocks seed) (blocks - 1) };
+      lookups = length counts;
+      entries = sum counts;
+      most = greatest counts;
+    }

@@ -1,0 +1,92 @@
+//! The look-ups of a load.
+
+ghost use Rattle.std.specs.Prelude.{◌≡◌, ◌<◌, ◌≤◌, ◌+◌, ◌^◌, max, length, map, IfOk};
+ghost use Rattle.version_path.specs.Paths.{path};
+ghost use Rattle.chain_gen.specs.Generator.{standing_at};
+ghost use Rattle.chain_load.specs.Lookups.{lookup_drawn, lookups_drawn, looked_at, counted};
+
+use chain_gen::Gen;
+use entry_store::Steps;
+use lc_base::{Kind, Memory, Query};
+use merkle_dag::Lineage;
+use prov_query::{AskError, ask};
+
+/// What was counted of look-ups.
+#[derive(Clone, Copy, Debug, PartialEq, Eq)]
+pub struct Looked {
+    /// How many versions all of them looked at.
+    pub entries: u64,
+    /// The most that one of them looked at.
+    pub most: u64,
+}
+
+impl Looked {
+    /// With one look-up more, which looked at so many versions.
+    fn with(self, count: u64) -> Looked
+        requires { self.entries + count < 2 ^ 64 }
+        ensures { result ≡ record { entries = self.entries + count; most = max self.most count } }
+    {
+        Looked {
+            entries: self.entries + count,
+            most: self.most.max(count),
+        }
+    }
+}
+
+/// Asks a question about a block of the lineage: how many versions were looked at for its answer.
+fn versions_looked_at(lineage: &mut Lineage, query: &Query) -> Result<u64, Memory>
+    requires block { query.now.at < length lineage.old.digests }
+    requires few_rows { length lineage.old.rows < 2 ^ 32 }
+    ensures count { IfOk result (λ count. count ≡ length (path lineage.old.rows query.now.key query.now.at)) }
+    ensures unchanged { lineage.new ≡ lineage.old }
+{
+    let mut steps = Steps::new();
+    match ask(lineage, query, &mut steps) {
+        Ok(_answer) => Ok(steps.count()),
+        Err(AskError::Beyond { .. }) => unreachable!(),
+        Err(AskError::Memory) => Err(Memory),
+    }
+}
+
+/// Draws a look-up over so many blocks, and makes it: how many versions it looked at.
+#[tactic(auto, unfolding(crate::specs::Lookups::lookup_drawn))]
+fn look_up(lineage: &mut Lineage, generator: &mut Gen, blocks: u32) -> Result<u64, Memory>
+    requires some { 0 < blocks }
+    requires blocks { blocks ≤ length lineage.old.digests }
+    requires few_rows { length lineage.old.rows < 2 ^ 32 }
+    ensures count { IfOk result (λ count. count ≡ looked_at lineage.old.rows (lookup_drawn blocks generator.old.state).0) }
+    ensures unchanged { lineage.new ≡ lineage.old }
+    ensures state { generator.new ≡ standing_at (lookup_drawn blocks generator.old.state).1 generator.old }
+{
+    let key = generator.draw_key();
+    let at = generator.draw(blocks);
+    let query = Query {
+        kind: Kind::Hist,
+        key,
+        at,
+    };
+    versions_looked_at(lineage, &query)
+}
+
+/// Draws as many look-ups as there are blocks, and makes them.
+pub(crate) fn look_up_all(
+    lineage: &mut Lineage,
+    generator: Gen,
+    blocks: u32,
+) -> Result<Looked, Memory>
+    requires some { 0 < blocks }
+    requires blocks { blocks ≤ length lineage.old.digests }
+    requires few_rows { length lineage.old.rows < 2 ^ 32 }
+    ensures { IfOk result (λ looked. looked ≡ counted (map (looked_at lineage.old.rows) (lookups_drawn blocks blocks generator.state))) }
+{
+    let mut generator = generator;
+    let mut looked = Looked {
+        entries: 0,
+        most: 0,
+    };
+    for _ in 0..blocks {
+        let count = look_up(lineage, &mut generator, blocks)?;
+        looked = looked.with(count);
+    }
+    Ok(looked)
+}
