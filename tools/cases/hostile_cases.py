@@ -1,0 +1,270 @@
+"""Cases of hostile inputs: proofs and logs of which bytes are changed, and contracts that never end.
+
+What is told of a change that is named here was worked out by hand from docs/proofs.md and docs/formats.md, but
+for digests. Those, and what is told of the changes of each byte, are read by verifiers/verify.py and
+tools/cases/block_reader.py.
+"""
+import itertools
+from typing import NamedTuple
+
+from cases.block_files import OK, OUT_OF_STEPS, block_file, calls, deploys, number, sets
+from cases.block_reader import stands_for
+from cases.changed_files import CHANGES, written
+from cases.log_cases import (
+    BEYOND, CHAINS, DAMAGED, DONE, HIST, NOT_A_LOG, REFUSED, SET_ANSWER, SET_FILE, SET_LOG, SET_ROWS, LogCase,
+    frames_of, log_of,
+)
+from cases.proof_cases import proof_of
+from cases.root_cases import History, Row, block_digests, roots
+from cases.verifier import text_of, told_of
+from lineage.draft_faults import MAX_BUDGET, MAX_BUDGETS
+
+
+class Proved(NamedTuple):
+    """The words of `verify` with the root of a chain, and the proof of the answer."""
+
+    words: str
+    proof: bytes
+
+    def told(self, proof, begin):
+        """What is told of a proof in place of this one, which begins with these words, and the status."""
+        lines, status = told_of(self.words.split()[1:], in_hex(proof))
+        assert lines[0].split()[: len(begin.split())] == begin.split(), (lines, begin)
+        return text_of(lines), status
+
+    def case(self, proof, begin):
+        """Its case: its words, what must be printed, the fields of its line after the piece, and no piece."""
+        told, status = self.told(proof, begin)
+        return self.words, f"== {status} {self.words}\n{told}", in_hex(proof).hex(), None
+
+    def exposed(self, log, root_at, proof, begin):
+        """The case of `expose` over a log with the root of this one, which tells the same of a refused proof."""
+        told, status = self.told(proof, begin)
+        words = f"{self.words.replace('verify', 'expose')} {root_at}"
+        if status == DONE:
+            told = "no clash\n"
+        return LogCase(words, log, told, status, file=in_hex(proof))
+
+
+def in_hex(proof):
+    return proof.hex().encode("ascii")
+
+
+def proved(file, rows, kind, key, at, root_at):
+    history, digest = History(rows), block_digests(frames_of(file))[root_at]
+    root = history.root(root_at, digest).hex()
+    return Proved(f"verify {root} {kind} {key} {at}", proof_of(history, digest, kind, key, at, root_at))
+
+
+def put(text, offset, byte):
+    return text[:offset] + bytes([byte]) + text[offset + 1 :]
+
+
+def turned(text, offset):
+    """The text with the last bit of a byte turned."""
+    return put(text, offset, text[offset] ^ 1)
+
+
+# ---- proofs as they are made
+
+
+# Three keys, and none of the keys that are asked about.
+BETWEEN_FILE = block_file([[sets("raw/b", 1), sets("raw/m", 2), sets("raw/y", 3)]])
+BETWEEN_ROWS = [Row("raw/b", 0, 0, 1, []), Row("raw/m", 0, 1, 2, []), Row("raw/y", 0, 2, 3, [])]
+BANK_BLOCKS, _, BANK_ROWS, _ = CHAINS[2]
+BANK_FILE = block_file(BANK_BLOCKS)
+# A chain, a question with the root block, the answer, and how long its proof is, where that was counted.
+MADE = [
+    (SET_FILE, SET_ROWS, ("hist", "raw/a", 0, 0), SET_ANSWER, 274),
+    (BETWEEN_FILE, BETWEEN_ROWS, ("hist", "raw/f", 0, 0), "none\n", 217),
+    (BETWEEN_FILE, BETWEEN_ROWS, ("hist", "raw/a", 0, 0), "none\n", 212),
+    (BETWEEN_FILE, BETWEEN_ROWS, ("hist", "raw/z", 0, 0), "none\n", 210),
+    # The uses of an older version are closed, and those of the newest are open.
+    (BANK_FILE, BANK_ROWS, ("fwd", "bank/n", 1, 3), "block 1 uses 2\nbank/n 2\nbank/log 2\n", None),
+    (BANK_FILE, BANK_ROWS, ("fwd", "raw/a", 3, 3), "block 0 uses 2\nbank/n 1\nraw/b 3\n", None),
+]
+
+
+def made_proofs():
+    """Each is made over the log, and then accepted with the answer."""
+    for file, rows, (kind, key, at, root_at), answer, length in MADE:
+        made = proved(file, rows, kind, key, at, root_at)
+        assert length in (None, len(made.proof)) and made.told(made.proof, "") == (answer, DONE)
+        line = made.proof.hex() + "\n"
+        yield LogCase(f"prove {kind} {key} {at} {root_at}", log_of(file), line)
+        yield LogCase(made.words, b"", answer, file=line.encode("ascii"))
+
+
+# ---- a proof of one header
+
+
+# What `raw/a` is in the one block that sets it. Of its fields the kind begins at 4, the block of the question at 12,
+# the root block at 16, the count of leaves at 52 and the index of the leaf at 56, the leaf at 60; the length of the
+# audit path is at 144, its one hash at 145, the count of headers at 177, the header at 178; the length of its key's
+# string at 178, its transaction at 189, the count of its links at 263, the body at 264, its value at 265 and the
+# count of its dependencies at 273.
+SET_PROVED = proved(SET_FILE, SET_ROWS, "hist", "raw/a", 0, 0)
+SET_CHANGES = [
+    (0, 0, "malformed 0"),
+    (4, 1, "query"),
+    (4, 3, "malformed 4"),
+    (55, 3, "malformed 144"),
+    (177, 0, "malformed 178"),
+    (190, 1, "link 0"),
+    (263, 33, "malformed 263"),
+    (272, 4, "body"),
+    (273, 1, "malformed 274"),
+]
+
+
+def named_changes():
+    """What is asked, the proof as it is or with a change that is named, and how what is told of it begins."""
+    proof = SET_PROVED.proof
+    assert len(proof) == 274
+    yield SET_PROVED, proof, SET_ANSWER
+    for offset, byte, cause in SET_CHANGES:
+        yield SET_PROVED, put(proof, offset, byte), f"rejected {cause}"
+    yield SET_PROVED, turned(proof, 145), "rejected root"
+    yield SET_PROVED, put(proof, 177, 0)[:178], "rejected path 0"
+    yield SET_PROVED, proof + b"\0", "rejected malformed 274"
+    yield SET_PROVED._replace(words=SET_PROVED.words.replace("raw/a", "raw/b")), proof, "rejected query"
+    other_root = SET_PROVED._replace(words=f"verify {'0' * 64} hist raw/a 0")
+    yield other_root, proof, f"rejected root {SET_PROVED.words.split()[1]}"
+
+
+def changed_proofs():
+    """The proof with the changes that are named, with each byte changed, and cut at every length."""
+    proof = SET_PROVED.proof
+    for asked, changed, begin in named_changes():
+        yield asked.case(changed, begin)
+    for offset in range(len(proof)):
+        yield SET_PROVED.case(turned(proof, offset), "rejected")
+        yield SET_PROVED.case(proof[:offset], "rejected malformed")
+
+
+# ---- a proof of two headers, and what is made of its parts
+
+
+# Eleven blocks, of which two set a key.
+PATH_ROWS = [Row("raw/a", 2, 0, 1, []), Row("raw/a", 9, 0, 2, [])]
+PATH_FILE = block_file([[], [], [sets("raw/a", 1)], *[[]] * 6, [sets("raw/a", 2)], []])
+PATH_PROVED = proved(PATH_FILE, PATH_ROWS, "hist", "raw/a", 7, 10)
+NEWEST_PROVED = proved(PATH_FILE, PATH_ROWS, "hist", "raw/a", 9, 10)
+
+
+def other_paths():
+    """Proofs whose headers or bodies are those of others."""
+    history = History(PATH_ROWS)
+    newest, older = (history.header_text("raw/a", block)[1:] for block in [9, 2])
+    newest_body, older_body = (history.body_text(history.row_of("raw/a", block))[1:] for block in [9, 2])
+    front, tail = PATH_PROVED.proof, number(2, 1) + newest + older + older_body
+    assert front.endswith(tail)
+    front = front[: -len(tail)]
+    yield PATH_PROVED.case(PATH_PROVED.proof, "block 2 tx 0 int 1")
+    yield PATH_PROVED.case(front + number(1, 1) + newest, "rejected path 1")
+    yield PATH_PROVED.case(front + number(2, 1) + newest + newest, "rejected link 1")
+    yield NEWEST_PROVED.case(NEWEST_PROVED.proof, "block 9 tx 0 int 2")
+    assert NEWEST_PROVED.proof.endswith(newest_body)
+    yield NEWEST_PROVED.case(NEWEST_PROVED.proof[: -len(newest_body)] + older_body, "rejected body")
+
+
+# ---- changed logs
+
+
+# The block of SET_FILE, and one without transactions.
+TWO_FILE = block_file([[sets("raw/a", 5)], []])
+TWO_LOG = log_of(TWO_FILE)
+TWO_LINES = [
+    f"{line} root {root}\n"
+    for line, root in zip(
+        ["block 0 rows 1 status 0", "block 1 rows 0 status -"], roots(frames_of(TWO_FILE), SET_ROWS)
+    )
+]
+# In a log of one block the length of that block stands at 9, the block at 13, and the last byte of its value at 71;
+# the second record begins at the gate at 73.
+LOG_CHANGES = [
+    (SET_LOG[:9] + bytes.fromhex("ff00003c") + SET_LOG[13:], "damaged at 8\n", DAMAGED),
+    (put(SET_LOG, 13, 0), "damaged at 8\n", DAMAGED),
+    # No later block speaks against this one.
+    (put(SET_LOG, 71, 6), "block 0 tx 0 int 6\n", DONE),
+    (put(TWO_LOG, 71, 6), "damaged at 73\n", DAMAGED),
+]
+
+
+def wrong(line):
+    """What is told of a log that is none, and the status."""
+    return line, NOT_A_LOG if line == "not a log\n" else DAMAGED
+
+
+def answer_over(image):
+    """What is told of the key over a log of Sets, and the status."""
+    chain, line = stands_for(image)
+    if line:
+        return wrong(line)
+    if not chain.blocks:
+        return "beyond empty\n", BEYOND
+    version = written(chain.blocks[0]).get("raw/a")
+    return f"block 0 {version}\n" if version else "none\n", DONE
+
+
+def append_over(image):
+    """The append of the two blocks over a log of which a byte is changed."""
+    chain, line = stands_for(image)
+    if line:
+        told, status = wrong(line)
+        return LogCase("append", image, told, status, file=TWO_FILE, left=len(TWO_FILE))
+    taken, refused, read = chain.fold(TWO_FILE)
+    told = "".join(TWO_LINES[at] if is_new else f"known {at}\n" for at, is_new in taken) + (refused or "")
+    after = TWO_LOG if any(is_new for _, is_new in taken) else image
+    status = REFUSED if refused else DONE
+    return LogCase("append", image, told, status, after, TWO_FILE, left=len(TWO_FILE) - read)
+
+
+def commands_over_wrong_logs():
+    """Every command over a log that is none or damaged: its input is left."""
+    source = in_hex(SET_PROVED.proof)
+    expose = f"{SET_PROVED.words.replace('verify', 'expose')} 0"
+    wrong_logs = [(image, told, status) for image, told, status in LOG_CHANGES if status == DAMAGED]
+    for image, told, status in [*wrong_logs, (turned(SET_LOG, 0), "not a log\n", NOT_A_LOG)]:
+        for words in ["back raw/a", "fwd raw/a 7", "root", "prove hist raw/a 7 7", expose]:
+            yield LogCase(words, image, told, status, file=source, left=len(source))
+
+
+def changed_logs():
+    """The logs with the changes that are named, and with each byte changed in three ways."""
+    for image, told, status in LOG_CHANGES:
+        assert answer_over(image) == (told, status)
+        yield LogCase(HIST, image, told, status)
+    named = [image for image, _, _ in LOG_CHANGES]
+    for log in [SET_LOG, TWO_LOG]:
+        for offset, byte in enumerate(log):
+            for change in CHANGES:
+                image = put(log, offset, byte ^ change)
+                if image not in named:
+                    yield LogCase(HIST, image, *answer_over(image))
+                if log == TWO_LOG:
+                    yield append_over(image)
+
+
+# ---- contracts that spend what they may
+
+
+def spent_budgets():
+    """A block whose ten calls spend all that the calls of a block may: its words, what must be printed, its file, and
+    no piece."""
+    endless, count = calls("c", "f", [], MAX_BUDGET, OUT_OF_STEPS, MAX_BUDGET), MAX_BUDGETS // MAX_BUDGET
+    file = block_file([[deploys("c", "fn f() { while 1 { } }")], [endless] * count])
+    ended = "".join(f"tx {at} status {endless.status} cost {endless.cost}\n" for at in range(count))
+    words = "blocks calls that spend the greatest budgets"
+    printed = f"== {words}\nblock 0 rows 0\ntx 0 status {OK} cost 0\nblock 1 rows 0\n{ended}answers 0\n"
+    return words, printed, file.hex(), None
+
+
+def hostile_cases():
+    """All cases, as tools/cases/log_cases.py gives its own."""
+    yield spent_budgets()
+    yield from dict.fromkeys(changed_proofs())
+    yield from other_paths()
+    exposed = (asked.exposed(SET_LOG, 0, changed, begin) for asked, changed, begin in named_changes())
+    for case in itertools.chain(made_proofs(), exposed, commands_over_wrong_logs(), changed_logs()):
+        yield case.case()

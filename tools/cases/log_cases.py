@@ -1,0 +1,521 @@
+"""Cases of logs: what commands tell over what a disk holds, and what becomes of it.
+
+What is expected is worked out by hand from docs/formats.md and docs/log.md, but for roots, which
+tools/cases/root_cases.py works out from the rows that are written here.
+"""
+import dataclasses
+
+from cases import block_files
+from cases.block_files import CONFLICT, OK, calls, deploys, number, sets
+from cases.root_cases import Row, roots
+
+OPEN = b"\xa5"
+CLOSED = b"\0"
+MAGIC = b"LCLOG1\n"
+# What a log has before its records, with its head gate open or not.
+HEAD = OPEN + MAGIC
+CLOSED_HEAD = CLOSED + MAGIC
+FIRST_GATE = len(HEAD)
+BYTES = [bytes([byte]) for byte in range(256)]
+
+DONE = 0
+USAGE = 1
+UNREADABLE = 2
+UNTOLD = 3
+DISK_FAULT = 4
+MEMORY = 5
+NOT_A_LOG = 6
+DAMAGED = 7
+REFUSED = 8
+BEYOND = 9
+REJECTED = 10
+BAD_INPUT = 11
+
+SET_FILE = block_files.block_file([[sets("raw/a", 5)]])
+SET_LOG = HEAD + OPEN + SET_FILE + CLOSED
+SET_ROWS = [Row("raw/a", 0, 0, 5, [])]
+SET_LINE = f"block 0 rows 1 status 0 root {roots([SET_FILE], SET_ROWS)[0]}\n"
+# A block after that one.
+SECOND_ROWS = [*SET_ROWS, Row("raw/b", 1, 0, 1, [])]
+SET_ANSWER = "block 0 tx 0 int 5\n"
+SET_ROOT = f"root 0 {roots([SET_FILE], SET_ROWS)[0]}\n"
+HIST = "hist raw/a 0"
+TRUNCATED = "refused frame 0 truncated\n"
+
+
+@dataclasses.dataclass
+class LogCase:
+    """A command over a disk, and what it must tell, leave and end with."""
+
+    words: str
+    # What the disk holds before and after; after is before where it is left out.
+    image: bytes
+    told: str
+    status: int = DONE
+    after: bytes = None
+    file: bytes = b""
+    # How many bytes of the input are left.
+    left: int = 0
+    # The calls that fail; `pause N` for a pull that gives nothing.
+    pulls: str = ""
+    calls: str = ""
+    # The greatest number of bytes that the source gives at once, where that matters.
+    piece: int = None
+
+    def case(self):
+        """Its words, what must be printed, the fields of its line after the piece, and the piece."""
+        after = "same" if self.after in (None, self.image) else self.after.hex()
+        printed = f"== {self.status} {self.words}\n{self.told}left {self.left}\nlog {after}\n"
+        fields = [self.file.hex(), self.pulls, self.calls, self.image.hex()]
+        return self.words, printed, "|".join(fields), self.piece
+
+
+def frames_of(file):
+    """The frames of a block file, each with its length."""
+    frames, at = [], 0
+    while at < len(file):
+        size = 4 + int.from_bytes(file[at : at + 4], "big")
+        frames.append(file[at : at + size])
+        at += size
+    return frames
+
+
+def log_of(file):
+    """The log of the blocks of a file."""
+    return HEAD + b"".join(OPEN + frame for frame in frames_of(file)) + CLOSED
+
+
+def block(at, parent, txs):
+    """The frame of a block of any number and parent."""
+    spelled = b"\1" + number(at, 4) + parent + number(len(txs), 2)
+    spelled += b"".join(tx.bytes for tx in txs)
+    return number(len(spelled), 4) + spelled
+
+
+def digest(frame):
+    return block_files.block_digest(frame[4:]).hex()
+
+
+# ---- chains that are appended, and then asked about
+
+
+BANK = (
+    'fn begin() { put "bank/n" = get_int("raw/a"); } fn add(d: int) { let n = get_int("bank/n");'
+    ' put "bank/n" = n + d; put "bank/log" = d from "bank/n"; }'
+)
+# Blocks, the lines of `append` but for the roots, the rows, and questions with their answers.
+CHAINS = [
+    (
+        [[sets("raw/a", 1), sets("raw/a", 2, status=CONFLICT)]],
+        ["block 0 rows 1 status 0,1"],
+        [Row("raw/a", 0, 0, 1, [])],
+        {"hist raw/a": "block 0 tx 0 int 1\n", "hist raw/b": "none\n"},
+    ),
+    (
+        [
+            [sets("raw/a", 1), sets("raw/b", 2, ["raw/a"], status=CONFLICT)],
+            [sets("raw/b", 2, ["raw/a"])],
+        ],
+        ["block 0 rows 1 status 0,1", "block 1 rows 1 status 0"],
+        [Row("raw/a", 0, 0, 1, []), Row("raw/b", 1, 0, 2, [("raw/a", 0)])],
+        {
+            "back raw/b": "block 1 deps 1\nraw/a 0\n",
+            "back raw/b 1": "block 1 deps 1\nraw/a 0\n",
+            "back raw/b 0": "none\n",
+            "fwd raw/a": "block 0 uses 1\nraw/b 1\n",
+            # A forward answer counts the rows of the whole chain.
+            "fwd raw/a 0": "block 0 uses 1\nraw/b 1\n",
+        },
+    ),
+    (
+        [
+            [deploys("bank", BANK), sets("raw/a", 5)],
+            [calls("bank", "begin", [], 100, OK, 28)],
+            [
+                calls("bank", "add", [3], 100, OK, 52),
+                calls("bank", "add", [1], 100, CONFLICT, 0),
+            ],
+            [sets("raw/b", "x", ["raw/a", "raw/a", "raw/z"])],
+        ],
+        [
+            "block 0 rows 1 status 0,0",
+            "block 1 rows 1 status 0",
+            "block 2 rows 2 status 0,1",
+            "block 3 rows 1 status 0",
+        ],
+        [
+            Row("raw/a", 0, 1, 5, []),
+            Row("bank/n", 1, 0, 5, [("raw/a", 0)]),
+            Row("bank/n", 2, 0, 8, [("bank/n", 1)]),
+            Row("bank/log", 2, 0, 3, [("bank/n", 1)]),
+            Row("raw/b", 3, 0, "x", [("raw/a", 0)]),
+        ],
+        {
+            "hist bank/n": "block 2 tx 0 int 8\n",
+            "hist bank/n 0": "none\n",
+            "back bank/n 2": "block 2 deps 1\nbank/n 1\n",
+            "fwd bank/n 1": "block 1 uses 2\nbank/n 2\nbank/log 2\n",
+            "fwd raw/a 3": "block 0 uses 2\nbank/n 1\nraw/b 3\n",
+        },
+    ),
+    # A block without transactions, and one that sets a text.
+    (
+        [[], [sets("raw/a", "t")]],
+        ["block 0 rows 0 status -", "block 1 rows 1 status 0"],
+        [Row("raw/a", 1, 0, "t", [])],
+        {"hist raw/a": "block 1 tx 0 text t\n", "hist raw/a 0": "none\n"},
+    ),
+    # Versions of one key in the blocks 2, 9 and 10: that in block 9 has four links, all to block 2,
+    # and that in block 10 two, both to block 9.
+    (
+        [[], [], [sets("raw/a", 1)], *[[]] * 6, [sets("raw/a", 2)], [sets("raw/a", 3)]],
+        [
+            "block 0 rows 0 status -",
+            "block 1 rows 0 status -",
+            "block 2 rows 1 status 0",
+            *[f"block {at} rows 0 status -" for at in range(3, 9)],
+            "block 9 rows 1 status 0",
+            "block 10 rows 1 status 0",
+        ],
+        [Row("raw/a", 2, 0, 1, []), Row("raw/a", 9, 0, 2, []), Row("raw/a", 10, 0, 3, [])],
+        {
+            "hist raw/a": "block 10 tx 0 int 3\n",
+            "hist raw/a 9": "block 9 tx 0 int 2\n",
+            "hist raw/a 8": "block 2 tx 0 int 1\n",
+            "hist raw/a 2": "block 2 tx 0 int 1\n",
+            "hist raw/a 1": "none\n",
+            "back raw/a": "block 10 deps 0\n",
+        },
+    ),
+]
+
+
+def chains():
+    """Chains that are appended to an empty disk, at once and block by block, and asked about."""
+    for blocks, plain, rows, questions in CHAINS:
+        file = block_files.block_file(blocks)
+        frames = frames_of(file)
+        log = log_of(file)
+        told_roots = roots(frames, rows)
+        lines = [f"{line} root {root}\n" for line, root in zip(plain, told_roots)]
+        yield LogCase("append", b"", "".join(lines), after=log, file=file)
+        before, held = b"", b""
+        for frame, line in zip(frames, lines):
+            held += frame
+            yield LogCase("append", before, line, after=log_of(held), file=frame)
+            before = log_of(held)
+        known = "".join(f"known {i}\n" for i in range(len(frames)))
+        yield LogCase("append", log, known, file=file)
+        # What is stored already is passed over, and the rest is stored.
+        yield LogCase(
+            "append", log_of(frames[0]), "known 0\n" + "".join(lines[1:]), after=log, file=file
+        )
+        for question, answer in questions.items():
+            yield LogCase(question, log, answer)
+        for at, root in enumerate(told_roots):
+            yield LogCase(f"root {at}", log, f"root {at} {root}\n")
+        head = len(blocks) - 1
+        yield LogCase("root", log, f"root {head} {told_roots[head]}\n", file=file, left=len(file))
+        beyond = f"beyond head {head}\n"
+        yield LogCase(f"root {head + 1}", log, beyond, BEYOND)
+        yield LogCase("root 4294967295", log, beyond, BEYOND)
+        yield LogCase(f"hist raw/a {head + 1}", log, beyond, BEYOND)
+        yield LogCase("fwd raw/a 4294967295", log, beyond, BEYOND)
+
+
+# ---- what is refused
+
+
+def refusals():
+    """Frames that are refused. Those before them stay, and what follows them is left."""
+    other = block(0, bytes(32), [sets("raw/a", 6)])
+    parent = bytes.fromhex(digest(SET_FILE))
+    after = block(1, parent, [sets("raw/b", 1)])
+    late = block(2, bytes(32), [])
+    orphan = block(1, bytes(32), [])
+    eleven = block(0, bytes(32), [calls("c", "f", [], 1_000_000, OK, 0)] * 11)
+    # One call, whose budget is its last field.
+    costly = block(0, bytes(32), [calls("c", "f", [], 1_000_001, OK, 0)])
+    budget_at = len(costly) - 4 - 4
+    broken = SET_FILE[:4] + b"\2" + SET_FILE[5:]
+    on_set = [
+        (other, f"fork {digest(SET_FILE)}"),
+        (late, "number 1"),
+        (orphan, f"parent {digest(SET_FILE)}"),
+        (broken, "malformed 0"),
+        (SET_FILE[:-1], "truncated"),
+        (b"\0\0\0", "truncated"),
+    ]
+    for frame, cause in on_set:
+        refused = f"refused frame 0 {cause}\n"
+        rest = b"" if cause == "truncated" else after
+        yield LogCase("append", SET_LOG, refused, REFUSED, file=frame + rest, left=len(rest))
+        # After a block that is stored.
+        refused = f"refused frame 1 {cause}\n"
+        file = SET_FILE + frame + rest
+        yield LogCase("append", SET_LOG, "known 0\n" + refused, REFUSED, file=file, left=len(rest))
+        yield LogCase(
+            "append", b"", SET_LINE + refused, REFUSED, SET_LOG, file=file, left=len(rest)
+        )
+    # Nothing is stored, so no log is made.
+    no_length = b"\0\0\0\0"
+    for frame, cause in [
+        (late, "number 0"),
+        (block(0, bytes(31) + b"\1", []), f"parent {bytes(32).hex()}"),
+        (eleven, "budget 11000000"),
+        (costly, f"malformed {budget_at}"),
+        (no_length, "length 0"),
+        (number(1_048_577, 4), "length 1048577"),
+        (SET_FILE[:63], "truncated"),
+    ]:
+        rest = b"" if cause == "truncated" else SET_FILE
+        yield LogCase(
+            "append", b"", f"refused frame 0 {cause}\n", REFUSED, file=frame + rest, left=len(rest)
+        )
+
+
+# ---- what is no log, or a damaged one
+
+
+def wrong_images():
+    """Bytes of a disk that are wrong, and what is told of them."""
+    cut = SET_LOG[:40]
+    yield cut, "damaged at 8\n", DAMAGED
+    yield b"hello", "not a log\n", NOT_A_LOG
+    yield b"3" + MAGIC + OPEN, "not a log\n", NOT_A_LOG
+    # Cut within the head, within the first record, and within the second.
+    two = log_of(SET_FILE + block(1, bytes.fromhex(digest(SET_FILE)), [sets("raw/b", 1)]))
+    second = len(SET_LOG) - 1
+    for length in range(2, FIRST_GATE + 1):
+        yield two[:length], "not a log\n", NOT_A_LOG
+    for length in range(FIRST_GATE + 1, second + 1):
+        yield two[:length], f"damaged at {FIRST_GATE}\n", DAMAGED
+    for length in range(second + 1, len(two)):
+        yield two[:length], f"damaged at {second}\n", DAMAGED
+    # Each bit of the magic.
+    for at in range(1, FIRST_GATE):
+        for bit in range(8):
+            changed = bytearray(SET_LOG)
+            changed[at] ^= 1 << bit
+            yield bytes(changed), "not a log\n", NOT_A_LOG
+    # Behind an open gate stand a block that isn't next, one that spells none, and lengths that no
+    # block has.
+    for record in [
+        SET_FILE + OPEN + SET_FILE + CLOSED,
+        SET_FILE + OPEN + block(1, bytes(32), []) + CLOSED,
+    ]:
+        yield HEAD + OPEN + record, f"damaged at {second}\n", DAMAGED
+    for record in [
+        SET_FILE[:4] + b"\2" + SET_FILE[5:] + CLOSED,
+        bytes(4) + CLOSED,
+        number(1_048_577, 4) + CLOSED,
+        block(1, bytes(32), []) + CLOSED,
+        block(0, bytes(32), [calls("c", "f", [], 1_000_000, OK, 0)] * 11) + CLOSED,
+    ]:
+        yield HEAD + OPEN + record, f"damaged at {FIRST_GATE}\n", DAMAGED
+
+
+def wrong_logs():
+    """Commands over them: nothing is read, and nothing is written."""
+    for image, told, status in wrong_images():
+        yield LogCase(HIST, image, told, status)
+        yield LogCase("root", image, told, status)
+        yield LogCase("append", image, told, status, file=SET_FILE, left=len(SET_FILE))
+
+
+# ---- what a crash leaves
+
+
+def torn_heads():
+    """What may stand on the disk when an append to an empty one is stopped in making the head."""
+    yield from [b"", *BYTES]
+    # The magic and a closed gate, cut; and with other bytes in their place.
+    rest = MAGIC + CLOSED
+    for length in range(len(rest) + 1):
+        yield CLOSED + rest[:length]
+        yield CLOSED + OPEN * length
+        yield CLOSED + b"\xff" * length
+    # Any byte in place of the head gate.
+    for byte in BYTES:
+        yield byte + rest
+
+
+def changed_heads():
+    """The same with any byte in place of each one after the closed head gate."""
+    rest = MAGIC + CLOSED
+    for at in range(len(rest)):
+        for byte in BYTES:
+            yield CLOSED + rest[:at] + byte + rest[at + 1 :]
+
+
+def torn_records():
+    """What may stand there when the append is stopped before the gate of its record is open."""
+    record = SET_FILE + CLOSED
+    for length in range(len(record) + 1):
+        yield HEAD + CLOSED + record[:length]
+        yield HEAD + CLOSED + OPEN * length
+        yield HEAD + CLOSED + record[:length] + b"\xff" * (len(record) - length)
+    for byte in BYTES:
+        if byte != OPEN:
+            yield HEAD + byte + record
+
+
+def crashes():
+    """A question, and the append again, over all that a stopped append of one block may leave."""
+    empty = "beyond empty\n"
+    torn = dict.fromkeys([*torn_heads(), *torn_records()])
+    for image in torn:
+        yield LogCase(HIST, image, empty, BEYOND)
+        yield LogCase("append", image, SET_LINE, after=SET_LOG, file=SET_FILE)
+    for image in dict.fromkeys(changed_heads()):
+        if image not in torn:
+            yield LogCase(HIST, image, empty, BEYOND)
+    yield LogCase(HIST, SET_LOG, SET_ANSWER)
+    yield LogCase("append", SET_LOG, "known 0\n", file=SET_FILE)
+
+
+# ---- calls that fail
+
+
+# What the disk holds when the call of each number fails in an append to an empty disk: a write that
+# fails leaves it as it was. The first call reads the head, and the next one syncs what was found.
+FAILED_CALLS = [
+    b"",
+    b"",
+    # The closed head gate, and its sync.
+    b"",
+    CLOSED,
+    # The magic and a closed gate.
+    CLOSED,
+    CLOSED_HEAD + CLOSED,
+    # The open head gate.
+    CLOSED_HEAD + CLOSED,
+    HEAD + CLOSED,
+    # The record.
+    HEAD + CLOSED,
+    HEAD + CLOSED + SET_FILE + CLOSED,
+    # The open gate of the record.
+    HEAD + CLOSED + SET_FILE + CLOSED,
+    SET_LOG,
+]
+
+
+def failing_calls():
+    """An append of which one call fails."""
+    size = len(SET_FILE)
+    for call, after in enumerate(FAILED_CALLS):
+        # Before the log is open and synced nothing is read.
+        left = 0 if call > 1 else size
+        yield LogCase(
+            "append", b"", "", DISK_FAULT, after, SET_FILE, left=left, calls=f"{call}"
+        )
+    tell = len(FAILED_CALLS)
+    yield LogCase("append", b"", "", UNTOLD, SET_LOG, SET_FILE, calls=f"{tell}")
+    yield LogCase("append", b"", SET_LINE, DONE, SET_LOG, SET_FILE, calls=f"{tell + 1}")
+    # The second of three blocks: the line of the first was told, and the third is left.
+    second = block(1, bytes.fromhex(digest(SET_FILE)), [sets("raw/b", 1)])
+    third = block(2, bytes.fromhex(digest(second)), [])
+    file = SET_FILE + second + third
+    two = log_of(SET_FILE + second)
+    closed = SET_LOG + second + CLOSED
+    for call, after in enumerate([SET_LOG, closed, closed, two], tell + 1):
+        yield LogCase(
+            "append", b"", SET_LINE, DISK_FAULT, after, file, left=len(third), calls=f"{call}"
+        )
+    yield LogCase(
+        "append", b"", SET_LINE, UNTOLD, two, file, left=len(third), calls=f"{tell + 5}"
+    )
+    yield LogCase("append", SET_LOG, "", UNREADABLE, file=SET_FILE, left=size, pulls="0")
+    # Over a log of a block four reads open it: of the head, of the gate and the length of the record,
+    # of the block, and of the closed gate. Then the disk is synced, before anything is read or told.
+    opened = 4
+    for call in range(opened + 1):
+        yield LogCase(
+            "append", SET_LOG, "", DISK_FAULT, file=SET_FILE, left=size, calls=f"{call}"
+        )
+    yield LogCase("append", SET_LOG, "", UNTOLD, file=SET_FILE, calls=f"{opened + 1}")
+    yield LogCase("append", SET_LOG, "known 0\n", DONE, file=SET_FILE, calls=f"{opened + 2}")
+    for question, answer in [(HIST, SET_ANSWER), ("root", SET_ROOT)]:
+        for call in range(opened):
+            yield LogCase(question, SET_LOG, "", DISK_FAULT, calls=f"{call}")
+        yield LogCase(question, SET_LOG, "", UNTOLD, calls=f"{opened}")
+        yield LogCase(question, SET_LOG, answer, DONE, calls=f"{opened + 1}")
+    # The first call of a question reads the head.
+    for question in [HIST, "root"]:
+        yield LogCase(question, b"", "", DISK_FAULT, calls="0")
+        yield LogCase(question, b"", "", UNTOLD, calls="1")
+    # Without a disk call: the first call tells.
+    yield LogCase("scan " + HIST, SET_LOG, "", UNTOLD, file=SET_FILE, calls="0")
+    yield LogCase("scan " + HIST, b"hello", SET_ANSWER, file=SET_FILE)
+
+
+def failing_pulls():
+    """An append of two blocks of which one pull fails, each in turn, one byte a pull: what was told
+    stays, and so does what was stored."""
+    second = block(1, bytes.fromhex(digest(SET_FILE)), [sets("raw/b", 1)])
+    file = SET_FILE + second
+    root = roots(frames_of(file), SECOND_ROWS)[1]
+    lines = f"{SET_LINE}block 1 rows 1 status 0 root {root}\n"
+    for pull in range(len(file) + 1):
+        told, after = "", b""
+        if pull >= len(SET_FILE):
+            told, after = SET_LINE, SET_LOG
+        if pull == len(file):
+            told, after = lines, log_of(file)
+        left = len(file) - pull
+        yield LogCase(
+            "append", b"", told, UNREADABLE, after, file, left=left, pulls=f"{pull}", piece=1
+        )
+    # The pull that finds the end was the last one.
+    never = f"{len(file) + 1}"
+    yield LogCase("append", b"", lines, DONE, log_of(file), file, pulls=never, piece=1)
+
+
+def pauses():
+    """A source that gives nothing once, as at the end of an input, and then goes on: the command has
+    ended by then, so what follows stays where it is, and the log is that of the blocks before it."""
+    for byte in [CLOSED, OPEN]:
+        for image, told in [(b"", SET_LINE), (SET_LOG, "known 0\n")]:
+            yield LogCase(
+                "append", image, told, DONE, SET_LOG, SET_FILE + byte, left=1,
+                pulls=f"pause {len(SET_FILE)}", piece=1,
+            )
+    size = len(SET_FILE)
+    for pull in range(size):
+        told, status = (TRUNCATED, REFUSED) if pull else ("", DONE)
+        yield paused("append", pull, told, status)
+        yield paused("scan " + HIST, pull, *((told, status) if pull else ("beyond empty\n", BEYOND)))
+    for byte in [CLOSED, OPEN]:
+        yield paused("scan " + HIST, size, SET_ANSWER, DONE, SET_FILE + byte)
+    source = b"fn f(){}"
+    for pull in [0, len(source) - 1]:
+        yield paused("fmt", pull, f"badinput syntax {pull} end\n", BAD_INPUT, source)
+    yield paused("fmt", len(source), "fn f() {\n}\n", DONE, source + b"}")
+    for pull in range(2):
+        yield paused("pack", pull, "badinput json\n", BAD_INPUT, b"[]")
+    yield paused("pack", 2, "", DONE, b"[]]")
+
+
+def paused(words, pull, told, status, file=SET_FILE):
+    """A command over a source whose pull of this number gives nothing, one byte a pull."""
+    left = len(file) - pull
+    return LogCase(words, b"", told, status, file=file, left=left, pulls=f"pause {pull}", piece=1)
+
+
+def words():
+    """Words over a log that are no command: nothing is read."""
+    questions = ["hist", "hist RAW 0", "hist raw/a 00", "back raw/a 0 0"]
+    for text in ["append x", *questions, "root 00", "root x", "root -1", "root 0 0", "root 4294967296"]:
+        yield LogCase(text, SET_LOG, "usage\n", 1, file=SET_FILE, left=len(SET_FILE))
+    for kind in ["hist", "back", "fwd"]:
+        yield LogCase(f"{kind} raw/a", b"", "beyond empty\n", BEYOND)
+    for text in ["root", "root 0", "root 7"]:
+        yield LogCase(text, b"", "beyond empty\n", BEYOND)
+
+
+def log_cases():
+    """All cases: the words of each, what must be printed, the fields of its line after the piece, and
+    the piece, where it isn't the next in turn."""
+    for part in [chains, refusals, wrong_logs, crashes, failing_calls, failing_pulls, pauses, words]:
+        for case in part():
+            yield case.case()

@@ -1,0 +1,176 @@
+"""Runs a program with its calls of the disk and of its streams told, where some of them may be made to
+fail; tools/checks/disk_calls.c stands between.
+"""
+import dataclasses
+import os
+import resource
+import signal
+import struct
+import subprocess
+import tempfile
+
+from c_builds import built_library
+from checks.log_runs import LOG
+
+# How long a run may take, in seconds.
+RUN_LIMIT = 60
+SYNCS = ("fsync", "fdatasync")
+# Flags of `open`.
+CREATE = 0o100
+NEW = 0o200
+TRUNCATE = 0o1000
+
+
+@dataclasses.dataclass
+class Call:
+    """A call: its name, what it touched, where and of how many bytes, and what it answered."""
+
+    name: str
+    what: str
+    at: int
+    size: int
+    result: int
+
+    def moves_bytes(self):
+        return self.name in ("pread", "pwrite", "read", "write")
+
+    def takes_bytes(self):
+        return self.name in ("pwrite", "write")
+
+    def changes(self):
+        """Whether it may change what the disk holds or is sure to hold, or what was told."""
+        return self.takes_bytes() or self.name in SYNCS or self.name == "ftruncate"
+
+
+@dataclasses.dataclass
+class Ran:
+    """What a run told, its exit status, the calls that it made, the log after it, and what the disk is sure to
+    hold then, where that was asked for; how many requests for memory there were, none where a signal ended it."""
+
+    told: str
+    status: object
+    calls: list
+    log: object
+    disk: object = None
+    requests: object = None
+
+
+def build(folder):
+    """What stands between, built by the C compiler."""
+    return built_library("checks/disk_calls.c", folder)
+
+
+def read_call(line):
+    """A line of CALLS_FILE as a call."""
+    _, name, what, at, size, result = line.split()
+    return Call(name, what, int(at, 8 if name == "open" else 10), int(size), int(result))
+
+
+@dataclasses.dataclass
+class Disk:
+    """What the disk is sure to hold of the log: whether its folder names it, and the bytes that were synced; and
+    the writes since, each an offset and bytes."""
+
+    is_named: bool
+    writes: list
+    synced: bytes
+
+    @staticmethod
+    def read(spelled):
+        """The disk that tools/checks/disk_calls.c has spelled."""
+        writes, at = [], 2
+        for _ in range(spelled[1]):
+            offset, size = struct.unpack_from("=II", spelled, at)
+            writes.append((offset, spelled[at + 8 : at + 8 + size]))
+            at += 8 + size
+        return Disk(spelled[0] == 1, writes, spelled[at:])
+
+    @staticmethod
+    def of(log):
+        """The disk, spelled, where all of a log is synced; none stands for no log."""
+        return bytes(2) if log is None else b"\1\0" + log
+
+
+class Watched:
+    """A program that is run so."""
+
+    def __init__(self, program, shim):
+        self.program = program
+        self.shim = shim
+
+    def run(self, words, source=b"", log=None, file_limit=None, other=None, disk=None, **numbers):
+        """Runs words over an input and a log, as bytes, or none where there is no such file. A number
+        FAIL, ERROR, SHORT, NOTHING, NO_MEMORY, NO_MORE, BEFORE or KILL is that of tools/checks/disk_calls.c; `other`
+        are the bytes of CALLS_OTHER, and `disk` those of CALLS_DISK. With `file_limit`, the greatest size of a file,
+        no calls are told."""
+        with tempfile.TemporaryDirectory() as folder, tempfile.TemporaryFile() as given:
+            ledger = os.path.join(folder, "ledger")
+            os.mkdir(ledger)
+            settings = {f"CALLS_{name}": str(number) for name, number in numbers.items()}
+            calls = os.path.join(folder, "calls")
+            settings["CALLS_REQUESTS"] = os.path.join(folder, "requests")
+            # The limit would be that of this file too.
+            if file_limit is None:
+                settings["CALLS_FILE"] = calls
+            settings["CALLS_OTHER"] = os.path.join(folder, "other")
+            put(settings["CALLS_OTHER"], other)
+            if disk is not None:
+                settings["CALLS_DISK"] = os.path.join(folder, "disk")
+                put(settings["CALLS_DISK"], disk)
+            put(os.path.join(ledger, LOG), log)
+            put(calls, b"")
+            given.write(source)
+            given.seek(0)
+            told, status = self.run_in(ledger, words, given, settings, lambda: limit_files(file_limit))
+            with open(calls) as lines:
+                calls = [read_call(line) for line in lines]
+            requests = get(settings["CALLS_REQUESTS"])
+            log, disk = get(os.path.join(ledger, LOG)), get(os.path.join(folder, "disk"))
+            return Ran(told, status, calls, log, disk, int(requests) if requests else None)
+
+    def run_plain(self, words, source=b"", log=None):
+        """What a run tells with nothing between, its exit status, and the log after it."""
+        with tempfile.TemporaryDirectory() as folder:
+            put(os.path.join(folder, LOG), log)
+            words = [self.program, *words.split()]
+            ran = subprocess.run(
+                words, cwd=folder, input=source, stdout=subprocess.PIPE, timeout=RUN_LIMIT, check=False
+            )
+            return ran.stdout.decode("latin-1"), ran.returncode, get(os.path.join(folder, LOG))
+
+    def run_in(self, folder, words, source, settings, prepare):
+        """What a run in a folder tells, and its exit status; its process is prepared first."""
+        try:
+            ran = subprocess.run(
+                [self.program, *words.split()],
+                cwd=folder,
+                stdin=source,
+                stdout=subprocess.PIPE,
+                stderr=subprocess.DEVNULL,
+                env={**os.environ, **settings, "LD_PRELOAD": self.shim},
+                preexec_fn=prepare,
+                timeout=RUN_LIMIT,
+            )
+        except subprocess.TimeoutExpired:
+            return "", f"none within {RUN_LIMIT} seconds"
+        return ran.stdout.decode("latin-1"), ran.returncode
+
+
+def limit_files(size):
+    """Lets no file of this process grow past a size: a write past it fails, and no signal comes."""
+    if size is not None:
+        signal.signal(signal.SIGXFSZ, signal.SIG_IGN)
+        resource.setrlimit(resource.RLIMIT_FSIZE, (size, size))
+
+
+def put(path, content):
+    if content is not None:
+        with open(path, "wb") as file:
+            file.write(content)
+
+
+def get(path):
+    if not os.path.exists(path):
+        return None
+    with open(path, "rb") as file:
+        return file.read()

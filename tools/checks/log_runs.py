@@ -1,0 +1,116 @@
+"""What the tools that run the built program over a log have in common.
+
+They leave out what the roots of blocks are, which tools/cases/log_cases.py shows: each digit is read as 0.
+"""
+import os
+import re
+import select
+import subprocess
+
+from cases import block_files
+from cases.block_files import sets
+from cases.log_cases import FIRST_GATE, HEAD, OPEN
+
+LOG = "chain.log"
+# How long a run may take, and how long a line is waited for, in seconds.
+RUN_LIMIT = 600
+LINE_LIMIT = 60
+# What stands for a root that is left out.
+NO_ROOT = bytes(32).hex()
+
+
+def plain_chain(count):
+    """The block file of a chain of one Set each, and the lines that `append` tells of its blocks, but
+    for the roots."""
+    blocks = [[sets(f"raw/{n}", n, [f"raw/{n - 1}"] if n else [])] for n in range(count)]
+    lines = [f"block {n} rows 1 status 0 root {NO_ROOT}\n" for n in range(count)]
+    return block_files.block_file(blocks), lines
+
+
+def without_roots(told):
+    """What was told, with each digit of a root as 0."""
+    return re.sub("(?<= root )[0-9a-f]+", lambda digits: "0" * len(digits[0]), told)
+
+
+def known_lines(count):
+    return [f"known {n}\n" for n in range(count)]
+
+
+def read_log(folder):
+    """What the log of a folder holds; nothing where there is none."""
+    path = os.path.join(folder, LOG)
+    if not os.path.exists(path):
+        return b""
+    with open(path, "rb") as file:
+        return file.read()
+
+
+def append(program, folder, file):
+    """Runs `append` over the bytes of a file: what it told, and its exit status."""
+    ran = subprocess.run(
+        [program, "append"], cwd=folder, input=file, stdout=subprocess.PIPE, timeout=RUN_LIMIT
+    )
+    return without_roots(ran.stdout.decode("ascii")), ran.returncode
+
+
+def start_append(program, folder, source):
+    """Starts `append` over a source; what it tells is read line by line."""
+    streams = {"stdin": source, "stdout": subprocess.PIPE}
+    return subprocess.Popen([program, "append"], cwd=folder, bufsize=0, **streams)
+
+
+def read_line(process):
+    """The next line that is told, or what there is of it at the end, or after a while."""
+    line = b""
+    while not line.endswith(b"\n") and select.select([process.stdout], [], [], LINE_LIMIT)[0]:
+        byte = process.stdout.read(1)
+        if not byte:
+            break
+        line += byte
+    return without_roots(line.decode("ascii"))
+
+
+def ask(program, folder, *words):
+    """Runs a question: what it told, and its exit status."""
+    ran = subprocess.run(
+        [program, *words],
+        cwd=folder,
+        stdin=subprocess.DEVNULL,
+        stdout=subprocess.PIPE,
+        timeout=RUN_LIMIT,
+    )
+    return ran.stdout.decode("ascii"), ran.returncode
+
+
+class Checks:
+    """Comparisons of what is with what must be, and how many failed."""
+
+    def __init__(self, tool):
+        self.tool = tool
+        self.count = self.failed = 0
+
+    def same(self, what, given, wanted):
+        self.count += 1
+        if given != wanted:
+            self.failed += 1
+            print(f"{self.tool}: {what}: {given!r:.300}, not {wanted!r:.300}")
+
+    def holds(self, what, is_so):
+        self.same(what, is_so, True)
+
+    def end(self):
+        """The exit status of the tool."""
+        print(f"{self.tool}: {self.count} checks, {self.failed} failed")
+        return 1 if self.failed or not self.count else 0
+
+
+def held_frames(image):
+    """The frames of the records of a log, up to the closed gate; none where there is no log yet."""
+    frames, gate = [], FIRST_GATE
+    if not image.startswith(HEAD):
+        return frames
+    while image[gate : gate + 1] == OPEN:
+        size = 4 + int.from_bytes(image[gate + 1 : gate + 5], "big")
+        frames.append(image[gate + 1 : gate + 1 + size])
+        gate += 1 + size
+    return frames

@@ -1,0 +1,240 @@
+"""Commands of the built program, and what each must print, end with and leave.
+
+What is expected was written from docs/formats.md and docs/language.md, never from what the program
+printed.
+"""
+from cases.generated_loads import load_line
+from cases.log_cases import SET_LINE, SET_LOG, frames_of, log_of
+from cases.root_cases import Row, roots
+from checks.log_runs import NO_ROOT
+from checks.program_runs import TOP, Case
+
+ONE_SET = f"{TOP}/examples/one-set.blocks"
+RECALL = f"{TOP}/examples/recall.blocks"
+BANK = f"{TOP}/examples/bank.blocks"
+DRAFT = f"{TOP}/examples/supply-chain.json"
+# Chains whose rows are written by contracts: the blocks of each in hex, and what `append` tells of them
+# but for their roots, which need these rows.
+CONTRACT_CHAINS = f"{TOP}/tools/cases/contract_chains.txt"
+# A source has at most so many bytes. As the source of a case, a number is that of zeros.
+MAX_SOURCE_BYTES = 67_108_864
+# The fields of a block before its transactions take 39 bytes: here the last of them is cut.
+SHORT_FRAME = bytes([0, 0, 0, 38, 1]) + bytes(37)
+CUT_FRAME = bytes([0, 0, 0, 1])
+SCAN = b"scan hist raw/a 0"
+SET_ANSWER = "block 0 tx 0 int 5\n"
+# A draft of the block of ONE_SET, which begins with its length in four bytes.
+ONE_DRAFT = b'[[{"set":{"sender":"u","key":"raw/a","value":5}}]]'
+with open(ONE_SET, "rb") as one_set:
+    ONE_FRAME = one_set.read()
+# The one block that `gen 1` makes, whatever the seed: number 0, no parent, one Deploy.
+MIX = (
+    b'fn step(a: int) { let k = "raw/" ++ text(a); if has(k) { put "mix/" ++ text(a) = '
+    b"hist_block(k, block() - 1); } }"
+)
+GENERATED = b"".join(
+    [bytes([0, 0, 0, 164, 1]), bytes(36), b"\0\1\2", b"\0\3gen", b"\0\3mix", b"\0\x70", MIX]
+)
+# A proof of what raw/a is in ONE_SET, of 274 bytes, in hex and a line end, and the root to which it
+# leads, by docs/proofs.md.
+with open(f"{TOP}/examples/raw-a.proof", "rb") as raw_a:
+    RAW_A_PROOF = raw_a.read()
+RAW_A_ROOT = "41f6c6fc6bc756e479b796f7f09689670bee66ffad0189a20e5bf0574966869d"
+VERIFY = f"verify {RAW_A_ROOT} hist raw/a 0".encode()
+EXPOSE = f"expose {RAW_A_ROOT} hist raw/a 0 0".encode()
+with open(RECALL, "rb") as recall:
+    RECALL_FILE = recall.read()
+RECALL_LOG = log_of(RECALL_FILE)
+RECALL_ROOTS = roots(
+    frames_of(RECALL_FILE),
+    [
+        Row("raw/part/p1", 0, 0, "batch 17", []),
+        Row("raw/part/p2", 0, 1, "batch 18", []),
+        Row("raw/lot/l1", 1, 0, 120, [("raw/part/p1", 0)]),
+        Row("raw/lot/l2", 1, 1, 80, [("raw/part/p2", 0)]),
+        Row("raw/lot/l3", 2, 0, 200, [("raw/part/p1", 0), ("raw/part/p2", 0)]),
+        Row("raw/shop/s1", 2, 1, "l1", [("raw/lot/l1", 1)]),
+    ],
+)
+# What `append` tells of its blocks, and tells of them again.
+RECALL_LINES = "".join(
+    f"block {n} rows 2 status 0,0 root {root}\n" for n, root in enumerate(RECALL_ROOTS)
+)
+RECALL_KNOWN = "".join(f"known {n}\n" for n in range(3))
+# What was made of the part p1.
+USED = """\
+block 0 uses 2
+raw/lot/l1 1
+raw/lot/l3 2
+"""
+
+CASES = [
+    # 0: done. The program's words are those after its own name, from the first to the last.
+    Case(SCAN, ONE_SET, "block 0 tx 0 int 5\n", 0),
+    Case(b"scan back raw/a 0", ONE_SET, "block 0 deps 0\n", 0),
+    Case(b"scan fwd raw/part/p1 2", RECALL, USED, 0),
+    Case(b"scan hist raw/b 0", ONE_SET, "none\n", 0),
+    Case(b"scan hist bank/n 3", BANK, "block 2 tx 0 int 8\n", 0),
+    Case(b"scan fwd bank/n 1", BANK, "block 1 uses 2\nbank/n 2\nbank/log 2\n", 0),
+    Case(b"fmt", b"fn f ( a :int ){}# and no more", "fn f(a: int) {\n}\n", 0),
+    Case(b"pack", b"[]", "", 0),
+    Case(b"pack", ONE_DRAFT, ONE_FRAME, 0),
+    Case(b"gen 1 0", b"", GENERATED, 0),
+    Case(b"gen 1 7", None, GENERATED, 0, streams="<&-"),
+    Case(b"load 1 0", b"", load_line(1, 0), 0),
+    Case(b"load 20 7", None, load_line(20, 7), 0, streams="<&-", log=b"hello"),
+    # Over the log, which the first block makes.
+    Case(b"append", ONE_SET, SET_LINE, 0, after=SET_LOG),
+    Case(b"append", ONE_SET, "known 0\n", 0, log=SET_LOG),
+    Case(b"append", RECALL, RECALL_LINES, 0, after=RECALL_LOG),
+    Case(b"append", RECALL, RECALL_KNOWN, 0, log=RECALL_LOG),
+    Case(b"fwd raw/part/p1", None, USED, 0, log=RECALL_LOG),
+    Case(b"root 1", None, f"root 1 {RECALL_ROOTS[1]}\n", 0, log=RECALL_LOG),
+    Case(b"append", b"", "", 0),
+    Case(b"append", ONE_SET, SET_LINE, 0, log=SET_LOG[:1], after=SET_LOG),
+    # A log that may only be read.
+    Case(b"hist raw/a", None, SET_ANSWER, 0, log=SET_LOG, is_read_only=True),
+    Case(b"hist raw/a", None, "beyond empty\n", 9, is_read_only=True),
+    Case(b"append", ONE_SET, "known 0\n", 0, log=SET_LOG, is_read_only=True),
+    Case(b"append", RECALL, "", 4, log=SET_LOG[:8] + b"\0", is_read_only=True),
+    Case(b"append", ONE_SET, "", 4, is_read_only=True),
+    # What stands behind a closed gate means nothing.
+    Case(b"append", ONE_SET, SET_LINE, 0, log=SET_LOG[:8] + b"\0junk", after=SET_LOG),
+    Case(b"append", b"", "", 0, log=SET_LOG[:8] + b"\0" + bytes(80)),
+    Case(b"hist raw/a", None, SET_ANSWER, 0, log=SET_LOG),
+    Case(b"hist raw/a 0", None, SET_ANSWER, 0, streams="<&-", log=SET_LOG),
+    Case(b"back raw/a", None, "block 0 deps 0\n", 0, log=SET_LOG),
+    Case(b"fwd raw/a 0", None, "block 0 uses 0\n", 0, log=SET_LOG),
+    Case(b"hist raw/b", None, "none\n", 0, log=SET_LOG),
+    # These don't touch it.
+    Case(SCAN, ONE_SET, SET_ANSWER, 0, log=b"hello"),
+    Case(SCAN, ONE_SET, SET_ANSWER, 0, log="."),
+    Case(b"prove hist raw/a 0 0", None, RAW_A_PROOF, 0, log=SET_LOG),
+    Case(b"prove hist raw/a 0 0", None, RAW_A_PROOF, 0, streams="<&-", log=SET_LOG, is_read_only=True),
+    # A proof, with digits of either case and with a line end or not.
+    Case(VERIFY, RAW_A_PROOF, SET_ANSWER, 0),
+    Case(VERIFY, RAW_A_PROOF.rstrip().upper(), SET_ANSWER, 0, log=b"hello"),
+    Case(EXPOSE, RAW_A_PROOF, "no clash\n", 0, log=SET_LOG),
+    Case(EXPOSE, RAW_A_PROOF.rstrip().upper(), "no clash\n", 0, log=SET_LOG, is_read_only=True),
+    # 1: the words are no command: none, too few, one too many before or after those of a command.
+    Case(b"", ONE_SET, "usage\n", 1),
+    Case(b"scan hist raw/a", ONE_SET, "usage\n", 1),
+    Case(b"scan hist raw/a 00", ONE_SET, "usage\n", 1),
+    Case(b"scan hist raw/a 0 0", ONE_SET, "usage\n", 1),
+    Case(b"x scan hist raw/a 0", ONE_SET, "usage\n", 1),
+    Case(b"fmt fmt", b"fn f(){}", "usage\n", 1),
+    Case(b"gen 0 0", b"", "usage\n", 1),
+    Case(b"load 0 0", b"", "usage\n", 1),
+    # A word that is no text isn't passed over.
+    Case(b"fmt \xff", b"fn f(){}", "usage\n", 1),
+    Case(b"scan hist raw/\xff 0", ONE_SET, "usage\n", 1),
+    Case(VERIFY + b" 0", RAW_A_PROOF, "usage\n", 1),
+    Case(VERIFY.replace(b"c6bc", b"C6bc"), RAW_A_PROOF, "usage\n", 1),
+    Case(b"prove hist raw/a 0", None, "usage\n", 1, log=SET_LOG),
+    Case(b"prove hist raw/a 0 00", None, "usage\n", 1, log=SET_LOG),
+    Case(EXPOSE[:-2], RAW_A_PROOF, "usage\n", 1, log=SET_LOG),
+    Case(EXPOSE + b"0", RAW_A_PROOF, "usage\n", 1, log=SET_LOG),
+    # 2: reading fails, and nothing is printed.
+    Case(SCAN, None, "", 2, streams="<&-"),
+    Case(b"fmt", None, "", 2, streams="</"),
+    Case(b"pack", None, "", 2, streams="<&-"),
+    Case(b"append", None, "", 2, streams="<&-"),
+    # The log does not take the place of a stream that is closed.
+    Case(b"append", None, "", 2, streams="<&-", log=SET_LOG),
+    Case(b"append", None, "", 2, streams="<&- >&- 2>&-", log=SET_LOG),
+    Case(b"append", None, "", 2, streams="</", log=SET_LOG),
+    # 3: writing fails. The block was stored before.
+    Case(b"append", ONE_SET, "", 3, streams=">/dev/full", after=SET_LOG),
+    Case(b"append", ONE_SET, "", 3, streams=">&-", after=SET_LOG),
+    Case(b"append", ONE_SET, "", 3, streams=">&- 2>&-", log=SET_LOG),
+    Case(b"hist raw/a", None, "", 3, streams=">&-", log=SET_LOG),
+    Case(b"hist raw/a", None, "", 3, streams="<&- >&- 2>&-", log=SET_LOG),
+    Case(b"hist raw/a", None, SET_ANSWER, 0, streams="2>&-", log=SET_LOG),
+    Case(SCAN, ONE_SET, "", 3, streams=">&-"),
+    Case(SCAN, ONE_SET, "", 3, streams=">/dev/full"),
+    Case(b"", ONE_SET, "", 3, streams=">/dev/full"),
+    Case(b"pack", DRAFT, "", 3, streams=">/dev/full"),
+    Case(b"gen 2 0", b"", "", 3, streams=">/dev/full"),
+    Case(b"load 2 0", b"", "", 3, streams=">/dev/full"),
+    # 4: the log is a folder; a device, of zeros or of nothing; a link to no folder.
+    Case(b"append", ONE_SET, "", 4, log="."),
+    Case(b"hist raw/a", None, "", 4, log="."),
+    Case(b"append", ONE_SET, "", 4, log="/dev/full"),
+    Case(b"hist raw/a", None, "", 4, log="/dev/full"),
+    Case(b"append", ONE_SET, "", 4, log="/dev/null"),
+    Case(b"root", None, "", 4, log="/dev/null"),
+    Case(b"append", ONE_SET, "", 4, log="none/chain.log"),
+    # 5: out of memory, and nothing is printed.
+    Case(b"fmt", MAX_SOURCE_BYTES, "", 5, memory=48_000_000),
+    # 6 and 7: not a log, and a damaged one; nothing is written.
+    Case(b"append", ONE_SET, "not a log\n", 6, log=b"hello"),
+    Case(b"hist raw/a", None, "not a log\n", 6, log=b"hello"),
+    Case(b"prove hist raw/a 0 0", None, "not a log\n", 6, log=b"hello"),
+    Case(b"prove hist raw/a 0 0", None, "damaged at 8\n", 7, log=SET_LOG[:40]),
+    Case(EXPOSE, b"zz", "not a log\n", 6, log=b"hello"),
+    Case(EXPOSE, b"zz", "damaged at 8\n", 7, log=SET_LOG[:40]),
+    Case(b"append", ONE_SET, "damaged at 8\n", 7, log=SET_LOG[:40]),
+    Case(b"fwd raw/a 0", None, "damaged at 8\n", 7, log=SET_LOG[:40]),
+    # 8: a frame is refused.
+    Case(b"append", SHORT_FRAME, "refused frame 0 malformed 37\n", 8),
+    Case(b"append", CUT_FRAME, "refused frame 0 truncated\n", 8, log=SET_LOG),
+    Case(SCAN, CUT_FRAME, "refused frame 0 truncated\n", 8),
+    Case(SCAN, SHORT_FRAME, "refused frame 0 malformed 37\n", 8),
+    # 9: there is no such block.
+    Case(b"hist raw/a", None, "beyond empty\n", 9),
+    Case(b"back raw/a 0", None, "beyond empty\n", 9, log="none/chain.log"),
+    Case(b"fwd raw/a 1", None, "beyond head 0\n", 9, log=SET_LOG),
+    Case(b"prove fwd raw/a 0 1", None, "beyond head 0\n", 9, log=SET_LOG),
+    Case(b"prove fwd raw/a 1 0", None, "beyond head 0\n", 9, log=SET_LOG),
+    Case(b"prove fwd raw/a 1 0", None, "beyond empty\n", 9),
+    Case(EXPOSE, b"zz", "beyond empty\n", 9),
+    Case(EXPOSE[:-1] + b"1", None, "beyond head 0\n", 9, streams="<&-", log=SET_LOG),
+    Case(EXPOSE[:-3] + b"1 0", None, "beyond head 0\n", 9, streams="<&-", log=SET_LOG),
+    Case(SCAN, b"", "beyond empty\n", 9),
+    Case(b"scan hist raw/a 1", ONE_SET, "beyond head 0\n", 9),
+    # 10: a proof is not accepted.
+    Case(VERIFY, b"", "rejected malformed 0\n", 10),
+    Case(VERIFY, b"\n", "rejected malformed 0\n", 10),
+    Case(VERIFY, b"00" + RAW_A_PROOF[2:], "rejected malformed 0\n", 10),
+    Case(VERIFY, RAW_A_PROOF[:546], "rejected malformed 273\n", 10),
+    Case(VERIFY, RAW_A_PROOF[:548] + b"00", "rejected malformed 274\n", 10),
+    Case(VERIFY.replace(b"raw/a", b"raw/b"), RAW_A_PROOF, "rejected query\n", 10),
+    Case(
+        VERIFY.replace(b"41f6", b"41f7"), RAW_A_PROOF, f"rejected root {RAW_A_ROOT}\n", 10
+    ),
+    Case(EXPOSE, b"\n", "rejected malformed 0\n", 10, log=SET_LOG),
+    Case(
+        EXPOSE.replace(b"41f6", b"41f7"),
+        RAW_A_PROOF,
+        f"rejected root {RAW_A_ROOT}\n",
+        10,
+        log=SET_LOG,
+    ),
+    # 11: the input is no contract, no draft or no hex, or too long.
+    Case(b"fmt", b"fn f()", "badinput syntax 6 end\n", 11),
+    Case(b"fmt", b"fn f() { a = 1; }", "badinput check 9 unknown\n", 11),
+    Case(b"fmt", MAX_SOURCE_BYTES, "badinput syntax 0 byte\n", 11),
+    Case(b"fmt", MAX_SOURCE_BYTES + 1, "badinput long\n", 11),
+    Case(b"pack", b"[", "badinput json\n", 11),
+    Case(b"pack", b"{}", "badinput top\n", 11),
+    Case(b"pack", b"[1]", "badinput block 0\n", 11),
+    Case(b"pack", b'[[{"set":{}}]]', "badinput draft 0 0\n", 11),
+    Case(b"pack", MAX_SOURCE_BYTES + 1, "badinput long\n", 11),
+    Case(VERIFY, b"abc", "badinput odd\n", 11),
+    Case(EXPOSE, b"abc", "badinput odd\n", 11, log=SET_LOG),
+    Case(EXPOSE, MAX_SOURCE_BYTES + 1, "badinput long\n", 11, log=SET_LOG),
+    Case(VERIFY, b"zz", "badinput at 0\n", 11),
+    Case(VERIFY, RAW_A_PROOF + b"\n", "badinput odd\n", 11),
+    Case(VERIFY, MAX_SOURCE_BYTES, "badinput at 0\n", 11),
+    Case(VERIFY, MAX_SOURCE_BYTES + 1, "badinput long\n", 11),
+]
+
+
+def contract_cases():
+    """`append` of the chains whose rows are written by contracts, each onto a log that is not there."""
+    with open(CONTRACT_CHAINS) as chains:
+        for chain in chains.read().split("\n\n"):
+            blocks, told = chain.split("\n", 1)
+            file = bytes.fromhex(blocks)
+            told = "".join(f"{line} root {NO_ROOT}\n" for line in told.strip().split("\n"))
+            yield Case(b"append", file, told, 0, after=log_of(file), has_roots=False)

@@ -1,0 +1,330 @@
+"""Runs of the built program over long chains, great blocks and long answers, and at the limits of
+blocks, drafts and chains: at the last good value, and one past it.
+
+They are cases of tools/checks/check-program. What is expected is worked out from docs/formats.md, by the
+readers and writers of this folder, never by the program.
+"""
+import json
+
+from cases.block_files import NO_CONTRACT, OK, block_digest, block_file, calls, deploys, number, sets, string
+from cases.generated_chain import Generated, spelled
+from cases.generated_loads import load_line
+from cases.growing_roots import growing_roots
+from cases.log_cases import BEYOND, DONE, REFUSED, frames_of, log_of
+from cases.root_cases import Row, roots
+from checks.program_runs import Case
+
+BAD_INPUT = 11
+MAX_TXS = 4_096
+MAX_BLOCK_BYTES = 1_048_576
+MAX_BLOCKS = 1_048_576
+MAX_TEXT_BYTES = 1_024
+MAX_SOURCE_BYTES = 16_384
+MAX_DEPS = 64
+MAX_ARGS = 8
+MAX_CALL_BUDGET = 1_000_000
+# The fields of a block before its transactions, and where among them the count of these stands.
+FRONT_BYTES = 39
+COUNT_OFFSET = 37
+
+
+def run(words, source, printed, status=DONE, **logs):
+    return Case(words, source, printed, status, **logs)
+
+
+class Chain:
+    """A block file with the rows that its blocks write, and what is told of them."""
+
+    def __init__(self, file, rows, plain_lines):
+        self.file, self.rows = file, rows
+        self.frames = frames_of(file)
+        self.log = log_of(file)
+        self.roots = list(growing_roots(self.frames, rows))
+        told = [f"{line} root {root}\n" for line, root in zip(plain_lines, self.roots)]
+        self.lines = "".join(told)
+        self.known = "".join(f"known {at}\n" for at in range(len(self.frames)))
+        self.head = len(self.frames) - 1
+
+    def append_runs(self):
+        yield run(b"append", self.file, self.lines, after=self.log)
+        yield run(b"append", self.file, self.known, log=self.log)
+
+    def root_runs(self, *blocks):
+        last = f"root {self.head} {self.roots[self.head]}\n"
+        yield run(b"root", None, last, log=self.log)
+        for at in blocks:
+            yield run(b"root %d" % at, None, f"root {at} {self.roots[at]}\n", log=self.log)
+        beyond = f"beyond head {self.head}\n"
+        yield run(b"root %d" % (self.head + 1), None, beyond, BEYOND, log=self.log)
+
+    def question_runs(self, kind, key, *blocks):
+        """A question over the log and over the file."""
+        for at in blocks:
+            question = f"{kind} {key} {at}".encode()
+            answer = ANSWERS[kind](self.rows, self.version(key, at))
+            yield run(question, None, answer, log=self.log)
+            yield run(b"scan " + question, self.file, answer)
+
+    def version(self, key, at):
+        """The newest version of a key in the blocks up to one; none where there is none."""
+        found = [row for row in self.rows if row.key == key and row.block <= at]
+        return found[-1] if found else None
+
+
+def told_value(value):
+    return f"int {value}" if isinstance(value, int) else f"text {value}"
+
+
+def hist_answer(_, row):
+    return f"block {row.block} tx {row.tx} {told_value(row.value)}\n" if row else "none\n"
+
+
+def listed(word, block, places):
+    return "".join([f"block {block} {word} {len(places)}\n", *(f"{key} {at}\n" for key, at in places)])
+
+
+def back_answer(_, row):
+    return listed("deps", row.block, row.deps) if row else "none\n"
+
+
+def fwd_answer(rows, row):
+    if not row:
+        return "none\n"
+    users = [user for user in rows if (row.key, row.block) in user.deps]
+    return listed("uses", row.block, [(user.key, user.block) for user in users])
+
+
+ANSWERS = {"hist": hist_answer, "back": back_answer, "fwd": fwd_answer}
+
+
+def chain_of_sets(blocks):
+    """A chain of blocks of Sets that all write their rows, each a key, a value and dependencies: a key
+    and the block of its newest version."""
+    rows, files, lines = [], [], []
+    for at, block in enumerate(blocks):
+        rows += [Row(key, at, tx, value, deps) for tx, (key, value, deps) in enumerate(block)]
+        files.append([sets(key, value, [dep for dep, _ in deps]) for key, value, deps in block])
+        statuses = ",".join(["0"] * len(block)) or "-"
+        lines.append(f"block {at} rows {len(block)} status {statuses}")
+    return Chain(block_file(files), rows, lines)
+
+
+# ---- many blocks
+
+
+def compare_roots():
+    """Fails where the roots of a short chain are others than those that are worked out from all rows."""
+    made = Generated(24, 7)
+    frames = frames_of(made.file)
+    if list(growing_roots(frames, made.rows)) != roots(frames, made.rows):
+        raise ValueError("the roots of a generated chain differ")
+
+
+def generated_runs():
+    """`gen 2000 7`, what becomes of it, `load 2000 7`, and the same chain as a draft."""
+    compare_roots()
+    made = Generated(2_000, 7)
+    chain = Chain(made.file, made.rows, made.plain_lines())
+    yield run(b"gen 2000 7", b"", made.file)
+    yield run(b"load 2000 7", b"", load_line(2_000, 7))
+    yield run(b"pack", json.dumps(made.draft).encode(), made.file)
+    yield from chain.append_runs()
+    yield from chain.root_runs(0, 1_000)
+    # The other half is appended to the first.
+    half = b"".join(chain.frames[:1_000])
+    known = "".join(f"known {at}\n" for at in range(1_000))
+    told = "".join(chain.lines.splitlines(keepends=True)[1_000:])
+    yield run(b"append", made.file, known + told, log=log_of(half), after=chain.log)
+    for kind in ANSWERS:
+        for key in ["raw/3", "mix/3", made.rows[-1].key]:
+            yield from chain.question_runs(kind, key, 1_000, 1_999)
+    beyond = "beyond head 1999\n"
+    yield run(b"hist raw/3 2000", None, beyond, BEYOND, log=chain.log)
+    yield run(b"scan hist raw/3 2000", made.file, beyond, BEYOND)
+
+
+def level_runs():
+    """33 versions of one key, each eight blocks after the one before: so all are at the levels 0 to 3."""
+    blocks = [[("raw/a", at, [])] if at % 8 == 0 else [] for at in range(8 * 32 + 1)]
+    chain = chain_of_sets(blocks)
+    yield from chain.append_runs()
+    yield from chain.root_runs(0, 128)
+    yield from chain.question_runs("hist", "raw/a", 0, 7, 8, 129, 255, 256)
+
+
+def full_runs():
+    """As many blocks as a chain may have, each without a transaction, and one more."""
+    frames, parent = [], bytes(32)
+    for at in range(MAX_BLOCKS + 1):
+        block = b"\1%b%b\0\0" % (number(at, 4), parent)
+        parent = block_digest(block)
+        frames.append(b"\0\0\0%c%b" % (FRONT_BYTES, block))
+    one_more = frames.pop()
+    whole = b"".join(frames)
+    last = MAX_BLOCKS - 1
+    yield run(b"scan hist raw/a %d" % last, whole, "none\n")
+    yield run(b"scan hist raw/a %d" % MAX_BLOCKS, whole, f"beyond head {last}\n", BEYOND)
+    full = f"refused frame {MAX_BLOCKS} full\n"
+    yield run(b"scan hist raw/a 0", whole + one_more, full, REFUSED)
+    log = log_of(whole)
+    yield run(b"append", one_more, "refused frame 0 full\n", REFUSED, log=log)
+
+
+# ---- great blocks
+
+
+def txs_runs():
+    """A block of as many transactions as it may have, and one of one more."""
+    most = [(f"raw/{at}", at, []) for at in range(MAX_TXS)]
+    chain = chain_of_sets([most])
+    yield from chain.append_runs()
+    yield from chain.root_runs()
+    yield from chain.question_runs("hist", f"raw/{MAX_TXS - 1}", 0)
+    more = block_file([[sets("raw/a", 1)] * (MAX_TXS + 1)])
+    yield from refused_runs(more, f"malformed {COUNT_OFFSET}")
+    draft = [{"set": {"sender": "u", "key": key, "value": value}} for key, value, _ in most]
+    yield run(b"pack", json.dumps([draft]).encode(), chain.file)
+    draft.append(draft[0])
+    yield run(b"pack", json.dumps([[], draft]).encode(), "badinput block 1\n", BAD_INPUT)
+
+
+def sets_of_bytes(size):
+    """Sets of one text each, in a block of so many bytes."""
+    left, block = size - FRONT_BYTES, []
+    while left:
+        key = f"raw/{len(block):04}"
+        around = len(sets(key, "").bytes)
+        # The last one needs room for what is around its text.
+        text = min(MAX_TEXT_BYTES, left - around)
+        if 0 < left - around - text < around:
+            text -= around
+        block.append((key, "a" * text, []))
+        left -= around + text
+    return block
+
+
+def long_block_runs():
+    """A block of as many bytes as it may have, and one of one more."""
+    block = sets_of_bytes(MAX_BLOCK_BYTES)
+    chain = chain_of_sets([block])
+    assert len(chain.frames[0]) == 4 + MAX_BLOCK_BYTES
+    yield from chain.append_runs()
+    yield from chain.root_runs()
+    yield from chain.question_runs("hist", block[-1][0], 0)
+    longer = sets_of_bytes(MAX_BLOCK_BYTES + 1)
+    more = block_file([[sets(key, value) for key, value, _ in longer]])
+    yield from refused_runs(more, f"length {MAX_BLOCK_BYTES + 1}")
+    for txs, printed, status in [
+        (block, chain.file, DONE),
+        (longer, "badinput block 0\n", BAD_INPUT),
+    ]:
+        draft = [{"set": {"sender": "u", "key": key, "value": value}} for key, value, _ in txs]
+        yield run(b"pack", json.dumps([draft]).encode(), printed, status)
+
+
+def refused_runs(file, cause):
+    """The first frame of a file is refused, and no log is made."""
+    refused = f"refused frame 0 {cause}\n"
+    yield run(b"scan hist raw/a 0", file, refused, REFUSED)
+    yield run(b"append", file, refused, REFUSED)
+
+
+# ---- long answers
+
+
+def uses_runs():
+    """A version from which 5,000 others were derived, in two blocks."""
+    source = ("raw/s", 0)
+    users = [[(f"raw/{at}-{i}", i, [source]) for i in range(2_500)] for at in (1, 2)]
+    chain = chain_of_sets([[("raw/s", 1, [])], *users])
+    yield from chain.append_runs()
+    yield from chain.root_runs(1)
+    yield from chain.question_runs("fwd", "raw/s", 0, 2)
+
+
+# ---- limits of a transaction, in a block and in a draft
+
+
+def set_draft(count):
+    deps = [f"raw/{at}" for at in range(count)]
+    return {"set": {"sender": "u", "key": "raw/x", "value": 1, "deps": deps}}
+
+
+def call_draft(args=(), budget=100):
+    call = {"contract": "c", "function": "f", "args": list(args), "budget": budget}
+    return {"call": {"sender": "u", **call}}
+
+
+def deploy_draft(size):
+    return {"deploy": {"sender": "u", "name": "c", "source": "#" * size}}
+
+
+def limit_pairs():
+    """Transactions, as a draft has them, at the last good value of a limit and one past it, and the
+    bytes of each before the field at fault."""
+    sender = 1 + len(string("u"))
+    names = len(string("c") + string("f"))
+    before_deps = sender + len(string("raw/x")) + 9
+    yield set_draft(MAX_DEPS), set_draft(MAX_DEPS + 1), before_deps
+    ints = range(MAX_ARGS + 1)
+    yield call_draft(ints[:-1]), call_draft(ints), sender + names
+    yield call_draft(["a" * MAX_TEXT_BYTES]), call_draft(["a" * (MAX_TEXT_BYTES + 1)]), sender + names + 2
+    yield call_draft(budget=MAX_CALL_BUDGET), call_draft(budget=MAX_CALL_BUDGET + 1), sender + names + 1
+    source = sender + len(string("c"))
+    yield deploy_draft(MAX_SOURCE_BYTES), deploy_draft(MAX_SOURCE_BYTES + 1), source
+
+
+def limit_runs():
+    """Each of these in a block and in a draft."""
+    for good, bad, before in limit_pairs():
+        file = block_file([[spelled(good)]])
+        yield run(b"scan hist raw/none 0", file, "none\n")
+        yield run(b"pack", json.dumps([[good]]).encode(), file)
+        yield from refused_runs(block_file([[spelled(bad)]]), f"malformed {FRONT_BYTES + before}")
+        faulty = json.dumps([[], [good, bad]]).encode()
+        yield run(b"pack", faulty, "badinput draft 1 1\n", BAD_INPUT)
+
+
+def deps_runs():
+    """A version with as many dependencies as it may have."""
+    before = [(f"raw/{at}", at, []) for at in range(MAX_DEPS)]
+    chain = chain_of_sets([before, [("raw/x", 1, [(key, 0) for key, _, _ in before])]])
+    yield from chain.append_runs()
+    yield from chain.question_runs("back", "raw/x", 1)
+    yield from chain.question_runs("fwd", "raw/63", 1)
+
+
+def args_runs():
+    """A call with as many arguments as it may have, all of which its function takes."""
+    names = "abcdefgh"
+    source = f"fn f({', '.join(f'{name}: int' for name in names)}) {{ put \"c/x\" = {'+'.join(names)}; }}"
+    # A statement, the key, eight names and seven sums, and the put.
+    cost = 1 + 1 + 8 + 7 + 16
+    called = calls("c", "f", [1, 2, 4, 8, 16, 32, 64, 128], cost, OK, cost)
+    file = block_file([[deploys("c", source)], [called]])
+    rows = [Row("c/x", 1, 0, 255, [])]
+    chain = Chain(file, rows, ["block 0 rows 0 status 0", "block 1 rows 1 status 0"])
+    yield from chain.append_runs()
+    yield from chain.question_runs("hist", "c/x", 0, 1)
+
+
+def sum_runs():
+    """A draft of a block whose calls have as great a budget together as they may, and of one more."""
+    whole = [call_draft(budget=MAX_CALL_BUDGET)] * 10
+    file = block_file([[spelled(tx) for tx in whole]])
+    lines = [f"block 0 rows 0 status {','.join([str(NO_CONTRACT)] * 10)}"]
+    yield run(b"pack", json.dumps([whole]).encode(), file)
+    yield from Chain(file, [], lines).append_runs()
+    more = [*whole, call_draft(budget=1)]
+    yield run(b"pack", json.dumps([[], more]).encode(), "badinput block 1\n", BAD_INPUT)
+    over = block_file([[spelled(tx) for tx in more]])
+    yield from refused_runs(over, "budget 10000001")
+
+
+def size_runs():
+    """All runs."""
+    for part in [
+        generated_runs, level_runs, full_runs, txs_runs, long_block_runs, uses_runs, limit_runs,
+        deps_runs, args_runs, sum_runs,
+    ]:
+        yield from part()

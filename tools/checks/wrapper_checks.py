@@ -1,0 +1,363 @@
+"""Checks of ./lineage over the built program: that it prints and ends as the program does, what it says
+on standard error, its lock, and that the pages list the commands that there are and show what they print.
+
+It is run in a tree of its own, which has the program and what says that it is built.
+"""
+import fcntl
+import os
+import re
+import shutil
+import subprocess
+import tempfile
+import time
+
+from cases.log_cases import CLOSED, NOT_A_LOG, REFUSED, SET_FILE, SET_LINE, SET_LOG
+from checks import disk_calls, page_runs
+from checks.log_runs import LOG
+from checks.program_cases import CASES, RAW_A_PROOF, RAW_A_ROOT, RECALL_FILE
+from checks.program_runs import TOP, check_case, take_rights
+from lineage import commands, lineage_input, lineage_messages
+
+# How long a run may take, and how long one waits for another, in seconds.
+RUN_LIMIT = 60
+PAUSE = 1
+# After so many seconds a file that was read is known to stand.
+TICK = 2
+NOT_BUILT = 70
+COPIED = ["lineage", "crates.txt", "HANDLES", "tools", "examples", "verifiers"]
+# Words, input, log before, and a part of what is said.
+SAID = [
+    ("", b"", None, "the commands are"),
+    ("hits raw/a", b"", None, "`hits` is no command"),
+    ("hist", b"", None, "`KIND KEY` or `KIND KEY BLOCK`"),
+    ("hist RAW 0", b"", None, "word 2, `RAW`, is not KEY"),
+    ("root 00", b"", None, "word 2, `00`, is not BLOCK"),
+    ("gen 100001 1", b"", None, "word 2, `100001`, is not N: a number from 1 to 100000"),
+    ("gen 1 4294967296", b"", None, "word 3, `4294967296`, is not SEED"),
+    ("root", b"", None, f"has no {LOG}"),
+    ("root", b"", SET_LOG[:8] + CLOSED, f"{LOG} has no block yet"),
+    ("root 1", b"", SET_LOG, "the chain ends before it"),
+    ("append", b'[[{"set":', None, "pack it first"),
+    ("append", b"[\n  [\n", None, "pack it first"),
+    ("append", RECALL_FILE, SET_LOG, "has another block of this number"),
+    ("append", RECALL_FILE[:-1], None, "the input ends within this frame"),
+    ("append", RECALL_FILE[113:], None, "takes block 0 next"),
+    ("append", RECALL_FILE[113:], SET_LOG, "its parent is not the last block"),
+    ("append", SET_FILE[:4] + b"\2" + SET_FILE[5:], None, "its first invalid field is at offset 0"),
+    ("append", bytes(4), SET_LOG, "its length is 0"),
+    ("scan hist raw/a 0", SET_FILE + bytes(4), None, "its length is 0"),
+    ("fmt", b"fn f() {\n  a = 1;\n}", None, "line 2, column 3 of the input: no such name"),
+    ("fmt", b"fn f()", None, "line 1, column 7 of the input: the contract ends too early"),
+    ("pack", b"[", None, "the input is no JSON text: line 1, column 2"),
+    ("pack", b"{}", None, "no array of blocks"),
+    ("pack", b"[[], 1]", None, "block 1 of the draft, from 0, is no array"),
+    ("pack", b'[[{"sett":{}}]]', None, "one member `set`, `deploy` or `call`"),
+    ("pack", b'[[{"set":{"sender":"u","key":"raw/a"}}]]', None, "`set` has no `value`"),
+    ("pack", b'[[{"set":{"sender":"u","key":"raw/A","value":1}}]]', None, "`key` of `set` must be"),
+    ("pack", b'[[{"set":{"sender":"u","key":"a","value":-0}}]]', None, "`value` of `set` must be"),
+    ("pack", b'[[{"set":{"sender":"u","key":"a","value":1,"x":1}}]]', None, "`set` takes no `x`"),
+    ("prove hist raw/a 0 00", b"", None, "word 5, `00`, is not ROOTBLOCK"),
+    ("prove hist raw/a 0 0", b"", None, f"has no {LOG}"),
+    ("prove hist raw/a 0 1", b"", SET_LOG, "the chain ends before it"),
+    ("prove hist raw/a 1 0", b"", SET_LOG, "BLOCK is past ROOTBLOCK"),
+    (f"verify {RAW_A_ROOT} hist raw/a", b"", None, "`verify ROOT KIND KEY BLOCK`"),
+    (f"verify {RAW_A_ROOT.upper()} hist raw/a 0", b"", None, "is not ROOT: a root"),
+    (f"verify {RAW_A_ROOT} hist raw/a 0", b"", None, "the first invalid field is at offset 0"),
+    (f"verify {RAW_A_ROOT} hist raw/b 0", RAW_A_PROOF, None, "of another question"),
+    (f"verify {'0' * 64} hist raw/a 0", RAW_A_PROOF, None, f"to another root, {RAW_A_ROOT}"),
+    (f"verify {RAW_A_ROOT} hist raw/a 0", b"abc", None, "the number of digits is odd"),
+    (f"verify {RAW_A_ROOT} hist raw/a 0", b"zz", None, "the byte at offset 0 of the input"),
+    (f"expose {RAW_A_ROOT} hist raw/a 0", b"", None, "`expose ROOT KIND KEY BLOCK ROOTBLOCK`"),
+    (f"expose {RAW_A_ROOT} hist raw/a 0 0", b"", None, f"has no {LOG}"),
+    (f"expose {RAW_A_ROOT} hist raw/a 0 1", b"", SET_LOG, "the chain ends before it"),
+    (f"expose {RAW_A_ROOT} hist raw/a 1 0", b"", SET_LOG, "BLOCK is past ROOTBLOCK"),
+    (f"expose {RAW_A_ROOT} hist raw/b 0 0", RAW_A_PROOF, SET_LOG, "of another question"),
+    (f"expose {RAW_A_ROOT} hist raw/a 0 0", b"abc", SET_LOG, "the number of digits is odd"),
+    ("hist raw/a", b"", b"hello", "something else than a log"),
+    ("hist raw/a", b"", SET_LOG[:40], "was changed or cut"),
+]
+
+
+def make_tree(folder, program):
+    """A tree whose ./lineage runs this program."""
+    tree = os.path.join(folder, "tree")
+    os.makedirs(f"{tree}/crates/lineage/out")
+    for name in COPIED:
+        copy = shutil.copytree if os.path.isdir(f"{TOP}/{name}") else shutil.copy
+        copy(f"{TOP}/{name}", f"{tree}/{name}")
+    shutil.copy(program, f"{tree}/crates/lineage/out/lineage")
+    subprocess.run([f"{tree}/tools/lineage/mark-built"], check=True)
+    return tree
+
+
+def can_be_wrapped(case):
+    """Whether a case says the same of ./lineage: it needs more memory than the program, and a user who
+    may read its interpreter."""
+    return not case.memory and not case.is_read_only
+
+
+def run(program, words, source, folder):
+    """What is printed, the exit status, and what is said, over an input that is a pipe or a file."""
+    streams = {"stdout": subprocess.PIPE, "stderr": subprocess.PIPE, "timeout": RUN_LIMIT}
+    how = {"stdin": source} if hasattr(source, "fileno") else {"input": source}
+    ran = subprocess.run([program, *words.split()], cwd=folder, **how, **streams)
+    return ran.stdout, ran.returncode, ran.stderr.decode()
+
+
+def what_is_said(checks, wrapper, program):
+    """./lineage says what is wrong, and prints and ends as the program does; behind a pipe too."""
+    for words, source, log, said in SAID:
+        wanted = run_over(program, words, source, log, is_pipe=False)[:2]
+        printed, status, told = run_over(wrapper, words, source, log, is_pipe=False)
+        name = f"{words} over {source[:40]!r}"
+        checks.same(f"{name} by ./lineage", (printed, status), wanted)
+        checks.holds(f"{name}: {told!r} has {said!r}", said in told)
+        piped = run_over(wrapper, words, source, log, is_pipe=True)
+        checks.same(f"{name} behind a pipe", piped, (printed, status, told))
+
+
+def run_over(program, words, source, log, is_pipe):
+    """What is printed, the exit status and what is said, over an input and a log, in a folder that is
+    called HERE in what is said."""
+    with tempfile.TemporaryDirectory() as folder, tempfile.TemporaryFile() as given:
+        if log is not None:
+            with open(os.path.join(folder, LOG), "wb") as file:
+                file.write(log)
+        given.write(source)
+        given.seek(0)
+        printed, status, told = run(program, words, source if is_pipe else given, folder)
+        return printed, status, told.replace(os.path.realpath(folder), "HERE")
+
+
+def pipes(checks, wrapper):
+    """What comes through a pipe is handed on as it comes, for as long as the program takes it."""
+    with tempfile.TemporaryDirectory() as folder:
+        streams = {"stdin": subprocess.PIPE, "stdout": subprocess.PIPE, "stderr": subprocess.PIPE}
+        ran = subprocess.Popen([wrapper, "append"], cwd=folder, **streams)
+        ran.stdin.write(SET_FILE)
+        ran.stdin.flush()
+        checks.same("a line while the pipe is open", ran.stdout.readline().decode(), SET_LINE)
+        ran.stdin.write(RECALL_FILE)
+        ran.stdin.flush()
+        checks.same("a frame is refused while the pipe is open", ran.wait(RUN_LIMIT), REFUSED)
+        told = ran.stderr.read().decode()
+        cause = "a frame is refused; frames count from 0: the chain has another block of this number"
+        checks.holds(f"{told!r} has {cause!r}", cause in told)
+        ran.stdin.close()
+    with tempfile.TemporaryDirectory() as folder:
+        with open(os.path.join(folder, LOG), "wb") as file:
+            file.write(b"hello")
+        ran = subprocess.Popen([wrapper, "append"], cwd=folder, **streams)
+        checks.same("no log, and a pipe that stays open", ran.wait(RUN_LIMIT), NOT_A_LOG)
+        ran.stdin.close()
+
+
+def long_pipe(checks, wrapper):
+    """Of an input that is longer than what is kept of a pipe it is said what causes may be."""
+    source = SET_FILE * (lineage_input.MAX_KEPT_BYTES // len(SET_FILE) + 1)
+    printed, status, told = run_over(wrapper, "scan hist raw/a 0", source + b"\0", None, is_pipe=True)
+    frames = len(source) // len(SET_FILE)
+    refused = f"refused frame {frames} truncated\n".encode()
+    checks.same("a long pipe", (printed, status), (refused, REFUSED))
+    for cause in ("truncated: the input ends within this frame", "fork H"):
+        checks.holds(f"{told!r} has {cause!r}", cause in told)
+
+
+def what_of_the_disk(checks, wrapper):
+    """Where the log can't be used, it is said why."""
+    for make, said in [
+        (lambda path: os.mkdir(path), "is no regular file"),
+        (lambda path: os.mkfifo(path), "is no regular file"),
+        (lambda path: os.symlink("none/log", path), "is a link to none/log"),
+    ]:
+        with tempfile.TemporaryDirectory() as folder:
+            make(os.path.join(folder, LOG))
+            printed, status, told = run(wrapper, "append", SET_FILE, folder)
+            checks.same(f"a log that {said}", (printed, status), (b"", 4))
+            checks.holds(f"{told!r} has {said!r}", said in told)
+
+
+# The modes of the log, or none where there is no log, and of its folder; what is said of an `append`.
+RIGHTS = [
+    (0o000, 0o755, "may not read chain.log"),
+    (0o444, 0o755, "may not write chain.log"),
+    (None, 0o555, "may not make chain.log"),
+    (0o666, 0o311, "may not read the folder"),
+]
+
+
+def what_of_rights(checks):
+    """Where this user lacks a right, or a file may not grow, it is said so."""
+    for log_mode, folder_mode, said in RIGHTS:
+        with tempfile.TemporaryDirectory() as folder:
+            if log_mode is not None:
+                with open(os.path.join(folder, LOG), "wb") as file:
+                    os.fchmod(file.fileno(), log_mode)
+            os.chmod(folder, folder_mode)
+            told = disk_sentence_in(folder, take_rights)
+            checks.holds(f"{told!r} has {said!r}", said in told)
+            os.chmod(folder, 0o755)
+    with tempfile.TemporaryDirectory() as folder:
+        told = disk_sentence_in(folder, lambda: disk_calls.limit_files(100))
+        checks.holds(f"{told!r} names the limit", "longer than 100 bytes" in told)
+
+
+def disk_sentence_in(folder, prepare):
+    """What is said of a log that can't be used, by a process that is prepared first. It is not started
+    anew: a user without rights may be unable to start Python."""
+    told, teller = os.pipe()
+    child = os.fork()
+    if not child:
+        os.chdir(folder)
+        prepare()
+        os.write(teller, lineage_messages.disk_sentence(["append"]).encode())
+        os._exit(0)
+    os.close(teller)
+    with os.fdopen(told, encoding="utf-8") as pipe:
+        text = pipe.read()
+    os.waitpid(child, 0)
+    return text
+
+
+def lock(checks, wrapper):
+    """An append waits while another one has the folder, and says who that is; a question doesn't."""
+    with tempfile.TemporaryDirectory() as folder:
+        held = os.open(folder, os.O_RDONLY)
+        fcntl.flock(held, fcntl.LOCK_EX)
+        streams = {"stdin": subprocess.PIPE, "stdout": subprocess.PIPE, "stderr": subprocess.PIPE}
+        waiting = subprocess.Popen([wrapper, "append"], cwd=folder, **streams)
+        said = waiting.stderr.readline().decode()
+        checks.holds(f"{said!r} names the holder", f"waiting for process {os.getpid()} (" in said)
+        checks.same("a question meanwhile", run(wrapper, "root", b"", folder)[1], 9)
+        waiting.stdin.write(SET_FILE)
+        waiting.stdin.close()
+        try:
+            checks.holds("it waits", waiting.wait(PAUSE) is None)
+        except subprocess.TimeoutExpired:
+            checks.holds("it waits", not os.path.exists(os.path.join(folder, LOG)))
+        os.close(held)
+        checks.same("and then goes on", waiting.wait(RUN_LIMIT), 0)
+
+
+# What stands in for the toolchain: it notes how it was called, and proves nothing.
+FAKE_RT = """#!/bin/sh
+echo "$*" >> "{folder}/calls"
+[ -e "{folder}/fails" ] && exit 1
+echo "== crate"
+echo "logic=proved functions=3"
+"""
+PROVING = ["all check", "run -- scan hist raw/a 0"]
+
+
+def building(checks, tree, folder):
+    """The program is taken as it is while no source changes, proved and built where one did, and not run
+    where that fails."""
+    tools = os.path.join(folder, "bin")
+    os.mkdir(tools)
+    for name in ("bash", "python3", "dirname", "readlink"):
+        os.symlink(shutil.which(name), f"{tools}/{name}")
+    source = f"{tree}/crates/lineage/src/main.rt"
+    os.mkdir(os.path.dirname(source))
+
+    def ask(name, status, wanted):
+        calls = f"{folder}/calls"
+        with open(calls, "w"):
+            pass
+        words = [f"{tree}/lineage", "gen", "1", "0"]
+        streams = {"stdout": subprocess.DEVNULL, "stderr": subprocess.DEVNULL}
+        ran = subprocess.run(words, env={**os.environ, "PATH": tools}, **streams)
+        with open(calls) as file:
+            made = [line.split(" --jobs")[0].rstrip("\n") for line in file]
+        checks.same(f"status and calls where {name}", (ran.returncode, made), (status, wanted))
+
+    ask("nothing changed", 0, [])
+    with open(source, "w") as file:
+        file.write("one\n")
+    ask("a source is new and there is no toolchain", NOT_BUILT, [])
+    with open(f"{tools}/rt", "w") as file:
+        file.write(FAKE_RT.format(folder=folder))
+    os.chmod(f"{tools}/rt", 0o755)
+    with open(f"{folder}/fails", "w"):
+        ask("a proof fails", NOT_BUILT, PROVING[:1])
+    os.remove(f"{folder}/fails")
+    ask("a source is new", 0, PROVING)
+    ask("it was built since", 0, [])
+    time.sleep(TICK + 0.5)
+    ask("it was built long since", 0, [])
+    ask("what was read then is kept", 0, [])
+    with open(source, "w") as file:
+        file.write("two\n")
+    ask("a source changed and not its size", 0, PROVING)
+    os.remove(source)
+    ask("a source is gone", 0, PROVING)
+
+
+# ---- pages
+
+
+def listed_commands(checks, program):
+    """The program takes the words of each command, and README.md and docs/formats.md list these."""
+    with open(f"{TOP}/README.md", encoding="utf-8") as file:
+        readme = file.read()
+    with open(f"{TOP}/docs/formats.md", encoding="utf-8") as file:
+        formats = file.read().split("\n## Commands\n")[1].split("\n## ")[0]
+    words = {"KIND": commands.KINDS, "KEY": ["raw/a"], "BLOCK": ["0"], "N": ["1"], "SEED": ["0"]}
+    words |= {"ROOT": [RAW_A_ROOT], "ROOTBLOCK": ["0"]}
+    forms = []
+    for command in commands.COMMANDS:
+        given = [words.get(word, [word])[0] for word in command.words()]
+        with tempfile.TemporaryDirectory() as folder:
+            printed = run(program, " ".join(given), b"", folder)[0]
+        checks.holds(f"{given} are a command", printed != b"usage\n")
+        checks.holds(f"docs/formats.md lists `{command.form}`", f"`{command.form}`" in formats)
+        kinds = commands.KINDS if "KIND" in command.form else [""]
+        forms += [command.form.replace("KIND", kind) for kind in kinds]
+    rows = re.findall(r"(?m)^\| (`[^|]*`) \| [^|]* \| ", formats)
+    told = [form for row in rows for form in re.findall(r"`([^`]*)`", row)]
+    made = [command.form for command in commands.COMMANDS]
+    checks.same("commands that docs/formats.md lists", sorted(set(told)), sorted(made))
+    # README.md has them in an indented list, with what may be left out in brackets.
+    listed = re.findall(r"(?m)^    ((?:%s)\b.*?)  +\S" % "|".join(commands.first_words()), readme)
+    spelled = []
+    for form in listed:
+        kinds = commands.KINDS if "KIND" in form else [""]
+        for kind in kinds:
+            each = form.replace("KIND", kind)
+            spelled += [re.sub(r" \[(\w+)\]", "", each), re.sub(r"\[(\w+)\]", r"\1", each)]
+    checks.same("commands that README.md lists", sorted(set(spelled)), sorted(set(forms)))
+
+
+def files_of(tree):
+    """The files of a tree, but for what is built."""
+    found = set()
+    for folder, folders, names in os.walk(tree):
+        folders[:] = set(folders) - {"out"}
+        found.update(os.path.join(folder, name) for name in names)
+    return found
+
+
+def pages(checks, tree):
+    """What stands below a command on a page is what it prints, and the commands leave no file in the tree."""
+    before = files_of(tree)
+    count, wrong = page_runs.wrong_commands(tree)
+    checks.same("files that the commands of the pages leave", sorted(files_of(tree) - before), [])
+    checks.holds("the pages have commands", count > 0)
+    for line in wrong:
+        checks.same(line, False, True)
+
+
+def check(checks, program, folder):
+    """Makes all these checks of a program; the folder is for a tree of its own."""
+    tree = make_tree(folder, program)
+    wrapper = f"{tree}/lineage"
+    for case in filter(can_be_wrapped, CASES):
+        check_case(checks, wrapper, case)
+    what_is_said(checks, wrapper, program)
+    pipes(checks, wrapper)
+    long_pipe(checks, wrapper)
+    what_of_the_disk(checks, wrapper)
+    what_of_rights(checks)
+    lock(checks, wrapper)
+    listed_commands(checks, program)
+    pages(checks, tree)
+    building(checks, tree, folder)

@@ -1,0 +1,69 @@
+"""The wrong bodies of tools/wrong-bodies, and the copy of the working tree that they are tried on.
+
+Each is an edit in the format of crates/CRATE/must-fail/*.edit. The prover must refuse those of
+tools/wrong-bodies/CRATE, which tools/checks/try-wrong-bodies tries. Those of tools/wrong-bodies/edge no
+clause refuses, since none says what a file holds; the runs of tools/checks/edge_checks.py must, and
+tools/checks/try-edge tries that.
+"""
+import os
+import shutil
+import subprocess
+
+from places import TOP
+
+BODIES = "tools/wrong-bodies"
+EDGE = "edge"
+# The crate of whose lines over a real file those of EDGE are wrong bodies.
+EDGE_CRATE = "disk_model"
+
+
+class BadEdit(Exception):
+    """An edit that can't be applied, and why."""
+
+
+def edits_of(name):
+    """The edits in a folder of tools/wrong-bodies; none where there is no such folder."""
+    folder = f"{TOP}/{BODIES}/{name}"
+    names = os.listdir(folder) if os.path.isdir(folder) else []
+    return sorted(name for name in names if name.endswith(".edit"))
+
+
+def copy_tree(scratch):
+    """Copies the files that git tracks or would track, as they are now."""
+    words = ["git", "ls-files", "-z", "--cached", "--others", "--exclude-standard"]
+    listed = subprocess.run(words, cwd=TOP, check=True, capture_output=True).stdout
+    for name in set(filter(None, os.fsdecode(listed).split("\0"))):
+        if os.path.isfile(f"{TOP}/{name}"):
+            os.makedirs(os.path.dirname(f"{scratch}/{name}"), exist_ok=True)
+            shutil.copy2(f"{TOP}/{name}", f"{scratch}/{name}")
+
+
+def apply(edit, crate):
+    """Makes the changes of an edit in the folder of a crate: of the file that it names, each `old` text,
+    which must stand there once, becomes the `new` one."""
+    path = old = None
+    changes = 0
+    with open(edit, encoding="utf-8") as lines:
+        for line in lines:
+            word, _, text = line.rstrip("\n").partition(":")
+            text = text.removeprefix(" ")
+            if word == "file":
+                path = f"{crate}/{text}"
+            elif word == "old":
+                old = text
+            elif word == "new":
+                replace_once(edit, path, old, text)
+                changes += 1
+    if not changes:
+        raise BadEdit(f"{edit} changes nothing")
+
+
+def replace_once(edit, path, old, new):
+    if not path or not old or old == new:
+        raise BadEdit(f"{edit} has a `new` without a `file`, without an `old`, or the same as the `old`")
+    with open(path, encoding="utf-8") as file:
+        content = file.read()
+    if content.count(old) != 1:
+        raise BadEdit(f"{edit}: `{old}` stands {content.count(old)} times in {path}")
+    with open(path, "w", encoding="utf-8") as file:
+        file.write(content.replace(old, new))

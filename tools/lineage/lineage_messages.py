@@ -1,0 +1,313 @@
+"""What ./lineage says on standard error: what a status means, and what was wrong.
+
+It looks at the words, the folder and the input again, and runs the program again where that only
+reads; nothing here decides what the program prints or how it ends.
+"""
+import contextlib
+import os
+import re
+import resource
+import stat
+import subprocess
+
+from lineage import commands, draft_faults
+
+LOG_FILE = "chain.log"
+MAX_SOURCE_BYTES = 67_108_864
+MAX_BLOCK_BYTES = 1_048_576
+LENGTH_BYTES = 4
+# What is longer isn't run again for a message.
+MAX_AGAIN_BYTES = 1 << 28
+# The offset of the first record's gate in a log, and an open gate.
+FIRST_GATE = 8
+OPEN = b"\xa5"
+EXAMPLE = "./lineage scan hist raw/a 0 < examples/one-set.blocks"
+HELP = ([], ["--help"], ["-h"], ["help"])
+PACK_FIRST = "the input looks like a draft, which is JSON: pack it first, ./lineage pack < DRAFT > BLOCKS"
+SENTENCES = {
+    2: "standard input can't be read",
+    3: "standard output can't be written",
+    5: "out of memory",
+    6: "chain.log holds something else than a log",
+    7: "chain.log was changed or cut: at the offset that was printed stands no record of the next\n"
+    "block; docs/log.md says what to do",
+}
+TOO_LONG = "the input is longer than 67,108,864 bytes"
+BAD_CONTRACT = "the input is no contract"
+CONTRACT_FAULTS = {
+    "byte": "this byte begins no token",
+    "literal": "this number, text or name breaks its rule",
+    "expected": "this doesn't fit here",
+    "end": "the contract ends too early",
+    "deep": "blocks, parentheses, prefixes or the parts of an expression are nested too deep",
+    "unknown": "no such name is visible here, or there is no such builtin",
+    "again": "this name is in use already",
+    "count": "this builtin takes another number of arguments",
+    "kind": "this is an int where a text must stand, or a text where an int must",
+}
+# Why a frame is refused: what is printed after the cause, if anything is, and what that means.
+CAUSES = {
+    "truncated": ("", "the input ends within this frame"),
+    "length": ("L", "its length is {}, and a block has 1 to 1,048,576 bytes: here stands no block file"),
+    "many": ("", "one input has at most 2,097,152 frames; give the rest as another input"),
+    "malformed": ("P", "it spells no block: its first invalid field is at offset {} of the block"),
+    "fork": ("H", "the chain has another block of this number, whose digest is {}"),
+    "full": ("", "the chain takes no more blocks"),
+    "number": ("N", "the chain takes block {} next, and not this one"),
+    "parent": ("H", "its parent is not the last block of the chain, whose digest is {}"),
+    "budget": ("S", "the budgets of its calls come to {}; those of a block may come to 10,000,000"),
+}
+REFUSED = "a frame is refused; frames count from 0"
+# Which check of a proof fails: what is printed after `rejected`, and what that means.
+REJECTED = {
+    "malformed": "these are not the bytes of a proof: the first invalid field is at offset {}",
+    "query": "the proof is of another question",
+    "root": "the proof leads to another root, {}",
+    "leaf": "the leaf of the proof is not the one that covers the key",
+    "link": "a header of the proof has another digest than what stands before it names",
+    "path": "a header of the proof is missing, one too many, or of another version",
+    "body": "the body of the proof has another digest than its header names",
+    "list": "the uses of the proof are others than those that are told of",
+}
+NOT_ACCEPTED = "the proof is not accepted; docs/proofs.md has the checks"
+HEX_FAULTS = {
+    "odd": "a proof is in hex, two digits a byte, and the number of digits is odd",
+    "at": "a proof is in hex, and the byte at offset {} of the input is no hex digit",
+}
+NO_HEX = "the input is no hex"
+
+
+def say(text):
+    """Writes on standard error, where there is one."""
+    lines = text.replace("\n", "\n  ")
+    with contextlib.suppress(OSError):
+        os.write(2, f"lineage: {lines}\n".encode(errors="backslashreplace"))
+
+
+def explain(program, status, words, start):
+    """Says what a status other than 0 means. What the program read begins at the offset `start` of
+    standard input, where it can be read again."""
+    if status == 1:
+        say(usage_sentence(words))
+    elif status == 4:
+        say(disk_sentence(words))
+    elif status == 8:
+        say(refused_sentence(program, words, start))
+    elif status == 9:
+        say(beyond_sentence(words))
+    elif status == 10:
+        say(rejected_sentence(program, words, start))
+    elif status == 11:
+        say(input_sentence(program, words, start))
+    elif status in SENTENCES:
+        say(SENTENCES[status])
+    elif status > 128:
+        say(f"the program was ended by signal {status - 128}")
+
+
+# ---- words, and what there is none of
+
+
+def usage_sentence(words):
+    """What is wrong with words, and what the commands are, where not even the first word is one's."""
+    wrong = commands.what_is_wrong(words)
+    shown = commands.beginning_with(words)
+    lines = [] if words in HELP or not wrong else [wrong]
+    lines += ["the commands are"] * (not shown)
+    for command in shown or commands.COMMANDS:
+        lines += [command.form, *(f"    {line}" for line in command.meaning.split("\n"))]
+    return "\n".join(lines + [f"for example: {EXAMPLE}"] * (not shown))
+
+
+def beyond_sentence(words):
+    command = commands.command_of(words)
+    if command and command.uses_log and not os.path.exists(LOG_FILE):
+        return f"there is no log here: {os.getcwd()} has no {LOG_FILE}, which `append` makes"
+    if command and command.uses_log and log_frames_end() == FIRST_GATE:
+        return f"{LOG_FILE} has no block yet"
+    if words[0] in ("prove", "expose") and int(words[-2]) > int(words[-1]):
+        return "BLOCK is past ROOTBLOCK, and a root says nothing of later blocks"
+    return "there is no such block: the chain ends before it"
+
+
+# ---- the disk
+
+
+def disk_sentence(words):
+    """What of the log, its folder or the space is in the way, as far as it can be seen."""
+    writes = words == ["append"]
+    causes = [*log_causes(writes), *folder_causes(writes), *space_causes(writes)]
+    causes = causes or ["a call of the disk failed, or another program made the log meanwhile; see `dmesg`"]
+    stored = "what was told of is stored, and docs/log.md says what to do"
+    return "\n".join([f"the log can't be opened, read, written or synced; {stored}", *causes])
+
+
+def log_causes(writes):
+    """What is wrong with the file of the log."""
+    if os.path.islink(LOG_FILE) and not os.path.exists(LOG_FILE):
+        yield f"{LOG_FILE} is a link to {os.readlink(LOG_FILE)}, which is not there"
+    with contextlib.suppress(OSError):
+        if not stat.S_ISREG(os.stat(LOG_FILE).st_mode):
+            yield f"{LOG_FILE} is no regular file"
+        if not os.access(LOG_FILE, os.R_OK):
+            yield f"this user may not read {LOG_FILE}"
+        elif writes and not os.access(LOG_FILE, os.W_OK):
+            yield f"this user may not write {LOG_FILE}"
+
+
+def folder_causes(writes):
+    """What is wrong with the folder, which is read to be synced, and written where a log is made."""
+    if not os.access(".", os.X_OK) or writes and not os.access(".", os.R_OK):
+        yield f"this user may not read the folder {os.getcwd()}"
+    if writes and not os.path.lexists(LOG_FILE) and not os.access(".", os.W_OK):
+        yield f"this user may not make {LOG_FILE} in the folder {os.getcwd()}"
+
+
+def space_causes(writes):
+    """What lacks for a file to grow."""
+    with contextlib.suppress(OSError):
+        found = os.statvfs(".")
+        free = found.f_bavail * found.f_frsize
+        if found.f_flag & os.ST_RDONLY:
+            yield "the file system is mounted for reading only"
+        elif writes and free < 2 * MAX_BLOCK_BYTES:
+            yield f"{free:,} bytes are free on the file system of this folder"
+        elif writes and found.f_files and not found.f_favail:
+            yield "the file system of this folder takes no more files"
+    limit = resource.getrlimit(resource.RLIMIT_FSIZE)[0]
+    if writes and limit != resource.RLIM_INFINITY:
+        yield f"no file may be longer than {limit:,} bytes here (ulimit -f)"
+
+
+# ---- frames that are refused
+
+
+def refused_sentence(program, words, start):
+    """Why a frame was refused; where the input can't be read again, why frames are."""
+    printed = b"" if start is None else refused_line(program, words, start)
+    refused = re.match(r"refused frame \d+ (\w+) ?(\w*)\n$", printed.decode("ascii", "replace"))
+    if not refused or refused[1] not in CAUSES:
+        lines = [f"{REFUSED}, and the cause was printed:"]
+        for cause, (letter, text) in CAUSES.items():
+            lines.append(f"{' '.join([cause, letter]).strip()}: {text.format(letter)}")
+        return "\n".join([*lines, f"where {PACK_FIRST}"])
+    cause, number = refused[1], refused[2]
+    if cause == "length" and looks_like_json(int(number).to_bytes(LENGTH_BYTES, "big")):
+        return PACK_FIRST
+    return f"{REFUSED}: {CAUSES[cause][1].format(number)}"
+
+
+def looks_like_json(first_bytes):
+    """Whether so begins an array or an object, with what may stand before it and in it."""
+    return re.match(rb"\s*[\[{][\s\[{\"\]}]*$|\s+$", first_bytes) is not None
+
+
+def refused_line(program, words, start):
+    """The line of a frame that is refused, by `scan`, which only reads: over the input, or over the
+    blocks of the log and the frame."""
+    again = os.fstat(0).st_size - start if words[0] == "scan" else log_frames_end()
+    if again > MAX_AGAIN_BYTES:
+        return b""
+    if words[0] == "scan":
+        return printed_again(program, words, start)
+    at = refused_offset(start, os.lseek(0, 0, os.SEEK_CUR))
+    frame = os.pread(0, LENGTH_BYTES + MAX_BLOCK_BYTES, at)
+    return printed_over(program, ["scan", "hist", "a", "0"], [*log_frames(), frame])
+
+
+def refused_offset(start, end):
+    """Where the frame begins that was taken last of those from the offset `start` on, up to the
+    offset `end`."""
+    at = start
+    while True:
+        length = int.from_bytes(os.pread(0, LENGTH_BYTES, at), "big")
+        after = at + LENGTH_BYTES + length
+        if not 1 <= length <= MAX_BLOCK_BYTES or after >= end:
+            return at
+        at = after
+
+
+def log_frames():
+    """The frames of the records of the log."""
+    with contextlib.suppress(OSError), open(LOG_FILE, "rb") as log:
+        log.seek(FIRST_GATE)
+        while log.read(1) == OPEN:
+            length = log.read(LENGTH_BYTES)
+            yield length + log.read(int.from_bytes(length, "big"))
+
+
+def log_frames_end():
+    """The offset of the closed gate of the log."""
+    return FIRST_GATE + sum(1 + len(frame) for frame in log_frames())
+
+
+def printed_over(program, words, pieces):
+    """What the program prints over an input."""
+    streams = {"stdin": subprocess.PIPE, "stdout": subprocess.PIPE, "stderr": subprocess.DEVNULL}
+    child = subprocess.Popen([program, *words], **streams)
+    with contextlib.suppress(BrokenPipeError):
+        for piece in pieces:
+            child.stdin.write(piece)
+    with contextlib.suppress(BrokenPipeError):
+        child.stdin.close()
+    printed = child.stdout.read()
+    child.wait()
+    return printed
+
+
+def printed_again(program, words, start):
+    """What the program prints over standard input from the offset `start` on; the caller's offset stays
+    where it is."""
+    with open("/proc/self/fd/0", "rb", buffering=0) as source:
+        source.seek(start)
+        streams = {"stdout": subprocess.PIPE, "stderr": subprocess.DEVNULL}
+        return subprocess.run([program, *words], stdin=source, **streams).stdout
+
+
+# ---- proofs
+
+
+def rejected_sentence(program, words, start):
+    """Which check of a proof fails, where the input can be read again."""
+    printed = b"" if start is None else printed_again(program, words, start)
+    rejected = re.match(r"rejected (\w+) ?(\w*)", printed.decode("ascii", "replace"))
+    if not rejected or rejected[1] not in REJECTED:
+        return NOT_ACCEPTED
+    return f"{NOT_ACCEPTED}: {REJECTED[rejected[1]].format(rejected[2])}"
+
+
+def hex_sentence(printed):
+    """Why an input is no hex."""
+    fault = re.match(rb"badinput (odd|at) ?(\d*)\n$", printed)
+    return HEX_FAULTS[fault[1].decode()].format(fault[2].decode()) if fault else NO_HEX
+
+
+# ---- inputs that are no contract, no draft or no proof
+
+
+def input_sentence(program, words, start):
+    """What is wrong with an input."""
+    if start is None:
+        return {"fmt": BAD_CONTRACT, "verify": NO_HEX, "expose": NO_HEX}.get(words[0], draft_faults.NO_DRAFT)
+    printed = printed_again(program, words, start)
+    if printed == b"badinput long\n":
+        return TOO_LONG
+    if words[0] in ("verify", "expose"):
+        return hex_sentence(printed)
+    with open("/proc/self/fd/0", "rb") as file:
+        file.seek(start)
+        source = file.read()
+    if words == ["fmt"]:
+        return contract_sentence(source, printed)
+    return draft_faults.sentence(source, printed.decode("ascii", "replace").split())
+
+
+def contract_sentence(source, printed):
+    """What is wrong with a contract, with line and column."""
+    fault = re.match(rb"badinput (?:syntax|check) (\d+) (\w+)\n$", printed)
+    if not fault:
+        return BAD_CONTRACT
+    offset = int(fault[1])
+    line = source.count(b"\n", 0, offset) + 1
+    column = offset - source.rfind(b"\n", 0, offset)
+    return f"line {line}, column {column} of the input: {CONTRACT_FAULTS[fault[2].decode()]}"
