@@ -14,6 +14,8 @@ mod entries;
 #[cfg(test)]
 mod limits;
 #[cfg(test)]
+mod scratch;
+#[cfg(test)]
 mod texts;
 #[cfg(test)]
 mod written;

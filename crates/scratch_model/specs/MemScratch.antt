@@ -1,0 +1,69 @@
+-- The scratch device in memory: what it keeps, and what each call does.
+use Rattle.std.specs.Prelude.{◌≡◌, ℕ, ◌+◌, Bool, true, false, ◌&&◌, nat_le, nat_lt, MatchBool}
+use Rattle.std.specs.Prelude.{List, ◌++◌, length, take, drop, Some, Result, Ok, Err}
+use Rattle.lc_outside.specs.Fakes.{one_more, is_failing}
+use Rattle.scratch_model.specs.Scratch.{ScratchState}
+
+-- The bytes that were put, one after another; the calls that took a number, and how many of them
+-- were gets; the room for calls and bytes; the numbers of the calls that fail, and how many
+-- failed.
+pub record MemScratchState : Type 0 where
+  pub bytes : List ℕ
+  pub calls : ℕ
+  pub gets : ℕ
+  pub room_calls : ℕ
+  pub room_bytes : ℕ
+  pub failing : List ℕ
+  pub faults : ℕ
+
+-- All bytes up to the end are kept, each run of them at the offset of its first byte.
+abbrev pub state_over : List ℕ → ScratchState
+state_over bytes = record {
+  kept = λ place count. nat_le (place + count) (length bytes);
+  held = Some (λ place count. take count (drop place bytes));
+}
+
+-- Whether a call that keeps so many bytes fits the room.
+abbrev pub fits_room : MemScratchState → ℕ → Bool
+fits_room s count = nat_lt s.calls s.room_calls && nat_le (length s.bytes + count) s.room_bytes
+
+-- A call that takes the next number.
+abbrev pub numbered : MemScratchState → MemScratchState
+numbered s = record s { calls = s.calls + 1 }
+
+-- A get that takes the next number.
+abbrev pub numbered_get : MemScratchState → MemScratchState
+numbered_get s = record s { calls = s.calls + 1; gets = s.gets + 1 }
+
+-- A call that failed.
+abbrev pub failed : MemScratchState → MemScratchState
+failed s = record s { faults = one_more s.faults }
+
+-- A call that keeps so many bytes is done: it fits the room, and its number is not among those that
+-- fail.
+abbrev pub IsDone : ℕ → MemScratchState → Type 0
+IsDone count s = (fits_room s count ≡ true) × (is_failing s.failing s.calls ≡ false)
+
+-- A call that keeps so many bytes fails. One that does not fit the room changes nothing but the
+-- count of faults. One that fits takes a number, which is among those that fail.
+abbrev pub Fails : ℕ → (MemScratchState → MemScratchState)
+    → MemScratchState → MemScratchState → Type 0
+Fails count taken old new = MatchBool (fits_room old count)
+    ((is_failing old.failing old.calls ≡ true) × (new ≡ failed (taken old)))
+    (new ≡ failed old)
+
+-- A put keeps its bytes after the others, and answers where they begin. One that fails keeps none.
+abbrev pub PutsBytes : {E : Type 0} → List ℕ
+    → MemScratchState → MemScratchState → Result ℕ E → Type 0
+PutsBytes bytes old new (Ok place) =
+    IsDone (length bytes) old × (place ≡ length old.bytes)
+    × (new ≡ record (numbered old) { bytes = old.bytes ++ bytes })
+PutsBytes bytes old new (Err e) = Fails (length bytes) numbered old new
+
+-- A get fills the buffer with the bytes from a place on. One that fails leaves it as it was.
+abbrev pub GetsBytes : {T E : Type 0} → ℕ
+    → MemScratchState → MemScratchState → Result T E → List ℕ → List ℕ → Type 0
+GetsBytes place old new (Ok x) before after =
+    IsDone 0 old × (after ≡ take (length before) (drop place old.bytes))
+    × (new ≡ numbered_get old)
+GetsBytes place old new (Err e) before after = (after ≡ before) × Fails 0 numbered_get old new

@@ -1,0 +1,33 @@
+//! The trait of a scratch device. As in `lc_outside`, a meaning is named by contracts alone, and
+//! where an object does not tell it, a clause on it says only that it stays untold.
+
+ghost use Rattle.std.specs.Prelude.{◌≡◌, ℕ, true, length, IfOk, OnOk, IsErr};
+ghost use Rattle.lc_base.specs.Faults.{HasCause};
+ghost use Rattle.scratch_model.specs.Scratch.{ScratchState, HoldsAt, IsKeptAt, Retains};
+
+use lc_outside::Failed;
+
+/// A device that keeps bytes for as long as the program runs.
+pub trait Scratch {
+    /// Whether so many bytes are kept at a place, which is always told, and which bytes are held
+    /// there (optional).
+    ghost state: { Self → ScratchState };
+    /// How many calls failed, up to the last value of a `u64`.
+    ghost scratch_faults: { Self → ℕ };
+
+    /// Keeps the bytes, and answers their place. Whatever was kept stays, also after `Failed`.
+    fn put(&mut self, bytes: &[u8]) -> Result<u64, Failed>
+        ensures retains { Retains (state self.old) (state self.new) }
+        ensures put { IfOk result (λ place. IsKeptAt (state self.new) place bytes.now) }
+        ensures cause { HasCause (scratch_faults self.old) (scratch_faults self.new)
+            (IsErr result) };
+
+    /// Fills the buffer with the bytes that are kept at a place. Whatever was kept stays, also
+    /// after `Failed`; the buffer may then hold any bytes.
+    fn get(&mut self, place: u64, buffer: &mut [u8]) -> Result<(), Failed>
+        requires kept { (state self.old).kept place (length buffer.old) ≡ true }
+        ensures retains { Retains (state self.old) (state self.new) }
+        ensures bytes { OnOk result (HoldsAt (state self.old) place buffer.new) }
+        ensures cause { HasCause (scratch_faults self.old) (scratch_faults self.new)
+            (IsErr result) };
+}
