@@ -1,5 +1,5 @@
 """The commands of the program: the list by which ./lineage goes. tools/checks/check-program holds README.md,
-docs/formats.md and the program to it. What a word may be is defined in crates/chain_words.
+docs/formats.md and the program to it. What a word may be is defined in crates/cli_words.
 """
 import re
 

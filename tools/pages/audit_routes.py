@@ -27,7 +27,7 @@ CHAPTERS = [
     "Language that runs",
     "Language as text",
 ]
-OUTPUT = "crates/chain_output/specs/Output.antt"
+OUTPUT = "crates/cli_output/specs/Output.antt"
 WANTS, IS_WANTED, NEXT_BY = ((OUTPUT, name) for name in ("Wants", "IsWanted", "next_by"))
 
 

@@ -8,8 +8,8 @@ use Rattle.std.proofs.lemmas.Option.{get_or_from_slice_get}
 use Rattle.lc_base.specs.declared.digest.Digest.{Digest}
 use Rattle.lc_base.specs.declared.row.Row.{Row}
 use Rattle.lc_base.specs.History.{up_to}
-use Rattle.history_root.specs.Root.{digest_at, root_of}
-use Rattle.history_root.proofs.Lists.{all_weaker, keep_all}
+use Rattle.root_laws.specs.Root.{digest_at, root_of}
+use Rattle.root_laws.proofs.Lists.{all_weaker, keep_all}
 use Rattle.typed_ledger.specs.TypedLedger.{IsTypedLedger}
 use Rattle.proof_codec.specs.declared.proof.Proof.{Proof}
 use Rattle.proof_checks.specs.ProofTexts.{joined, proof_texts}

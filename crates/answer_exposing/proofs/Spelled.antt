@@ -7,7 +7,7 @@ use Rattle.prov_entry.specs.declared.limits.TheConstants.{MAX_LINKS}
 use Rattle.prov_entry.specs.declared.entry.Header.{Header}
 use Rattle.prov_entry.specs.declared.entry.Body.{Body}
 use Rattle.prov_entry.specs.Spelling.{IsHeader, IsBody, header_text, body_text}
-use Rattle.history_root.specs.Naming.{header_of, body_of}
+use Rattle.root_laws.specs.Naming.{header_of, body_of}
 use Rattle.typed_ledger.specs.TypedLedger.{IsTypedHistory}
 use Rattle.typed_ledger.proofs.Spellings.{headers_spelled, bodies_spelled}
 use Rattle.answer_exposing.proofs.OneMore.{item_at}

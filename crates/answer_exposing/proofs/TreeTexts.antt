@@ -6,8 +6,8 @@ use Rattle.merkle_tree.specs.declared.limits.TheConstants.{MAX_HEIGHT}
 use Rattle.merkle_tree.proofs.Sound.{texts-split, texts-low}
 use Rattle.prov_entry.specs.declared.entry.Leaf.{Leaf}
 use Rattle.prov_entry.specs.Spelling.{leaf_bytes}
-use Rattle.history_root.specs.Root.{root_text}
-use Rattle.history_root.proofs.Lists.{map_map}
+use Rattle.root_laws.specs.Root.{root_text}
+use Rattle.root_laws.proofs.Lists.{map_map}
 use Rattle.proof_checks.specs.Checks.{text_of_root}
 use Rattle.proof_checks.specs.LedgerTexts.{texts_of_leaves}
 

@@ -4,7 +4,7 @@ use Rattle.lc_base.specs.declared.answer.Query.{Query}
 use Rattle.lc_base.specs.declared.answer.Answer.{Answer}
 use Rattle.lc_base.specs.History.{up_to, scan}
 use Rattle.merkle_tree.specs.Clash.{Clash as HasClash}
-use Rattle.history_root.specs.Root.{root_of}
+use Rattle.root_laws.specs.Root.{root_of}
 use Rattle.proof_codec.specs.declared.proof.Proof.{Proof}
 use Rattle.proof_codec.specs.Spelling.{IsProof}
 use Rattle.proof_checks.specs.Checks.{verdict}

@@ -1,7 +1,7 @@
 //! The texts of a ledger.
 
 ghost use Rattle.std.specs.Prelude.{◌≡◌, [], ◌∷◌, ◌++◌, IfOk, OnOk};
-ghost use Rattle.history_root.specs.Root.{root_text};
+ghost use Rattle.root_laws.specs.Root.{root_text};
 ghost use Rattle.merkle_tree.specs.Tree.{node_texts};
 ghost use Rattle.proof_checks.specs.ProofTexts.{joined};
 ghost use Rattle.proof_checks.specs.LedgerTexts.{history_parts, texts_of_leaves};

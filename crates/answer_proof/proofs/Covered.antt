@@ -6,8 +6,8 @@ use Rattle.lc_base.specs.declared.row.Row.{Row}
 use Rattle.lc_base.specs.History.{IsLawful}
 use Rattle.prov_entry.specs.declared.entry.Leaf.{Leaf}
 use Rattle.prov_entry.specs.Spelling.{key_or_empty}
-use Rattle.history_root.specs.Root.{keys_of, is_below, next_key, leaf_of, leaves}
-use Rattle.history_root.proofs.Lists.{all_weaker, all_contained}
+use Rattle.root_laws.specs.Root.{keys_of, is_below, next_key, leaf_of, leaves}
+use Rattle.root_laws.proofs.Lists.{all_weaker, all_contained}
 use Rattle.typed_ledger.specs.TypedLedger.{IsTypedRow}
 use Rattle.typed_ledger.proofs.Spellings.{leaf_cases}
 use Rattle.state_tree.specs.Covering.{Covers}

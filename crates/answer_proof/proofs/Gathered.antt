@@ -20,9 +20,9 @@ use Rattle.merkle_tree.specs.Climbing.{bytes_of as bytes_of_digests}
 use Rattle.prov_entry.specs.declared.entry.Header.{Header}
 use Rattle.prov_entry.specs.declared.entry.Body.{Body}
 use Rattle.prov_entry.specs.declared.entry.Leaf.{Leaf}
-use Rattle.history_root.specs.Naming.{body_of}
-use Rattle.history_root.specs.Root.{leaves, digest_at}
-use Rattle.history_root.proofs.Lists.{all_weaker, keep_all}
+use Rattle.root_laws.specs.Naming.{body_of}
+use Rattle.root_laws.specs.Root.{leaves, digest_at}
+use Rattle.root_laws.proofs.Lists.{all_weaker, keep_all}
 use Rattle.typed_ledger.specs.TypedLedger.{IsTypedHistory}
 use Rattle.state_tree.specs.Leaves.{leaf_texts}
 use Rattle.state_tree.specs.Covering.{Covers}

@@ -8,7 +8,7 @@ use Rattle.lc_base.specs.declared.answer.Kind.TheVariants.{Hist}
 use Rattle.lc_base.specs.History.{IsLawful, newest, latest, uses}
 use Rattle.rows_index.specs.Places.{IsRowAt}
 use Rattle.prov_entry.specs.declared.entry.Header.{Header}
-use Rattle.history_root.specs.Naming.{header_of}
+use Rattle.root_laws.specs.Naming.{header_of}
 use Rattle.typed_ledger.specs.TypedLedger.{IsTypedRow}
 use Rattle.proof_codec.specs.declared.proof.Proof.{Proof}
 use Rattle.proof_codec.specs.Spelling.{last_of}

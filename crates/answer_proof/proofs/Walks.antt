@@ -9,7 +9,7 @@ use Rattle.lc_base.specs.declared.row.Dep.{Dep}
 use Rattle.lc_base.specs.declared.row.Row.{Row}
 use Rattle.lc_base.specs.History.{IsLawful, version_of}
 use Rattle.prov_entry.specs.declared.entry.Header.{Header}
-use Rattle.history_root.specs.Naming.{header_of}
+use Rattle.root_laws.specs.Naming.{header_of}
 use Rattle.entry_store.specs.declared.entry.EntryId.{EntryId}
 use Rattle.lineage_store.specs.OnPath.{version_in, version_of_entry, AreEntriesIn}
 use Rattle.proof_checks.specs.Making.{header_in}

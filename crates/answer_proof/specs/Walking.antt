@@ -3,7 +3,7 @@ use Rattle.std.specs.Prelude.{ℕ, nat_le, if◌then◌else◌, List, reverse, O
 use Rattle.std.specs.List.{find}
 use Rattle.lc_base.specs.declared.row.Row.{Row}
 use Rattle.prov_entry.specs.declared.entry.Header.{Header}
-use Rattle.history_root.specs.WalkLaws.{is_version_in}
+use Rattle.root_laws.specs.WalkLaws.{is_version_in}
 
 -- The version of the key in a block.
 abbrev pub version_in : List Row → List ℕ → ℕ → Option Row

@@ -5,7 +5,7 @@ ghost use Rattle.std.specs.Option.{option_map};
 ghost use Rattle.lc_base.specs.declared.row.Row.{Row};
 ghost use Rattle.lc_base.specs.History.{uses};
 ghost use Rattle.rows_index.specs.Places.{IsRowAt};
-ghost use Rattle.history_root.specs.Naming.{body_of};
+ghost use Rattle.root_laws.specs.Naming.{body_of};
 ghost use Rattle.proof_codec.specs.Spelling.{last_of};
 ghost use Rattle.proof_checks.specs.Making.{uses_if};
 ghost use Rattle.answer_proof.specs.Walking.{answering};

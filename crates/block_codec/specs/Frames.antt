@@ -1,7 +1,7 @@
 -- Frames: how a block file is split into the bytes of its blocks.
 use Rattle.std.specs.Prelude.{◌≡◌, ℕ, ◌+◌, ◌<◌, ◌≤◌, ◌==◌, nat_lt, ◌||◌, if◌then◌else◌, List, [], length, take, drop, Option, Some, None, Result, Ok, Err}
 use Rattle.std.specs.Int.{w32, from_be_bytes}
-use Rattle.lc_outside.specs.Outside.{prepend, IsAtEnd}
+use Rattle.lc_io.specs.Outside.{prepend, IsAtEnd}
 use Rattle.block_codec.specs.declared.limits.TheConstants.{MAX_BLOCK_BYTES, MAX_FRAMES}
 use Rattle.block_codec.specs.declared.frames.FrameError.{FrameError}
 use Rattle.block_codec.specs.declared.frames.FrameError.TheVariants as errors

@@ -7,7 +7,7 @@ ghost use Rattle.block_codec.specs.declared.limits.TheConstants.{MAX_FRAMES};
 
 use crate::limits::{MAX_BLOCK_BYTES, MAX_FRAMES};
 use lc_base::Bytes;
-use lc_outside::{Failed, Source};
+use lc_io::{Failed, Source};
 use std::alloc::{AllocError, Global};
 use std::marker::Model;
 

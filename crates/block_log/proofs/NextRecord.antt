@@ -7,7 +7,7 @@ use Rattle.std.proofs.Math.Seq.{get_or-append_seam}
 use Rattle.std.proofs.lemmas.Bool.Decides.{nat_tests}
 use Rattle.byte_fields.specs.Spelling.{IsBytes}
 use Rattle.lc_base.specs.declared.digest.Digest.{Digest}
-use Rattle.lc_outside.specs.Disk.{DiskState}
+use Rattle.lc_io.specs.Disk.{DiskState}
 use Rattle.disk_model.specs.Disk.{Torn, overwritten, Rests, content_of, settled}
 use Rattle.block_codec.specs.Spelling.{Spells}
 use Rattle.block_codec.specs.Reading.{block_in}

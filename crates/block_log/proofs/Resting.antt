@@ -2,7 +2,7 @@
 use Rattle.std.proofs.Common.{◌≡◌, ℕ, ◌≤◌, true, List, length, refl, sym, ◌∙◌, ap, subst, arith}
 use Rattle.std.specs.Prelude.{Option, Some, None, Result}
 use Rattle.std.specs.Option.{option_map, is_some}
-use Rattle.lc_outside.specs.Disk.{DiskState, Turns}
+use Rattle.lc_io.specs.Disk.{DiskState, Turns}
 use Rattle.disk_model.specs.Disk.{IsImage, settled, written, overwritten, Torn, Writes, Syncs, Keeps, Rests, content_of}
 use Rattle.disk_model.proofs.Images.{settled_image, overwritten_torn}
 use Rattle.disk_model.proofs.Moments.{started, then_keeps, weaker}

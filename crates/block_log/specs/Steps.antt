@@ -2,7 +2,7 @@
 use Rattle.std.specs.Prelude.{◌≡◌, ℕ, List, [], ◌∷◌, ◌++◌, length, Option, Some}
 use Rattle.std.specs.Option.{option_map}
 use Rattle.std.specs.Int.{w32, to_be_bytes}
-use Rattle.lc_outside.specs.Disk.{DiskState}
+use Rattle.lc_io.specs.Disk.{DiskState}
 use Rattle.disk_model.specs.Disk.{settled, overwritten}
 use Rattle.block_log.specs.declared.layout.TheConstants.{CLOSED_GATE}
 use Rattle.block_log.specs.Standing.{NextBlock, magic, chain_of}

@@ -1,6 +1,6 @@
 //! Why a log could not be started, or a call of it went no further.
 
-use lc_outside::Failed;
+use lc_io::Failed;
 
 /// Why there is no log to start with.
 #[derive(Clone, Copy, Debug, PartialEq, Eq)]

@@ -3,7 +3,7 @@
 ghost use Rattle.std.specs.Prelude.{◌≡◌, ℕ, ◌+◌, ◌*◌, ◌≤◌, ◌<◌, List, length, Some, IfOk, IfSome, IsErrOf};
 ghost use Rattle.std.specs.Option.{is_some, option_map};
 ghost use Rattle.lc_base.specs.Faults.{HasCause};
-ghost use Rattle.lc_outside.specs.Disk.{Stays};
+ghost use Rattle.lc_io.specs.Disk.{Stays};
 ghost use Rattle.disk_model.specs.Disk.{content_of};
 ghost use Rattle.block_codec.specs.Spelling.{IsBlock};
 ghost use Rattle.block_codec.specs.Placement.{digest_of, new_placement};
@@ -20,7 +20,7 @@ use crate::reading::{PREFIX_BYTES, Record, read_record};
 use block_codec::{Block, DecodeError, Placement, block_digest, decode, place};
 use disk_model::Disk;
 use lc_base::{Digest, Memory};
-use lc_outside::Failed;
+use lc_io::Failed;
 use std::alloc::Global;
 use std::marker::Model;
 

@@ -2,7 +2,7 @@
 
 ghost use Rattle.std.specs.Prelude.{◌≡◌, ℕ, ◌+◌, ◌^◌, ◌≤◌, ◌<◌, ◌==◌, List, length, take, drop, get_or, Some, IfOk, IsErr};
 ghost use Rattle.lc_base.specs.Faults.{HasCause};
-ghost use Rattle.lc_outside.specs.Disk.{Stays};
+ghost use Rattle.lc_io.specs.Disk.{Stays};
 ghost use Rattle.disk_model.specs.Disk.{content_of};
 ghost use Rattle.block_codec.specs.declared.limits.TheConstants.{MAX_BLOCK_BYTES};
 ghost use Rattle.block_log.specs.declared.layout.TheConstants.{MAX_RECORD_BYTES};
@@ -12,7 +12,7 @@ ghost use Rattle.block_log.specs.Reading.{has_magic, head_of, sized_record, open
 use crate::layout::{CLOSED_GATE, FIRST_GATE, MAGIC, OPEN_GATE};
 use block_codec::MAX_BLOCK_BYTES;
 use disk_model::Disk;
-use lc_outside::Failed;
+use lc_io::Failed;
 
 /// The number of bytes by which a log is told from other bytes.
 const HEAD_BYTES: usize = FIRST_GATE as usize + 1;

@@ -2,7 +2,7 @@
 
 ghost use Rattle.std.specs.Prelude.{◌≡◌, length, IfOk, IsErrOf};
 ghost use Rattle.lc_base.specs.Faults.{HasCause};
-ghost use Rattle.lc_outside.specs.Disk.{Stays};
+ghost use Rattle.lc_io.specs.Disk.{Stays};
 ghost use Rattle.disk_model.specs.Disk.{content_of};
 ghost use Rattle.block_codec.specs.Placement.{no_parent};
 ghost use Rattle.block_log.specs.declared.layout.TheConstants.{FIRST_GATE, MAX_RECORD_BYTES};
@@ -15,7 +15,7 @@ use crate::reader::LogReader;
 use crate::reading::{Head, read_head};
 use block_codec::NO_PARENT;
 use disk_model::Disk;
-use lc_outside::Failed;
+use lc_io::Failed;
 use std::alloc::{AllocError, Global};
 
 impl From<Failed> for LogError {

@@ -8,14 +8,14 @@ use Rattle.lc_base.specs.declared.digest.Digest.{Digest}
 use Rattle.block_codec.specs.Placement.{digest_of}
 use Rattle.block_codec.specs.declared.block.Block.{Block}
 use Rattle.chain_exec.specs.Compiled.{compiled_in}
-use Rattle.chain_state.specs.Chain.{ChainState, StandsFor}
+use Rattle.chain_replay.specs.Chain.{ChainState, StandsFor}
 use Rattle.merkle_dag.specs.Ledger.{IsHead}
-use Rattle.lineage_chain.specs.Roots.{root_in}
-use Rattle.chain_lines.specs.Lines.{root_line}
-use Rattle.chain_lines.specs.Outcome.{outcome_with}
-use Rattle.chain_lines.specs.declared.outcome.Outcome.{Outcome}
-use Rattle.chain_lines.specs.declared.outcome.Ending.TheVariants as endings
-use Rattle.chain_output.specs.Output.{beyond_outcome, outcome_at, answer_outcome, root_outcome, at_or_last}
+use Rattle.rooted_chain.specs.Roots.{root_in}
+use Rattle.cli_lines.specs.Lines.{root_line}
+use Rattle.cli_lines.specs.Outcome.{outcome_with}
+use Rattle.cli_lines.specs.declared.outcome.Outcome.{Outcome}
+use Rattle.cli_lines.specs.declared.outcome.Ending.TheVariants as endings
+use Rattle.cli_output.specs.Output.{beyond_outcome, outcome_at, answer_outcome, root_outcome, at_or_last}
 
 -- ---- a block that a chain has, and one that it does not have
 

@@ -6,26 +6,26 @@ use Rattle.contract_parse.specs.Syntax.{Outcome as SourceOutcome}
 use Rattle.contract_check.specs.Faults.{check_fault}
 use Rattle.contract_check.specs.declared.fault.Fault.{Fault}
 use Rattle.chain_pack.specs.declared.error.PackError.{PackError}
-use Rattle.chain_append.specs.declared.ending.AppendEnd.{AppendEnd}
-use Rattle.chain_append.specs.declared.ending.AppendEnd.TheVariants as appends
-use Rattle.chain_append.specs.declared.ending.AppendStop.{AppendStop}
-use Rattle.chain_append.specs.declared.ending.AppendStop.TheVariants as halts
-use Rattle.chain_words.specs.Words.{CanBeGiven, IsCount}
-use Rattle.chain_words.specs.declared.words.Generation.{Generation}
-use Rattle.chain_words.specs.declared.words.Command.{Command}
-use Rattle.chain_words.specs.declared.words.Command.TheVariants.{Fmt, Pack, Load, Append}
-use Rattle.chain_lines.specs.Outcome.{status_of}
-use Rattle.chain_lines.specs.declared.outcome.Outcome.{Outcome}
-use Rattle.chain_lines.specs.declared.outcome.Ending.{Ending}
-use Rattle.chain_lines.specs.declared.outcome.Ending.TheVariants as endings
-use Rattle.chain_lines.specs.declared.status.Status.{Status}
-use Rattle.chain_lines.specs.declared.status.Status.TheVariants as statuses
-use Rattle.chain_output.specs.Blocks.{draft_outcome}
-use Rattle.chain_output.specs.Output.{Output, output_of, fmt_outcome, source_outcome, IsFmtOutput, Long, Source, uses_disk}
-use Rattle.chain_output.specs.Running.{MayEnd, found_no_log}
-use Rattle.chain_output.specs.Telling.{status_of_result, append_answer}
-use Rattle.chain_output.specs.declared.stop.RunStop.{RunStop}
-use Rattle.chain_output.specs.declared.stop.RunStop.TheVariants as stops
+use Rattle.cli_append.specs.declared.ending.AppendEnd.{AppendEnd}
+use Rattle.cli_append.specs.declared.ending.AppendEnd.TheVariants as appends
+use Rattle.cli_append.specs.declared.ending.AppendStop.{AppendStop}
+use Rattle.cli_append.specs.declared.ending.AppendStop.TheVariants as halts
+use Rattle.cli_words.specs.Words.{CanBeGiven, IsCount}
+use Rattle.cli_words.specs.declared.words.Generation.{Generation}
+use Rattle.cli_words.specs.declared.words.Command.{Command}
+use Rattle.cli_words.specs.declared.words.Command.TheVariants.{Fmt, Pack, Load, Append}
+use Rattle.cli_lines.specs.Outcome.{status_of}
+use Rattle.cli_lines.specs.declared.outcome.Outcome.{Outcome}
+use Rattle.cli_lines.specs.declared.outcome.Ending.{Ending}
+use Rattle.cli_lines.specs.declared.outcome.Ending.TheVariants as endings
+use Rattle.cli_lines.specs.declared.status.Status.{Status}
+use Rattle.cli_lines.specs.declared.status.Status.TheVariants as statuses
+use Rattle.cli_output.specs.Blocks.{draft_outcome}
+use Rattle.cli_output.specs.Output.{Output, output_of, fmt_outcome, source_outcome, IsFmtOutput, Long, Source, uses_disk}
+use Rattle.cli_output.specs.Running.{MayEnd, found_no_log}
+use Rattle.cli_output.specs.Telling.{status_of_result, append_answer}
+use Rattle.cli_output.specs.declared.stop.RunStop.{RunStop}
+use Rattle.cli_output.specs.declared.stop.RunStop.TheVariants as stops
 
 -- ---- inputs that are read whole
 

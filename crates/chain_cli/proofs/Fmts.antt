@@ -2,12 +2,12 @@
 use Rattle.std.proofs.Common.{◌≡◌, ℕ, ◌+◌, ◌≤◌, List, [], length, drop, Option, Some, None, sym, subst}
 use Rattle.std.specs.Prelude.{codes, IfSome}
 use Rattle.contract_parse.specs.Syntax.{Outcome as SourceOutcome, IsOutcome}
-use Rattle.chain_lines.specs.declared.whole.TheConstants.{MAX_WHOLE_INPUT_BYTES}
-use Rattle.chain_lines.specs.declared.outcome.Outcome.{Outcome}
-use Rattle.chain_lines.specs.Outcome.{bad_input}
-use Rattle.chain_output.specs.Output.{IsFmtOutput, Long, Source, output_of, source_outcome}
-use Rattle.chain_output.specs.Scanning.{IsFmtOutcome}
-use Rattle.chain_lines.specs.Whole.{IsWholeInput}
+use Rattle.cli_lines.specs.declared.whole.TheConstants.{MAX_WHOLE_INPUT_BYTES}
+use Rattle.cli_lines.specs.declared.outcome.Outcome.{Outcome}
+use Rattle.cli_lines.specs.Outcome.{bad_input}
+use Rattle.cli_output.specs.Output.{IsFmtOutput, Long, Source, output_of, source_outcome}
+use Rattle.cli_output.specs.Scanning.{IsFmtOutcome}
+use Rattle.cli_lines.specs.Whole.{IsWholeInput}
 
 -- the outcome of a source that was read whole
 pub source_wanted : (input : List ℕ) (found : SourceOutcome) (outcome : Outcome) → length input ≤ MAX_WHOLE_INPUT_BYTES → IsOutcome input found → outcome ≡ source_outcome found → IsFmtOutput input (output_of outcome [])

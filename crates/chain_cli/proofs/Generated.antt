@@ -2,17 +2,17 @@
 use Rattle.std.proofs.Common.{◌≡◌, ℕ, zero, suc, ◌+◌, ◌-◌, ◌<◌, ◌≤◌, Bool, true, false, cond, eqb, List, [], ◌∷◌, ◌++◌, length, map, Option, Some, None, refl, sym, ap, ◌∙◌, subst, arith, append_assoc}
 use Rattle.std.proofs.lemmas.List.{append-nil, map-append, map_push, length-append}
 use Rattle.std.proofs.lemmas.Bool.Decides.{nat_tests}
-use Rattle.lc_outside.specs.Disk.{DiskState, Stays}
-use Rattle.lc_outside.specs.Outside.{Tell}
+use Rattle.lc_io.specs.Disk.{DiskState, Stays}
+use Rattle.lc_io.specs.Outside.{Tell}
 use Rattle.disk_model.proofs.Moments.{stays_here, stays_on}
 use Rattle.block_log.specs.Standing.{NextBlock}
-use Rattle.chain_promises.specs.Promises.{plain, Telling}
-use Rattle.chain_promises.proofs.Tellings.{none_to_tell}
+use Rattle.crash_promises.specs.Promises.{plain, Telling}
+use Rattle.crash_promises.proofs.Tellings.{none_to_tell}
 use Rattle.lc_base.specs.declared.digest.Digest.{Digest}
 use Rattle.block_codec.specs.Placement.{bytes_digest, no_parent}
 use Rattle.chain_gen.specs.Generator.{Progress, MadeSoFar, none_made, made, generated, spelling, block_drawn, given_block, next_block, progress, GoesOn}
-use Rattle.chain_output.specs.Blocks.{frame}
-use Rattle.chain_output.proofs.Plain.{plain_more, plain_cut}
+use Rattle.cli_output.specs.Blocks.{frame}
+use Rattle.cli_output.proofs.Plain.{plain_more, plain_cut}
 
 -- the frames of the first blocks of a seed
 abbrev pub frames_of : ℕ → ℕ → List (List ℕ)

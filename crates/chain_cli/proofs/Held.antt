@@ -9,13 +9,13 @@ use Rattle.proof_checks.specs.declared.reject.Reject.{Reject}
 use Rattle.proof_commands.specs.declared.verification.Verification.{Verification}
 use Rattle.proof_commands.specs.Verifying.{of_verdict, IsVerification, OddDigits, NoDigit, NoProof, Judged}
 use Rattle.replay_soundness.proofs.Sound.{accepted_proofs_answer_as_replays}
-use Rattle.chain_promises.specs.Promises.{Line, plain}
-use Rattle.chain_lines.specs.Lines.{answer_lines}
-use Rattle.chain_lines.specs.Outcome.{status_of}
-use Rattle.chain_lines.specs.declared.status.Status.TheVariants as statuses
-use Rattle.chain_output.specs.Output.{Output, IsVerifyOutput, LongProof, Verified}
-use Rattle.chain_output.specs.Proofs.{verification_outcome}
-use Rattle.chain_output.specs.Showing.{IsProofInHex, TellsReplays, VerifiedAnswersHold}
+use Rattle.crash_promises.specs.Promises.{Line, plain}
+use Rattle.cli_lines.specs.Lines.{answer_lines}
+use Rattle.cli_lines.specs.Outcome.{status_of}
+use Rattle.cli_lines.specs.declared.status.Status.TheVariants as statuses
+use Rattle.cli_output.specs.Output.{Output, IsVerifyOutput, LongProof, Verified}
+use Rattle.cli_output.specs.Proofs.{verification_outcome}
+use Rattle.cli_output.specs.Showing.{IsProofInHex, TellsReplays, VerifiedAnswersHold}
 
 accepted_tells : (root : List ℕ) (query : Query) (proof : Proof) → IsProof proof → (r : Result Answer Reject) → verdict root query proof ≡ r → status_of (verification_outcome (of_verdict r)).ending ≡ statuses.Done
     → TellsReplays root query proof (map plain (verification_outcome (of_verdict r)).pieces)

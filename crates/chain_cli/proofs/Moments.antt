@@ -3,17 +3,17 @@ use Rattle.std.proofs.Common.{◌≡◌, ℕ, Bool, true, false, List, ◌++◌,
 use Rattle.std.specs.Prelude.{Option, Some, None, Ok}
 use Rattle.std.specs.Option.{is_some}
 use Rattle.std.proofs.Math.Seq.{take-length}
-use Rattle.lc_outside.specs.Disk.{DiskState, Stays}
-use Rattle.lc_outside.specs.Outside.{Tell}
+use Rattle.lc_io.specs.Disk.{DiskState, Stays}
+use Rattle.lc_io.specs.Outside.{Tell}
 use Rattle.disk_model.specs.Disk.{IsSettled, Keeps, Rests, content_of}
 use Rattle.disk_model.proofs.Moments.{then_keeps, weaker, stays_on}
 use Rattle.block_codec.specs.declared.block.Block.{Block}
 use Rattle.block_log.specs.Standing.{standing}
 use Rattle.recovery.specs.Node.{NodeState, IsNodeOf, IsNodeStarted, next_in_chain}
-use Rattle.chain_promises.specs.Promises.{NoChange, Appends, MayLeaveAny}
-use Rattle.chain_promises.proofs.Tellings.{still}
-use Rattle.chain_append.specs.Appending.{IsTold, GoesFrom}
-use Rattle.chain_append.proofs.Frames.{rests_each}
+use Rattle.crash_promises.specs.Promises.{NoChange, Appends, MayLeaveAny}
+use Rattle.crash_promises.proofs.Tellings.{still}
+use Rattle.cli_append.specs.Appending.{IsTold, GoesFrom}
+use Rattle.cli_append.proofs.Frames.{rests_each}
 
 rests_told : (state : Option DiskState) (content : List ℕ) → IsSettled state → content_of state ≡ Some content → Rests state (λ c. c ≡ content)
 rests_told None content rests told = tt

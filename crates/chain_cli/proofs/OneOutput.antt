@@ -9,7 +9,7 @@ use Rattle.block_codec.specs.Placement.{digest_of}
 use Rattle.block_log.specs.declared.layout.TheConstants.{OPEN_GATE, FIRST_GATE}
 use Rattle.block_log.specs.declared.layout.Stored.{Stored}
 use Rattle.block_log.specs.Standing.{Standing, Blank, NotALog, Damaged, Holds, Placer, next_decoded, next_block, blocks_in, after_record, record_at, records_at, is_log, is_blank, standing}
-use Rattle.chain_state.specs.Chain.{placement_in}
+use Rattle.chain_replay.specs.Chain.{placement_in}
 use Rattle.block_codec.specs.declared.block.Block.{Block}
 use Rattle.block_codec.specs.Frames.{FrameStep, End, Truncated, Length, Many, Frame, frame_of, sized_frame, frame_step}
 use Rattle.block_codec.specs.Reading.{block_in}
@@ -22,18 +22,18 @@ use Rattle.lc_base.specs.declared.answer.Query.{Query}
 use Rattle.proof_commands.specs.Verifying.{verification}
 use Rattle.proof_commands.specs.declared.verification.Verification.{Verification}
 use Rattle.proof_commands.proofs.Verified.{is_verification, one_answer}
-use Rattle.chain_lines.specs.declared.whole.TheConstants.{MAX_WHOLE_INPUT_BYTES}
+use Rattle.cli_lines.specs.declared.whole.TheConstants.{MAX_WHOLE_INPUT_BYTES}
 use Rattle.chain_exec.specs.Compiled.{Compiler, compiled_in}
 use Rattle.chain_exec.proofs.TheLaws.{one_compiler}
-use Rattle.chain_state.specs.Judging.{Taken, judged, added_by}
-use Rattle.chain_state.specs.declared.refusal.Refusal.{Refusal}
-use Rattle.scan_chain.specs.Folding.{Fold, taken_before, fold_after_frame, fold_step, fold_from, fold_input}
-use Rattle.chain_output.specs.Output.{Output, output_of, scan_output, usage_output, long_output, pack_output, gen_output, load_output, append_output, root_output, ask_output, prove_output, on_log, next_by, source_outcome, IsFmtOutput, Long, Source, IsVerifyOutput, LongProof, Verified, IsExposeOutput, IsOnLog, Wants, IsWanted, IsOneOutput}
-use Rattle.chain_output.specs.Proofs.{verification_outcome}
-use Rattle.chain_output.proofs.Exposed.{some_expose, one_expose}
-use Rattle.chain_output.proofs.Meets.{some_on_log, one_on_log}
-use Rattle.chain_words.specs.declared.words.Command.{Command}
-use Rattle.chain_words.specs.declared.words.Command.TheVariants.{Scan, Fmt, Pack, Gen, Load, Append, Root, Ask, Prove, Verify, Expose}
+use Rattle.chain_replay.specs.Judging.{Taken, judged, added_by}
+use Rattle.chain_replay.specs.declared.refusal.Refusal.{Refusal}
+use Rattle.chain_input.specs.Folding.{Fold, taken_before, fold_after_frame, fold_step, fold_from, fold_input}
+use Rattle.cli_output.specs.Output.{Output, output_of, scan_output, usage_output, long_output, pack_output, gen_output, load_output, append_output, root_output, ask_output, prove_output, on_log, next_by, source_outcome, IsFmtOutput, Long, Source, IsVerifyOutput, LongProof, Verified, IsExposeOutput, IsOnLog, Wants, IsWanted, IsOneOutput}
+use Rattle.cli_output.specs.Proofs.{verification_outcome}
+use Rattle.cli_output.proofs.Exposed.{some_expose, one_expose}
+use Rattle.cli_output.proofs.Meets.{some_on_log, one_on_log}
+use Rattle.cli_words.specs.declared.words.Command.{Command}
+use Rattle.cli_words.specs.declared.words.Command.TheVariants.{Scan, Fmt, Pack, Gen, Load, Append, Root, Ask, Prove, Verify, Expose}
 
 -- ---- the bytes of a frame
 

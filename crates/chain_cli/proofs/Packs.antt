@@ -4,13 +4,13 @@ use Rattle.std.specs.Prelude.{codes, IfOk, IfSome}
 use Rattle.std.proofs.lemmas.Bool.Decides.{nat_tests}
 use Rattle.chain_pack.specs.Draft.{pack_fault, packed}
 use Rattle.chain_pack.specs.declared.error.PackError.{PackError}
-use Rattle.chain_lines.specs.Outcome.{bad_input}
-use Rattle.chain_lines.specs.Whole.{IsWholeInput}
-use Rattle.chain_lines.specs.declared.whole.TheConstants.{MAX_WHOLE_INPUT_BYTES}
-use Rattle.chain_lines.specs.declared.outcome.Outcome.{Outcome}
-use Rattle.chain_output.specs.Blocks.{draft_cause, draft_outcome, TellsFault}
-use Rattle.chain_output.specs.Output.{Output, output_of, long_output, pack_output}
-use Rattle.chain_output.specs.Scanning.{GivesOutput}
+use Rattle.cli_lines.specs.Outcome.{bad_input}
+use Rattle.cli_lines.specs.Whole.{IsWholeInput}
+use Rattle.cli_lines.specs.declared.whole.TheConstants.{MAX_WHOLE_INPUT_BYTES}
+use Rattle.cli_lines.specs.declared.outcome.Outcome.{Outcome}
+use Rattle.cli_output.specs.Blocks.{draft_cause, draft_outcome, TellsFault}
+use Rattle.cli_output.specs.Output.{Output, output_of, long_output, pack_output}
+use Rattle.cli_output.specs.Scanning.{GivesOutput}
 
 by_length : (long : Bool) (input : List ℕ) → ltb MAX_WHOLE_INPUT_BYTES (length input) ≡ long → pack_output input ≡ cond long (long_output input) (output_of (draft_outcome (packed input)) [])
 by_length long input is = ap (λ (b : Bool). cond b (long_output input) (output_of (draft_outcome (packed input)) [])) is

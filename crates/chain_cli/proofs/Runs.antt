@@ -3,8 +3,8 @@ use Rattle.std.proofs.Common.{◌≡◌, ℕ, ◌+◌, Bool, true, false, cond, 
 use Rattle.std.specs.Prelude.{IfOk, IfSome, is_ok}
 use Rattle.std.specs.Option.{is_some}
 use Rattle.std.proofs.lemmas.List.{append-nil}
-use Rattle.lc_outside.specs.Disk.{DiskState, Stays}
-use Rattle.lc_outside.specs.Outside.{Tell}
+use Rattle.lc_io.specs.Disk.{DiskState, Stays}
+use Rattle.lc_io.specs.Outside.{Tell}
 use Rattle.disk_model.specs.Disk.{IsSettled, Keeps, Rests, content_of}
 use Rattle.disk_model.proofs.Moments.{then_keeps, weaker, stays_on}
 use Rattle.lc_base.specs.declared.answer.Query.{Query}
@@ -14,35 +14,35 @@ use Rattle.block_codec.specs.declared.block.Block.{Block}
 use Rattle.block_codec.specs.declared.limits.TheConstants.{MAX_FRAMES}
 use Rattle.block_log.specs.Standing.{Standing, Blank, NotALog, Damaged, Holds, blocks_of, blocks_in, chain_of, standing}
 use Rattle.chain_exec.specs.Compiled.{compiled_in}
-use Rattle.chain_state.specs.Judging.{added_by_all}
-use Rattle.scan_chain.specs.Folding.{Fold, FoldEnd, fold_from, fold_input}
-use Rattle.scan_chain.specs.declared.stop.Stop.{Stop}
+use Rattle.chain_replay.specs.Judging.{added_by_all}
+use Rattle.chain_input.specs.Folding.{Fold, FoldEnd, fold_from, fold_input}
+use Rattle.chain_input.specs.declared.stop.Stop.{Stop}
 use Rattle.recovery.specs.Node.{NodeState, IsNodeOf, IsNodeStarted, IsNoStart, next_in_chain}
 use Rattle.recovery.specs.declared.errors.StartError.{StartError}
-use Rattle.chain_promises.specs.Promises.{plain, NoChange, Appends, Telling, IsPartly, MayLeave, IsChanged}
-use Rattle.chain_promises.proofs.Tellings.{told_since}
-use Rattle.chain_append.specs.Appending.{AppendsAll, HasEnded as Appended, IsTold, fold_lines, fold_end}
-use Rattle.chain_append.specs.declared.ending.AppendEnd.{AppendEnd}
-use Rattle.chain_append.specs.declared.ending.AppendStop.{AppendStop}
+use Rattle.crash_promises.specs.Promises.{plain, NoChange, Appends, Telling, IsPartly, MayLeave, IsChanged}
+use Rattle.crash_promises.proofs.Tellings.{told_since}
+use Rattle.cli_append.specs.Appending.{AppendsAll, HasEnded as Appended, IsTold, fold_lines, fold_end}
+use Rattle.cli_append.specs.declared.ending.AppendEnd.{AppendEnd}
+use Rattle.cli_append.specs.declared.ending.AppendStop.{AppendStop}
 use Rattle.chain_gen.specs.Generator.{generated}
-use Rattle.chain_words.specs.declared.words.Generation.{Generation}
-use Rattle.chain_words.specs.declared.words.Command.{Command}
-use Rattle.chain_words.specs.declared.words.Command.TheVariants.{Scan, Fmt, Pack, Gen, Load, Append, Verify}
-use Rattle.chain_lines.specs.Lines.{usage_line}
-use Rattle.chain_lines.specs.Outcome.{status_of, outcome_with}
-use Rattle.chain_lines.specs.declared.outcome.Outcome.{Outcome}
-use Rattle.chain_lines.specs.declared.outcome.Ending.{Ending}
-use Rattle.chain_lines.specs.declared.outcome.Ending.TheVariants as endings
-use Rattle.chain_lines.specs.declared.status.Status.{Status}
-use Rattle.chain_output.specs.Blocks.{frame}
-use Rattle.chain_output.specs.Output.{Output, output_of, usage_output, scan_output, pack_output, gen_output, load_outcome, load_output, append_output, on_log, fold_ending, IsFmtOutput, Long, Source, IsVerifyOutput, LongProof, Verified}
-use Rattle.chain_output.specs.Running.{came_to_end, leaves, appends_none, Meets, IsGiven, IsRun}
-use Rattle.chain_output.specs.Scanning.{GivesOutput, IsFmtOutcome, IsVerifyOutcome}
-use Rattle.chain_output.specs.Telling.{status_of_result, status_of_usage, append_stop, append_answer, Says, TellsResult, TellsStart}
-use Rattle.chain_output.specs.declared.stop.RunStop.{RunStop}
-use Rattle.chain_output.specs.declared.stop.RunStop.TheVariants as stops
+use Rattle.cli_words.specs.declared.words.Generation.{Generation}
+use Rattle.cli_words.specs.declared.words.Command.{Command}
+use Rattle.cli_words.specs.declared.words.Command.TheVariants.{Scan, Fmt, Pack, Gen, Load, Append, Verify}
+use Rattle.cli_lines.specs.Lines.{usage_line}
+use Rattle.cli_lines.specs.Outcome.{status_of, outcome_with}
+use Rattle.cli_lines.specs.declared.outcome.Outcome.{Outcome}
+use Rattle.cli_lines.specs.declared.outcome.Ending.{Ending}
+use Rattle.cli_lines.specs.declared.outcome.Ending.TheVariants as endings
+use Rattle.cli_lines.specs.declared.status.Status.{Status}
+use Rattle.cli_output.specs.Blocks.{frame}
+use Rattle.cli_output.specs.Output.{Output, output_of, usage_output, scan_output, pack_output, gen_output, load_outcome, load_output, append_output, on_log, fold_ending, IsFmtOutput, Long, Source, IsVerifyOutput, LongProof, Verified}
+use Rattle.cli_output.specs.Running.{came_to_end, leaves, appends_none, Meets, IsGiven, IsRun}
+use Rattle.cli_output.specs.Scanning.{GivesOutput, IsFmtOutcome, IsVerifyOutcome}
+use Rattle.cli_output.specs.Telling.{status_of_result, status_of_usage, append_stop, append_answer, Says, TellsResult, TellsStart}
+use Rattle.cli_output.specs.declared.stop.RunStop.{RunStop}
+use Rattle.cli_output.specs.declared.stop.RunStop.TheVariants as stops
 use Rattle.chain_cli.proofs.OneOutput.{some_output}
-use Rattle.chain_output.proofs.Meets.{ending_ends, stop_stops, told_input, left_same, left_read, rests_given, on_log_blocks, content_stays, quiet_images, said_met, reading_since, start_met}
+use Rattle.cli_output.proofs.Meets.{ending_ends, stop_stops, told_input, left_same, left_read, rests_given, on_log_blocks, content_stays, quiet_images, said_met, reading_since, start_met}
 
 -- ---- what is given
 

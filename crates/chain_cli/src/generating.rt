@@ -2,20 +2,20 @@
 
 ghost use Rattle.std.specs.Prelude.{◌≡◌, [], ◌∷◌, map, is_ok, IfOk, IsErrOf};
 ghost use Rattle.lc_base.specs.Faults.{HasCause};
-ghost use Rattle.lc_outside.specs.Disk.{Stays};
+ghost use Rattle.lc_io.specs.Disk.{Stays};
 ghost use Rattle.block_log.specs.Standing.{NextBlock};
 ghost use Rattle.chain_gen.specs.Generator.{generated};
-ghost use Rattle.chain_promises.specs.Promises.{plain, Telling};
-ghost use Rattle.chain_output.specs.Blocks.{frame};
+ghost use Rattle.crash_promises.specs.Promises.{plain, Telling};
+ghost use Rattle.cli_output.specs.Blocks.{frame};
 
 use crate::packing::frame;
 use block_codec::{NO_PARENT, block_digest};
 use chain_gen::Gen;
-use chain_lines::Ending;
-use chain_output::RunStop;
-use chain_words::Generation;
+use cli_lines::Ending;
+use cli_output::RunStop;
+use cli_words::Generation;
 use lc_base::Memory;
-use lc_outside::{Failed, Wire};
+use lc_io::{Failed, Wire};
 use std::alloc::Global;
 
 /// Tells the frame of a block.

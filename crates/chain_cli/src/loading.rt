@@ -2,12 +2,12 @@
 
 ghost use Rattle.std.specs.Prelude.{◌≡◌, IfOk};
 ghost use Rattle.chain_exec.specs.Compiled.{compiled_in};
-ghost use Rattle.chain_words.specs.Words.{IsCount};
-ghost use Rattle.chain_output.specs.Output.{load_outcome};
+ghost use Rattle.cli_words.specs.Words.{IsCount};
+ghost use Rattle.cli_output.specs.Output.{load_outcome};
 
-use chain_lines::{Ending, Outcome, load_line};
 use chain_load::load_chain;
-use chain_words::Generation;
+use cli_lines::{Ending, Outcome, load_line};
+use cli_words::Generation;
 use lc_base::Memory;
 use std::alloc::Global;
 

@@ -2,28 +2,28 @@
 
 ghost use Rattle.std.specs.Prelude.{◌≡◌, ℕ, true, List, Option, Some, IfOk, IsErrOf};
 ghost use Rattle.lc_base.specs.Faults.{HasCause};
-ghost use Rattle.lc_outside.specs.Disk.{Stays};
+ghost use Rattle.lc_io.specs.Disk.{Stays};
 ghost use Rattle.disk_model.specs.Disk.{IsSettled, Keeps, content_of};
 ghost use Rattle.block_codec.specs.Reading.{block_in};
 ghost use Rattle.block_codec.specs.declared.block.Block.{Block as Blocks};
 ghost use Rattle.chain_exec.specs.Compiled.{compiled_in};
-ghost use Rattle.chain_state.specs.Chain.{StandsFor};
+ghost use Rattle.chain_replay.specs.Chain.{StandsFor};
 ghost use Rattle.recovery.specs.Node.{next_in_chain};
-ghost use Rattle.chain_promises.specs.Promises.{MayLeaveAny};
-ghost use Rattle.chain_words.specs.declared.words.Command.TheVariants.{Append, Root, Ask};
-ghost use Rattle.chain_output.specs.Output.{answer_outcome, root_outcome, at_or_last};
-ghost use Rattle.chain_output.specs.Running.{IsRun, IsSilent, MayEnd, found_no_log};
-ghost use Rattle.chain_output.specs.Scanning.{EndsAsked};
-ghost use Rattle.chain_output.specs.Telling.{append_answer, status_of_result};
+ghost use Rattle.crash_promises.specs.Promises.{MayLeaveAny};
+ghost use Rattle.cli_words.specs.declared.words.Command.TheVariants.{Append, Root, Ask};
+ghost use Rattle.cli_output.specs.Output.{answer_outcome, root_outcome, at_or_last};
+ghost use Rattle.cli_output.specs.Running.{IsRun, IsSilent, MayEnd, found_no_log};
+ghost use Rattle.cli_output.specs.Scanning.{EndsAsked};
+ghost use Rattle.cli_output.specs.Telling.{append_answer, status_of_result};
 
 use crate::scan::whole_outcome;
-use chain_append::{AppendEnd, AppendStop, append as append_frames, start};
-use chain_lines::{Ending, Outcome, root_line};
-use chain_output::{RunStop, beyond, tell_made, tell_start};
-use chain_state::Chain;
+use chain_replay::Chain;
+use cli_append::{AppendEnd, AppendStop, append as append_frames, start};
+use cli_lines::{Ending, Outcome, root_line};
+use cli_output::{RunStop, beyond, tell_made, tell_start};
 use disk_model::Disk;
 use lc_base::{Key, Kind, Memory, Query};
-use lc_outside::{Source, Wire};
+use lc_io::{Source, Wire};
 use recovery::{Node, stored_chain};
 use std::alloc::Global;
 

@@ -2,20 +2,20 @@
 
 ghost use Rattle.std.specs.Prelude.{◌≡◌, map, Some, IfOk, IfSome, IsErrOf};
 ghost use Rattle.lc_base.specs.Faults.{HasCause};
-ghost use Rattle.chain_lines.specs.Outcome.{status_of};
+ghost use Rattle.cli_lines.specs.Outcome.{status_of};
 ghost use Rattle.chain_pack.specs.Draft.{packed};
-ghost use Rattle.chain_words.specs.declared.words.Command.TheVariants.{Pack};
-ghost use Rattle.chain_output.specs.Blocks.{frame, draft_outcome, TellsFault};
-ghost use Rattle.chain_output.specs.Output.{pack_output};
-ghost use Rattle.chain_output.specs.Running.{MayEnd};
-ghost use Rattle.chain_output.specs.Scanning.{GivesOutput};
+ghost use Rattle.cli_words.specs.declared.words.Command.TheVariants.{Pack};
+ghost use Rattle.cli_output.specs.Blocks.{frame, draft_outcome, TellsFault};
+ghost use Rattle.cli_output.specs.Output.{pack_output};
+ghost use Rattle.cli_output.specs.Running.{MayEnd};
+ghost use Rattle.cli_output.specs.Scanning.{GivesOutput};
 
 use byte_fields::put_u32;
-use chain_lines::{Ending, Outcome, read_whole};
+use chain_input::Stop;
 use chain_pack::{PackError, pack as blocks_of};
+use cli_lines::{Ending, Outcome, read_whole};
 use lc_base::{Bytes, Memory, Seq, TextList};
-use lc_outside::Source;
-use scan_chain::Stop;
+use lc_io::Source;
 use std::alloc::Global;
 
 /// The frame of a block: its length in four bytes, and its bytes. For a block whose length has no

@@ -2,21 +2,21 @@
 
 ghost use Rattle.std.specs.Prelude.{◌≡◌, ℕ, List, Option, Some, map, string_bytes, true, false, IfSome, IsErrOf};
 ghost use Rattle.lc_base.specs.Faults.{HasCause};
-ghost use Rattle.lc_outside.specs.Disk.{Stays};
+ghost use Rattle.lc_io.specs.Disk.{Stays};
 ghost use Rattle.disk_model.specs.Disk.{IsSettled, Keeps, content_of};
 ghost use Rattle.lc_base.specs.declared.answer.Query.{Query};
 ghost use Rattle.byte_fields.specs.Spelling.{IsBytes};
 ghost use Rattle.block_codec.specs.Reading.{block_in};
 ghost use Rattle.block_codec.specs.Spelling.{Decoder, IsDecoder};
 ghost use Rattle.chain_exec.specs.Compiled.{Compiler, IsCompiler, compiled_in};
-ghost use Rattle.chain_words.specs.declared.words.Command.{Command as Commands};
+ghost use Rattle.cli_words.specs.declared.words.Command.{Command as Commands};
 ghost use Rattle.recovery.specs.Node.{next_in_chain};
-ghost use Rattle.chain_promises.specs.Promises.{MayLeaveAny};
-ghost use Rattle.chain_words.specs.Words.{CanBeGiven, IsCommand, IsOneCommand};
-ghost use Rattle.chain_output.specs.Output.{FormatsAgain, IsWanted, IsOneOutput, next_by, reads_input, uses_disk, changes_log, tells_as_it_goes};
-ghost use Rattle.chain_output.specs.Running.{IsRun, IsSilent, MayEnd, found_no_log};
-ghost use Rattle.chain_output.specs.Showing.{VerifiedAnswersHold, WrongAnswersAreTold};
-ghost use Rattle.chain_output.specs.Telling.{status_of_result};
+ghost use Rattle.crash_promises.specs.Promises.{MayLeaveAny};
+ghost use Rattle.cli_words.specs.Words.{CanBeGiven, IsCommand, IsOneCommand};
+ghost use Rattle.cli_output.specs.Output.{FormatsAgain, IsWanted, IsOneOutput, next_by, reads_input, uses_disk, changes_log, tells_as_it_goes};
+ghost use Rattle.cli_output.specs.Running.{IsRun, IsSilent, MayEnd, found_no_log};
+ghost use Rattle.cli_output.specs.Showing.{VerifiedAnswersHold, WrongAnswersAreTold};
+ghost use Rattle.cli_output.specs.Telling.{status_of_result};
 
 use crate::fmt::fmt;
 use crate::generating::generate;
@@ -24,12 +24,12 @@ use crate::loading::load_outcome;
 use crate::over_log::{append, ask, root};
 use crate::packing::pack;
 use crate::scan::scan;
-use chain_lines::{Ending, Status};
-use chain_output::{RunStop, tell_made, tell_result, tell_usage};
-use chain_proofs::{expose, prove, verify};
-use chain_words::{Command, command_of};
+use cli_lines::{Ending, Status};
+use cli_output::{RunStop, tell_made, tell_result, tell_usage};
+use cli_proofs::{expose, prove, verify};
+use cli_words::{Command, command_of};
 use disk_model::Disk;
-use lc_outside::{Source, Wire};
+use lc_io::{Source, Wire};
 use std::alloc::Global;
 
 /// Does what a command is for.
@@ -109,7 +109,7 @@ fn run_words<I: Source, M: Disk + Wire>(
 
 /// Everything that the program does: it reads the words, the input and the disk, tells the lines, and
 /// appends to the log.
-#[tactic(auto, using(crate::proofs::OneOutput::one_output, crate::proofs::Formatted::formats_again, crate::proofs::Held::verified_holds, chain_output::proofs::WrongTold::wrong_answers_are_told, block_codec::proofs::WholeBlocks::decided, chain_exec::proofs::TheLaws::one_compiler))]
+#[tactic(auto, using(crate::proofs::OneOutput::one_output, crate::proofs::Formatted::formats_again, crate::proofs::Held::verified_holds, cli_output::proofs::WrongTold::wrong_answers_are_told, block_codec::proofs::WholeBlocks::decided, chain_exec::proofs::TheLaws::one_compiler))]
 pub fn run<I: Source, M: Disk + Wire>(
     alloc: Global,
     words: &[String],

@@ -4,21 +4,21 @@ ghost use Rattle.lc_base.specs.Faults.{HasCause};
 ghost use Rattle.std.specs.Prelude.{◌≡◌, [], ◌∷◌, IfOk, IfSome, List, Some, IsErrOf};
 ghost use Rattle.block_codec.specs.Reading.{block_in};
 ghost use Rattle.block_codec.specs.declared.block.Block.{Block as Blocks};
-ghost use Rattle.chain_state.specs.Chain.{StandsFor};
-ghost use Rattle.chain_lines.specs.Outcome.{status_of, outcome_with};
-ghost use Rattle.chain_words.specs.declared.words.Command.TheVariants.{Scan};
-ghost use Rattle.chain_output.specs.Output.{answer_outcome, scan_output};
+ghost use Rattle.chain_replay.specs.Chain.{StandsFor};
+ghost use Rattle.cli_lines.specs.Outcome.{status_of, outcome_with};
+ghost use Rattle.cli_words.specs.declared.words.Command.TheVariants.{Scan};
+ghost use Rattle.cli_output.specs.Output.{answer_outcome, scan_output};
 ghost use Rattle.chain_exec.specs.Compiled.{compiled_in};
-ghost use Rattle.scan_chain.specs.Folding.{fold_input};
-ghost use Rattle.chain_output.specs.Running.{MayEnd};
-ghost use Rattle.chain_output.specs.Scanning.{GivesOutput, EndsAsked};
-ghost use Rattle.chain_lines.specs.Lines.{refused_line};
+ghost use Rattle.chain_input.specs.Folding.{fold_input};
+ghost use Rattle.cli_output.specs.Running.{MayEnd};
+ghost use Rattle.cli_output.specs.Scanning.{GivesOutput, EndsAsked};
+ghost use Rattle.cli_lines.specs.Lines.{refused_line};
 
-use chain_lines::{Ending, Outcome, answer_lines, empty_line, head_line, refused_line};
-use chain_state::{Chain, Replay};
+use chain_input::{Cause, Folded, Stop, fold};
+use chain_replay::{Chain, Replay};
+use cli_lines::{Ending, Outcome, answer_lines, empty_line, head_line, refused_line};
 use lc_base::{Memory, Query};
-use lc_outside::Source;
-use scan_chain::{Cause, Folded, Stop, fold};
+use lc_io::Source;
 use std::alloc::Global;
 
 /// A frame is refused.

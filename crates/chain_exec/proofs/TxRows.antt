@@ -20,11 +20,11 @@ use Rattle.world_state.specs.Known.{Known}
 use Rattle.world_state.specs.World.{newest_of, is_written}
 use Rattle.world_state.specs.declared.held.Held.{Held}
 use Rattle.lc_base.specs.declared.host.HostError.{HostError}
-use Rattle.contract_meaning.specs.declared.site.Outcome.{Outcome}
-use Rattle.contract_meaning.specs.Answers.{place_in, IsFaithful}
-use Rattle.contract_meaning.specs.Calls.{rows_written}
-use Rattle.contract_meaning.specs.Reading.{block_of}
-use Rattle.contract_meaning.specs.Scenes.{Place}
+use Rattle.contract_semantics.specs.declared.site.Outcome.{Outcome}
+use Rattle.contract_semantics.specs.Answers.{place_in, IsFaithful}
+use Rattle.contract_semantics.specs.Calls.{rows_written}
+use Rattle.contract_semantics.specs.Reading.{block_of}
+use Rattle.contract_semantics.specs.Scenes.{Place}
 use Rattle.chain_exec.specs.BlockRows.{IsOnNewest, HasNewestDeps, AreTxRows}
 use Rattle.chain_exec.specs.Effect.{Effect, refused, free, meets_conflict, set_effect, result_effect}
 use Rattle.chain_exec.specs.Running.{dep_in, deps_in, run_left}

@@ -2,7 +2,7 @@
 
 ghost use Rattle.std.specs.Prelude.{◌≡◌, ◌≤◌, ◌==◌, [], ◌∷◌, length, codes, IfOk};
 ghost use Rattle.lc_base.specs.declared.limits.TheConstants.{MAX_DEPS};
-ghost use Rattle.contract_meaning.specs.Answers.{place_in};
+ghost use Rattle.contract_semantics.specs.Answers.{place_in};
 ghost use Rattle.chain_exec.specs.BlockRows.{AreTxRows};
 ghost use Rattle.std.specs.List.{starts_with, list_any, filter_map};
 ghost use Rattle.world_state.specs.World.{is_written};

@@ -4,7 +4,7 @@ ghost use Rattle.std.specs.Prelude.{◌≡◌, ◌≤◌, IfSome, IfOk, IsErrOf}
 ghost use Rattle.lc_base.specs.Faults.{HasCause};
 ghost use Rattle.block_codec.specs.Spelling.{IsTx};
 ghost use Rattle.world_state.specs.World.{StandsForRows};
-ghost use Rattle.contract_meaning.specs.Answers.{place_in};
+ghost use Rattle.contract_semantics.specs.Answers.{place_in};
 ghost use Rattle.chain_exec.specs.BlockRows.{AreTxRows, IsWithinBudget};
 ghost use Rattle.chain_exec.specs.Running.{effect_in, StagesRows, HasEffect};
 
@@ -14,7 +14,7 @@ use crate::setting::run_set;
 use crate::staging::{TxRun, or_memory};
 use block_codec::Tx;
 use contract_check::Checked;
-use contract_meaning::CallSite;
+use contract_semantics::CallSite;
 use lc_base::{Host, HostError};
 use std::alloc::Global;
 use world_state::World;

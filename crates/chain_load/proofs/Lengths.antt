@@ -1,7 +1,7 @@
 -- How many versions a look-up looks at: all of them are counted.
 use Rattle.std.proofs.Common.{◌≡◌, ℕ, zero, suc, ◌^◌, ◌<◌, ◌≤◌, List, length, Option, Some, None, arith}
 use Rattle.lc_base.specs.declared.row.Row.{Row}
-use Rattle.version_path.specs.Paths.{path, path_from, next_block}
+use Rattle.skip_path.specs.Paths.{path, path_from, next_block}
 use Rattle.entry_store.specs.Steps.{raised}
 
 path_from_within : (n : ℕ) (links_of : ℕ → List ℕ) (at : ℕ) (block : Option ℕ) → length (path_from n links_of at block) ≤ n

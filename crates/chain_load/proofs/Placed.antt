@@ -16,12 +16,12 @@ use Rattle.dep_capture.specs.declared.limits.TheConstants.{MAX_KEYS_PUT}
 use Rattle.chain_exec.specs.Compiled.{compiled_in}
 use Rattle.chain_exec.specs.Effect.{History}
 use Rattle.chain_exec.specs.Replay.{replay}
-use Rattle.chain_state.specs.Chain.{ChainState, StandsFor, nothing_kept, placement_in}
-use Rattle.chain_state.specs.Judging.{Taken, Known, Added, judged, judged_by_placement, IsJudged, IsNextBlock}
-use Rattle.chain_state.specs.declared.judging.Judged.{Judged}
-use Rattle.chain_state.specs.declared.judging.Judged.TheVariants as judgements
-use Rattle.chain_state.specs.declared.refusal.Refusal.{Refusal}
-use Rattle.chain_state.proofs.Judgements.{added}
+use Rattle.chain_replay.specs.Chain.{ChainState, StandsFor, nothing_kept, placement_in}
+use Rattle.chain_replay.specs.Judging.{Taken, Known, Added, judged, judged_by_placement, IsJudged, IsNextBlock}
+use Rattle.chain_replay.specs.declared.judging.Judged.{Judged}
+use Rattle.chain_replay.specs.declared.judging.Judged.TheVariants as judgements
+use Rattle.chain_replay.specs.declared.refusal.Refusal.{Refusal}
+use Rattle.chain_replay.proofs.Judgements.{added}
 use Rattle.chain_gen.specs.declared.limits.TheConstants.{MAX_TXS_MADE}
 use Rattle.chain_gen.specs.Generator.{Progress, block_drawn, made, one_more_made, progress, IsPlaced}
 use Rattle.chain_load.specs.Building.{HasAdded}

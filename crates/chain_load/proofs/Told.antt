@@ -5,8 +5,8 @@ use Rattle.lc_base.specs.declared.digest.Digest.{Digest}
 use Rattle.lc_base.specs.declared.row.Row.{Row}
 use Rattle.block_codec.specs.Placement.{digest_of}
 use Rattle.chain_exec.specs.Compiled.{compiled_in}
-use Rattle.chain_state.specs.Chain.{ChainState, StandsFor}
-use Rattle.lineage_chain.specs.Roots.{root_in}
+use Rattle.chain_replay.specs.Chain.{ChainState, StandsFor}
+use Rattle.rooted_chain.specs.Roots.{root_in}
 use Rattle.chain_gen.specs.Draws.{repeated}
 use Rattle.chain_gen.specs.Generator.{Progress, made, progress}
 use Rattle.chain_load.specs.Lookups.{lookup_drawn, lookups_drawn, looked_at, counted}

@@ -2,7 +2,7 @@
 use Rattle.std.specs.Prelude.{◌≡◌, ℕ, ◌*◌, ◌≤◌, length}
 use Rattle.lc_base.specs.declared.digest.Digest.{Digest}
 use Rattle.dep_capture.specs.declared.limits.TheConstants.{MAX_KEYS_PUT}
-use Rattle.chain_state.specs.Chain.{ChainState, StandsFor}
+use Rattle.chain_replay.specs.Chain.{ChainState, StandsFor}
 use Rattle.chain_gen.specs.declared.limits.TheConstants.{MAX_TXS_MADE}
 use Rattle.chain_gen.specs.Generator.{Progress, made, progress}
 

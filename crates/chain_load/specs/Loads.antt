@@ -5,7 +5,7 @@ use Rattle.lc_base.specs.declared.row.Row.{Row}
 use Rattle.block_codec.specs.declared.block.Block.{Block}
 use Rattle.chain_exec.specs.Compiled.{Compiler}
 use Rattle.chain_exec.specs.Replay.{replay}
-use Rattle.lineage_chain.specs.Roots.{root_in}
+use Rattle.rooted_chain.specs.Roots.{root_in}
 use Rattle.chain_gen.specs.Generator.{made}
 use Rattle.chain_load.specs.declared.loading.Load.{Load}
 use Rattle.chain_load.specs.Lookups.{lookups_drawn, looked_at, greatest}

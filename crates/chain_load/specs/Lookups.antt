@@ -2,7 +2,7 @@
 use Rattle.std.specs.Prelude.{ℕ, max, List, [], ◌∷◌, length}
 use Rattle.std.specs.List.{sum}
 use Rattle.lc_base.specs.declared.row.Row.{Row}
-use Rattle.version_path.specs.Paths.{path}
+use Rattle.skip_path.specs.Paths.{path}
 use Rattle.chain_gen.specs.Draws.{number_below, key_drawn, repeated}
 use Rattle.chain_load.specs.declared.looking.Looked.{Looked}
 

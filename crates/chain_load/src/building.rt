@@ -7,15 +7,15 @@ ghost use Rattle.block_codec.specs.declared.block.Block.{Block as Blocks};
 ghost use Rattle.block_codec.specs.declared.limits.TheConstants.{MAX_BLOCKS};
 ghost use Rattle.block_codec.specs.declared.placement.Placement.TheVariants.{Next};
 ghost use Rattle.chain_exec.specs.Compiled.{compiled_in};
-ghost use Rattle.chain_state.specs.Chain.{placement_in, StandsFor};
+ghost use Rattle.chain_replay.specs.Chain.{placement_in, StandsFor};
 ghost use Rattle.chain_gen.specs.Generator.{made, progress};
 ghost use Rattle.chain_load.specs.Building.{HasAdded};
 
 use block_codec::{NO_PARENT, block_digest};
 use chain_gen::Gen;
-use chain_state::{Judged, Replay};
+use chain_replay::{Judged, Replay};
 use lc_base::{Digest, Memory};
-use lineage_chain::LineageChain;
+use rooted_chain::LineageChain;
 use std::alloc::Global;
 
 /// The chain with its next block after the others, which these bytes spell. On `Memory` the chain is

@@ -3,8 +3,8 @@
 ghost use Rattle.std.specs.Prelude.{◌≡◌, ℕ, ◌<◌, ◌≤◌, ◌-◌, IfOk};
 ghost use Rattle.block_codec.specs.declared.limits.TheConstants.{MAX_BLOCKS};
 ghost use Rattle.chain_exec.specs.Compiled.{compiled_in};
-ghost use Rattle.chain_state.specs.Chain.{StandsFor};
-ghost use Rattle.lineage_chain.specs.Roots.{root_in};
+ghost use Rattle.chain_replay.specs.Chain.{StandsFor};
+ghost use Rattle.rooted_chain.specs.Roots.{root_in};
 ghost use Rattle.chain_gen.specs.Generator.{made, progress};
 ghost use Rattle.chain_load.specs.Loads.{load_of};
 
@@ -12,7 +12,7 @@ use crate::building::chain_made;
 use crate::looking::look_up_all;
 use chain_gen::Gen;
 use lc_base::{Digest, Memory};
-use lineage_chain::LineageChain;
+use rooted_chain::LineageChain;
 use std::alloc::Global;
 
 /// What a load tells.

@@ -1,7 +1,7 @@
 //! The look-ups of a load.
 
 ghost use Rattle.std.specs.Prelude.{◌≡◌, ◌<◌, ◌≤◌, ◌+◌, ◌^◌, max, length, map, IfOk};
-ghost use Rattle.version_path.specs.Paths.{path};
+ghost use Rattle.skip_path.specs.Paths.{path};
 ghost use Rattle.chain_gen.specs.Generator.{standing_at};
 ghost use Rattle.chain_load.specs.Lookups.{lookup_drawn, lookups_drawn, looked_at, counted};
 

@@ -3,8 +3,8 @@
 use entry_views::read_header;
 use lc_base::{DepList, Key, Memory, Row, RowList, Value};
 use prov_entry::{Header, LinkList, no_uses, write_header};
+use skip_links::links;
 use std::alloc::Global;
-use version_links::links;
 
 /// Whether a header that is written is read again, with nothing behind it.
 fn is_read_again(alloc: Global) -> bool {

@@ -1,6 +1,6 @@
 //! Scratch devices: in memory, and over files.
 
-use lc_outside::{Failed, Room};
+use lc_io::{Failed, Room};
 use scratch_model::{FileScratch, MemScratch, Scratch};
 use std::fs;
 

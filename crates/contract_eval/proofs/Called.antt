@@ -10,10 +10,10 @@ use Rattle.contract_tree.specs.Tree.{FunctionTree, function_of}
 use Rattle.contract_check.specs.Functions.{is_called}
 use Rattle.world_state.specs.Known.{Known}
 use Rattle.world_state.specs.World.{is_written, StandsForRows}
-use Rattle.contract_meaning.specs.declared.site.CallSite.{CallSite}
-use Rattle.contract_meaning.specs.Scenes.{Scene, scene_of}
-use Rattle.contract_meaning.specs.Calls.{function_of_name, function_called, call_result}
-use Rattle.contract_meaning.specs.Answers.{scene_in}
+use Rattle.contract_semantics.specs.declared.site.CallSite.{CallSite}
+use Rattle.contract_semantics.specs.Scenes.{Scene, scene_of}
+use Rattle.contract_semantics.specs.Calls.{function_of_name, function_called, call_result}
+use Rattle.contract_semantics.specs.Answers.{scene_in}
 
 -- where the world stands for the rows, its scene is that of the history
 same_scene : {C : Type 0} (world : Known C) (rows : List Row) (site : CallSite) → StandsForRows world rows → scene_in rows world site ≡ scene_of rows (is_written world) site

@@ -4,9 +4,9 @@ use Rattle.lc_base.specs.declared.host.HostError.{HostError}
 use Rattle.lc_base.specs.declared.host.HostError.TheVariants as hosts
 use Rattle.lc_base.specs.declared.tx_status.TxStatus.{TxStatus}
 use Rattle.lc_base.specs.declared.tx_status.TxStatus.TheVariants as statuses
-use Rattle.contract_meaning.specs.declared.stop.Stop.{Stop}
-use Rattle.contract_meaning.specs.declared.stop.Stop.TheVariants as stops
-use Rattle.contract_statements.specs.declared.flow.Flow.{Flow}
+use Rattle.contract_semantics.specs.declared.stop.Stop.{Stop}
+use Rattle.contract_semantics.specs.declared.stop.Stop.TheVariants as stops
+use Rattle.eval_simple.specs.declared.flow.Flow.{Flow}
 
 -- The status of a function that ended so, or why it has none.
 abbrev pub IsStatusOf : Result Flow Stop → Result TxStatus HostError → Type 0

@@ -19,12 +19,12 @@ use Rattle.contract_tree.specs.declared.builtin.Builtin.{Builtin}
 use Rattle.contract_tree.specs.declared.builtin.Builtin.TheVariants as b
 use Rattle.contract_tree.specs.Builtins.{builtin_of}
 use Rattle.dep_capture.specs.declared.access.Read.{Read}
-use Rattle.contract_meaning.specs.Charges.{charge_of}
-use Rattle.contract_meaning.specs.Scenes.{Scene}
-use Rattle.contract_meaning.specs.Steps.{and_so}
-use Rattle.contract_meaning.specs.Reading.{key_of_text, int_in, text_in, of_kind, getting, having}
-use Rattle.contract_meaning.specs.Asking.{block_before, asked, version_asked, list_asked, item_asked, item_part_of, list_told, value_told, count_told}
-use Rattle.contract_meaning.specs.Builtins.{one_text, one_int, text_and_int, text_and_ints, with_args, version_value, item_value, version_part, count_part, item_part, built, called, applied}
+use Rattle.contract_semantics.specs.Charges.{charge_of}
+use Rattle.contract_semantics.specs.Scenes.{Scene}
+use Rattle.contract_semantics.specs.Steps.{and_so}
+use Rattle.contract_semantics.specs.Reading.{key_of_text, int_in, text_in, of_kind, getting, having}
+use Rattle.contract_semantics.specs.Asking.{block_before, asked, version_asked, list_asked, item_asked, item_part_of, list_told, value_told, count_told}
+use Rattle.contract_semantics.specs.Builtins.{one_text, one_int, text_and_int, text_and_ints, with_args, version_value, item_value, version_part, count_part, item_part, built, called, applied}
 use Rattle.contract_laws.specs.Lookups.{Lookups, no_lookups, question_of, question_lookup, version_lookup, item_lookup, builtin_lookups, called_lookups, applied_lookups}
 use Rattle.contract_laws.proofs.Failures.{so_fails, args_fails, int_fails, text_fails, value_fails, block_fails, tx_fails, version_part_fails, count_part_fails, item_part_fails}
 use Rattle.contract_laws.proofs.Tame.{AsksBefore, no_questions, IsBad, Agree, Tame, tame_failed, tame_charged, moves_same, no_keys}

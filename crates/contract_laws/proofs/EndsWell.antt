@@ -12,10 +12,10 @@ use Rattle.dep_capture.specs.Captured.{Captured}
 use Rattle.dep_capture.specs.Capture.{captured_none, was_read, was_put}
 use Rattle.dep_capture.specs.declared.access.Read.{Read}
 use Rattle.dep_capture.specs.declared.access.Put.{Put}
-use Rattle.contract_meaning.specs.Scenes.{Scene}
-use Rattle.contract_meaning.specs.Steps.{Machine, machine, Step, Done, Failed}
-use Rattle.contract_meaning.specs.Statements.{Ending, statements_run}
-use Rattle.contract_meaning.specs.Calls.{CallResult, are_arguments, bound, function_of_name, call_ended, function_run, function_called, call_result}
+use Rattle.contract_semantics.specs.Scenes.{Scene}
+use Rattle.contract_semantics.specs.Steps.{Machine, machine, Step, Done, Failed}
+use Rattle.contract_semantics.specs.Statements.{Ending, statements_run}
+use Rattle.contract_semantics.specs.Calls.{CallResult, are_arguments, bound, function_of_name, call_ended, function_run, function_called, call_result}
 use Rattle.contract_laws.specs.Lookups.{Lookups}
 use Rattle.contract_laws.specs.CallLookups.{statements_lookups, function_lookups, call_lookups, keys_met}
 use Rattle.contract_laws.specs.Laws.{QuestionsAreOfBlocksBefore, IsOwnAndUnwritten, PutsAreOwnAndUnwritten, FailuresAreNotOk}

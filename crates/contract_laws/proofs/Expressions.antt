@@ -4,10 +4,10 @@ use Rattle.lc_base.specs.declared.value.Value.{Value}
 use Rattle.lc_base.specs.declared.value.Value.TheVariants as values
 use Rattle.contract_tree.specs.Tree.{Tree, Trees, none, more}
 use Rattle.contract_tree.specs.Tree as tree
-use Rattle.contract_meaning.specs.declared.charge.TheConstants.{CHARGE_NODE}
-use Rattle.contract_meaning.specs.declared.variable.Variable.{Variable}
-use Rattle.contract_meaning.specs.Operators.{combined, prefixed, decided}
-use Rattle.contract_meaning.specs.Expressions.{variable_of, value_found, value_of, values_of}
+use Rattle.contract_semantics.specs.declared.charge.TheConstants.{CHARGE_NODE}
+use Rattle.contract_semantics.specs.declared.variable.Variable.{Variable}
+use Rattle.contract_semantics.specs.Operators.{combined, prefixed, decided}
+use Rattle.contract_semantics.specs.Expressions.{variable_of, value_found, value_of, values_of}
 use Rattle.contract_laws.specs.Lookups.{value_lookups, values_lookups}
 use Rattle.contract_laws.proofs.Tame.{Tame, tame_done, tame_given, tame_charged, tame_charged_quiet, tame_then, tame_then_quiet, tame_unless}
 use Rattle.contract_laws.proofs.Failures.{found_fails, prefixed_fails, combined_fails}

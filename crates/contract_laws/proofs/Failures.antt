@@ -21,15 +21,15 @@ use Rattle.contract_tree.specs.declared.builtin.Builtin.{Builtin}
 use Rattle.dep_capture.specs.Captured.{Captured}
 use Rattle.dep_capture.specs.declared.error.CaptureError.{CaptureError}
 use Rattle.dep_capture.specs.declared.error.CaptureError.TheVariants as errors
-use Rattle.contract_meaning.specs.declared.variable.Variable.{Variable}
-use Rattle.contract_meaning.specs.Numbers.{fits, is_zero, in_range, quotient, remainder}
-use Rattle.contract_meaning.specs.Operators.{as_int, as_text, on_ints, on_texts, combined, prefixed}
-use Rattle.contract_meaning.specs.Steps.{and_so}
-use Rattle.contract_meaning.specs.Reading.{good_key, key_of_text, int_in, text_in}
-use Rattle.contract_meaning.specs.Asking.{block_before, asked, version_asked, list_asked, item_asked, item_part_of, list_told, value_told, block_told, tx_told, count_told, item_told, item_of}
-use Rattle.contract_meaning.specs.Builtins.{text_and_int, text_and_ints, with_args, version_value, item_value, version_part, count_part, item_part}
-use Rattle.contract_meaning.specs.Expressions.{value_found}
-use Rattle.contract_meaning.specs.Puts.{key_in, keys_in, named_keys, put_recorded}
+use Rattle.contract_semantics.specs.declared.variable.Variable.{Variable}
+use Rattle.contract_semantics.specs.Numbers.{fits, is_zero, in_range, quotient, remainder}
+use Rattle.contract_semantics.specs.Operators.{as_int, as_text, on_ints, on_texts, combined, prefixed}
+use Rattle.contract_semantics.specs.Steps.{and_so}
+use Rattle.contract_semantics.specs.Reading.{good_key, key_of_text, int_in, text_in}
+use Rattle.contract_semantics.specs.Asking.{block_before, asked, version_asked, list_asked, item_asked, item_part_of, list_told, value_told, block_told, tx_told, count_told, item_told, item_of}
+use Rattle.contract_semantics.specs.Builtins.{text_and_int, text_and_ints, with_args, version_value, item_value, version_part, count_part, item_part}
+use Rattle.contract_semantics.specs.Expressions.{value_found}
+use Rattle.contract_semantics.specs.Puts.{key_in, keys_in, named_keys, put_recorded}
 use Rattle.contract_laws.proofs.Tame.{IsBad}
 
 pub so_fails : {A B : Type 0} (r : Result A TxStatus) (next : A → Result B TxStatus) → IsBad r → ((x : A) → IsBad (next x)) → IsBad (and_so r next)

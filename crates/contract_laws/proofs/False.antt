@@ -11,10 +11,10 @@ use Rattle.contract_tree.specs.Builtins.{builtin_of}
 use Rattle.contract_tree.specs.Tree.{FunctionTree, StatementTrees, statements, no_statement, more, none, If, Fail, Put}
 use Rattle.contract_tree.specs.Tree as tree
 use Rattle.dep_capture.specs.declared.access.Read.{Read}
-use Rattle.contract_meaning.specs.declared.site.CallSite.{CallSite}
-use Rattle.contract_meaning.specs.Scenes.{Scene, scene_of}
-use Rattle.contract_meaning.specs.Builtins.{applied}
-use Rattle.contract_meaning.specs.Calls.{CallResult, call_result}
+use Rattle.contract_semantics.specs.declared.site.CallSite.{CallSite}
+use Rattle.contract_semantics.specs.Scenes.{Scene, scene_of}
+use Rattle.contract_semantics.specs.Builtins.{applied}
+use Rattle.contract_semantics.specs.Calls.{CallResult, call_result}
 use Rattle.contract_laws.specs.Lookups.{applied_lookups}
 use Rattle.contract_laws.specs.CallLookups.{questions_of, call_lookups}
 use Rattle.contract_laws.specs.Laws.{HoldAlike, AnswerAlike}

@@ -3,10 +3,10 @@ use Rattle.std.proofs.Common.{◌≡◌, ◌+◌, ◌-◌, ◌≤◌, ◌<◌, �
 use Rattle.std.specs.Prelude.{nat_le}
 use Rattle.std.proofs.lemmas.Bool.Decides.{nat_tests}
 use Rattle.lc_base.specs.declared.tx_status.TxStatus.TheVariants.{OutOfSteps}
-use Rattle.contract_meaning.specs.declared.variable.Variable.{Variable}
-use Rattle.contract_meaning.specs.Scenes.{Scene}
-use Rattle.contract_meaning.specs.Steps.{Machine, Step, Done, Failed, after, and_then, charged}
-use Rattle.contract_meaning.specs.Statements.{Ending, Turn, Again, Ended, after_turn, turns}
+use Rattle.contract_semantics.specs.declared.variable.Variable.{Variable}
+use Rattle.contract_semantics.specs.Scenes.{Scene}
+use Rattle.contract_semantics.specs.Steps.{Machine, Step, Done, Failed, after, and_then, charged}
+use Rattle.contract_semantics.specs.Statements.{Ending, Turn, Again, Ended, after_turn, turns}
 use Rattle.contract_laws.specs.Lookups.{Lookups}
 use Rattle.contract_laws.specs.CallLookups.{after_turn_lookups, turns_lookups}
 use Rattle.contract_laws.proofs.Tame.{no_questions, Tame, ran_out, richer, raised, moves_same, tame_done, tame_then, then_scales, then_lowers, paid, charge_by}

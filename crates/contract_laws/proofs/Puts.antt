@@ -13,11 +13,11 @@ use Rattle.dep_capture.specs.declared.limits.TheConstants.{MAX_KEYS_PUT}
 use Rattle.dep_capture.specs.declared.access.Read.{Read}
 use Rattle.dep_capture.specs.declared.access.Put.{Put}
 use Rattle.dep_capture.specs.declared.error.CaptureError.TheVariants as errors
-use Rattle.contract_meaning.specs.declared.variable.Variable.{Variable}
-use Rattle.contract_meaning.specs.Scenes.{Scene}
-use Rattle.contract_meaning.specs.Steps.{Machine, after, and_so}
-use Rattle.contract_meaning.specs.Puts.{is_own, is_one_too_many, key_to_put, named_keys, put_recorded}
-use Rattle.contract_meaning.specs.Statements.{Ending, put_done}
+use Rattle.contract_semantics.specs.declared.variable.Variable.{Variable}
+use Rattle.contract_semantics.specs.Scenes.{Scene}
+use Rattle.contract_semantics.specs.Steps.{Machine, after, and_so}
+use Rattle.contract_semantics.specs.Puts.{is_own, is_one_too_many, key_to_put, named_keys, put_recorded}
+use Rattle.contract_semantics.specs.Statements.{Ending, put_done}
 use Rattle.contract_laws.specs.Lookups.{Lookups, no_lookups, one_met}
 use Rattle.contract_laws.specs.CallLookups.{put_lookup}
 use Rattle.contract_laws.specs.Laws.{IsOwnAndUnwritten}

@@ -17,11 +17,11 @@ use Rattle.dep_capture.specs.declared.access.Read.{Read}
 use Rattle.dep_capture.specs.declared.access.Put.{Put}
 use Rattle.dep_capture.specs.declared.error.CaptureError.TheVariants as errors
 use Rattle.world_state.specs.declared.held.Held.{Held}
-use Rattle.contract_meaning.specs.Numbers.{truth}
-use Rattle.contract_meaning.specs.Scenes.{Scene}
-use Rattle.contract_meaning.specs.Steps.{Machine, after}
-use Rattle.contract_meaning.specs.Reading.{Taken, and_read, key_of_text, block_of, value_of_version, recorded, value_got, is_held, of_kind, getting, having}
-use Rattle.contract_meaning.specs.Builtins.{reading_args, taken_step}
+use Rattle.contract_semantics.specs.Numbers.{truth}
+use Rattle.contract_semantics.specs.Scenes.{Scene}
+use Rattle.contract_semantics.specs.Steps.{Machine, after}
+use Rattle.contract_semantics.specs.Reading.{Taken, and_read, key_of_text, block_of, value_of_version, recorded, value_got, is_held, of_kind, getting, having}
+use Rattle.contract_semantics.specs.Builtins.{reading_args, taken_step}
 use Rattle.contract_laws.specs.Lookups.{Lookups, no_lookups, one_met, unput_lookup, key_lookup, read_lookup}
 use Rattle.contract_laws.proofs.Failures.{key_fails}
 use Rattle.contract_laws.proofs.Tame.{AsksBefore, no_questions, IsBad, FailsBadly, IsOf, Moves, Agree, Told, AreClear, EndsClear, Tame, raised, richer, moves_same, no_keys}

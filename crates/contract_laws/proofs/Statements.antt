@@ -3,13 +3,13 @@ use Rattle.std.proofs.Common.{Bool, List, [], length, take, Option, Some, None, 
 use Rattle.lc_base.specs.declared.tx_status.TxStatus.TheVariants as statuses
 use Rattle.contract_tree.specs.Tree.{Tree, Trees, StatementTree, StatementTrees, no_statement, statements}
 use Rattle.contract_tree.specs.Tree as tree
-use Rattle.contract_meaning.specs.declared.charge.TheConstants.{CHARGE_NODE, CHARGE_PUT}
-use Rattle.contract_meaning.specs.declared.variable.Variable.{Variable}
-use Rattle.contract_meaning.specs.Operators.{holds}
-use Rattle.contract_meaning.specs.Scenes.{Scene}
-use Rattle.contract_meaning.specs.Puts.{key_in}
-use Rattle.contract_meaning.specs.Steps.{Machine, Step, Done, and_then}
-use Rattle.contract_meaning.specs.Statements.{Ending, Goes, Returns, Again, Ended, unless_returned, block_ended, declared, assigned, tested, turn_again, loop_turn, parts_values, put_run, statement_run, statements_run}
+use Rattle.contract_semantics.specs.declared.charge.TheConstants.{CHARGE_NODE, CHARGE_PUT}
+use Rattle.contract_semantics.specs.declared.variable.Variable.{Variable}
+use Rattle.contract_semantics.specs.Operators.{holds}
+use Rattle.contract_semantics.specs.Scenes.{Scene}
+use Rattle.contract_semantics.specs.Puts.{key_in}
+use Rattle.contract_semantics.specs.Steps.{Machine, Step, Done, and_then}
+use Rattle.contract_semantics.specs.Statements.{Ending, Goes, Returns, Again, Ended, unless_returned, block_ended, declared, assigned, tested, turn_again, loop_turn, parts_values, put_run, statement_run, statements_run}
 use Rattle.contract_laws.specs.Lookups.{Lookups, no_lookups}
 use Rattle.contract_laws.specs.CallLookups.{unless_returned_lookups, tested_lookups, turn_lookups, parts_lookups, put_lookups, statement_lookups, statements_lookups}
 use Rattle.contract_laws.proofs.Tame.{Tame, tame_done, tame_failed, tame_charged, tame_charged_quiet, tame_then, tame_then_quiet, tame_if}

@@ -16,10 +16,10 @@ use Rattle.dep_capture.specs.Captured.{Captured, WasBacked}
 use Rattle.dep_capture.specs.Capture.{was_read, was_put}
 use Rattle.dep_capture.specs.declared.access.Read.{Read}
 use Rattle.dep_capture.specs.declared.access.Put.{Put}
-use Rattle.contract_meaning.specs.Scenes.{Scene}
-use Rattle.contract_meaning.specs.Reading.{block_of}
-use Rattle.contract_meaning.specs.Steps.{Machine, Step, Done, Failed, after, and_then, charged, given}
-use Rattle.contract_meaning.specs.Expressions.{unless_decided}
+use Rattle.contract_semantics.specs.Scenes.{Scene}
+use Rattle.contract_semantics.specs.Reading.{block_of}
+use Rattle.contract_semantics.specs.Steps.{Machine, Step, Done, Failed, after, and_then, charged, given}
+use Rattle.contract_semantics.specs.Expressions.{unless_decided}
 use Rattle.contract_laws.specs.Laws.{IsOwnAndUnwritten}
 use Rattle.contract_laws.specs.Lookups.{Lookups, no_lookups, joined, then_lookups, charged_lookups, undecided_lookups}
 

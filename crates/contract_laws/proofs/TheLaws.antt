@@ -19,14 +19,14 @@ use Rattle.dep_capture.specs.declared.access.Read.{Read}
 use Rattle.dep_capture.specs.declared.access.Put.{Put}
 use Rattle.world_state.specs.declared.held.Held.{Held}
 use Rattle.world_state.specs.Rows.{held_of}
-use Rattle.contract_meaning.specs.declared.variable.Variable.{Variable}
-use Rattle.contract_meaning.specs.Scenes.{Scene, scene_of}
-use Rattle.contract_meaning.specs.Operators.{holds}
-use Rattle.contract_meaning.specs.Reading.{block_of}
-use Rattle.contract_meaning.specs.Steps.{Machine, machine, Step, Done, Failed, after, and_then}
-use Rattle.contract_meaning.specs.Expressions.{value_of}
-use Rattle.contract_meaning.specs.Statements.{Ending, Goes, Turn, Ended, block_ended, turn_again, loop_turn, statements_run}
-use Rattle.contract_meaning.specs.Calls.{CallResult, are_arguments, bound, function_of_name, refused, call_ended, function_run, function_called, call_result}
+use Rattle.contract_semantics.specs.declared.variable.Variable.{Variable}
+use Rattle.contract_semantics.specs.Scenes.{Scene, scene_of}
+use Rattle.contract_semantics.specs.Operators.{holds}
+use Rattle.contract_semantics.specs.Reading.{block_of}
+use Rattle.contract_semantics.specs.Steps.{Machine, machine, Step, Done, Failed, after, and_then}
+use Rattle.contract_semantics.specs.Expressions.{value_of}
+use Rattle.contract_semantics.specs.Statements.{Ending, Goes, Turn, Ended, block_ended, turn_again, loop_turn, statements_run}
+use Rattle.contract_semantics.specs.Calls.{CallResult, are_arguments, bound, function_of_name, refused, call_ended, function_run, function_called, call_result}
 use Rattle.contract_laws.specs.Lookups.{Lookups, no_lookups, value_lookups}
 use Rattle.contract_laws.specs.CallLookups.{statements_lookups, function_lookups, call_lookups}
 use Rattle.contract_laws.specs.Laws.{with_budget, HoldAlike, AnswerAlike, AreWrittenAlike, IsReadVersion, CostAndLeftAreTheBudget, NothingIsPaidBack, LargerBudgetChangesNothing, LongerClockChangesNothing, ReadsAreOnlyAdded, ReadsAreOfVersionsBefore, DependenciesAreReads, DependenciesAreNewestRows, WhatIsRecordedIsComplete, LookupsAreTheSame, HistoriesWithTheSameReadsGiveTheSame}

@@ -6,14 +6,14 @@ use Rattle.lc_base.specs.declared.tx_status.TxStatus.{TxStatus}
 use Rattle.contract_tree.specs.Tree.{Tree, Trees, FunctionTree, StatementTree, StatementTrees, no_statement, statements}
 use Rattle.contract_tree.specs.Tree as tree
 use Rattle.dep_capture.specs.Capture.{captured_none}
-use Rattle.contract_meaning.specs.declared.charge.TheConstants.{CHARGE_NODE, CHARGE_PUT}
-use Rattle.contract_meaning.specs.declared.variable.Variable.{Variable}
-use Rattle.contract_meaning.specs.Scenes.{Scene}
-use Rattle.contract_meaning.specs.Steps.{Machine, machine, Step}
-use Rattle.contract_meaning.specs.Puts.{is_own, key_in}
-use Rattle.contract_meaning.specs.Expressions.{value_of}
-use Rattle.contract_meaning.specs.Statements.{Ending, Goes, Returns, Turn, Again, Ended, tested, loop_turn, parts_values, statement_run, statements_run}
-use Rattle.contract_meaning.specs.Calls.{are_arguments, bound, function_of_name}
+use Rattle.contract_semantics.specs.declared.charge.TheConstants.{CHARGE_NODE, CHARGE_PUT}
+use Rattle.contract_semantics.specs.declared.variable.Variable.{Variable}
+use Rattle.contract_semantics.specs.Scenes.{Scene}
+use Rattle.contract_semantics.specs.Steps.{Machine, machine, Step}
+use Rattle.contract_semantics.specs.Puts.{is_own, key_in}
+use Rattle.contract_semantics.specs.Expressions.{value_of}
+use Rattle.contract_semantics.specs.Statements.{Ending, Goes, Returns, Turn, Again, Ended, tested, loop_turn, parts_values, statement_run, statements_run}
+use Rattle.contract_semantics.specs.Calls.{are_arguments, bound, function_of_name}
 use Rattle.contract_laws.specs.Lookups.{Lookups, no_lookups, one_met, then_lookups, charged_lookups, value_lookups, values_lookups}
 
 -- What follows looks up, unless the function has returned.

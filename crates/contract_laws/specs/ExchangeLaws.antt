@@ -8,9 +8,9 @@ use Rattle.dep_capture.specs.Captured.{Captured}
 use Rattle.dep_capture.specs.Capture.{was_read, was_put}
 use Rattle.dep_capture.specs.declared.access.Read.{Read}
 use Rattle.dep_capture.specs.declared.access.Put.{Put}
-use Rattle.contract_meaning.specs.declared.site.CallSite.{CallSite}
-use Rattle.contract_meaning.specs.Scenes.{Scene}
-use Rattle.contract_meaning.specs.Calls.{call_result}
+use Rattle.contract_semantics.specs.declared.site.CallSite.{CallSite}
+use Rattle.contract_semantics.specs.Scenes.{Scene}
+use Rattle.contract_semantics.specs.Calls.{call_result}
 use Rattle.contract_laws.specs.CallLookups.{questions_of, keys_met}
 use Rattle.contract_laws.specs.Laws.{HoldAlike, AnswerAlike}
 

@@ -2,8 +2,8 @@
 use Rattle.std.specs.Prelude.{◌≡◌, List, drop}
 use Rattle.lc_base.specs.declared.value.Value.{Value}
 use Rattle.contract_tree.specs.Tree.{FunctionTree}
-use Rattle.contract_meaning.specs.Scenes.{Scene}
-use Rattle.contract_meaning.specs.Calls.{call_result}
+use Rattle.contract_semantics.specs.Scenes.{Scene}
+use Rattle.contract_semantics.specs.Calls.{call_result}
 use Rattle.contract_laws.specs.CallLookups.{questions_of, keys_met}
 use Rattle.contract_laws.specs.Laws.{HoldAlike, AnswerAlike, AreWrittenAlike}
 

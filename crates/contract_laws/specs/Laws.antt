@@ -15,14 +15,14 @@ use Rattle.dep_capture.specs.Capture.{captured_none}
 use Rattle.dep_capture.specs.declared.access.Read.{Read}
 use Rattle.dep_capture.specs.declared.access.Put.{Put}
 use Rattle.world_state.specs.Rows.{held_in}
-use Rattle.contract_meaning.specs.declared.site.CallSite.{CallSite}
-use Rattle.contract_meaning.specs.declared.variable.Variable.{Variable}
-use Rattle.contract_meaning.specs.Scenes.{Scene, scene_of}
-use Rattle.contract_meaning.specs.Puts.{is_own}
-use Rattle.contract_meaning.specs.Steps.{Machine, machine, Failed, after}
-use Rattle.contract_meaning.specs.Reading.{block_of}
-use Rattle.contract_meaning.specs.Statements.{loop_run, statement_run, statements_run}
-use Rattle.contract_meaning.specs.Calls.{bound, function_run, call_result}
+use Rattle.contract_semantics.specs.declared.site.CallSite.{CallSite}
+use Rattle.contract_semantics.specs.declared.variable.Variable.{Variable}
+use Rattle.contract_semantics.specs.Scenes.{Scene, scene_of}
+use Rattle.contract_semantics.specs.Puts.{is_own}
+use Rattle.contract_semantics.specs.Steps.{Machine, machine, Failed, after}
+use Rattle.contract_semantics.specs.Reading.{block_of}
+use Rattle.contract_semantics.specs.Statements.{loop_run, statement_run, statements_run}
+use Rattle.contract_semantics.specs.Calls.{bound, function_run, call_result}
 use Rattle.contract_laws.specs.CallLookups.{questions_of, keys_met}
 
 -- ---- the budget

@@ -13,16 +13,16 @@ use Rattle.contract_tree.specs.Tree.{Tree, Trees, none, more}
 use Rattle.contract_tree.specs.Tree as tree
 use Rattle.dep_capture.specs.Captured.{Captured}
 use Rattle.dep_capture.specs.Capture.{pending}
-use Rattle.contract_meaning.specs.declared.charge.TheConstants.{CHARGE_NODE}
-use Rattle.contract_meaning.specs.declared.variable.Variable.{Variable}
-use Rattle.contract_meaning.specs.Charges.{charge_of}
-use Rattle.contract_meaning.specs.Operators.{decided}
-use Rattle.contract_meaning.specs.Scenes.{Scene}
-use Rattle.contract_meaning.specs.Steps.{Machine, Step, Done, Failed, and_so}
-use Rattle.contract_meaning.specs.Reading.{key_of_text}
-use Rattle.contract_meaning.specs.Asking.{block_before}
-use Rattle.contract_meaning.specs.Builtins.{one_text, text_and_int, text_and_ints}
-use Rattle.contract_meaning.specs.Expressions.{value_of, values_of}
+use Rattle.contract_semantics.specs.declared.charge.TheConstants.{CHARGE_NODE}
+use Rattle.contract_semantics.specs.declared.variable.Variable.{Variable}
+use Rattle.contract_semantics.specs.Charges.{charge_of}
+use Rattle.contract_semantics.specs.Operators.{decided}
+use Rattle.contract_semantics.specs.Scenes.{Scene}
+use Rattle.contract_semantics.specs.Steps.{Machine, Step, Done, Failed, and_so}
+use Rattle.contract_semantics.specs.Reading.{key_of_text}
+use Rattle.contract_semantics.specs.Asking.{block_before}
+use Rattle.contract_semantics.specs.Builtins.{one_text, text_and_int, text_and_ints}
+use Rattle.contract_semantics.specs.Expressions.{value_of, values_of}
 
 -- The questions that are asked of the rows of the blocks before, and the keys of which it is asked
 -- whether the block has written them.

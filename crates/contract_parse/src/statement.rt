@@ -10,11 +10,11 @@ ghost use Rattle.contract_grammar.specs.Rules.{each, put, seq, ret, refuse};
 ghost use Rattle.contract_grammar.specs.Reading.{expression, preceded, terminated, value_of, let_statement, assign_statement, else_part, if_statement, while_statement, from_part, put_statement, short_statement, statement, block_of, block};
 ghost use Rattle.contract_grammar.specs.Reads.{Gives};
 
-use contract_expression::{expression, expressions};
 use contract_grammar::{Cursor, Obstacle, Stop};
 use contract_tokens::Mark;
 use contract_tree::{Expr, ExprList, Form, Statement, StatementList};
 use lc_base::Name;
+use parse_expression::{expression, expressions};
 use std::alloc::Global;
 
 fn end_statement(cursor: &mut Cursor<'_>, statement: Statement) -> Result<Statement, Stop>

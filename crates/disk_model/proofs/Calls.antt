@@ -2,7 +2,7 @@
 use Rattle.std.proofs.Common.{◌≡◌, inl, inr, ℕ, ◌≤◌, List, length, refl, sym, ◌∙◌, ap, subst, arith}
 use Rattle.std.specs.Prelude.{Option, Some, None, Result, Ok, Err}
 use Rattle.std.specs.Option.{option_map, is_some}
-use Rattle.lc_outside.specs.Disk.{DiskState, Stays}
+use Rattle.lc_io.specs.Disk.{DiskState, Stays}
 use Rattle.disk_model.specs.Disk.{IsImage, settled, pended, written, overwritten, Torn, Writes, Syncs, Keeps, content_of, IsSettled}
 use Rattle.disk_model.proofs.Images.{torn_image, overwritten_torn, settled_image}
 use Rattle.disk_model.proofs.Moments.{goes_on}

@@ -3,7 +3,7 @@ use Rattle.std.proofs.Common.{◌≡◌, ◌⊎◌, inl, inr, ℕ, List, refl, s
 use Rattle.std.specs.Prelude.{Option, Some}
 use Rattle.std.specs.Option.{is_some}
 use Rattle.std.proofs.lemmas.Bool.{cases_lt}
-use Rattle.lc_outside.specs.Disk.{DiskState, Turns, Stays}
+use Rattle.lc_io.specs.Disk.{DiskState, Turns, Stays}
 use Rattle.disk_model.specs.Disk.{IsImage, Keeps, LeftSince}
 
 module _ {D : Type 0} (now : D → ℕ) (disk : D → ℕ → Option DiskState) where

@@ -4,8 +4,8 @@ use Rattle.std.specs.Prelude.{Some, Result, Ok, Err, nat_lt, nat_le, ◌&&◌, M
 use Rattle.std.specs.Option.{option_map}
 use Rattle.std.proofs.lemmas.List.{take-append-le, take_all, length-append, length-take, length-drop, take_at}
 use Rattle.std.proofs.lemmas.Bool.Decides.{nat_tests}
-use Rattle.lc_outside.specs.Disk.{DiskState, Turns, Stays}
-use Rattle.lc_outside.specs.Outside.{Tell, Tells}
+use Rattle.lc_io.specs.Disk.{DiskState, Turns, Stays}
+use Rattle.lc_io.specs.Outside.{Tell, Tells}
 use Rattle.disk_model.specs.Disk.{settled, written, pended, overwritten, Torn, Writes, Syncs, content_of}
 use Rattle.disk_model.specs.declared.mem_machine.Mark.{Mark}
 use Rattle.disk_model.specs.declared.mem_machine.Mark.TheVariants as marks

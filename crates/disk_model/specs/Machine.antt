@@ -1,8 +1,8 @@
 -- A machine in memory: what its disk held at first, its calls, and what each call does.
 use Rattle.std.specs.Prelude.{◌≡◌, ℕ, ◌+◌, Bool, true, false, ◌&&◌, nat_le, nat_lt, MatchBool, List, [], ◌∷◌, ◌++◌, length, take, drop, Option, Some, Result, Ok, Err}
-use Rattle.lc_outside.specs.Disk.{DiskState}
-use Rattle.lc_outside.specs.Outside.{Tell}
-use Rattle.lc_outside.specs.Fakes.{is_failing, one_more}
+use Rattle.lc_io.specs.Disk.{DiskState}
+use Rattle.lc_io.specs.Outside.{Tell}
+use Rattle.lc_io.specs.Fakes.{is_failing, one_more}
 use Rattle.disk_model.specs.Disk.{settled, written, pended}
 
 -- ---- the calls, and what they leave

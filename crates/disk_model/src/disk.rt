@@ -1,12 +1,12 @@
-//! The trait of a disk. As in `lc_outside`, a meaning is named by contracts alone, and where an
+//! The trait of a disk. As in `lc_io`, a meaning is named by contracts alone, and where an
 //! object does not tell it, a clause on it says only that it stays untold.
 
 ghost use Rattle.std.specs.Prelude.{◌≡◌, ◌≤◌, ◌<◌, ◌+◌, ◌^◌, ℕ, List, length, take, drop, Some, IfOk, IfSome, IsErr};
 ghost use Rattle.lc_base.specs.Faults.{HasCause};
-ghost use Rattle.lc_outside.specs.Disk.{DiskState, Stays};
+ghost use Rattle.lc_io.specs.Disk.{DiskState, Stays};
 ghost use Rattle.disk_model.specs.Disk.{IsImage, Writes, Syncs, content_of};
 
-use lc_outside::{Clock, Failed};
+use lc_io::{Clock, Failed};
 
 /// Bytes that are kept. What is written is sure to be there after a crash only once a sync has
 /// answered `Ok` after it; until then a crash may leave any bytes in its place.

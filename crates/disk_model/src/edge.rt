@@ -6,14 +6,14 @@
 ghost use Rattle.std.specs.Prelude.{◌≡◌, ◌+◌, ◌^◌, ◌<◌, ◌≤◌, ℕ, true, false, Option, Some, None, List, length, take, drop, IfOk, IfSome, IsErr, is_err};
 ghost use Rattle.std.proofs.Common.{rules};
 ghost use Rattle.lc_base.specs.Faults.{HasCause};
-ghost use Rattle.lc_outside.specs.Disk.{Stays};
-ghost use Rattle.lc_outside.specs.Outside.{Tell, Tells};
-ghost use Rattle.lc_outside.specs.Streams.{CountsFaults};
-ghost use Rattle.lc_outside.specs.Streams.{Writes as WritesThrough};
+ghost use Rattle.lc_io.specs.Disk.{Stays};
+ghost use Rattle.lc_io.specs.Outside.{Tell, Tells};
+ghost use Rattle.lc_io.specs.Streams.{CountsFaults};
+ghost use Rattle.lc_io.specs.Streams.{Writes as WritesThrough};
 ghost use Rattle.disk_model.specs.Disk.{Writes, Syncs, content_of};
 
 use crate::disk::Disk;
-use lc_outside::{Clock, Failed, Wire, one_more, write_whole};
+use lc_io::{Clock, Failed, Wire, one_more, write_whole};
 use std::fs;
 use std::fs::{File, OpenOptions};
 use std::io::{ErrorKind, Write};

@@ -4,8 +4,8 @@ ghost use Rattle.std.specs.Prelude.{◌≡◌, ◌+◌, ◌<◌, ◌≤◌, ◌^
 ghost use Rattle.std.specs.Vec.{vec_len, vec_capacity};
 ghost use Rattle.std.specs.List.{slice_get};
 ghost use Rattle.lc_base.specs.Faults.{HasCause};
-ghost use Rattle.lc_outside.specs.Disk.{Stays};
-ghost use Rattle.lc_outside.specs.Outside.{Tells};
+ghost use Rattle.lc_io.specs.Disk.{Stays};
+ghost use Rattle.lc_io.specs.Outside.{Tells};
 ghost use Rattle.disk_model.specs.Disk.{Writes, Syncs, content_of, overwritten};
 ghost use Rattle.disk_model.specs.Machine.{MachineState, now_of, disk_of, told_of, tells_of, tells_from, content_now, has_room, is_next_failing, with_call, with_disk_fault, with_wire_fault, Attempts, Makes, MakesRead, MakesWrite, MakesSync, MakesTell, FillsBuffer};
 ghost use Rattle.disk_model.specs.Sound.{content_is_image};
@@ -13,7 +13,7 @@ ghost use Rattle.disk_model.specs.Marks.{kept_len, is_told, call_of, calls_of, t
 
 use crate::disk::Disk;
 use lc_base::Memory;
-use lc_outside::{Clock, Failed, Room, Wire, is_failing, one_more};
+use lc_io::{Clock, Failed, Room, Wire, is_failing, one_more};
 use std::alloc::Global;
 use std::marker::Model;
 

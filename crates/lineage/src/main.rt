@@ -1,7 +1,7 @@
 //! The program: it runs on its words, and exits with the number of the status.
 #![tactic(auto)]
 
-use chain_program::{exit_of, run_on_host};
+use cli_program::{exit_of, run_on_host};
 use std::env;
 use std::process::ExitCode;
 

@@ -13,9 +13,9 @@ use Rattle.lc_base.specs.History.{IsLawful, HasLawfulDeps, IsRecordedFrom, versi
 use Rattle.rows_index.specs.Users.{AreVersionsAt, version_at}
 use Rattle.plain_rows.proofs.Lists.{as_long, version_there}
 use Rattle.prov_entry.specs.declared.entry.BodyDep.{BodyDep}
-use Rattle.history_root.specs.Naming.{named_before, with_digest}
-use Rattle.history_root.proofs.Headers.{row_is_named, recorded_is_older}
-use Rattle.history_root.proofs.Lists.{all_weaker, contained}
+use Rattle.root_laws.specs.Naming.{named_before, with_digest}
+use Rattle.root_laws.proofs.Headers.{row_is_named, recorded_is_older}
+use Rattle.root_laws.proofs.Lists.{all_weaker, contained}
 use Rattle.lineage_entries.specs.Entries.{named_at, AreOlder}
 
 pub row_there : (rows : List Row) (index : ℕ) (row : Row) → slice_get rows index ≡ Some row → Contains rows row

@@ -4,7 +4,7 @@ use Rattle.std.specs.List.{AllByRecursion}
 use Rattle.lc_base.specs.declared.row.Row.{Row}
 use Rattle.lc_base.specs.declared.row.Dep.{Dep}
 use Rattle.prov_entry.specs.declared.entry.BodyDep.{BodyDep}
-use Rattle.history_root.specs.NamingLaws.{digest_of_row}
+use Rattle.root_laws.specs.NamingLaws.{digest_of_row}
 
 -- The version that a row of a history is, with the digest of its header.
 abbrev pub named_at : List Row → Row → BodyDep

@@ -4,7 +4,7 @@ ghost use Rattle.std.specs.Prelude.{◌≡◌, ◌<◌, ℕ, List, Some, length,
 ghost use Rattle.lc_base.specs.declared.row.Row.{Row};
 ghost use Rattle.lc_base.specs.declared.row.Dep.{Dep};
 ghost use Rattle.rows_index.specs.Users.{AreVersionsAt};
-ghost use Rattle.history_root.specs.Naming.{named_before, with_digest, body_of};
+ghost use Rattle.root_laws.specs.Naming.{named_before, with_digest, body_of};
 ghost use Rattle.lineage_index.specs.Index.{IsIndexOf};
 ghost use Rattle.lineage_entries.specs.Entries.{named_at, AreOlder};
 

@@ -2,7 +2,7 @@
 
 ghost use Rattle.std.specs.Prelude.{◌≡◌, ◌<◌, ℕ, List, Some, length, slice_get, IfOk};
 ghost use Rattle.lc_base.specs.declared.row.Row.{Row};
-ghost use Rattle.history_root.specs.Naming.{header_of};
+ghost use Rattle.root_laws.specs.Naming.{header_of};
 ghost use Rattle.lineage_index.specs.Index.{IsIndexOf};
 
 use entry_store::{EntryId, Steps};

@@ -11,10 +11,10 @@ use Rattle.lc_base.specs.declared.limits.TheConstants.{MAX_ROWS}
 use Rattle.lc_base.specs.declared.row.Row.{Row}
 use Rattle.lc_base.specs.History.{HasLawfulDeps, newest}
 use Rattle.prov_entry.specs.declared.entry.Leaf.{Leaf}
-use Rattle.history_root.specs.Root.{is_among, keys_of}
-use Rattle.history_root.proofs.Lists.{all_weaker, all_append, option_cases, not_both, some_last, or_true}
-use Rattle.history_root.proofs.Keys.{among_is_some, all_among}
-use Rattle.history_root.proofs.Growing.{newest_append}
+use Rattle.root_laws.specs.Root.{is_among, keys_of}
+use Rattle.root_laws.proofs.Lists.{all_weaker, all_append, option_cases, not_both, some_last, or_true}
+use Rattle.root_laws.proofs.Keys.{among_is_some, all_among}
+use Rattle.root_laws.proofs.Growing.{newest_append}
 use Rattle.forward_links.specs.declared.open_list.OpenList.{OpenList}
 use Rattle.entry_store.specs.Entries.{Entry as StoreEntry}
 use Rattle.lineage_store.specs.Entries.{entries_of}

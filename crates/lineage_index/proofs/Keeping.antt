@@ -1,6 +1,6 @@
 -- What is kept of no rows.
 use Rattle.std.proofs.Common.{[], ◌∷◌, refl, rules, arith}
-use Rattle.history_root.specs.Root.{sentinel}
+use Rattle.root_laws.specs.Root.{sentinel}
 use Rattle.lineage_store.specs.Entries.{entries_after}
 use Rattle.lineage_index.specs.Blocks.{IsKept}
 

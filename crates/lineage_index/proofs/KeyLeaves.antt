@@ -9,9 +9,9 @@ use Rattle.std.proofs.lemmas.List.{map-append, length-map, get_or-map}
 use Rattle.std.proofs.lemmas.Option.{slice_get-get_or}
 use Rattle.std.proofs.lemmas.Iterator.Adapters.{position_from-zero}
 use Rattle.prov_entry.specs.declared.entry.Leaf.{Leaf}
-use Rattle.history_root.specs.Root.{is_among, sentinel, next_key, is_below}
-use Rattle.history_root.proofs.Lists.{map_map, map_on, not_both}
-use Rattle.history_root.proofs.Keys.{same_key, key_is_key}
+use Rattle.root_laws.specs.Root.{is_among, sentinel, next_key, is_below}
+use Rattle.root_laws.proofs.Lists.{map_map, map_on, not_both}
+use Rattle.root_laws.proofs.Keys.{same_key, key_is_key}
 use Rattle.state_tree.specs.Leaves.{index_of, is_this, leaf_key, leaf_keys, with_next, fresh_leaf, with_leaf_of}
 use Rattle.lineage_index.specs.Growth.{Entry, leaf_with, changed}
 use Rattle.lineage_index.specs.Heads.{leaves_with, fresh_entry, IsKeyIndex}

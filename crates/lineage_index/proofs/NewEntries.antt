@@ -15,12 +15,12 @@ use Rattle.prov_entry.specs.declared.entry.Leaf.{Leaf}
 use Rattle.prov_entry.specs.declared.entry.Body.{Body}
 use Rattle.prov_entry.specs.declared.entry.BodyDep.{BodyDep}
 use Rattle.prov_entry.specs.Spelling.{body_fields}
-use Rattle.history_root.specs.Naming.{closed, uses_of, digest_of_uses, named_before, body_among, body_of, with_digest}
-use Rattle.history_root.specs.Root.{is_among, keys_of, sentinel}
-use Rattle.history_root.specs.GrowthLaws.{AreFrom}
-use Rattle.history_root.proofs.Lists.{all_weaker, all_front, all_back, all_both, contained, map_on, option_cases, not_both}
-use Rattle.history_root.proofs.Keys.{among_is_some}
-use Rattle.history_root.proofs.Growing.{up_to_now, earlier_versions_stay}
+use Rattle.root_laws.specs.Naming.{closed, uses_of, digest_of_uses, named_before, body_among, body_of, with_digest}
+use Rattle.root_laws.specs.Root.{is_among, keys_of, sentinel}
+use Rattle.root_laws.specs.GrowthLaws.{AreFrom}
+use Rattle.root_laws.proofs.Lists.{all_weaker, all_front, all_back, all_both, contained, map_on, option_cases, not_both}
+use Rattle.root_laws.proofs.Keys.{among_is_some}
+use Rattle.root_laws.proofs.Growing.{up_to_now, earlier_versions_stay}
 use Rattle.state_tree.specs.Leaves.{index_of}
 use Rattle.forward_links.specs.declared.open_list.OpenList.{OpenList}
 use Rattle.forward_links.specs.Lists.{open_of, kept_at}

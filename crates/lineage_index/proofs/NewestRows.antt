@@ -4,9 +4,9 @@ use Rattle.std.specs.Prelude.{slice_get}
 use Rattle.std.specs.Option.{option_map}
 use Rattle.std.proofs.lemmas.Option.{get_or_from_slice_get, none-some, same_Some}
 use Rattle.lc_base.specs.declared.row.Row.{Row}
-use Rattle.version_links.specs.Versions.{newest_index}
+use Rattle.skip_links.specs.Versions.{newest_index}
 use Rattle.prov_entry.specs.declared.entry.Leaf.{Leaf}
-use Rattle.history_root.specs.Root.{is_among, keys_of}
+use Rattle.root_laws.specs.Root.{is_among, keys_of}
 use Rattle.rows_index.specs.Places.{IsRowAt}
 use Rattle.entry_store.specs.declared.entry.EntryId.{EntryId}
 use Rattle.entry_store.specs.Entries.{Entry as StoreEntry}

@@ -9,11 +9,11 @@ use Rattle.lc_base.specs.declared.row.Row.{Row}
 use Rattle.lc_base.specs.declared.row.Dep.{Dep}
 use Rattle.lc_base.specs.History.{newest, uses}
 use Rattle.prov_entry.specs.ForwardLists.{uses_digest}
-use Rattle.history_root.specs.Naming.{uses_of, digest_of_uses, header_digest, header_of}
-use Rattle.history_root.specs.NamingLaws.{digest_of_row}
-use Rattle.history_root.specs.Root.{keys_of, block_of}
-use Rattle.history_root.proofs.Lists.{all_contained}
-use Rattle.history_root.proofs.Headers.{row_is_named, newest_has, newest_is_key}
+use Rattle.root_laws.specs.Naming.{uses_of, digest_of_uses, header_digest, header_of}
+use Rattle.root_laws.specs.NamingLaws.{digest_of_row}
+use Rattle.root_laws.specs.Root.{keys_of, block_of}
+use Rattle.root_laws.proofs.Lists.{all_contained}
+use Rattle.root_laws.proofs.Headers.{row_is_named, newest_has, newest_is_key}
 use Rattle.forward_links.specs.declared.open_list.OpenList.{OpenList}
 use Rattle.forward_links.specs.Lists.{open_of, kept_at}
 use Rattle.entry_store.specs.declared.entry.Facts.{Facts}

@@ -8,13 +8,13 @@ use Rattle.std.proofs.lemmas.Bool.{cases_Bool}
 use Rattle.lc_base.specs.declared.row.Row.{Row}
 use Rattle.lc_base.specs.declared.row.Dep.{Dep}
 use Rattle.lc_base.specs.History.{newest}
-use Rattle.version_links.specs.Versions.{newest_index}
-use Rattle.version_links.proofs.Threads.{newest_more, newest_found, newest_below}
+use Rattle.skip_links.specs.Versions.{newest_index}
+use Rattle.skip_links.proofs.Threads.{newest_more, newest_found, newest_below}
 use Rattle.prov_entry.specs.declared.entry.Leaf.{Leaf}
-use Rattle.history_root.specs.Root.{is_among, with_key, keys_of}
-use Rattle.history_root.proofs.Lists.{not_both}
-use Rattle.history_root.proofs.Keys.{same_key, among_is_some, keys_append, keys_short}
-use Rattle.history_root.proofs.Growing.{newest_append}
+use Rattle.root_laws.specs.Root.{is_among, with_key, keys_of}
+use Rattle.root_laws.proofs.Lists.{not_both}
+use Rattle.root_laws.proofs.Keys.{same_key, among_is_some, keys_append, keys_short}
+use Rattle.root_laws.proofs.Growing.{newest_append}
 use Rattle.forward_links.specs.declared.open_list.OpenList.{OpenList}
 use Rattle.forward_links.specs.Lists.{open_of}
 use Rattle.lineage_index.specs.Growth.{changed}

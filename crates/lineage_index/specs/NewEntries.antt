@@ -10,8 +10,8 @@ use Rattle.prov_entry.specs.declared.entry.Leaf.{Leaf}
 use Rattle.prov_entry.specs.declared.entry.BodyDep.{BodyDep}
 use Rattle.prov_entry.specs.declared.entry.Body.{Body}
 use Rattle.prov_entry.specs.Spelling.{body_fields}
-use Rattle.history_root.specs.Naming.{digest_of_uses}
-use Rattle.history_root.specs.Root.{is_among, keys_of, sentinel}
+use Rattle.root_laws.specs.Naming.{digest_of_uses}
+use Rattle.root_laws.specs.Root.{is_among, keys_of, sentinel}
 use Rattle.state_tree.specs.Leaves.{index_of}
 use Rattle.forward_links.specs.declared.open_list.OpenList.{OpenList}
 use Rattle.entry_store.specs.Entries.{Entry as StoreEntry}

@@ -7,7 +7,7 @@ use Rattle.lc_base.specs.History.{IsLawful}
 use Rattle.prov_entry.specs.declared.entry.Leaf.{Leaf}
 use Rattle.entry_store.specs.Entries.{Entry as StoreEntry}
 use Rattle.lineage_store.specs.Entries.{entries_of}
-use Rattle.history_root.specs.Root.{is_among, keys_of}
+use Rattle.root_laws.specs.Root.{is_among, keys_of}
 use Rattle.forward_links.specs.declared.open_list.OpenList.{OpenList}
 use Rattle.lineage_index.specs.Growth.{Entry, entry_of, settled, renewed}
 use Rattle.lineage_index.specs.Heads.{KeyStates, AreHeads, fresh_entry, newest_at, open_list}

@@ -2,7 +2,7 @@
 
 ghost use Rattle.std.specs.Prelude.{◌≡◌, ◌<◌, ◌+◌, ◌^◌, false, ℕ, List, length, slice_set, OnOk, IfSome};
 ghost use Rattle.lc_base.specs.declared.limits.TheConstants.{MAX_ROWS};
-ghost use Rattle.history_root.specs.Root.{is_among};
+ghost use Rattle.root_laws.specs.Root.{is_among};
 ghost use Rattle.forward_links.specs.Lists.{emptied_at};
 ghost use Rattle.lineage_index.specs.Growth.{Entry};
 ghost use Rattle.lineage_index.specs.Heads.{leaves_with, IsKeyIndex, KeyStates, AreHeads, with_key_more, with_version};

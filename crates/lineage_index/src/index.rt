@@ -3,11 +3,11 @@
 ghost use Rattle.std.specs.Prelude.{◌≡◌, ℕ, ◌<◌, List, [], ◌+◌, ◌++◌, length, slice_get, Some, IfOk, OnOk};
 ghost use Rattle.lc_base.specs.declared.row.Row.{Row};
 ghost use Rattle.lc_base.specs.History.{latest};
-ghost use Rattle.version_links.specs.Versions.{newest_index};
-ghost use Rattle.version_path.specs.Paths.{path};
+ghost use Rattle.skip_links.specs.Versions.{newest_index};
+ghost use Rattle.skip_path.specs.Paths.{path};
 ghost use Rattle.rows_index.specs.Places.{IsRowAt};
-ghost use Rattle.history_root.specs.NamingLaws.{digest_of_row};
-ghost use Rattle.history_root.specs.Root.{leaves};
+ghost use Rattle.root_laws.specs.NamingLaws.{digest_of_row};
+ghost use Rattle.root_laws.specs.Root.{leaves};
 ghost use Rattle.entry_store.specs.Steps.{raised};
 ghost use Rattle.lineage_store.specs.Entries.{entries_of};
 ghost use Rattle.lineage_store.specs.OnPath.{AreEntriesIn};

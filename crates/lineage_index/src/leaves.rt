@@ -3,7 +3,7 @@
 ghost use Rattle.std.specs.Prelude.{◌≡◌, ◌<◌, [], ℕ, List, length, map, slice_get, Some, OnOk, IfOk};
 ghost use Rattle.std.specs.List.{All};
 ghost use Rattle.lc_base.specs.declared.row.Row.{Row};
-ghost use Rattle.history_root.specs.Root.{keys_of};
+ghost use Rattle.root_laws.specs.Root.{keys_of};
 ghost use Rattle.lineage_index.specs.Growth.{Entry, keys_touched};
 ghost use Rattle.lineage_index.specs.Leaves.{AreBesideLeaves, IsLeafIndex, state_of};
 ghost use Rattle.lineage_index.specs.Settling.{AreRenewing};

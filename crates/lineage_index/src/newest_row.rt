@@ -3,8 +3,8 @@
 ghost use Rattle.std.specs.Prelude.{◌≡◌, ℕ, List, length, IfOk};
 ghost use Rattle.lc_base.specs.declared.row.Row.{Row};
 ghost use Rattle.lc_base.specs.History.{latest};
-ghost use Rattle.version_links.specs.Versions.{newest_index};
-ghost use Rattle.version_path.specs.Paths.{path};
+ghost use Rattle.skip_links.specs.Versions.{newest_index};
+ghost use Rattle.skip_path.specs.Paths.{path};
 ghost use Rattle.rows_index.specs.Places.{IsRowAt};
 ghost use Rattle.entry_store.specs.Steps.{raised};
 ghost use Rattle.lineage_store.specs.Versions.{newest_entry};

@@ -13,11 +13,11 @@ use Rattle.lc_base.specs.History.{IsLawful}
 use Rattle.prov_entry.specs.declared.entry.Header.{Header}
 use Rattle.prov_entry.specs.declared.entry.Body.{Body}
 use Rattle.prov_entry.specs.Spelling.{body_fields}
-use Rattle.history_root.specs.Naming.{header_of, body_of}
-use Rattle.history_root.specs.NamingLaws.{digest_of_row}
-use Rattle.history_root.specs.GrowthLaws.{AreFrom}
-use Rattle.history_root.proofs.Growing.{earlier_headers_stay}
-use Rattle.history_root.proofs.Lists.{all_weaker}
+use Rattle.root_laws.specs.Naming.{header_of, body_of}
+use Rattle.root_laws.specs.NamingLaws.{digest_of_row}
+use Rattle.root_laws.specs.GrowthLaws.{AreFrom}
+use Rattle.root_laws.proofs.Growing.{earlier_headers_stay}
+use Rattle.root_laws.proofs.Lists.{all_weaker}
 use Rattle.entry_store.specs.declared.entry.Facts.{Facts}
 use Rattle.entry_store.specs.declared.entry.Links.{Links}
 use Rattle.entry_store.specs.Entries.{Entry, entry_digest, facts_of}

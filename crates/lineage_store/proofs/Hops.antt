@@ -11,11 +11,11 @@ use Rattle.std.proofs.lemmas.Option.{same_Some, none-some, slice_get-map}
 use Rattle.std.proofs.lemmas.Slice.Eq.{bytes_eq-Decides}
 use Rattle.lc_base.specs.declared.row.Row.{Row}
 use Rattle.lc_base.specs.History.{StandsBefore}
-use Rattle.version_links.specs.Falling.{IsFalling}
-use Rattle.version_links.proofs.Falls.{all_lower}
-use Rattle.version_links.proofs.Threads.{row_at}
-use Rattle.version_links.proofs.Towers.{ordered_fall}
-use Rattle.version_path.proofs.Towers.{tower_holds}
+use Rattle.skip_links.specs.Falling.{IsFalling}
+use Rattle.skip_links.proofs.Falls.{all_lower}
+use Rattle.skip_links.proofs.Threads.{row_at}
+use Rattle.skip_links.proofs.Towers.{ordered_fall}
+use Rattle.skip_path.proofs.Towers.{tower_holds}
 use Rattle.entry_store.specs.declared.entry.Hop.{Hop}
 use Rattle.entry_store.specs.declared.entry.Links.{Links}
 use Rattle.entry_store.specs.Entries.{Entry, LeadsBack}

@@ -3,8 +3,8 @@ use Rattle.std.proofs.Common.{◌≡◌, ◌∙◌, ℕ, ◌^◌, ◌<◌, List,
 use Rattle.std.specs.Prelude.{slice_get, MatchOption, IfSome}
 use Rattle.lc_base.specs.declared.row.Row.{Row}
 use Rattle.lc_base.specs.History.{latest}
-use Rattle.version_path.specs.Paths.{path, path_over}
-use Rattle.version_path.proofs.Walks.{over_none}
+use Rattle.skip_path.specs.Paths.{path, path_over}
+use Rattle.skip_path.proofs.Walks.{over_none}
 use Rattle.entry_store.specs.declared.entry.EntryId.{EntryId}
 use Rattle.entry_store.specs.declared.entry.Hop.{Hop}
 use Rattle.entry_store.specs.Entries.{Entry}

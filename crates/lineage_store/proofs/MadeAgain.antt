@@ -8,7 +8,7 @@ use Rattle.lc_base.specs.declared.row.Row.{Row}
 use Rattle.lc_base.specs.History.{IsLawful}
 use Rattle.prov_entry.specs.declared.entry.Header.{Header}
 use Rattle.prov_entry.specs.declared.entry.Link.{Link}
-use Rattle.history_root.specs.Naming.{header_of}
+use Rattle.root_laws.specs.Naming.{header_of}
 use Rattle.entry_store.specs.declared.entry.Facts.{Facts}
 use Rattle.entry_store.specs.declared.entry.Links.{Links}
 use Rattle.entry_store.specs.Entries.{Entry, named_link}

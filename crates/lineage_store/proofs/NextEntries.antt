@@ -9,17 +9,17 @@ use Rattle.lc_base.specs.declared.digest.Digest.{Digest}
 use Rattle.lc_base.specs.declared.limits.TheConstants.{MAX_ROWS}
 use Rattle.lc_base.specs.declared.row.Row.{Row}
 use Rattle.lc_base.specs.History.{IsLawful, StandsBefore, up_to}
-use Rattle.version_links.specs.Links.{links}
-use Rattle.version_links.proofs.Falls.{all_lower}
-use Rattle.version_path.proofs.Towers.{tower_holds}
+use Rattle.skip_links.specs.Links.{links}
+use Rattle.skip_links.proofs.Falls.{all_lower}
+use Rattle.skip_path.proofs.Towers.{tower_holds}
 use Rattle.prov_entry.specs.declared.entry.Header.{Header}
 use Rattle.prov_entry.specs.declared.entry.Link.{Link}
 use Rattle.prov_entry.specs.Spelling.{body_fields}
-use Rattle.history_root.specs.Naming.{closed, digest_of_uses, digest_among, link_among, named_before, header_of, body_of}
-use Rattle.history_root.specs.NamingLaws.{digest_of_row}
-use Rattle.history_root.proofs.Headers.{row_is_named}
-use Rattle.history_root.proofs.Lists.{all_contained, all_front, all_both}
-use Rattle.history_root.proofs.UpToBlock.{links_up_to}
+use Rattle.root_laws.specs.Naming.{closed, digest_of_uses, digest_among, link_among, named_before, header_of, body_of}
+use Rattle.root_laws.specs.NamingLaws.{digest_of_row}
+use Rattle.root_laws.proofs.Headers.{row_is_named}
+use Rattle.root_laws.proofs.Lists.{all_contained, all_front, all_both}
+use Rattle.root_laws.proofs.UpToBlock.{links_up_to}
 use Rattle.entry_store.specs.declared.entry.EntryId.{EntryId}
 use Rattle.entry_store.specs.declared.entry.Hop.{Hop}
 use Rattle.entry_store.specs.Entries.{Entry, LeadsBack, entry_digest, facts_of, named_link, new_header, new_entry}

@@ -9,8 +9,8 @@ use Rattle.lc_base.specs.declared.memory.Memory.{Memory}
 use Rattle.lc_base.specs.declared.row.Dep.{Dep}
 use Rattle.lc_base.specs.declared.row.Row.{Row}
 use Rattle.lc_base.specs.History.{version_of}
-use Rattle.version_path.specs.Paths.{path, path_over}
-use Rattle.version_path.proofs.Walks.{over_none}
+use Rattle.skip_path.specs.Paths.{path, path_over}
+use Rattle.skip_path.proofs.Walks.{over_none}
 use Rattle.entry_store.specs.declared.entry.EntryId.{EntryId}
 use Rattle.entry_store.specs.declared.entry.Hop.{Hop}
 use Rattle.entry_store.specs.Entries.{Entry}

@@ -7,7 +7,7 @@ use Rattle.std.proofs.lemmas.List.{reverse-append}
 use Rattle.std.proofs.lemmas.List.Elements.{recursion_from_All}
 use Rattle.std.proofs.lemmas.Slice.Eq.{bytes_eq-Decides}
 use Rattle.lc_base.specs.declared.row.Row.{Row}
-use Rattle.history_root.proofs.Lists.{all_reverse}
+use Rattle.root_laws.proofs.Lists.{all_reverse}
 use Rattle.lineage_store.specs.Versions.{versions_in_reverse, versions_of_key}
 
 other_versions : (rows more : List Row) (key : List ℕ) → AllByRecursion (λ (row : Row). row.key ≢ key) more → versions_in_reverse (more ++ rows) key ≡ versions_in_reverse rows key

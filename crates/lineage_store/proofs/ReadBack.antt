@@ -8,7 +8,7 @@ use Rattle.lc_base.specs.declared.row.Row.{Row}
 use Rattle.prov_entry.specs.declared.entry.Body.{Body}
 use Rattle.prov_entry.specs.declared.entry.BodyDep.{BodyDep}
 use Rattle.prov_entry.specs.Spelling.{IsBody, body_fields}
-use Rattle.history_root.specs.Naming.{with_digest, named_before, body_of}
+use Rattle.root_laws.specs.Naming.{with_digest, named_before, body_of}
 use Rattle.entry_views.specs.Reading.{body_at}
 use Rattle.entry_views.proofs.Bodies.{body_field}
 use Rattle.lineage_store.specs.Entries.{entry_for, entries_after, entries_of}

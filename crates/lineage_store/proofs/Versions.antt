@@ -10,14 +10,14 @@ use Rattle.std.proofs.lemmas.List.Elements.{filter-append, recursion_from_All}
 use Rattle.std.proofs.lemmas.Slice.Eq.{bytes_eq-Decides}
 use Rattle.lc_base.specs.declared.row.Row.{Row}
 use Rattle.lc_base.specs.History.{IsLawful, StandsBefore, latest, is_version}
-use Rattle.version_links.specs.Links.{links, is_older}
-use Rattle.version_links.specs.Falling.{older_blocks}
-use Rattle.version_links.specs.Versions.{newest_index, index_in_reverse}
-use Rattle.version_links.proofs.Threads.{row_at}
-use Rattle.version_path.specs.Towers.{tower}
-use Rattle.version_path.specs.Paths.{path, path_over, blocks_of_key}
-use Rattle.version_path.proofs.Towers.{map_tower}
-use Rattle.version_path.proofs.OverRows.{links_tower, path_of_blocks}
+use Rattle.skip_links.specs.Links.{links, is_older}
+use Rattle.skip_links.specs.Falling.{older_blocks}
+use Rattle.skip_links.specs.Versions.{newest_index, index_in_reverse}
+use Rattle.skip_links.proofs.Threads.{row_at}
+use Rattle.skip_path.specs.Towers.{tower}
+use Rattle.skip_path.specs.Paths.{path, path_over, blocks_of_key}
+use Rattle.skip_path.proofs.Towers.{map_tower}
+use Rattle.skip_path.proofs.OverRows.{links_tower, path_of_blocks}
 use Rattle.entry_store.specs.declared.entry.EntryId.{EntryId}
 use Rattle.entry_store.specs.declared.entry.Hop.{Hop}
 use Rattle.skip_list.specs.Towered.{block_of, blocks_of, links_over}

@@ -4,7 +4,7 @@ use Rattle.std.specs.List.{concat}
 use Rattle.lc_base.specs.declared.row.Row.{Row}
 use Rattle.lc_base.specs.History.{IsLawful}
 use Rattle.prov_entry.specs.Spelling.{body_fields}
-use Rattle.history_root.specs.Naming.{header_of, body_of}
+use Rattle.root_laws.specs.Naming.{header_of, body_of}
 use Rattle.entry_store.specs.declared.entry.EntryId.{EntryId}
 use Rattle.entry_store.specs.Entries.{Entry, facts_of}
 use Rattle.lineage_store.specs.Versions.{links_after, newest_entry}

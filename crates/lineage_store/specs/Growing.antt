@@ -5,7 +5,7 @@ use Rattle.std.specs.Rc.{rc_slice_items}
 use Rattle.lc_base.specs.declared.row.Row.{Row}
 use Rattle.lc_base.specs.History.{IsLawful, up_to}
 use Rattle.prov_entry.specs.Spelling.{body_fields}
-use Rattle.history_root.specs.Naming.{closed, digest_of_uses, body_of}
+use Rattle.root_laws.specs.Naming.{closed, digest_of_uses, body_of}
 use Rattle.entry_store.specs.declared.entry.EntryId.{EntryId}
 use Rattle.entry_store.specs.Entries.{Entry}
 use Rattle.lineage_store.specs.declared.growing.NewVersion.{NewVersion}

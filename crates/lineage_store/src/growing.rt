@@ -2,7 +2,7 @@
 
 ghost use Rattle.std.specs.Prelude.{◌≡◌, ◌≤◌, ◌+◌, ◌++◌, ◌∷◌, [], List, length, OnOk, OnErr, IfOk};
 ghost use Rattle.lc_base.specs.declared.row.Row.{Row};
-ghost use Rattle.version_path.specs.Paths.{binary_digits};
+ghost use Rattle.skip_path.specs.Paths.{binary_digits};
 ghost use Rattle.entry_store.specs.declared.entry.EntryId.{EntryId};
 ghost use Rattle.lineage_store.specs.Entries.{entries_of};
 ghost use Rattle.lineage_store.specs.Growing.{IsNextVersion};

@@ -4,7 +4,7 @@ ghost use Rattle.std.specs.Prelude.{◌≡◌, ◌<◌, List, length, Some, slic
 ghost use Rattle.std.specs.Option.{option_map};
 ghost use Rattle.lc_base.specs.declared.row.Row.{Row};
 ghost use Rattle.lc_base.specs.History.{IsLawful};
-ghost use Rattle.history_root.specs.Naming.{header_of};
+ghost use Rattle.root_laws.specs.Naming.{header_of};
 ghost use Rattle.entry_store.specs.Steps.{raised};
 ghost use Rattle.lineage_store.specs.Entries.{entries_of};
 ghost use Rattle.lineage_store.specs.Headers.{header_made};

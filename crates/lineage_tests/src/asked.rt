@@ -1,12 +1,12 @@
 //! A lineage that is asked by calls that the program doesn't make, over the chain of
 //! `examples/recall.blocks`.
 
-use chain_state::{Judged, Replay};
+use chain_replay::{Judged, Replay};
 use entry_store::Steps;
 use lc_base::{Answer, Dep, Digest, Key, Kind, Query, Value};
-use lineage_chain::LineageChain;
 use merkle_dag::Lineage;
 use prov_query::{AskError, ask};
+use rooted_chain::LineageChain;
 use std::alloc::Global;
 
 /// Block 0.

@@ -8,7 +8,7 @@ use block_codec::{Block, NO_PARENT, Tx, TxList, decode, encode};
 use chain_exec::run_block;
 use contract_check::Checked;
 use lc_base::{Bytes, Dep, Host, HostError, Key, Name, TxStatus, Value, ValueList, Version};
-use lc_outside::one_more;
+use lc_io::one_more;
 use std::alloc::Global;
 use world_state::World;
 

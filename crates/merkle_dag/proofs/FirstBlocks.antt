@@ -7,10 +7,10 @@ use Rattle.std.proofs.lemmas.List.Elements.{All-from_recursion, recursion_from_A
 use Rattle.lc_base.specs.declared.digest.Digest.{Digest}
 use Rattle.lc_base.specs.declared.row.Row.{Row}
 use Rattle.lc_base.specs.History.{IsLawful, below, up_to, newest}
-use Rattle.version_links.specs.Versions.{newest_index}
-use Rattle.version_links.proofs.Threads.{newest_found}
-use Rattle.history_root.specs.Naming.{is_of_block}
-use Rattle.history_root.proofs.Lists.{all_weaker}
+use Rattle.skip_links.specs.Versions.{newest_index}
+use Rattle.skip_links.proofs.Threads.{newest_found}
+use Rattle.root_laws.specs.Naming.{is_of_block}
+use Rattle.root_laws.proofs.Lists.{all_weaker}
 use Rattle.typed_ledger.proofs.Parts.{lawful_up_to}
 use Rattle.rows_index.specs.Places.{IsRowAt}
 use Rattle.plain_rows.proofs.OneBlock.{up_to_is}

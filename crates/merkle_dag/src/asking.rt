@@ -4,7 +4,7 @@ ghost use Rattle.std.specs.Prelude.{◌≡◌, ◌<◌, List, Some, length, slic
 ghost use Rattle.lc_base.specs.History.{answer_about, scan, version_of};
 ghost use Rattle.lc_base.specs.declared.row.Row.{Row};
 ghost use Rattle.lc_base.specs.declared.row.Dep.{Dep};
-ghost use Rattle.version_path.specs.Paths.{path};
+ghost use Rattle.skip_path.specs.Paths.{path};
 ghost use Rattle.rows_index.specs.Users.{AreVersionsAt};
 ghost use Rattle.entry_store.specs.Steps.{raised};
 ghost use Rattle.merkle_dag.specs.Kept.{IsWhole};

@@ -4,7 +4,7 @@ ghost use Rattle.std.specs.Prelude.{◌≡◌, ◌<◌, ◌++◌, ◌∷◌, [],
 ghost use Rattle.std.specs.List.{All};
 ghost use Rattle.lc_base.specs.History.{IsLawful};
 ghost use Rattle.lc_base.specs.declared.row.Row.{Row};
-ghost use Rattle.history_root.specs.Root.{root_of};
+ghost use Rattle.root_laws.specs.Root.{root_of};
 ghost use Rattle.merkle_dag.specs.declared.limits.TheConstants.{MAX_LINEAGE_BLOCKS};
 ghost use Rattle.merkle_dag.specs.Kept.{IsWhole};
 

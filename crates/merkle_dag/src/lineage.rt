@@ -4,13 +4,13 @@ ghost use Rattle.std.specs.Prelude.{◌≡◌, ◌≤◌, ◌<◌, ◌+◌, ◌+
 ghost use Rattle.std.specs.List.{All, find};
 ghost use Rattle.lc_base.specs.History.{IsLawful, newest, scan, up_to, uses};
 ghost use Rattle.lc_base.specs.declared.row.Row.{Row};
-ghost use Rattle.version_path.specs.Paths.{path};
+ghost use Rattle.skip_path.specs.Paths.{path};
 ghost use Rattle.rows_index.specs.Places.{IsRowAt};
 ghost use Rattle.entry_store.specs.Steps.{raised};
 ghost use Rattle.lineage_store.specs.OnPath.{AreEntriesIn};
-ghost use Rattle.history_root.specs.Naming.{header_of, body_of};
-ghost use Rattle.history_root.specs.Root.{root_of, leaves};
-ghost use Rattle.history_root.specs.WalkLaws.{is_version_in};
+ghost use Rattle.root_laws.specs.Naming.{header_of, body_of};
+ghost use Rattle.root_laws.specs.Root.{root_of, leaves};
+ghost use Rattle.root_laws.specs.WalkLaws.{is_version_in};
 ghost use Rattle.typed_ledger.specs.TypedLedger.{IsTypedLedger};
 ghost use Rattle.merkle_dag.specs.declared.limits.TheConstants.{MAX_LINEAGE_BLOCKS};
 ghost use Rattle.merkle_dag.specs.Ledger.{Ledger, IsLedger, IsHead};

@@ -4,7 +4,7 @@ ghost use Rattle.std.specs.Prelude.{◌≡◌, ◌∷◌, ◌++◌};
 ghost use Rattle.std.specs.Int.{w32, to_be_bytes};
 ghost use Rattle.sha2.specs.Sha256.{sha256};
 ghost use Rattle.prov_entry.specs.declared.limits.TheConstants.{ROOT};
-ghost use Rattle.history_root.specs.Root.{root_text};
+ghost use Rattle.root_laws.specs.Root.{root_text};
 
 use digest_kit::TagHasher;
 use lc_base::Digest;

@@ -9,8 +9,8 @@ use Rattle.std.proofs.lemmas.Option.{slice_get-get_or, get_or_from_slice_get}
 use Rattle.lc_base.specs.declared.row.Row.{Row}
 use Rattle.lc_base.specs.History.{IsLawful, StandsBefore, below, up_to}
 use Rattle.rows_index.proofs.LastPlace.{blocks_rise}
-use Rattle.history_root.specs.Naming.{is_of_block}
-use Rattle.history_root.proofs.Lists.{keep_none}
+use Rattle.root_laws.specs.Naming.{is_of_block}
+use Rattle.root_laws.proofs.Lists.{keep_none}
 use Rattle.plain_rows.specs.declared.kept.KeptRow.{KeptRow}
 use Rattle.plain_rows.specs.Kept.{AreKept}
 

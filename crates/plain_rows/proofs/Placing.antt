@@ -13,10 +13,10 @@ use Rattle.lc_base.specs.History.{IsLawful, latest}
 use Rattle.rows_index.specs.Places.{IsRowAt}
 use Rattle.rows_index.proofs.Marked.{latest_up_to}
 use Rattle.rows_index.proofs.Versions.{version_index}
-use Rattle.history_root.specs.WalkLaws.{is_version_in}
-use Rattle.history_root.proofs.Headers.{only_row}
-use Rattle.history_root.proofs.Keys.{same_key, key_is_key}
-use Rattle.history_root.proofs.Lists.{all_append, all_contained, all_reverse, find_none, found_has, found_passes, last_only, option_cases}
+use Rattle.root_laws.specs.WalkLaws.{is_version_in}
+use Rattle.root_laws.proofs.Headers.{only_row}
+use Rattle.root_laws.proofs.Keys.{same_key, key_is_key}
+use Rattle.root_laws.proofs.Lists.{all_append, all_contained, all_reverse, find_none, found_has, found_passes, last_only, option_cases}
 use Rattle.plain_rows.specs.declared.kept.KeptRow.{KeptRow}
 use Rattle.plain_rows.specs.Kept.{AreKept}
 use Rattle.plain_rows.proofs.AnswerParts.{of_key}

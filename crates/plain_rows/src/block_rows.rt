@@ -3,7 +3,7 @@
 ghost use Rattle.std.specs.Prelude.{◌≡◌, ◌≤◌, ◌++◌, List, length, take, filter, nat_lt, nat_le, IfOk};
 ghost use Rattle.lc_base.specs.declared.row.Row.{Row};
 ghost use Rattle.lc_base.specs.History.{IsLawful, below, up_to};
-ghost use Rattle.history_root.specs.Naming.{is_of_block};
+ghost use Rattle.root_laws.specs.Naming.{is_of_block};
 ghost use Rattle.plain_rows.specs.Kept.{AreKept};
 
 use crate::kept::{KeptRow, row_of};

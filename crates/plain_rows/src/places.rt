@@ -5,7 +5,7 @@ ghost use Rattle.std.specs.List.{find};
 ghost use Rattle.lc_base.specs.declared.row.Row.{Row};
 ghost use Rattle.lc_base.specs.History.{IsLawful, uses};
 ghost use Rattle.rows_index.specs.Places.{IsRowAt};
-ghost use Rattle.history_root.specs.WalkLaws.{is_version_in};
+ghost use Rattle.root_laws.specs.WalkLaws.{is_version_in};
 ghost use Rattle.plain_rows.specs.Kept.{AreKept, Holds, IsKeptAs, Keeps, rows_of};
 
 use crate::kept::{KeptRow, versions_at};

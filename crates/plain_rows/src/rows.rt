@@ -3,8 +3,8 @@ ghost use Rattle.std.specs.List.{find, All};
 ghost use Rattle.lc_base.specs.History.{IsLawful, scan, uses};
 ghost use Rattle.lc_base.specs.declared.row.Row.{Row};
 ghost use Rattle.rows_index.specs.Places.{IsRowAt};
-ghost use Rattle.history_root.specs.Naming.{is_of_block};
-ghost use Rattle.history_root.specs.WalkLaws.{is_version_in};
+ghost use Rattle.root_laws.specs.Naming.{is_of_block};
+ghost use Rattle.root_laws.specs.WalkLaws.{is_version_in};
 ghost use Rattle.typed_ledger.specs.TypedLedger.{IsTypedRow};
 ghost use Rattle.plain_rows.specs.Kept.{IsKeptAs};
 

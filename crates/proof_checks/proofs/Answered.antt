@@ -23,9 +23,9 @@ use Rattle.prov_entry.specs.Spelling.{IsBody, body_text}
 use Rattle.prov_entry.specs.ForwardLists.{start_text, no_uses, use_text, use_fields, uses_digest}
 use Rattle.entry_views.proofs.Bodies.{body_field}
 use Rattle.entry_views.proofs.Determined.{determined}
-use Rattle.history_root.specs.Naming.{header_of, body_of, named_before, with_digest}
-use Rattle.history_root.proofs.Lists.{contained}
-use Rattle.history_root.proofs.Keys.{same_key}
+use Rattle.root_laws.specs.Naming.{header_of, body_of, named_before, with_digest}
+use Rattle.root_laws.proofs.Lists.{contained}
+use Rattle.root_laws.proofs.Keys.{same_key}
 use Rattle.proof_codec.specs.Spelling.{IsUse, AreUses, IsIfAny, asks_uses}
 use Rattle.proof_codec.proofs.Uses.{use_field}
 use Rattle.proof_checks.specs.declared.claim.Claim.{Claim}

@@ -8,10 +8,10 @@ use Rattle.lc_base.specs.History.{IsLawful, newest, uses}
 use Rattle.prov_entry.specs.declared.entry.Link.{Link}
 use Rattle.prov_entry.specs.declared.entry.Leaf.{Leaf}
 use Rattle.prov_entry.specs.Spelling.{key_or_empty}
-use Rattle.history_root.specs.NamingLaws.{digest_of_row}
-use Rattle.history_root.specs.Root.{is_among, is_below, keys_of, sentinel, leaf_of, block_of}
-use Rattle.history_root.proofs.Keys.{same_key}
-use Rattle.history_root.proofs.Headers.{leaf_is_named, newest_is_key}
+use Rattle.root_laws.specs.NamingLaws.{digest_of_row}
+use Rattle.root_laws.specs.Root.{is_among, is_below, keys_of, sentinel, leaf_of, block_of}
+use Rattle.root_laws.proofs.Keys.{same_key}
+use Rattle.root_laws.proofs.Headers.{leaf_is_named, newest_is_key}
 use Rattle.proof_checks.specs.Checks.{covers, is_of_key, is_before_next, expected_first, claim_of_leaf}
 use Rattle.typed_ledger.specs.TypedLedger.{IsTypedRow}
 use Rattle.proof_checks.proofs.Rows.{latest_is_newest}

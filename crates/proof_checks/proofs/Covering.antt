@@ -6,11 +6,11 @@ use Rattle.std.proofs.lemmas.Bool.{cases_Bool}
 use Rattle.std.proofs.lemmas.List.Elements.{recursion_from_All}
 use Rattle.lc_base.specs.declared.row.Row.{Row}
 use Rattle.lc_base.specs.History.{newest}
-use Rattle.history_root.specs.KeyLaws.{IsNext}
-use Rattle.history_root.specs.Root.{is_among, keys_of, is_below, next_key}
-use Rattle.history_root.proofs.Lists.{not_both, option_cases}
-use Rattle.history_root.proofs.Keys.{same_key, among_is_some}
-use Rattle.history_root.proofs.NextKeys.{next_is}
+use Rattle.root_laws.specs.KeyLaws.{IsNext}
+use Rattle.root_laws.specs.Root.{is_among, keys_of, is_below, next_key}
+use Rattle.root_laws.proofs.Lists.{not_both, option_cases}
+use Rattle.root_laws.proofs.Keys.{same_key, among_is_some}
+use Rattle.root_laws.proofs.NextKeys.{next_is}
 use Rattle.proof_checks.specs.Checks.{is_before_next}
 
 -- what is so of all keys is so of one that is among them

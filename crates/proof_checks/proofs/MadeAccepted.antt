@@ -22,9 +22,9 @@ use Rattle.prov_entry.specs.declared.entry.Header.{Header}
 use Rattle.prov_entry.specs.declared.entry.Body.{Body}
 use Rattle.prov_entry.specs.Spelling.{leaf_bytes, body_text}
 use Rattle.prov_entry.specs.ForwardLists.{uses_digest}
-use Rattle.history_root.specs.Naming.{header_of, body_of}
-use Rattle.history_root.specs.Root.{keys_of, leaf_of, leaves, root_text, digest_at, root_of}
-use Rattle.history_root.proofs.Keys.{key_is_key, keys_short}
+use Rattle.root_laws.specs.Naming.{header_of, body_of}
+use Rattle.root_laws.specs.Root.{keys_of, leaf_of, leaves, root_text, digest_at, root_of}
+use Rattle.root_laws.proofs.Keys.{key_is_key, keys_short}
 use Rattle.proof_codec.specs.declared.proof.Proof.{Proof}
 use Rattle.proof_codec.specs.Spelling.{kind_byte, last_of, asks_uses}
 use Rattle.proof_checks.specs.declared.reject.Reject.{Reject}
@@ -32,9 +32,9 @@ use Rattle.proof_checks.specs.declared.reject.Reject.TheVariants as rejects
 use Rattle.proof_checks.specs.Checks.{unless, first_fault, fault_in, answer_in, answer_from, verdict, verdict_of, query_fault, root_fault, leaf_fault, path_fault, body_fault, uses_fault, fault_of_body, fault_of_uses, text_of_root, climb_of, root_text_of, is_of_key, expected_first, claim_of_leaf, claim_before}
 use Rattle.typed_ledger.specs.TypedLedger.{IsTypedRow}
 use Rattle.proof_checks.specs.LedgerTexts.{texts_of_leaves}
-use Rattle.version_path.specs.Paths.{path_from}
-use Rattle.version_path.proofs.OverRows.{path_turns, path_none}
-use Rattle.version_links.specs.Links.{links}
+use Rattle.skip_path.specs.Paths.{path_from}
+use Rattle.skip_path.proofs.OverRows.{path_turns, path_none}
+use Rattle.skip_links.specs.Links.{links}
 use Rattle.proof_checks.specs.Making.{header_in, uses_if, IsMade, MadeProofsAreAccepted}
 use Rattle.typed_ledger.proofs.Parts.{lawful_up_to, rows_up_to}
 use Rattle.proof_checks.proofs.Rows.{latest_none}

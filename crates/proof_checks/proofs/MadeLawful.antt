@@ -21,16 +21,16 @@ use Rattle.prov_entry.specs.declared.entry.Leaf.{Leaf}
 use Rattle.prov_entry.specs.declared.entry.Header.{Header}
 use Rattle.prov_entry.specs.declared.entry.Body.{Body}
 use Rattle.prov_entry.specs.Spelling.{IsHeader, IsBody, leaf_bytes}
-use Rattle.history_root.specs.Naming.{header_of, body_of}
-use Rattle.history_root.specs.Root.{keys_of, sentinel, leaf_of, leaves, digest_at}
-use Rattle.history_root.specs.WalkLaws.{is_version_in}
-use Rattle.history_root.proofs.Lists.{all_append, all_contained, all_reverse, all_filter_map, found_has}
-use Rattle.history_root.proofs.Keys.{keys_short}
+use Rattle.root_laws.specs.Naming.{header_of, body_of}
+use Rattle.root_laws.specs.Root.{keys_of, sentinel, leaf_of, leaves, digest_at}
+use Rattle.root_laws.specs.WalkLaws.{is_version_in}
+use Rattle.root_laws.proofs.Lists.{all_append, all_contained, all_reverse, all_filter_map, found_has}
+use Rattle.root_laws.proofs.Keys.{keys_short}
 use Rattle.proof_codec.specs.Spelling.{IsProof, IsDigest, AreUses, IsIfAny, last_of, is_answer, asks_uses}
 use Rattle.proof_checks.specs.LedgerTexts.{texts_of_leaves}
-use Rattle.version_path.specs.Paths.{path}
-use Rattle.version_path.proofs.OverRows.{path_short, path_none}
-use Rattle.version_path.proofs.Walks.{digits_hold}
+use Rattle.skip_path.specs.Paths.{path}
+use Rattle.skip_path.proofs.OverRows.{path_short, path_none}
+use Rattle.skip_path.proofs.Walks.{digits_hold}
 use Rattle.typed_ledger.specs.TypedLedger.{IsTypedRow}
 use Rattle.typed_ledger.proofs.Parts.{parts_typed, blocks_typed}
 use Rattle.proof_codec.specs.declared.proof.Proof.{Proof}

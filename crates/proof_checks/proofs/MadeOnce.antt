@@ -12,17 +12,17 @@ use Rattle.lc_base.specs.declared.answer.Query.{Query}
 use Rattle.lc_base.specs.History.{IsLawful, up_to, latest, uses}
 use Rattle.merkle_tree.specs.Tree.{audit_path}
 use Rattle.merkle_tree.specs.Climbing.{bytes_of}
-use Rattle.version_path.specs.Paths.{path}
+use Rattle.skip_path.specs.Paths.{path}
 use Rattle.prov_entry.specs.declared.entry.Leaf.{Leaf}
 use Rattle.prov_entry.specs.declared.entry.Header.{Header}
 use Rattle.prov_entry.specs.declared.entry.Body.{Body}
 use Rattle.prov_entry.specs.Spelling.{IsLeaf, key_or_empty}
-use Rattle.history_root.specs.KeyLaws.{IsNext}
-use Rattle.history_root.specs.Naming.{body_of}
-use Rattle.history_root.specs.Root.{is_among, keys_of, is_below, sentinel, leaf_of, leaves, digest_at}
-use Rattle.history_root.proofs.Lists.{not_both}
-use Rattle.history_root.proofs.Keys.{same_key, keys_distinct}
-use Rattle.history_root.proofs.NextKeys.{next_is, order, below_trans, not_itself}
+use Rattle.root_laws.specs.KeyLaws.{IsNext}
+use Rattle.root_laws.specs.Naming.{body_of}
+use Rattle.root_laws.specs.Root.{is_among, keys_of, is_below, sentinel, leaf_of, leaves, digest_at}
+use Rattle.root_laws.proofs.Lists.{not_both}
+use Rattle.root_laws.proofs.Keys.{same_key, keys_distinct}
+use Rattle.root_laws.proofs.NextKeys.{next_is, order, below_trans, not_itself}
 use Rattle.typed_ledger.specs.TypedLedger.{IsTypedRow}
 use Rattle.typed_ledger.proofs.Parts.{lawful_up_to, rows_up_to}
 use Rattle.typed_ledger.proofs.Spellings.{IsOneOf, leaf_cases, one_lawful, is_among_keys}

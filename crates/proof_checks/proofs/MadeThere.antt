@@ -12,11 +12,11 @@ use Rattle.merkle_tree.specs.Tree.{audit_path}
 use Rattle.merkle_tree.specs.Climbing.{bytes_of}
 use Rattle.prov_entry.specs.declared.entry.Leaf.{Leaf}
 use Rattle.prov_entry.specs.Spelling.{key_or_empty}
-use Rattle.history_root.specs.KeyLaws.{IsNext}
-use Rattle.history_root.specs.Root.{keys_of, is_below, next_key, sentinel, leaf_of, leaves, digest_at, root_of}
-use Rattle.history_root.proofs.Lists.{all_weaker, contained, not_both, or_true}
-use Rattle.history_root.proofs.Keys.{key_is_key}
-use Rattle.history_root.proofs.NextKeys.{next_is, order, below_trans, not_itself}
+use Rattle.root_laws.specs.KeyLaws.{IsNext}
+use Rattle.root_laws.specs.Root.{keys_of, is_below, next_key, sentinel, leaf_of, leaves, digest_at, root_of}
+use Rattle.root_laws.proofs.Lists.{all_weaker, contained, not_both, or_true}
+use Rattle.root_laws.proofs.Keys.{key_is_key}
+use Rattle.root_laws.proofs.NextKeys.{next_is, order, below_trans, not_itself}
 use Rattle.proof_codec.specs.declared.proof.Proof.{Proof}
 use Rattle.proof_codec.specs.Reading.{digest_of_bytes}
 use Rattle.proof_checks.specs.Checks.{is_of_key, is_before_next, covers, verdict}

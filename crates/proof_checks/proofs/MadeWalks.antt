@@ -10,17 +10,17 @@ use Rattle.std.proofs.lemmas.List.Folds.{list_any_at}
 use Rattle.sha2.specs.Sha256.{sha256}
 use Rattle.lc_base.specs.declared.row.Row.{Row}
 use Rattle.lc_base.specs.History.{IsLawful}
-use Rattle.version_links.specs.Links.{links}
-use Rattle.version_path.specs.Paths.{onward as link_onward, path_from}
-use Rattle.version_path.proofs.Walks.{ended}
+use Rattle.skip_links.specs.Links.{links}
+use Rattle.skip_path.specs.Paths.{onward as link_onward, path_from}
+use Rattle.skip_path.proofs.Walks.{ended}
 use Rattle.prov_entry.specs.declared.entry.Link.{Link}
 use Rattle.prov_entry.specs.declared.entry.Header.{Header}
-use Rattle.history_root.specs.Naming.{header_of, named_before, link_among}
-use Rattle.history_root.specs.WalkLaws.{is_version_in, text_of_row}
-use Rattle.history_root.proofs.Lists.{find_map, map_reverse, last_only}
-use Rattle.history_root.proofs.Keys.{key_is_key}
-use Rattle.history_root.proofs.Headers.{only_row}
-use Rattle.history_root.proofs.UpToBlock.{links_up_to}
+use Rattle.root_laws.specs.Naming.{header_of, named_before, link_among}
+use Rattle.root_laws.specs.WalkLaws.{is_version_in, text_of_row}
+use Rattle.root_laws.proofs.Lists.{find_map, map_reverse, last_only}
+use Rattle.root_laws.proofs.Keys.{key_is_key}
+use Rattle.root_laws.proofs.Headers.{only_row}
+use Rattle.root_laws.proofs.UpToBlock.{links_up_to}
 use Rattle.proof_checks.specs.declared.claim.Claim.{Claim}
 use Rattle.proof_checks.specs.declared.reject.Reject.{Reject}
 use Rattle.proof_checks.specs.Checks.{claim_of_header, header_fault, chosen, expected_after}

@@ -7,8 +7,8 @@ use Rattle.std.proofs.lemmas.Option.{none-some, same_Some}
 use Rattle.std.proofs.lemmas.List.Elements.{recursion_from_All, All-from_recursion, All-filter}
 use Rattle.lc_base.specs.declared.row.Row.{Row}
 use Rattle.lc_base.specs.History.{below, newest, is_version, latest}
-use Rattle.history_root.proofs.Lists.{not_both, all_contained, filter_reverse, found_passes}
-use Rattle.history_root.proofs.Keys.{same_key}
+use Rattle.root_laws.proofs.Lists.{not_both, all_contained, filter_reverse, found_passes}
+use Rattle.root_laws.proofs.Keys.{same_key}
 
 -- ---- what is found
 

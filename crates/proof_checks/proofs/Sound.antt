@@ -25,10 +25,10 @@ use Rattle.prov_entry.specs.declared.entry.Leaf.{Leaf}
 use Rattle.prov_entry.specs.Spelling.{leaf_bytes, header_text, body_text}
 use Rattle.entry_views.proofs.Leaves.{leaf_field}
 use Rattle.entry_views.proofs.Determined.{determined}
-use Rattle.history_root.specs.Naming.{header_of, body_of}
-use Rattle.history_root.specs.WalkLaws.{header_texts}
-use Rattle.history_root.specs.Root.{keys_of, leaf_of, leaves, root_text, root_of, digest_at}
-use Rattle.history_root.proofs.Keys.{same_key, keys_short}
+use Rattle.root_laws.specs.Naming.{header_of, body_of}
+use Rattle.root_laws.specs.WalkLaws.{header_texts}
+use Rattle.root_laws.specs.Root.{keys_of, leaf_of, leaves, root_text, root_of, digest_at}
+use Rattle.root_laws.proofs.Keys.{same_key, keys_short}
 use Rattle.proof_codec.specs.declared.proof.Proof.{Proof}
 use Rattle.proof_codec.specs.Spelling.{IsProof, is_answer, last_of}
 use Rattle.proof_checks.specs.declared.reject.Reject.TheVariants as rejects

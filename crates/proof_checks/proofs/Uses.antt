@@ -5,7 +5,7 @@ use Rattle.std.proofs.lemmas.Bool.{cases_Bool}
 use Rattle.std.proofs.lemmas.List.Elements.{recursion_from_All}
 use Rattle.lc_base.specs.declared.row.Row.{Row}
 use Rattle.lc_base.specs.History.{uses, depends_on, version_of}
-use Rattle.history_root.proofs.Lists.{all_weaker, all_map}
+use Rattle.root_laws.proofs.Lists.{all_weaker, all_map}
 use Rattle.typed_ledger.specs.TypedLedger.{IsTypedRow}
 use Rattle.proof_codec.specs.Spelling.{IsUse}
 

@@ -17,9 +17,9 @@ use Rattle.prov_entry.specs.declared.entry.Header.{Header}
 use Rattle.prov_entry.specs.Spelling.{IsHeader, header_text}
 use Rattle.entry_views.proofs.Headers.{header_field}
 use Rattle.entry_views.proofs.Determined.{determined}
-use Rattle.history_root.specs.Naming.{header_of}
-use Rattle.history_root.specs.WalkLaws.{text_of_row, header_texts}
-use Rattle.history_root.proofs.Keys.{same_key}
+use Rattle.root_laws.specs.Naming.{header_of}
+use Rattle.root_laws.specs.WalkLaws.{text_of_row, header_texts}
+use Rattle.root_laws.proofs.Keys.{same_key}
 use Rattle.proof_codec.specs.Spelling.{last_of}
 use Rattle.proof_checks.specs.declared.claim.Claim.{Claim}
 use Rattle.proof_checks.specs.declared.reject.Reject.{Reject}

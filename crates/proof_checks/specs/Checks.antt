@@ -23,7 +23,7 @@ use Rattle.prov_entry.specs.declared.entry.Body.{Body}
 use Rattle.prov_entry.specs.declared.entry.Leaf.{Leaf}
 use Rattle.prov_entry.specs.Spelling.{key_or_empty, leaf_bytes, header_text, body_text}
 use Rattle.prov_entry.specs.ForwardLists.{uses_digest}
-use Rattle.history_root.specs.Root.{is_below}
+use Rattle.root_laws.specs.Root.{is_below}
 use Rattle.proof_codec.specs.declared.proof.Proof.{Proof}
 use Rattle.proof_codec.specs.Spelling.{kind_byte, last_of}
 use Rattle.proof_checks.specs.declared.claim.Claim.{Claim}

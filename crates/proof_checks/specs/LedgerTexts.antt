@@ -8,8 +8,8 @@ use Rattle.merkle_tree.specs.Tree.{leaf_text, node_texts}
 use Rattle.prov_entry.specs.declared.entry.Leaf.{Leaf}
 use Rattle.prov_entry.specs.Spelling.{leaf_bytes, header_text, body_text}
 use Rattle.prov_entry.specs.ForwardLists.{start_text}
-use Rattle.history_root.specs.Naming.{header_of, body_of}
-use Rattle.history_root.specs.Root.{leaves, root_text, digest_at}
+use Rattle.root_laws.specs.Naming.{header_of, body_of}
+use Rattle.root_laws.specs.Root.{leaves, root_text, digest_at}
 use Rattle.proof_checks.specs.ProofTexts.{joined, texts_of_uses}
 
 -- The texts of some leaves.

@@ -11,7 +11,7 @@ use Rattle.lc_base.specs.declared.answer.Query.{Query}
 use Rattle.prov_entry.specs.declared.entry.Header.{Header}
 use Rattle.prov_entry.specs.declared.entry.Body.{Body}
 use Rattle.prov_entry.specs.Spelling.{IsBody}
-use Rattle.history_root.specs.Root.{root_of}
+use Rattle.root_laws.specs.Root.{root_of}
 use Rattle.proof_codec.specs.declared.proof.Proof.{Proof}
 use Rattle.proof_codec.specs.Spelling.{IsProof, IsIfAny, last_of}
 use Rattle.proof_views.specs.Viewing.{proof_in, told_at}

@@ -4,7 +4,7 @@ ghost use Rattle.std.specs.Prelude.{◌≡◌, ◌<◌, ◌^◌, ℕ, List, Err,
 ghost use Rattle.lc_base.specs.Answers.{Answers};
 ghost use Rattle.lc_base.specs.declared.digest.Digest.{Digest as DigestValue};
 ghost use Rattle.lc_base.specs.declared.row.Row.{Row};
-ghost use Rattle.history_root.specs.Root.{root_of};
+ghost use Rattle.root_laws.specs.Root.{root_of};
 ghost use Rattle.typed_ledger.specs.TypedLedger.{IsTypedHistory};
 ghost use Rattle.byte_fields.specs.Prefixes.{IsLongestPrefix};
 ghost use Rattle.proof_codec.specs.Spelling.{IsProof, proof_fields};

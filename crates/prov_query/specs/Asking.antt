@@ -3,7 +3,7 @@ use Rattle.std.specs.Prelude.{◌≡◌, ℕ, ◌<◌, ◌≤◌, length, Result
 use Rattle.lc_base.specs.History.{scan}
 use Rattle.lc_base.specs.declared.answer.Answer.{Answer}
 use Rattle.lc_base.specs.declared.answer.Query.{Query}
-use Rattle.version_path.specs.Paths.{path}
+use Rattle.skip_path.specs.Paths.{path}
 use Rattle.entry_store.specs.Steps.{raised}
 use Rattle.merkle_dag.specs.Ledger.{Ledger, IsHead}
 use Rattle.prov_query.specs.declared.questions.AskError.{AskError}

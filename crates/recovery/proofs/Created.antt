@@ -2,7 +2,7 @@
 use Rattle.std.proofs.Common.{◌≡◌, inl, ℕ, Bool, true, false, List, [], ◌∷◌, ◌++◌, Option, Some, None, Result, Ok, Err, refl, sym, ap, subst, ◌∙◌}
 use Rattle.std.specs.Prelude.{MatchBool, IfOk}
 use Rattle.std.specs.Option.{is_some}
-use Rattle.lc_outside.specs.Disk.{DiskState}
+use Rattle.lc_io.specs.Disk.{DiskState}
 use Rattle.disk_model.specs.Disk.{Keeps, Rests, content_of}
 use Rattle.disk_model.proofs.Moments.{then_keeps, weaker}
 use Rattle.block_codec.specs.Reading.{block_in}

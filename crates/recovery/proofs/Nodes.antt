@@ -9,17 +9,17 @@ use Rattle.block_codec.specs.Placement.{bytes_digest, no_parent, last_digest}
 use Rattle.block_codec.proofs.WholeBlocks.{decided}
 use Rattle.chain_exec.specs.declared.block.BlockRun.{BlockRun}
 use Rattle.std.specs.Option.{is_some}
-use Rattle.lc_outside.specs.Disk.{DiskState}
+use Rattle.lc_io.specs.Disk.{DiskState}
 use Rattle.disk_model.specs.Disk.{Keeps, Rests, content_of}
 use Rattle.block_codec.specs.Reading.{block_in}
 use Rattle.block_codec.specs.declared.block.Block.{Block}
 use Rattle.block_log.specs.Log.{LogState, Agrees, IsNextAfter}
 use Rattle.block_log.proofs.Resting.{rests_at, rests_keeps}
 use Rattle.chain_exec.specs.Compiled.{compiled_in}
-use Rattle.chain_state.specs.Chain.{ChainState, IsAfter, StandsFor, placement_in}
-use Rattle.chain_state.specs.Judging.{Taken, Added, judged, IsNextBlock}
-use Rattle.chain_state.specs.declared.refusal.Refusal.{Refusal}
-use Rattle.chain_state.proofs.Judgements.{added_is_next}
+use Rattle.chain_replay.specs.Chain.{ChainState, IsAfter, StandsFor, placement_in}
+use Rattle.chain_replay.specs.Judging.{Taken, Added, judged, IsNextBlock}
+use Rattle.chain_replay.specs.declared.refusal.Refusal.{Refusal}
+use Rattle.chain_replay.proofs.Judgements.{added_is_next}
 use Rattle.recovery.specs.Node.{NodeState, AreOfOneChain, HoldsChain, IsNodeOf, IsStepOf, chain_in}
 use Rattle.recovery.proofs.Placing.{stricter}
 

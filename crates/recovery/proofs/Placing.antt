@@ -9,8 +9,8 @@ use Rattle.block_codec.specs.declared.placement.Placement.{Placement}
 use Rattle.block_codec.specs.declared.placement.Placement.TheVariants.{Known, Next, Fork, Full, Number, Parent, Budget}
 use Rattle.block_log.specs.Log.{LogState, IsStricter, IsNextOf}
 use Rattle.chain_exec.specs.Compiled.{Compiler}
-use Rattle.chain_state.specs.Chain.{ChainState, placement_in}
-use Rattle.chain_state.specs.Judging.{IsNextBlock}
+use Rattle.chain_replay.specs.Chain.{ChainState, placement_in}
+use Rattle.chain_replay.specs.Judging.{IsNextBlock}
 use Rattle.recovery.specs.Node.{AreOfOneChain}
 
 -- a chain that is full has no next block

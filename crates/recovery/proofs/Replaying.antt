@@ -12,7 +12,7 @@ use Rattle.block_log.proofs.Stricter.{damaged_at, restood_none, restood_next}
 use Rattle.block_log.specs.declared.layout.Stored.{Stored}
 use Rattle.chain_exec.specs.Compiled.{compiled_in}
 use Rattle.chain_exec.specs.Replay.{replay}
-use Rattle.chain_state.specs.Chain.{ChainState, StandsFor, nothing_kept, placement_in}
+use Rattle.chain_replay.specs.Chain.{ChainState, StandsFor, nothing_kept, placement_in}
 use Rattle.recovery.specs.Node.{next_in_chain}
 use Rattle.recovery.proofs.Placing.{stricter}
 

@@ -5,7 +5,7 @@ use Rattle.std.proofs.lemmas.List.{length-map}
 use Rattle.std.proofs.lemmas.Bool.{cases_Bool, eqb-true, eq-eqb}
 use Rattle.lc_base.specs.Faults.{HasCause}
 use Rattle.lc_base.specs.declared.digest.Digest.{Digest}
-use Rattle.lc_outside.specs.Disk.{DiskState}
+use Rattle.lc_io.specs.Disk.{DiskState}
 use Rattle.disk_model.specs.Disk.{IsSettled, content_of}
 use Rattle.block_codec.specs.Placement.{digest_of, last_digest}
 use Rattle.block_codec.specs.declared.block.Block.{Block}
@@ -18,7 +18,7 @@ use Rattle.block_log.specs.Stricter.{restanding}
 use Rattle.block_log.proofs.Stricter.{stands_stricter}
 use Rattle.block_log.specs.declared.layout.Stored.{Stored}
 use Rattle.chain_exec.specs.Compiled.{compiled_in}
-use Rattle.chain_state.specs.Chain.{ChainState, nothing_kept, placement_in}
+use Rattle.chain_replay.specs.Chain.{ChainState, nothing_kept, placement_in}
 use Rattle.recovery.specs.Node.{AreOfOneChain, IsNodeOf, IsStarted, chain_in, next_in_chain}
 use Rattle.recovery.specs.Restoring.{HasRun, IsRestored, start_error}
 use Rattle.recovery.specs.declared.errors.StartError.{StartError}

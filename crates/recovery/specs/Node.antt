@@ -1,6 +1,6 @@
 -- The chain of a log's blocks, and the log.
 use Rattle.std.specs.Prelude.{◌≡◌, ◌⊎◌, ℕ, Bool, true, false, List, [], ◌∷◌, ◌++◌, length, Option, Some, None, Result, Ok, Err}
-use Rattle.lc_outside.specs.Disk.{DiskState}
+use Rattle.lc_io.specs.Disk.{DiskState}
 use Rattle.disk_model.specs.Disk.{Rests}
 use Rattle.block_codec.specs.Reading.{block_in}
 use Rattle.block_codec.specs.Placement.{last_digest}
@@ -11,10 +11,10 @@ use Rattle.block_log.specs.declared.layout.Stored.{Stored}
 use Rattle.chain_exec.specs.Compiled.{compiled_in}
 use Rattle.chain_exec.specs.Fold.{block_effects}
 use Rattle.chain_exec.specs.Replay.{replay}
-use Rattle.chain_state.specs.Chain.{ChainState, StandsFor, placement_in}
-use Rattle.chain_state.specs.Judging.{Taken, Known, Added, added_by}
-use Rattle.chain_state.specs.declared.refusal.Refusal.{Refusal}
-use Rattle.lineage_chain.specs.Roots.{root_in}
+use Rattle.chain_replay.specs.Chain.{ChainState, StandsFor, placement_in}
+use Rattle.chain_replay.specs.Judging.{Taken, Known, Added, added_by}
+use Rattle.chain_replay.specs.declared.refusal.Refusal.{Refusal}
+use Rattle.rooted_chain.specs.Roots.{root_in}
 use Rattle.recovery.specs.declared.errors.StartError.{StartError}
 use Rattle.recovery.specs.declared.errors.StartError.TheVariants as starts
 use Rattle.recovery.specs.declared.errors.AppendError.{AppendError}

@@ -6,7 +6,7 @@ ghost use Rattle.disk_model.specs.Disk.{Keeps, content_of};
 ghost use Rattle.block_codec.specs.Reading.{block_in};
 ghost use Rattle.block_codec.specs.declared.block.Block.{Block as Blocks};
 ghost use Rattle.chain_exec.specs.Compiled.{compiled_in};
-ghost use Rattle.chain_state.specs.Judging.{Added, judged, IsNextBlock};
+ghost use Rattle.chain_replay.specs.Judging.{Added, judged, IsNextBlock};
 ghost use Rattle.recovery.specs.Node.{IsNodeOf, IsStepOf, IsAppendAnswer, IsDiskFault, reaches_disk};
 
 use crate::errors::AppendError;
@@ -14,7 +14,7 @@ use crate::node::{Appended, Node};
 use crate::storing::store;
 use block_codec::Block;
 use block_log::DiskFault;
-use chain_state::{Judged, Replay};
+use chain_replay::{Judged, Replay};
 use disk_model::Disk;
 use lc_base::{Digest, Memory};
 use std::alloc::Global;

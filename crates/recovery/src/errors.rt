@@ -1,6 +1,6 @@
 //! Why a node was not started, or did not take a block.
 
-use chain_state::Refusal;
+use chain_replay::Refusal;
 
 /// Why there is no node to start with.
 #[derive(Clone, Copy, Debug, PartialEq, Eq)]

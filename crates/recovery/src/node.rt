@@ -2,24 +2,24 @@
 
 ghost use Rattle.std.specs.Prelude.{◌≡◌, ◌<◌, ◌≤◌, ℕ, List, length, slice_get, Some, IfOk, IsErrOf, MatchOption};
 ghost use Rattle.lc_base.specs.Faults.{HasCause};
-ghost use Rattle.lc_outside.specs.Disk.{Stays};
+ghost use Rattle.lc_io.specs.Disk.{Stays};
 ghost use Rattle.disk_model.specs.Disk.{IsSettled, content_of};
 ghost use Rattle.block_codec.specs.declared.block.Block.{Block as Blocks};
 ghost use Rattle.block_log.specs.Standing.{standing};
 ghost use Rattle.chain_exec.specs.Compiled.{compiled_in};
-ghost use Rattle.chain_state.specs.Chain.{StandsFor};
-ghost use Rattle.lineage_chain.specs.Roots.{ledger_kept, root_in};
+ghost use Rattle.chain_replay.specs.Chain.{StandsFor};
+ghost use Rattle.rooted_chain.specs.Roots.{ledger_kept, root_in};
 ghost use Rattle.recovery.specs.Node.{IsNodeOf, IsNodeStarted, next_in_chain};
 
 use crate::errors::StartError;
 use crate::opening::open;
 use block_log::Log;
 use chain_exec::ReceiptList;
-use chain_state::Replay;
+use chain_replay::Replay;
 use disk_model::Disk;
 use lc_base::Digest;
-use lineage_chain::LineageChain;
 use merkle_dag::Lineage;
+use rooted_chain::LineageChain;
 use std::alloc::Global;
 use std::marker::Model;
 

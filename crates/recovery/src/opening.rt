@@ -2,17 +2,17 @@
 
 ghost use Rattle.std.specs.Prelude.{◌≡◌, ℕ, List, Some, IfOk, IsErrOf};
 ghost use Rattle.lc_base.specs.Faults.{HasCause};
-ghost use Rattle.lc_outside.specs.Disk.{Stays};
+ghost use Rattle.lc_io.specs.Disk.{Stays};
 ghost use Rattle.disk_model.specs.Disk.{IsSettled, content_of};
 ghost use Rattle.block_codec.specs.declared.block.Block.{Block as Blocks};
 ghost use Rattle.block_log.specs.Standing.{standing};
-ghost use Rattle.chain_state.specs.Chain.{StandsFor};
+ghost use Rattle.chain_replay.specs.Chain.{StandsFor};
 ghost use Rattle.recovery.specs.Node.{AreOfOneChain, IsNodeOf, IsStarted, IsChainStored, next_in_chain};
 
 use crate::errors::StartError;
 use crate::restoring::restore;
 use block_log::{Log, Opened};
-use chain_state::{Chain, Replay};
+use chain_replay::{Chain, Replay};
 use disk_model::Disk;
 use std::alloc::Global;
 

@@ -2,19 +2,19 @@
 
 ghost use Rattle.std.specs.Prelude.{◌≡◌, [], List, IfOk, IsErrOf};
 ghost use Rattle.lc_base.specs.Faults.{HasCause};
-ghost use Rattle.lc_outside.specs.Disk.{Stays};
+ghost use Rattle.lc_io.specs.Disk.{Stays};
 ghost use Rattle.disk_model.specs.Disk.{content_of};
 ghost use Rattle.block_codec.specs.Spelling.{IsBlock};
 ghost use Rattle.block_codec.specs.Placement.{digest_of};
 ghost use Rattle.block_codec.specs.declared.block.Block.{Block as Blocks};
 ghost use Rattle.block_log.specs.Reader.{AreRead};
-ghost use Rattle.chain_state.specs.Chain.{StandsFor};
+ghost use Rattle.chain_replay.specs.Chain.{StandsFor};
 ghost use Rattle.recovery.specs.Restoring.{IsRestored, IsRun, start_error};
 
 use crate::errors::StartError;
 use block_codec::Placement;
 use block_log::{Log, LogError, LogReader, Stored, Turn};
-use chain_state::Replay;
+use chain_replay::Replay;
 use disk_model::Disk;
 use lc_base::Memory;
 use std::alloc::Global;

@@ -7,7 +7,7 @@ use Rattle.block_codec.specs.Spelling.{IsBlock}
 use Rattle.block_codec.specs.declared.block.Block.{Block}
 use Rattle.block_codec.specs.declared.placement.Placement.TheVariants.{Next}
 use Rattle.chain_exec.specs.Compiled.{Compiler}
-use Rattle.chain_state.specs.Chain.{IsChain, placement_in}
+use Rattle.chain_replay.specs.Chain.{IsChain, placement_in}
 use Rattle.typed_replays.specs.Chains.{IsLawfulChain}
 
 pub no_blocks : (compile : Compiler) → IsLawfulChain compile []

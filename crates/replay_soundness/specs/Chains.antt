@@ -5,9 +5,9 @@ use Rattle.block_codec.specs.Spelling.{Decoder, IsDecoder}
 use Rattle.block_codec.specs.declared.block.Block.{Block}
 use Rattle.block_log.specs.Standing.{next_block, chain_of}
 use Rattle.chain_exec.specs.Compiled.{Compiler}
-use Rattle.chain_state.specs.Chain.{placement_in}
-use Rattle.chain_state.specs.Judging.{added_by_all}
-use Rattle.scan_chain.specs.Folding.{fold_from, fold_input}
+use Rattle.chain_replay.specs.Chain.{placement_in}
+use Rattle.chain_replay.specs.Judging.{added_by_all}
+use Rattle.chain_input.specs.Folding.{fold_from, fold_input}
 use Rattle.typed_replays.specs.Chains.{IsLawfulChain}
 
 -- The blocks that the bytes of a log stand for are a chain.

@@ -12,8 +12,8 @@ use Rattle.block_codec.specs.declared.block.Block.{Block}
 use Rattle.block_log.specs.Standing.{next_block, chain_of}
 use Rattle.chain_exec.specs.Compiled.{Compiler, IsCompiler}
 use Rattle.chain_exec.specs.Replay.{replay}
-use Rattle.chain_state.specs.Chain.{placement_in}
-use Rattle.lineage_chain.specs.Roots.{root_in}
+use Rattle.chain_replay.specs.Chain.{placement_in}
+use Rattle.rooted_chain.specs.Roots.{root_in}
 use Rattle.proof_codec.specs.declared.proof.Proof.{Proof}
 use Rattle.proof_codec.specs.Spelling.{IsProof}
 use Rattle.proof_checks.specs.Checks.{verdict}

@@ -3,15 +3,15 @@
 
 ghost use Rattle.std.specs.Prelude.{IfOk};
 ghost use Rattle.block_codec.specs.Spelling.{IsBlock};
-ghost use Rattle.chain_state.specs.Chain.{IsAfter};
+ghost use Rattle.chain_replay.specs.Chain.{IsAfter};
 
 use crate::scanning::scan;
 use crate::streams::{PausingSource, source_of};
 use anyhow::{Result, bail};
 use block_codec::{Block, Frames, MAX_FRAMES, Placement, block_digest, decode};
 use chain_exec::BlockRun;
-use chain_lines::answer_lines;
-use chain_state::{Chain, Replay};
+use chain_replay::{Chain, Replay};
+use cli_lines::answer_lines;
 use lc_base::{Answer, Bytes, Digest, Kind, Memory, Query, Row, RowList, Seq};
 use std::alloc::Global;
 use std::io::Write;

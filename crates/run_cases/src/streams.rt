@@ -2,13 +2,13 @@
 
 ghost use Rattle.std.specs.Prelude.{◌<◌, ◌≤◌, length, None, IfOk, IsErr};
 ghost use Rattle.lc_base.specs.Faults.{HasCause};
-ghost use Rattle.lc_outside.specs.Outside.{Pulls};
+ghost use Rattle.lc_io.specs.Outside.{Pulls};
 ghost use Rattle.disk_model.specs.Disk.{IsSettled};
 ghost use Rattle.disk_model.specs.Machine.{disk_of, now_of};
 
 use anyhow::{Context, Result};
 use disk_model::MemMachine;
-use lc_outside::{Failed, MemSource, Room, Source};
+use lc_io::{Failed, MemSource, Room, Source};
 use std::alloc::Global;
 
 /// Room for what a case tells and writes.

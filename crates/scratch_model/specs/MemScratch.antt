@@ -1,7 +1,7 @@
 -- The scratch device in memory: what it keeps, and what each call does.
 use Rattle.std.specs.Prelude.{◌≡◌, ℕ, ◌+◌, Bool, true, false, ◌&&◌, nat_le, nat_lt, MatchBool}
 use Rattle.std.specs.Prelude.{List, ◌++◌, length, take, drop, Some, Result, Ok, Err}
-use Rattle.lc_outside.specs.Fakes.{one_more, is_failing}
+use Rattle.lc_io.specs.Fakes.{one_more, is_failing}
 use Rattle.scratch_model.specs.Scratch.{ScratchState}
 
 -- The bytes that were put, one after another; the calls that took a number, and how many of them

@@ -2,12 +2,12 @@
 
 ghost use Rattle.std.specs.Prelude.{◌≡◌, true, None, length, IfOk, OnOk, IsErr, IsOk};
 ghost use Rattle.lc_base.specs.Faults.{HasCause};
-ghost use Rattle.lc_outside.specs.Streams.{CountsFaults};
+ghost use Rattle.lc_io.specs.Streams.{CountsFaults};
 ghost use Rattle.scratch_model.specs.Scratch.{HoldsAt, IsKeptAt, Retains};
 ghost use Rattle.scratch_model.specs.FileScratch.{untold_up_to, PutsAtEnd};
 
 use crate::scratch::Scratch;
-use lc_outside::{Failed, one_more};
+use lc_io::{Failed, one_more};
 use std::fs;
 use std::fs::File;
 use std::io::ErrorKind;

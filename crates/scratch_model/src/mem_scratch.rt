@@ -9,7 +9,7 @@ ghost use Rattle.scratch_model.specs.MemScratch.{state_over, fits_room, PutsByte
 
 use crate::scratch::Scratch;
 use lc_base::Memory;
-use lc_outside::{Failed, Room, is_failing, one_more};
+use lc_io::{Failed, Room, is_failing, one_more};
 use std::alloc::Global;
 use std::marker::Model;
 

@@ -1,11 +1,11 @@
-//! The trait of a scratch device. As in `lc_outside`, a meaning is named by contracts alone, and
+//! The trait of a scratch device. As in `lc_io`, a meaning is named by contracts alone, and
 //! where an object does not tell it, a clause on it says only that it stays untold.
 
 ghost use Rattle.std.specs.Prelude.{◌≡◌, ℕ, true, length, IfOk, OnOk, IsErr};
 ghost use Rattle.lc_base.specs.Faults.{HasCause};
 ghost use Rattle.scratch_model.specs.Scratch.{ScratchState, HoldsAt, IsKeptAt, Retains};
 
-use lc_outside::Failed;
+use lc_io::Failed;
 
 /// A device that keeps bytes for as long as the program runs.
 pub trait Scratch {

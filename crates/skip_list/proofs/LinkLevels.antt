@@ -9,14 +9,15 @@ use Rattle.std.proofs.lemmas.List.{length-append}
 use Rattle.std.proofs.lemmas.Nat.{xor_lt, and_le_l, and_le_r, xor_shr, pow_pos, le-div}
 use Rattle.std.proofs.Math.Nat.{div-eq_of_lt, two-pow-succ}
 use Rattle.std.proofs.Math.Pow.{pow_mono}
-use Rattle.version_links.specs.Falling.{IsFalling, is_first, from_level}
-use Rattle.version_links.specs.declared.limits.TheConstants.{MAX_HEIGHT}
-use Rattle.version_links.proofs.Falls.{interval_mono, not_higher}
-use Rattle.version_path.specs.Towers.{height_up_to, height_over, from_last, last_at}
-use Rattle.version_path.specs.Paths.{binary_digits}
-use Rattle.version_path.proofs.Levels.{IsAt, leads_to_level, highest_link_is_higher}
-use Rattle.version_path.proofs.Towers.{map_from, levels_more}
-use Rattle.version_path.proofs.Walks.{digits_hold}
+use Rattle.skip_links.specs.Falling.{IsFalling, is_first, from_level}
+use Rattle.skip_links.specs.declared.limits.TheConstants.{MAX_HEIGHT}
+use Rattle.skip_links.proofs.Differing.{apart, together, higher}
+use Rattle.skip_links.proofs.Falls.{not_higher}
+use Rattle.skip_path.specs.Towers.{height_up_to, height_over, from_last, last_at}
+use Rattle.skip_path.specs.Paths.{binary_digits}
+use Rattle.skip_path.proofs.Levels.{IsAt, leads_to_level, highest_link_is_higher}
+use Rattle.skip_path.proofs.Towers.{map_from, levels_more}
+use Rattle.skip_path.proofs.Walks.{digits_hold}
 
 -- ---- the last version at a level
 
@@ -104,31 +105,6 @@ levels_top {A = A} block_of n version older =
     let before = filter_map (last_at block_of (version ∷ older)) (range_with_len 0 n) in
     ap (λ (links : List A). slice_get links n) (levels_more (last_at block_of (version ∷ older)) n)
     ∙ (with_link before n (last_at block_of (version ∷ older) n) link.0 link.1 (levels_long block_of n version older)).1
-
--- ---- blocks that differ at a binary digit, and no higher one
-
-xor_equal : (a b : ℕ) → bit_xor a b ≡ 0 → a ≡ b
-xor_equal a b e = omega (arith, e, xor_add_and a b, and_le_l a b, and_le_r a b)
-
--- At each level up to the highest digit in which they differ they are in two intervals.
-apart : (level p u : ℕ) → p < u → 2 ^ level ≤ bit_xor p u → nat_lt (p / 2 ^ level) (u / 2 ^ level) ≡ true
-apart level p u less high = elim (cases_lt (p / 2 ^ level) (u / 2 ^ level)) [
-  | inl l ↦ lt-ltb (p / 2 ^ level) (u / 2 ^ level) l
-  | inr g ↦
-      let some : 1 ≤ bit_xor p u / 2 ^ level = le-div 1 (bit_xor p u) (2 ^ level) (pow_pos level) (omega (arith, high)) in
-      let same : u / 2 ^ level ≡ p / 2 ^ level = omega (arith, g, interval_mono level p u (omega (arith, less))) in
-      let none : bit_xor p u / 2 ^ level ≡ 0 = xor_shr p u level ∙ ap (bit_xor (p / 2 ^ level)) same ∙ xor_self (p / 2 ^ level) in
-      absurd (omega (arith, some, none))
-]
-
--- At each level above it they are in one.
-together : (level p u : ℕ) → bit_xor p u < 2 ^ level → nat_lt (p / 2 ^ level) (u / 2 ^ level) ≡ false
-together level p u low =
-    let same = xor_equal (p / 2 ^ level) (u / 2 ^ level) (sym (xor_shr p u level) ∙ div-eq_of_lt low) in
-    le-ltb (p / 2 ^ level) (u / 2 ^ level) (omega (arith, same))
-
-higher : (height level n : ℕ) → n < 2 * 2 ^ height → height < level → n < 2 ^ level
-higher height level n low less = omega (arith, low, two-pow-succ height, pow_mono {i = suc height} {j = level} (omega (arith, less)))
 
 -- ---- heights
 

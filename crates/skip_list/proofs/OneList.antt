@@ -4,10 +4,10 @@ use Rattle.std.specs.Prelude.{slice_get, IsSomeAnd}
 use Rattle.std.specs.Option.{option_map}
 use Rattle.std.specs.List.{filter_map, range_with_len}
 use Rattle.std.proofs.lemmas.Option.{none-some, same_Some}
-use Rattle.version_links.specs.Falling.{IsFalling}
-use Rattle.version_links.proofs.Falls.{rest_falls}
-use Rattle.version_path.specs.Towers.{height_over, last_at, tower}
-use Rattle.version_path.proofs.Levels.{at_bottom}
+use Rattle.skip_links.specs.Falling.{IsFalling}
+use Rattle.skip_links.proofs.Falls.{rest_falls}
+use Rattle.skip_path.specs.Towers.{height_over, last_at, tower}
+use Rattle.skip_path.proofs.Levels.{at_bottom}
 use Rattle.entry_store.specs.declared.entry.EntryId.{EntryId}
 use Rattle.entry_store.specs.declared.entry.Hop.{Hop}
 use Rattle.entry_store.specs.declared.entry.Links.{Links}

@@ -6,11 +6,11 @@ use Rattle.std.specs.Option.{option_map}
 use Rattle.std.proofs.lemmas.Bool.{cases_lt, le-leb}
 use Rattle.std.proofs.lemmas.List.{append-nil, append_assoc, map-append, length_push}
 use Rattle.std.proofs.lemmas.Option.{same_Some, none-some}
-use Rattle.version_links.specs.Falling.{IsFalling}
-use Rattle.version_path.specs.Paths.{onward, path_over}
-use Rattle.version_path.proofs.Bound.{late, next_none}
-use Rattle.version_path.proofs.Towers.{next_of, next_keeps, map_next, goes, Goes}
-use Rattle.version_path.proofs.Walks.{over_ends, over_on, over_none}
+use Rattle.skip_links.specs.Falling.{IsFalling}
+use Rattle.skip_path.specs.Paths.{onward, path_over}
+use Rattle.skip_path.proofs.Bound.{late, next_none}
+use Rattle.skip_path.proofs.Towers.{next_of, next_keeps, map_next, goes, Goes}
+use Rattle.skip_path.proofs.Walks.{over_ends, over_on, over_none}
 use Rattle.entry_store.specs.declared.entry.EntryId.{EntryId}
 use Rattle.entry_store.specs.declared.entry.Hop.{Hop}
 use Rattle.entry_store.specs.declared.entry.Links.{Links}

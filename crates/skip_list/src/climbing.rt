@@ -2,8 +2,8 @@
 
 ghost use Rattle.std.specs.Prelude.{◌≡◌, ◌+◌, ◌*◌, ◌^◌, ◌<◌, ◌≤◌, List, length, IfOk, bit_xor};
 ghost use Rattle.std.specs.List.{All};
-ghost use Rattle.version_links.specs.declared.limits.TheConstants.{MAX_HEIGHT};
-ghost use Rattle.version_path.specs.Paths.{binary_digits};
+ghost use Rattle.skip_links.specs.declared.limits.TheConstants.{MAX_HEIGHT};
+ghost use Rattle.skip_path.specs.Paths.{binary_digits};
 ghost use Rattle.entry_store.specs.declared.entry.Hop.{Hop};
 ghost use Rattle.skip_list.specs.Towered.{links_over, IsTowered, AreVersions, AreOlder, LeadsToTowered};
 

@@ -3,7 +3,7 @@
 ghost use Rattle.std.specs.Prelude.{◌≡◌, ◌^◌, ◌<◌, ◌≤◌, List, ◌∷◌, length, nat_lt, reverse, IfSome};
 ghost use Rattle.std.specs.List.{find};
 ghost use Rattle.std.specs.Option.{option_copied};
-ghost use Rattle.version_path.specs.Paths.{onward, path_over};
+ghost use Rattle.skip_path.specs.Paths.{onward, path_over};
 ghost use Rattle.entry_store.specs.declared.entry.Hop.{Hop};
 ghost use Rattle.entry_store.specs.declared.entry.EntryId.{EntryId};
 ghost use Rattle.entry_store.specs.Steps.{raised};

@@ -2,7 +2,7 @@
 
 ghost use Rattle.std.specs.Prelude.{◌≡◌, Bool, true, List, length, map, Some, IfOk};
 ghost use Rattle.std.specs.List.{AllByRecursion};
-ghost use Rattle.version_path.specs.Paths.{path_over};
+ghost use Rattle.skip_path.specs.Paths.{path_over};
 ghost use Rattle.entry_store.specs.declared.entry.EntryId.{EntryId};
 ghost use Rattle.entry_store.specs.declared.entry.Hop.{Hop};
 ghost use Rattle.entry_store.specs.Steps.{raised};

@@ -8,7 +8,7 @@ use Rattle.std.proofs.lemmas.List.{get_or-map, length-map}
 use Rattle.std.proofs.lemmas.Option.{slice_get_cases, get_or_from_slice_get}
 use Rattle.prov_entry.specs.declared.entry.Leaf.{Leaf}
 use Rattle.prov_entry.specs.Spelling.{key_or_empty}
-use Rattle.history_root.specs.Root.{is_below}
+use Rattle.root_laws.specs.Root.{is_below}
 use Rattle.state_tree.specs.Leaves.{leaf_key, index_of}
 use Rattle.state_tree.specs.Covering.{Covers}
 use Rattle.state_tree.specs.Order.{NoneUpTo, IsLastUpTo, AreInOrder}

@@ -10,7 +10,7 @@ use Rattle.std.proofs.lemmas.List.{map-append, map-set, length-map, length-set, 
 use Rattle.std.proofs.lemmas.Option.{slice_get-get_or}
 use Rattle.prov_entry.specs.declared.entry.Leaf.{Leaf}
 use Rattle.prov_entry.specs.Spelling.{key_or_empty}
-use Rattle.history_root.specs.Root.{is_below, next_key, sentinel}
+use Rattle.root_laws.specs.Root.{is_below, next_key, sentinel}
 use Rattle.state_tree.specs.Leaves.{leaf_key, leaf_keys, is_this, index_of, with_next, threaded, fresh_leaf, with_leaf_of, AreApart}
 use Rattle.state_tree.specs.Covering.{Covers}
 use Rattle.state_tree.specs.Order.{kept_for, AreInOrder}

@@ -15,7 +15,7 @@ use Rattle.merkle_tree.specs.Levels.{digest_of, is_set, IsOwn, Renews}
 use Rattle.merkle_tree.specs.declared.setting_all.HashAt.{HashAt}
 use Rattle.prov_entry.specs.declared.entry.Leaf.{Leaf}
 use Rattle.prov_entry.specs.Spelling.{leaf_bytes}
-use Rattle.history_root.specs.Root.{sentinel}
+use Rattle.root_laws.specs.Root.{sentinel}
 use Rattle.state_tree.specs.declared.states.LeafState.{LeafState}
 use Rattle.state_tree.specs.Leaves.{said, saying, with_state, with_states, indexes_of, leaf_texts, leaf_hashes}
 use Rattle.state_tree.specs.Order.{AreInOrder, AreHashedBut, IsTree, no_hash, hash_at}

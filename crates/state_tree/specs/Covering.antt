@@ -1,7 +1,7 @@
 -- The leaf that covers a key: its own, or else the leaf after which it would be threaded.
 use Rattle.std.specs.Prelude.{◌≡◌, true, false, ℕ, List, Contains, Some, slice_get}
 use Rattle.prov_entry.specs.declared.entry.Leaf.{Leaf}
-use Rattle.history_root.specs.Root.{is_below}
+use Rattle.root_laws.specs.Root.{is_below}
 use Rattle.state_tree.specs.Leaves.{leaf_key}
 
 -- The leaf at this index has the greatest key that is not above this one. The sentinel has it where

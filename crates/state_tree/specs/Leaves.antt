@@ -7,8 +7,8 @@ use Rattle.merkle_tree.specs.Tree.{leaf_text}
 use Rattle.merkle_tree.specs.Levels.{digest_of}
 use Rattle.prov_entry.specs.declared.entry.Leaf.{Leaf}
 use Rattle.prov_entry.specs.Spelling.{key_or_empty, leaf_bytes}
-use Rattle.history_root.specs.Naming.{digest_of_uses}
-use Rattle.history_root.specs.Root.{next_key, sentinel}
+use Rattle.root_laws.specs.Naming.{digest_of_uses}
+use Rattle.root_laws.specs.Root.{next_key, sentinel}
 use Rattle.state_tree.specs.declared.states.LeafState.{LeafState}
 
 -- The key of a leaf. The sentinel's is the empty string, which is smaller than every key.

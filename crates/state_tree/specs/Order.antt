@@ -8,7 +8,7 @@ use Rattle.lc_base.specs.declared.digest.Digest.{Digest}
 use Rattle.merkle_tree.specs.declared.setting_all.HashAt.{HashAt}
 use Rattle.merkle_tree.specs.Levels.{digest_of}
 use Rattle.prov_entry.specs.declared.entry.Leaf.{Leaf}
-use Rattle.history_root.specs.Root.{is_below}
+use Rattle.root_laws.specs.Root.{is_below}
 use Rattle.state_tree.specs.Leaves.{index_of, threaded, leaf_keys, leaf_hashes, AreApart}
 use Rattle.merkle_tree.specs.declared.limits.TheConstants.{MAX_LEAVES}
 

@@ -3,7 +3,7 @@
 ghost use Rattle.std.specs.Prelude.{◌≡◌, ◌≢◌, ◌<◌, ◌∷◌, [], ◌++◌, ℕ, List, length, Some, None, OnOk, OnErr};
 ghost use Rattle.lc_names.specs.KeyBytes.{IsKey};
 ghost use Rattle.merkle_tree.specs.declared.limits.TheConstants.{MAX_LEAVES};
-ghost use Rattle.history_root.specs.Root.{sentinel};
+ghost use Rattle.root_laws.specs.Root.{sentinel};
 ghost use Rattle.state_tree.specs.Leaves.{fresh_leaf};
 ghost use Rattle.state_tree.specs.Order.{kept_for};
 

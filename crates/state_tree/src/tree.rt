@@ -5,7 +5,7 @@ ghost use Rattle.std.specs.List.{All};
 ghost use Rattle.merkle_tree.specs.Tree.{audit_path};
 ghost use Rattle.merkle_tree.specs.Climbing.{bytes_of};
 ghost use Rattle.prov_entry.specs.declared.entry.Leaf.{Leaf};
-ghost use Rattle.history_root.specs.Root.{sentinel, leaves_hash};
+ghost use Rattle.root_laws.specs.Root.{sentinel, leaves_hash};
 ghost use Rattle.state_tree.specs.declared.states.LeafState.{LeafState};
 ghost use Rattle.state_tree.specs.Leaves.{index_of, with_leaf_of, with_states, threaded, leaf_keys, leaf_texts, AreApart};
 ghost use Rattle.state_tree.specs.Covering.{Covers};

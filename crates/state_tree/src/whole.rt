@@ -4,7 +4,7 @@ ghost use Rattle.std.specs.Prelude.{◌≡◌, ◌<◌, ◌≤◌, ◌^◌, ◌-
 ghost use Rattle.merkle_tree.specs.Tree.{hash_to, audit_path};
 ghost use Rattle.merkle_tree.specs.Climbing.{bytes_of};
 ghost use Rattle.merkle_tree.specs.declared.limits.TheConstants.{MAX_HEIGHT, MAX_LEAVES};
-ghost use Rattle.history_root.specs.Root.{leaves_hash};
+ghost use Rattle.root_laws.specs.Root.{leaves_hash};
 ghost use Rattle.state_tree.specs.Leaves.{leaf_hashes, leaf_texts};
 
 use crate::hashing::hash_of;

@@ -12,20 +12,20 @@ use Rattle.lc_base.specs.declared.digest.Digest.{Digest}
 use Rattle.lc_base.specs.declared.row.Row.{Row}
 use Rattle.lc_base.specs.declared.row.Dep.{Dep}
 use Rattle.lc_base.specs.History.{IsLawful, HasLawfulDeps, below, up_to, newest, uses, depends_on, version_of}
-use Rattle.version_links.specs.Links.{height_to, height, is_at_level, link, links}
-use Rattle.version_links.specs.declared.limits.TheConstants.{MAX_HEIGHT}
+use Rattle.skip_links.specs.Links.{height_to, height, is_at_level, link, links}
+use Rattle.skip_links.specs.declared.limits.TheConstants.{MAX_HEIGHT}
 use Rattle.prov_entry.specs.declared.entry.Leaf.{Leaf}
 use Rattle.prov_entry.specs.Spelling.{IsLink, IsHeader, IsBodyDep, IsBody, IsKeyIfAny, IsLeaf, body_text}
 use Rattle.prov_entry.specs.ForwardLists.{start_text, no_uses, use_text, with_use, uses_digest}
-use Rattle.history_root.specs.Naming.{uses_of, closed, header_of, body_of, body_among, named_before, with_digest, link_among}
-use Rattle.history_root.specs.NamingLaws.{IsToOlder, IsOnOlder, NamesHeader}
-use Rattle.history_root.specs.WalkLaws.{text_of_row}
-use Rattle.history_root.specs.KeyLaws.{IsNext}
-use Rattle.history_root.specs.Root.{is_among, keys_of, next_key, sentinel, leaf_of, leaves, block_of}
-use Rattle.history_root.proofs.Lists.{all_weaker, all_contained, contained, option_cases}
-use Rattle.history_root.proofs.Keys.{key_is_key, among_is_some}
-use Rattle.history_root.proofs.Headers.{links_are_named, dependencies_are_named, leaf_is_named, newest_is_key, newest_has}
-use Rattle.history_root.proofs.NextKeys.{next_is}
+use Rattle.root_laws.specs.Naming.{uses_of, closed, header_of, body_of, body_among, named_before, with_digest, link_among}
+use Rattle.root_laws.specs.NamingLaws.{IsToOlder, IsOnOlder, NamesHeader}
+use Rattle.root_laws.specs.WalkLaws.{text_of_row}
+use Rattle.root_laws.specs.KeyLaws.{IsNext}
+use Rattle.root_laws.specs.Root.{is_among, keys_of, next_key, sentinel, leaf_of, leaves, block_of}
+use Rattle.root_laws.proofs.Lists.{all_weaker, all_contained, contained, option_cases}
+use Rattle.root_laws.proofs.Keys.{key_is_key, among_is_some}
+use Rattle.root_laws.proofs.Headers.{links_are_named, dependencies_are_named, leaf_is_named, newest_is_key, newest_has}
+use Rattle.root_laws.proofs.NextKeys.{next_is}
 use Rattle.typed_ledger.specs.TypedLedger.{IsTypedRow}
 use Rattle.typed_ledger.specs.Laws.{HeadersAreHeaders, BodiesAreBodies, LeavesAreLeaves}
 use Rattle.typed_ledger.proofs.Parts.{filter_short}

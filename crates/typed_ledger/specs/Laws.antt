@@ -5,8 +5,8 @@ use Rattle.lc_base.specs.declared.digest.Digest.{Digest}
 use Rattle.lc_base.specs.declared.row.Row.{Row}
 use Rattle.lc_base.specs.History.{up_to}
 use Rattle.prov_entry.specs.Spelling.{IsHeader, IsBody, IsLeaf}
-use Rattle.history_root.specs.Naming.{header_of, body_of}
-use Rattle.history_root.specs.Root.{leaves, digest_at}
+use Rattle.root_laws.specs.Naming.{header_of, body_of}
+use Rattle.root_laws.specs.Root.{leaves, digest_at}
 use Rattle.typed_ledger.specs.TypedLedger.{IsTypedHistory, IsTypedLedger}
 
 -- A history up to a block is one.

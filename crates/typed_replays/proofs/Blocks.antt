@@ -21,10 +21,10 @@ use Rattle.dep_capture.specs.declared.limits.TheConstants.{MAX_KEYS_PUT}
 use Rattle.dep_capture.specs.declared.access.Read.{Read}
 use Rattle.world_state.specs.Rows.{held_of, held_in}
 use Rattle.world_state.specs.declared.held.Held.{Held}
-use Rattle.contract_meaning.specs.Answers.{IsFaithful}
-use Rattle.contract_meaning.specs.Calls.{rows_written}
-use Rattle.contract_meaning.specs.Reading.{block_of}
-use Rattle.contract_meaning.specs.Scenes.{Place}
+use Rattle.contract_semantics.specs.Answers.{IsFaithful}
+use Rattle.contract_semantics.specs.Calls.{rows_written}
+use Rattle.contract_semantics.specs.Reading.{block_of}
+use Rattle.contract_semantics.specs.Scenes.{Place}
 use Rattle.chain_exec.specs.BlockRows.{IsOnNewest, HasNewestDeps, AreTxRows, AreBlockRows}
 use Rattle.chain_exec.specs.Effect.{version_to_depend_on, deps_on, is_written}
 use Rattle.chain_exec.proofs.BlockSteps.{pairs_append}

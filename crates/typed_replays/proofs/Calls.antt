@@ -20,11 +20,11 @@ use Rattle.dep_capture.specs.declared.access.Put.{Put}
 use Rattle.dep_capture.specs.declared.access.Read.{Read}
 use Rattle.dep_capture.proofs.Keeping.{rows_are_lawful}
 use Rattle.world_state.specs.Rows.{held_of}
-use Rattle.contract_meaning.specs.declared.site.CallSite.{CallSite}
-use Rattle.contract_meaning.specs.Scenes.{Scene, scene_of}
-use Rattle.contract_meaning.specs.Steps.{Machine, machine, Step, Done, Failed}
-use Rattle.contract_meaning.specs.Statements.{Ending, statements_run}
-use Rattle.contract_meaning.specs.Calls.{CallResult, are_arguments, bound, call_ended, function_run, function_called, refused, call_result, rows_written}
+use Rattle.contract_semantics.specs.declared.site.CallSite.{CallSite}
+use Rattle.contract_semantics.specs.Scenes.{Scene, scene_of}
+use Rattle.contract_semantics.specs.Steps.{Machine, machine, Step, Done, Failed}
+use Rattle.contract_semantics.specs.Statements.{Ending, statements_run}
+use Rattle.contract_semantics.specs.Calls.{CallResult, are_arguments, bound, call_ended, function_run, function_called, refused, call_result, rows_written}
 use Rattle.contract_laws.proofs.Tame.{FailsBadly, is_ok_status}
 use Rattle.contract_laws.proofs.Statements.{tame_statements}
 use Rattle.typed_replays.specs.Laws.{CallsWriteTypedRows}

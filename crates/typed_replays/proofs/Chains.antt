@@ -18,7 +18,7 @@ use Rattle.block_codec.specs.declared.placement.Placement.TheVariants.{Known, Ne
 use Rattle.chain_exec.specs.Compiled.{Compiler}
 use Rattle.chain_exec.specs.Replay.{history_after, replay}
 use Rattle.chain_exec.proofs.TheLaws.{replay_grows}
-use Rattle.chain_state.specs.Chain.{placement_in}
+use Rattle.chain_replay.specs.Chain.{placement_in}
 use Rattle.typed_replays.specs.Chains.{IsLawfulChain}
 use Rattle.typed_replays.specs.Laws.{CompilesValues, IsTypedBefore, ChainsOfValuesAreTyped, ReplaysAreTyped}
 use Rattle.typed_replays.proofs.Compiling.{compilers_give_values}

@@ -9,11 +9,11 @@ use Rattle.lc_base.specs.declared.value.Value.TheVariants as values
 use Rattle.byte_fields.specs.Spelling.{IsValue}
 use Rattle.contract_tree.specs.Tree.{Tree, Trees, none, more}
 use Rattle.contract_tree.specs.Tree as tree
-use Rattle.contract_meaning.specs.declared.charge.TheConstants.{CHARGE_NODE}
-use Rattle.contract_meaning.specs.declared.variable.Variable.{Variable}
-use Rattle.contract_meaning.specs.Operators.{combined, prefixed, decided}
-use Rattle.contract_meaning.specs.Scenes.{Scene}
-use Rattle.contract_meaning.specs.Expressions.{variable_of, value_found, value_of, values_of}
+use Rattle.contract_semantics.specs.declared.charge.TheConstants.{CHARGE_NODE}
+use Rattle.contract_semantics.specs.declared.variable.Variable.{Variable}
+use Rattle.contract_semantics.specs.Operators.{combined, prefixed, decided}
+use Rattle.contract_semantics.specs.Scenes.{Scene}
+use Rattle.contract_semantics.specs.Expressions.{variable_of, value_found, value_of, values_of}
 use Rattle.typed_replays.specs.Literals.{HasValues, HaveValues}
 use Rattle.typed_replays.proofs.Values.{combined_typed, prefixed_typed, decided_typed}
 use Rattle.typed_replays.proofs.Keeping.{Keeps, keeps_done, keeps_given, keeps_charged, keeps_then, keeps_unless}

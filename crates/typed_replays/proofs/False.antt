@@ -12,8 +12,8 @@ use Rattle.lc_base.specs.declared.row.Row.{Row}
 use Rattle.lc_base.specs.declared.value.Value.TheVariants as values
 use Rattle.contract_tree.specs.Tree.{FunctionTree, statements, no_statement}
 use Rattle.contract_tree.specs.Tree as tree
-use Rattle.contract_meaning.specs.Builtins.{applied}
-use Rattle.contract_meaning.specs.Calls.{call_result}
+use Rattle.contract_semantics.specs.Builtins.{applied}
+use Rattle.contract_semantics.specs.Calls.{call_result}
 use Rattle.block_codec.specs.Placement.{digest_of, no_parent, placement}
 use Rattle.block_codec.specs.Spelling.{IsBlock}
 use Rattle.block_codec.specs.declared.block.Tx.{Tx}
@@ -23,7 +23,7 @@ use Rattle.block_codec.specs.declared.placement.Placement.TheVariants.{Next}
 use Rattle.chain_exec.specs.Compiled.{Compiler, compiled_in}
 use Rattle.chain_exec.specs.Replay.{replay}
 use Rattle.chain_exec.proofs.TheLaws.{one_compiler}
-use Rattle.chain_state.specs.Chain.{IsChain, placement_in}
+use Rattle.chain_replay.specs.Chain.{IsChain, placement_in}
 use Rattle.typed_ledger.specs.TypedLedger.{IsTypedRow}
 use Rattle.typed_replays.specs.Chains.{IsLawfulChain}
 use Rattle.typed_replays.specs.FalseLaws.{PlacesDoNotMatter, LimitsDoNotMatter, CompilersDoNotMatter}

@@ -12,8 +12,8 @@ use Rattle.lc_base.specs.declared.tx_status.TxStatus.TheVariants as statuses
 use Rattle.byte_fields.specs.Spelling.{IsValue}
 use Rattle.dep_capture.specs.Captured.{Captured, IsCapture}
 use Rattle.dep_capture.specs.declared.access.Put.{Put}
-use Rattle.contract_meaning.specs.Steps.{Machine, Step, Done, Failed, and_then, charged, given}
-use Rattle.contract_meaning.specs.Expressions.{unless_decided}
+use Rattle.contract_semantics.specs.Steps.{Machine, Step, Done, Failed, and_then, charged, given}
+use Rattle.contract_semantics.specs.Expressions.{unless_decided}
 
 -- A put of a value to a key.
 pub record IsTypedPut (put : Put) : Type 0 where

@@ -23,12 +23,12 @@ use Rattle.dep_capture.specs.declared.access.Put.{Put}
 use Rattle.dep_capture.specs.declared.error.CaptureError.TheVariants as errors
 use Rattle.dep_capture.proofs.Backed.{deps_are_backed}
 use Rattle.dep_capture.proofs.Keeping.{put_keeps}
-use Rattle.contract_meaning.specs.declared.variable.Variable.{Variable}
-use Rattle.contract_meaning.specs.Scenes.{Scene, Place}
-use Rattle.contract_meaning.specs.Steps.{Machine, and_so}
-use Rattle.contract_meaning.specs.Reading.{good_key, key_of_text}
-use Rattle.contract_meaning.specs.Puts.{is_own, is_one_too_many, key_in, key_to_put, named_keys, put_recorded, captured_by_put}
-use Rattle.contract_meaning.specs.Statements.{Ending, Goes, Returns, put_done}
+use Rattle.contract_semantics.specs.declared.variable.Variable.{Variable}
+use Rattle.contract_semantics.specs.Scenes.{Scene, Place}
+use Rattle.contract_semantics.specs.Steps.{Machine, and_so}
+use Rattle.contract_semantics.specs.Reading.{good_key, key_of_text}
+use Rattle.contract_semantics.specs.Puts.{is_own, is_one_too_many, key_in, key_to_put, named_keys, put_recorded, captured_by_put}
+use Rattle.contract_semantics.specs.Statements.{Ending, Goes, Returns, put_done}
 use Rattle.typed_replays.proofs.Keeping.{IsTypedPut, IsTyped, Ends, Keeps}
 use Rattle.typed_replays.proofs.Reading.{so_typed}
 use Rattle.typed_replays.proofs.Expressions.{HoldsValue}

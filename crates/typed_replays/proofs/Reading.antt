@@ -39,13 +39,13 @@ use Rattle.dep_capture.specs.declared.access.Put.{Put}
 use Rattle.dep_capture.specs.declared.error.CaptureError.TheVariants as errors
 use Rattle.dep_capture.proofs.Keeping.{read_keeps}
 use Rattle.world_state.specs.declared.held.Held.{Held}
-use Rattle.contract_meaning.specs.Charges.{charge_of}
-use Rattle.contract_meaning.specs.Numbers.{truth}
-use Rattle.contract_meaning.specs.Scenes.{Scene}
-use Rattle.contract_meaning.specs.Steps.{Machine, and_so}
-use Rattle.contract_meaning.specs.Reading.{Taken, and_read, key_of_text, block_of, value_of_version, recorded, value_got, is_held, int_in, text_in, of_kind, getting, having}
-use Rattle.contract_meaning.specs.Asking.{block_before, asked, version_asked, list_asked, item_asked, item_part_of, list_told, value_told, block_told, tx_told, count_told, item_told, item_of}
-use Rattle.contract_meaning.specs.Builtins.{one_text, one_int, text_and_int, text_and_ints, with_args, reading_args, version_value, item_value, version_part, count_part, item_part, plain_value, built, taken_step, called, applied}
+use Rattle.contract_semantics.specs.Charges.{charge_of}
+use Rattle.contract_semantics.specs.Numbers.{truth}
+use Rattle.contract_semantics.specs.Scenes.{Scene}
+use Rattle.contract_semantics.specs.Steps.{Machine, and_so}
+use Rattle.contract_semantics.specs.Reading.{Taken, and_read, key_of_text, block_of, value_of_version, recorded, value_got, is_held, int_in, text_in, of_kind, getting, having}
+use Rattle.contract_semantics.specs.Asking.{block_before, asked, version_asked, list_asked, item_asked, item_part_of, list_told, value_told, block_told, tx_told, count_told, item_told, item_of}
+use Rattle.contract_semantics.specs.Builtins.{one_text, one_int, text_and_int, text_and_ints, with_args, reading_args, version_value, item_value, version_part, count_part, item_part, plain_value, built, taken_step, called, applied}
 use Rattle.typed_ledger.specs.TypedLedger.{IsTypedRow, IsTypedHistory}
 use Rattle.typed_replays.proofs.Values.{small_fits, truth_fits}
 use Rattle.typed_replays.proofs.Keeping.{IsTypedPut, IsTyped, Ends, Keeps, keeps_failed, keeps_charged}

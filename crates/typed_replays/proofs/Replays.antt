@@ -13,10 +13,10 @@ use Rattle.lc_base.specs.declared.tx_status.TxStatus.TheVariants as statuses
 use Rattle.byte_fields.specs.Spelling.{IsValue}
 use Rattle.contract_tree.specs.Tree.{FunctionTree}
 use Rattle.world_state.specs.Rows.{held_in}
-use Rattle.contract_meaning.specs.declared.site.CallSite.{CallSite}
-use Rattle.contract_meaning.specs.Answers.{IsFaithful}
-use Rattle.contract_meaning.specs.Calls.{call_result}
-use Rattle.contract_meaning.specs.Scenes.{Place, Scene, scene_of}
+use Rattle.contract_semantics.specs.declared.site.CallSite.{CallSite}
+use Rattle.contract_semantics.specs.Answers.{IsFaithful}
+use Rattle.contract_semantics.specs.Calls.{call_result}
+use Rattle.contract_semantics.specs.Scenes.{Place, Scene, scene_of}
 use Rattle.contract_laws.specs.Laws.{IsOwnAndUnwritten}
 use Rattle.contract_laws.proofs.TheLaws.{reads_are_of_versions_before}
 use Rattle.contract_laws.proofs.EndsWell.{puts_are_own_and_unwritten}

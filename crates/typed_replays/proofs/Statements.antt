@@ -7,12 +7,12 @@ use Rattle.lc_base.specs.declared.tx_status.TxStatus.TheVariants as statuses
 use Rattle.byte_fields.specs.Spelling.{IsValue}
 use Rattle.contract_tree.specs.Tree.{Tree, Trees, StatementTree, StatementTrees, no_statement, statements}
 use Rattle.contract_tree.specs.Tree as tree
-use Rattle.contract_meaning.specs.declared.charge.TheConstants.{CHARGE_NODE, CHARGE_PUT}
-use Rattle.contract_meaning.specs.declared.variable.Variable.{Variable}
-use Rattle.contract_meaning.specs.Operators.{holds}
-use Rattle.contract_meaning.specs.Scenes.{Scene}
-use Rattle.contract_meaning.specs.Steps.{Machine, Step}
-use Rattle.contract_meaning.specs.Statements.{Ending, Goes, Returns, Turn, Again, Ended, unless_returned, block_ended, declared, assigned, variable_index, value_replaced, tested, turn_again, loop_turn, after_turn, turns, parts_values, put_run, statement_run, statements_run}
+use Rattle.contract_semantics.specs.declared.charge.TheConstants.{CHARGE_NODE, CHARGE_PUT}
+use Rattle.contract_semantics.specs.declared.variable.Variable.{Variable}
+use Rattle.contract_semantics.specs.Operators.{holds}
+use Rattle.contract_semantics.specs.Scenes.{Scene}
+use Rattle.contract_semantics.specs.Steps.{Machine, Step}
+use Rattle.contract_semantics.specs.Statements.{Ending, Goes, Returns, Turn, Again, Ended, unless_returned, block_ended, declared, assigned, variable_index, value_replaced, tested, turn_again, loop_turn, after_turn, turns, parts_values, put_run, statement_run, statements_run}
 use Rattle.typed_replays.specs.Literals.{HasValues, PartsHaveValues, RunsValues, RunValues}
 use Rattle.typed_replays.proofs.Keeping.{Keeps, keeps_done, keeps_failed, keeps_charged, keeps_then, keeps_if}
 use Rattle.typed_replays.proofs.Reading.{IsTypedScene}

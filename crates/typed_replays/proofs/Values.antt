@@ -15,8 +15,8 @@ use Rattle.lc_base.specs.declared.tx_status.TxStatus.TheVariants as statuses
 use Rattle.byte_fields.specs.Spelling.{IsValue}
 use Rattle.contract_tree.specs.declared.tree.Sign.{Sign}
 use Rattle.contract_tree.specs.declared.tree.Sign.TheVariants as signs
-use Rattle.contract_meaning.specs.Numbers.{fits, is_zero, in_range, quotient, remainder, truth}
-use Rattle.contract_meaning.specs.Operators.{as_int, as_text, on_ints, on_texts, combined, prefixed, decided}
+use Rattle.contract_semantics.specs.Numbers.{fits, is_zero, in_range, quotient, remainder, truth}
+use Rattle.contract_semantics.specs.Operators.{as_int, as_text, on_ints, on_texts, combined, prefixed, decided}
 
 -- ---- numbers
 

@@ -6,7 +6,7 @@ use Rattle.block_codec.specs.Spelling.{IsBlock}
 use Rattle.block_codec.specs.declared.block.Block.{Block}
 use Rattle.chain_exec.specs.Compiled.{Compiler, IsCompiler}
 use Rattle.chain_exec.specs.Replay.{replay}
-use Rattle.chain_state.specs.Chain.{IsChain}
+use Rattle.chain_replay.specs.Chain.{IsChain}
 use Rattle.typed_ledger.specs.TypedLedger.{IsTypedLedger}
 use Rattle.typed_replays.specs.Chains.{IsLawfulChain}
 

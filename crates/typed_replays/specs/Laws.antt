@@ -7,9 +7,9 @@ use Rattle.lc_base.specs.declared.value.Value.{Value}
 use Rattle.byte_fields.specs.Spelling.{IsValue}
 use Rattle.contract_tree.specs.Tree.{FunctionTree}
 use Rattle.dep_capture.specs.Captured.{AreLawfulRows}
-use Rattle.contract_meaning.specs.declared.site.CallSite.{CallSite}
-use Rattle.contract_meaning.specs.Scenes.{scene_of}
-use Rattle.contract_meaning.specs.Calls.{call_result, rows_written}
+use Rattle.contract_semantics.specs.declared.site.CallSite.{CallSite}
+use Rattle.contract_semantics.specs.Scenes.{scene_of}
+use Rattle.contract_semantics.specs.Calls.{call_result, rows_written}
 use Rattle.world_state.specs.Rows.{held_in}
 use Rattle.block_codec.specs.Spelling.{IsBlock}
 use Rattle.block_codec.specs.Placement.{digest_of}

@@ -1,5 +1,5 @@
 use Rattle.std.proofs.lemmas.Result.{on_ok_weaker}
-use Rattle.history_root.specs.Naming.{header_of, body_of}
+use Rattle.root_laws.specs.Naming.{header_of, body_of}
 use Rattle.answer_exposing.proofs.Spelled.{few_links, few_deps, row_added}
 use Rattle.answer_exposing.proofs.rows.push_row.Goals as goal
 

@@ -1,5 +1,5 @@
 use Rattle.std.proofs.Common.{◌≡◌, ◌++◌, drop}
-use Rattle.chain_output.specs.Texts.{lines_after, lines_of}
+use Rattle.cli_output.specs.Texts.{lines_after, lines_of}
 use Rattle.chain_cli.proofs.fmt.lines_of.Given as goal
 
 abbrev pub invariant-loop-byte : goal.invariant-loop-byte

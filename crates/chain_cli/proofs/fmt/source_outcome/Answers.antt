@@ -1,6 +1,6 @@
 use Rattle.std.proofs.Common.{sym, ap, ◌∙◌}
-use Rattle.chain_lines.specs.Outcome.{bad_input}
-use Rattle.chain_output.specs.Output.{source_outcome}
+use Rattle.cli_lines.specs.Outcome.{bad_input}
+use Rattle.cli_output.specs.Output.{source_outcome}
 use Rattle.chain_cli.proofs.Fmts.{source_wanted}
 use Rattle.chain_cli.proofs.fmt.source_outcome.Goals as goal
 

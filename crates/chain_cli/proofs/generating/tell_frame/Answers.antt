@@ -1,6 +1,6 @@
 use Rattle.std.proofs.Common.{refl, ◌∙◌}
-use Rattle.chain_promises.proofs.Tellings.{none_told}
-use Rattle.chain_output.proofs.Plain.{plain_ok, plain_err}
+use Rattle.crash_promises.proofs.Tellings.{none_told}
+use Rattle.cli_output.proofs.Plain.{plain_ok, plain_err}
 use Rattle.chain_cli.proofs.generating.tell_frame.Goals as goal
 
 pub returns-in-Ok-tell-clause-lines : goal.returns-in-Ok-tell-clause-lines

@@ -1,5 +1,5 @@
 use Rattle.std.proofs.Common.{Some, refl}
-use Rattle.chain_words.specs.declared.words.Command.TheVariants.{Append}
+use Rattle.cli_words.specs.declared.words.Command.TheVariants.{Append}
 use Rattle.recovery.specs.Node.{next_in_chain}
 use Rattle.chain_cli.proofs.Runs.{append_run_is, append_refused}
 use Rattle.chain_cli.proofs.Ends.{answer_ends, answer_has_log}

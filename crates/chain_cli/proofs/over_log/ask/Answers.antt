@@ -1,10 +1,10 @@
 use Rattle.std.proofs.Common.{Some, refl}
 use Rattle.recovery.specs.Node.{next_in_chain}
 use Rattle.chain_exec.specs.Compiled.{compiled_in}
-use Rattle.chain_output.specs.Output.{answer_outcome, at_or_last}
-use Rattle.chain_words.specs.declared.words.Command.TheVariants.{Ask}
-use Rattle.chain_output.proofs.Ends.{asked_ends}
-use Rattle.chain_output.proofs.Meets.{asked_run, asked_refused}
+use Rattle.cli_output.specs.Output.{answer_outcome, at_or_last}
+use Rattle.cli_words.specs.declared.words.Command.TheVariants.{Ask}
+use Rattle.cli_output.proofs.Ends.{asked_ends}
+use Rattle.cli_output.proofs.Meets.{asked_run, asked_refused}
 use Rattle.chain_cli.proofs.over_log.ask.Goals as goal
 
 pub returns-in-Ok-clause-run : goal.returns-in-Ok-clause-run

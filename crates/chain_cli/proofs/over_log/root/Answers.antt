@@ -2,10 +2,10 @@ use Rattle.std.proofs.Common.{Some, refl}
 use Rattle.block_log.specs.Standing.{standing}
 use Rattle.recovery.specs.Node.{next_in_chain}
 use Rattle.chain_exec.specs.Compiled.{compiled_in}
-use Rattle.chain_output.specs.Output.{root_outcome, at_or_last}
-use Rattle.chain_words.specs.declared.words.Command.TheVariants.{Root}
-use Rattle.chain_output.proofs.Ends.{asked_ends}
-use Rattle.chain_output.proofs.Meets.{asked_run, asked_refused, chain_of_node}
+use Rattle.cli_output.specs.Output.{root_outcome, at_or_last}
+use Rattle.cli_words.specs.declared.words.Command.TheVariants.{Root}
+use Rattle.cli_output.proofs.Ends.{asked_ends}
+use Rattle.cli_output.proofs.Meets.{asked_run, asked_refused, chain_of_node}
 use Rattle.chain_cli.proofs.over_log.root.Goals as goal
 
 pub returns-in-Ok-clause-run : goal.returns-in-Ok-clause-run

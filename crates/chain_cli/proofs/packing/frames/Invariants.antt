@@ -1,5 +1,5 @@
 use Rattle.std.proofs.Common.{◌≡◌, map, take}
-use Rattle.chain_output.specs.Blocks.{frame}
+use Rattle.cli_output.specs.Blocks.{frame}
 use Rattle.chain_cli.proofs.packing.frames.Given as goal
 
 abbrev pub invariant-loop-block : goal.invariant-loop-block

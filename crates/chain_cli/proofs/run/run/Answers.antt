@@ -3,7 +3,7 @@ use Rattle.block_codec.specs.Reading.{block_in}
 use Rattle.block_codec.proofs.WholeBlocks.{decided}
 use Rattle.chain_exec.specs.Compiled.{compiled_in}
 use Rattle.chain_exec.proofs.TheLaws.{one_compiler}
-use Rattle.chain_output.specs.Output.{changes_log}
+use Rattle.cli_output.specs.Output.{changes_log}
 use Rattle.chain_cli.proofs.Runs.{with_status}
 use Rattle.chain_cli.proofs.Moments.{any_command}
 use Rattle.chain_cli.proofs.run.run.Goals as goal

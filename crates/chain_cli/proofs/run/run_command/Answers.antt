@@ -1,7 +1,7 @@
 use Rattle.std.proofs.Common.{Some, refl}
 use Rattle.recovery.specs.Node.{next_in_chain}
-use Rattle.chain_words.specs.declared.words.Command.TheVariants.{Scan, Fmt, Pack, Gen, Load, Append, Root, Ask, Prove, Verify, Expose}
-use Rattle.chain_output.specs.Telling.{status_of_result}
+use Rattle.cli_words.specs.declared.words.Command.TheVariants.{Scan, Fmt, Pack, Gen, Load, Append, Root, Ask, Prove, Verify, Expose}
+use Rattle.cli_output.specs.Telling.{status_of_result}
 use Rattle.chain_cli.proofs.Ends.{done_ends, load_ends, of_given, found_log, is_count}
 use Rattle.chain_cli.proofs.Runs.{scan_run, fmt_run, verify_run, pack_run, gen_run, load_run, of_command}
 use Rattle.chain_cli.proofs.run.run_command.Goals as goal

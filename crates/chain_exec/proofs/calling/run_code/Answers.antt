@@ -1,4 +1,4 @@
-use Rattle.contract_meaning.specs.Answers.{place_in}
+use Rattle.contract_semantics.specs.Answers.{place_in}
 use Rattle.chain_exec.proofs.TxRows.{call_run}
 use Rattle.chain_exec.proofs.calling.run_code.Goals as goal
 

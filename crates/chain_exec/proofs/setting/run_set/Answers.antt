@@ -1,6 +1,6 @@
 use Rattle.std.proofs.Common.{sym, refl, subst}
 use Rattle.lc_base.specs.declared.row.Row.{Row}
-use Rattle.contract_meaning.specs.Answers.{place_in}
+use Rattle.contract_semantics.specs.Answers.{place_in}
 use Rattle.chain_exec.specs.BlockRows.{AreTxRows}
 use Rattle.chain_exec.specs.Running.{deps_in}
 use Rattle.chain_exec.specs.declared.staging.TxRun.{TxRun}

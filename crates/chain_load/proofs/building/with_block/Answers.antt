@@ -2,8 +2,8 @@ use Rattle.std.proofs.Common.{◌+◌, ◌*◌, ◌≤◌, [], ◌∷◌, ◌++�
 use Rattle.block_codec.specs.declared.block.Block.{Block}
 use Rattle.dep_capture.specs.declared.limits.TheConstants.{MAX_KEYS_PUT}
 use Rattle.chain_exec.specs.Compiled.{compiled_in}
-use Rattle.chain_state.specs.Chain.{StandsFor}
-use Rattle.chain_state.proofs.Judgements.{added}
+use Rattle.chain_replay.specs.Chain.{StandsFor}
+use Rattle.chain_replay.proofs.Judgements.{added}
 use Rattle.chain_load.proofs.Placed.{judged_next, found_is, not_known, not_refused}
 use Rattle.chain_load.proofs.building.with_block.Goals as goal
 

@@ -1,5 +1,5 @@
 use Rattle.std.proofs.Common.{◌≡◌, ◌++◌, drop}
-use Rattle.contract_meaning.specs.Calls.{bound}
+use Rattle.contract_semantics.specs.Calls.{bound}
 use Rattle.contract_eval.proofs.calling.bound.Given as goal
 
 abbrev pub invariant-loop-i : goal.invariant-loop-i

@@ -1,7 +1,7 @@
 use Rattle.std.proofs.Common.{◌≡◌, ◌∙◌, length, get_or, take, map, ap, arith}
 use Rattle.std.proofs.Math.Seq.{take-length}
 use Rattle.std.proofs.lemmas.Option.{slice_get-get_or, slice_get_within}
-use Rattle.history_root.specs.Naming.{named_before, with_digest}
+use Rattle.root_laws.specs.Naming.{named_before, with_digest}
 use Rattle.plain_rows.proofs.Lists.{as_long}
 use Rattle.lineage_entries.proofs.Dependencies.{one_more, version_row}
 use Rattle.lineage_entries.proofs.bodies.body_deps.Goals as goal

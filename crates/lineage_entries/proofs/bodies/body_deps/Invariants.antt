@@ -1,7 +1,7 @@
 use Rattle.std.proofs.Common.{◌≡◌, ℕ, List, map, take}
 use Rattle.lc_base.specs.declared.row.Dep.{Dep}
 use Rattle.rows_index.specs.Users.{AreVersionsAt}
-use Rattle.history_root.specs.Naming.{named_before, with_digest}
+use Rattle.root_laws.specs.Naming.{named_before, with_digest}
 use Rattle.lineage_index.specs.Index.{IsIndexOf}
 use Rattle.lineage_entries.specs.Entries.{AreOlder}
 use Rattle.lineage_entries.proofs.bodies.body_deps.Given as goal

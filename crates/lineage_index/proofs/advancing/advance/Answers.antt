@@ -1,5 +1,5 @@
 use Rattle.std.proofs.Common.{◌++◌, ◌∙◌, [], sym, arith}
-use Rattle.history_root.specs.Root.{keys_of}
+use Rattle.root_laws.specs.Root.{keys_of}
 use Rattle.lineage_index.specs.Growth.{held, keys_touched}
 use Rattle.lineage_index.specs.Heads.{open_list}
 use Rattle.lineage_index.specs.Settling.{entry_or_fresh}

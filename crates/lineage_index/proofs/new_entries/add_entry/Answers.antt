@@ -1,6 +1,6 @@
 use Rattle.std.proofs.Common.{◌++◌, ◌∷◌, [], ◌∙◌, ap}
 use Rattle.std.proofs.lemmas.List.{append_assoc}
-use Rattle.history_root.specs.Root.{keys_of}
+use Rattle.root_laws.specs.Root.{keys_of}
 use Rattle.lineage_store.specs.Entries.{entries_of}
 use Rattle.lineage_index.specs.Growth.{entry_of, held}
 use Rattle.lineage_index.specs.NewEntries.{using}

@@ -2,7 +2,7 @@ use Rattle.std.proofs.Common.{◌∙◌, ◌+◌, ◌++◌, sym, ap, subst, List
 use Rattle.sha2.specs.Sha256.{sha256}
 use Rattle.lc_base.specs.declared.row.Row.{Row}
 use Rattle.prov_entry.specs.declared.entry.Leaf.{Leaf}
-use Rattle.history_root.specs.Root.{root_text}
+use Rattle.root_laws.specs.Root.{root_text}
 use Rattle.lineage_index.specs.Growth.{Grows}
 use Rattle.lineage_index.specs.Index.{IsIndexOf}
 use Rattle.merkle_dag.proofs.Keeping.{digests_are, grows, root_is, ledger_is, index_is, roots_are}

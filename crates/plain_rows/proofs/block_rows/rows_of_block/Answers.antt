@@ -1,6 +1,6 @@
 use Rattle.std.proofs.Common.{◌≡◌, ◌++◌, take, filter, arith}
 use Rattle.std.proofs.lemmas.Result.{IfOk-weaker}
-use Rattle.history_root.specs.Naming.{is_of_block}
+use Rattle.root_laws.specs.Naming.{is_of_block}
 use Rattle.plain_rows.proofs.OneBlock.{in_order, rows_between}
 use Rattle.plain_rows.proofs.block_rows.rows_of_block.Goals as goal
 

@@ -1,5 +1,5 @@
 use Rattle.std.proofs.Common.{◌≡◌, ◌-◌, List}
-use Rattle.lc_outside.specs.Disk.{Stays}
+use Rattle.lc_io.specs.Disk.{Stays}
 use Rattle.disk_model.specs.Disk.{content_of}
 use Rattle.block_codec.specs.declared.limits.TheConstants.{MAX_BLOCKS}
 use Rattle.block_log.specs.Reader.{AreRead}

@@ -2,7 +2,7 @@ use Rattle.std.proofs.Common.{◌≡◌, ◌∙◌, ◌+◌, ◌-◌, ◌≤◌,
 use Rattle.std.specs.List.{filter_map, range_with_len}
 use Rattle.std.proofs.lemmas.Bool.{cases_lt}
 use Rattle.std.proofs.lemmas.List.{length_push}
-use Rattle.version_path.specs.Towers.{last_at}
+use Rattle.skip_path.specs.Towers.{last_at}
 use Rattle.skip_list.specs.Towered.{block_of}
 use Rattle.skip_list.proofs.LinkTowers.{links_towered}
 use Rattle.skip_list.proofs.Rungs.{newest_read, bottom_rung, newest_below, next_level, level_link, all_links, levels_fit}

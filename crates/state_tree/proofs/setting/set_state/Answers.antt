@@ -1,6 +1,6 @@
 use Rattle.std.proofs.Common.{◌∙◌, []}
 use Rattle.std.proofs.lemmas.List.{get_or_default}
-use Rattle.history_root.specs.Root.{sentinel}
+use Rattle.root_laws.specs.Root.{sentinel}
 use Rattle.state_tree.proofs.Together.{said_back}
 use Rattle.state_tree.proofs.setting.set_state.Goals as goal
 

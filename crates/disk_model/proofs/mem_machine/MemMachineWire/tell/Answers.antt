@@ -1,6 +1,6 @@
 use Rattle.std.proofs.Common.{length}
 use Rattle.std.specs.Prelude.{Ok, Err}
-use Rattle.lc_outside.specs.declared.outside.Failed.{Failed}
+use Rattle.lc_io.specs.declared.outside.Failed.{Failed}
 use Rattle.disk_model.specs.Machine.{Told, Idle, MakesTell, with_wire_fault}
 use Rattle.disk_model.proofs.Replays.{makes_fault, tell_stays, tells}
 use Rattle.disk_model.proofs.mem_machine.MemMachineWire.tell.Goals as goal

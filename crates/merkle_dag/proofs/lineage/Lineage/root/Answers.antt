@@ -1,5 +1,5 @@
 use Rattle.std.proofs.Common.{length}
-use Rattle.history_root.specs.Root.{root_of}
+use Rattle.root_laws.specs.Root.{root_of}
 use Rattle.merkle_dag.proofs.LedgerSteps.{root_found}
 use Rattle.merkle_dag.proofs.lineage.Lineage.root.Goals as goal
 

@@ -4,9 +4,9 @@ use Rattle.lc_base.specs.declared.row.Row.{Row}
 use Rattle.chain_exec.specs.Compiled.{compiled_in}
 use Rattle.chain_exec.specs.Effect.{History}
 use Rattle.chain_exec.specs.Fold.{block_effects}
-use Rattle.chain_state.specs.Chain.{placement_in}
-use Rattle.chain_state.specs.Judging.{Added, IsNextBlock}
-use Rattle.chain_state.proofs.Judgements.{added_is_next}
+use Rattle.chain_replay.specs.Chain.{placement_in}
+use Rattle.chain_replay.specs.Judging.{Added, IsNextBlock}
+use Rattle.chain_replay.proofs.Judgements.{added_is_next}
 use Rattle.recovery.specs.Node.{NodeState, IsNodeOf}
 use Rattle.recovery.specs.contracts.node.Node.{the_view}
 use Rattle.recovery.proofs.Placing.{next_of_log}

@@ -2,10 +2,10 @@ use Rattle.std.proofs.Common.{sym, subst, Result}
 use Rattle.disk_model.specs.Disk.{Keeps}
 use Rattle.block_codec.specs.Reading.{block_in}
 use Rattle.chain_exec.specs.Compiled.{compiled_in}
-use Rattle.chain_state.specs.Chain.{StandsFor}
-use Rattle.chain_state.specs.Judging.{Taken, judged}
-use Rattle.chain_state.specs.declared.refusal.Refusal.{Refusal}
-use Rattle.chain_state.proofs.Judgements.{added}
+use Rattle.chain_replay.specs.Chain.{StandsFor}
+use Rattle.chain_replay.specs.Judging.{Taken, judged}
+use Rattle.chain_replay.specs.declared.refusal.Refusal.{Refusal}
+use Rattle.chain_replay.proofs.Judgements.{added}
 use Rattle.recovery.specs.Node.{NodeState, IsStepOf}
 use Rattle.recovery.proofs.Nodes.{still}
 use Rattle.recovery.proofs.node.Node.append.Goals as goal

@@ -1,0 +1,67 @@
+-- What the program's fold over the frames of an input answers, for its definition.
+use Rattle.std.specs.Prelude.{◌≡◌, ℕ, ◌+◌, ◌≤◌, List, [], ◌∷◌, ◌++◌, Option, Some, Result, Ok, Err}
+use Rattle.block_codec.specs.Frames.{frame_step}
+use Rattle.block_codec.specs.Reading.{block_in}
+use Rattle.block_codec.specs.declared.limits.TheConstants.{MAX_FRAMES}
+use Rattle.block_codec.specs.declared.block.Block.{Block}
+use Rattle.block_codec.specs.declared.frames.FrameError.{FrameError}
+use Rattle.block_codec.specs.declared.frames.FrameError.TheVariants as frames
+use Rattle.chain_exec.specs.Compiled.{compiled_in}
+use Rattle.chain_replay.specs.Chain.{ChainState, StandsFor}
+use Rattle.chain_replay.specs.Judging.{Taken, added_by, added_by_all}
+use Rattle.chain_replay.specs.declared.refusal.Refusal.{Refusal}
+use Rattle.chain_input.specs.Folding.{Fold, Whole, Refused, ends_at, taken_before, fold_step}
+use Rattle.chain_input.specs.declared.cause.Cause.{Cause}
+use Rattle.chain_input.specs.declared.cause.Cause.TheVariants as causes
+use Rattle.chain_input.specs.declared.folding.Folded.{Folded}
+use Rattle.chain_input.specs.declared.folding.Folded.TheVariants as found
+use Rattle.chain_input.specs.declared.folding.Turn.{Turn}
+use Rattle.chain_input.specs.declared.folding.Turn.TheVariants as turns
+use Rattle.chain_input.specs.declared.stop.Stop.{Stop}
+use Rattle.chain_input.specs.declared.stop.Stop.TheVariants.{Fault, Memory}
+
+-- The fold is found where it ends, with a chain that stands for the blocks that it adds, and what
+-- follows is left.
+abbrev pub IsFoldResult : Folded → Option (List ℕ) → Fold → Type 0
+IsFoldResult (found.Whole chain) left fold = (fold.end ≡ Whole) × StandsFor chain (added_by_all fold.taken) × (left ≡ Some fold.left)
+IsFoldResult (found.Refused frame cause) left fold = (fold.end ≡ Refused frame cause) × (left ≡ Some fold.left)
+
+-- What became of a chain of blocks on a frame: it stands for these and those that the frame adds, or
+-- the frame is refused as it is judged.
+abbrev pub IsTakenIn : List Block → Result ChainState Refusal → Result Taken Refusal → Type 0
+IsTakenIn blocks (Ok kept) judgement = (frame : Taken) × (judgement ≡ Ok frame) × StandsFor kept (blocks ++ added_by frame)
+IsTakenIn blocks (Err refusal) judgement = judgement ≡ Err refusal
+
+-- What an error of the frames says of the input, or that it says nothing.
+abbrev pub IsCauseOf : FrameError → Result Cause Stop → Type 0
+IsCauseOf frames.Truncated result = result ≡ Ok causes.Truncated
+IsCauseOf (frames.Length count) result = result ≡ Ok (causes.Length count)
+IsCauseOf frames.Many result = result ≡ Ok causes.Many
+IsCauseOf frames.Fault result = result ≡ Err Fault
+IsCauseOf frames.Memory result = result ≡ Err Memory
+
+-- ---- one look at the start of an input
+
+-- One step of the fold at the start of an input.
+abbrev pub step_at_start : (List Block → List ℕ → Fold) → ℕ → List Block → List ℕ → Fold
+step_at_start next taken blocks input = fold_step block_in compiled_in next taken blocks input (frame_step taken input)
+
+-- What a look at the start of the input finds, of which so many frames were taken into a chain:
+-- that it has ended, a chain with the frame taken in and what follows it, or why the frame is
+-- refused and what follows what was taken.
+abbrev pub FindsTurn : ChainState → ℕ → List Block → List ℕ → Option (List ℕ) → Turn → Type 0
+FindsTurn chain taken blocks input left (turns.Ended same) = (same ≡ chain) × (left ≡ Some []) × ((next : List Block → List ℕ → Fold) → step_at_start next taken blocks input ≡ ends_at Whole [])
+FindsTurn chain taken blocks input left (turns.Taken longer more) =
+    (frame : Taken) × (rest : List ℕ) × StandsFor longer (blocks ++ added_by frame) × (left ≡ Some rest)
+    × ((next : List Block → List ℕ → Fold) → step_at_start next taken blocks input ≡ taken_before (frame ∷ []) (next (blocks ++ added_by frame) rest))
+FindsTurn chain taken blocks input left (turns.Refused cause) =
+    (rest : List ℕ) × (left ≡ Some rest) × ((next : List Block → List ℕ → Fold) → step_at_start next taken blocks input ≡ ends_at (Refused taken cause) rest)
+
+-- The same, whatever blocks the chain stands for.
+abbrev pub IsTurn : ChainState → ℕ → List ℕ → Option (List ℕ) → Turn → Type 0
+IsTurn chain taken input left turn = (blocks : List Block) → StandsFor chain blocks → FindsTurn chain taken blocks input left turn
+
+-- A frame that is taken in is counted, and at most MAX_FRAMES are.
+abbrev pub CountsFrames : ℕ → Turn → Type 0
+CountsFrames taken (turns.Taken longer more) = (more ≡ taken + 1) × (more ≤ MAX_FRAMES)
+CountsFrames taken turn = Unit {0}

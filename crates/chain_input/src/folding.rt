@@ -1,0 +1,118 @@
+//! The frames of an input, taken one after another into a chain.
+
+ghost use Rattle.lc_base.specs.Faults.{HasCause};
+ghost use Rattle.std.specs.Prelude.{◌≡◌, [], IfOk, IfSome, List, IsErrOf};
+ghost use Rattle.lc_base.specs.Faults.{Rose};
+ghost use Rattle.block_codec.specs.Reading.{block_in};
+ghost use Rattle.block_codec.specs.declared.block.Block.{Block as Blocks};
+ghost use Rattle.chain_exec.specs.Compiled.{compiled_in};
+ghost use Rattle.chain_replay.specs.Chain.{StandsFor};
+ghost use Rattle.chain_replay.specs.Judging.{judged};
+ghost use Rattle.chain_input.specs.Folding.{fold_input};
+ghost use Rattle.chain_input.specs.Turns.{IsTakenIn, IsFoldResult, IsCauseOf, IsTurn, CountsFrames};
+
+use crate::cause::Cause;
+use crate::stop::Stop;
+use block_codec::{FrameError, Frames};
+use chain_replay::{Chain, Judged, Refusal, Replay};
+use lc_base::Memory;
+use lc_io::Source;
+use std::alloc::Global;
+
+/// Where the frames of an input end.
+#[derive(Drop)]
+pub enum Folded {
+    /// All were taken into this chain.
+    Whole(Chain),
+    /// One is refused: its number, from 0, and why.
+    Refused { frame: u32, cause: Cause },
+}
+
+/// What became of looking once at the start of the input.
+#[derive(Drop)]
+enum Turn {
+    /// The input has ended.
+    Ended(Chain),
+    /// A frame was taken in.
+    Taken(Chain, Frames),
+    /// A frame is refused.
+    Refused(Cause),
+}
+
+/// A frame as what its bytes are to the chain.
+fn take_frame(alloc: Global, chain: Chain, frame: &[u8]) -> Result<Result<Chain, Refusal>, Memory>
+    ensures { IfOk result (λ taken. (blocks : List Blocks) → StandsFor chain blocks → IsTakenIn blocks taken (judged compiled_in blocks (block_in frame.now))) }
+{
+    match chain.judge(alloc, frame) {
+        Ok(Judged::Known { .. }) => Ok(Ok(chain)),
+        Ok(Judged::Next { block, digest }) => {
+            let (chain, _) = chain.extended(alloc, &block, digest)?;
+            Ok(Ok(chain))
+        }
+        Ok(Judged::Refused(refusal)) => {
+            chain.give_up();
+            Ok(Err(refusal))
+        }
+        Err(Memory) => {
+            chain.give_up();
+            Err(Memory)
+        }
+    }
+}
+
+/// Why no further frame could be taken: what it says of the input, or that it says nothing.
+fn cause_of(error: FrameError) -> Result<Cause, Stop>
+    ensures { IsCauseOf error result }
+{
+    match error {
+        FrameError::Truncated => Ok(Cause::Truncated),
+        FrameError::Length(count) => Ok(Cause::Length(count)),
+        FrameError::Many => Ok(Cause::Many),
+        FrameError::Fault => Err(Stop::Fault),
+        FrameError::Memory => Err(Stop::Memory),
+    }
+}
+
+/// Looks once at the start of the input.
+fn look<I: Source>(
+    alloc: Global,
+    chain: Chain,
+    frames: Frames,
+    source: &mut I,
+) -> Result<Turn, Stop>
+    ensures turn { IfSome (I.left source.old) (λ input. IfOk result (IsTurn chain frames input (I.left source.new))) }
+    ensures count { IfOk result (CountsFrames frames) }
+    ensures cause { HasCause (I.source_faults source.old) (I.source_faults source.new) (IsErrOf result Stop.Fault) }
+{
+    match frames.next(alloc, source) {
+        Ok(None) => Ok(Turn::Ended(chain)),
+        Ok(Some((frame, more))) => match take_frame(alloc, chain, frame.as_bytes())? {
+            Ok(chain) => Ok(Turn::Taken(chain, more)),
+            Err(refusal) => Ok(Turn::Refused(Cause::Block(refusal))),
+        },
+        Err(error) => {
+            chain.give_up();
+            Ok(Turn::Refused(cause_of(error)?))
+        }
+    }
+}
+
+/// Takes the frames of the input one after another into a chain, from no block.
+pub fn fold<I: Source>(alloc: Global, source: &mut I) -> Result<Folded, Stop>
+    ensures fold { IfSome (I.left source.old) (λ input. IfOk result (λ folded. IsFoldResult folded (I.left source.new) (fold_input block_in compiled_in input))) }
+    ensures cause { HasCause (I.source_faults source.old) (I.source_faults source.new) (IsErrOf result Stop.Fault) }
+{
+    let mut chain = Chain::new(alloc);
+    let mut frames = Frames::new();
+    'turns: loop {
+        let frame = frames.taken();
+        match look(alloc, chain, frames, source)? {
+            Turn::Ended(whole) => return Ok(Folded::Whole(whole)),
+            Turn::Taken(longer, more) => {
+                chain = longer;
+                frames = more;
+            }
+            Turn::Refused(cause) => return Ok(Folded::Refused { frame, cause }),
+        }
+    }
+}

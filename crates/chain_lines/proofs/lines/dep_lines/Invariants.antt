@@ -1,6 +1,0 @@
-use Rattle.std.proofs.Common.{◌≡◌, ◌∷◌, map, take}
-use Rattle.chain_lines.specs.Lines.{dep_line}
-use Rattle.chain_lines.proofs.lines.dep_lines.Given as goal
-
-abbrev pub invariant-loop-dep : goal.invariant-loop-dep
-invariant-loop-dep l = l.lines ≡ l.fn.head ∷ map dep_line (take l.dep-index l.deps)

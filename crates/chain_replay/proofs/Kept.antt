@@ -1,0 +1,68 @@
+-- What is kept of a chain, after its next block.
+use Rattle.std.proofs.Common.{◌≡◌, ℕ, ◌+◌, ◌<◌, ◌≤◌, Bool, true, false, cond, eqb, List, [], ◌∷◌, ◌++◌, length, Option, Some, None, refl, sym, ap, subst, ◌∙◌, arith, inl, inr}
+use Rattle.std.specs.Prelude.{◌||◌, nat_lt}
+use Rattle.std.specs.List.{All}
+use Rattle.std.proofs.lemmas.Bool.{both_ways, eq-eqb, cases_lt}
+use Rattle.std.proofs.lemmas.List.{length-append}
+use Rattle.lc_base.specs.History.{IsLawful}
+use Rattle.lc_base.specs.declared.digest.Digest.{Digest}
+use Rattle.lc_base.specs.declared.row.Row.{Row}
+use Rattle.block_codec.specs.Placement.{placement, is_same_digest}
+use Rattle.block_codec.specs.declared.limits.TheConstants.{MAX_BLOCKS, MAX_TXS, MAX_ROWS_BEFORE_BLOCK}
+use Rattle.block_codec.specs.declared.block.Block.{Block}
+use Rattle.block_codec.specs.declared.placement.Placement.{Placement}
+use Rattle.block_codec.specs.declared.placement.Placement.TheVariants.{Known as KnownBlock, Next, Fork, Full}
+use Rattle.contract_tree.specs.declared.tree.Contract.{Contract}
+use Rattle.world_state.specs.Known.{Known}
+use Rattle.world_state.specs.World.{newest_of, StandsForRows}
+use Rattle.world_state.specs.declared.held.Held.{Held}
+use Rattle.chain_exec.specs.BlockRows.{AreBlockRows}
+use Rattle.chain_exec.proofs.TheLaws.{blocks_keep_lawful, blocks_keep_order}
+use Rattle.chain_replay.specs.Chain.{IsKept}
+
+-- ---- a block that is next has room
+
+not_held : (same : Bool) (have : Digest) → Next ≡ cond same KnownBlock (Fork have) → ⊥
+not_held true have next = absurd cc
+not_held false have next = absurd cc
+
+not_full : (full : Bool) (rest : Placement) → Next ≡ cond full Full rest → full ≡ false
+not_full true rest next = absurd cc
+not_full false rest next = refl
+
+or_false : (a b : Bool) → (a || b) ≡ false → a ≡ false
+or_false true b e = e
+or_false false b e = refl
+
+pub next_room : (held rows : ℕ) (have : Option Digest) (parent : Digest) (block : Block) (digest : Digest) → Next ≡ placement held rows have parent block digest → held ≤ MAX_BLOCKS → held < MAX_BLOCKS
+next_room held rows (Some have) parent block digest next few = absurd (not_held (is_same_digest have digest) have next)
+next_room held rows None parent block digest next few =
+    let not_last : eqb held MAX_BLOCKS ≡ false = or_false (eqb held MAX_BLOCKS) (nat_lt MAX_ROWS_BEFORE_BLOCK rows) (not_full _ _ next) in
+    elim (cases_lt held MAX_BLOCKS) [
+      | inl room ↦ room
+      | inr past ↦ let last : held ≡ MAX_BLOCKS = omega (arith, past, few) in absurd (both_ways (eqb held MAX_BLOCKS) not_last (eq-eqb held MAX_BLOCKS last))
+    ]
+
+-- ---- the rows of the next block
+
+module _ (digests : List Digest) (rows : List Row) (world : Known Contract) (more : List Row) (number count : ℕ) (kept : IsKept digests rows world) (is : number ≡ length digests) where
+  below : All (λ (row : Row). row.block < number) rows
+  below = subst (λ (n : ℕ). All (λ (row : Row). row.block < n) rows) (sym is) kept.held
+
+  pub next_lawful : length rows ≤ MAX_ROWS_BEFORE_BLOCK → count ≤ MAX_TXS → AreBlockRows (newest_of world) number count more → IsLawful (rows ++ more)
+  next_lawful room few written =
+      blocks_keep_lawful rows more number count kept.lawful below room few
+      (subst (λ (newest : List ℕ → Option Held). AreBlockRows newest number count more) (λ i key. kept.stands key i) written)
+
+  pub next_kept : (after : Known Contract) (digest : Digest) → length digests < MAX_BLOCKS → IsLawful (rows ++ more) → AreBlockRows (newest_of world) number count more
+      → StandsForRows after (rows ++ more) → after.staged ≡ [] → after.staged_codes ≡ [] → IsKept (digests ++ digest ∷ []) (rows ++ more) after
+  next_kept after digest room lawful written stands no_rows no_codes =
+      let longer : length (digests ++ digest ∷ []) ≡ number + 1 = length-append digests (digest ∷ []) ∙ ap (λ (n : ℕ). n + 1) (sym is) in
+      record {
+        few = omega (arith, room, longer, is);
+        lawful = lawful;
+        held = subst (λ (n : ℕ). All (λ (row : Row). row.block < n) (rows ++ more)) (sym longer) (blocks_keep_order rows more (newest_of world) number count below written);
+        stands = stands;
+        no_rows = no_rows;
+        no_codes = no_codes;
+      }

@@ -1,0 +1,73 @@
+-- What bytes are to a chain.
+use Rattle.std.specs.Prelude.{◌≡◌, ℕ, List, [], ◌∷◌, Result, Ok, Err}
+use Rattle.std.specs.List.{flat_map}
+use Rattle.lc_base.specs.declared.digest.Digest.{Digest}
+use Rattle.block_codec.specs.Reading.{block_in}
+use Rattle.block_codec.specs.Spelling.{IsBlock}
+use Rattle.block_codec.specs.Placement.{digest_of}
+use Rattle.block_codec.specs.declared.block.Block.{Block}
+use Rattle.block_codec.specs.declared.placement.Placement.{Placement}
+use Rattle.block_codec.specs.declared.placement.Placement.TheVariants as placements
+use Rattle.chain_exec.specs.Compiled.{Compiler}
+use Rattle.chain_replay.specs.Chain.{ChainState, HasRoom, placement_in, placement_kept}
+use Rattle.chain_replay.specs.declared.refusal.Refusal.{Refusal}
+use Rattle.chain_replay.specs.declared.refusal.Refusal.TheVariants as refusals
+use Rattle.chain_replay.specs.declared.judging.Judged.{Judged}
+use Rattle.chain_replay.specs.declared.judging.Judged.TheVariants as judgements
+
+-- Bytes that are not refused spell a block that the chain holds already, or its next one.
+pub data Taken : Type 0 where
+  Known : Block → Taken
+  Added : Block → Taken
+
+-- Where a block stands decides.
+abbrev pub judged_by_placement : Block → Placement → Result Taken Refusal
+judged_by_placement block placements.Known = Ok (Known block)
+judged_by_placement block placements.Next = Ok (Added block)
+judged_by_placement block (placements.Fork have) = Err (refusals.Fork have)
+judged_by_placement block placements.Full = Err refusals.Full
+judged_by_placement block (placements.Number want) = Err (refusals.Number want)
+judged_by_placement block (placements.Parent want) = Err (refusals.Parent want)
+judged_by_placement block (placements.Budget sum) = Err (refusals.Budget sum)
+
+-- What the bytes spell decides: a block, or the offset at which they are invalid.
+abbrev pub judged : Compiler → List Block → Result Block ℕ → Result Taken Refusal
+judged compile blocks (Ok block) = judged_by_placement block (placement_in compile blocks block)
+judged compile blocks (Err offset) = Err (refusals.Malformed offset)
+
+-- The blocks that are added by bytes that were taken: none, or their own.
+abbrev pub added_by : Taken → List Block
+added_by (Known block) = []
+added_by (Added block) = block ∷ []
+
+-- All blocks that are added, in order.
+abbrev pub added_by_all : List Taken → List Block
+added_by_all taken = flat_map added_by taken
+
+-- ---- what a chain tells
+
+-- A chain tells the judgement.
+abbrev pub IsJudged : Judged → Result Taken Refusal → Type 0
+IsJudged (judgements.Known number) judgement = (block : Block) × (judgement ≡ Ok (Known block)) × (number ≡ block.number)
+IsJudged (judgements.Next block digest) judgement = judgement ≡ Ok (Added block)
+IsJudged (judgements.Refused refusal) judgement = judgement ≡ Err refusal
+
+-- The block and its digest are so, where one is next.
+abbrev pub IfNext : Judged → (Block → Digest → Type 0) → Type 0
+IfNext (judgements.Known number) P = Unit {0}
+IfNext (judgements.Next block digest) P = P block digest
+IfNext (judgements.Refused refusal) P = Unit {0}
+
+-- It is this block with its digest, and this is where the next block stands.
+pub record IsPlacedBlock (block : Block) (digest : Digest) (placement : Placement) (next : Block) (next_digest : Digest) : Type 0 where
+  pub block_is : next ≡ block
+  pub digest_is : next_digest ≡ digest
+  pub is_next : placement ≡ placements.Next
+
+-- Bytes spell this block, which has this digest and is the next one of what is kept.
+pub record IsNextBlock (kept : ChainState) (bytes : List ℕ) (block : Block) (digest : Digest) : Type 0 where
+  pub decoded : block_in bytes ≡ Ok block
+  pub lawful : IsBlock block
+  pub digest_is : digest ≡ digest_of block
+  pub room : HasRoom kept block
+  pub placed : placement_kept kept block digest ≡ placements.Next

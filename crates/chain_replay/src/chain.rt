@@ -1,0 +1,170 @@
+//! A chain of blocks.
+
+ghost use Rattle.std.specs.Prelude.{◌≡◌, List, [], ◌∷◌, ◌++◌, length, IfOk, OnOk};
+ghost use Rattle.lc_base.specs.History.{IsLawful, scan};
+ghost use Rattle.block_codec.specs.Spelling.{IsBlock};
+ghost use Rattle.block_codec.specs.Placement.{digest_of, last_digest};
+ghost use Rattle.block_codec.specs.declared.block.Block.{Block as Blocks};
+ghost use Rattle.chain_exec.specs.Compiled.{compiled_in};
+ghost use Rattle.chain_replay.specs.Chain.{nothing_kept, placement_in, HasRoom, IsAfter, StandsFor};
+
+use crate::replaying::Replay;
+use crate::running::run_next;
+use block_codec::{Block, NO_PARENT, Placement, place};
+use chain_exec::BlockRun;
+use contract_check::Checked;
+use lc_base::{Answer, Digest, DigestList, Memory, Query, RowList};
+use plain_rows::PlainRows;
+use std::alloc::Global;
+use std::marker::Model;
+use world_state::World;
+
+/// What is kept of a chain: the digest of each block, the rows of all, and the state that the next
+/// block runs on.
+#[derive(Drop)]
+pub struct Chain {
+    digests: DigestList,
+    rows: PlainRows,
+    world: World<Checked>,
+}
+
+impl Model for Chain {
+    ghost use Rattle.chain_replay.specs.Chain.{ChainState, IsKept};
+    ghost use Rattle.contract_tree.specs.contracts.tree.Contract as contracts;
+    ghost use Rattle.std.specs.Coded.{codes};
+
+    ghost Value = { ChainState };
+
+    ghost coded = { Prim.hlevel (codes, contracts.the_row.coded) };
+
+    ghost view = { λ chain. record { digests = chain.digests; rows = chain.rows; codes = chain.world.codes } };
+
+    ghost invariant = { λ chain. IsKept chain.digests chain.rows chain.world };
+}
+
+/// Keeps the digest and the rows of a block after those of the others. On `Memory` only some of
+/// them may be kept.
+fn record(
+    digests: &mut DigestList,
+    digest: Digest,
+    rows: &mut PlainRows,
+    more: &RowList,
+) -> Result<(), Memory>
+    requires lawful { IsLawful (rows.old ++ more.now) }
+    ensures digests { OnOk result (digests.new ≡ digests.old ++ digest ∷ []) }
+    ensures rows { OnOk result (rows.new ≡ rows.old ++ more.now) }
+{
+    digests.push(digest)?;
+    rows.add(more)
+}
+
+/// Drops a world, whose many parts are dropped here alone.
+fn discard(_world: World<Checked>) {}
+
+impl Chain {
+    /// No block yet. It takes no memory.
+    pub fn new(alloc: Global) -> Chain
+        ensures { result ≡ nothing_kept }
+    {
+        Chain {
+            digests: DigestList::new(alloc),
+            rows: PlainRows::new(alloc),
+            world: World::new(alloc),
+        }
+    }
+
+    /// The number of its blocks, at most `MAX_BLOCKS`.
+    pub fn len(&self) -> u32
+        ensures { result ≡ length self.now.digests }
+    {
+        self.digests.len() as u32
+    }
+
+    /// The answer to a question over its rows.
+    pub fn ask(&mut self, query: &Query) -> Result<Answer, Memory>
+        ensures answer { IfOk result (λ answer. answer ≡ scan self.old.rows query.now) }
+        ensures unchanged { self.new ≡ self.old }
+    {
+        self.rows.ask(query)
+    }
+
+    /// The digest of the last block, or `NO_PARENT` where there is none.
+    fn last_digest(&self) -> Digest
+        ensures { result ≡ last_digest self.now.digests }
+    {
+        match self.digests.as_slice().last() {
+            Some(digest) => *digest,
+            None => NO_PARENT,
+        }
+    }
+
+    /// The chain with the next block after the others, and what this block did. On `Memory` the
+    /// chain is given up.
+    pub fn extended(
+        self,
+        alloc: Global,
+        block: &Block,
+        digest: Digest,
+    ) -> Result<(Chain, BlockRun), Memory>
+        requires room { HasRoom self block.now }
+        requires is_block { IsBlock block.now }
+        ensures after { IfOk result (λ done. IsAfter self block.now digest done.0 done.1) }
+        ensures stands { IfOk result (λ done. (blocks : List Blocks) → StandsFor self blocks → digest ≡ digest_of block.now → placement_in compiled_in blocks block.now ≡ Placement.Next → StandsFor done.0 (blocks ++ block.now ∷ [])) }
+    {
+        let Chain {
+            mut digests,
+            mut rows,
+            mut world,
+        } = self;
+        let run = match run_next(alloc, &mut rows, &mut world, block) {
+            Ok(run) => run,
+            Err(Memory) => {
+                discard(world);
+                return Err(Memory);
+            }
+        };
+        let world = world.commit()?;
+        match record(&mut digests, digest, &mut rows, &run.rows) {
+            Ok(()) => {
+                let chain = Chain {
+                    digests,
+                    rows,
+                    world,
+                };
+                Ok((chain, run))
+            }
+            Err(Memory) => {
+                discard(world);
+                Err(Memory)
+            }
+        }
+    }
+}
+
+impl Replay for Chain {
+    ghost kept = { λ chain. chain };
+
+    fn start(alloc: Global) -> Result<Chain, Memory> {
+        Ok(Chain::new(alloc))
+    }
+
+    fn place(&self, block: &Block, digest: Digest) -> Placement {
+        let have = self.digests.get(block.number as usize).copied();
+        let rows = self.rows.len() as u64;
+        place(self.len(), rows, have, self.last_digest(), block, digest)
+    }
+
+    fn replay(self, alloc: Global, block: &Block, digest: Digest) -> Result<Chain, Memory> {
+        let (longer, _) = self.extended(alloc, block, digest)?;
+        Ok(longer)
+    }
+
+    fn give_up(self) {
+        let Chain {
+            digests: _digests,
+            rows: _rows,
+            world,
+        } = self;
+        discard(world);
+    }
+}

@@ -1,0 +1,378 @@
+-- The frames taken so far, and those that are left.
+use Rattle.std.proofs.Common.{◌≡◌, inl, inr, ℕ, suc, ◌+◌, ◌-◌, ◌≤◌, Bool, true, false, List, [], ◌∷◌, ◌++◌, drop, refl, sym, ◌∙◌, ap, subst, arith, append_assoc, append-nil}
+use Rattle.std.specs.Prelude.{Option, Some, None, Result, Ok, Err, is_ok, IfOk, IfSome, take}
+use Rattle.lc_io.specs.Disk.{DiskState, Stays}
+use Rattle.lc_io.specs.Outside.{Tell}
+use Rattle.disk_model.specs.Disk.{Keeps, Rests}
+use Rattle.disk_model.proofs.Calls.{stay_keeps}
+use Rattle.disk_model.proofs.Moments.{started, then_keeps, weaker, stays_on, stays_here}
+use Rattle.block_codec.specs.Frames.{frame_step, IsFrameAnswer}
+use Rattle.block_codec.specs.Reading.{block_in}
+use Rattle.block_codec.specs.declared.limits.TheConstants.{MAX_FRAMES}
+use Rattle.block_codec.specs.declared.block.Block.{Block}
+use Rattle.block_codec.specs.declared.frames.FrameError.{FrameError}
+use Rattle.block_codec.specs.declared.frames.FrameError.TheVariants as frames
+use Rattle.chain_exec.specs.Compiled.{compiled_in}
+use Rattle.chain_replay.specs.Judging.{Taken, judged, added_by, added_by_all}
+use Rattle.chain_replay.specs.declared.refusal.Refusal.{Refusal}
+use Rattle.cli_lines.specs.Lines.{refused_line}
+use Rattle.chain_input.specs.Folding.{Fold, FoldEnd, Whole, Refused, ends_at, taken_before, fold_after_frame, fold_step, fold_from}
+use Rattle.chain_input.specs.declared.cause.Cause.{Cause}
+use Rattle.chain_input.specs.declared.cause.Cause.TheVariants as causes
+use Rattle.recovery.specs.Node.{NodeState, IsNodeOf, IsStepOf, next_in_chain, chain_in}
+use Rattle.crash_promises.specs.Promises.{Line, plain, KeepsLines, IsPartly, Telling}
+use Rattle.crash_promises.proofs.Tellings.{none_to_tell, join, longer, still}
+use Rattle.crash_promises.proofs.Sure.{AreSure, all_sure_more, sure_push, all_sure_kept, partly_more, partly_held, partly_longer}
+use Rattle.cli_append.specs.Appending.{IsTold, line_of, lines_of, end_lines, fold_lines, fold_end, HasEnded, AppendsAll, GoesFrom}
+use Rattle.cli_append.specs.Steps.{IsCauseOf, lines_for, added_for, Takes}
+use Rattle.cli_append.specs.declared.ending.AppendEnd.{AppendEnd}
+use Rattle.cli_append.specs.declared.ending.AppendEnd.TheVariants as ends
+use Rattle.cli_append.specs.declared.ending.AppendStop.{AppendStop}
+use Rattle.cli_append.proofs.Promised.{line_sure, added_append, added_push, lines_append}
+use Rattle.cli_append.proofs.Frames.{rests_each, stands_at, still_told}
+
+-- ---- the fold
+
+-- all frames of an input, from these blocks on
+abbrev fold_all : List Block → List ℕ → Fold
+fold_all blocks input = fold_from block_in compiled_in (MAX_FRAMES + 1) blocks input
+
+-- one step of the fold at the start of an input
+abbrev step_at_start : (List Block → List ℕ → Fold) → ℕ → List Block → List ℕ → Fold
+step_at_start next count blocks input = fold_step block_in compiled_in next count blocks input (frame_step count input)
+
+taken_taken : (a b : List Taken) (fold : Fold) → taken_before a (taken_before b fold) ≡ taken_before (a ++ b) fold
+taken_taken a b fold = ap (λ (all : List Taken). record { taken = all; end = fold.end; left = fold.left }) (sym (append_assoc a b fold.taken))
+
+-- one look at the start of the input
+folded_turn : (count : ℕ) (blocks : List Block) (rest : List ℕ) → count ≤ MAX_FRAMES → fold_from block_in compiled_in (MAX_FRAMES + 1 - count) blocks rest ≡ step_at_start (fold_from block_in compiled_in (MAX_FRAMES - count)) count blocks rest
+unfolding fold_from
+folded_turn count blocks rest bound =
+    let m : ℕ = MAX_FRAMES - count in
+    let e : MAX_FRAMES + 1 - count ≡ suc m = omega arith in
+    let t : MAX_FRAMES - m ≡ count = omega arith in
+    ap (λ (n : ℕ). fold_from block_in compiled_in n blocks rest) e ∙ ap (λ (n : ℕ). fold_step block_in compiled_in (fold_from block_in compiled_in m) n blocks rest (frame_step n rest)) t
+
+-- ---- one frame that was judged
+
+partly_step : (first added blocks : List Block) (judgement : Result Taken Refusal) (image : List ℕ) → blocks ≡ first ++ added → IsStepOf blocks judgement image → IsPartly next_in_chain first (added ++ added_for judgement) image
+partly_step first added blocks (Ok frame) image same (inl is) = partly_held next_in_chain first added (added_by frame) blocks image same is
+partly_step first added blocks (Ok frame) image same (inr is) = partly_longer next_in_chain first added (added_by frame) blocks image same is
+partly_step first added blocks (Err refusal) image same is = partly_held next_in_chain first added [] blocks image same is
+
+kept_step : (blocks : List Block) (lines : List Line) (judgement : Result Taken Refusal) (image : List ℕ) → AreSure blocks lines → IsStepOf blocks judgement image → KeepsLines next_in_chain lines image
+kept_step blocks lines (Ok frame) image sure (inl is) = all_sure_kept next_in_chain blocks [] lines image sure (is ∙ ap Some (sym (append-nil blocks)))
+kept_step blocks lines (Ok frame) image sure (inr is) = all_sure_kept next_in_chain blocks (added_by frame) lines image sure is
+kept_step blocks lines (Err refusal) image sure is = all_sure_kept next_in_chain blocks [] lines image sure (is ∙ ap Some (sym (append-nil blocks)))
+
+-- lists that are empty together are both empty
+both_empty : (a b : List Block) → a ++ b ≡ [] → (a ≡ []) × (b ≡ [])
+both_empty [] b none = (refl, none)
+both_empty (block ∷ a) b none = absurd (cc none)
+
+-- ---- what is left of the input goes on as the whole input does
+
+pub record Leads (input : List ℕ) (left : Option (List ℕ)) (count : ℕ) (first blocks : List Block) (taken : List Taken) : Type 0 where
+  pub rest : List ℕ
+  pub left_is : left ≡ Some rest
+  pub same : fold_all first input ≡ taken_before taken (fold_from block_in compiled_in (MAX_FRAMES + 1 - count) blocks rest)
+
+-- the fold ends here
+pub record FoldEnds (count : ℕ) (blocks : List Block) (rest : List ℕ) (left : Option (List ℕ)) (end : FoldEnd) : Type 0 where
+  pub behind_it : List ℕ
+  pub left_is : left ≡ Some behind_it
+  pub is_end : (next : List Block → List ℕ → Fold) → step_at_start next count blocks rest ≡ ends_at end behind_it
+
+frames_end : (count : ℕ) (blocks : List Block) (before left : Option (List ℕ)) (rest : List ℕ) → before ≡ Some rest → IfSome before (λ input. IsFrameAnswer count input (Ok None) left) → FoldEnds count blocks rest left Whole
+frames_end count blocks before left rest is answer =
+    let a = subst (λ (o : Option (List ℕ)). IfSome o (λ input. IsFrameAnswer count input (Ok None) left)) is answer in
+    record { behind_it = []; left_is = a.1; is_end = λ next. ap (fold_step block_in compiled_in next count blocks rest) a.0 }
+
+error_ends : (count : ℕ) (blocks : List Block) (rest : List ℕ) (left : Option (List ℕ)) (error : FrameError) (cause : Cause) → IsFrameAnswer count rest (Err error) left → IsCauseOf error (Ok cause) → FoldEnds count blocks rest left (Refused count cause)
+error_ends count blocks rest left frames.Truncated cause a e = record { behind_it = []; left_is = a.1; is_end = λ next. ap (fold_step block_in compiled_in next count blocks rest) a.0 ∙ ap (λ (c : Cause). ends_at (Refused count c) []) (sym (cc e)) }
+error_ends count blocks rest left (frames.Length size) cause a e = record { behind_it = drop 4 rest; left_is = a.1; is_end = λ next. ap (fold_step block_in compiled_in next count blocks rest) a.0 ∙ ap (λ (c : Cause). ends_at (Refused count c) (drop 4 rest)) (sym (cc e)) }
+error_ends count blocks rest left frames.Many cause a e = record { behind_it = drop 4 rest; left_is = a.1; is_end = λ next. ap (fold_step block_in compiled_in next count blocks rest) a.0 ∙ ap (λ (c : Cause). ends_at (Refused count c) (drop 4 rest)) (sym (cc e)) }
+error_ends count blocks rest left frames.Fault cause a e = absurd (cc e)
+error_ends count blocks rest left frames.Memory cause a e = absurd (cc e)
+
+frames_error : (count : ℕ) (blocks : List Block) (before left : Option (List ℕ)) (error : FrameError) (cause : Cause) (rest : List ℕ) → before ≡ Some rest → IfSome before (λ input. IsFrameAnswer count input (Err error) left) → IsCauseOf error (Ok cause)
+    → FoldEnds count blocks rest left (Refused count cause)
+frames_error count blocks before left error cause rest is answer because = error_ends count blocks rest left error cause (subst (λ (o : Option (List ℕ)). IfSome o (λ input. IsFrameAnswer count input (Err error) left)) is answer) because
+
+frame_refused : (count : ℕ) (blocks : List Block) (before left : Option (List ℕ)) (bytes : List ℕ) (more : ℕ) (refusal : Refusal) (rest : List ℕ) → before ≡ Some rest → IfSome before (λ input. IsFrameAnswer count input (Ok (Some (bytes, more))) left)
+    → judged compiled_in blocks (block_in bytes) ≡ Err refusal → FoldEnds count blocks rest left (Refused count (causes.Block refusal))
+frame_refused count blocks before left bytes more refusal rest is answer judgement =
+    let a = subst (λ (o : Option (List ℕ)). IfSome o (λ input. IsFrameAnswer count input (Ok (Some (bytes, more))) left)) is answer in
+    record { behind_it = a.0; left_is = a.2; is_end = λ next. ap (fold_step block_in compiled_in next count blocks rest) a.1 ∙ ap (fold_after_frame next count blocks a.0) judgement }
+
+-- what follows a frame that was judged: its line and block, and then others
+judged_lines : (next : List Block → List ℕ → Fold) (count : ℕ) (blocks : List Block) (rest : List ℕ) (judgement : Result Taken Refusal)
+    → (more : List Line) × (fold_lines compiled_in blocks (fold_after_frame next count blocks rest judgement) ≡ lines_for blocks judgement ++ more)
+judged_lines next count blocks rest (Ok frame) =
+    let f = next (blocks ++ added_by frame) rest in
+    (lines_of compiled_in (blocks ++ added_by frame) f.taken ++ end_lines f.end, refl)
+judged_lines next count blocks rest (Err refusal) = (end_lines (Refused count (causes.Block refusal)), refl)
+
+judged_added : (next : List Block → List ℕ → Fold) (count : ℕ) (blocks : List Block) (rest : List ℕ) (judgement : Result Taken Refusal)
+    → (others : List Block) × (added_by_all (fold_after_frame next count blocks rest judgement).taken ≡ added_for judgement ++ others)
+judged_added next count blocks rest (Ok frame) = (added_by_all (next (blocks ++ added_by frame) rest).taken, refl)
+judged_added next count blocks rest (Err refusal) = ([], refl)
+
+-- the lines of all frames, where some were taken before the others
+lines_before : (first : List Block) (taken : List Taken) (fold : Fold) → fold_lines compiled_in first (taken_before taken fold) ≡ lines_of compiled_in first taken ++ fold_lines compiled_in (first ++ added_by_all taken) fold
+lines_before first taken fold =
+    ap (λ (l : List Line). l ++ end_lines fold.end) (lines_append first taken fold.taken) ∙ append_assoc (lines_of compiled_in first taken) (lines_of compiled_in (first ++ added_by_all taken) fold.taken) (end_lines fold.end)
+
+module _ {D : Type 0} (now : D → ℕ) (disk : D → ℕ → Option DiskState) (told : D → Option (List Tell)) where
+  pub record Progress (old new : D) (node : NodeState) (count : ℕ) (left_old left_new : Option (List ℕ)) (first : List Block) : Type 0 where
+    pub taken : List Taken
+    pub blocks : List Block
+    pub blocks_are : blocks ≡ first ++ added_by_all taken
+    pub is_node : IsNodeOf node (disk new (now new)) blocks
+    pub sure : AreSure blocks (lines_of compiled_in first taken)
+    pub telling : IsTold (disk old (now old)) → Telling next_in_chain now disk told old new (lines_of compiled_in first taken) true
+    pub images : IsTold (disk old (now old)) → Keeps now disk old new (IsPartly next_in_chain first (added_by_all taken))
+    pub unwritten : added_by_all taken ≡ [] → Stays now disk old new
+    pub leads : (input : List ℕ) → left_old ≡ Some input → Leads input left_new count first blocks taken
+
+  pub begun : (old : D) (node : NodeState) (left : Option (List ℕ)) (first : List Block) → IsNodeOf node (disk old (now old)) first → Progress old old node 0 left left first
+  begun old node left first is =
+      let rests = stands_at node.log first (disk old (now old)) is.log in
+      record {
+        taken = [];
+        blocks = first;
+        blocks_are = sym (append-nil first);
+        is_node = is;
+        sure = tt;
+        telling = λ is_told. none_to_tell next_in_chain now disk told old old true refl;
+        images = λ is_told. started now disk old (IsPartly next_in_chain first [])
+            (λ s image at shows. (0, rests_each (disk old (now old)) (λ c. chain_in c ≡ Some first) rests s image at shows ∙ ap Some (sym (append-nil first))));
+        unwritten = λ none. stays_here now disk old;
+        leads = λ input is. record { rest = input; left_is = is; same = refl };
+      }
+
+  -- the node of the frames so far is that of some blocks
+  pub node_is : (old new : D) (node : NodeState) (count : ℕ) (left_old left_new : Option (List ℕ)) (first : List Block) → Progress old new node count left_old left_new first → (blocks : List Block) × IsNodeOf node (disk new (now new)) blocks
+  node_is old new node count left_old left_new first p = (p.blocks, p.is_node)
+
+  -- a frame more
+  pub goes_on : (old mid new : D) (node longer_node : NodeState) (count more : ℕ) (left_old left_mid left_new : Option (List ℕ)) (first : List Block) (bytes : List ℕ)
+      → Progress old mid node count left_old left_mid first → count ≤ MAX_FRAMES → more ≡ count + 1 → IfSome left_mid (λ input. IsFrameAnswer count input (Ok (Some (bytes, more))) left_new)
+      → ((blocks : List Block) → IsNodeOf node (disk mid (now mid)) blocks → Takes now disk told mid new blocks (judged compiled_in blocks (block_in bytes)) (Ok (Ok longer_node)))
+      → Progress old new longer_node more left_old left_new first
+  goes_on old mid new node longer_node count more left_old left_mid left_new first bytes p bound one_more answer takes =
+      let j : Result Taken Refusal = judged compiled_in p.blocks (block_in bytes) in
+      let t = takes p.blocks p.is_node in
+      let frame : Taken = t.answer.0 in
+      let e : j ≡ Ok frame = t.answer.1 in
+      let keeps = subst (λ (r : Result Taken Refusal). IsTold (disk mid (now mid)) → Keeps now disk mid new (IsStepOf p.blocks r)) e t.images in
+      let line = subst (λ (r : Result Taken Refusal). IsTold (disk mid (now mid)) → Telling next_in_chain now disk told mid new (lines_for p.blocks r) true) e t.lines in
+      let lines : List Line = lines_of compiled_in first p.taken in
+      let all : List Taken = p.taken ++ frame ∷ [] in
+      let added : added_by_all all ≡ added_by_all p.taken ++ added_by frame = added_push p.taken frame in
+      let lines_are : lines_of compiled_in first all ≡ lines ++ line_of compiled_in p.blocks frame ∷ [] =
+      lines_append first p.taken (frame ∷ []) ∙ ap (λ (l : List Block). lines ++ line_of compiled_in l frame ∷ []) (sym p.blocks_are) in
+      let still_is = λ (is_told : IsTold (disk old (now old))). still_told now disk told old mid (IsPartly next_in_chain first (added_by_all p.taken)) (p.images is_told) is_told in
+      record {
+        taken = all;
+        blocks = p.blocks ++ added_by frame;
+        blocks_are = ap (λ (l : List Block). l ++ added_by frame) p.blocks_are ∙ append_assoc first (added_by_all p.taken) (added_by frame) ∙ ap (λ (l : List Block). first ++ l) (sym added);
+        is_node = t.answer.2;
+        sure = subst (AreSure (p.blocks ++ added_by frame)) (sym lines_are)
+            (sure_push (p.blocks ++ added_by frame) lines (line_of compiled_in p.blocks frame) (all_sure_more p.blocks (added_by frame) lines p.sure) (line_sure p.blocks (block_in bytes) frame e));
+        telling = λ is_told. subst (λ (l : List Line). Telling next_in_chain now disk told old new l true) (sym lines_are)
+            (join next_in_chain now disk told old mid new (IsStepOf p.blocks (Ok frame)) lines (line_of compiled_in p.blocks frame ∷ []) true (p.telling is_told) (keeps (still_is is_told))
+            (λ image step. kept_step p.blocks lines (Ok frame) image p.sure step) (line (still_is is_told)));
+        images = λ is_told.
+            let P : List ℕ → Type 0 = IsPartly next_in_chain first (added_by_all p.taken ++ added_by frame) in
+            subst (λ (l : List Block). Keeps now disk old new (IsPartly next_in_chain first l)) (sym added)
+            (then_keeps now disk old mid new P
+            (weaker now disk old mid (IsPartly next_in_chain first (added_by_all p.taken)) P (p.images is_told) (partly_more next_in_chain first (added_by_all p.taken) (added_by frame)))
+            (weaker now disk mid new (IsStepOf p.blocks (Ok frame)) P (keeps (still_is is_told)) (λ image step. partly_step first (added_by_all p.taken) p.blocks (Ok frame) image p.blocks_are step)));
+        unwritten = λ none.
+            let parts = both_empty (added_by_all p.taken) (added_by frame) (sym added ∙ none) in
+            stays_on now disk old mid new (p.unwritten parts.0) (t.unwritten refl (ap added_for e ∙ parts.1));
+        leads = λ input is.
+            let l = p.leads input is in
+            let a = subst (λ (o : Option (List ℕ)). IfSome o (λ rest. IsFrameAnswer count rest (Ok (Some (bytes, more))) left_new)) l.left_is answer in
+            let next : List Block → List ℕ → Fold = fold_from block_in compiled_in (MAX_FRAMES - count) in
+            let fewer : MAX_FRAMES - count ≡ MAX_FRAMES + 1 - more = omega (arith, one_more) in
+            record {
+              rest = a.0;
+              left_is = a.2;
+              same = l.same
+                  ∙ ap (taken_before p.taken) (folded_turn count p.blocks l.rest bound ∙ ap (fold_step block_in compiled_in next count p.blocks l.rest) a.1 ∙ ap (fold_after_frame next count p.blocks a.0) e)
+                  ∙ taken_taken p.taken (frame ∷ []) (next (p.blocks ++ added_by frame) a.0)
+                  ∙ ap (λ (n : ℕ). taken_before all (fold_from block_in compiled_in n (p.blocks ++ added_by frame) a.0)) fewer;
+            };
+      }
+
+  -- ---- the end
+
+  -- the fold ends here
+  ends_same : (old new : D) (node : NodeState) (count : ℕ) (left_old left_mid left : Option (List ℕ)) (first : List Block) (end : FoldEnd) (input : List ℕ) → (p : Progress old new node count left_old left_mid first) → count ≤ MAX_FRAMES
+      → (l : Leads input left_mid count first p.blocks p.taken) → (s : FoldEnds count p.blocks l.rest left end) → taken_before p.taken (ends_at end s.behind_it) ≡ fold_all first input
+  ends_same old new node count left_old left_mid left first end input p bound l s = sym (l.same ∙ ap (taken_before p.taken) (folded_turn count p.blocks l.rest bound ∙ s.is_end (fold_from block_in compiled_in (MAX_FRAMES - count))))
+
+  -- what was told and left up to the end of the fold
+  all_of : (old new : D) (left : Option (List ℕ)) (first blocks : List Block) (taken : List Taken) (end : FoldEnd) (rest : List ℕ) (result : Result AppendEnd AppendStop)
+      → (IsTold (disk old (now old)) → Keeps now disk old new (IsPartly next_in_chain first (added_by_all taken))) → blocks ≡ first ++ added_by_all taken
+      → (IsTold (disk old (now old)) → Telling next_in_chain now disk told old new (lines_of compiled_in first taken ++ end_lines end) (is_ok result)) → IfOk result (λ answer. fold_end answer ≡ end)
+      → left ≡ Some rest → Rests (disk new (now new)) (λ image. chain_in image ≡ Some blocks) → (is_ok result ≡ true → added_by_all taken ≡ [] → Stays now disk old new)
+      → AppendsAll now disk told old new left first (taken_before taken (ends_at end rest)) result
+  all_of old new left first blocks taken end rest result images same telling is left_is rests unwritten = record {
+    images = λ is_told. subst (λ (l : List Taken). Keeps now disk old new (IsPartly next_in_chain first (added_by_all l))) (sym (append-nil taken)) (images is_told);
+    lines = λ is_told. subst (λ (l : List Taken). Telling next_in_chain now disk told old new (lines_of compiled_in first l ++ end_lines end) (is_ok result)) (sym (append-nil taken)) (telling is_told);
+    unwritten = λ ok none. unwritten ok (ap added_by_all (sym (append-nil taken)) ∙ none);
+    ended = at_end result is;
+  }
+    where
+      at_end : (result : Result AppendEnd AppendStop) → IfOk result (λ answer. fold_end answer ≡ end) → IfOk result (HasEnded (disk new (now new)) left first (taken_before taken (ends_at end rest)))
+      at_end (Ok answer) is = record {
+        end_is = is;
+        left_is = left_is;
+        log = subst (λ (l : List Block). Rests (disk new (now new)) (λ image. chain_in image ≡ Some l)) (same ∙ ap (λ (l : List Taken). first ++ added_by_all l) (sym (append-nil taken))) rests;
+      }
+      at_end (Err stop) is = tt
+
+  -- the input has ended
+  pub whole_input : (old new : D) (node : NodeState) (count : ℕ) (left_old left_mid left : Option (List ℕ)) (first : List Block) (input : List ℕ) → Progress old new node count left_old left_mid first → count ≤ MAX_FRAMES → left_old ≡ Some input
+      → IfSome left_mid (λ input. IsFrameAnswer count input (Ok None) left) → AppendsAll now disk told old new left first (fold_all first input) (Ok ends.Whole)
+  whole_input old new node count left_old left_mid left first input p bound is answer =
+      let l = p.leads input is in
+      let s = frames_end count p.blocks left_mid left l.rest l.left_is answer in
+      subst (λ (f : Fold). AppendsAll now disk told old new left first f (Ok ends.Whole)) (ends_same old new node count left_old left_mid left first Whole input p bound l s)
+      (all_of old new left first p.blocks p.taken Whole s.behind_it (Ok ends.Whole) p.images p.blocks_are
+      (λ is_told. subst (λ (ls : List Line). Telling next_in_chain now disk told old new ls true) (sym (append-nil (lines_of compiled_in first p.taken))) (p.telling is_told)) refl s.left_is
+      (stands_at node.log p.blocks (disk new (now new)) p.is_node.log) (λ ok. p.unwritten))
+
+  refused_end : (frame count : ℕ) (cause : Cause) (result : Result AppendEnd AppendStop) → frame ≡ count → IfOk result (λ answer. answer ≡ ends.Refused frame cause) → IfOk result (λ answer. fold_end answer ≡ Refused count cause)
+  refused_end frame count cause (Ok answer) number is = ap fold_end is ∙ ap (λ (n : ℕ). Refused n cause) number
+  refused_end frame count cause (Err stop) number is = tt
+
+  -- a frame is refused, and that is told
+  refused_at : (old mid new : D) (node : NodeState) (count frame : ℕ) (left_old left_mid left : Option (List ℕ)) (first : List Block) (input : List ℕ) (cause : Cause) (result : Result AppendEnd AppendStop) → (p : Progress old mid node count left_old left_mid first)
+      → count ≤ MAX_FRAMES → frame ≡ count → (l : Leads input left_mid count first p.blocks p.taken) → FoldEnds count p.blocks l.rest left (Refused count cause)
+      → (IsTold (disk mid (now mid)) → Keeps now disk mid new (λ image. chain_in image ≡ Some p.blocks)) → (IsTold (disk mid (now mid)) → Telling next_in_chain now disk told mid new (plain (refused_line frame cause) ∷ []) (is_ok result))
+      → IfOk result (λ answer. answer ≡ ends.Refused frame cause) → Rests (disk new (now new)) (λ image. chain_in image ≡ Some p.blocks) → (is_ok result ≡ true → Stays now disk mid new)
+      → AppendsAll now disk told old new left first (fold_all first input) result
+  refused_at old mid new node count frame left_old left_mid left first input cause result p bound number l s images line end rests stays =
+      let lines : List Line = lines_of compiled_in first p.taken in
+      let told_line = λ (is_told : IsTold (disk mid (now mid))). subst (λ (n : ℕ). Telling next_in_chain now disk told mid new (plain (refused_line n cause) ∷ []) (is_ok result)) number (line is_told) in
+      let P : List ℕ → Type 0 = λ image. chain_in image ≡ Some p.blocks in
+      let Q : List ℕ → Type 0 = IsPartly next_in_chain first (added_by_all p.taken) in
+      let still_is = λ (is_told : IsTold (disk old (now old))). still_told now disk told old mid Q (p.images is_told) is_told in
+      subst (λ (f : Fold). AppendsAll now disk told old new left first f result) (ends_same old mid node count left_old left_mid left first (Refused count cause) input p bound l s)
+      (all_of old new left first p.blocks p.taken (Refused count cause) s.behind_it result
+      (λ is_told. then_keeps now disk old mid new Q (p.images is_told) (weaker now disk mid new P Q (images (still_is is_told))
+      (λ image at. subst (λ (a : List Block). IsPartly next_in_chain first a image) (append-nil (added_by_all p.taken)) (partly_held next_in_chain first (added_by_all p.taken) [] p.blocks image p.blocks_are at))))
+      p.blocks_are
+      (λ is_told. join next_in_chain now disk told old mid new P lines (plain (refused_line count cause) ∷ []) (is_ok result) (p.telling is_told) (images (still_is is_told))
+      (λ image at. all_sure_kept next_in_chain p.blocks [] lines image p.sure (at ∙ ap Some (sym (append-nil p.blocks)))) (told_line (still_is is_told)))
+      (refused_end frame count cause result number end) s.left_is rests (λ ok none. stays_on now disk old mid new (p.unwritten none) (stays ok)))
+
+  same_rests : (mid new : D) (P : List ℕ → Type 0) → Rests (disk mid (now mid)) P → Stays now disk mid new → Rests (disk new (now new)) P
+  same_rests mid new P rests stays = subst (λ (o : Option DiskState). Rests o P) (sym stays.last) rests
+
+  -- the form of the frame is refused
+  pub refused_form : (old mid new : D) (node : NodeState) (count frame : ℕ) (left_old left_mid left : Option (List ℕ)) (first : List Block) (input : List ℕ) (error : FrameError) (cause : Cause) (result : Result AppendEnd AppendStop)
+      → Progress old mid node count left_old left_mid first → count ≤ MAX_FRAMES
+      → frame ≡ count → left_old ≡ Some input → IfSome left_mid (λ input. IsFrameAnswer count input (Err error) left) → IsCauseOf error (Ok cause) → Stays now disk mid new
+      → Telling next_in_chain now disk told mid new (plain (refused_line frame cause) ∷ []) (is_ok result) → IfOk result (λ answer. answer ≡ ends.Refused frame cause) → AppendsAll now disk told old new left first (fold_all first input) result
+  refused_form old mid new node count frame left_old left_mid left first input error cause result p bound number is answer because stays line end =
+      let l = p.leads input is in
+      let P : List ℕ → Type 0 = λ image. chain_in image ≡ Some p.blocks in
+      let rests = stands_at node.log p.blocks (disk mid (now mid)) p.is_node.log in
+      refused_at old mid new node count frame left_old left_mid left first input cause result p bound number l (frames_error count p.blocks left_mid left error cause l.rest l.left_is answer because)
+      (λ is_told. still next_in_chain now disk told mid new P (rests_each (disk mid (now mid)) P rests) stays) (λ is_told. line) end (same_rests mid new P rests stays) (λ ok. stays)
+
+  -- the block of the frame is refused
+  pub refused_block : (old mid next new : D) (node : NodeState) (count more frame : ℕ) (left_old left_mid left : Option (List ℕ)) (first : List Block) (input bytes : List ℕ) (refusal : Refusal) (result : Result AppendEnd AppendStop)
+      → Progress old mid node count left_old left_mid first → count ≤ MAX_FRAMES
+      → frame ≡ count → left_old ≡ Some input → IfSome left_mid (λ input. IsFrameAnswer count input (Ok (Some (bytes, more))) left)
+      → ((blocks : List Block) → IsNodeOf node (disk mid (now mid)) blocks → Takes now disk told mid next blocks (judged compiled_in blocks (block_in bytes)) (Ok (Err refusal))) → Stays now disk next new
+      → Telling next_in_chain now disk told next new (plain (refused_line frame (causes.Block refusal)) ∷ []) (is_ok result) → IfOk result (λ answer. answer ≡ ends.Refused frame (causes.Block refusal))
+      → AppendsAll now disk told old new left first (fold_all first input) result
+  refused_block old mid next new node count more frame left_old left_mid left first input bytes refusal result p bound number is answer takes stays line end =
+      let l = p.leads input is in
+      let P : List ℕ → Type 0 = λ image. chain_in image ≡ Some p.blocks in
+      let t = takes p.blocks p.is_node in
+      let e = t.answer.0 in
+      let before = λ (is_told : IsTold (disk mid (now mid))). subst (λ (r : Result Taken Refusal). Keeps now disk mid next (IsStepOf p.blocks r)) e (t.images is_told) in
+      let after : Keeps now disk next new P = still next_in_chain now disk told next new P (rests_each (disk next (now next)) P t.answer.1) stays in
+      let nothing = λ (is_told : IsTold (disk mid (now mid))). subst (λ (r : Result Taken Refusal). Telling next_in_chain now disk told mid next (lines_for p.blocks r) true) e (t.lines is_told) in
+      refused_at old mid new node count frame left_old left_mid left first input (causes.Block refusal) result p bound number l (frame_refused count p.blocks left_mid left bytes more refusal l.rest l.left_is answer e)
+      (λ is_told. then_keeps now disk mid next new P (before is_told) after)
+      (λ is_told. join next_in_chain now disk told mid next new P [] (plain (refused_line frame (causes.Block refusal)) ∷ []) (is_ok result) (nothing is_told) after (λ image at. tt) line) end (same_rests next new P t.answer.1 stays) (λ ok. stays_on now disk mid next new (t.unwritten refl (ap added_for e)) stays)
+
+  -- ---- a stop
+
+  stopped : (old new : D) (left : Option (List ℕ)) (first : List Block) (fold : Fold) (lines more : List Line) (added others : List Block) (all : Bool) (stop : AppendStop)
+      → (IsTold (disk old (now old)) → Keeps now disk old new (IsPartly next_in_chain first added)) → (IsTold (disk old (now old)) → Telling next_in_chain now disk told old new lines all)
+      → fold_lines compiled_in first fold ≡ lines ++ more → added_by_all fold.taken ≡ added ++ others → AppendsAll now disk told old new left first fold (Err stop)
+  stopped old new left first fold lines more added others all stop images telling lines_are added_are = record {
+    images = λ is_told. weaker now disk old new (IsPartly next_in_chain first added) (IsPartly next_in_chain first (added_by_all fold.taken)) (images is_told)
+        (λ image at. subst (λ (a : List Block). IsPartly next_in_chain first a image) (sym added_are) (partly_more next_in_chain first added others image at));
+    lines = λ is_told. subst (λ (l : List Line). Telling next_in_chain now disk told old new l false) (sym lines_are) (longer next_in_chain now disk told old new lines more all (telling is_told));
+    unwritten = λ ok none. absurd (cc ok);
+    ended = tt;
+  }
+
+  -- the source failed, or memory ran out before the frame
+  pub stopped_before : (old new : D) (node : NodeState) (count : ℕ) (left_old left_mid left : Option (List ℕ)) (first : List Block) (input : List ℕ) (stop : AppendStop) → Progress old new node count left_old left_mid first → left_old ≡ Some input
+      → AppendsAll now disk told old new left first (fold_all first input) (Err stop)
+  stopped_before old new node count left_old left_mid left first input stop p is =
+      let l = p.leads input is in
+      let f : Fold = fold_from block_in compiled_in (MAX_FRAMES + 1 - count) p.blocks l.rest in
+      subst (λ (x : Fold). AppendsAll now disk told old new left first x (Err stop)) (sym l.same)
+      (stopped old new left first (taken_before p.taken f) (lines_of compiled_in first p.taken) (fold_lines compiled_in (first ++ added_by_all p.taken) f) (added_by_all p.taken) (added_by_all f.taken) true stop p.images p.telling
+      (lines_before first p.taken f) (added_append p.taken f.taken))
+
+  -- taking a frame was stopped
+  pub stopped_at : (old mid new : D) (node : NodeState) (count more : ℕ) (left_old left_mid left : Option (List ℕ)) (first : List Block) (input bytes : List ℕ) (stop : AppendStop) → Progress old mid node count left_old left_mid first → count ≤ MAX_FRAMES
+      → left_old ≡ Some input → IfSome left_mid (λ input. IsFrameAnswer count input (Ok (Some (bytes, more))) left)
+      → ((blocks : List Block) → IsNodeOf node (disk mid (now mid)) blocks → Takes now disk told mid new blocks (judged compiled_in blocks (block_in bytes)) (Err stop))
+      → AppendsAll now disk told old new left first (fold_all first input) (Err stop)
+  stopped_at old mid new node count more left_old left_mid left first input bytes stop p bound is answer takes =
+      let l = p.leads input is in
+      let t = takes p.blocks p.is_node in
+      let j : Result Taken Refusal = judged compiled_in p.blocks (block_in bytes) in
+      let a = subst (λ (o : Option (List ℕ)). IfSome o (λ rest. IsFrameAnswer count rest (Ok (Some (bytes, more))) left)) l.left_is answer in
+      let next : List Block → List ℕ → Fold = fold_from block_in compiled_in (MAX_FRAMES - count) in
+      let f : Fold = fold_after_frame next count p.blocks a.0 j in
+      let same : fold_all first input ≡ taken_before p.taken f = l.same ∙ ap (taken_before p.taken) (folded_turn count p.blocks l.rest bound ∙ ap (fold_step block_in compiled_in next count p.blocks l.rest) a.1) in
+      let lines : List Line = lines_of compiled_in first p.taken in
+      let added : List Block = added_by_all p.taken in
+      let line = judged_lines next count p.blocks a.0 j in
+      let others = judged_added next count p.blocks a.0 j in
+      let P : List ℕ → Type 0 = IsPartly next_in_chain first (added ++ added_for j) in
+      let still_is = λ (is_told : IsTold (disk old (now old))). still_told now disk told old mid (IsPartly next_in_chain first added) (p.images is_told) is_told in
+      subst (λ (x : Fold). AppendsAll now disk told old new left first x (Err stop)) (sym same)
+      (stopped old new left first (taken_before p.taken f) (lines ++ lines_for p.blocks j) line.0 (added ++ added_for j) others.0 false stop
+      (λ is_told. then_keeps now disk old mid new P
+      (weaker now disk old mid (IsPartly next_in_chain first added) P (p.images is_told) (partly_more next_in_chain first added (added_for j)))
+      (weaker now disk mid new (IsStepOf p.blocks j) P (t.images (still_is is_told)) (λ image step. partly_step first added p.blocks j image p.blocks_are step)))
+      (λ is_told. join next_in_chain now disk told old mid new (IsStepOf p.blocks j) lines (lines_for p.blocks j) false (p.telling is_told) (t.images (still_is is_told)) (λ image step. kept_step p.blocks lines j image p.sure step) (t.lines (still_is is_told)))
+      (lines_before first p.taken f ∙ ap (λ (b : List Block). lines ++ fold_lines compiled_in b f) (sym p.blocks_are) ∙ ap (λ (ls : List Line). lines ++ ls) line.1 ∙ sym (append_assoc lines (lines_for p.blocks j) line.0))
+      (added_append p.taken f.taken ∙ ap (λ (b : List Block). added ++ b) others.1 ∙ sym (append_assoc added (added_for j) others.0)))
+
+  -- ---- whether the source tells or not
+
+  step_goes : (first blocks added : List Block) (judgement : Result Taken Refusal) (image : List ℕ) → blocks ≡ first ++ added → IsStepOf blocks judgement image → GoesFrom first image
+  step_goes first blocks added (Ok frame) image same (inl is) = (added, is ∙ ap Some same)
+  step_goes first blocks added (Ok frame) image same (inr is) = (added ++ added_by frame, is ∙ ap Some (ap (λ (b : List Block). b ++ added_by frame) same ∙ append_assoc first added (added_by frame)))
+  step_goes first blocks added (Err refusal) image same is = (added, is ∙ ap Some same)
+
+  pub goes_from : (old new : D) (node : NodeState) (count : ℕ) (left_old left_new : Option (List ℕ)) (first : List Block) → Progress old new node count left_old left_new first → IsTold (disk old (now old)) → Keeps now disk old new (GoesFrom first)
+  goes_from old new node count left_old left_new first p is_told = weaker now disk old new (IsPartly next_in_chain first (added_by_all p.taken)) (GoesFrom first) (p.images is_told) (λ image partly. (take partly.0 (added_by_all p.taken), partly.1))
+
+  pub goes_still : (old mid new : D) (first : List Block) → Keeps now disk old mid (GoesFrom first) → Stays now disk mid new → Keeps now disk old new (GoesFrom first)
+  goes_still old mid new first keeps stays = stay_keeps now disk old mid new (GoesFrom first) keeps stays
+
+  pub goes_step : (old mid new : D) (node : NodeState) (count : ℕ) (left_old left_new : Option (List ℕ)) (first : List Block) (bytes : List ℕ) (result : Result (Result NodeState Refusal) AppendStop) → Progress old mid node count left_old left_new first
+      → ((blocks : List Block) → IsNodeOf node (disk mid (now mid)) blocks → Takes now disk told mid new blocks (judged compiled_in blocks (block_in bytes)) result) → IsTold (disk old (now old)) → Keeps now disk old new (GoesFrom first)
+  goes_step old mid new node count left_old left_new first bytes result p takes is_told =
+      let t = takes p.blocks p.is_node in
+      let j : Result Taken Refusal = judged compiled_in p.blocks (block_in bytes) in
+      then_keeps now disk old mid new (GoesFrom first) (goes_from old mid node count left_old left_new first p is_told)
+      (weaker now disk mid new (IsStepOf p.blocks j) (GoesFrom first) (t.images ((p.images is_told).told ∙ is_told)) (λ image step. step_goes first p.blocks (added_by_all p.taken) j image p.blocks_are step))

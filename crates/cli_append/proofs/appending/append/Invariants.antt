@@ -1,0 +1,19 @@
+use Rattle.std.proofs.Common.{◌≡◌, ◌+◌, ◌-◌, ◌≤◌, List}
+use Rattle.block_codec.specs.declared.block.Block.{Block}
+use Rattle.block_codec.specs.declared.limits.TheConstants.{MAX_FRAMES}
+use Rattle.recovery.specs.Node.{IsNodeOf}
+use Rattle.cli_append.proofs.Loop.{Progress}
+use Rattle.cli_append.proofs.appending.append.Given as goal
+
+abbrev pub invariant-turns : goal.invariant-turns
+invariant-turns g l = record {
+  bound : l.frames ≤ MAX_FRAMES;
+  source_faults : g.I.Source.source_faults l.source ≡ g.I.Source.source_faults l.fn.source;
+  disk_faults : g.M.Clock.disk_faults l.machine ≡ g.M.Clock.disk_faults l.fn.machine;
+  wire_faults : g.M.Clock.wire_faults l.machine ≡ g.M.Clock.wire_faults l.fn.machine;
+  taken : (first : List Block) → IsNodeOf l.fn.node (g.M.Clock.disk l.fn.machine (g.M.Clock.now l.fn.machine)) first
+      → Progress g.M.Clock.now g.M.Clock.disk g.M.Clock.told l.fn.machine l.machine l.node l.frames (g.I.Source.left l.fn.source) (g.I.Source.left l.source) first;
+}
+
+abbrev pub decreases-turns : goal.decreases-turns
+decreases-turns g l = MAX_FRAMES + 1 - l.frames

@@ -1,0 +1,76 @@
+-- What `append` tells of the frames of an input, and how it ends.
+use Rattle.std.specs.Prelude.{◌≡◌, ℕ, true, List, [], ◌∷◌, ◌++◌, length, Option, Some, Result, IfOk, is_ok, slice_index_or}
+use Rattle.std.specs.Option.{is_some}
+use Rattle.lc_io.specs.Disk.{DiskState, Stays}
+use Rattle.lc_io.specs.Outside.{Tell}
+use Rattle.disk_model.specs.Disk.{Keeps, Rests}
+use Rattle.block_codec.specs.declared.block.Block.{Block}
+use Rattle.chain_exec.specs.Compiled.{Compiler, compiled_in}
+use Rattle.chain_exec.specs.Fold.{block_effects}
+use Rattle.chain_exec.specs.Replay.{replay}
+use Rattle.chain_replay.specs.Judging.{Taken, Known, Added, added_by, added_by_all}
+use Rattle.rooted_chain.specs.Roots.{root_in}
+use Rattle.cli_lines.specs.Lines.{refused_line}
+use Rattle.chain_input.specs.Folding.{Fold, FoldEnd, Whole, Refused}
+use Rattle.recovery.specs.Node.{next_in_chain, chain_in}
+use Rattle.crash_promises.specs.Promises.{Line, Holds, plain, Telling, IsPartly}
+use Rattle.cli_append.specs.Lines.{known_line, block_line}
+use Rattle.cli_append.specs.declared.ending.AppendEnd.{AppendEnd}
+use Rattle.cli_append.specs.declared.ending.AppendEnd.TheVariants as ends
+use Rattle.cli_append.specs.declared.ending.AppendStop.{AppendStop}
+
+-- The line of a frame that was taken into a chain of these blocks. It promises that the chain has a
+-- block as its block of that number: the one that it held, or the one that was added.
+abbrev pub line_of : Compiler → List Block → Taken → Line
+line_of compile blocks (Known block) = record { text = known_line block.number; promise = Holds block.number (slice_index_or blocks block.number block) }
+line_of compile blocks (Added block) =
+    let effects = block_effects compile (replay compile blocks) block in
+    record { text = block_line block.number (length effects.rows) effects.receipts (root_in compile (blocks ++ block ∷ []) block.number); promise = Holds block.number block }
+
+-- The lines of frames that were taken, one after another, into a chain of these blocks.
+abbrev pub lines_of : Compiler → List Block → List Taken → List Line
+lines_of compile blocks [] = []
+lines_of compile blocks (frame ∷ taken) = line_of compile blocks frame ∷ lines_of compile (blocks ++ added_by frame) taken
+
+-- The last line, where a frame is refused. It promises nothing.
+abbrev pub end_lines : FoldEnd → List Line
+end_lines Whole = []
+end_lines (Refused frame cause) = plain (refused_line frame cause) ∷ []
+
+-- All lines of a fold over the frames of an input, from these blocks on.
+abbrev pub fold_lines : Compiler → List Block → Fold → List Line
+fold_lines compile blocks fold = lines_of compile blocks fold.taken ++ end_lines fold.end
+
+-- Where the frames end, as it is answered.
+abbrev pub fold_end : AppendEnd → FoldEnd
+fold_end ends.Whole = Whole
+fold_end (ends.Refused frame cause) = Refused frame cause
+
+-- The disk tells what it holds.
+abbrev pub IsTold : Option DiskState → Type 0
+IsTold state = is_some state ≡ true
+
+-- It came to the end of this fold, from these blocks on: what follows what was taken of the input is
+-- left; and where the disk is told, nothing is pending, and its content stands for the blocks and
+-- those that the fold adds.
+pub record HasEnded (state : Option DiskState) (left : Option (List ℕ)) (blocks : List Block) (fold : Fold) (end : AppendEnd) : Type 0 where
+  pub end_is : fold_end end ≡ fold.end
+  pub left_is : left ≡ Some fold.left
+  pub log : Rests state (λ image. chain_in image ≡ Some (blocks ++ added_by_all fold.taken))
+
+-- What becomes of the disk and of the wire, whatever is answered, where the frames of the input fold
+-- so from these blocks on.
+pub record AppendsAll {D : Type 0} (now : D → ℕ) (disk : D → ℕ → Option DiskState) (told : D → Option (List Tell)) (old new : D) (left : Option (List ℕ)) (blocks : List Block) (fold : Fold) (result : Result AppendEnd AppendStop) : Type 0 where
+  -- A crash at any moment leaves the chain from before, and some first ones of the blocks that the
+  -- fold adds.
+  pub images : IsTold (disk old (now old)) → Keeps now disk old new (IsPartly next_in_chain blocks (added_by_all fold.taken))
+  -- All lines were told where it came to its end, else a prefix of them; and each line that was begun
+  -- keeps its promise from then on.
+  pub lines : IsTold (disk old (now old)) → Telling next_in_chain now disk told old new (fold_lines compiled_in blocks fold) (is_ok result)
+  -- Where it came to its end and the fold adds no block, the disk is as it was.
+  pub unwritten : is_ok result ≡ true → added_by_all fold.taken ≡ [] → Stays now disk old new
+  pub ended : IfOk result (HasEnded (disk new (now new)) left blocks fold)
+
+-- The image stands for these blocks, and any blocks after them.
+abbrev pub GoesFrom : List Block → List ℕ → Type 0
+GoesFrom blocks image = (more : List Block) × (chain_in image ≡ Some (blocks ++ more))

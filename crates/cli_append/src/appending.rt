@@ -1,0 +1,69 @@
+//! Taking all frames of an input.
+
+ghost use Rattle.std.specs.Prelude.{◌≡◌, ◌+◌, ℕ, List, Some, IsErrOf};
+ghost use Rattle.lc_base.specs.Faults.{HasCause};
+ghost use Rattle.block_codec.specs.Reading.{block_in};
+ghost use Rattle.block_codec.specs.declared.block.Block.{Block};
+ghost use Rattle.block_codec.specs.declared.limits.TheConstants.{MAX_FRAMES};
+ghost use Rattle.chain_exec.specs.Compiled.{compiled_in};
+ghost use Rattle.chain_input.specs.Folding.{fold_from};
+ghost use Rattle.recovery.specs.Node.{IsNodeOf};
+ghost use Rattle.disk_model.specs.Disk.{Keeps};
+ghost use Rattle.cli_append.specs.Appending.{AppendsAll, GoesFrom, IsTold};
+
+use crate::ending::{AppendEnd, AppendStop};
+use crate::taking::{cause_of, take_frame};
+use crate::telling::refuse;
+use block_codec::Frames;
+use chain_input::Cause;
+use disk_model::Disk;
+use lc_io::{Source, Wire};
+use recovery::Node;
+use std::alloc::Global;
+
+/// Takes the frames of the input one after another, up to the first that is refused: the block of
+/// each is stored where it is the chain's next one, and then a line is told of it.
+pub fn append<I: Source, M: Disk + Wire>(
+    alloc: Global,
+    source: &mut I,
+    machine: &mut M,
+    node: Node,
+) -> Result<AppendEnd, AppendStop>
+    requires node { (blocks : List Block) × IsNodeOf node (M.disk machine.old (M.now machine.old)) blocks }
+    // Where the source tells what it has left, the frames are taken, and told, as they fold.
+    ensures appends { (blocks : List Block) (input : List ℕ) → IsNodeOf node (M.disk machine.old (M.now machine.old)) blocks → I.left source.old ≡ Some input
+        → AppendsAll M.now M.disk M.told machine.old machine.new (I.left source.new) blocks (fold_from block_in compiled_in (MAX_FRAMES + 1) blocks input) result }
+    // Whether the source tells or not: a crash at any moment leaves the chain from before, and any blocks after it.
+    ensures goes_on { (blocks : List Block) → IsNodeOf node (M.disk machine.old (M.now machine.old)) blocks → IsTold (M.disk machine.old (M.now machine.old)) → Keeps M.now M.disk machine.old machine.new (GoesFrom blocks) }
+    // A source, a disk or a wire is blamed only where it failed.
+    ensures unreadable { HasCause (I.source_faults source.old) (I.source_faults source.new) (IsErrOf result AppendStop.Unreadable) }
+    ensures disk_fault { HasCause (M.disk_faults machine.old) (M.disk_faults machine.new) (IsErrOf result AppendStop.DiskFault) }
+    ensures untold { HasCause (M.wire_faults machine.old) (M.wire_faults machine.new) (IsErrOf result AppendStop.Untold) }
+{
+    let mut node = node;
+    let mut frames = Frames::new();
+    'turns: loop {
+        let frame = frames.taken();
+        match frames.next(alloc, source) {
+            Ok(None) => {
+                node.give_up();
+                return Ok(AppendEnd::Whole);
+            }
+            Ok(Some((bytes, more))) => match take_frame(alloc, machine, node, bytes.as_bytes()) {
+                Ok(Ok(longer)) => {
+                    node = longer;
+                    frames = more;
+                }
+                Ok(Err(refusal)) => return refuse(alloc, machine, frame, Cause::Block(refusal)),
+                Err(stop) => return Err(stop),
+            },
+            Err(error) => {
+                node.give_up();
+                match cause_of(error) {
+                    Ok(cause) => return refuse(alloc, machine, frame, cause),
+                    Err(stop) => return Err(stop),
+                }
+            }
+        }
+    }
+}

@@ -1,0 +1,81 @@
+//! Taking one frame.
+
+ghost use Rattle.std.specs.Prelude.{◌≡◌, ℕ, List, IsErrOf};
+ghost use Rattle.lc_base.specs.Faults.{HasCause};
+ghost use Rattle.block_codec.specs.Reading.{block_in};
+ghost use Rattle.block_codec.specs.declared.block.Block.{Block};
+ghost use Rattle.chain_exec.specs.Compiled.{compiled_in};
+ghost use Rattle.chain_replay.specs.Judging.{judged};
+ghost use Rattle.recovery.specs.Node.{IsNodeOf};
+ghost use Rattle.cli_append.specs.Steps.{IsCauseOf, Takes};
+
+use crate::ending::AppendStop;
+use crate::lines::appended_line;
+use crate::telling::tell_line;
+use block_codec::FrameError;
+use chain_input::Cause;
+use chain_replay::Refusal;
+use disk_model::Disk;
+use lc_base::Memory;
+use lc_io::{Failed, Wire};
+use recovery::{AppendError, Node};
+use std::alloc::Global;
+
+/// Why no further frame could be taken: what it says of the input, or that it says nothing.
+pub fn cause_of(error: FrameError) -> Result<Cause, AppendStop>
+    ensures { IsCauseOf error result }
+{
+    match error {
+        FrameError::Truncated => Ok(Cause::Truncated),
+        FrameError::Length(count) => Ok(Cause::Length(count)),
+        FrameError::Many => Ok(Cause::Many),
+        FrameError::Fault => Err(AppendStop::Unreadable),
+        FrameError::Memory => Err(AppendStop::Memory),
+    }
+}
+
+/// Ends the node that was handed back, if any.
+fn give_up(back: Option<Node>) {
+    if let Some(node) = back {
+        node.give_up();
+    }
+}
+
+/// Takes a frame: its block is stored where it is the next one, and then its line is told.
+pub fn take_frame<M: Disk + Wire>(
+    alloc: Global,
+    machine: &mut M,
+    node: Node,
+    frame: &[u8],
+) -> Result<Result<Node, Refusal>, AppendStop>
+    requires node { (blocks : List Block) × IsNodeOf node (M.disk machine.old (M.now machine.old)) blocks }
+    ensures takes { (blocks : List Block) → IsNodeOf node (M.disk machine.old (M.now machine.old)) blocks
+        → Takes M.now M.disk M.told machine.old machine.new blocks (judged compiled_in blocks (block_in frame.now)) result }
+    ensures disk_fault { HasCause (M.disk_faults machine.old) (M.disk_faults machine.new) (IsErrOf result AppendStop.DiskFault) }
+    ensures untold { HasCause (M.wire_faults machine.old) (M.wire_faults machine.new) (IsErrOf result AppendStop.Untold) }
+    ensures reads { IsErrOf result AppendStop.Unreadable → ⊥ }
+{
+    match node.append(alloc, machine, frame) {
+        Ok((longer, appended)) => match appended_line(alloc, &appended) {
+            Ok(line) => match tell_line(machine, line.as_bytes()) {
+                Ok(()) => Ok(Ok(longer)),
+                Err(Failed) => {
+                    longer.give_up();
+                    Err(AppendStop::Untold)
+                }
+            },
+            Err(Memory) => {
+                longer.give_up();
+                Err(AppendStop::Memory)
+            }
+        },
+        Err((back, error)) => {
+            give_up(back);
+            match error {
+                AppendError::Refused(refusal) => Ok(Err(refusal)),
+                AppendError::DiskFault => Err(AppendStop::DiskFault),
+                AppendError::Memory => Err(AppendStop::Memory),
+            }
+        }
+    }
+}

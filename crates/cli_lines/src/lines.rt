@@ -1,0 +1,250 @@
+//! The lines that are told.
+
+ghost use Rattle.std.specs.Prelude.{◌≡◌, [], ◌∷◌, ◌++◌, codes, decimal, map, string_bytes, IfOk};
+ghost use Rattle.std.specs.Fmt.{signed_decimal};
+ghost use Rattle.cli_lines.specs.Lines.{usage_line, empty_line, head_line, refusal_text, cause_text, refused_line, value_text, dep_line, answer_lines, bad_input_line, not_a_log_line, damaged_line, root_line, load_line, line};
+ghost use Rattle.hex.specs.Hex.{encode_lower};
+
+use chain_input::Cause;
+use chain_load::Load;
+use chain_replay::Refusal;
+use lc_base::{Answer, Bytes, Dep, DepList, Digest, Memory, Seq, Value};
+use std::alloc::{AllocError, Global};
+
+fn line(alloc: Global, text: &str) -> Result<Bytes, Memory>
+    ensures { IfOk result (λ bytes. bytes ≡ line text.now) }
+{
+    let mut bytes = Vec::from_slice(alloc, text.as_bytes())?;
+    bytes.push(b'\n')?;
+    Ok(Bytes::from_vec(bytes))
+}
+
+/// The words are no command.
+pub fn usage_line(alloc: Global) -> Result<Bytes, Memory>
+    ensures { IfOk result (λ bytes. bytes ≡ usage_line) }
+{
+    line(alloc, "usage")
+}
+
+/// There is no block at all.
+pub fn empty_line(alloc: Global) -> Result<Bytes, Memory>
+    ensures { IfOk result (λ bytes. bytes ≡ empty_line) }
+{
+    line(alloc, "beyond empty")
+}
+
+/// A block past the head was asked for.
+pub fn head_line(alloc: Global, head: u32) -> Result<Bytes, Memory>
+    ensures { IfOk result (λ bytes. bytes ≡ head_line head) }
+{
+    let text = format!(in alloc; "beyond head {head}")?;
+    line(alloc, text.as_str())
+}
+
+/// A digest in lower-case hex, after a word.
+fn digest_text(alloc: Global, word: &str, digest: &Digest) -> Result<String, AllocError>
+    ensures { IfOk result (λ text. string_bytes text ≡ word.now ++ encode_lower digest.now.0) }
+{
+    let mut text = String::from_str(alloc, word)?;
+    let hex = hex::encode(alloc, digest.0.as_slice())?;
+    text.push_str(hex.as_str())?;
+    Ok(text)
+}
+
+/// The root at the block of this number.
+pub fn root_line(alloc: Global, number: u32, root: &Digest) -> Result<Bytes, Memory>
+    ensures { IfOk result (λ bytes. bytes ≡ root_line number root.now.0) }
+{
+    let head = format!(in alloc; "root {number} ")?;
+    let text = digest_text(alloc, head.as_str(), root)?;
+    line(alloc, text.as_str())
+}
+
+/// How many blocks and rows a load has.
+fn load_head(alloc: Global, load: &Load) -> Result<String, AllocError>
+    ensures { IfOk result (λ text. string_bytes text ≡ codes "blocks " ++ decimal load.now.blocks ++ codes " rows " ++ decimal load.now.rows ++ codes " root ") }
+{
+    let blocks = load.blocks;
+    let rows = load.rows;
+    format!(in alloc; "blocks {blocks} rows {rows} root ")
+}
+
+/// What a load counted, after a word for each number.
+fn counts_text(alloc: Global, load: &Load) -> Result<String, AllocError>
+    ensures { IfOk result (λ text. string_bytes text ≡ codes " lookups " ++ decimal load.now.lookups ++ codes " entries " ++ decimal load.now.entries ++ codes " most " ++ decimal load.now.most) }
+{
+    let lookups = load.lookups;
+    let entries = load.entries;
+    let most = load.most;
+    format!(in alloc; " lookups {lookups} entries {entries} most {most}")
+}
+
+/// What a load tells.
+pub fn load_line(alloc: Global, load: &Load) -> Result<Bytes, Memory>
+    ensures { IfOk result (λ bytes. bytes ≡ load_line load.now) }
+{
+    let head = load_head(alloc, load)?;
+    let mut text = digest_text(alloc, head.as_str(), &load.root)?;
+    let counts = counts_text(alloc, load)?;
+    text.push_str(counts.as_str())?;
+    line(alloc, text.as_str())
+}
+
+/// Why a chain refuses bytes.
+fn refusal_text(alloc: Global, refusal: &Refusal) -> Result<String, AllocError>
+    ensures { IfOk result (λ text. string_bytes text ≡ refusal_text refusal.now) }
+{
+    match refusal {
+        Refusal::Malformed(offset) => format!(in alloc; "malformed {offset}"),
+        Refusal::Fork(have) => digest_text(alloc, "fork ", have),
+        Refusal::Full => String::from_str(alloc, "full"),
+        Refusal::Number(want) => format!(in alloc; "number {want}"),
+        Refusal::Parent(want) => digest_text(alloc, "parent ", want),
+        Refusal::Budget(sum) => format!(in alloc; "budget {sum}"),
+    }
+}
+
+/// Why a frame is refused.
+fn cause_text(alloc: Global, cause: &Cause) -> Result<String, AllocError>
+    ensures { IfOk result (λ text. string_bytes text ≡ cause_text cause.now) }
+{
+    match cause {
+        Cause::Truncated => String::from_str(alloc, "truncated"),
+        Cause::Length(count) => format!(in alloc; "length {count}"),
+        Cause::Many => String::from_str(alloc, "many"),
+        Cause::Block(refusal) => refusal_text(alloc, refusal),
+    }
+}
+
+fn refused_text(alloc: Global, frame: u32, cause: &str) -> Result<Bytes, Memory>
+    ensures { IfOk result (λ bytes. bytes ≡ line (codes "refused frame " ++ decimal frame ++ codes " " ++ cause.now)) }
+{
+    let text = format!(in alloc; "refused frame {frame} {cause}")?;
+    line(alloc, text.as_str())
+}
+
+/// The frame of this number, from 0, is refused for this cause.
+pub fn refused_line(alloc: Global, frame: u32, cause: &Cause) -> Result<Bytes, Memory>
+    ensures { IfOk result (λ bytes. bytes ≡ refused_line frame cause.now) }
+{
+    let text = cause_text(alloc, cause)?;
+    refused_text(alloc, frame, text.as_str())
+}
+
+/// An input is not of its grammar, or too long.
+pub fn bad_input_line(alloc: Global, cause: &str) -> Result<Bytes, Memory>
+    ensures { IfOk result (λ bytes. bytes ≡ bad_input_line cause.now) }
+{
+    let text = format!(in alloc; "badinput {cause}")?;
+    line(alloc, text.as_str())
+}
+
+/// The disk holds something else than a log.
+pub fn not_a_log_line(alloc: Global) -> Result<Bytes, Memory>
+    ensures { IfOk result (λ bytes. bytes ≡ not_a_log_line) }
+{
+    line(alloc, "not a log")
+}
+
+/// The log is damaged at this offset.
+pub fn damaged_line(alloc: Global, at: u64) -> Result<Bytes, Memory>
+    ensures { IfOk result (λ bytes. bytes ≡ damaged_line at) }
+{
+    let text = format!(in alloc; "damaged at {at}")?;
+    line(alloc, text.as_str())
+}
+
+fn int_line(alloc: Global, block: u32, tx: u16, number: i64) -> Result<Bytes, Memory>
+    ensures { IfOk result (λ bytes. bytes ≡ line (codes "block " ++ decimal block ++ codes " tx " ++ decimal tx ++ codes " int " ++ signed_decimal number)) }
+{
+    let text = format!(in alloc; "block {block} tx {tx} int {number}")?;
+    line(alloc, text.as_str())
+}
+
+fn text_line(alloc: Global, block: u32, tx: u16, text: &[u8]) -> Result<Bytes, Memory>
+    ensures { IfOk result (λ bytes. bytes ≡ line (codes "block " ++ decimal block ++ codes " tx " ++ decimal tx ++ codes " text " ++ text.now)) }
+{
+    let mut bytes = format!(in alloc; "block {block} tx {tx} text ")?.into_bytes();
+    bytes.extend_from_slice(text)?;
+    bytes.push(b'\n')?;
+    Ok(Bytes::from_vec(bytes))
+}
+
+fn dep_line(alloc: Global, dep: &Dep) -> Result<Bytes, Memory>
+    ensures { IfOk result (λ bytes. bytes ≡ dep_line dep.now) }
+{
+    let mut bytes = Vec::from_slice(alloc, dep.key.as_bytes())?;
+    let block = dep.block;
+    let rest = format!(in alloc; " {block}\n")?;
+    bytes.extend_from_slice(rest.as_bytes())?;
+    Ok(Bytes::from_vec(bytes))
+}
+
+/// A line, and after it one for each version.
+fn dep_lines(alloc: Global, head: Bytes, deps: &[Dep]) -> Result<Seq<Bytes>, Memory>
+    ensures { IfOk result (λ lines. lines ≡ head ∷ map dep_line deps.now) }
+{
+    let mut lines = Seq::new(alloc);
+    lines.push(head)?;
+    for dep in deps {
+        lines.push(dep_line(alloc, dep)?)?;
+    }
+    Ok(lines)
+}
+
+fn one_line(alloc: Global, line: Bytes) -> Result<Seq<Bytes>, Memory>
+    ensures { IfOk result (λ lines. lines ≡ line ∷ []) }
+{
+    let mut lines = Seq::new(alloc);
+    lines.push(line)?;
+    Ok(lines)
+}
+
+fn back_head(alloc: Global, block: u32, count: usize) -> Result<Bytes, Memory>
+    ensures { IfOk result (λ bytes. bytes ≡ line (codes "block " ++ decimal block ++ codes " deps " ++ decimal count)) }
+{
+    let text = format!(in alloc; "block {block} deps {count}")?;
+    line(alloc, text.as_str())
+}
+
+fn fwd_head(alloc: Global, block: u32, count: usize) -> Result<Bytes, Memory>
+    ensures { IfOk result (λ bytes. bytes ≡ line (codes "block " ++ decimal block ++ codes " uses " ++ decimal count)) }
+{
+    let text = format!(in alloc; "block {block} uses {count}")?;
+    line(alloc, text.as_str())
+}
+
+fn back_lines(alloc: Global, block: u32, deps: &DepList) -> Result<Seq<Bytes>, Memory>
+    ensures { IfOk result (λ lines. lines ≡ answer_lines (Answer.Back block deps.now)) }
+{
+    let head = back_head(alloc, block, deps.len())?;
+    dep_lines(alloc, head, deps.as_slice())
+}
+
+fn fwd_lines(alloc: Global, block: u32, uses: &DepList) -> Result<Seq<Bytes>, Memory>
+    ensures { IfOk result (λ lines. lines ≡ answer_lines (Answer.Fwd block uses.now)) }
+{
+    let head = fwd_head(alloc, block, uses.len())?;
+    dep_lines(alloc, head, uses.as_slice())
+}
+
+/// The lines of an answer.
+pub fn answer_lines(alloc: Global, answer: &Answer) -> Result<Seq<Bytes>, Memory>
+    ensures { IfOk result (λ lines. lines ≡ answer_lines answer.now) }
+{
+    match answer {
+        Answer::Nothing => one_line(alloc, line(alloc, "none")?),
+        Answer::Hist { block, tx, value } => one_line(alloc, hist_line(alloc, *block, *tx, value)?),
+        Answer::Back { block, deps } => back_lines(alloc, *block, deps),
+        Answer::Fwd { block, uses } => fwd_lines(alloc, *block, uses),
+    }
+}
+
+fn hist_line(alloc: Global, block: u32, tx: u16, value: &Value) -> Result<Bytes, Memory>
+    ensures { IfOk result (λ bytes. bytes ≡ line (codes "block " ++ decimal block ++ codes " tx " ++ decimal tx ++ codes " " ++ value_text value.now)) }
+{
+    match value {
+        Value::Int(number) => int_line(alloc, block, tx, *number),
+        Value::Text(text) => text_line(alloc, block, tx, text.as_bytes()),
+    }
+}

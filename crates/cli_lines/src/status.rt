@@ -1,0 +1,55 @@
+//! How the program ends.
+
+ghost use Rattle.std.specs.Prelude.{◌≡◌};
+ghost use Rattle.cli_lines.specs.Status.{status_number};
+
+/// How the program ends.
+#[derive(Clone, Copy, Debug, PartialEq, Eq)]
+pub enum Status {
+    /// The command did what it does.
+    Done,
+    /// The words are no command.
+    Usage,
+    /// The source failed.
+    Unreadable,
+    /// The wire failed.
+    Untold,
+    /// A call of the disk failed.
+    DiskFault,
+    /// Out of memory.
+    Memory,
+    /// The disk holds something else than a log.
+    NotALog,
+    /// The log is damaged.
+    Damaged,
+    /// A frame of the input is refused.
+    Refused,
+    /// A block past the head of the chain was asked for.
+    Beyond,
+    /// A proof is not accepted.
+    Rejected,
+    /// The input is not of its grammar, or too long.
+    BadInput,
+}
+
+impl Status {
+    /// The number with which the program exits.
+    pub fn number(self) -> u8
+        ensures { result ≡ status_number self }
+    {
+        match self {
+            Status::Done => 0,
+            Status::Usage => 1,
+            Status::Unreadable => 2,
+            Status::Untold => 3,
+            Status::DiskFault => 4,
+            Status::Memory => 5,
+            Status::NotALog => 6,
+            Status::Damaged => 7,
+            Status::Refused => 8,
+            Status::Beyond => 9,
+            Status::Rejected => 10,
+            Status::BadInput => 11,
+        }
+    }
+}

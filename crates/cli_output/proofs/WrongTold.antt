@@ -1,0 +1,46 @@
+-- `expose` tells a clash of a proof that is accepted with a wrong answer.
+use Rattle.std.proofs.Common.{◌≡◌, ◌≢◌, ◌∙◌, ℕ, ◌<◌, List, [], Option, Some, None, Result, Ok, Err, refl, sym, ap, subst, arith}
+use Rattle.std.specs.Prelude.{IsSomeAnd}
+use Rattle.lc_base.specs.declared.answer.Answer.{Answer}
+use Rattle.lc_base.specs.declared.answer.Query.{Query}
+use Rattle.block_codec.specs.declared.block.Block.{Block}
+use Rattle.chain_exec.specs.Compiled.{Compiler}
+use Rattle.proof_codec.specs.declared.proof.Proof.{Proof}
+use Rattle.proof_checks.specs.Checks.{verdict}
+use Rattle.proof_checks.specs.ProofTexts.{proof_texts}
+use Rattle.proof_checks.specs.declared.reject.Reject.{Reject}
+use Rattle.text_clashes.specs.FirstClash.{IsFirstAt}
+use Rattle.proof_commands.specs.Verifying.{of_verdict, IsVerification, Judged}
+use Rattle.proof_commands.specs.declared.verification.Verification.{Verification}
+use Rattle.proof_commands.specs.declared.verification.Verification.TheVariants.{Accepted}
+use Rattle.proof_commands.proofs.Verified.{one_answer}
+use Rattle.replay_soundness.specs.Soundness.{HasRoot, replayed_answer, replayed_texts}
+use Rattle.replay_soundness.proofs.Sound.{wrong_answers_are_exposed}
+use Rattle.cli_output.specs.Output.{Output, output_of, FitsInput, IsExposeOutput, OutOfReach, LongExposed, NotAccepted, Exposed}
+use Rattle.cli_output.specs.Proofs.{is_accepted, IsAcceptedHex, clash_outcome}
+use Rattle.cli_output.specs.Showing.{IsProofInHex, TellsClash, WrongAnswersAreTold}
+
+accepted_by : (v : Result Answer Reject) (answer : Answer) → Accepted answer ≡ of_verdict v → v ≡ Ok answer
+accepted_by (Ok other) answer same = cc same
+accepted_by (Err reject) answer same = absurd (cc same)
+
+told_clash : (given own : List (List ℕ)) (clash : Option (ℕ × ℕ)) → IsSomeAnd clash (IsFirstAt given own) → TellsClash given own (output_of (clash_outcome given own clash) []).lines
+told_clash given own None none = absurd none
+told_clash given own (Some pair) first = (pair.0, pair.1, first.clash, refl)
+
+pub wrong_answers_are_told : (root : List ℕ) (query : Query) (root_at : ℕ) (input : List ℕ) → WrongAnswersAreTold root query root_at input
+wrong_answers_are_told root query root_at input compile blocks answer _ has early fits accepts wrong (OutOfReach past) = absurd (past (has.within, early))
+wrong_answers_are_told root query root_at input compile blocks answer _ has early fits accepts wrong (LongExposed within long) = absurd (omega (arith, long, fits))
+wrong_answers_are_told root query root_at input compile blocks answer _ has early fits accepts wrong (NotAccepted within _ told is fails) =
+    let same : told ≡ Accepted answer = one_answer root query input told (Accepted answer) is accepts in
+    let passes : is_accepted told ≡ is_accepted (Accepted answer) = ap is_accepted same in
+    absurd (cc (passes, fails))
+wrong_answers_are_told root query root_at input compile blocks answer _ has early fits accepts wrong (Exposed within _ proof accepted clash first) =
+    let same : Accepted answer ≡ of_verdict (verdict root query proof) =
+    one_answer root query input (Accepted answer) (of_verdict (verdict root query proof)) accepts (Judged accepted.bytes accepted.decoded proof accepted.spelled) in
+    let passes : verdict root query proof ≡ Ok answer = accepted_by (verdict root query proof) answer same in
+    let found = wrong_answers_are_exposed compile blocks root_at root query proof answer clash has (record { lawful = accepted.spelled.lawful; accepted = passes }) wrong first in (
+      proof,
+      (accepted.bytes, accepted.decoded, accepted.spelled),
+      told_clash (proof_texts proof) (replayed_texts compile blocks root_at) clash found,
+    )

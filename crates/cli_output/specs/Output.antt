@@ -1,0 +1,414 @@
+-- What a command wants told of an input and of the content of the disk, how it ends, what it leaves of
+-- the input, and what it does to the log.
+use Rattle.std.specs.Prelude.{◌≡◌, ℕ, ◌+◌, ◌-◌, ◌<◌, ◌≤◌, ◌==◌, ◌&&◌, nat_le, nat_lt, Bool, true, false, if◌then◌else◌, List, [], ◌∷◌, length, drop, map, Option, Some, None, Ok, Err, codes}
+use Rattle.std.specs.List.{concat}
+use Rattle.lc_base.specs.History.{scan}
+use Rattle.lc_base.specs.declared.answer.Kind.{Kind}
+use Rattle.lc_base.specs.declared.answer.Query.{Query}
+use Rattle.block_codec.specs.Placement.{digest_of}
+use Rattle.block_codec.specs.Spelling.{Decoder, IsDecoder}
+use Rattle.block_codec.specs.declared.block.Block.{Block}
+use Rattle.block_codec.specs.declared.limits.TheConstants.{MAX_FRAMES}
+use Rattle.block_log.specs.Standing.{Standing, Blank, NotALog, Damaged, Holds, NextBlock, next_block, blocks_in, standing}
+use Rattle.contract_tree.specs.Tree.{FunctionTree}
+use Rattle.contract_parse.specs.Syntax.{Outcome as SourceOutcome, IsOutcome}
+use Rattle.contract_check.specs.Faults.{check_fault}
+use Rattle.contract_check.specs.declared.fault.Fault.{Fault}
+use Rattle.contract_print.specs.Canonical.{contract_text}
+use Rattle.chain_exec.specs.Compiled.{Compiler, IsCompiler}
+use Rattle.chain_exec.specs.Replay.{replay}
+use Rattle.chain_replay.specs.Chain.{placement_in}
+use Rattle.chain_replay.specs.Judging.{added_by_all}
+use Rattle.rooted_chain.specs.Roots.{root_in}
+use Rattle.chain_input.specs.Folding.{Fold, FoldEnd, Whole, Refused, fold_from, fold_input}
+use Rattle.crash_promises.specs.Promises.{Line, plain, Change, NoChange, Appends}
+use Rattle.cli_append.specs.Appending.{fold_lines}
+use Rattle.chain_pack.specs.Draft.{packed}
+use Rattle.chain_gen.specs.Generator.{generated}
+use Rattle.chain_load.specs.Loads.{load_of}
+use Rattle.proof_codec.specs.declared.proof.Proof.{Proof}
+use Rattle.proof_checks.specs.Making.{made_proof}
+use Rattle.proof_checks.specs.ProofTexts.{proof_texts}
+use Rattle.replay_soundness.specs.Soundness.{replayed_texts}
+use Rattle.text_clashes.specs.FirstClash.{IsFirstClash}
+use Rattle.proof_commands.specs.Verifying.{IsVerification}
+use Rattle.proof_commands.specs.declared.verification.Verification.{Verification}
+use Rattle.cli_words.specs.declared.words.Generation.{Generation}
+use Rattle.cli_words.specs.declared.words.Command.{Command}
+use Rattle.cli_words.specs.declared.words.Command.TheVariants.{Scan, Fmt, Pack, Gen, Load, Append, Root, Ask, Prove, Verify, Expose}
+use Rattle.cli_lines.specs.Lines.{usage_line, empty_line, head_line, root_line, load_line, refused_line, answer_lines, syntax_cause, check_cause, not_a_log_line, damaged_line}
+use Rattle.cli_lines.specs.Outcome.{status_of, outcome_with, bad_input}
+use Rattle.cli_lines.specs.declared.whole.TheConstants.{MAX_WHOLE_INPUT_BYTES}
+use Rattle.cli_lines.specs.declared.outcome.Outcome.{Outcome}
+use Rattle.cli_lines.specs.declared.outcome.Ending.{Ending}
+use Rattle.cli_lines.specs.declared.outcome.Ending.TheVariants as endings
+use Rattle.cli_lines.specs.declared.status.Status.{Status}
+use Rattle.cli_lines.specs.declared.status.Status.TheVariants as statuses
+use Rattle.cli_output.specs.Texts.{lines_of}
+use Rattle.cli_output.specs.Blocks.{frame, draft_outcome}
+use Rattle.cli_output.specs.Proofs.{proof_line, verification_outcome, is_accepted, IsAcceptedHex, clash_outcome}
+
+-- ---- outputs
+
+-- What is told, each line by itself, and what each promises of the log; how the command ends; what is
+-- left of the input; and what becomes of the log. A frame that is told is a line that promises nothing.
+pub record Output : Type 0 where
+  pub lines : List Line
+  pub status : Status
+  pub left : List ℕ
+  pub change : Change
+
+-- The bytes that are told.
+abbrev pub told_bytes : Output → List ℕ
+told_bytes output = concat (map (λ line. line.text) output.lines)
+
+-- An outcome, and what is left of the input. It promises nothing, and the log stays as it is.
+abbrev pub output_of : Outcome → List ℕ → Output
+output_of outcome left = record { lines = map plain outcome.pieces; status = status_of outcome.ending; left = left; change = NoChange }
+
+-- Words that are no command give `usage`, and leave the input.
+abbrev pub usage_output : List ℕ → Output
+usage_output input = record { lines = plain usage_line ∷ []; status = statuses.Usage; left = input; change = NoChange }
+
+-- ---- a question over the blocks of an input
+
+-- What is told where a block past the head is asked for, or where there is none.
+abbrev pub beyond_outcome : Option ℕ → Outcome
+beyond_outcome None = outcome_with (empty_line ∷ []) endings.Beyond
+beyond_outcome (Some head) = outcome_with (head_line head ∷ []) endings.Beyond
+
+-- The same, by the blocks of the chain.
+abbrev pub beyond_head : List Block → Outcome
+beyond_head blocks = if length blocks == 0 then beyond_outcome None else beyond_outcome (Some (length blocks - 1))
+
+-- What is told where a block of a chain is asked for: these lines, where the chain has the block.
+abbrev pub outcome_at : ℕ → List Block → List (List ℕ) → Outcome
+outcome_at at blocks lines =
+    if length blocks == 0 then beyond_outcome None
+    else (if nat_lt at (length blocks) then outcome_with lines endings.Done else beyond_outcome (Some (length blocks - 1)))
+
+-- The answer over the rows of a chain, where it is asked for up to one of its blocks.
+abbrev pub answer_outcome : Compiler → Query → List Block → Outcome
+answer_outcome compile query blocks = outcome_at query.at blocks (answer_lines (scan (replay compile blocks).rows query))
+
+-- What `scan` tells of blocks, where the frames end so.
+abbrev pub scan_outcome : Compiler → Query → List Block → FoldEnd → Outcome
+scan_outcome compile query blocks Whole = answer_outcome compile query blocks
+scan_outcome compile query blocks (Refused frame cause) = outcome_with (refused_line frame cause ∷ []) endings.Refused
+
+-- What `scan` tells: a refused frame decides, wherever it stands.
+abbrev pub scan_output : Compiler → Query → Fold → Output
+scan_output compile query fold = output_of (scan_outcome compile query (added_by_all fold.taken) fold.end) fold.left
+
+-- ---- inputs that are read whole
+
+-- The input is short enough to be read whole.
+abbrev pub FitsInput : List ℕ → Type 0
+FitsInput input = length input ≤ MAX_WHOLE_INPUT_BYTES
+
+-- What a command tells of an input that is too long: what follows the first byte too many is left.
+abbrev pub long_output : List ℕ → Output
+long_output input = output_of (bad_input (codes "long")) (drop (MAX_WHOLE_INPUT_BYTES + 1) input)
+
+-- What is told of functions: their canonical text, line by line, unless one of their names or kinds
+-- is invalid.
+abbrev pub fmt_outcome : List FunctionTree → Option Fault → Outcome
+fmt_outcome functions (Some fault) = bad_input (check_cause fault)
+fmt_outcome functions None = outcome_with (lines_of (contract_text functions)) endings.Done
+
+-- What is told of a source: the first fault of its syntax, or what is told of the functions that it
+-- reads as.
+abbrev pub source_outcome : SourceOutcome → Outcome
+source_outcome (Ok functions) = fmt_outcome functions (check_fault functions)
+source_outcome (Err fault) = bad_input (syntax_cause fault.0 fault.1)
+
+-- What `fmt` tells of an input: what is told of the source that it is, or that it is too long.
+pub data IsFmtOutput (input : List ℕ) : Output → Type 0 where
+  Long : MAX_WHOLE_INPUT_BYTES < length input → IsFmtOutput input (long_output input)
+  Source : FitsInput input → (outcome : SourceOutcome) → IsOutcome input outcome →
+      IsFmtOutput input (output_of (source_outcome outcome) [])
+
+-- What `fmt` tells of an input without a fault, it tells of what it told, where that is short
+-- enough to be read whole.
+abbrev pub FormatsAgain : List ℕ → Type 0
+FormatsAgain input =
+    (output : Output) → IsFmtOutput input output → output.status ≡ statuses.Done → FitsInput (told_bytes output) →
+    IsFmtOutput (told_bytes output) output
+
+-- What `verify` tells of an input to one who has the root: what is told of what is answered of it as a
+-- proof in hex, or that it is too long.
+pub data IsVerifyOutput (root : List ℕ) (query : Query) (input : List ℕ) : Output → Type 0 where
+  LongProof : MAX_WHOLE_INPUT_BYTES < length input → IsVerifyOutput root query input (long_output input)
+  Verified : FitsInput input → (told : Verification) → IsVerification root query input told →
+      IsVerifyOutput root query input (output_of (verification_outcome told) [])
+
+-- What `pack` tells of an input: what is told of the draft that it is, or that it is too long.
+abbrev pub pack_output : List ℕ → Output
+pack_output input =
+    if nat_lt MAX_WHOLE_INPUT_BYTES (length input) then long_output input
+    else output_of (draft_outcome (packed input)) []
+
+-- ---- blocks that are made
+
+-- What `gen` tells: the frame of each block. It leaves the input.
+abbrev pub gen_output : Generation → List ℕ → Output
+gen_output generation input =
+    record { lines = map plain (map frame (generated generation.blocks generation.seed)); status = statuses.Done; left = input; change = NoChange }
+
+-- What `load` tells: one line of the load of these blocks.
+abbrev pub load_outcome : Compiler → Generation → Outcome
+load_outcome compile generation = outcome_with (load_line (load_of compile generation.blocks generation.seed) ∷ []) endings.Done
+
+-- The same as an output, which leaves the input.
+abbrev pub load_output : Compiler → Generation → List ℕ → Output
+load_output compile generation input = output_of (load_outcome compile generation) input
+
+-- ---- the log
+
+-- The next block of a chain, by a decoder and a compiler.
+abbrev pub next_by : Decoder → Compiler → NextBlock
+next_by read compile = next_block read (placement_in compile)
+
+-- What is told where the bytes on the disk are something else than a log. The input stays as it is.
+abbrev pub not_a_log_output : List ℕ → Output
+not_a_log_output input = output_of (outcome_with (not_a_log_line ∷ []) endings.NotALog) input
+
+-- What is told where the log is damaged at an offset. The input stays as it is.
+abbrev pub damaged_output : ℕ → List ℕ → Output
+damaged_output at input = output_of (outcome_with (damaged_line at ∷ []) endings.Damaged) input
+
+-- A command over the blocks that the bytes on the disk stand for. Where they are something else than a
+-- log, or damaged, this is told, and the input and the disk stay as they are.
+abbrev pub on_log : (List Block → Output) → List ℕ → Standing → Output
+on_log over input Blank = over []
+on_log over input NotALog = not_a_log_output input
+on_log over input (Damaged before at) = damaged_output at input
+on_log over input (Holds stored gate) = over (blocks_in stored)
+
+-- The same of a command that may want this output of blocks.
+abbrev pub IsOnLog : (List Block → Output → Type 0) → List ℕ → Standing → Output → Type 0
+IsOnLog Over input Blank output = Over [] output
+IsOnLog Over input NotALog output = output ≡ not_a_log_output input
+IsOnLog Over input (Damaged before at) output = output ≡ damaged_output at input
+IsOnLog Over input (Holds stored gate) output = Over (blocks_in stored) output
+
+-- How `append` ends, by where the frames end.
+abbrev pub fold_ending : FoldEnd → Ending
+fold_ending Whole = endings.Done
+fold_ending (Refused frame cause) = endings.Refused
+
+-- What `append` gives of the frames of an input, from these blocks on: a line of each frame that was
+-- taken, and one of a refusal. The blocks that are added are appended to the log.
+abbrev pub append_output : Compiler → List Block → Fold → Output
+append_output compile blocks fold =
+    record { lines = fold_lines compile blocks fold; status = status_of (fold_ending fold.end); left = fold.left; change = Appends (added_by_all fold.taken) }
+
+-- The block that a question names, or else the last one.
+abbrev pub at_or_last : Option ℕ → List Block → ℕ
+at_or_last (Some at) blocks = at
+at_or_last None blocks = length blocks - 1
+
+-- The answer to a question over the blocks of the log. It leaves the input.
+abbrev pub ask_output : Compiler → Kind → List ℕ → Option ℕ → List ℕ → List Block → Output
+ask_output compile kind key at input blocks =
+    output_of (answer_outcome compile (record { kind = kind; key = key; at = at_or_last at blocks }) blocks) input
+
+-- The root at a block of a chain, where it has this block.
+abbrev pub root_outcome : Compiler → ℕ → List Block → Outcome
+root_outcome compile at blocks = outcome_at at blocks (root_line at (root_in compile blocks at) ∷ [])
+
+-- The root at a block of the log. It leaves the input.
+abbrev pub root_output : Compiler → Option ℕ → List ℕ → List Block → Output
+root_output compile at input blocks = output_of (root_outcome compile (at_or_last at blocks) blocks) input
+
+-- The proof of the answer to a question that is made of the blocks of a chain, for one who has the root
+-- at a block.
+abbrev pub made_in : Compiler → List Block → Query → ℕ → Proof
+made_in compile blocks query root_at = made_proof (replay compile blocks).rows (map digest_of blocks) root_at query
+
+-- What is told where a proof is asked for: its line, where the chain has the block of the root and the
+-- question is about no later one.
+abbrev pub prove_outcome : Compiler → Query → ℕ → List Block → Outcome
+prove_outcome compile query root_at blocks =
+    if nat_le query.at root_at && nat_lt root_at (length blocks)
+    then outcome_with (proof_line (made_in compile blocks query root_at) ∷ []) endings.Done
+    else beyond_head blocks
+
+-- The proof of the answer to a question over the blocks of the log. It leaves the input.
+abbrev pub prove_output : Compiler → Query → ℕ → List ℕ → List Block → Output
+prove_output compile query root_at input blocks = output_of (prove_outcome compile query root_at blocks) input
+
+-- The blocks reach the block of the root, and the question is about no later one.
+abbrev pub Reach : List Block → Query → ℕ → Type 0
+Reach blocks query root_at = (root_at < length blocks) × (query.at ≤ root_at)
+
+-- What `expose` tells of an input to one who has the root, against the blocks of the log up to one. Where
+-- the log has no such block, or the question is about a later one, that is told, and the input is left as
+-- it is. Else an input that is too long, and one that `verify` does not accept, are told as `verify` tells
+-- them. Of a proof that is accepted the first clash is told, a text of it and one of the log that differ
+-- and have one digest, or that there is none.
+pub data IsExposeOutput (compile : Compiler) (root : List ℕ) (query : Query) (root_at : ℕ) (input : List ℕ) (blocks : List Block) : Output → Type 0 where
+  OutOfReach : (Reach blocks query root_at → ⊥) → IsExposeOutput compile root query root_at input blocks (output_of (beyond_head blocks) input)
+  LongExposed : Reach blocks query root_at → MAX_WHOLE_INPUT_BYTES < length input →
+      IsExposeOutput compile root query root_at input blocks (long_output input)
+  NotAccepted : Reach blocks query root_at → FitsInput input → (told : Verification) → IsVerification root query input told → is_accepted told ≡ false →
+      IsExposeOutput compile root query root_at input blocks (output_of (verification_outcome told) [])
+  Exposed : Reach blocks query root_at → FitsInput input → (proof : Proof) → IsAcceptedHex root query input proof →
+      (clash : Option (ℕ × ℕ)) → IsFirstClash (proof_texts proof) (replayed_texts compile blocks root_at) clash →
+      IsExposeOutput compile root query root_at input blocks (output_of (clash_outcome (proof_texts proof) (replayed_texts compile blocks root_at) clash) [])
+
+-- ---- what is wanted
+
+-- A command, or that the words are none, wants this output of an input and of the content of the disk,
+-- by a decoder and a compiler.
+abbrev pub Wants : Decoder → Compiler → Option Command → List ℕ → List ℕ → Output → Type 0
+Wants read compile None input content output = output ≡ usage_output input
+Wants read compile (Some (Scan query)) input content output = output ≡ scan_output compile query (fold_input read compile input)
+Wants read compile (Some Fmt) input content output = IsFmtOutput input output
+Wants read compile (Some Pack) input content output = output ≡ pack_output input
+Wants read compile (Some (Gen generation)) input content output = output ≡ gen_output generation input
+Wants read compile (Some (Load generation)) input content output = output ≡ load_output compile generation input
+Wants read compile (Some Append) input content output =
+    output ≡ on_log (λ blocks. append_output compile blocks (fold_from read compile (MAX_FRAMES + 1) blocks input)) input (standing (next_by read compile) content)
+Wants read compile (Some (Root at)) input content output =
+    output ≡ on_log (root_output compile at input) input (standing (next_by read compile) content)
+Wants read compile (Some (Ask kind key at)) input content output =
+    output ≡ on_log (ask_output compile kind key at input) input (standing (next_by read compile) content)
+Wants read compile (Some (Prove query root_at)) input content output =
+    output ≡ on_log (prove_output compile query root_at input) input (standing (next_by read compile) content)
+Wants read compile (Some (Verify root query)) input content output = IsVerifyOutput root.0 query input output
+Wants read compile (Some (Expose root query root_at)) input content output =
+    IsOnLog (IsExposeOutput compile root.0 query root_at input) input (standing (next_by read compile) content) output
+
+-- An output is wanted, by a decoder and a compiler that are right.
+abbrev pub IsWanted : Option Command → List ℕ → List ℕ → Output → Type 0
+IsWanted command input content output =
+    (read : Decoder) × IsDecoder read × (compile : Compiler) × IsCompiler compile × Wants read compile command input content output
+
+-- There is an output that is wanted, and no other.
+pub record IsOneOutput (Wanted : Output → Type 0) : Type 0 where
+  pub output : Output
+  pub wanted : Wanted output
+  pub only : (other : Output) → Wanted other → other ≡ output
+
+-- ---- what a command uses
+
+-- Whether a command, or words that are none, reads the input.
+abbrev pub reads_input : Option Command → Bool
+reads_input None = false
+reads_input (Some (Scan query)) = true
+reads_input (Some Fmt) = true
+reads_input (Some Pack) = true
+reads_input (Some (Gen generation)) = false
+reads_input (Some (Load generation)) = false
+reads_input (Some Append) = true
+reads_input (Some (Root at)) = false
+reads_input (Some (Ask kind key at)) = false
+reads_input (Some (Prove query root_at)) = false
+reads_input (Some (Verify root query)) = true
+reads_input (Some (Expose root query root_at)) = true
+
+-- Whether it uses the disk.
+abbrev pub uses_disk : Option Command → Bool
+uses_disk None = false
+uses_disk (Some (Scan query)) = false
+uses_disk (Some Fmt) = false
+uses_disk (Some Pack) = false
+uses_disk (Some (Gen generation)) = false
+uses_disk (Some (Load generation)) = false
+uses_disk (Some Append) = true
+uses_disk (Some (Root at)) = true
+uses_disk (Some (Ask kind key at)) = true
+uses_disk (Some (Prove query root_at)) = true
+uses_disk (Some (Verify root query)) = false
+uses_disk (Some (Expose root query root_at)) = true
+
+-- Whether it may change the log.
+abbrev pub changes_log : Option Command → Bool
+changes_log None = false
+changes_log (Some (Scan query)) = false
+changes_log (Some Fmt) = false
+changes_log (Some Pack) = false
+changes_log (Some (Gen generation)) = false
+changes_log (Some (Load generation)) = false
+changes_log (Some Append) = true
+changes_log (Some (Root at)) = false
+changes_log (Some (Ask kind key at)) = false
+changes_log (Some (Prove query root_at)) = false
+changes_log (Some (Verify root query)) = false
+changes_log (Some (Expose root query root_at)) = false
+
+-- Whether it takes frames of blocks.
+abbrev pub takes_frames : Option Command → Bool
+takes_frames None = false
+takes_frames (Some (Scan query)) = true
+takes_frames (Some Fmt) = false
+takes_frames (Some Pack) = false
+takes_frames (Some (Gen generation)) = false
+takes_frames (Some (Load generation)) = false
+takes_frames (Some Append) = true
+takes_frames (Some (Root at)) = false
+takes_frames (Some (Ask kind key at)) = false
+takes_frames (Some (Prove query root_at)) = false
+takes_frames (Some (Verify root query)) = false
+takes_frames (Some (Expose root query root_at)) = false
+
+-- Whether it asks for a block of a chain.
+abbrev pub asks_for_block : Option Command → Bool
+asks_for_block None = false
+asks_for_block (Some (Scan query)) = true
+asks_for_block (Some Fmt) = false
+asks_for_block (Some Pack) = false
+asks_for_block (Some (Gen generation)) = false
+asks_for_block (Some (Load generation)) = false
+asks_for_block (Some Append) = false
+asks_for_block (Some (Root at)) = true
+asks_for_block (Some (Ask kind key at)) = true
+asks_for_block (Some (Prove query root_at)) = true
+asks_for_block (Some (Verify root query)) = false
+asks_for_block (Some (Expose root query root_at)) = true
+
+-- Whether it checks a proof.
+abbrev pub checks_proof : Option Command → Bool
+checks_proof None = false
+checks_proof (Some (Scan query)) = false
+checks_proof (Some Fmt) = false
+checks_proof (Some Pack) = false
+checks_proof (Some (Gen generation)) = false
+checks_proof (Some (Load generation)) = false
+checks_proof (Some Append) = false
+checks_proof (Some (Root at)) = false
+checks_proof (Some (Ask kind key at)) = false
+checks_proof (Some (Prove query root_at)) = false
+checks_proof (Some (Verify root query)) = true
+checks_proof (Some (Expose root query root_at)) = true
+
+-- Whether it reads the input whole, as a text.
+abbrev pub reads_whole : Option Command → Bool
+reads_whole None = false
+reads_whole (Some (Scan query)) = false
+reads_whole (Some Fmt) = true
+reads_whole (Some Pack) = true
+reads_whole (Some (Gen generation)) = false
+reads_whole (Some (Load generation)) = false
+reads_whole (Some Append) = false
+reads_whole (Some (Root at)) = false
+reads_whole (Some (Ask kind key at)) = false
+reads_whole (Some (Prove query root_at)) = false
+reads_whole (Some (Verify root query)) = true
+reads_whole (Some (Expose root query root_at)) = true
+
+-- Whether it tells lines while it makes others.
+abbrev pub tells_as_it_goes : Option Command → Bool
+tells_as_it_goes None = false
+tells_as_it_goes (Some (Scan query)) = false
+tells_as_it_goes (Some Fmt) = false
+tells_as_it_goes (Some Pack) = false
+tells_as_it_goes (Some (Gen generation)) = true
+tells_as_it_goes (Some (Load generation)) = false
+tells_as_it_goes (Some Append) = true
+tells_as_it_goes (Some (Root at)) = false
+tells_as_it_goes (Some (Ask kind key at)) = false
+tells_as_it_goes (Some (Prove query root_at)) = false
+tells_as_it_goes (Some (Verify root query)) = false
+tells_as_it_goes (Some (Expose root query root_at)) = false

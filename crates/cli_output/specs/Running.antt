@@ -1,0 +1,117 @@
+-- What a run is to tell, and to leave of the disk and of the input, at each moment.
+use Rattle.std.specs.Prelude.{◌≡◌, ℕ, Bool, true, false, List, [], ◌∷◌, Option, Some, None}
+use Rattle.std.specs.Option.{option_map, is_some}
+use Rattle.lc_io.specs.Disk.{DiskState, Stays}
+use Rattle.lc_io.specs.Outside.{Tell}
+use Rattle.disk_model.specs.Disk.{Keeps, Rests, content_of}
+use Rattle.block_codec.specs.Spelling.{Decoder}
+use Rattle.block_log.specs.Standing.{NextBlock}
+use Rattle.chain_exec.specs.Compiled.{Compiler}
+use Rattle.crash_promises.specs.Promises.{Change, NoChange, Appends, Telling, MayLeave, IsChanged}
+use Rattle.cli_words.specs.declared.words.Command.{Command}
+use Rattle.cli_lines.specs.declared.status.Status.{Status}
+use Rattle.cli_lines.specs.declared.status.Status.TheVariants as statuses
+use Rattle.cli_output.specs.Output.{Output, Wants, next_by, reads_input, uses_disk, takes_frames, asks_for_block, checks_proof, reads_whole}
+
+-- Whether a run with this status came to its end: nothing outside failed, and memory did not run out.
+abbrev pub came_to_end : Status → Bool
+came_to_end statuses.Done = true
+came_to_end statuses.Usage = true
+came_to_end statuses.Unreadable = false
+came_to_end statuses.Untold = false
+came_to_end statuses.DiskFault = false
+came_to_end statuses.Memory = false
+came_to_end statuses.NotALog = true
+came_to_end statuses.Damaged = true
+came_to_end statuses.Refused = true
+came_to_end statuses.Beyond = true
+came_to_end statuses.Rejected = true
+came_to_end statuses.BadInput = true
+
+-- Which commands may end with a status. Every one may be out of memory, or have a wire that fails.
+abbrev pub MayEnd : Status → Option Command → Type 0
+MayEnd statuses.Done command = is_some command ≡ true
+MayEnd statuses.Usage command = command ≡ None
+MayEnd statuses.Unreadable command = reads_input command ≡ true
+MayEnd statuses.Untold command = Unit {0}
+MayEnd statuses.DiskFault command = uses_disk command ≡ true
+MayEnd statuses.Memory command = Unit {0}
+MayEnd statuses.NotALog command = uses_disk command ≡ true
+MayEnd statuses.Damaged command = uses_disk command ≡ true
+MayEnd statuses.Refused command = takes_frames command ≡ true
+MayEnd statuses.Beyond command = asks_for_block command ≡ true
+MayEnd statuses.Rejected command = checks_proof command ≡ true
+MayEnd statuses.BadInput command = reads_whole command ≡ true
+
+-- Whether a run with this status found no log that it could read: the disk holds something else, or
+-- the log is damaged.
+abbrev pub found_no_log : Status → Bool
+found_no_log statuses.Done = false
+found_no_log statuses.Usage = false
+found_no_log statuses.Unreadable = false
+found_no_log statuses.Untold = false
+found_no_log statuses.DiskFault = false
+found_no_log statuses.Memory = false
+found_no_log statuses.NotALog = true
+found_no_log statuses.Damaged = true
+found_no_log statuses.Refused = false
+found_no_log statuses.Beyond = false
+found_no_log statuses.Rejected = false
+found_no_log statuses.BadInput = false
+
+-- What is left of the input, where that is told.
+abbrev pub leaves : Option (List ℕ) → List ℕ → Option (List ℕ)
+leaves before left = option_map (λ input. left) before
+
+-- Whether a change appends no block.
+abbrev pub appends_none : Change → Bool
+appends_none NoChange = true
+appends_none (Appends []) = true
+appends_none (Appends (block ∷ blocks)) = false
+
+-- A run that came to its end has the status of the output, and leaves of the input what that says.
+-- Where the disk is told, nothing is pending, and the log has all blocks that are appended.
+pub record HasEnded (next : NextBlock) (state : Option DiskState) (status : Status) (left_old left_new : Option (List ℕ)) (content : List ℕ) (output : Output) : Type 0 where
+  pub status_is : status ≡ output.status
+  pub left_is : left_new ≡ leaves left_old output.left
+  pub log : Rests state (IsChanged next content output.change)
+
+-- A run did what an output says, on a disk that had this content.
+pub record Meets {D : Type 0} (next : NextBlock) (now : D → ℕ) (disk : D → ℕ → Option DiskState) (told : D → Option (List Tell)) (old new : D) (status : Status) (left_old left_new : Option (List ℕ)) (content : List ℕ) (output : Output) : Type 0 where
+  -- All lines were told where it came to its end, else a prefix of them, and nothing else. From the
+  -- moment on at which telling a line began, whatever a crash may leave keeps what the line promises.
+  pub lines : Telling next now disk told old new output.lines (came_to_end status)
+  -- A crash at any moment leaves the content as it was, or its chain with some first ones of the blocks
+  -- that are appended.
+  pub images : Keeps now disk old new (MayLeave next content output.change)
+  -- Where it came to its end and appends no block, it did not touch the disk.
+  pub unwritten : came_to_end status ≡ true → appends_none output.change ≡ true → Stays now disk old new
+  pub ended : came_to_end status ≡ true → HasEnded next (disk new (now new)) status left_old left_new content output
+
+-- The bytes are those that are told; where none are told, any bytes, unless they are used.
+abbrev pub IsGiven : Bool → Option (List ℕ) → List ℕ → Type 0
+IsGiven uses (Some told) bytes = told ≡ bytes
+IsGiven true None bytes = ⊥
+IsGiven false None bytes = Unit {0}
+
+-- Whatever the input and the content of the disk are, where a command that uses them is told them, it
+-- did what an output says that it wants of them.
+abbrev pub IsRun : {D : Type 0} → (D → ℕ) → (D → ℕ → Option DiskState) → (D → Option (List Tell)) → D → D → Status → Option (List ℕ) → Option (List ℕ) → Decoder → Compiler → Option Command → Type 0
+IsRun now disk told old new status left_old left_new read compile command =
+    (input content : List ℕ) → IsGiven (reads_input command) left_old input → IsGiven (uses_disk command) (content_of (disk old (now old))) content
+    → (output : Output) × Wants read compile command input content output × Meets (next_by read compile) now disk told old new status left_old left_new content output
+
+-- Where the source or the disk failed, or memory ran out, nothing was told.
+abbrev pub IsSilent : Status → Option (List Tell) → Option (List Tell) → Type 0
+IsSilent statuses.Done old new = Unit {0}
+IsSilent statuses.Usage old new = Unit {0}
+IsSilent statuses.Unreadable old new = new ≡ old
+IsSilent statuses.Untold old new = Unit {0}
+IsSilent statuses.DiskFault old new = new ≡ old
+IsSilent statuses.Memory old new = new ≡ old
+IsSilent statuses.NotALog old new = Unit {0}
+IsSilent statuses.Damaged old new = Unit {0}
+IsSilent statuses.Refused old new = Unit {0}
+IsSilent statuses.Beyond old new = Unit {0}
+IsSilent statuses.Rejected old new = Unit {0}
+IsSilent statuses.BadInput old new = Unit {0}

@@ -1,0 +1,50 @@
+-- What the commands of the program answer, for their definitions.
+use Rattle.std.specs.Prelude.{◌≡◌, ℕ, List, Option, Some}
+use Rattle.lc_base.specs.declared.answer.Query.{Query}
+use Rattle.block_codec.specs.declared.block.Block.{Block}
+use Rattle.chain_exec.specs.Compiled.{compiled_in}
+use Rattle.cli_lines.specs.declared.outcome.Outcome.{Outcome}
+use Rattle.cli_lines.specs.declared.outcome.Ending.{Ending}
+use Rattle.cli_lines.specs.declared.outcome.Ending.TheVariants as endings
+use Rattle.cli_output.specs.Output.{Output, output_of, IsFmtOutput, IsVerifyOutput, IsExposeOutput}
+
+-- An outcome, and what is left of the input, are the output.
+abbrev pub GivesOutput : Outcome → Option (List ℕ) → Output → Type 0
+GivesOutput outcome left output = (output ≡ output_of outcome output.left) × (left ≡ Some output.left)
+
+-- An outcome, and what is left of the input, are an output of which this is so.
+abbrev pub GivesAny : (Output → Type 0) → Outcome → Option (List ℕ) → Type 0
+GivesAny Wanted outcome left = (rest : List ℕ) × (left ≡ Some rest) × Wanted (output_of outcome rest)
+
+-- An outcome, and what is left of the input, are what `fmt` tells of it.
+abbrev pub IsFmtOutcome : Outcome → Option (List ℕ) → List ℕ → Type 0
+IsFmtOutcome outcome left input = GivesAny (IsFmtOutput input) outcome left
+
+-- An outcome, and what is left of the input, are what `verify` tells of it.
+abbrev pub IsVerifyOutcome : List ℕ → Query → Outcome → Option (List ℕ) → List ℕ → Type 0
+IsVerifyOutcome root query outcome left input = GivesAny (IsVerifyOutput root query input) outcome left
+
+-- An outcome, and what is left of the input, are what `expose` tells of it against the blocks of the log.
+abbrev pub IsExposeOutcome : List ℕ → Query → ℕ → List Block → Outcome → Option (List ℕ) → List ℕ → Type 0
+IsExposeOutcome root query root_at blocks outcome left input = GivesAny (IsExposeOutput compiled_in root query root_at input blocks) outcome left
+
+-- How a question about a block of a chain ends: it is answered, or the chain has no such block.
+abbrev pub EndsAsked : Ending → Type 0
+EndsAsked endings.Done = Unit {0}
+EndsAsked endings.Refused = ⊥
+EndsAsked endings.Beyond = Unit {0}
+EndsAsked endings.Rejected = ⊥
+EndsAsked endings.BadInput = ⊥
+EndsAsked endings.NotALog = ⊥
+EndsAsked endings.Damaged = ⊥
+
+-- How the search for a clash with a proof ends: it was made, the chain has no such block, the proof is not
+-- accepted, or the input is none.
+abbrev pub EndsExposed : Ending → Type 0
+EndsExposed endings.Done = Unit {0}
+EndsExposed endings.Refused = ⊥
+EndsExposed endings.Beyond = Unit {0}
+EndsExposed endings.Rejected = Unit {0}
+EndsExposed endings.BadInput = Unit {0}
+EndsExposed endings.NotALog = ⊥
+EndsExposed endings.Damaged = ⊥

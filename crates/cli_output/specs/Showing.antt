@@ -1,0 +1,52 @@
+-- What an answer shows that `verify` tells, and what `expose` tells of a wrong one.
+use Rattle.std.specs.Prelude.{◌≡◌, ◌≢◌, ◌⊎◌, ◌≤◌, ℕ, List, [], ◌∷◌, map, Ok}
+use Rattle.hex.specs.Hex.{decode_of}
+use Rattle.lc_base.specs.declared.answer.Answer.{Answer}
+use Rattle.lc_base.specs.declared.answer.Query.{Query}
+use Rattle.block_codec.specs.declared.block.Block.{Block}
+use Rattle.chain_exec.specs.Compiled.{Compiler}
+use Rattle.proof_codec.specs.declared.proof.Proof.{Proof}
+use Rattle.proof_views.specs.Viewing.{Spells}
+use Rattle.proof_checks.specs.ProofTexts.{proof_texts}
+use Rattle.text_clashes.specs.FirstClash.{text_at, ClashAt}
+use Rattle.proof_commands.specs.Verifying.{hex_text, IsVerification}
+use Rattle.proof_commands.specs.declared.verification.Verification.TheVariants.{Accepted}
+use Rattle.replay_soundness.specs.Soundness.{HasRoot, replayed_answer, replayed_texts, ClashesWithReplay}
+use Rattle.crash_promises.specs.Promises.{Line, plain}
+use Rattle.cli_lines.specs.Lines.{answer_lines}
+use Rattle.cli_lines.specs.declared.status.Status.TheVariants as statuses
+use Rattle.cli_output.specs.Output.{Output, FitsInput, IsVerifyOutput, IsExposeOutput}
+use Rattle.cli_output.specs.Proofs.{clash_line}
+
+-- The input is this proof in hex.
+abbrev pub IsProofInHex : List ℕ → Proof → Type 0
+IsProofInHex input proof = (bytes : List ℕ) × (decode_of (hex_text input) ≡ Ok bytes) × Spells bytes proof
+
+-- The lines are those of what replaying the blocks of any chain that has the root answers, up to the
+-- block where it has it; or a text of the proof and one of that chain's ledger differ and have one digest.
+abbrev pub TellsReplays : List ℕ → Query → Proof → List Line → Type 0
+TellsReplays root query proof lines =
+    (compile : Compiler) (blocks : List Block) (block : ℕ) → HasRoot compile blocks block root
+    → (lines ≡ map plain (answer_lines (replayed_answer compile blocks block query))) ⊎ ClashesWithReplay compile blocks block proof
+
+-- Where `verify` ends well, the input is a proof, and what it tells is the answer of every chain with the
+-- root, or there is a clash.
+abbrev pub VerifiedAnswersHold : List ℕ → Query → List ℕ → Type 0
+VerifiedAnswersHold root query input =
+    (output : Output) → IsVerifyOutput root query input output → output.status ≡ statuses.Done
+    → (proof : Proof) × IsProofInHex input proof × TellsReplays root query proof output.lines
+
+-- The line tells a text of the first list and one of the second, which differ and have one digest.
+abbrev pub TellsClash : List (List ℕ) → List (List ℕ) → List Line → Type 0
+TellsClash given own lines =
+    (one : ℕ) × (other : ℕ) × ClashAt given own one other × (lines ≡ plain (clash_line (text_at given one) (text_at own other)) ∷ [])
+
+-- Where a chain has the root at the block, the question is about no later one, and `verify` accepts the
+-- input with another answer than that of replaying the chain up to the block, `expose` tells a text of the
+-- proof and one of the chain's ledger that differ and have one digest.
+abbrev pub WrongAnswersAreTold : List ℕ → Query → ℕ → List ℕ → Type 0
+WrongAnswersAreTold root query root_at input =
+    (compile : Compiler) (blocks : List Block) (answer : Answer) (output : Output)
+    → HasRoot compile blocks root_at root → query.at ≤ root_at → FitsInput input → IsVerification root query input (Accepted answer)
+    → answer ≢ replayed_answer compile blocks root_at query → IsExposeOutput compile root query root_at input blocks output
+    → (proof : Proof) × IsProofInHex input proof × TellsClash (proof_texts proof) (replayed_texts compile blocks root_at) output.lines

@@ -1,0 +1,80 @@
+-- What was told of a command, and how it was answered.
+use Rattle.std.specs.Prelude.{◌≡◌, ℕ, List, [], ◌∷◌, map, Option, Result, Ok, Err, IfOk, is_ok}
+use Rattle.lc_io.specs.Disk.{DiskState}
+use Rattle.lc_io.specs.Outside.{Tell}
+use Rattle.block_log.specs.Standing.{NextBlock}
+use Rattle.chain_input.specs.declared.stop.Stop.{Stop}
+use Rattle.chain_input.specs.declared.stop.Stop.TheVariants as reads
+use Rattle.recovery.specs.declared.errors.StartError.{StartError}
+use Rattle.recovery.specs.declared.errors.StartError.TheVariants as starts
+use Rattle.crash_promises.specs.Promises.{plain, Telling}
+use Rattle.cli_append.specs.Appending.{fold_end}
+use Rattle.cli_append.specs.declared.ending.AppendEnd.{AppendEnd}
+use Rattle.cli_append.specs.declared.ending.AppendStop.{AppendStop}
+use Rattle.cli_append.specs.declared.ending.AppendStop.TheVariants as appends
+use Rattle.cli_lines.specs.Lines.{not_a_log_line, damaged_line}
+use Rattle.cli_lines.specs.Outcome.{status_of, outcome_with}
+use Rattle.cli_lines.specs.declared.outcome.Outcome.{Outcome}
+use Rattle.cli_lines.specs.declared.outcome.Ending.{Ending}
+use Rattle.cli_lines.specs.declared.outcome.Ending.TheVariants as endings
+use Rattle.cli_lines.specs.declared.status.Status.{Status}
+use Rattle.cli_lines.specs.declared.status.Status.TheVariants as statuses
+use Rattle.cli_output.specs.Output.{fold_ending}
+use Rattle.cli_output.specs.declared.stop.RunStop.{RunStop}
+use Rattle.cli_output.specs.declared.stop.RunStop.TheVariants as stops
+
+-- ---- answers
+
+-- The status that a stop gives.
+abbrev pub status_of_stop : RunStop → Status
+status_of_stop stops.Unreadable = statuses.Unreadable
+status_of_stop stops.Untold = statuses.Untold
+status_of_stop stops.DiskFault = statuses.DiskFault
+status_of_stop stops.Memory = statuses.Memory
+
+-- The status that a command gives.
+abbrev pub status_of_result : Result Ending RunStop → Status
+status_of_result (Ok ending) = status_of ending
+status_of_result (Err stop) = status_of_stop stop
+
+-- The status of words that are no command.
+abbrev pub status_of_usage : {T : Type 0} → Result T RunStop → Status
+status_of_usage (Ok told) = statuses.Usage
+status_of_usage (Err stop) = status_of_stop stop
+
+-- Why a command stopped that appends.
+abbrev pub append_stop : AppendStop → RunStop
+append_stop appends.Unreadable = stops.Unreadable
+append_stop appends.Untold = stops.Untold
+append_stop appends.DiskFault = stops.DiskFault
+append_stop appends.Memory = stops.Memory
+
+-- How a command ends that appends.
+abbrev pub append_answer : Result AppendEnd AppendStop → Result Ending RunStop
+append_answer (Ok end) = Ok (fold_ending (fold_end end))
+append_answer (Err stop) = Err (append_stop stop)
+
+-- ---- outcomes
+
+-- All pieces of an outcome were told, and its ending is answered; or a prefix of them was told.
+pub record Says {D : Type 0} (next : NextBlock) (now : D → ℕ) (disk : D → ℕ → Option DiskState) (told : D → Option (List Tell)) (old new : D) (outcome : Outcome) (result : Result Ending RunStop) : Type 0 where
+  pub lines : Telling next now disk told old new (map plain outcome.pieces) (is_ok result)
+  pub ending : IfOk result (λ ending. ending ≡ outcome.ending)
+
+-- A command stopped so before it told anything.
+pub record StopsSilent {D : Type 0} (told : D → Option (List Tell)) (old new : D) (stop : RunStop) (result : Result Ending RunStop) : Type 0 where
+  pub stop_is : result ≡ Err stop
+  pub silent : told new ≡ told old
+
+-- What became of a command that has an outcome, or that stopped before it told anything.
+abbrev pub TellsResult : {D : Type 0} → NextBlock → (D → ℕ) → (D → ℕ → Option DiskState) → (D → Option (List Tell)) → D → D → Result Outcome Stop → Result Ending RunStop → Type 0
+TellsResult next now disk told old new (Ok outcome) result = Says next now disk told old new outcome result
+TellsResult next now disk told old new (Err reads.Fault) result = StopsSilent told old new stops.Unreadable result
+TellsResult next now disk told old new (Err reads.Memory) result = StopsSilent told old new stops.Memory result
+
+-- What is told where there is no node to start with.
+abbrev pub TellsStart : {D : Type 0} → NextBlock → (D → ℕ) → (D → ℕ → Option DiskState) → (D → Option (List Tell)) → D → D → StartError → Result Ending RunStop → Type 0
+TellsStart next now disk told old new starts.NotALog result = Says next now disk told old new (outcome_with (not_a_log_line ∷ []) endings.NotALog) result
+TellsStart next now disk told old new (starts.Damaged at) result = Says next now disk told old new (outcome_with (damaged_line at ∷ []) endings.Damaged) result
+TellsStart next now disk told old new starts.DiskFault result = StopsSilent told old new stops.DiskFault result
+TellsStart next now disk told old new starts.Memory result = StopsSilent told old new stops.Memory result

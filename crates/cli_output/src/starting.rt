@@ -1,0 +1,59 @@
+//! What is told of a disk that holds no log.
+
+ghost use Rattle.std.specs.Prelude.{◌≡◌, true, [], ◌∷◌, Option, IfOk, IsErrOf};
+ghost use Rattle.lc_base.specs.Faults.{HasCause};
+ghost use Rattle.lc_io.specs.Disk.{Stays};
+ghost use Rattle.block_log.specs.Standing.{NextBlock};
+ghost use Rattle.recovery.specs.declared.errors.StartError.TheVariants as starts;
+ghost use Rattle.cli_lines.specs.Lines.{not_a_log_line, damaged_line};
+ghost use Rattle.cli_lines.specs.Outcome.{outcome_with};
+ghost use Rattle.cli_words.specs.declared.words.Command.{Command};
+ghost use Rattle.cli_output.specs.Output.{uses_disk};
+ghost use Rattle.cli_output.specs.Running.{IsSilent, MayEnd};
+ghost use Rattle.cli_output.specs.Telling.{TellsStart, status_of_result};
+
+use crate::stop::RunStop;
+use crate::telling::tell_made;
+use cli_lines::{Ending, Outcome, damaged_line, not_a_log_line};
+use lc_base::Memory;
+use lc_io::Wire;
+use recovery::StartError;
+use std::alloc::Global;
+
+/// The disk holds something else than a log.
+fn not_a_log(alloc: Global) -> Result<Outcome, Memory>
+    ensures { IfOk result (λ outcome. outcome ≡ outcome_with (not_a_log_line ∷ []) Ending.NotALog) }
+{
+    Outcome::from_line(alloc, not_a_log_line(alloc)?, Ending::NotALog)
+}
+
+/// The log is damaged at this offset.
+fn damaged(alloc: Global, at: u64) -> Result<Outcome, Memory>
+    ensures { IfOk result (λ outcome. outcome ≡ outcome_with (damaged_line at ∷ []) Ending.Damaged) }
+{
+    Outcome::from_line(alloc, damaged_line(alloc, at)?, Ending::Damaged)
+}
+
+/// Tells that there is no node to start with, or says why the disk was not read.
+pub fn tell_start<M: Wire>(
+    alloc: Global,
+    machine: &mut M,
+    error: StartError,
+) -> Result<Ending, RunStop>
+    ensures says { (next : NextBlock) → TellsStart next M.now M.disk M.told machine.old machine.new error result }
+    ensures ends { (command : Option Command) → uses_disk command ≡ true → MayEnd (status_of_result result) command }
+    ensures silent { IsSilent (status_of_result result) (M.told machine.old) (M.told machine.new) }
+    ensures reads { IsErrOf result RunStop.Unreadable → ⊥ }
+    ensures disk_fault { IsErrOf result RunStop.DiskFault → error ≡ starts.DiskFault }
+    ensures blamed { error ≡ starts.DiskFault → IsErrOf result RunStop.DiskFault }
+    ensures disk { Stays M.now M.disk machine.old machine.new }
+    ensures disk_faults { M.disk_faults machine.new ≡ M.disk_faults machine.old }
+    ensures cause { HasCause (M.wire_faults machine.old) (M.wire_faults machine.new) (IsErrOf result RunStop.Untold) }
+{
+    match error {
+        StartError::NotALog => tell_made(machine, not_a_log(alloc)),
+        StartError::Damaged { at } => tell_made(machine, damaged(alloc, at)),
+        StartError::DiskFault => Err(RunStop::DiskFault),
+        StartError::Memory => Err(RunStop::Memory),
+    }
+}

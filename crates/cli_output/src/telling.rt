@@ -1,0 +1,113 @@
+//! Telling what a command has to tell.
+
+ghost use Rattle.std.specs.Prelude.{◌≡◌, [], ◌∷◌, map, is_ok, true, IfOk, IfErr, IsErr, IsErrOf, Option, Err};
+ghost use Rattle.lc_base.specs.Faults.{HasCause};
+ghost use Rattle.lc_io.specs.Disk.{Stays};
+ghost use Rattle.block_log.specs.Standing.{NextBlock};
+ghost use Rattle.chain_input.specs.declared.stop.Stop.TheVariants as stops;
+ghost use Rattle.crash_promises.specs.Promises.{plain, Telling};
+ghost use Rattle.cli_lines.specs.Lines.{usage_line};
+ghost use Rattle.cli_lines.specs.Outcome.{status_of};
+ghost use Rattle.cli_lines.specs.declared.outcome.Outcome.{Outcome as Outcomes};
+ghost use Rattle.cli_words.specs.declared.words.Command.{Command};
+ghost use Rattle.cli_output.specs.Output.{reads_input};
+ghost use Rattle.cli_output.specs.Running.{IsSilent, MayEnd};
+ghost use Rattle.cli_output.specs.Telling.{Says, TellsResult, status_of_result, status_of_usage};
+
+use crate::stop::RunStop;
+use chain_input::Stop;
+use cli_lines::{Ending, Outcome, usage_line};
+use lc_base::{Bytes, Memory};
+use lc_io::{Failed, Wire};
+use std::alloc::Global;
+
+/// Tells each piece by itself, in order.
+fn tell_all<M: Wire>(machine: &mut M, pieces: &[Bytes]) -> Result<(), Failed>
+    ensures lines { (next : NextBlock) → Telling next M.now M.disk M.told machine.old machine.new (map plain pieces.now) (is_ok result) }
+    ensures disk { Stays M.now M.disk machine.old machine.new }
+    ensures disk_faults { M.disk_faults machine.new ≡ M.disk_faults machine.old }
+    ensures cause { HasCause (M.wire_faults machine.old) (M.wire_faults machine.new) (IsErr result) }
+{
+    for piece in pieces {
+        match machine.tell(piece.as_bytes()) {
+            Ok(()) => {}
+            Err(Failed) => return Err(Failed),
+        }
+    }
+    Ok(())
+}
+
+/// Tells the pieces of an outcome.
+pub fn tell_outcome<M: Wire>(machine: &mut M, outcome: &Outcome) -> Result<Ending, RunStop>
+    ensures says { (next : NextBlock) → Says next M.now M.disk M.told machine.old machine.new outcome.now result }
+    ensures stop { IfErr result (λ stop. stop ≡ RunStop.Untold) }
+    ensures disk { Stays M.now M.disk machine.old machine.new }
+    ensures disk_faults { M.disk_faults machine.new ≡ M.disk_faults machine.old }
+    ensures cause { HasCause (M.wire_faults machine.old) (M.wire_faults machine.new) (IsErrOf result RunStop.Untold) }
+{
+    match tell_all(machine, outcome.pieces.as_slice()) {
+        Ok(()) => Ok(outcome.ending),
+        Err(Failed) => Err(RunStop::Untold),
+    }
+}
+
+/// Tells the outcome of a command, or says why it stopped before it told anything.
+pub fn tell_result<M: Wire>(
+    machine: &mut M,
+    outcome: Result<Outcome, Stop>,
+) -> Result<Ending, RunStop>
+    ensures says { (next : NextBlock) → TellsResult next M.now M.disk M.told machine.old machine.new outcome result }
+    ensures silent { IsSilent (status_of_result result) (M.told machine.old) (M.told machine.new) }
+    ensures ends { (command : Option Command) → reads_input command ≡ true → IfOk outcome (λ outcome. MayEnd (status_of outcome.ending) command) → MayEnd (status_of_result result) command }
+    ensures unreadable { IsErrOf result RunStop.Unreadable → outcome ≡ Err stops.Fault }
+    ensures unread { outcome ≡ Err stops.Fault → IsErrOf result RunStop.Unreadable }
+    ensures writes { IsErrOf result RunStop.DiskFault → ⊥ }
+    ensures disk { Stays M.now M.disk machine.old machine.new }
+    ensures disk_faults { M.disk_faults machine.new ≡ M.disk_faults machine.old }
+    ensures cause { HasCause (M.wire_faults machine.old) (M.wire_faults machine.new) (IsErrOf result RunStop.Untold) }
+{
+    match outcome {
+        Ok(outcome) => tell_outcome(machine, &outcome),
+        Err(Stop::Fault) => Err(RunStop::Unreadable),
+        Err(Stop::Memory) => Err(RunStop::Memory),
+    }
+}
+
+/// Tells an outcome, unless there was no memory for it.
+pub fn tell_made<M: Wire>(
+    machine: &mut M,
+    outcome: Result<Outcome, Memory>,
+) -> Result<Ending, RunStop>
+    ensures says { (next : NextBlock) (wanted : Outcomes) → IfOk outcome (λ o. o ≡ wanted) → Says next M.now M.disk M.told machine.old machine.new wanted result }
+    ensures ends { (command : Option Command) → IfOk outcome (λ o. MayEnd (status_of o.ending) command) → MayEnd (status_of_result result) command }
+    ensures silent { IsSilent (status_of_result result) (M.told machine.old) (M.told machine.new) }
+    ensures reads { IsErrOf result RunStop.Unreadable → ⊥ }
+    ensures writes { IsErrOf result RunStop.DiskFault → ⊥ }
+    ensures disk { Stays M.now M.disk machine.old machine.new }
+    ensures disk_faults { M.disk_faults machine.new ≡ M.disk_faults machine.old }
+    ensures cause { HasCause (M.wire_faults machine.old) (M.wire_faults machine.new) (IsErrOf result RunStop.Untold) }
+{
+    match outcome {
+        Ok(outcome) => tell_outcome(machine, &outcome),
+        Err(Memory) => Err(RunStop::Memory),
+    }
+}
+
+/// Tells `usage`.
+pub fn tell_usage<M: Wire>(alloc: Global, machine: &mut M) -> Result<(), RunStop>
+    ensures lines { (next : NextBlock) → Telling next M.now M.disk M.told machine.old machine.new (plain usage_line ∷ []) (is_ok result) }
+    ensures silent { IsSilent (status_of_usage result) (M.told machine.old) (M.told machine.new) }
+    ensures reads { IsErrOf result RunStop.Unreadable → ⊥ }
+    ensures writes { IsErrOf result RunStop.DiskFault → ⊥ }
+    ensures disk { Stays M.now M.disk machine.old machine.new }
+    ensures disk_faults { M.disk_faults machine.new ≡ M.disk_faults machine.old }
+    ensures cause { HasCause (M.wire_faults machine.old) (M.wire_faults machine.new) (IsErrOf result RunStop.Untold) }
+{
+    match usage_line(alloc) {
+        Ok(line) => match tell_all(machine, &[line]) {
+            Ok(()) => Ok(()),
+            Err(Failed) => Err(RunStop::Untold),
+        },
+        Err(Memory) => Err(RunStop::Memory),
+    }
+}

@@ -1,0 +1,15 @@
+//! The number with which the program exits.
+
+ghost use Rattle.std.specs.Prelude.{◌≡◌};
+ghost use Rattle.std.specs.Process.{exit_status};
+ghost use Rattle.cli_lines.specs.Status.{status_number};
+
+use cli_lines::Status;
+use std::process::ExitCode;
+
+/// What the program exits with.
+pub fn exit_of(status: Status) -> ExitCode
+    ensures { exit_status result ≡ status_number status }
+{
+    ExitCode::from(status.number())
+}

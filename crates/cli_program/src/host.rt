@@ -1,0 +1,38 @@
+//! A run over the host.
+
+ghost use Rattle.std.specs.Prelude.{◌≡◌, drop, map, string_bytes, Option, IfOk, IfErr, IfSome};
+ghost use Rattle.std.specs.Vec.Iter.{into_iter_items};
+ghost use Rattle.std.specs.IoError.{error_kind};
+ghost use Rattle.cli_words.specs.declared.words.Command.{Command};
+ghost use Rattle.cli_words.specs.Words.{IsCommand};
+ghost use Rattle.cli_output.specs.Running.{MayEnd};
+ghost use Rattle.cli_program.specs.Words.{status_without_words};
+
+use crate::words::words_of;
+use chain_cli::run::run;
+use cli_lines::Status;
+use disk_model::FileMachine;
+use lc_io::HostSource;
+use std::env::Args;
+use std::io;
+
+/// The file of the log, in the present folder.
+const LOG_FILE: &str = "chain.log";
+
+/// Runs on the words that the program was started with, its name left out, over standard input,
+/// standard output and the log.
+pub fn run_on_host(rt: &HostRuntime, args: io::Result<Args>) -> Status
+    // Each status comes only of the commands that may end with it.
+    ensures ends { IfOk args (λ args. (command : Option Command) → IsCommand (map string_bytes (drop 1 (into_iter_items args))) command → MayEnd result command) }
+    // Where there is no memory for the words, the program ends with the status of that.
+    ensures memory { IfErr args (λ error. IfSome (status_without_words (error_kind error)) (λ status. result ≡ status)) }
+{
+    match words_of(rt.alloc(), args) {
+        Ok(words) => {
+            let mut source = HostSource::new(rt.stdin());
+            let mut machine = FileMachine::new(rt, LOG_FILE, rt.stdout());
+            run(rt.alloc(), &words, &mut source, &mut machine)
+        }
+        Err(status) => status,
+    }
+}

@@ -1,0 +1,55 @@
+-- What `verify` tells, by cases.
+use Rattle.std.proofs.Common.{◌≡◌, ℕ, ◌+◌, ◌≤◌, List, [], ◌++◌, length, drop, Option, Some, None, Result, Ok, Err, refl, sym, ap, ◌∙◌, subst}
+use Rattle.std.specs.Prelude.{codes, decimal, IfOk, IfSome}
+use Rattle.lc_base.specs.declared.answer.Query.{Query}
+use Rattle.lc_base.specs.declared.digest.Digest.{Digest}
+use Rattle.proof_commands.specs.Verifying.{IsVerification}
+use Rattle.proof_commands.specs.declared.verification.HexFault.{HexFault}
+use Rattle.proof_commands.specs.declared.verification.HexFault.TheVariants.{At}
+use Rattle.proof_commands.specs.declared.verification.Verification.{Verification}
+use Rattle.proof_commands.specs.declared.verification.Verification.TheVariants.{Accepted, Rejected, BadHex}
+use Rattle.cli_words.specs.declared.words.Command.TheVariants.{Verify}
+use Rattle.cli_lines.specs.declared.whole.TheConstants.{MAX_WHOLE_INPUT_BYTES}
+use Rattle.cli_lines.specs.declared.outcome.Outcome.{Outcome}
+use Rattle.cli_lines.specs.Outcome.{status_of, bad_input}
+use Rattle.cli_lines.specs.Whole.{IsWholeInput}
+use Rattle.cli_output.specs.Output.{Output, output_of, IsVerifyOutput, LongProof, Verified}
+use Rattle.cli_output.specs.Proofs.{hex_cause, verification_outcome}
+use Rattle.cli_output.specs.Running.{MayEnd}
+use Rattle.cli_output.specs.Scanning.{IsVerifyOutcome}
+
+-- an input of which a byte is no digit
+pub bad_at : {E : Type 0} (result : Result Outcome E) (fault : HexFault) (at : ℕ) (text : List ℕ) → fault ≡ At at → text ≡ codes "at " ++ decimal at → IfOk result (λ outcome. outcome ≡ bad_input text) → IfOk result (λ outcome. outcome ≡ bad_input (hex_cause fault))
+bad_at result fault at text is told made = subst (λ (t : List ℕ). IfOk result (λ outcome. outcome ≡ bad_input t)) (told ∙ sym (ap hex_cause is)) made
+
+-- the outcome of an input that was read whole
+pub answered : {E : Type 0} (root : List ℕ) (query : Query) (input : List ℕ) (told : Verification) (result : Result Outcome E) → length input ≤ MAX_WHOLE_INPUT_BYTES → IsVerification root query input told
+    → IfOk result (λ outcome. outcome ≡ verification_outcome told) → IfOk result (λ outcome. IsVerifyOutput root query input (output_of outcome []))
+answered root query input told (Ok outcome) fits is made = subst (λ (o : Outcome). IsVerifyOutput root query input (output_of o [])) (sym made) (Verified fits told is)
+answered root query input told (Err e) fits is made = tt
+
+-- an input that is too long
+long_here : (root : List ℕ) (query : Query) (first left : Option (List ℕ)) (outcome : Outcome) → IfSome first (λ input. IsWholeInput None input left) → outcome ≡ bad_input (codes "long")
+    → IfSome first (λ input. IsVerifyOutcome root query outcome left input)
+long_here root query None left outcome whole is = tt
+long_here root query (Some input) left outcome (long, rest) is =
+    (drop (MAX_WHOLE_INPUT_BYTES + 1) input, rest, subst (λ (o : Outcome). IsVerifyOutput root query input (output_of o (drop (MAX_WHOLE_INPUT_BYTES + 1) input))) (sym is) (LongProof long))
+
+pub long_verified : (root : List ℕ) (query : Query) (first left found : Option (List ℕ)) (outcome : Outcome) → found ≡ None → IfSome first (λ input. IsWholeInput found input left) → outcome ≡ bad_input (codes "long")
+    → IfSome first (λ input. IsVerifyOutcome root query outcome left input)
+long_verified root query first left found outcome none whole is =
+    long_here root query first left outcome (subst (λ (f : Option (List ℕ)). IfSome first (λ input. IsWholeInput f input left)) none whole) is
+
+-- ---- how it ends
+
+told_ends : (root : Digest) (query : Query) (told : Verification) → MayEnd (status_of (verification_outcome told).ending) (Some (Verify root query))
+told_ends root query (Accepted answer) = refl
+told_ends root query (Rejected reject) = refl
+told_ends root query (BadHex fault) = refl
+
+output_ends : (root : Digest) (query : Query) (input : List ℕ) (output : Output) → IsVerifyOutput root.0 query input output → MayEnd output.status (Some (Verify root query))
+output_ends root query input _ (LongProof long) = refl
+output_ends root query input _ (Verified fits told is) = told_ends root query told
+
+pub verify_ends : (root : Digest) (query : Query) (input : List ℕ) (outcome : Outcome) → IsVerifyOutput root.0 query input (output_of outcome []) → MayEnd (status_of outcome.ending) (Some (Verify root query))
+verify_ends root query input outcome is = output_ends root query input (output_of outcome []) is

@@ -1,0 +1,15 @@
+//! Lines of a text.
+
+ghost use Rattle.std.specs.Prelude.{◌≡◌, string_bytes, IfOk};
+ghost use Rattle.cli_lines.specs.Lines.{line};
+
+use lc_base::{Bytes, Memory};
+
+/// A text, as a line.
+pub(crate) fn line_of(text: String) -> Result<Bytes, Memory>
+    ensures { IfOk result (λ bytes. bytes ≡ line (string_bytes text)) }
+{
+    let mut bytes = text.into_bytes();
+    bytes.push(b'\n')?;
+    Ok(Bytes::from_vec(bytes))
+}

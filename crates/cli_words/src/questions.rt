@@ -1,0 +1,104 @@
+//! The words of questions about a block: over the input, and over the log.
+
+ghost use Rattle.std.specs.Prelude.{◌≡◌, ◌↔◌, [], ◌∷◌, IsTrue, map, string_bytes, codes};
+ghost use Rattle.cli_words.specs.Words.{IsQueryOf, IsScan, IsAsk, IsRoot};
+
+use crate::single::{key_of, kind_of, number_of};
+use crate::words::Command;
+use lc_base::Query;
+
+/// The question that three words name: its kind, its key and its block.
+pub(crate) fn query_of(kind: &str, key: &str, at: &str) -> Option<Query>
+    ensures { IsQueryOf (kind.now ∷ key.now ∷ at.now ∷ []) result }
+{
+    let kind = kind_of(kind)?;
+    let key = key_of(key)?;
+    match number_of(at) {
+        Some(at) => Some(Query { kind, key, at }),
+        None => None,
+    }
+}
+
+fn is_scan(text: &str) -> bool
+    ensures { IsTrue result ↔ (text.now ≡ codes "scan") }
+{
+    text == "scan"
+}
+
+/// The question of the command `scan KIND KEY BLOCK`; `None` exactly where the words are no such
+/// command.
+pub(crate) fn scan_of(words: &[String]) -> Option<Query>
+    ensures { IsScan (map string_bytes words.now) result }
+{
+    match words {
+        [scan, kind, key, at] => {
+            if !is_scan(scan.as_str()) {
+                return None;
+            }
+            query_of(kind.as_str(), key.as_str(), at.as_str())
+        }
+        _ => None,
+    }
+}
+
+/// The question of the command `KIND KEY` or `KIND KEY BLOCK`; `None` exactly where the words are no
+/// such command.
+pub(crate) fn ask_of(words: &[String]) -> Option<Command>
+    ensures { IsAsk (map string_bytes words.now) result }
+{
+    match words {
+        [kind, key] => {
+            let kind = kind_of(kind.as_str())?;
+            let key = key_of(key.as_str())?;
+            Some(Command::Ask {
+                kind,
+                key,
+                at: None,
+            })
+        }
+        [kind, key, at] => {
+            let kind = kind_of(kind.as_str())?;
+            let key = key_of(key.as_str())?;
+            match number_of(at.as_str()) {
+                Some(at) => Some(Command::Ask {
+                    kind,
+                    key,
+                    at: Some(at),
+                }),
+                None => None,
+            }
+        }
+        _ => None,
+    }
+}
+
+fn is_root(text: &str) -> bool
+    ensures { IsTrue result ↔ (text.now ≡ codes "root") }
+{
+    text == "root"
+}
+
+/// The block of the command `root` or `root BLOCK`; `None` exactly where the words are no such
+/// command.
+pub(crate) fn root_of(words: &[String]) -> Option<Command>
+    ensures { IsRoot (map string_bytes words.now) result }
+{
+    match words {
+        [word] => {
+            if !is_root(word.as_str()) {
+                return None;
+            }
+            Some(Command::Root(None))
+        }
+        [word, at] => {
+            if !is_root(word.as_str()) {
+                return None;
+            }
+            match number_of(at.as_str()) {
+                Some(at) => Some(Command::Root(Some(at))),
+                None => None,
+            }
+        }
+        _ => None,
+    }
+}

@@ -1,0 +1,144 @@
+//! The words of commands.
+
+ghost use Rattle.std.specs.Prelude.{map, string_bytes, IfSome};
+ghost use Rattle.cli_words.specs.Words.{CanBeGiven, IsCommand, IsOneCommand, IsGenerationOf, IsAlone};
+
+use crate::proving::{expose_of, prove_of, verify_of};
+use crate::questions::{ask_of, root_of, scan_of};
+use crate::single::{count_of, is_text, number_of};
+use lc_base::{Digest, Key, Kind, Query};
+
+/// The greatest number of blocks that `gen` and `load` make.
+pub const MAX_GENERATED_BLOCKS: u32 = 100_000;
+
+/// Which blocks `gen` and `load` make.
+#[derive(Clone, Copy, Debug, PartialEq, Eq)]
+pub struct Generation {
+    /// How many, from 1 to `MAX_GENERATED_BLOCKS`.
+    pub blocks: u32,
+    /// The number that they are drawn from.
+    pub seed: u32,
+}
+
+/// What the program is told to do.
+#[derive(Clone, Copy, Debug, PartialEq, Eq)]
+pub enum Command {
+    /// `scan KIND KEY BLOCK`: answer a question over the blocks of the input.
+    Scan(Query),
+    /// `fmt`: tell the canonical text of the contract that the input is.
+    Fmt,
+    /// `pack`: tell the block file of the draft that the input is.
+    Pack,
+    /// `gen N SEED`: tell a block file of N blocks.
+    Gen(Generation),
+    /// `load N SEED`: add these N blocks to a chain in memory, and tell what look-ups of it cost.
+    Load(Generation),
+    /// `append`: take the blocks of the input into the chain of the log.
+    Append,
+    /// `root` or `root BLOCK`: tell the root at a block of the log, the last one where no BLOCK is
+    /// given.
+    Root(Option<u32>),
+    /// `KIND KEY` or `KIND KEY BLOCK`: answer a question over the blocks of the log, up to the last
+    /// one where no BLOCK is given.
+    Ask {
+        kind: Kind,
+        key: Key,
+        at: Option<u32>,
+    },
+    /// `prove KIND KEY BLOCK ROOTBLOCK`: tell a proof of the answer to a question over the blocks of
+    /// the log, for one who has the root at ROOTBLOCK.
+    Prove {
+        query: Query,
+        root_at: u32,
+    },
+    /// `verify ROOT KIND KEY BLOCK`: tell the answer of the proof that the input is, in hex.
+    Verify {
+        root: Digest,
+        query: Query,
+    },
+    /// `expose ROOT KIND KEY BLOCK ROOTBLOCK`: tell the first two texts, one of the proof that the
+    /// input is and one of the log up to ROOTBLOCK, which differ and have one digest.
+    Expose {
+        root: Digest,
+        query: Query,
+        root_at: u32,
+    },
+}
+
+/// The blocks of the words `WORD N SEED`; `None` exactly where the words are no such ones.
+fn generation_of(words: &[String], word: &str) -> Option<Generation>
+    ensures { IsGenerationOf word.now (map string_bytes words.now) result }
+{
+    match words {
+        [first, blocks, seed] => {
+            if !is_text(first.as_str(), word) {
+                return None;
+            }
+            let blocks = count_of(blocks.as_str())?;
+            match number_of(seed.as_str()) {
+                Some(seed) => Some(Generation { blocks, seed }),
+                None => None,
+            }
+        }
+        _ => None,
+    }
+}
+
+/// Whether the words are this one alone.
+fn is_alone(words: &[String], word: &str) -> bool
+    ensures { IsAlone word.now (map string_bytes words.now) result }
+{
+    match words {
+        [only] => {
+            if !is_text(only.as_str(), word) {
+                return false;
+            }
+            true
+        }
+        _ => false,
+    }
+}
+
+/// The command that the words are; `None` exactly where they are none.
+pub fn command_of(words: &[String]) -> Option<Command>
+    ensures one { IsOneCommand (map string_bytes words.now) result }
+    ensures given { IfSome result CanBeGiven }
+{
+    found(words)
+}
+
+fn found(words: &[String]) -> Option<Command>
+    ensures { IsCommand (map string_bytes words.now) result }
+{
+    if is_alone(words, "fmt") {
+        return Some(Command::Fmt);
+    }
+    if is_alone(words, "pack") {
+        return Some(Command::Pack);
+    }
+    if is_alone(words, "append") {
+        return Some(Command::Append);
+    }
+    if let Some(generation) = generation_of(words, "gen") {
+        return Some(Command::Gen(generation));
+    }
+    if let Some(generation) = generation_of(words, "load") {
+        return Some(Command::Load(generation));
+    }
+    if let Some(query) = scan_of(words) {
+        return Some(Command::Scan(query));
+    }
+    if let Some(command) = prove_of(words) {
+        return Some(command);
+    }
+    if let Some(command) = verify_of(words) {
+        return Some(command);
+    }
+    if let Some(command) = expose_of(words) {
+        return Some(command);
+    }
+    match root_of(words) {
+        Some(command) => Some(command),
+        None => ask_of(words),
+    }
+}

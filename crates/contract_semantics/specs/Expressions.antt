@@ -1,0 +1,85 @@
+-- What expressions mean.
+use Rattle.std.specs.Prelude.{ℕ, ℤ, ◌==◌, List, [], ◌∷◌, ◌++◌, find, Option, Some, None, Result, Ok, Err}
+use Rattle.std.specs.Cmp.Lexicographic.{pointwise}
+use Rattle.lc_base.specs.declared.value.Value.{Value}
+use Rattle.lc_base.specs.declared.value.Value.TheVariants as values
+use Rattle.lc_base.specs.declared.tx_status.TxStatus.{TxStatus}
+use Rattle.lc_base.specs.declared.tx_status.TxStatus.TheVariants.{WrongKind}
+use Rattle.contract_tree.specs.declared.tree.Sign.{Sign}
+use Rattle.contract_tree.specs.Tree.{Tree, Trees, none, more}
+use Rattle.contract_tree.specs.Tree as tree
+use Rattle.contract_semantics.specs.declared.charge.TheConstants.{CHARGE_NODE}
+use Rattle.contract_semantics.specs.declared.variable.Variable.{Variable}
+use Rattle.contract_semantics.specs.Operators.{combined, prefixed, decided}
+use Rattle.contract_semantics.specs.Scenes.{Scene}
+use Rattle.contract_semantics.specs.Builtins.{applied}
+use Rattle.contract_semantics.specs.Steps.{Machine, Step, Done, and_then, charged, given}
+
+-- The variable of a name.
+abbrev pub variable_of : List Variable → List ℕ → Option Variable
+variable_of variables name =
+    find (λ (variable : Variable). pointwise ◌==◌ variable.name name) variables
+
+-- The value of a variable; in a checked contract each name that is used is visible.
+abbrev pub value_found : Option Variable → Result Value TxStatus
+value_found None = Err WrongKind
+value_found (Some variable) = Ok variable.value
+
+-- What the left side decides, or else the rest.
+abbrev pub unless_decided : Option ℤ → Step Value → Machine → Step Value
+unless_decided None rest m = rest
+unless_decided (Some z) rest m = Done (values.Int z) m
+
+abbrev mutual
+  -- The value of an expression. Each part takes its charge when it begins, before its operands,
+  -- which come from left to right.
+  pub value_of : Scene → List Variable → Tree → Machine → Step Value
+  value_of s variables (tree.Int at z) m = charged CHARGE_NODE m (λ m. Done (values.Int z) m)
+  value_of s variables (tree.Text at text) m =
+      charged CHARGE_NODE m (λ m. Done (values.Text text) m)
+  value_of s variables (tree.Name at name) m =
+      charged CHARGE_NODE m (λ m. given (value_found (variable_of variables name)) m)
+  value_of s variables (tree.Call at name args) m =
+      charged CHARGE_NODE m
+      (λ m. and_then (values_of s variables [] args m) (λ args m. applied s name args m))
+  value_of s variables (tree.Prefix at sign operand) m =
+      charged CHARGE_NODE m
+      (λ m. and_then (value_of s variables operand m) (λ value m. given (prefixed sign value) m))
+  value_of s variables (tree.Binary at sign left right) m =
+      charged CHARGE_NODE m
+      (λ m. and_then (value_of s variables left m)
+      (λ first m. unless_decided (decided sign first)
+      (and_then (value_of s variables right m) (λ second m. given (combined sign first second) m))
+      m))
+
+  -- The values of expressions, one after another, after those that are done.
+  pub values_of : Scene → List Variable → List Value → Trees → Machine → Step (List Value)
+  values_of s variables done none m = Done done m
+  values_of s variables done (more x xs) m =
+      and_then (value_of s variables x m)
+      (λ value m. values_of s variables (done ++ value ∷ []) xs m)
+
+-- A call of a builtin by its name, once its own part is charged.
+abbrev pub call_value : Scene → List Variable → List ℕ → Trees → Machine → Step Value
+call_value s variables name args m =
+    and_then (values_of s variables [] args m) (λ args m. applied s name args m)
+
+-- What an operator gives, once its left side has its value.
+abbrev pub right_value : Scene → List Variable → Sign → Value → Tree → Machine → Step Value
+right_value s variables sign first right m =
+    unless_decided (decided sign first)
+    (and_then (value_of s variables right m) (λ second m. given (combined sign first second) m))
+    m
+
+-- The value of an expression, once its own part is charged.
+abbrev pub node_value : Scene → List Variable → Tree → Machine → Step Value
+node_value s variables (tree.Int at z) m = Done (values.Int z) m
+node_value s variables (tree.Text at text) m = Done (values.Text text) m
+node_value s variables (tree.Name at name) m =
+    given (value_found (variable_of variables name)) m
+node_value s variables (tree.Call at name args) m = call_value s variables name args m
+node_value s variables (tree.Prefix at sign operand) m =
+    and_then (value_of s variables operand m) (λ value m. given (prefixed sign value) m)
+node_value s variables (tree.Binary at sign left right) m =
+    and_then (value_of s variables left m)
+    (λ first m. right_value s variables sign first right m)

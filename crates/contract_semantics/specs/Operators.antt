@@ -1,0 +1,76 @@
+-- What operators give.
+use Rattle.std.specs.Prelude.{ℕ, ℤ, pos, ◌+ℤ◌, ◌-ℤ◌, ◌*ℤ◌, neg_ℤ, int_lt, Bool, false, not, ◌==◌, if◌then◌else◌, List, Option, Some, None, Result, Ok, Err}
+use Rattle.std.specs.Cmp.Lexicographic.{pointwise}
+use Rattle.std.specs.Ordering.{int_eq}
+use Rattle.lc_base.specs.Text.{joined_text}
+use Rattle.lc_base.specs.declared.value.Value.{Value}
+use Rattle.lc_base.specs.declared.value.Value.TheVariants as values
+use Rattle.lc_base.specs.declared.tx_status.TxStatus.{TxStatus}
+use Rattle.lc_base.specs.declared.tx_status.TxStatus.TheVariants.{WrongKind, TextTooLong}
+use Rattle.contract_tree.specs.declared.tree.Sign.{Sign}
+use Rattle.contract_tree.specs.declared.tree.Sign.TheVariants as signs
+use Rattle.contract_semantics.specs.Numbers.{is_zero, in_range, quotient, remainder, truth}
+
+-- A result of numbers, as a value.
+abbrev pub as_int : Result ℤ TxStatus → Result Value TxStatus
+as_int (Ok z) = Ok (values.Int z)
+as_int (Err status) = Err status
+
+-- What holds or not, as a value.
+abbrev pub as_truth : Bool → Result Value TxStatus
+as_truth holds = Ok (values.Int (truth holds))
+
+-- A text as a value, where there is one; else it is too long.
+abbrev pub as_text : Option (List ℕ) → Result Value TxStatus
+as_text None = Err TextTooLong
+as_text (Some text) = Ok (values.Text text)
+
+-- Two numbers under an operator. Of `&&` and `||` the right side decides where the left did not.
+abbrev pub on_ints : Sign → ℤ → ℤ → Result Value TxStatus
+on_ints signs.Or a b = as_truth (not (is_zero b))
+on_ints signs.And a b = as_truth (not (is_zero b))
+on_ints signs.Equal a b = as_truth (int_eq a b)
+on_ints signs.NotEqual a b = as_truth (not (int_eq a b))
+on_ints signs.Less a b = as_truth (int_lt a b)
+on_ints signs.LessEqual a b = as_truth (not (int_lt b a))
+on_ints signs.Greater a b = as_truth (int_lt b a)
+on_ints signs.GreaterEqual a b = as_truth (not (int_lt a b))
+on_ints signs.Concat a b = Err WrongKind
+on_ints signs.Plus a b = as_int (in_range (a +ℤ b))
+on_ints signs.Minus a b = as_int (in_range (a -ℤ b))
+on_ints signs.Star a b = as_int (in_range (a *ℤ b))
+on_ints signs.Slash a b = as_int (quotient a b)
+on_ints signs.Percent a b = as_int (remainder a b)
+on_ints signs.Not a b = Err WrongKind
+
+-- Two texts under an operator.
+abbrev pub on_texts : Sign → List ℕ → List ℕ → Result Value TxStatus
+on_texts signs.Equal a b = as_truth (pointwise ◌==◌ a b)
+on_texts signs.NotEqual a b = as_truth (not (pointwise ◌==◌ a b))
+on_texts signs.Concat a b = as_text (joined_text a b)
+on_texts _ a b = Err WrongKind
+
+-- Two values under an operator. What it does not take is of the wrong kind, which no checked
+-- contract comes to.
+abbrev pub combined : Sign → Value → Value → Result Value TxStatus
+combined sign (values.Int a) (values.Int b) = on_ints sign a b
+combined sign (values.Text a) (values.Text b) = on_texts sign a b
+combined sign (values.Int a) (values.Text b) = Err WrongKind
+combined sign (values.Text a) (values.Int b) = Err WrongKind
+
+-- A value under a prefix.
+abbrev pub prefixed : Sign → Value → Result Value TxStatus
+prefixed signs.Minus (values.Int a) = as_int (in_range (neg_ℤ a))
+prefixed signs.Not (values.Int a) = as_truth (is_zero a)
+prefixed _ value = Err WrongKind
+
+-- What the left side of `&&` or `||` decides alone.
+abbrev pub decided : Sign → Value → Option ℤ
+decided signs.And (values.Int a) = if is_zero a then Some (pos 0) else None
+decided signs.Or (values.Int a) = if is_zero a then None else Some (pos 1)
+decided _ value = None
+
+-- A condition holds where it is not 0.
+abbrev pub holds : Value → Bool
+holds (values.Int z) = not (is_zero z)
+holds (values.Text text) = false

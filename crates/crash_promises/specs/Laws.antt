@@ -1,0 +1,71 @@
+-- Laws of what is promised, over one run and over several.
+use Rattle.std.specs.Prelude.{◌≡◌, ℕ, ◌≤◌, Bool, nat_le, if◌then◌else◌, List, [], ◌∷◌, ◌++◌, map, Option, Some}
+use Rattle.std.specs.List.{concat}
+use Rattle.lc_io.specs.Disk.{DiskState}
+use Rattle.lc_io.specs.Outside.{Tell, IsPrefix, joined}
+use Rattle.disk_model.specs.Disk.{IsImage, Keeps}
+use Rattle.block_codec.specs.declared.block.Block.{Block}
+use Rattle.block_log.specs.Standing.{NextBlock, chain_of}
+use Rattle.crash_promises.specs.Promises.{Promise, Line, Change, IsKept, AreBegun, Telling, MayLeave}
+
+-- The bytes of pieces that were told for lines are a prefix of the lines' bytes.
+abbrev pub BegunIsPrefix : Type 0
+BegunIsPrefix = (tells : List Tell) (lines : List Line) → AreBegun tells lines → IsPrefix (joined tells) (concat (map (λ line. line.text) lines))
+
+-- ---- runs, one after another
+
+-- What a run left where it stopped: what it had promised by then, and the bytes of the disk.
+pub record Left : Type 0 where
+  pub acknowledged : List Promise
+  pub image : List ℕ
+
+-- The image keeps all these promises.
+abbrev pub AllAreKept : NextBlock → List Promise → List ℕ → Type 0
+AllAreKept next [] image = Unit {0}
+AllAreKept next (promise ∷ promises) image = IsKept next promise image × AllAreKept next promises image
+
+-- The image stands for the chain of the one before, and any blocks after it.
+abbrev pub GoesOn : NextBlock → List ℕ → List ℕ → Type 0
+GoesOn next before image =
+    (blocks : List Block) → chain_of next before ≡ Some blocks → (more : List Block) × (chain_of next image ≡ Some (blocks ++ more))
+
+-- Runs, the first one on this image, and each other one on the image that the one before it left. A
+-- run leaves a longer chain or the same one, and keeps what it promised.
+abbrev pub AreRuns : NextBlock → List ℕ → List Left → Type 0
+AreRuns next image [] = Unit {0}
+AreRuns next image (left ∷ others) =
+    GoesOn next image left.image × AllAreKept next left.acknowledged left.image × AreRuns next left.image others
+
+-- The image that the last of the runs left.
+abbrev pub last_image : List ℕ → List Left → List ℕ
+last_image image [] = image
+last_image image (left ∷ others) = last_image left.image others
+
+-- All that any of the runs promised.
+abbrev pub all_acknowledged : List Left → List Promise
+all_acknowledged [] = []
+all_acknowledged (left ∷ others) = left.acknowledged ++ all_acknowledged others
+
+-- The last chain begins with the first one, and has every block that any of the runs acknowledged.
+abbrev pub RunsHold : Type 0
+RunsHold = (next : NextBlock) (first : List ℕ) (blocks : List Block) (runs : List Left) → chain_of next first ≡ Some blocks → AreRuns next first runs
+    → (more : List Block) × (chain_of next (last_image first runs) ≡ Some (blocks ++ more)) × AllAreKept next (all_acknowledged runs) (last_image first runs)
+
+-- ---- one run, and a stop
+
+-- The promises of the lines that were begun up to a moment.
+abbrev pub acknowledged_by : ℕ → List Tell → List Line → List Promise
+acknowledged_by t [] lines = []
+acknowledged_by t (tell ∷ tells) [] = []
+acknowledged_by t (tell ∷ tells) (line ∷ lines) =
+    if nat_le tell.at t then line.promise ∷ acknowledged_by t tells lines else acknowledged_by t tells lines
+
+-- A run that told some of these lines, and made this change or a part of it, may be stopped at any
+-- moment: the image that it leaves goes on from the content at first, and keeps what was acknowledged
+-- by then.
+abbrev pub StopLeaves : {D : Type 0} → NextBlock → (D → ℕ) → (D → ℕ → Option DiskState) → (D → Option (List Tell)) → D → D → Type 0
+StopLeaves next now disk told old new =
+    (content : List ℕ) (change : Change) (lines : List Line) (all : Bool) (telling : Telling next now disk told old new lines all)
+    → Keeps now disk old new (MayLeave next content change)
+    → (t : ℕ) (state : DiskState) (image : List ℕ) → now old ≤ t → t ≤ now new → disk new t ≡ Some state → IsImage state image
+    → GoesOn next content image × AllAreKept next (acknowledged_by t telling.tells lines) image

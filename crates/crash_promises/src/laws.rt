@@ -1,0 +1,25 @@
+//! Laws of what is promised, each the contract of a function that does nothing.
+
+ghost use Rattle.block_log.specs.Standing.{NextBlock};
+ghost use Rattle.crash_promises.specs.Laws.{BegunIsPrefix, RunsHold, StopLeaves};
+
+use lc_io::Wire;
+
+/// What was told of lines is a prefix of them.
+pub fn begun_is_prefix()
+    ensures { BegunIsPrefix }
+{}
+
+/// After any number of runs and stops, the last chain begins with the first one, and has every
+/// block that was acknowledged.
+pub fn runs_hold()
+    ensures { RunsHold }
+{}
+
+/// A stop at any moment of a run leaves what the next run may begin on.
+pub fn stop_leaves<M: Wire>(old: &M, new: &M)
+    ensures { (next : NextBlock) → StopLeaves next M.now M.disk M.told old.now new.now }
+{
+    let _old = old;
+    let _new = new;
+}

@@ -1,0 +1,264 @@
+//! What builtins give.
+
+ghost use Rattle.std.specs.Prelude.{◌≡◌, ℕ, pos, length, Ok};
+ghost use Rattle.std.specs.Fmt.{signed_decimal};
+ghost use Rattle.lc_base.specs.declared.value.Value.TheVariants as values;
+ghost use Rattle.lc_base.specs.declared.answer.Kind.TheVariants as kinds;
+ghost use Rattle.contract_semantics.specs.Builtins.{with_args, one_text, one_int, version_value, item_value, version_part, count_part, item_part, plain_value, built, called, applied};
+ghost use Rattle.contract_semantics.specs.Answers.{IsResultOf, IsNoFault, Takes, Gives, Charges};
+ghost use Rattle.contract_semantics.specs.Hosts.{Asks};
+ghost use Rattle.eval_builtins.specs.Runs.{Keeps, Tells};
+
+use crate::arguments::{one_int, one_text, text_and_int, text_and_ints};
+use crate::reading::{get_int, get_text, has, int_in, text_in};
+use crate::run::Run;
+use contract_semantics::{CallSite, Stop, charge_of};
+use contract_tree::Builtin;
+use eval_history::{
+    back_count_asked, back_item_asked, block_told, block_value, fwd_count_asked, fwd_item_asked,
+    key_value, seen_told, tx_told, value_told, version_asked,
+};
+use lc_base::{Dep, Host, Name, Text, TxStatus, Value, Version};
+use std::alloc::Global;
+
+/// Takes a charge from what is left of the budget. One that is larger is not taken.
+pub fn charge(left: &mut u32, charge: u32) -> Result<(), TxStatus>
+    ensures { Charges left.old charge result left.new }
+{
+    if charge <= *left {
+        *left -= charge;
+        Ok(())
+    } else {
+        Err(TxStatus::OutOfSteps)
+    }
+}
+
+fn version_value(builtin: Builtin, version: Option<Version>) -> Result<Value, TxStatus>
+    ensures { result ≡ version_value builtin version }
+{
+    match builtin {
+        Builtin::HistInt => int_in(value_told(version)?),
+        Builtin::HistText => text_in(value_told(version)?),
+        Builtin::HistBlock => block_told(version),
+        Builtin::HistTx => tx_told(version),
+        Builtin::Seen => Ok(seen_told(version)),
+        _ => Err(TxStatus::WrongKind),
+    }
+}
+
+fn item_value(alloc: Global, builtin: Builtin, dep: &Dep) -> Result<Value, Stop>
+    ensures value { IsResultOf (λ value. value) (item_value builtin dep.now) result }
+    ensures no_fault { IsNoFault result }
+{
+    match builtin {
+        Builtin::BackKey => key_value(alloc, dep),
+        Builtin::FwdKey => key_value(alloc, dep),
+        Builtin::BackBlock => Ok(block_value(dep)),
+        Builtin::FwdBlock => Ok(block_value(dep)),
+        _ => Err(Stop::Status(TxStatus::WrongKind)),
+    }
+}
+
+fn version_part<H: Host>(
+    alloc: Global,
+    number: u32,
+    host: &mut H,
+    builtin: Builtin,
+    args: &[Value],
+) -> Result<Value, Stop>
+    requires { H.ready host.old }
+    ensures { Asks H.Host host.old host.new (λ value. value) (λ rows. version_part rows number builtin args.now) result }
+{
+    match text_and_int(args) {
+        None => Err(Stop::Status(TxStatus::WrongKind)),
+        Some((text, at)) => {
+            let version = version_asked(alloc, number, host, text, at)?;
+            Ok(version_value(builtin, version)?)
+        }
+    }
+}
+
+fn back_count<H: Host>(
+    alloc: Global,
+    number: u32,
+    host: &mut H,
+    args: &[Value],
+) -> Result<Value, Stop>
+    requires { H.ready host.old }
+    ensures { Asks H.Host host.old host.new (λ value. value) (λ rows. count_part rows number kinds.Back args.now) result }
+{
+    match text_and_int(args) {
+        None => Err(Stop::Status(TxStatus::WrongKind)),
+        Some((text, at)) => back_count_asked(alloc, number, host, text, at),
+    }
+}
+
+fn fwd_count<H: Host>(
+    alloc: Global,
+    number: u32,
+    host: &mut H,
+    args: &[Value],
+) -> Result<Value, Stop>
+    requires { H.ready host.old }
+    ensures { Asks H.Host host.old host.new (λ value. value) (λ rows. count_part rows number kinds.Fwd args.now) result }
+{
+    match text_and_int(args) {
+        None => Err(Stop::Status(TxStatus::WrongKind)),
+        Some((text, at)) => fwd_count_asked(alloc, number, host, text, at),
+    }
+}
+
+fn back_item<H: Host>(
+    alloc: Global,
+    number: u32,
+    host: &mut H,
+    builtin: Builtin,
+    args: &[Value],
+) -> Result<Value, Stop>
+    requires { H.ready host.old }
+    ensures { Asks H.Host host.old host.new (λ value. value) (λ rows. item_part rows number kinds.Back builtin args.now) result }
+{
+    match text_and_ints(args) {
+        None => Err(Stop::Status(TxStatus::WrongKind)),
+        Some((text, at, index)) => {
+            let dep = back_item_asked(alloc, number, host, text, at, index)?;
+            item_value(alloc, builtin, &dep)
+        }
+    }
+}
+
+fn fwd_item<H: Host>(
+    alloc: Global,
+    number: u32,
+    host: &mut H,
+    builtin: Builtin,
+    args: &[Value],
+) -> Result<Value, Stop>
+    requires { H.ready host.old }
+    ensures { Asks H.Host host.old host.new (λ value. value) (λ rows. item_part rows number kinds.Fwd builtin args.now) result }
+{
+    match text_and_ints(args) {
+        None => Err(Stop::Status(TxStatus::WrongKind)),
+        Some((text, at, index)) => {
+            let dep = fwd_item_asked(alloc, number, host, text, at, index)?;
+            item_value(alloc, builtin, &dep)
+        }
+    }
+}
+
+fn text_length(args: &[Value]) -> Result<Value, TxStatus>
+    ensures { result ≡ with_args (one_text args.now) (λ text. Ok (values.Int (pos (length text)))) }
+{
+    match one_text(args) {
+        None => Err(TxStatus::WrongKind),
+        Some(text) => Ok(Value::Int(text.as_bytes().len() as i64)),
+    }
+}
+
+fn number_text(alloc: Global, args: &[Value]) -> Result<Value, Stop>
+    ensures value { IsResultOf (λ value. value) (with_args (one_int args.now) (λ z. Ok (values.Text (signed_decimal z)))) result }
+    ensures no_fault { IsNoFault result }
+{
+    match one_int(args) {
+        None => Err(Stop::Status(TxStatus::WrongKind)),
+        Some(number) => Ok(Value::Text(Text::from_number(alloc, number)?)),
+    }
+}
+
+fn sender_text(alloc: Global, site: &CallSite) -> Result<Value, Stop>
+    ensures value { IsResultOf (λ value. value) (Ok (values.Text site.now.sender)) result }
+    ensures no_fault { IsNoFault result }
+{
+    Ok(Value::Text(Text::from_key(alloc, &site.sender)?))
+}
+
+/// What a builtin gives that reads nothing of the present.
+fn plain_value<H: Host>(
+    alloc: Global,
+    site: &CallSite,
+    host: &mut H,
+    builtin: Builtin,
+    args: &[Value],
+) -> Result<Value, Stop>
+    requires { H.ready host.old }
+    ensures { Asks H.Host host.old host.new (λ value. value) (λ rows. plain_value rows site.now builtin args.now) result }
+{
+    match builtin {
+        Builtin::Caller => sender_text(alloc, site),
+        Builtin::Block => Ok(Value::Int(i64::from(site.number))),
+        Builtin::Len => Ok(text_length(args)?),
+        Builtin::Text => number_text(alloc, args),
+        Builtin::HistInt => version_part(alloc, site.number, host, builtin, args),
+        Builtin::HistText => version_part(alloc, site.number, host, builtin, args),
+        Builtin::HistBlock => version_part(alloc, site.number, host, builtin, args),
+        Builtin::HistTx => version_part(alloc, site.number, host, builtin, args),
+        Builtin::Seen => version_part(alloc, site.number, host, builtin, args),
+        Builtin::BackCount => back_count(alloc, site.number, host, args),
+        Builtin::FwdCount => fwd_count(alloc, site.number, host, args),
+        Builtin::BackKey => back_item(alloc, site.number, host, builtin, args),
+        Builtin::FwdKey => fwd_item(alloc, site.number, host, builtin, args),
+        Builtin::BackBlock => back_item(alloc, site.number, host, builtin, args),
+        Builtin::FwdBlock => fwd_item(alloc, site.number, host, builtin, args),
+        Builtin::GetInt => Err(Stop::Status(TxStatus::WrongKind)),
+        Builtin::GetText => Err(Stop::Status(TxStatus::WrongKind)),
+        Builtin::Has => Err(Stop::Status(TxStatus::WrongKind)),
+    }
+}
+
+/// What a builtin gives, and what was read by then.
+fn built<C, H: Host>(run: &mut Run<C, H>, builtin: Builtin, args: &[Value]) -> Result<Value, Stop>
+    requires { H.ready run.old.host.now }
+    ensures taken { Tells H.Host run.old run.new (λ s m k. Takes (built s builtin args.now m.capture) result k.capture) }
+    ensures left { run.new.left ≡ run.old.left }
+    ensures keeps { Keeps H.Host run.old run.new result }
+{
+    match builtin {
+        Builtin::GetInt => match one_text(args) {
+            None => Err(Stop::Status(TxStatus::WrongKind)),
+            Some(text) => get_int(run.alloc, run.world, run.capture, text),
+        },
+        Builtin::GetText => match one_text(args) {
+            None => Err(Stop::Status(TxStatus::WrongKind)),
+            Some(text) => get_text(run.alloc, run.world, run.capture, text),
+        },
+        Builtin::Has => match one_text(args) {
+            None => Err(Stop::Status(TxStatus::WrongKind)),
+            Some(text) => has(run.world, run.capture, text),
+        },
+        _ => plain_value(run.alloc, run.site, run.host, builtin, args),
+    }
+}
+
+/// A call of a builtin, whose charge comes first.
+fn called<C, H: Host>(
+    run: &mut Run<C, H>,
+    builtin: Option<Builtin>,
+    args: &[Value],
+) -> Result<Value, Stop>
+    requires { H.ready run.old.host.now }
+    ensures step { Tells H.Host run.old run.new (λ s m k. Gives (λ value. value) (called s builtin args.now m) result k) }
+    ensures keeps { Keeps H.Host run.old run.new result }
+{
+    match builtin {
+        None => Err(Stop::Status(TxStatus::WrongKind)),
+        Some(builtin) => {
+            charge(&mut run.left, charge_of(builtin))?;
+            built(run, builtin, args)
+        }
+    }
+}
+
+/// A call of a builtin by its name: its charge, then what it does.
+///
+/// # Errors
+///
+/// The status with which it fails, a fault of the host, or `Memory`.
+#[tactic(auto, unfolding(contract_semantics::specs::Builtins::applied))]
+pub fn applied<C, H: Host>(run: &mut Run<C, H>, name: &Name, args: &[Value]) -> Result<Value, Stop>
+    requires { H.ready run.old.host.now }
+    ensures step { Tells H.Host run.old run.new (λ s m k. Gives (λ value. value) (applied s name.now args.now m) result k) }
+    ensures keeps { Keeps H.Host run.old run.new result }
+{
+    let builtin = Builtin::of_name(name);
+    called(run, builtin, args)
+}

@@ -1,0 +1,157 @@
+//! Statements in turn: branches, loops, and blocks, whose names end with them.
+
+ghost use Rattle.std.specs.Prelude.{map};
+ghost use Rattle.contract_tree.specs.Tree.{tree_of, statement_of, statement_list};
+ghost use Rattle.contract_semantics.specs.Statements.{statement_run, statements_run, block_run, branch_run, loop_turn, loop_run};
+ghost use Rattle.eval_builtins.specs.Runs.{Keeps, Tells};
+ghost use Rattle.eval_simple.specs.Flows.{Flows};
+ghost use Rattle.eval_statements.specs.Turns.{Turns};
+
+use contract_semantics::Stop;
+use contract_tree::{Expr, Form, Statement};
+use eval_builtins::Run;
+use eval_simple::{
+    Flow, assign_statement, fail_statement, let_statement, put_statement, return_statement, tested,
+};
+use eval_variables::Variables;
+use lc_base::{Host, TxStatus};
+
+/// A statement.
+#[cycle(statement)]
+fn statement<C, H: Host>(
+    run: &mut Run<C, H>,
+    variables: &mut Variables,
+    x: &Statement,
+) -> Result<Flow, Stop>
+    requires { H.ready run.old.host.now }
+    ensures step { Tells H.Host run.old run.new (λ s m k. Flows (statement_run s (statement_of x.now) variables.old m) result variables.new k) }
+    ensures keeps { Keeps H.Host run.old run.new result }
+{
+    match &x.form {
+        Form::Let { name, value, .. } => { let_statement(run, variables, name, value) }
+        Form::Assign { name, value } => { assign_statement(run, variables, name, value) }
+        Form::If { test, .. } => {
+            let chosen = tested(run, variables, test)?;
+            branch(run, variables, x, chosen)
+        }
+        Form::While { test, body } => { turns(run, variables, body, test) }
+        Form::Put { key, value, from } => put_statement(run, variables, key, value, from),
+        Form::Fail => fail_statement(&mut run.left),
+        Form::Return => return_statement(&mut run.left),
+    }
+}
+
+/// The chosen block of an `if`.
+#[cycle(statement)]
+fn branch<C, H: Host>(
+    run: &mut Run<C, H>,
+    variables: &mut Variables,
+    x: &Statement,
+    chosen: bool,
+) -> Result<Flow, Stop>
+    requires { H.ready run.old.host.now }
+    ensures step { Tells H.Host run.old run.new (λ s m k. Flows (branch_run s (statement_of x.now) chosen variables.old m) result variables.new k) }
+    ensures keeps { Keeps H.Host run.old run.new result }
+{
+    match &x.form {
+        Form::If { first, second, .. } => {
+            if chosen {
+                block(run, variables, first)
+            } else {
+                match second {
+                    Some(second) => { block(run, variables, second) }
+                    None => Ok(Flow::Goes),
+                }
+            }
+        }
+        _ => Ok(Flow::Goes),
+    }
+}
+
+/// A block, whose names end with it.
+#[inline(always)]
+#[cycle(statement)]
+fn block<C, H: Host>(
+    run: &mut Run<C, H>,
+    variables: &mut Variables,
+    body: &[Statement],
+) -> Result<Flow, Stop>
+    requires { H.ready run.old.host.now }
+    ensures step { Tells H.Host run.old run.new (λ s m k. Flows (block_run s (statement_list (map statement_of body.now)) variables.old m) result variables.new k) }
+    ensures keeps { Keeps H.Host run.old run.new result }
+{
+    let outer = variables.len();
+    match statements(run, variables, body)? {
+        Flow::Returns => Ok(Flow::Returns),
+        Flow::Goes => {
+            variables.keep(outer);
+            Ok(Flow::Goes)
+        }
+    }
+}
+
+/// A turn of a loop: `None` where another turn comes.
+#[inline(always)]
+#[cycle(statement)]
+fn turn<C, H: Host>(
+    run: &mut Run<C, H>,
+    variables: &mut Variables,
+    body: &[Statement],
+    test: &Expr,
+) -> Result<Option<Flow>, Stop>
+    requires { H.ready run.old.host.now }
+    ensures step { Tells H.Host run.old run.new (λ s m k. Turns (loop_turn s (tree_of test.now) (statements_run s (statement_list (map statement_of body.now))) variables.old m) result variables.new k) }
+    ensures keeps { Keeps H.Host run.old run.new result }
+{
+    if !tested(run, variables, test)? {
+        return Ok(Some(Flow::Goes));
+    }
+    match block(run, variables, body)? {
+        Flow::Returns => Ok(Some(Flow::Returns)),
+        Flow::Goes => Ok(None),
+    }
+}
+
+/// A loop. Each of its turns takes a charge, so that it ends with what is left of the budget.
+#[cycle(statement)]
+#[tactic(auto, using(crate::proofs::Loops::no_turn))]
+fn turns<C, H: Host>(
+    run: &mut Run<C, H>,
+    variables: &mut Variables,
+    body: &[Statement],
+    test: &Expr,
+) -> Result<Flow, Stop>
+    requires { H.ready run.old.host.now }
+    ensures step { Tells H.Host run.old run.new (λ s m k. Flows (loop_run s (tree_of test.now) (statement_list (map statement_of body.now)) m.left variables.old m) result variables.new k) }
+    ensures keeps { Keeps H.Host run.old run.new result }
+{
+    let most = run.left;
+    'rounds: for _ in 0..most {
+        match turn(run, variables, body, test) {
+            Err(stop) => return Err(stop),
+            Ok(Some(flow)) => return Ok(flow),
+            Ok(None) => {}
+        }
+    }
+    Err(Stop::Status(TxStatus::OutOfSteps))
+}
+
+/// Statements, one after another.
+#[cycle(statement)]
+pub fn statements<C, H: Host>(
+    run: &mut Run<C, H>,
+    variables: &mut Variables,
+    body: &[Statement],
+) -> Result<Flow, Stop>
+    requires { H.ready run.old.host.now }
+    ensures step { Tells H.Host run.old run.new (λ s m k. Flows (statements_run s (statement_list (map statement_of body.now)) variables.old m) result variables.new k) }
+    ensures keeps { Keeps H.Host run.old run.new result }
+{
+    for x in body {
+        match statement(run, variables, x)? {
+            Flow::Returns => return Ok(Flow::Returns),
+            Flow::Goes => {}
+        }
+    }
+    Ok(Flow::Goes)
+}

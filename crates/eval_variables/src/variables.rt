@@ -1,0 +1,80 @@
+//! Variables, oldest first.
+
+ghost use Rattle.std.specs.Prelude.{◌≡◌, [], length, take, OnOk, OnErr};
+ghost use Rattle.std.specs.Option.{option_copied};
+ghost use Rattle.contract_semantics.specs.Statements.{declared, assigned};
+ghost use Rattle.eval_variables.specs.Named.{value_in};
+
+use lc_base::{Memory, Name, Value};
+use name_table::NameTable;
+use std::alloc::Global;
+use std::marker::Model;
+
+/// The visible variables of a function.
+///
+/// They stand in a table by their names, so the time of a look-up grows with the logarithm of their
+/// number, whatever their names.
+#[derive(Drop)]
+pub struct Variables {
+    named: NameTable<Value>,
+}
+
+impl Model for Variables {
+    ghost use Rattle.std.specs.Prelude.{List, map};
+    ghost use Rattle.contract_semantics.specs.declared.variable.Variable.{Variable};
+    ghost use Rattle.eval_variables.specs.Named.{variable_in};
+
+    ghost Value = { List Variable };
+
+    ghost view = { λ variables. map variable_in variables.named };
+}
+
+impl Variables {
+    /// No variable. It takes no memory.
+    pub fn new(alloc: Global) -> Variables
+        ensures { result ≡ [] }
+    {
+        Variables {
+            named: NameTable::new(alloc),
+        }
+    }
+
+    /// The number of variables.
+    pub fn len(&self) -> usize
+        ensures { result ≡ length self.now }
+    {
+        self.named.len()
+    }
+
+    /// The value of the variable of a name; `None` exactly where the name isn't visible.
+    #[tactic(auto, using(crate::proofs::Named::value_found))]
+    pub fn get(&self, name: &Name) -> Option<&Value>
+        ensures { option_copied result ≡ value_in self.now name.now }
+    {
+        self.named.get(name)
+    }
+
+    /// Gives the variable of a name another value. A name that isn't visible changes nothing.
+    #[tactic(auto, using(crate::proofs::Named::value_set))]
+    pub fn assign(&mut self, name: &Name, value: Value)
+        ensures { self.new ≡ assigned self.old name.now value }
+    {
+        self.named.set(name, value);
+    }
+
+    /// Makes a name visible, with this value. Out of memory, nothing changes.
+    pub fn declare(&mut self, name: &Name, value: Value) -> Result<(), Memory>
+        ensures ok { OnOk result (self.new ≡ declared self.old name.now value) }
+        ensures err { OnErr result (self.new ≡ self.old) }
+    {
+        self.named.push(name, value)
+    }
+
+    /// Forgets all variables but so many of the oldest.
+    #[tactic(auto, using(crate::proofs::Named::oldest_kept))]
+    pub fn keep(&mut self, count: usize)
+        ensures { self.new ≡ take count self.old }
+    {
+        self.named.keep(count);
+    }
+}

@@ -1,5 +1,0 @@
-use Rattle.history_root.proofs.Growing.{earlier_versions_stay}
-use Rattle.history_root.proofs.laws.earlier_versions_stay_named.Goals as goal
-
-pub returns : goal.returns
-returns c = earlier_versions_stay

@@ -1,5 +1,0 @@
-use Rattle.history_root.proofs.UpToBlock.{links_up_to}
-use Rattle.history_root.proofs.laws.links_are_of_the_history.Goals as goal
-
-pub returns : goal.returns
-returns c = links_up_to

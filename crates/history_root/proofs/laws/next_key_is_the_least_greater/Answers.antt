@@ -1,5 +1,0 @@
-use Rattle.history_root.proofs.NextKeys.{next_is}
-use Rattle.history_root.proofs.laws.next_key_is_the_least_greater.Goals as goal
-
-pub returns : goal.returns
-returns c = next_is

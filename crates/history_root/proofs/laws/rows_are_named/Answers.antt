@@ -1,5 +1,0 @@
-use Rattle.history_root.proofs.Headers.{row_is_named}
-use Rattle.history_root.proofs.laws.rows_are_named.Goals as goal
-
-pub returns : goal.returns
-returns c = row_is_named

@@ -1,5 +1,0 @@
-use Rattle.history_root.proofs.Growing.{block_is_named}
-use Rattle.history_root.proofs.laws.versions_of_a_block_are_named.Goals as goal
-
-pub returns : goal.returns
-returns c = block_is_named

@@ -1,0 +1,59 @@
+-- The fakes of the outside: what they keep, and what each call does.
+use Rattle.std.specs.Prelude.{◌≡◌, ℕ, ◌+◌, ◌-◌, ◌^◌, Bool, true, false, ◌&&◌, ◌==◌, nat_le, nat_lt, MatchBool, List, [], ◌∷◌, ◌++◌, length, take, drop, min, Result, Ok, Err}
+use Rattle.std.specs.List.{list_any}
+use Rattle.lc_io.specs.Outside.{Tell}
+
+-- One more, up to the last value of a u64.
+abbrev pub one_more : ℕ → ℕ
+one_more n = min (n + 1) (2 ^ 64 - 1)
+
+-- Whether the call of this number is to fail.
+abbrev pub is_failing : List ℕ → ℕ → Bool
+is_failing failing number = list_any (λ n. n == number) failing
+
+-- A source in memory: the bytes left, the greatest number of bytes per pull, the numbers of the
+-- calls that fail, the calls so far and those that failed.
+pub record SourceState : Type 0 where
+  pub left : List ℕ
+  pub piece : ℕ
+  pub failing : List ℕ
+  pub calls : ℕ
+  pub faults : ℕ
+
+-- How many bytes a pull into so long a buffer gives.
+abbrev pub pulled_count : SourceState → ℕ → ℕ
+pulled_count s room = min (min s.piece room) (length s.left)
+
+-- A pull fails exactly where its number is among the failing ones, and takes nothing then.
+-- Otherwise it gives as many of the bytes left as the piece and the buffer allow.
+abbrev pub PullsPiece : {E : Type 0} → SourceState → SourceState → Result ℕ E → List ℕ → List ℕ → Type 0
+PullsPiece old new (Ok n) before after =
+    (is_failing old.failing old.calls ≡ false) × (n ≡ pulled_count old (length before)) × (after ≡ take n old.left ++ drop n before)
+    × (new ≡ record old { left = drop n old.left; calls = one_more old.calls })
+PullsPiece old new (Err e) before after =
+    (is_failing old.failing old.calls ≡ true) × (after ≡ before) × (new ≡ record old { calls = one_more old.calls; faults = one_more old.faults })
+
+-- A wire in memory: what it was told, the calls that it took and the bytes told so far, the room
+-- for both, the numbers of the calls that fail, and how many failed.
+pub record WireState : Type 0 where
+  pub told : List Tell
+  pub calls : ℕ
+  pub bytes : ℕ
+  pub room_calls : ℕ
+  pub room_bytes : ℕ
+  pub failing : List ℕ
+  pub faults : ℕ
+
+-- Whether the record of a call with so many bytes fits the room.
+abbrev pub fits_room : WireState → ℕ → Bool
+fits_room w count = nat_lt w.calls w.room_calls && nat_le (w.bytes + count) w.room_bytes
+
+-- A tell that does not fit the room changes nothing but the count of faults. One that fits takes a
+-- number; it fails exactly where that number is among the failing ones, and tells no byte then.
+abbrev pub TellsPiece : {T E : Type 0} → List ℕ → WireState → WireState → Result T E → Type 0
+TellsPiece piece old new (Ok x) =
+    (fits_room old (length piece) ≡ true) × (is_failing old.failing old.calls ≡ false)
+    × (new ≡ record old { told = old.told ++ record { at = old.calls; bytes = piece } ∷ []; calls = old.calls + 1; bytes = old.bytes + length piece })
+TellsPiece piece old new (Err e) = MatchBool (fits_room old (length piece))
+    ((is_failing old.failing old.calls ≡ true) × (new ≡ record old { calls = old.calls + 1; faults = one_more old.faults }))
+    (new ≡ record old { faults = one_more old.faults })

@@ -1,0 +1,26 @@
+-- The pieces that a record of bytes holds.
+use Rattle.std.specs.Prelude.{ℕ, ◌≤◌, List, length, map}
+use Rattle.std.specs.List.{slice_range, AllByRecursion}
+use Rattle.std.specs.Global.{Vec}
+use Rattle.std.specs.Vec.{vec_len, vec_capacity}
+use Rattle.lc_io.specs.Outside.{Tell}
+use Rattle.lc_io.specs.declared.mem_wire.Mark.{Mark}
+
+-- The piece that a mark names.
+abbrev pub piece_at : List ℕ → Mark → Tell
+piece_at bytes mark = record { at = mark.at; bytes = slice_range bytes mark.start mark.end }
+
+abbrev pub pieces : List ℕ → List Mark → List Tell
+pieces bytes marks = map (piece_at bytes) marks
+
+-- A mark names bytes that are there.
+abbrev pub IsWithin : ℕ → Mark → Type 0
+IsWithin len mark = (mark.start ≤ mark.end) × (mark.end ≤ len)
+
+-- A record that has room for so many marks and bytes, of which each mark names bytes that are
+-- there.
+pub record IsRecord (room_calls room_bytes calls : ℕ) (marks : Vec Mark) (bytes : Vec ℕ) : Type 0 where
+  pub few : vec_len marks ≤ calls
+  pub mark_room : room_calls ≤ vec_capacity marks
+  pub byte_room : room_bytes ≤ vec_capacity bytes
+  pub within : AllByRecursion (IsWithin (length bytes.items)) marks.items

@@ -1,0 +1,159 @@
+//! A wire in memory.
+
+ghost use Rattle.std.specs.Prelude.{◌≡◌, ℕ, ◌+◌, ◌^◌, ◌<◌, ◌≤◌, Some, None, [], ◌∷◌, ◌++◌, length, IfOk, IsErr, MatchOption};
+ghost use Rattle.std.specs.Vec.{vec_len, vec_capacity};
+ghost use Rattle.std.specs.List.{slice_get};
+ghost use Rattle.lc_io.specs.Disk.{Stays};
+ghost use Rattle.lc_base.specs.Faults.{HasCause};
+ghost use Rattle.lc_io.specs.Outside.{Tells};
+ghost use Rattle.lc_io.specs.Fakes.{WireState, TellsPiece, fits_room};
+
+use crate::fakes::{is_failing, one_more};
+use crate::outside::{Clock, Failed, Wire};
+use lc_base::Memory;
+use std::alloc::Global;
+use std::marker::Model;
+
+/// How much a fake can record.
+#[derive(Clone, Copy, Debug, PartialEq, Eq)]
+pub struct Room {
+    /// The number of calls.
+    pub calls: u32,
+    /// The number of bytes told or written.
+    pub bytes: u32,
+}
+
+/// Where a told piece stands among the bytes told, and the moment at which telling it began.
+#[derive(Clone, Copy, Debug)]
+struct Mark {
+    at: u64,
+    start: usize,
+    end: usize,
+}
+
+/// A wire that records what it is told, in memory that it takes when it is made, and fails at the
+/// calls that it is told to fail at.
+#[derive(Debug, Drop)]
+pub struct MemWire {
+    marks: Vec<Mark>,
+    bytes: Vec<u8>,
+    room: Room,
+    calls: u64,
+    failing: Vec<u64>,
+    faults: u64,
+}
+
+impl Model for MemWire {
+    ghost use Rattle.std.specs.Prelude.{length};
+    ghost use Rattle.lc_io.specs.Fakes.{WireState};
+    ghost use Rattle.lc_io.specs.Marks.{pieces, IsRecord};
+
+    ghost Value = { WireState };
+
+    ghost view = { λ w. record { told = pieces w.bytes.items w.marks.items; calls = w.calls; bytes = length w.bytes.items; room_calls = w.room.calls; room_bytes = w.room.bytes; failing = w.failing.items; faults = w.faults } };
+
+    ghost invariant = { λ w. IsRecord w.room.calls w.room.bytes w.calls w.marks w.bytes };
+}
+
+impl MemWire {
+    /// A wire that was told nothing. The tells whose numbers, from 0, are in `failing` fail, and so
+    /// do those that do not fit the room.
+    pub fn new(alloc: Global, room: Room, failing: &[u64]) -> Result<MemWire, Memory>
+        ensures { IfOk result (λ wire. wire ≡ record { told = []; calls = 0; bytes = 0; room_calls = room.calls; room_bytes = room.bytes; failing = failing.now; faults = 0 }) }
+    {
+        let marks = Vec::with_capacity(alloc, room.calls as usize)?;
+        let bytes = Vec::with_capacity(alloc, room.bytes as usize)?;
+        let failing = Vec::from_slice(alloc, failing)?;
+        Ok(MemWire {
+            marks,
+            bytes,
+            room,
+            calls: 0,
+            failing,
+            faults: 0,
+        })
+    }
+
+    /// How many pieces were told.
+    pub fn told_count(&self) -> usize
+        ensures { result ≡ length self.now.told }
+    {
+        self.marks.len()
+    }
+
+    /// The piece at an index, from 0, and the moment at which telling it began; `None` exactly past
+    /// the end.
+    pub fn told_at(&self, index: usize) -> Option<(u64, &[u8])>
+        ensures { MatchOption result (length self.now.told ≤ index) (λ tell. slice_get self.now.told index ≡ Some (record { at = tell.0; bytes = tell.1.now })) }
+    {
+        let mark = self.marks.get(index)?;
+        Some((mark.at, &self.bytes[mark.start..mark.end]))
+    }
+
+    /// Whether the record of a call with so many bytes fits the room.
+    fn fits_room(&self, count: usize) -> bool
+        requires { count < 2 ^ 63 }
+        ensures { result ≡ fits_room self.now count }
+    {
+        self.calls < u64::from(self.room.calls)
+            && self.bytes.len() + count <= self.room.bytes as usize
+    }
+}
+
+/// Records a piece, for which there is room.
+fn record(marks: &mut Vec<Mark>, bytes: &mut Vec<u8>, at: u64, piece: &[u8])
+    requires mark_room { vec_len marks.old < vec_capacity marks.old }
+    requires byte_room { vec_len bytes.old + length piece.now ≤ vec_capacity bytes.old }
+    ensures bytes { bytes.new.items ≡ bytes.old.items ++ piece.now }
+    ensures marks { marks.new.items ≡ marks.old.items ++ record { at = at; start = length bytes.old.items; end = length bytes.old.items + length piece.now } ∷ [] }
+    ensures mark_room_stays { vec_capacity marks.old ≤ vec_capacity marks.new }
+    ensures byte_room_stays { vec_capacity bytes.old ≤ vec_capacity bytes.new }
+{
+    let start = bytes.len();
+    let end = start + piece.len();
+    match marks.push(Mark { at, start, end }) {
+        Ok(()) => {}
+        Err(_) => unreachable!(),
+    }
+    match bytes.extend_from_slice(piece) {
+        Ok(()) => {}
+        Err(_) => unreachable!(),
+    }
+}
+
+impl Clock for MemWire {
+    ghost now = { λ w. w.calls };
+
+    ghost told = { λ w. Some w.told };
+
+    ghost wire_faults = { λ w. w.faults };
+
+    ghost disk = { λ _ _. None };
+
+    ghost disk_faults = { λ _. 0 };
+}
+
+impl Wire for MemWire {
+    /// Fails exactly at the calls whose numbers are among the failing ones, and at those that do
+    /// not fit the room.
+    fn tell(&mut self, bytes: &[u8]) -> Result<(), Failed>
+        ensures disk { Stays (λ w. w.calls) (λ _ _. None) self.old self.new }
+        ensures disk_faults { ◌≡◌ {A = ℕ} 0 0 }
+        ensures told { Tells self.old.calls bytes.now (Some self.old.told) (Some self.new.told) result }
+        ensures cause { HasCause self.old.faults self.new.faults (IsErr result) }
+        ensures exact { TellsPiece bytes.now self.old self.new result }
+    {
+        if !self.fits_room(bytes.len()) {
+            self.faults = one_more(self.faults);
+            return Err(Failed);
+        }
+        let number = self.calls;
+        self.calls += 1;
+        if is_failing(&self.failing, number) {
+            self.faults = one_more(self.faults);
+            return Err(Failed);
+        }
+        record(&mut self.marks, &mut self.bytes, number, bytes);
+        Ok(())
+    }
+}

@@ -1,0 +1,55 @@
+//! The traits of the outside. A meaning of an object is named by contracts alone; the program knows
+//! of it what calls answer.
+//! An optional meaning is `None` where the object does not tell it, and a clause on it then says
+//! only that it stays untold.
+
+ghost use Rattle.std.specs.Prelude.{◌≡◌, ℕ, ◌<◌, ◌≤◌, List, length, Option, IfOk, IsErr};
+ghost use Rattle.lc_io.specs.Disk.{DiskState, Stays};
+ghost use Rattle.lc_base.specs.Faults.{HasCause};
+ghost use Rattle.lc_io.specs.Outside.{Pulls, Tell, Tells};
+
+/// A call of the outside failed.
+#[derive(Clone, Copy, Debug, PartialEq, Eq)]
+pub struct Failed;
+
+/// The one clock of a machine, what the machine was told, and what its disk holds.
+pub trait Clock {
+    /// The present moment. No call lowers it.
+    ghost now: { Self → ℕ };
+    /// The pieces told so far (optional).
+    ghost told: { Self → Option (List Tell) };
+    /// How many tells failed, up to the last value of a `u64`.
+    ghost wire_faults: { Self → ℕ };
+    /// The disk at a moment (optional).
+    ghost disk: { Self → ℕ → Option DiskState };
+    /// How many calls of the disk failed, up to the last value of a `u64`.
+    ghost disk_faults: { Self → ℕ };
+}
+
+/// Bytes that come in.
+pub trait Source {
+    /// The bytes that are still to come (optional).
+    ghost left: { Self → Option (List ℕ) };
+    /// How many pulls failed, up to the last value of a `u64`.
+    ghost source_faults: { Self → ℕ };
+
+    /// Takes the next bytes into the prefix of the buffer and answers how many; 0 only where
+    /// nothing is left.
+    /// After `Failed` nothing was taken.
+    fn pull(&mut self, buffer: &mut [u8]) -> Result<usize, Failed>
+        requires { 0 < length buffer.old }
+        ensures bound { IfOk result (λ n. n ≤ length buffer.new) }
+        ensures bytes { Pulls (left self.old) (left self.new) result buffer.new }
+        ensures cause { HasCause (source_faults self.old) (source_faults self.new) (IsErr result) };
+}
+
+/// Bytes that go out.
+pub trait Wire: Clock {
+    /// Tells one piece. After `Failed` some first bytes of it may have been told. The disk stays as
+    /// it was.
+    fn tell(&mut self, bytes: &[u8]) -> Result<(), Failed>
+        ensures disk { Stays Self.now Self.disk self.old self.new }
+        ensures disk_faults { Self.disk_faults self.new ≡ Self.disk_faults self.old }
+        ensures told { Tells (Self.now self.old) bytes.now (Self.told self.old) (Self.told self.new) result }
+        ensures cause { HasCause (Self.wire_faults self.old) (Self.wire_faults self.new) (IsErr result) };
+}

@@ -1,0 +1,66 @@
+use Rattle.std.proofs.Common.{◌≡◌, ◌-◌, map, length, ◌+◌, ◌*◌}
+use Rattle.contract_tree.specs.Tree.{tree_of}
+use Rattle.contract_tokens.specs.declared.token.Mark.TheVariants as m
+use Rattle.contract_grammar.specs.Marks.{is, has, sign_of}
+use Rattle.contract_grammar.specs.Rules.{turns, each}
+use Rattle.contract_grammar.specs.Reading.{operand, comma_then, level_of, binary}
+use Rattle.contract_grammar.specs.declared.limits.TheConstants.{WHOLE}
+use Rattle.parse_expression.proofs.levels.+expression.Given as goal
+
+-- what may still be pending pays for all that is called with less of it; the rest is the order of calls
+abbrev pub decreases-arguments : goal.decreases-arguments
+decreases-arguments l = l.depth * 1000 + 2
+
+abbrev pub decreases-builtin_call : goal.decreases-builtin_call
+decreases-builtin_call l = l.depth * 1000 + 3
+
+abbrev pub decreases-name_or_call : goal.decreases-name_or_call
+decreases-name_or_call l = l.depth * 1000 + 3
+
+abbrev pub decreases-prefix_operand : goal.decreases-prefix_operand
+decreases-prefix_operand l = l.depth * 1000 + 3
+
+abbrev pub decreases-group : goal.decreases-group
+decreases-group l = l.depth * 1000 + 3
+
+abbrev pub decreases-operand_by_start : goal.decreases-operand_by_start
+decreases-operand_by_start l = l.depth * 1000 + 4
+
+abbrev pub decreases-operand : goal.decreases-operand
+decreases-operand l = l.depth * 1000 + 5
+
+abbrev pub decreases-right_side : goal.decreases-right_side
+decreases-right_side l = l.depth * 1000 + l.looseness * 5 + 3
+
+abbrev pub decreases-chain : goal.decreases-chain
+decreases-chain l = l.depth * 1000 + l.looseness * 5 + 4
+
+abbrev pub decreases-level : goal.decreases-level
+decreases-level l = l.depth * 1000 + l.looseness * 5 + 7
+
+abbrev pub decreases-binary_level : goal.decreases-binary_level
+decreases-binary_level l = l.depth * 1000 + l.looseness * 5 + 6
+
+abbrev pub decreases-rest : goal.decreases-rest
+decreases-rest l = l.depth * 1000 + l.looseness * 5 + 5
+
+abbrev pub decreases-item : goal.decreases-item
+decreases-item l = l.depth * 1000 + 40
+
+abbrev pub decreases-items : goal.decreases-items
+decreases-items l = l.depth * 1000 + 41
+
+abbrev pub decreases-more_items : goal.decreases-more_items
+decreases-more_items l = l.depth * 1000 + 42
+
+abbrev pub decreases-chain-loop-alloc : goal.decreases-chain-loop-alloc
+decreases-chain-loop-alloc l = length l.cursor
+
+abbrev pub invariant-chain-loop-alloc : goal.invariant-chain-loop-alloc
+invariant-chain-loop-alloc l = turns (has (sign_of l.looseness)) (binary l.looseness (level_of (operand l.depth) (l.looseness - 1))) (tree_of l.left.expr) l.cursor ≡ turns (has (sign_of l.looseness)) (binary l.looseness (level_of (operand l.depth) (l.looseness - 1))) (tree_of l.fn.first.expr) l.initial.cursor
+
+abbrev pub decreases-items-loop-alloc : goal.decreases-items-loop-alloc
+decreases-items-loop-alloc l = length l.cursor
+
+abbrev pub invariant-items-loop-alloc : goal.invariant-items-loop-alloc
+invariant-items-loop-alloc l = each (is m.Comma) (comma_then (level_of (operand l.depth) WHOLE)) (map tree_of l.all.items.items) l.cursor ≡ each (is m.Comma) (comma_then (level_of (operand l.depth) WHOLE)) (map tree_of l.fn.earlier.items.items) l.initial.cursor

@@ -1,0 +1,142 @@
+//! A chain of blocks over a lineage.
+
+ghost use Rattle.std.specs.Prelude.{◌≡◌, ◌<◌, ◌≤◌, List, length, map, slice_get, MatchOption};
+ghost use Rattle.block_codec.specs.Placement.{digest_of, last_digest};
+ghost use Rattle.block_codec.specs.declared.limits.TheConstants.{MAX_BLOCKS};
+ghost use Rattle.block_codec.specs.declared.block.Block.{Block as Blocks};
+ghost use Rattle.chain_exec.specs.Compiled.{compiled_in};
+ghost use Rattle.chain_replay.specs.Chain.{StandsFor};
+ghost use Rattle.root_laws.specs.Root.{root_of};
+ghost use Rattle.rooted_chain.specs.Roots.{ledger_kept, root_in};
+
+use block_codec::{Block, NO_PARENT, Placement, place};
+use chain_replay::Replay;
+use contract_check::Checked;
+use lc_base::{Digest, Memory};
+use merkle_dag::Lineage;
+use std::alloc::Global;
+use std::marker::Model;
+use world_state::World;
+
+/// What is kept of a chain: its lineage, and the state that the next block runs on.
+#[derive(Drop)]
+pub struct LineageChain {
+    pub(crate) lineage: Lineage,
+    pub(crate) world: World<Checked>,
+}
+
+impl Model for LineageChain {
+    ghost use Rattle.chain_replay.specs.Chain.{ChainState, IsKept};
+    ghost use Rattle.contract_tree.specs.contracts.tree.Contract as contracts;
+    ghost use Rattle.std.specs.Coded.{codes};
+
+    ghost Value = { ChainState };
+
+    ghost coded = { Prim.hlevel (codes, contracts.the_row.coded) };
+
+    ghost view = { λ chain. record { digests = chain.lineage.digests; rows = chain.lineage.rows; codes = chain.world.codes } };
+
+    ghost invariant = { λ chain. IsKept chain.lineage.digests chain.lineage.rows chain.world };
+}
+
+/// Drops a world, whose many parts are dropped here alone.
+pub(crate) fn discard(_world: World<Checked>) {}
+
+/// How many blocks a lineage has.
+fn count_of(lineage: &Lineage) -> u32
+    requires { length lineage.now.digests ≤ MAX_BLOCKS }
+    ensures { result ≡ length lineage.now.digests }
+{
+    match lineage.head() {
+        None => 0,
+        Some(head) => head + 1,
+    }
+}
+
+/// The digest of the last of so many blocks, or `NO_PARENT` where there is none.
+fn last_digest(lineage: &Lineage) -> Digest
+    ensures { result ≡ last_digest lineage.now.digests }
+{
+    match lineage.head() {
+        None => NO_PARENT,
+        Some(head) => lineage.digest(head).unwrap_or(NO_PARENT),
+    }
+}
+
+impl LineageChain {
+    /// The number of its blocks, at most `MAX_BLOCKS`.
+    pub fn len(&self) -> u32
+        ensures { result ≡ length self.now.digests }
+    {
+        count_of(&self.lineage)
+    }
+
+    /// The digest of a block; `None` exactly past the last one.
+    pub fn digest(&self, at: u32) -> Option<Digest>
+        ensures digest { result ≡ slice_get self.now.digests at }
+        ensures stands { (blocks : List Blocks) → StandsFor self.now blocks → result ≡ slice_get (map digest_of blocks) at }
+    {
+        self.lineage.digest(at)
+    }
+
+    /// The root at a block; `None` exactly past the last one.
+    pub fn root(&self, at: u32) -> Option<Digest>
+        ensures root { MatchOption result (length self.now.digests ≤ at) (λ root. (at < length self.now.digests) × (root.0 ≡ root_of self.now.rows self.now.digests at)) }
+        ensures stands { (blocks : List Blocks) → StandsFor self.now blocks → MatchOption result (length blocks ≤ at) (λ root. (at < length blocks) × (root.0 ≡ root_in compiled_in blocks at)) }
+    {
+        self.lineage.root(at)
+    }
+
+    /// The lineage of its blocks.
+    pub fn lineage(&self) -> &Lineage
+        ensures { result.now ≡ ledger_kept self.now }
+    {
+        &self.lineage
+    }
+
+    /// Its lineage alone, for a chain that is to take no further block.
+    pub fn into_lineage(self) -> Lineage
+        ensures { result ≡ ledger_kept self }
+    {
+        let LineageChain { lineage, world } = self;
+        discard(world);
+        lineage
+    }
+}
+
+impl Replay for LineageChain {
+    ghost kept = { λ chain. chain };
+
+    fn start(alloc: Global) -> Result<LineageChain, Memory> {
+        let lineage = Lineage::new(alloc)?;
+        Ok(LineageChain {
+            lineage,
+            world: World::new(alloc),
+        })
+    }
+
+    #[tactic(auto, using(chain_replay::proofs::Kept::next_room, chain_replay::proofs::Chains::placed_as_kept))]
+    fn place(&self, block: &Block, digest: Digest) -> Placement {
+        let have = self.lineage.digest(block.number);
+        let rows = self.lineage.row_count() as u64;
+        place(
+            self.len(),
+            rows,
+            have,
+            last_digest(&self.lineage),
+            block,
+            digest,
+        )
+    }
+
+    fn replay(self, alloc: Global, block: &Block, digest: Digest) -> Result<LineageChain, Memory> {
+        let (longer, _, _) = self.extended(alloc, block, digest)?;
+        Ok(longer)
+    }
+
+    fn give_up(self) {
+        let LineageChain { lineage, world } = self;
+        lineage.give_up();
+        discard(world);
+    }
+}

@@ -1,0 +1,6 @@
+mod Levels
+pub mod Falls
+pub mod Differing
+pub mod Towers
+pub mod Threads
+pub mod LinkLaws

@@ -1,0 +1,4 @@
+pub mod Links
+pub mod Falling
+pub mod Versions
+pub mod Laws

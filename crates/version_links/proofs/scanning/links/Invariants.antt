@@ -1,7 +1,0 @@
-use Rattle.std.proofs.Common.{◌≡◌, ◌≤◌, length}
-use Rattle.std.specs.List.{filter_map, range_with_len}
-use Rattle.version_links.specs.Links.{link}
-use Rattle.version_links.proofs.scanning.links.Given as goal
-
-abbrev pub invariant-loop-level : goal.invariant-loop-level
-invariant-loop-level l = record { is : l.blocks ≡ filter_map (link l.rows l.key l.block) (range_with_len 0 l.level); few : length l.blocks ≤ l.level }

@@ -1,5 +1,0 @@
-pub mod Links
-pub mod Falling
-pub mod Versions
-pub mod GoingBack
-pub mod Laws
