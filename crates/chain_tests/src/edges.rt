@@ -1,6 +1,7 @@
 //! The edges: streams that fail once and then go on, and a file.
 
-use disk_model::{Disk, FileMachine};
+use disk_model::Disk;
+use file_machine::FileMachine;
 use lc_io::{Failed, HostSource, HostWire, Source, Wire};
 use std::fs;
 use std::io::{self, ErrorKind, Read, Write};

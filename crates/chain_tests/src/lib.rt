@@ -4,6 +4,8 @@
 #[cfg(test)]
 mod clashes;
 #[cfg(test)]
+mod crashes;
+#[cfg(test)]
 mod digests;
 #[cfg(test)]
 mod edges;

@@ -1,12 +1,13 @@
 -- One more call of a machine in memory: what it leaves of disk and wire.
-use Rattle.std.proofs.Common.{◌≡◌, ℕ, ◌+◌, ◌≤◌, ◌<◌, List, [], ◌∷◌, ◌++◌, length, take, drop, Bool, true, false, refl, sym, ◌∙◌, ap, subst, arith, inl, inr}
+use Rattle.std.proofs.Common.{◌≡◌, ℕ, ◌+◌, ◌≤◌, ◌<◌, min, List, [], ◌∷◌, ◌++◌, length, take, drop, Bool, true, false, refl, sym, ◌∙◌, ap, subst, arith, inl, inr}
 use Rattle.std.specs.Prelude.{Some, Result, Ok, Err, nat_lt, nat_le, ◌&&◌, MatchBool}
 use Rattle.std.specs.Option.{option_map}
-use Rattle.std.proofs.lemmas.List.{take-append-le, take_all, length-append, length-take, length-drop, take_at}
+use Rattle.std.proofs.lemmas.List.{take-append-le, take_all, drop_all, length-append, length-take, length-drop, take_at}
+use Rattle.std.proofs.lemmas.Bool.{cases_lt}
 use Rattle.std.proofs.lemmas.Bool.Decides.{nat_tests}
 use Rattle.lc_io.specs.Disk.{DiskState, Turns, Stays}
 use Rattle.lc_io.specs.Outside.{Tell, Tells}
-use Rattle.disk_model.specs.Disk.{settled, written, pended, overwritten, Torn, Writes, Syncs, content_of}
+use Rattle.disk_model.specs.Disk.{settled, written, pended, overwritten, Torn, Writes, Syncs}
 use Rattle.disk_model.specs.declared.mem_machine.Mark.{Mark}
 use Rattle.disk_model.specs.declared.mem_machine.Mark.TheVariants as marks
 use Rattle.disk_model.specs.Machine.{Call, Wrote, FailedWrite, Synced, Told, Idle, after_call, replayed, tells_from, MachineState, now_of, disk_of, content_now, told_of, has_room, with_call, with_disk_fault, with_wire_fault, Attempts, Makes, MakesRead, MakesWrite, MakesSync, MakesTell}
@@ -32,6 +33,13 @@ content_push first calls new mark bytes is =
     ap (λ (l : List Call). (replayed (settled first) l).content) is
     ∙ ap (λ (s : DiskState). s.content) (replayed_push (settled first) calls (call_of mark bytes))
     ∙ changed_content (replayed (settled first) calls) mark bytes
+
+-- bytes written past the end stand at the end
+pub overwritten_past : (at : ℕ) (bytes content : List ℕ) → overwritten (min at (length content)) bytes content ≡ overwritten at bytes content
+overwritten_past at bytes content = elim (cases_lt (length content) at) [
+  | inr within ↦ ap (λ (n : ℕ). overwritten n bytes content) (omega arith)
+  | inl past ↦ let end : min at (length content) ≡ length content = omega arith in rw (end, take_all at content (omega arith), take_all (length content) content (omega arith), drop_all (at + length bytes) content (omega arith), drop_all (length content + length bytes) content (omega arith)) refl
+]
 
 overwritten_len : (at : ℕ) (bytes content : List ℕ) → length (overwritten at bytes content) ≤ length content + length bytes
 overwritten_len at bytes content = omega (arith, length-append (take at content ++ bytes) (drop (at + length bytes) content), length-append (take at content) bytes, length-take at content, length-drop (at + length bytes) content)
@@ -136,9 +144,6 @@ tell_stays old new bytes (Err e) makes = tell_fails old new (has_room old (lengt
 -- the content at the present moment
 pub content_at_now : (m : MachineState) → (replayed (settled m.first) (take (now_of m) m.calls)).content ≡ content_now m
 content_at_now m = ap (λ (l : List Call). (replayed (settled m.first) l).content) (take_all (length m.calls) m.calls (omega arith))
-
-pub content_told : (m : MachineState) → content_of (disk_of m (now_of m)) ≡ Some (content_now m)
-content_told m = ap Some (content_at_now m)
 
 -- a read that is done leaves the content as it was
 pub read_content : (old new : MachineState) → new ≡ with_call Idle 0 old → content_now new ≡ content_now old

@@ -1,4 +1,6 @@
+pub mod Crash
 pub mod Disk
 pub mod Machine
 pub mod Marks
+pub mod Replays
 pub mod Sound

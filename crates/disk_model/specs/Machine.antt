@@ -51,6 +51,11 @@ pub record MachineState : Type 0 where
   pub disk_faults : ℕ
   pub wire_faults : ℕ
 
+-- A machine over these bytes, with nothing pending, no call made, room for so many calls and bytes,
+-- and these calls to fail.
+abbrev pub made : List ℕ → ℕ → ℕ → List ℕ → MachineState
+made first room_calls room_bytes failing = record { first = first; calls = []; bytes = 0; room_calls = room_calls; room_bytes = room_bytes; failing = failing; disk_faults = 0; wire_faults = 0 }
+
 -- The present moment is the one after all calls.
 abbrev pub now_of : MachineState → ℕ
 now_of m = length m.calls

@@ -1,6 +1,6 @@
 -- How a machine in memory keeps its calls: a mark for each, and the bytes of all of them, one after
 -- the other.
-use Rattle.std.specs.Prelude.{◌≡◌, ℕ, ◌+◌, ◌≤◌, Bool, true, false, List, [], ◌∷◌, length, take, drop, vec_len, vec_capacity}
+use Rattle.std.specs.Prelude.{◌≡◌, ℕ, ◌+◌, ◌≤◌, Bool, true, false, List, [], ◌∷◌, take, drop, vec_len, vec_capacity}
 use Rattle.disk_model.specs.Disk.{settled, overwritten}
 use Rattle.disk_model.specs.declared.mem_machine.Mark.{Mark}
 use Rattle.disk_model.specs.declared.mem_machine.Mark.TheVariants as marks
@@ -46,14 +46,6 @@ changed_by (marks.FailedWrite at len) bytes content = content
 changed_by marks.Synced bytes content = content
 changed_by (marks.Told len) bytes content = content
 changed_by marks.Idle bytes content = content
-
--- A write begins within the content, or at its end.
-abbrev pub IsWithin : Mark → List ℕ → Type 0
-IsWithin (marks.Wrote at len) content = at ≤ length content
-IsWithin (marks.FailedWrite at len) content = Unit {0}
-IsWithin marks.Synced content = Unit {0}
-IsWithin (marks.Told len) content = Unit {0}
-IsWithin marks.Idle content = Unit {0}
 
 -- What the parts of a machine stand for.
 abbrev pub machine_state : Inside → MachineState

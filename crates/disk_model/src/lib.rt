@@ -1,11 +1,9 @@
-//! A disk as its calls, what a crash may leave of it, and the machines with a disk: one in memory,
-//! and one over a file.
+//! A disk as its calls, what a crash may leave of it, and a machine in memory with a disk.
 #![tactic(auto)]
 
+mod crash;
 mod disk;
-mod edge;
 mod mem_machine;
 
 pub use disk::Disk;
-pub use edge::FileMachine;
 pub use mem_machine::MemMachine;

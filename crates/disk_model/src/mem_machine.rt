@@ -6,11 +6,13 @@ ghost use Rattle.std.specs.List.{slice_get};
 ghost use Rattle.lc_base.specs.Faults.{HasCause};
 ghost use Rattle.lc_io.specs.Disk.{Stays};
 ghost use Rattle.lc_io.specs.Outside.{Tells};
-ghost use Rattle.disk_model.specs.Disk.{Writes, Syncs, content_of, overwritten};
-ghost use Rattle.disk_model.specs.Machine.{MachineState, now_of, disk_of, told_of, tells_of, tells_from, content_now, has_room, is_next_failing, with_call, with_disk_fault, with_wire_fault, Attempts, Makes, MakesRead, MakesWrite, MakesSync, MakesTell, FillsBuffer};
+ghost use Rattle.disk_model.specs.Disk.{IsImage, Writes, Syncs, content_of, overwritten};
+ghost use Rattle.disk_model.specs.Crash.{crashed_machine};
+ghost use Rattle.disk_model.specs.Machine.{MachineState, made, now_of, disk_of, told_of, tells_of, tells_from, content_now, has_room, is_next_failing, with_call, with_disk_fault, with_wire_fault, Attempts, Makes, MakesRead, MakesWrite, MakesSync, MakesTell, FillsBuffer};
 ghost use Rattle.disk_model.specs.Sound.{content_is_image};
-ghost use Rattle.disk_model.specs.Marks.{kept_len, is_told, call_of, calls_of, total_len, changed_by, IsWithin};
+ghost use Rattle.disk_model.specs.Marks.{kept_len, is_told, call_of, calls_of, total_len, changed_by};
 
+use crate::crash::replay;
 use crate::disk::Disk;
 use lc_base::Memory;
 use lc_io::{Clock, Failed, Room, Wire, is_failing, one_more};
@@ -30,7 +32,7 @@ pub(crate) enum Mark {
 
 impl Mark {
     /// How many of the bytes that are kept are those of this call.
-    fn kept_len(&self) -> usize
+    pub(crate) fn kept_len(&self) -> usize
         ensures { result ≡ kept_len self.now }
     {
         match self {
@@ -98,7 +100,7 @@ fn keep(marks: &mut Vec<Mark>, kept: &mut Vec<u8>, mark: Mark, bytes: &[u8])
 }
 
 /// Writes the bytes over those from an offset on, and past the end, for which there is memory.
-fn overwrite(content: &mut Vec<u8>, at: usize, bytes: &[u8])
+pub(crate) fn overwrite(content: &mut Vec<u8>, at: usize, bytes: &[u8])
     requires within { at ≤ vec_len content.old }
     requires room { vec_len content.old + length bytes.now ≤ vec_capacity content.old }
     ensures content { content.new.items ≡ overwritten at bytes.now content.old.items }
@@ -113,14 +115,14 @@ fn overwrite(content: &mut Vec<u8>, at: usize, bytes: &[u8])
 }
 
 /// Does to the content what a call does.
-fn change(content: &mut Vec<u8>, mark: &Mark, bytes: &[u8])
-    requires within { IsWithin mark.now content.old.items }
+#[tactic(auto, using(crate::proofs::Replays::overwritten_past))]
+pub(crate) fn change(content: &mut Vec<u8>, mark: &Mark, bytes: &[u8])
     requires room { vec_len content.old + length bytes.now ≤ vec_capacity content.old }
     ensures content { content.new.items ≡ changed_by mark.now bytes.now content.old.items }
     ensures room_stays { vec_capacity content.old ≤ vec_capacity content.new }
 {
     if let Mark::Wrote { at, .. } = mark {
-        overwrite(content, *at as usize, bytes);
+        overwrite(content, (*at as usize).min(content.len()), bytes);
     }
 }
 
@@ -161,7 +163,7 @@ impl MemMachine {
         room: Room,
         failing: &[u64],
     ) -> Result<MemMachine, Memory>
-        ensures { IfOk result (λ machine. machine ≡ record { first = image.now; calls = []; bytes = 0; room_calls = room.calls; room_bytes = room.bytes; failing = failing.now; disk_faults = 0; wire_faults = 0 }) }
+        ensures { IfOk result (λ machine. machine ≡ made image.now room.calls room.bytes failing.now) }
     {
         let mut content = Vec::with_capacity(alloc, image.len() + room.bytes as usize)?;
         overwrite(&mut content, 0, image);
@@ -182,6 +184,40 @@ impl MemMachine {
         ensures { result.now ≡ content_now self.now }
     {
         &self.content
+    }
+
+    /// The present moment: how many calls were made.
+    #[tactic(auto, using(crate::proofs::Keeping::length_calls))]
+    pub fn moment(&self) -> u64
+        ensures { result ≡ now_of self.now }
+    {
+        self.marks.len() as u64
+    }
+
+    /// A machine over what a crash at a moment leaves: of the bytes that were pending then the
+    /// first `keep`, and `fill` in place of the others; where it is `short`, no more of it than was
+    /// synced. It has the room of this one, nothing is pending in it or told, and none of its calls
+    /// is to fail.
+    pub fn crash(
+        &self,
+        alloc: Global,
+        moment: u64,
+        keep: u64,
+        fill: u8,
+        short: bool,
+    ) -> Result<MemMachine, Memory>
+        requires { moment ≤ now_of self.now }
+        ensures exact { IfOk result (λ machine. machine ≡ crashed_machine moment keep fill short self.now) }
+        ensures image { IfOk result (λ machine. IfSome (disk_of self.now moment) (λ state. IsImage state (content_now machine))) }
+    {
+        let disk = replay(
+            alloc,
+            &self.first,
+            &self.marks[..moment as usize],
+            &self.bytes,
+        )?;
+        let left = disk.crash(alloc, keep, fill, short)?;
+        MemMachine::new(alloc, &left, self.room, &[])
     }
 
     /// How many pieces were told.
@@ -222,7 +258,6 @@ impl MemMachine {
     #[tactic(auto, using(crate::proofs::Keeping::length_calls))]
     fn record(&mut self, mark: Mark, bytes: &[u8])
         requires len { kept_len mark ≡ length bytes.now }
-        requires within { IsWithin mark (content_now self.old) }
         requires room { has_room self.old (length bytes.now) ≡ true }
         ensures { self.new ≡ with_call (call_of mark bytes.now) (length bytes.now) self.old }
     {
@@ -236,8 +271,6 @@ impl MemMachine {
     fn attempt(&mut self, done: Mark, failed: Mark, bytes: &[u8]) -> bool
         requires len { kept_len done ≡ length bytes.now }
         requires none { kept_len failed ≡ 0 }
-        requires done_within { IsWithin done (content_now self.old) }
-        requires failed_within { IsWithin failed (content_now self.old) }
         ensures { Attempts (length bytes.now) (call_of done bytes.now) (call_of failed []) self.old self.new result }
     {
         if !self.has_room(bytes.len()) {
@@ -274,8 +307,6 @@ impl MemMachine {
     fn disk_call(&mut self, done: Mark, failed: Mark, bytes: &[u8]) -> Result<(), Failed>
         requires len { kept_len done ≡ length bytes.now }
         requires none { kept_len failed ≡ 0 }
-        requires done_within { IsWithin done (content_now self.old) }
-        requires failed_within { IsWithin failed (content_now self.old) }
         ensures cause { HasCause self.old.disk_faults self.new.disk_faults (IsErr result) }
         ensures exact { Makes (length bytes.now) (call_of done bytes.now) (call_of failed []) with_disk_fault self.old self.new result }
     {

@@ -1,10 +1,7 @@
 use Rattle.std.proofs.Common.{length, refl}
-use Rattle.disk_model.specs.Machine.{Wrote, FailedWrite, content_now}
-use Rattle.disk_model.proofs.Replays.{content_told, writes, tells_nothing}
+use Rattle.disk_model.specs.Machine.{Wrote, FailedWrite}
+use Rattle.disk_model.proofs.Replays.{writes, tells_nothing}
 use Rattle.disk_model.proofs.mem_machine.MemMachineDisk.write_at.Goals as goal
-
-pub disk_call-requires-clause-done_within : goal.disk_call-requires-clause-done_within
-disk_call-requires-clause-done_within c = c.requires.within (content_now c.args.self.now) (content_told c.args.self.now)
 
 pub returns-clause-disk : goal.returns-clause-disk
 returns-clause-disk c = writes _ c.args.self.now c.disk_call.new.self c.args.at c.args.bytes.now c.disk_call.result c.disk_call.ensures.exact

@@ -12,7 +12,7 @@ ghost use Rattle.lc_io.specs.Streams.{CountsFaults};
 ghost use Rattle.lc_io.specs.Streams.{Writes as WritesThrough};
 ghost use Rattle.disk_model.specs.Disk.{Writes, Syncs, content_of};
 
-use crate::disk::Disk;
+use disk_model::Disk;
 use lc_io::{Clock, Failed, Wire, one_more, write_whole};
 use std::fs;
 use std::fs::{File, OpenOptions};

@@ -1,5 +1,5 @@
 use Rattle.std.proofs.Common.{◌≤◌, ◌-◌, length}
-use Rattle.disk_model.proofs.edge.read_whole_at.Given as goal
+use Rattle.file_machine.proofs.edge.read_whole_at.Given as goal
 
 abbrev pub invariant-loop-filled : goal.invariant-loop-filled
 invariant-loop-filled l = l.filled ≤ length l.buffer

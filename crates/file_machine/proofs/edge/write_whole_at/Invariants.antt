@@ -1,5 +1,5 @@
 use Rattle.std.proofs.Common.{◌≤◌, ◌-◌, length}
-use Rattle.disk_model.proofs.edge.write_whole_at.Given as goal
+use Rattle.file_machine.proofs.edge.write_whole_at.Given as goal
 
 abbrev pub invariant-loop-taken : goal.invariant-loop-taken
 invariant-loop-taken l = l.taken ≤ length l.bytes

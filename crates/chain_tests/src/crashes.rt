@@ -1,0 +1,83 @@
+//! What crashes of a machine in memory leave.
+
+use disk_model::{Disk, MemMachine};
+use lc_io::{Failed, Room, Wire};
+use std::alloc::Global;
+
+const ROOM: Room = Room {
+    calls: 16,
+    bytes: 64,
+};
+
+/// Writes six bytes, syncs, writes `XYZ` over the last two and one more, and tells a line: four
+/// calls.
+fn write_twice<M: Disk + Wire>(machine: &mut M) -> Result<(), Failed> {
+    machine.write_at(0, b"abcdef")?;
+    machine.sync()?;
+    machine.write_at(4, b"XYZ")?;
+    machine.tell(b"line\n")
+}
+
+/// Whether a crash at a moment, which keeps so many of the bytes that were not synced, leaves these
+/// bytes; `short` cuts them to what was synced.
+fn leaves(
+    alloc: Global,
+    machine: &MemMachine,
+    moment: u64,
+    keep: u64,
+    short: bool,
+    image: &[u8],
+) -> bool {
+    if machine.moment() < moment {
+        return false;
+    }
+    match machine.crash(alloc, moment, keep, b'.', short) {
+        Ok(crashed) => crashed.image() == image && crashed.moment() == 0,
+        Err(_) => false,
+    }
+}
+
+#[test]
+fn crashes_at_each_moment(rt: HostRuntime) {
+    let alloc = rt.alloc();
+    let Ok(mut machine) = MemMachine::new(alloc, b"ab", ROOM, &[]) else {
+        assert!(rt; false);
+        return;
+    };
+    assert!(rt; write_twice(&mut machine) == Ok(()));
+    assert!(rt; machine.moment() == 4);
+    // Before the first call.
+    assert!(rt; leaves(alloc, &machine, 0, 0, false, b"ab"));
+    assert!(rt; leaves(alloc, &machine, 0, 0, true, b"ab"));
+    // After the first write, of six bytes that are not synced.
+    assert!(rt; leaves(alloc, &machine, 1, 0, false, b"......"));
+    assert!(rt; leaves(alloc, &machine, 1, 1, false, b"a....."));
+    assert!(rt; leaves(alloc, &machine, 1, 5, false, b"abcde."));
+    assert!(rt; leaves(alloc, &machine, 1, 6, false, b"abcdef"));
+    assert!(rt; leaves(alloc, &machine, 1, 1, true, b"a."));
+    // After the sync.
+    assert!(rt; leaves(alloc, &machine, 2, 0, false, b"abcdef"));
+    assert!(rt; leaves(alloc, &machine, 2, 0, true, b"abcdef"));
+    // After the second write, and after the line.
+    assert!(rt; leaves(alloc, &machine, 3, 0, false, b"abcd..."));
+    assert!(rt; leaves(alloc, &machine, 3, 2, false, b"abcdXY."));
+    assert!(rt; leaves(alloc, &machine, 3, 2, true, b"abcdXY"));
+    assert!(rt; leaves(alloc, &machine, 4, 9, false, b"abcdXYZ"));
+    assert!(rt; leaves(alloc, &machine, 4, 0, true, b"abcd.."));
+}
+
+#[test]
+fn crash_after_a_failed_write(rt: HostRuntime) {
+    // A write that fails leaves its bytes as they were, and not synced.
+    let alloc = rt.alloc();
+    let Ok(mut machine) = MemMachine::new(alloc, b"ab", ROOM, &[0]) else {
+        assert!(rt; false);
+        return;
+    };
+    assert!(rt; machine.write_at(1, b"xy") == Err(Failed));
+    assert!(rt; machine.moment() == 1);
+    assert!(rt; leaves(alloc, &machine, 1, 0, false, b"a."));
+    assert!(rt; leaves(alloc, &machine, 1, 1, false, b"ab"));
+    assert!(rt; machine.sync() == Ok(()));
+    assert!(rt; leaves(alloc, &machine, 2, 0, false, b"ab"));
+}

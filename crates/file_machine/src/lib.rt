@@ -1,0 +1,6 @@
+//! The machine with a disk over a real file.
+#![tactic(auto)]
+
+mod edge;
+
+pub use edge::FileMachine;
