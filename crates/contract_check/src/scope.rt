@@ -1,7 +1,7 @@
 //! The names that are visible, oldest first.
 
-ghost use Rattle.std.specs.Prelude.{◌≡◌, ◌==◌, ℕ, [], ◌∷◌, ◌++◌, length, take, None, is_some, IfOk, OnOk, OnErr};
-ghost use Rattle.contract_check.specs.Names.{kind_in, slot_in};
+ghost use Rattle.std.specs.Prelude.{◌≡◌, ◌==◌, ℕ, [], ◌∷◌, ◌++◌, length, take, None, IfOk, OnOk, OnErr};
+ghost use Rattle.contract_check.specs.Names.{kind_in};
 
 use contract_tree::ValueKind;
 use lc_base::{Memory, Name};
@@ -39,15 +39,6 @@ impl Scope {
         ensures { result ≡ length self.now }
     {
         self.names.len()
-    }
-
-    /// The slot of a name, where it is visible: the number of names that are older. A name has a
-    /// slot exactly where it has a kind.
-    pub fn slot_of(&self, name: &Name) -> Option<usize>
-        ensures slot { result ≡ slot_in self.now name.now }
-        ensures visible { is_some result ≡ is_some (kind_in self.now name.now) }
-    {
-        self.names.place_of(name)
     }
 
     /// The kind of a name, where it is visible.

@@ -4,7 +4,7 @@ ghost use Rattle.std.specs.Prelude.{◌≡◌, ◌<◌, ◌-◌, List, [], ◌�
 ghost use Rattle.contract_tree.specs.Tree.{statement_of, statement_list, function_of, contract_of};
 ghost use Rattle.contract_tokens.specs.declared.token.Mark.TheVariants as m;
 ghost use Rattle.contract_grammar.specs.Marks.{is, is_no_end};
-ghost use Rattle.contract_grammar.specs.Rules.{each, put, seq, ret};
+ghost use Rattle.contract_grammar.specs.Rules.{each, put};
 ghost use Rattle.contract_grammar.specs.Reading.{preceded, terminated, block, param_name, param, more_params, params, a_function, function, contract};
 ghost use Rattle.contract_grammar.specs.Reads.{Gives, Reads};
 ghost use Rattle.contract_grammar.specs.declared.limits.TheConstants.{MAX_NESTING};
@@ -35,20 +35,14 @@ fn param(cursor: &mut Cursor<'_>, count: usize) -> Result<Param, Stop>
     Ok(Param { at, name, kind })
 }
 
-fn next_param(cursor: &mut Cursor<'_>, count: usize) -> Result<Param, Stop>
-    ensures { Reads result (preceded m.Comma (param count) cursor.old) cursor.new }
-{
-    cursor.take(Mark::Comma)?;
-    param(cursor, count)
-}
-
 fn push_param(cursor: &mut Cursor<'_>, earlier: ParamList) -> Result<ParamList, Stop>
     ensures { Gives (λ v. v.items) result
         (put (λ n. preceded m.Comma (param n)) earlier.items cursor.old) cursor.new }
 {
     let mut all = earlier;
     let count = all.len();
-    let next = next_param(cursor, count)?;
+    cursor.take(Mark::Comma)?;
+    let next = param(cursor, count)?;
     all.push(next)?;
     Ok(all)
 }
@@ -79,19 +73,12 @@ fn params(alloc: Global, cursor: &mut Cursor<'_>) -> Result<ParamList, Stop>
     Ok(all)
 }
 
-fn function_parts(
-    alloc: Global,
-    cursor: &mut Cursor<'_>,
-    at: u32,
-    name: Name,
-) -> Result<Function, Stop>
-    ensures { Gives function_of result
-        (seq params
-        (λ ps. seq (block MAX_NESTING)
-        (λ body. ret (record { at = at; name = name; params = ps; body = body })))
-        cursor.old)
-        cursor.new }
+#[tactic(auto, unfolding(contract_grammar::specs::Reading::function))]
+fn function(alloc: Global, cursor: &mut Cursor<'_>) -> Result<Function, Stop>
+    ensures { Gives function_of result (function cursor.old) cursor.new }
 {
+    cursor.take(Mark::Fn)?;
+    let (at, name) = cursor.declared()?;
     let params = params(alloc, cursor)?;
     let body = block(alloc, cursor, MAX_NESTING)?;
     Ok(Function {
@@ -100,15 +87,6 @@ fn function_parts(
         params,
         body,
     })
-}
-
-#[tactic(auto, unfolding(contract_grammar::specs::Reading::function))]
-fn function(alloc: Global, cursor: &mut Cursor<'_>) -> Result<Function, Stop>
-    ensures { Gives function_of result (function cursor.old) cursor.new }
-{
-    cursor.take(Mark::Fn)?;
-    let (at, name) = cursor.declared()?;
-    function_parts(alloc, cursor, at, name)
 }
 
 fn push_function(

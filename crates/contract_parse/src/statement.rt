@@ -7,7 +7,7 @@ ghost use Rattle.contract_tokens.specs.declared.token.Mark.TheVariants as m;
 ghost use Rattle.contract_grammar.specs.Marks.{is, is_not};
 ghost use Rattle.contract_grammar.specs.declared.Obstacle.TheVariants.{Nesting};
 ghost use Rattle.contract_grammar.specs.Rules.{each, put, seq, ret, refuse};
-ghost use Rattle.contract_grammar.specs.Reading.{expression, preceded, terminated, value_of, let_statement, assign_statement, else_part, if_statement, while_statement, from_part, put_statement, short_statement, statement, block_of, block};
+ghost use Rattle.contract_grammar.specs.Reading.{expression, terminated, let_statement, assign_statement, else_part, if_statement, while_statement, from_part, put_statement, short_statement, statement, block_of, block};
 ghost use Rattle.contract_grammar.specs.Reads.{Gives};
 
 use contract_grammar::{Cursor, Obstacle, Stop};
@@ -25,16 +25,11 @@ fn end_statement(cursor: &mut Cursor<'_>, statement: Statement) -> Result<Statem
     Ok(statement)
 }
 
-fn let_value(
-    alloc: Global,
-    cursor: &mut Cursor<'_>,
-    at: u32,
-    name_at: u32,
-    name: Name,
-) -> Result<Statement, Stop>
-    ensures { Gives statement_of result (value_of (tree.Let at name_at name) cursor.old)
-        cursor.new }
+fn let_statement(alloc: Global, cursor: &mut Cursor<'_>) -> Result<Statement, Stop>
+    ensures { Gives statement_of result (let_statement cursor.old) cursor.new }
 {
+    let at = cursor.take(Mark::Let)?;
+    let (name_at, name) = cursor.declared()?;
     cursor.take(Mark::Assign)?;
     let value = expression(alloc, cursor)?;
     let form = Form::Let {
@@ -45,33 +40,14 @@ fn let_value(
     end_statement(cursor, Statement { at, form })
 }
 
-fn let_statement(alloc: Global, cursor: &mut Cursor<'_>) -> Result<Statement, Stop>
-    ensures { Gives statement_of result (let_statement cursor.old) cursor.new }
-{
-    let at = cursor.take(Mark::Let)?;
-    let (name_at, name) = cursor.declared()?;
-    let_value(alloc, cursor, at, name_at, name)
-}
-
-fn assign_value(
-    alloc: Global,
-    cursor: &mut Cursor<'_>,
-    at: u32,
-    name: Name,
-) -> Result<Statement, Stop>
-    ensures { Gives statement_of result (value_of (tree.Assign at name) cursor.old) cursor.new }
-{
-    cursor.take(Mark::Assign)?;
-    let value = expression(alloc, cursor)?;
-    let form = Form::Assign { name, value };
-    end_statement(cursor, Statement { at, form })
-}
-
 fn assign_statement(alloc: Global, cursor: &mut Cursor<'_>) -> Result<Statement, Stop>
     ensures { Gives statement_of result (assign_statement cursor.old) cursor.new }
 {
     let (at, name) = cursor.name()?;
-    assign_value(alloc, cursor, at, name)
+    cursor.take(Mark::Assign)?;
+    let value = expression(alloc, cursor)?;
+    let form = Form::Assign { name, value };
+    end_statement(cursor, Statement { at, form })
 }
 
 fn from_part(alloc: Global, cursor: &mut Cursor<'_>) -> Result<Option<ExprList>, Stop>
@@ -86,77 +62,26 @@ fn from_part(alloc: Global, cursor: &mut Cursor<'_>) -> Result<Option<ExprList>,
     Ok(Some(parts))
 }
 
-fn put_end(
-    alloc: Global,
-    cursor: &mut Cursor<'_>,
-    at: u32,
-    key: Expr,
-    value: Expr,
-) -> Result<Statement, Stop>
-    ensures { Gives statement_of result
-        (seq from_part (λ parts. ret (tree.Put at (tree_of key) (tree_of value) parts)) cursor.old)
-        cursor.new }
-{
-    let from = from_part(alloc, cursor)?;
-    let form = Form::Put { key, value, from };
-    Ok(Statement { at, form })
-}
-
-fn put_value(alloc: Global, cursor: &mut Cursor<'_>, at: u32, key: Expr) -> Result<Statement, Stop>
-    ensures { Gives statement_of result
-        (preceded m.Assign
-        (seq expression
-        (λ value. seq from_part (λ parts. ret (tree.Put at (tree_of key) value parts))))
-        cursor.old)
-        cursor.new }
-{
-    cursor.take(Mark::Assign)?;
-    let value = expression(alloc, cursor)?;
-    put_end(alloc, cursor, at, key, value)
-}
-
 fn put_statement(alloc: Global, cursor: &mut Cursor<'_>) -> Result<Statement, Stop>
     ensures { Gives statement_of result (put_statement cursor.old) cursor.new }
 {
     let at = cursor.take(Mark::Put)?;
     let key = expression(alloc, cursor)?;
-    put_value(alloc, cursor, at, key)
+    cursor.take(Mark::Assign)?;
+    let value = expression(alloc, cursor)?;
+    let from = from_part(alloc, cursor)?;
+    let form = Form::Put { key, value, from };
+    Ok(Statement { at, form })
 }
 
-fn fail_statement(cursor: &mut Cursor<'_>) -> Result<Statement, Stop>
-    ensures { Gives statement_of result (short_statement m.Fail tree.Fail cursor.old) cursor.new }
-{
-    let at = cursor.take(Mark::Fail)?;
-    end_statement(
-        cursor,
-        Statement {
-            at,
-            form: Form::Fail,
-        },
-    )
-}
-
-fn return_statement(cursor: &mut Cursor<'_>) -> Result<Statement, Stop>
-    ensures { Gives statement_of result (short_statement m.Return tree.Return cursor.old)
+/// A statement of nothing but a keyword.
+fn short_statement(cursor: &mut Cursor<'_>, mark: Mark, form: Form) -> Result<Statement, Stop>
+    ensures { Gives statement_of result
+        (short_statement mark (λ at. statement_of (record { at = at; form = form })) cursor.old)
         cursor.new }
 {
-    let at = cursor.take(Mark::Return)?;
-    end_statement(
-        cursor,
-        Statement {
-            at,
-            form: Form::Return,
-        },
-    )
-}
-
-fn close_block(cursor: &mut Cursor<'_>, all: StatementList) -> Result<StatementList, Stop>
-    ensures { Gives (λ v. statement_list (map statement_of v.items)) result
-        (terminated m.BraceClose (statement_list (map statement_of all.items)) cursor.old)
-        cursor.new }
-{
-    cursor.take(Mark::BraceClose)?;
-    Ok(all)
+    let at = cursor.take(mark)?;
+    end_statement(cursor, Statement { at, form })
 }
 
 fn refuse_block(cursor: &mut Cursor<'_>) -> Result<StatementList, Stop>
@@ -181,7 +106,8 @@ fn else_part(
         cursor.new }
 {
     if cursor.next_is(Mark::Else) {
-        return else_block(alloc, cursor, nesting, at, test, first);
+        cursor.take(Mark::Else)?;
+        return second_block(alloc, cursor, nesting, at, test, first);
     }
     let form = Form::If {
         test,
@@ -189,28 +115,6 @@ fn else_part(
         second: None,
     };
     Ok(Statement { at, form })
-}
-
-#[cycle(block)]
-fn else_block(
-    alloc: Global,
-    cursor: &mut Cursor<'_>,
-    nesting: u32,
-    at: u32,
-    test: Expr,
-    first: StatementList,
-) -> Result<Statement, Stop>
-    ensures { Gives statement_of result
-        (preceded m.Else
-        (seq (block nesting)
-        (λ second. ret
-        (tree.IfElse at (tree_of test) (statement_list (map statement_of first.items))
-        second)))
-        cursor.old)
-        cursor.new }
-{
-    cursor.take(Mark::Else)?;
-    second_block(alloc, cursor, nesting, at, test, first)
 }
 
 #[cycle(block)]
@@ -240,44 +144,13 @@ fn second_block(
 }
 
 #[cycle(block)]
-fn if_blocks(
-    alloc: Global,
-    cursor: &mut Cursor<'_>,
-    nesting: u32,
-    at: u32,
-    test: Expr,
-) -> Result<Statement, Stop>
-    ensures { Gives statement_of result
-        (seq (block nesting) (else_part (block nesting) at (tree_of test)) cursor.old) cursor.new }
-{
-    let first = block(alloc, cursor, nesting)?;
-    else_part(alloc, cursor, nesting, at, test, first)
-}
-
-#[cycle(block)]
 fn if_statement(alloc: Global, cursor: &mut Cursor<'_>, nesting: u32) -> Result<Statement, Stop>
     ensures { Gives statement_of result (if_statement (block nesting) cursor.old) cursor.new }
 {
     let at = cursor.take(Mark::If)?;
     let test = expression(alloc, cursor)?;
-    if_blocks(alloc, cursor, nesting, at, test)
-}
-
-#[cycle(block)]
-fn while_block(
-    alloc: Global,
-    cursor: &mut Cursor<'_>,
-    nesting: u32,
-    at: u32,
-    test: Expr,
-) -> Result<Statement, Stop>
-    ensures { Gives statement_of result
-        (seq (block nesting) (λ body. ret (tree.While at (tree_of test) body)) cursor.old)
-        cursor.new }
-{
-    let body = block(alloc, cursor, nesting)?;
-    let form = Form::While { test, body };
-    Ok(Statement { at, form })
+    let first = block(alloc, cursor, nesting)?;
+    else_part(alloc, cursor, nesting, at, test, first)
 }
 
 #[cycle(block)]
@@ -286,7 +159,9 @@ fn while_statement(alloc: Global, cursor: &mut Cursor<'_>, nesting: u32) -> Resu
 {
     let at = cursor.take(Mark::While)?;
     let test = expression(alloc, cursor)?;
-    while_block(alloc, cursor, nesting, at, test)
+    let body = block(alloc, cursor, nesting)?;
+    let form = Form::While { test, body };
+    Ok(Statement { at, form })
 }
 
 #[cycle(block)]
@@ -306,10 +181,10 @@ fn statement(alloc: Global, cursor: &mut Cursor<'_>, nesting: u32) -> Result<Sta
         return put_statement(alloc, cursor);
     }
     if cursor.next_is(Mark::Fail) {
-        return fail_statement(cursor);
+        return short_statement(cursor, Mark::Fail, Form::Fail);
     }
     if cursor.next_is(Mark::Return) {
-        return return_statement(cursor);
+        return short_statement(cursor, Mark::Return, Form::Return);
     }
     assign_statement(alloc, cursor)
 }
@@ -351,7 +226,8 @@ fn block_rest(alloc: Global, cursor: &mut Cursor<'_>, nesting: u32) -> Result<St
         cursor.new }
 {
     let all = statements(alloc, cursor, nesting)?;
-    close_block(cursor, all)
+    cursor.take(Mark::BraceClose)?;
+    Ok(all)
 }
 
 #[cycle(block)]

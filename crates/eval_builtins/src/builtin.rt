@@ -3,10 +3,10 @@
 ghost use Rattle.std.specs.Prelude.{◌≡◌, ℕ, pos, length, Ok};
 ghost use Rattle.std.specs.Fmt.{signed_decimal};
 ghost use Rattle.lc_base.specs.declared.value.Value.TheVariants as values;
-ghost use Rattle.lc_base.specs.declared.answer.Kind.TheVariants as kinds;
 ghost use Rattle.contract_semantics.specs.Builtins.{with_args, one_text, one_int, version_value, item_value, version_part, count_part, item_part, plain_value, built, called, applied};
 ghost use Rattle.contract_semantics.specs.Answers.{IsResultOf, IsNoFault, Takes, Gives, Charges};
 ghost use Rattle.contract_semantics.specs.Hosts.{Asks};
+ghost use Rattle.eval_history.specs.Sides.{kind_of};
 ghost use Rattle.eval_builtins.specs.Runs.{Keeps, Tells};
 
 use crate::arguments::{one_int, one_text, text_and_int, text_and_ints};
@@ -15,8 +15,8 @@ use crate::run::Run;
 use contract_semantics::{CallSite, Stop, charge_of};
 use contract_tree::Builtin;
 use eval_history::{
-    back_count_asked, back_item_asked, block_told, block_value, fwd_count_asked, fwd_item_asked,
-    key_value, seen_told, tx_told, value_told, version_asked,
+    Side, block_told, block_value, count_asked, item_asked, key_value, seen_told, tx_told,
+    value_told, version_asked,
 };
 use lc_base::{Dep, Host, Name, Text, TxStatus, Value, Version};
 use std::alloc::Global;
@@ -78,69 +78,37 @@ fn version_part<H: Host>(
     }
 }
 
-fn back_count<H: Host>(
+fn count_part<H: Host>(
     alloc: Global,
     number: u32,
     host: &mut H,
+    side: Side,
     args: &[Value],
 ) -> Result<Value, Stop>
     requires { H.ready host.old }
-    ensures { Asks H.Host host.old host.new (λ value. value) (λ rows. count_part rows number kinds.Back args.now) result }
+    ensures { Asks H.Host host.old host.new (λ value. value) (λ rows. count_part rows number (kind_of side) args.now) result }
 {
     match text_and_int(args) {
         None => Err(Stop::Status(TxStatus::WrongKind)),
-        Some((text, at)) => back_count_asked(alloc, number, host, text, at),
+        Some((text, at)) => count_asked(alloc, number, host, side, text, at),
     }
 }
 
-fn fwd_count<H: Host>(
+fn item_part<H: Host>(
     alloc: Global,
     number: u32,
     host: &mut H,
-    args: &[Value],
-) -> Result<Value, Stop>
-    requires { H.ready host.old }
-    ensures { Asks H.Host host.old host.new (λ value. value) (λ rows. count_part rows number kinds.Fwd args.now) result }
-{
-    match text_and_int(args) {
-        None => Err(Stop::Status(TxStatus::WrongKind)),
-        Some((text, at)) => fwd_count_asked(alloc, number, host, text, at),
-    }
-}
-
-fn back_item<H: Host>(
-    alloc: Global,
-    number: u32,
-    host: &mut H,
+    side: Side,
     builtin: Builtin,
     args: &[Value],
 ) -> Result<Value, Stop>
     requires { H.ready host.old }
-    ensures { Asks H.Host host.old host.new (λ value. value) (λ rows. item_part rows number kinds.Back builtin args.now) result }
+    ensures { Asks H.Host host.old host.new (λ value. value) (λ rows. item_part rows number (kind_of side) builtin args.now) result }
 {
     match text_and_ints(args) {
         None => Err(Stop::Status(TxStatus::WrongKind)),
         Some((text, at, index)) => {
-            let dep = back_item_asked(alloc, number, host, text, at, index)?;
-            item_value(alloc, builtin, &dep)
-        }
-    }
-}
-
-fn fwd_item<H: Host>(
-    alloc: Global,
-    number: u32,
-    host: &mut H,
-    builtin: Builtin,
-    args: &[Value],
-) -> Result<Value, Stop>
-    requires { H.ready host.old }
-    ensures { Asks H.Host host.old host.new (λ value. value) (λ rows. item_part rows number kinds.Fwd builtin args.now) result }
-{
-    match text_and_ints(args) {
-        None => Err(Stop::Status(TxStatus::WrongKind)),
-        Some((text, at, index)) => {
-            let dep = fwd_item_asked(alloc, number, host, text, at, index)?;
+            let dep = item_asked(alloc, number, host, side, text, at, index)?;
             item_value(alloc, builtin, &dep)
         }
     }
@@ -173,6 +141,7 @@ fn sender_text(alloc: Global, site: &CallSite) -> Result<Value, Stop>
 }
 
 /// What a builtin gives that reads nothing of the present.
+#[tactic(auto, unfolding(eval_history::specs::Sides::kind_of))]
 fn plain_value<H: Host>(
     alloc: Global,
     site: &CallSite,
@@ -193,12 +162,12 @@ fn plain_value<H: Host>(
         Builtin::HistBlock => version_part(alloc, site.number, host, builtin, args),
         Builtin::HistTx => version_part(alloc, site.number, host, builtin, args),
         Builtin::Seen => version_part(alloc, site.number, host, builtin, args),
-        Builtin::BackCount => back_count(alloc, site.number, host, args),
-        Builtin::FwdCount => fwd_count(alloc, site.number, host, args),
-        Builtin::BackKey => back_item(alloc, site.number, host, builtin, args),
-        Builtin::FwdKey => fwd_item(alloc, site.number, host, builtin, args),
-        Builtin::BackBlock => back_item(alloc, site.number, host, builtin, args),
-        Builtin::FwdBlock => fwd_item(alloc, site.number, host, builtin, args),
+        Builtin::BackCount => count_part(alloc, site.number, host, Side::Back, args),
+        Builtin::FwdCount => count_part(alloc, site.number, host, Side::Fwd, args),
+        Builtin::BackKey => item_part(alloc, site.number, host, Side::Back, builtin, args),
+        Builtin::FwdKey => item_part(alloc, site.number, host, Side::Fwd, builtin, args),
+        Builtin::BackBlock => item_part(alloc, site.number, host, Side::Back, builtin, args),
+        Builtin::FwdBlock => item_part(alloc, site.number, host, Side::Fwd, builtin, args),
         Builtin::GetInt => Err(Stop::Status(TxStatus::WrongKind)),
         Builtin::GetText => Err(Stop::Status(TxStatus::WrongKind)),
         Builtin::Has => Err(Stop::Status(TxStatus::WrongKind)),

@@ -1,14 +1,19 @@
 -- Counts and items of lists, as a host tells them.
 use Rattle.std.proofs.Common.{◌≡◌, ℕ, ℤ, pos, negsuc, Bool, true, false, cond, ltb, List, length, Option, Some, None, Ok, Err, refl, ap, ◌∙◌, arith}
-use Rattle.std.specs.Prelude.{slice_get}
+use Rattle.std.specs.Prelude.{slice_get, IfSome}
 use Rattle.std.specs.Option.{option_map}
 use Rattle.std.proofs.lemmas.Option.{slice_get_past}
 use Rattle.lc_base.specs.declared.row.Dep.{Dep}
+use Rattle.lc_base.specs.declared.row.Row.{Row}
 use Rattle.lc_base.specs.declared.answer.Answer.{Answer}
+use Rattle.lc_base.specs.declared.answer.Query.{Query}
+use Rattle.lc_base.specs.History.{scan}
 use Rattle.lc_base.specs.declared.tx_status.TxStatus.{TxStatus}
 use Rattle.lc_base.specs.declared.tx_status.TxStatus.TheVariants.{NoKey, BadIndex}
 use Rattle.lc_base.specs.Parts.{list_in, count_in, item_at, item_in}
 use Rattle.contract_semantics.specs.Steps.{and_so}
+use Rattle.contract_semantics.specs.declared.stop.Stop.TheVariants as stops
+use Rattle.contract_semantics.specs.Answers.{IsResultOf}
 use Rattle.contract_semantics.specs.Asking.{list_told, count_told, count_value, index_told, index_found, item_told, item_of, item_part_of}
 
 count_of_list : (list : Option (List Dep)) → and_so (list_told list) count_told ≡ count_value (option_map length list)
@@ -32,8 +37,15 @@ no_item None index status e = let same : NoKey ≡ status = cc in ap Err same
 no_item (Some deps) (pos n) status e = refused_at (ltb n (length deps)) deps n status refl e
 no_item (Some deps) (negsuc n) status e = let same : BadIndex ≡ status = cc in ap Err same
 
-pub no_item_is : (answer : Answer) (index : ℤ) (status : TxStatus) → index_told (count_in answer) index ≡ Err status → item_part_of answer index ≡ Err status
+no_item_is : (answer : Answer) (index : ℤ) (status : TxStatus) → index_told (count_in answer) index ≡ Err status → item_part_of answer index ≡ Err status
 no_item_is answer index status e = no_item (list_in answer) index status e
+
+-- Where the count that a host tells refuses an index, there is no item.
+pub no_item_told : (rows : Option (List Row)) (query : Query) (count : Option ℕ) (index : ℤ) (status : TxStatus) → IfSome rows (λ rows. IsResultOf (λ (told : Option ℕ). told) (Ok (count_in (scan rows query))) (Ok count)) → index_told count index ≡ Err status → IfSome rows (λ rows. IsResultOf (λ (dep : Dep). dep) (item_part_of (scan rows query) index) (Err (stops.Status status)))
+no_item_told None query count index status told refused = _
+no_item_told (Some rows) query count index status told refused =
+    let is : count_in (scan rows query) ≡ count = cc in
+    no_item_is (scan rows query) index status (ap (λ (c : Option ℕ). index_told c index) is ∙ refused)
 
 found_at : (b : Bool) (deps : List Dep) (n i : ℕ) → index_found (cond b (Some n) None) ≡ Ok i → item_told (slice_get deps n) ≡ item_told (slice_get deps i)
 found_at true deps n i e = let same : n ≡ i = cc in ap (λ (k : ℕ). item_told (slice_get deps k)) same

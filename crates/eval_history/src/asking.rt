@@ -8,10 +8,12 @@ ghost use Rattle.contract_semantics.specs.Steps.{and_so};
 ghost use Rattle.contract_semantics.specs.Asking.{block_before, version_asked, list_asked, value_told, block_told, tx_told, seen_told, count_told, count_value, index_in, index_told, item_told, item_part_of, item_asked, key_value, block_value};
 ghost use Rattle.contract_semantics.specs.Answers.{IsResultOf, IsNoFault};
 ghost use Rattle.contract_semantics.specs.Hosts.{Asks};
+ghost use Rattle.eval_history.specs.Sides.{kind_of, room_of, answered};
 
+use crate::side::Side;
 use contract_semantics::Stop;
 use eval_operators::truth;
-use lc_base::{Dep, Host, HostError, Key, Kind, Text, TxStatus, Value, Version};
+use lc_base::{Dep, Host, HostError, Key, Text, TxStatus, Value, Version};
 use std::alloc::Global;
 
 /// The key that a text is.
@@ -105,6 +107,17 @@ fn index_below(count: u64, index: i64) -> Option<u64>
 
 // ---- questions
 
+/// What a host gave, or why it gave nothing.
+fn answered<T>(given: Result<T, HostError>) -> Result<T, Stop>
+    ensures { result ≡ answered given }
+{
+    match given {
+        Ok(told) => Ok(told),
+        Err(HostError::Fault) => Err(Stop::Fault),
+        Err(HostError::Memory) => Err(Stop::Memory),
+    }
+}
+
 /// The version of the key that a text is, up to a block before this one.
 pub fn version_asked<H: Host>(
     alloc: Global,
@@ -118,58 +131,33 @@ pub fn version_asked<H: Host>(
 {
     let key = key_of_text(text)?;
     let block = block_before(number, at)?;
-    match host.hist(alloc, &key, block) {
-        Ok(version) => Ok(version),
-        Err(HostError::Fault) => Err(Stop::Fault),
-        Err(HostError::Memory) => Err(Stop::Memory),
-    }
+    answered(host.hist(alloc, &key, block))
 }
 
-// ---- how many dependencies and uses
+// ---- how many dependencies or uses
 
-fn back_count<H: Host>(
+#[tactic(auto, unfolding(crate::specs::Sides::kind_of))]
+fn count_of<H: Host>(
     alloc: Global,
     host: &mut H,
-    key: &Key,
-    block: u32,
-) -> Result<Option<u32>, Stop>
-    requires { H.ready host.old }
-    ensures { Asks H.Host host.old host.new (λ count. count) (λ rows. Ok (count_in (scan rows (question Kind.Back key.now block)))) result }
-{
-    match host.back_count(alloc, key, block) {
-        Ok(count) => Ok(count),
-        Err(HostError::Fault) => Err(Stop::Fault),
-        Err(HostError::Memory) => Err(Stop::Memory),
-    }
-}
-
-fn fwd_count<H: Host>(
-    alloc: Global,
-    host: &mut H,
+    side: Side,
     key: &Key,
     block: u32,
 ) -> Result<Option<u64>, Stop>
     requires { H.ready host.old }
-    ensures asked { Asks H.Host host.old host.new (λ count. count) (λ rows. Ok (count_in (scan rows (question Kind.Fwd key.now block)))) result }
-    ensures bound { IfOk result (λ count. IfSome count (λ n. n < 2 ^ 63)) }
+    ensures asked { Asks H.Host host.old host.new (λ count. count) (λ rows. Ok (count_in (scan rows (question (kind_of side) key.now block)))) result }
+    ensures bound { IfOk result (λ count. IfSome count (λ n. n < room_of side)) }
 {
-    match host.fwd_count(alloc, key, block) {
-        Ok(count) => Ok(count),
-        Err(HostError::Fault) => Err(Stop::Fault),
-        Err(HostError::Memory) => Err(Stop::Memory),
+    match side {
+        Side::Back => match answered(host.back_count(alloc, key, block))? {
+            None => Ok(None),
+            Some(count) => Ok(Some(u64::from(count))),
+        },
+        Side::Fwd => answered(host.fwd_count(alloc, key, block)),
     }
 }
 
-fn back_value(count: Option<u32>) -> Result<Value, TxStatus>
-    ensures { result ≡ count_value count }
-{
-    match count {
-        None => Err(TxStatus::NoKey),
-        Some(count) => Ok(Value::Int(i64::from(count))),
-    }
-}
-
-fn fwd_value(count: Option<u64>) -> Result<Value, TxStatus>
+fn count_value(count: Option<u64>) -> Result<Value, TxStatus>
     requires { IfSome count (λ n. n < 2 ^ 63) }
     ensures { result ≡ count_value count }
 {
@@ -179,95 +167,51 @@ fn fwd_value(count: Option<u64>) -> Result<Value, TxStatus>
     }
 }
 
-/// The number of dependencies of the version of the key that a text is.
+/// The number of dependencies or of uses of the version of the key that a text is.
 #[tactic(auto, using(crate::proofs::Items::count_is))]
-pub fn back_count_asked<H: Host>(
+pub fn count_asked<H: Host>(
     alloc: Global,
     number: u32,
     host: &mut H,
+    side: Side,
     text: &Text,
     at: i64,
 ) -> Result<Value, Stop>
     requires { H.ready host.old }
-    ensures { Asks H.Host host.old host.new (λ value. value) (λ rows. and_so (list_asked rows number Kind.Back text.now at) count_told) result }
+    ensures { Asks H.Host host.old host.new (λ value. value) (λ rows. and_so (list_asked rows number (kind_of side) text.now at) count_told) result }
 {
     let key = key_of_text(text)?;
     let block = block_before(number, at)?;
-    let count = back_count(alloc, host, &key, block)?;
-    Ok(back_value(count)?)
-}
-
-/// The number of uses of the version of the key that a text is.
-#[tactic(auto, using(crate::proofs::Items::count_is))]
-pub fn fwd_count_asked<H: Host>(
-    alloc: Global,
-    number: u32,
-    host: &mut H,
-    text: &Text,
-    at: i64,
-) -> Result<Value, Stop>
-    requires { H.ready host.old }
-    ensures { Asks H.Host host.old host.new (λ value. value) (λ rows. and_so (list_asked rows number Kind.Fwd text.now at) count_told) result }
-{
-    let key = key_of_text(text)?;
-    let block = block_before(number, at)?;
-    let count = fwd_count(alloc, host, &key, block)?;
-    Ok(fwd_value(count)?)
+    let count = count_of(alloc, host, side, &key, block)?;
+    Ok(count_value(count)?)
 }
 
 // ---- one dependency or use
 
-fn back_at<H: Host>(
+#[tactic(auto, unfolding(crate::specs::Sides::kind_of))]
+fn item_at<H: Host>(
     alloc: Global,
     host: &mut H,
-    key: &Key,
-    block: u32,
-    index: u32,
-) -> Result<Option<Dep>, Stop>
-    requires { H.ready host.old }
-    ensures { Asks H.Host host.old host.new (λ dep. dep) (λ rows. Ok (item_in index (scan rows (question Kind.Back key.now block)))) result }
-{
-    match host.back_at(alloc, key, block, index) {
-        Ok(dep) => Ok(dep),
-        Err(HostError::Fault) => Err(Stop::Fault),
-        Err(HostError::Memory) => Err(Stop::Memory),
-    }
-}
-
-fn fwd_at<H: Host>(
-    alloc: Global,
-    host: &mut H,
+    side: Side,
     key: &Key,
     block: u32,
     index: u64,
 ) -> Result<Option<Dep>, Stop>
-    requires { H.ready host.old }
-    ensures { Asks H.Host host.old host.new (λ dep. dep) (λ rows. Ok (item_in index (scan rows (question Kind.Fwd key.now block)))) result }
+    requires ready { H.ready host.old }
+    requires below { index < room_of side }
+    ensures { Asks H.Host host.old host.new (λ dep. dep) (λ rows. Ok (item_in index (scan rows (question (kind_of side) key.now block)))) result }
 {
-    match host.fwd_at(alloc, key, block, index) {
-        Ok(dep) => Ok(dep),
-        Err(HostError::Fault) => Err(Stop::Fault),
-        Err(HostError::Memory) => Err(Stop::Memory),
+    match side {
+        Side::Back => answered(host.back_at(alloc, key, block, index as u32)),
+        Side::Fwd => answered(host.fwd_at(alloc, key, block, index)),
     }
 }
 
-/// The index of a dependency, where it is one of so many.
-fn back_index(count: Option<u32>, index: i64) -> Result<u32, TxStatus>
-    ensures { result ≡ index_told count index }
-{
-    match count {
-        None => Err(TxStatus::NoKey),
-        Some(count) => match index_below(u64::from(count), index) {
-            None => Err(TxStatus::BadIndex),
-            Some(index) => Ok(index as u32),
-        },
-    }
-}
-
-/// The index of a use, where it is one of so many.
-fn fwd_index(count: Option<u64>, index: i64) -> Result<u64, TxStatus>
+/// The index of a dependency or a use, where it is one of so many.
+fn index_told(count: Option<u64>, index: i64) -> Result<u64, TxStatus>
     requires { IfSome count (λ n. n < 2 ^ 63) }
-    ensures { result ≡ index_told count index }
+    ensures index { result ≡ index_told count index }
+    ensures below { IfOk result (λ i. IfSome count (λ n. i < n)) }
 {
     match count {
         None => Err(TxStatus::NoKey),
@@ -284,72 +228,43 @@ fn item_told(dep: Option<Dep>) -> Result<Dep, TxStatus>
     dep.ok_or(TxStatus::BadIndex)
 }
 
-/// A dependency of the version of a key up to a block.
-#[tactic(auto, using(crate::proofs::Items::no_item_is, crate::proofs::Items::item_is))]
-fn back_item<H: Host>(
+/// A dependency or a use of the version of a key up to a block.
+#[tactic(auto, using(crate::proofs::Items::item_is))]
+fn item_of<H: Host>(
     alloc: Global,
     host: &mut H,
+    side: Side,
     key: &Key,
     block: u32,
     index: i64,
 ) -> Result<Dep, Stop>
     requires { H.ready host.old }
-    ensures { Asks H.Host host.old host.new (λ dep. dep) (λ rows. item_part_of (scan rows (question Kind.Back key.now block)) index) result }
+    ensures { Asks H.Host host.old host.new (λ dep. dep) (λ rows. item_part_of (scan rows (question (kind_of side) key.now block)) index) result }
 {
-    let count = back_count(alloc, host, key, block)?;
-    let index = back_index(count, index)?;
-    let dep = back_at(alloc, host, key, block, index)?;
-    Ok(item_told(dep)?)
+    let count = count_of(alloc, host, side, key, block)?;
+    match index_told(count, index) {
+        Err(status) => Err(Stop::Status(status)),
+        Ok(index) => {
+            let dep = item_at(alloc, host, side, key, block, index)?;
+            Ok(item_told(dep)?)
+        }
+    }
 }
 
-/// A use of the version of a key up to a block.
-#[tactic(auto, using(crate::proofs::Items::no_item_is, crate::proofs::Items::item_is))]
-fn fwd_item<H: Host>(
-    alloc: Global,
-    host: &mut H,
-    key: &Key,
-    block: u32,
-    index: i64,
-) -> Result<Dep, Stop>
-    requires { H.ready host.old }
-    ensures { Asks H.Host host.old host.new (λ dep. dep) (λ rows. item_part_of (scan rows (question Kind.Fwd key.now block)) index) result }
-{
-    let count = fwd_count(alloc, host, key, block)?;
-    let index = fwd_index(count, index)?;
-    let dep = fwd_at(alloc, host, key, block, index)?;
-    Ok(item_told(dep)?)
-}
-
-/// A dependency of the version of the key that a text is.
-pub fn back_item_asked<H: Host>(
+/// A dependency or a use of the version of the key that a text is.
+pub fn item_asked<H: Host>(
     alloc: Global,
     number: u32,
     host: &mut H,
+    side: Side,
     text: &Text,
     at: i64,
     index: i64,
 ) -> Result<Dep, Stop>
     requires { H.ready host.old }
-    ensures { Asks H.Host host.old host.new (λ dep. dep) (λ rows. item_asked rows number Kind.Back text.now at index) result }
+    ensures { Asks H.Host host.old host.new (λ dep. dep) (λ rows. item_asked rows number (kind_of side) text.now at index) result }
 {
     let key = key_of_text(text)?;
     let block = block_before(number, at)?;
-    back_item(alloc, host, &key, block, index)
-}
-
-/// A use of the version of the key that a text is.
-pub fn fwd_item_asked<H: Host>(
-    alloc: Global,
-    number: u32,
-    host: &mut H,
-    text: &Text,
-    at: i64,
-    index: i64,
-) -> Result<Dep, Stop>
-    requires { H.ready host.old }
-    ensures { Asks H.Host host.old host.new (λ dep. dep) (λ rows. item_asked rows number Kind.Fwd text.now at index) result }
-{
-    let key = key_of_text(text)?;
-    let block = block_before(number, at)?;
-    fwd_item(alloc, host, &key, block, index)
+    item_of(alloc, host, side, &key, block, index)
 }

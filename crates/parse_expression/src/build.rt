@@ -11,7 +11,7 @@ ghost use Rattle.contract_grammar.specs.declared.limits.TheConstants.{MAX_HEIGHT
 
 use contract_grammar::{MAX_HEIGHT, Obstacle, Stop};
 use contract_tree::{Expr, ExprList, ExprNode, Sign};
-use lc_base::{Name, Text};
+use lc_base::Name;
 use std::alloc::Global;
 
 /// An expression that was read, with its height.
@@ -32,38 +32,13 @@ pub struct Subtrees {
     ghost height_most: { height ≤ MAX_HEIGHT },
 }
 
-pub fn int(at: u32, value: i64) -> Subtree
-    ensures { tree_of result.expr ≡ tree.Int at value }
+/// An expression that has no parts.
+pub fn leaf(at: u32, node: ExprNode) -> Subtree
+    requires { height_of (tree_of (record { at = at; node = node })) ≡ 1 }
+    ensures { result.expr ≡ record { at = at; node = node } }
 {
     Subtree {
-        expr: Expr {
-            at,
-            node: ExprNode::Int(value),
-        },
-        height: 1,
-    }
-}
-
-pub fn text(at: u32, text: Text) -> Subtree
-    ensures { tree_of result.expr ≡ tree.Text at text }
-{
-    Subtree {
-        expr: Expr {
-            at,
-            node: ExprNode::Text(text),
-        },
-        height: 1,
-    }
-}
-
-pub fn name(at: u32, name: Name) -> Subtree
-    ensures { tree_of result.expr ≡ tree.Name at name }
-{
-    Subtree {
-        expr: Expr {
-            at,
-            node: ExprNode::Name(name),
-        },
+        expr: Expr { at, node },
         height: 1,
     }
 }

@@ -14,7 +14,7 @@ ghost use Rattle.contract_grammar.specs.declared.limits.TheConstants.{WHOLE};
 use crate::build::{self, Subtree, Subtrees};
 use contract_grammar::{COMPARISONS, Cursor, MAX_PENDING, Obstacle, Stop, WHOLE};
 use contract_tokens::Mark;
-use contract_tree::{Expr, ExprList};
+use contract_tree::{Expr, ExprList, ExprNode};
 use std::alloc::Global;
 
 fn literal(alloc: Global, cursor: &mut Cursor<'_>) -> Result<Subtree, Stop>
@@ -22,10 +22,10 @@ fn literal(alloc: Global, cursor: &mut Cursor<'_>) -> Result<Subtree, Stop>
 {
     if cursor.next_is_text() {
         let (at, text) = cursor.text(alloc)?;
-        return Ok(build::text(at, text));
+        return Ok(build::leaf(at, ExprNode::Text(text)));
     }
     let (at, value) = cursor.int()?;
-    Ok(build::int(at, value))
+    Ok(build::leaf(at, ExprNode::Int(value)))
 }
 
 #[cycle(expression)]
@@ -35,7 +35,7 @@ fn name_or_call(alloc: Global, cursor: &mut Cursor<'_>, depth: u32) -> Result<Su
 {
     let (at, name) = cursor.name()?;
     if !cursor.next_is(Mark::ParenOpen) {
-        return Ok(build::name(at, name));
+        return Ok(build::leaf(at, ExprNode::Name(name)));
     }
     let args = arguments(alloc, cursor, depth)?;
     build::call(at, name, args)

@@ -13,20 +13,11 @@ decreases-block l = l.nesting * 100
 abbrev pub decreases-second_block : goal.decreases-second_block
 decreases-second_block l = l.nesting * 100 + 3
 
-abbrev pub decreases-else_block : goal.decreases-else_block
-decreases-else_block l = l.nesting * 100 + 4
-
 abbrev pub decreases-else_part : goal.decreases-else_part
 decreases-else_part l = l.nesting * 100 + 5
 
-abbrev pub decreases-if_blocks : goal.decreases-if_blocks
-decreases-if_blocks l = l.nesting * 100 + 6
-
 abbrev pub decreases-if_statement : goal.decreases-if_statement
 decreases-if_statement l = l.nesting * 100 + 7
-
-abbrev pub decreases-while_block : goal.decreases-while_block
-decreases-while_block l = l.nesting * 100 + 5
 
 abbrev pub decreases-while_statement : goal.decreases-while_statement
 decreases-while_statement l = l.nesting * 100 + 6

@@ -1,0 +1,26 @@
+-- The two lists of a version, and what a host tells of them.
+use Rattle.std.specs.Prelude.{ℕ, ◌^◌, Result, Ok, Err}
+use Rattle.lc_base.specs.declared.answer.Kind.{Kind}
+use Rattle.lc_base.specs.declared.answer.Kind.TheVariants as kinds
+use Rattle.lc_base.specs.declared.host.HostError.{HostError}
+use Rattle.lc_base.specs.declared.host.HostError.TheVariants as errors
+use Rattle.contract_semantics.specs.declared.stop.Stop.{Stop}
+use Rattle.contract_semantics.specs.declared.stop.Stop.TheVariants as stops
+use Rattle.eval_history.specs.declared.side.Side.{Side}
+use Rattle.eval_history.specs.declared.side.Side.TheVariants.{Back, Fwd}
+
+-- The kind of a question about a list.
+unfoldable pub kind_of : Side → Kind
+kind_of Back = kinds.Back
+kind_of Fwd = kinds.Fwd
+
+-- A list has fewer items than this.
+abbrev pub room_of : Side → ℕ
+room_of Back = 2 ^ 32
+room_of Fwd = 2 ^ 63
+
+-- What a host gave, or why it gave nothing.
+abbrev pub answered : {A : Type 0} → Result A HostError → Result A Stop
+answered (Ok told) = Ok told
+answered (Err errors.Fault) = Err stops.Fault
+answered (Err errors.Memory) = Err stops.Memory
