@@ -1,6 +1,6 @@
 //! A reader of fields, from the first byte to the last.
 
-ghost use Rattle.std.specs.Prelude.{◌≡◌, ◌≤◌, ◌==◌, ◌&&◌, nat_le, is_none, length};
+ghost use Rattle.std.specs.Prelude.{◌≡◌, ◌≤◌, ◌==◌, ◌&&◌, nat_le, is_none, if◌then◌else◌, Ok, Err, length};
 ghost use Rattle.lc_names.specs.KeyBytes.{bad_key_byte};
 ghost use Rattle.lc_names.specs.NameBytes.{bad_name_byte};
 ghost use Rattle.lc_base.specs.TextBytes.{bad_text_byte};
@@ -23,6 +23,13 @@ fn bad_text_byte(bytes: &[u8]) -> Option<usize>
     ensures { result ≡ bad_text_byte bytes.now }
 {
     bytes.iter().position(|byte| !is_text_byte(*byte))
+}
+
+/// The value of a field, or the fault where it breaks the field's rule.
+fn ruled<T: Copy>(value: T, is_lawful: bool, fault: Fault) -> Result<T, Fault>
+    ensures { result ≡ (if is_lawful then Ok value else Err fault) }
+{
+    if is_lawful { Ok(value) } else { Err(fault) }
 }
 
 /// The bytes that are still to be read. After an error it is not said how many are left.
@@ -84,45 +91,42 @@ impl<'a> Reader<'a> {
         }
     }
 
+    /// As many bytes as the array has.
+    #[tactic(auto, unfolding(crate::specs::Reading::bytes_at))]
+    fn array<const N: usize>(&mut self) -> Result<[u8; N], Fault>
+        ensures { Reads fault_left result (bytes_at N self.old) self.new }
+    {
+        match self.rest.split_first_chunk::<N>() {
+            None => Err(self.fault()),
+            Some((prefix, rest)) => {
+                self.rest = rest;
+                Ok(*prefix)
+            }
+        }
+    }
+
     /// A number of two bytes, the more significant first.
-    #[tactic(auto, unfolding(crate::specs::Reading::number_at))]
+    #[tactic(auto, unfolding(crate::specs::Reading::number_at, crate::specs::Reading::bytes_at))]
     pub fn u16(&mut self) -> Result<u16, Fault>
         ensures { Reads fault_left result (number_at w16 self.old) self.new }
     {
-        if self.rest.len() < 2 {
-            return Err(self.fault());
-        }
-        let (prefix, rest) = self.rest.split_at(2);
-        self.rest = rest;
-        Ok(u16::from_be_bytes([prefix[0], prefix[1]]))
+        Ok(u16::from_be_bytes(self.array()?))
     }
 
     /// A number of four bytes, the most significant first.
-    #[tactic(auto, unfolding(crate::specs::Reading::number_at))]
+    #[tactic(auto, unfolding(crate::specs::Reading::number_at, crate::specs::Reading::bytes_at))]
     pub fn u32(&mut self) -> Result<u32, Fault>
         ensures { Reads fault_left result (number_at w32 self.old) self.new }
     {
-        if self.rest.len() < 4 {
-            return Err(self.fault());
-        }
-        let (prefix, rest) = self.rest.split_at(4);
-        self.rest = rest;
-        Ok(u32::from_be_bytes([prefix[0], prefix[1], prefix[2], prefix[3]]))
+        Ok(u32::from_be_bytes(self.array()?))
     }
 
     /// A number of eight bytes, the most significant first.
-    #[tactic(auto, unfolding(crate::specs::Reading::number_at))]
+    #[tactic(auto, unfolding(crate::specs::Reading::number_at, crate::specs::Reading::bytes_at))]
     pub fn u64(&mut self) -> Result<u64, Fault>
         ensures { Reads fault_left result (number_at w64 self.old) self.new }
     {
-        if self.rest.len() < 8 {
-            return Err(self.fault());
-        }
-        let (prefix, rest) = self.rest.split_at(8);
-        self.rest = rest;
-        Ok(u64::from_be_bytes([
-            prefix[0], prefix[1], prefix[2], prefix[3], prefix[4], prefix[5], prefix[6], prefix[7],
-        ]))
+        Ok(u64::from_be_bytes(self.array()?))
     }
 
     /// A byte that is at most this one.
@@ -131,10 +135,7 @@ impl<'a> Reader<'a> {
     {
         let fault = self.fault();
         let byte = self.byte()?;
-        if byte > greatest {
-            return Err(fault);
-        }
-        Ok(byte)
+        ruled(byte, byte <= greatest, fault)
     }
 
     /// A byte that can only be this one.
@@ -143,10 +144,7 @@ impl<'a> Reader<'a> {
     {
         let fault = self.fault();
         let byte = self.byte()?;
-        if byte != wanted {
-            return Err(fault);
-        }
-        Ok(byte)
+        ruled(byte, byte == wanted, fault)
     }
 
     /// A number of two bytes that is at most this one.
@@ -155,10 +153,7 @@ impl<'a> Reader<'a> {
     {
         let fault = self.fault();
         let number = self.u16()?;
-        if number > greatest {
-            return Err(fault);
-        }
-        Ok(number)
+        ruled(number, number <= greatest, fault)
     }
 
     /// A number of four bytes that is at most this one.
@@ -167,10 +162,7 @@ impl<'a> Reader<'a> {
     {
         let fault = self.fault();
         let number = self.u32()?;
-        if number > greatest {
-            return Err(fault);
-        }
-        Ok(number)
+        ruled(number, number <= greatest, fault)
     }
 
     /// So many bytes, where they lie.
@@ -188,17 +180,10 @@ impl<'a> Reader<'a> {
     }
 
     /// The bytes of a digest.
-    #[tactic(auto, unfolding(crate::specs::Reading::bytes_at))]
     pub fn digest_bytes(&mut self) -> Result<[u8; 32], Fault>
         ensures { Reads fault_left result (bytes_at 32 self.old) self.new }
     {
-        match self.rest.split_first_chunk::<32>() {
-            None => Err(self.fault()),
-            Some((prefix, rest)) => {
-                self.rest = rest;
-                Ok(*prefix)
-            }
-        }
+        self.array()
     }
 
     /// The length of a string, which is in this range.
@@ -207,10 +192,11 @@ impl<'a> Reader<'a> {
     {
         let fault = self.fault();
         let length = self.u16()?;
-        if length < fewest || greatest < length {
-            return Err(fault);
-        }
-        Ok(length as usize)
+        ruled(
+            length as usize,
+            fewest <= length && length <= greatest,
+            fault,
+        )
     }
 
     #[tactic(auto, unfolding(crate::specs::Reading::bytes_at))]
@@ -218,15 +204,11 @@ impl<'a> Reader<'a> {
         requires { (1 ≤ length) × (length ≤ MAX_KEY_BYTES) }
         ensures { Reads fault_left result (ruled_at (λ bytes. is_none (bad_key_byte bytes)) (bytes_at length) self.old) self.new }
     {
-        match self.rest.split_at_checked(length) {
-            None => Err(self.fault()),
-            Some((prefix, rest)) => match Key::new(prefix) {
-                Err(_) => Err(self.fault()),
-                Ok(key) => {
-                    self.rest = rest;
-                    Ok(key)
-                }
-            },
+        let fault = self.fault();
+        let bytes = self.bytes(length)?;
+        match Key::new(bytes) {
+            Ok(key) => Ok(key),
+            Err(_) => Err(fault),
         }
     }
 
@@ -255,15 +237,11 @@ impl<'a> Reader<'a> {
         requires { (1 ≤ length) × (length ≤ MAX_NAME_BYTES) }
         ensures { Reads fault_left result (ruled_at (λ bytes. is_none (bad_name_byte bytes)) (bytes_at length) self.old) self.new }
     {
-        match self.rest.split_at_checked(length) {
-            None => Err(self.fault()),
-            Some((prefix, rest)) => match Name::new(prefix) {
-                Err(_) => Err(self.fault()),
-                Ok(name) => {
-                    self.rest = rest;
-                    Ok(name)
-                }
-            },
+        let fault = self.fault();
+        let bytes = self.bytes(length)?;
+        match Name::new(bytes) {
+            Ok(name) => Ok(name),
+            Err(_) => Err(fault),
         }
     }
 
@@ -276,28 +254,14 @@ impl<'a> Reader<'a> {
         self.name_of(length)
     }
 
-    #[tactic(auto, unfolding(crate::specs::Reading::bytes_at))]
-    fn bytes_of(&mut self, alloc: Global, length: usize) -> Result<Bytes, ReadError>
-        ensures { Reads error_left result (bytes_at length self.old) self.new }
-    {
-        match self.rest.split_at_checked(length) {
-            None => Err(ReadError::Fault(self.fault())),
-            Some((prefix, rest)) => {
-                let mut bytes = Vec::with_capacity(alloc, length)?;
-                bytes.extend_from_slice(prefix)?;
-                self.rest = rest;
-                Ok(Bytes::from_vec(bytes))
-            }
-        }
-    }
-
     /// A string of any bytes, at most so many: its length in two bytes, and its bytes.
     #[tactic(auto, unfolding(crate::specs::Reading::any_bytes_at))]
     pub fn any_bytes(&mut self, alloc: Global, greatest: u16) -> Result<Bytes, ReadError>
         ensures { Reads error_left result (any_bytes_at greatest self.old) self.new }
     {
         let length = self.u16_at_most(greatest)?;
-        self.bytes_of(alloc, length as usize)
+        let bytes = self.bytes(length as usize)?;
+        Ok(Bytes::from_vec(Vec::from_slice(alloc, bytes)?))
     }
 
     #[tactic(auto, unfolding(crate::specs::Reading::bytes_at))]
@@ -305,16 +269,12 @@ impl<'a> Reader<'a> {
         requires { length ≤ MAX_TEXT_BYTES }
         ensures { Reads error_left result (ruled_at (λ bytes. is_none (bad_text_byte bytes)) (bytes_at length) self.old) self.new }
     {
-        match self.rest.split_at_checked(length) {
-            None => Err(ReadError::Fault(self.fault())),
-            Some((prefix, rest)) => match Text::new(alloc, prefix) {
-                Err(TextError::Memory) => Err(ReadError::Memory),
-                Err(_) => Err(ReadError::Fault(self.fault())),
-                Ok(text) => {
-                    self.rest = rest;
-                    Ok(text)
-                }
-            },
+        let fault = self.fault();
+        let bytes = self.bytes(length)?;
+        match Text::new(alloc, bytes) {
+            Ok(text) => Ok(text),
+            Err(TextError::Memory) => Err(ReadError::Memory),
+            Err(_) => Err(ReadError::Fault(fault)),
         }
     }
 
@@ -327,16 +287,14 @@ impl<'a> Reader<'a> {
         self.text_of(alloc, length)
     }
 
-    #[tactic(auto, unfolding(crate::specs::Reading::bytes_at))]
     fn text_bytes_of(&mut self, length: usize) -> Result<&'a [u8], Fault>
         ensures { ReadsAs (λ bytes. bytes.now) fault_left result (ruled_at (λ bytes. is_none (bad_text_byte bytes)) (bytes_at length) self.old) self.new }
     {
-        match self.rest.split_at_checked(length) {
-            Some((prefix, rest)) if bad_text_byte(prefix).is_none() => {
-                self.rest = rest;
-                Ok(prefix)
-            }
-            _ => Err(self.fault()),
+        let fault = self.fault();
+        let bytes = self.bytes(length)?;
+        match bad_text_byte(bytes) {
+            None => Ok(bytes),
+            Some(_) => Err(fault),
         }
     }
 

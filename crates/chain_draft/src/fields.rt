@@ -44,9 +44,7 @@ pub fn key_in(json: &Json) -> Result<Key, ReadError>
     ensures read { Reads result (key_in (view json.now)) }
     ensures lawful { IfOk result IsKey }
 {
-    let Some(text) = json.as_str() else {
-        return Err(ReadError::Shape);
-    };
+    let text = json.as_str().ok_or(ReadError::Shape)?;
     match Key::new(text.as_bytes()) {
         Ok(key) => Ok(key),
         Err(_) => Err(ReadError::Shape),
@@ -58,9 +56,7 @@ pub fn name_in(json: &Json) -> Result<Name, ReadError>
     ensures read { Reads result (name_in (view json.now)) }
     ensures lawful { IfOk result IsName }
 {
-    let Some(text) = json.as_str() else {
-        return Err(ReadError::Shape);
-    };
+    let text = json.as_str().ok_or(ReadError::Shape)?;
     match Name::new(text.as_bytes()) {
         Ok(name) => Ok(name),
         Err(_) => Err(ReadError::Shape),
@@ -72,9 +68,7 @@ pub fn source_in(alloc: Global, json: &Json) -> Result<Bytes, ReadError>
     ensures read { Reads result (source_in (view json.now)) }
     ensures short { IfOk result (λ source. length source ≤ MAX_SOURCE_BYTES) }
 {
-    let Some(text) = json.as_str() else {
-        return Err(ReadError::Shape);
-    };
+    let text = json.as_str().ok_or(ReadError::Shape)?;
     let bytes = text.as_bytes();
     if bytes.len() > MAX_SOURCE_BYTES {
         return Err(ReadError::Shape);
@@ -90,9 +84,7 @@ pub fn value_in(alloc: Global, json: &Json) -> Result<Value, ReadError>
     if let Some(number) = json.as_i64() {
         return Ok(Value::Int(number));
     }
-    let Some(text) = json.as_str() else {
-        return Err(ReadError::Shape);
-    };
+    let text = json.as_str().ok_or(ReadError::Shape)?;
     match Text::new(alloc, text.as_bytes()) {
         Ok(text) => Ok(Value::Text(text)),
         Err(TextError::Memory) => Err(ReadError::Memory),
@@ -116,10 +108,7 @@ pub fn key_at(json: &Json, name: &str) -> Result<Key, ReadError>
     ensures read { Reads result (key_at name.now (view json.now)) }
     ensures lawful { IfOk result IsKey }
 {
-    match json.get(name) {
-        Some(member) => key_in(member),
-        None => Err(ReadError::Shape),
-    }
+    key_in(json.get(name).ok_or(ReadError::Shape)?)
 }
 
 /// A name, as the member of this name.
@@ -127,8 +116,5 @@ pub fn name_at(json: &Json, name: &str) -> Result<Name, ReadError>
     ensures read { Reads result (name_at name.now (view json.now)) }
     ensures lawful { IfOk result IsName }
 {
-    match json.get(name) {
-        Some(member) => name_in(member),
-        None => Err(ReadError::Shape),
-    }
+    name_in(json.get(name).ok_or(ReadError::Shape)?)
 }

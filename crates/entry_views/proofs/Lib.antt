@@ -5,3 +5,6 @@ pub mod Bodies
 pub mod Leaves
 pub mod Placing
 pub mod Determined
+pub mod First
+pub mod Indexed
+pub mod Read

@@ -3,7 +3,9 @@ use Rattle.std.proofs.Common.{◌≡◌, ℕ, ◌+◌, ◌-◌, ◌≤◌, List,
 use Rattle.std.specs.Prelude.{IfOk, IfErr}
 use Rattle.std.specs.List.{concat}
 use Rattle.std.proofs.lemmas.List.{length-append, take_at, take-append-drop}
+use Rattle.byte_fields.specs.Reader.{fault_left, Reads}
 use Rattle.byte_fields.specs.Reading.{Field}
+use Rattle.byte_fields.specs.declared.fault.Fault.{Fault}
 use Rattle.byte_fields.specs.Spelling.{IsBytes}
 use Rattle.byte_fields.proofs.Laws.{IsField, left_of}
 use Rattle.byte_fields.proofs.LongestPrefixes.{longest_prefix, left_within}
@@ -14,6 +16,10 @@ use Rattle.entry_views.specs.Standing.{StandsAt, IsInvalidAt, placed, read_from}
 
 abbrev done : {A : Type 0} → Placed A → Result (Placed A) FieldError
 done view = Ok view
+
+-- what a reader answered, where it is known
+pub reads_this : {A : Type 0} (result known : Result A Fault) (r : Field A) (after : List ℕ) → result ≡ known → Reads fault_left result r after → Reads fault_left known r after
+reads_this {A = A} result known r after e read = subst (λ (t : Result A Fault). Reads fault_left t r after) e read
 
 module _ {A : Type 0} {read : List ℕ → Field A} {fields : A → List (List ℕ)} {Is : A → Type 0} (field : IsField read fields Is) (bytes : List ℕ) (offset : ℕ) where
   abbrev rest : List ℕ

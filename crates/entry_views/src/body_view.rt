@@ -1,20 +1,21 @@
 //! Bodies as they stand in bytes.
 
 ghost use Rattle.std.specs.Prelude.{◌≡◌, ℕ, Ok, IfOk, IfErr};
-ghost use Rattle.byte_fields.specs.Reader.{fault_left, Reads, value_seen};
+ghost use Rattle.byte_fields.specs.Reader.{fault_left, Reads, ReadsAs, value_seen};
 ghost use Rattle.prov_entry.specs.Spelling.{IsBody, body_fields};
 ghost use Rattle.prov_entry.specs.declared.entry.Body.{Body};
 ghost use Rattle.entry_views.specs.Reading.{body_at};
-ghost use Rattle.entry_views.specs.Placed.{IsSpelled};
 ghost use Rattle.entry_views.specs.Standing.{StandsAt, IsInvalidAt, read_from};
 
 use crate::body_dep_view::{BodyDepView, counted_body_deps};
+use crate::entry_view::{EntryFields, EntryView, placed, taken};
 use crate::fault::{FieldError, tail};
 use byte_fields::{Fault, Reader, ValueView};
 use std::marker::Model;
 
+/// The fields of a body.
 #[derive(Drop)]
-struct BodyFields<'p> {
+pub struct BodyFields<'p> {
     value: ValueView<'p>,
     deps: BodyDepView<'p>,
 }
@@ -28,27 +29,18 @@ impl<'p> Model for BodyFields<'p> {
     ghost view = { λ fields. record { value = value_seen fields.value; deps = fields.deps } };
 }
 
+impl<'p> EntryFields for BodyFields<'p> {
+    ghost spelling = { body_fields };
+
+    ghost lawful = { IsBody };
+
+    ghost fields_at = { body_at };
+}
+
 /// A body that stands in bytes.
-#[derive(Drop)]
-pub struct BodyView<'p> {
-    fields: BodyFields<'p>,
-    bytes: &'p [u8],
-    end: usize,
-}
+pub type BodyView<'p> = EntryView<'p, BodyFields<'p>>;
 
-impl<'p> Model for BodyView<'p> {
-    ghost use Rattle.prov_entry.specs.declared.entry.Body.{Body};
-    ghost use Rattle.prov_entry.specs.Spelling.{IsBody, body_fields};
-    ghost use Rattle.entry_views.specs.Placed.{Placed, IsSpelled};
-
-    ghost Value = { Placed Body };
-
-    ghost view = { λ body. record { value = body.fields; end = body.end } };
-
-    ghost invariant = { λ body. IsSpelled body_fields IsBody body.fields body.bytes.now };
-}
-
-impl<'p> BodyView<'p> {
+impl<'p> EntryView<'p, BodyFields<'p>> {
     /// Its value, whose text stays where it lies.
     pub fn value(&self) -> ValueView<'p>
         ensures { value_seen result ≡ self.now.value.value }
@@ -62,20 +54,6 @@ impl<'p> BodyView<'p> {
     {
         self.fields.deps.again()
     }
-
-    /// The bytes that it was read from, which are its fields.
-    pub fn bytes(&self) -> &'p [u8]
-        ensures spelled { IsSpelled body_fields IsBody self.now.value result.now }
-    {
-        self.bytes
-    }
-
-    /// The offset after its last byte.
-    pub fn end(&self) -> usize
-        ensures { result ≡ self.now.end }
-    {
-        self.end
-    }
 }
 
 #[tactic(auto, unfolding(crate::specs::Reading::body_at))]
@@ -87,28 +65,9 @@ fn body_fields<'p>(reader: &mut Reader<'p>) -> Result<BodyFields<'p>, Fault>
     Ok(BodyFields { value, deps })
 }
 
-fn body_from<'p>(bytes: &'p [u8], at: usize) -> Result<BodyView<'p>, FieldError>
-    ensures { result ≡ read_from body_at bytes.now at }
-{
-    let rest = tail(bytes, at);
-    let mut reader = Reader::new(rest);
-    match body_fields(&mut reader) {
-        Ok(fields) => {
-            let length = rest.len() - reader.left();
-            Ok(BodyView {
-                fields,
-                bytes: &rest[..length],
-                end: at + length,
-            })
-        }
-        Err(fault) => Err(FieldError {
-            at: at + (rest.len() - fault.left),
-        }),
-    }
-}
-
 /// The body that stands in the bytes from the offset `at` on, without the byte before it where it is
 /// hashed. An error exactly where none stands there.
+#[tactic(auto, using(crate::proofs::Bodies::body_field))]
 pub fn read_body<'p>(bytes: &'p [u8], at: usize) -> Result<BodyView<'p>, FieldError>
     // What is read stands there.
     ensures found { IfOk result (λ body. StandsAt body_fields IsBody bytes.now at body.value body.end) }
@@ -119,5 +78,16 @@ pub fn read_body<'p>(bytes: &'p [u8], at: usize) -> Result<BodyView<'p>, FieldEr
     // What stands there is said by a function, and that is the answer.
     ensures exact { result ≡ read_from body_at bytes.now at }
 {
-    body_from(bytes, at)
+    let mut reader = Reader::new(tail(bytes, at));
+    let fields = body_fields(&mut reader);
+    placed(bytes, at, fields, &reader)
+}
+
+/// The body where a reader stands.
+#[tactic(auto, using(crate::proofs::Bodies::body_field))]
+pub fn next_body<'p>(reader: &mut Reader<'p>) -> Result<BodyView<'p>, Fault>
+    ensures { ReadsAs (λ body. body.value) fault_left result (body_at reader.old) reader.new }
+{
+    let body = read_body(reader.rest(), 0);
+    taken(reader, body)
 }

@@ -1,21 +1,22 @@
 //! Headers as they stand in bytes.
 
 ghost use Rattle.std.specs.Prelude.{◌≡◌, ℕ, Ok, IfOk, IfErr};
-ghost use Rattle.byte_fields.specs.Reader.{fault_left, Reads};
+ghost use Rattle.byte_fields.specs.Reader.{fault_left, Reads, ReadsAs};
 ghost use Rattle.prov_entry.specs.Spelling.{IsHeader, header_fields};
 ghost use Rattle.prov_entry.specs.declared.entry.Header.{Header};
 ghost use Rattle.entry_views.specs.Reading.{header_at};
-ghost use Rattle.entry_views.specs.Placed.{IsSpelled};
 ghost use Rattle.entry_views.specs.Standing.{StandsAt, IsInvalidAt, read_from};
 
+use crate::entry_view::{EntryFields, EntryView, placed, taken};
 use crate::fault::{FieldError, tail};
 use crate::link_view::{LinkView, counted_links};
 use byte_fields::{Fault, Reader};
 use lc_base::{Digest, Key};
 use std::marker::Model;
 
+/// The fields of a header.
 #[derive(Drop)]
-struct HeaderFields<'p> {
+pub struct HeaderFields<'p> {
     key: Key,
     block: u32,
     tx: u16,
@@ -33,27 +34,18 @@ impl<'p> Model for HeaderFields<'p> {
     ghost view = { λ fields. record { key = fields.key; block = fields.block; tx = fields.tx; body = fields.body; closed = fields.closed; closed_digest = fields.closed_digest; links = fields.links } };
 }
 
+impl<'p> EntryFields for HeaderFields<'p> {
+    ghost spelling = { header_fields };
+
+    ghost lawful = { IsHeader };
+
+    ghost fields_at = { header_at };
+}
+
 /// A header that stands in bytes.
-#[derive(Drop)]
-pub struct HeaderView<'p> {
-    fields: HeaderFields<'p>,
-    bytes: &'p [u8],
-    end: usize,
-}
+pub type HeaderView<'p> = EntryView<'p, HeaderFields<'p>>;
 
-impl<'p> Model for HeaderView<'p> {
-    ghost use Rattle.prov_entry.specs.declared.entry.Header.{Header};
-    ghost use Rattle.prov_entry.specs.Spelling.{IsHeader, header_fields};
-    ghost use Rattle.entry_views.specs.Placed.{Placed, IsSpelled};
-
-    ghost Value = { Placed Header };
-
-    ghost view = { λ header. record { value = header.fields; end = header.end } };
-
-    ghost invariant = { λ header. IsSpelled header_fields IsHeader header.fields header.bytes.now };
-}
-
-impl<'p> HeaderView<'p> {
+impl<'p> EntryView<'p, HeaderFields<'p>> {
     pub fn key(&self) -> Key
         ensures { result ≡ self.now.value.key }
     {
@@ -102,20 +94,6 @@ impl<'p> HeaderView<'p> {
     {
         self.fields.links.again()
     }
-
-    /// The bytes that it was read from, which are its fields.
-    pub fn bytes(&self) -> &'p [u8]
-        ensures spelled { IsSpelled header_fields IsHeader self.now.value result.now }
-    {
-        self.bytes
-    }
-
-    /// The offset after its last byte.
-    pub fn end(&self) -> usize
-        ensures { result ≡ self.now.end }
-    {
-        self.end
-    }
 }
 
 #[tactic(auto, unfolding(crate::specs::Reading::header_at))]
@@ -140,28 +118,9 @@ fn header_fields<'p>(reader: &mut Reader<'p>) -> Result<HeaderFields<'p>, Fault>
     })
 }
 
-fn header_from<'p>(bytes: &'p [u8], at: usize) -> Result<HeaderView<'p>, FieldError>
-    ensures { result ≡ read_from header_at bytes.now at }
-{
-    let rest = tail(bytes, at);
-    let mut reader = Reader::new(rest);
-    match header_fields(&mut reader) {
-        Ok(fields) => {
-            let length = rest.len() - reader.left();
-            Ok(HeaderView {
-                fields,
-                bytes: &rest[..length],
-                end: at + length,
-            })
-        }
-        Err(fault) => Err(FieldError {
-            at: at + (rest.len() - fault.left),
-        }),
-    }
-}
-
 /// The header that stands in the bytes from the offset `at` on, without the byte before it where it is
 /// hashed. An error exactly where none stands there.
+#[tactic(auto, using(crate::proofs::Headers::header_field))]
 pub fn read_header<'p>(bytes: &'p [u8], at: usize) -> Result<HeaderView<'p>, FieldError>
     // What is read stands there.
     ensures found { IfOk result (λ header. StandsAt header_fields IsHeader bytes.now at header.value header.end) }
@@ -172,5 +131,16 @@ pub fn read_header<'p>(bytes: &'p [u8], at: usize) -> Result<HeaderView<'p>, Fie
     // What stands there is said by a function, and that is the answer.
     ensures exact { result ≡ read_from header_at bytes.now at }
 {
-    header_from(bytes, at)
+    let mut reader = Reader::new(tail(bytes, at));
+    let fields = header_fields(&mut reader);
+    placed(bytes, at, fields, &reader)
+}
+
+/// The header where a reader stands.
+#[tactic(auto, using(crate::proofs::Headers::header_field))]
+pub fn next_header<'p>(reader: &mut Reader<'p>) -> Result<HeaderView<'p>, Fault>
+    ensures { ReadsAs (λ header. header.value) fault_left result (header_at reader.old) reader.new }
+{
+    let header = read_header(reader.rest(), 0);
+    taken(reader, header)
 }

@@ -1,94 +1,70 @@
 //! Leaves as they stand in bytes.
 
 ghost use Rattle.std.specs.Prelude.{◌≡◌, ℕ, Ok, IfOk, IfErr};
-ghost use Rattle.byte_fields.specs.Reader.{fault_left, Reads};
+ghost use Rattle.byte_fields.specs.Reader.{fault_left, Reads, ReadsAs};
 ghost use Rattle.prov_entry.specs.Spelling.{IsLeaf, leaf_fields};
 ghost use Rattle.prov_entry.specs.declared.entry.Leaf.{Leaf as LeafValue};
 ghost use Rattle.entry_views.specs.Reading.{next_at, leaf_at};
-ghost use Rattle.entry_views.specs.Placed.{IsSpelled};
 ghost use Rattle.entry_views.specs.Standing.{StandsAt, IsInvalidAt, read_from};
 
+use crate::entry_view::{EntryFields, EntryView, placed, taken};
 use crate::fault::{FieldError, tail};
 use byte_fields::{Fault, Reader};
 use lc_base::{Digest, Key};
 use prov_entry::Leaf;
-use std::marker::Model;
+
+impl EntryFields for Leaf {
+    ghost spelling = { leaf_fields };
+
+    ghost lawful = { IsLeaf };
+
+    ghost fields_at = { leaf_at };
+}
 
 /// A leaf that stands in bytes.
-#[derive(Drop)]
-pub struct LeafView<'p> {
-    leaf: Leaf,
-    bytes: &'p [u8],
-    end: usize,
-}
+pub type LeafView<'p> = EntryView<'p, Leaf>;
 
-impl<'p> Model for LeafView<'p> {
-    ghost use Rattle.prov_entry.specs.declared.entry.Leaf.{Leaf as LeafValue};
-    ghost use Rattle.prov_entry.specs.Spelling.{IsLeaf, leaf_fields};
-    ghost use Rattle.entry_views.specs.Placed.{Placed, IsSpelled};
-
-    ghost Value = { Placed LeafValue };
-
-    ghost view = { λ leaf. record { value = leaf.leaf; end = leaf.end } };
-
-    ghost invariant = { λ leaf. IsSpelled leaf_fields IsLeaf leaf.leaf leaf.bytes.now };
-}
-
-impl<'p> LeafView<'p> {
+impl<'p> EntryView<'p, Leaf> {
     /// None for the sentinel.
     pub fn key(&self) -> Option<Key>
         ensures { result ≡ self.now.value.key }
     {
-        self.leaf.key
+        self.fields.key
     }
 
     /// The least key that is greater and has a leaf; none where there is no greater one.
     pub fn next(&self) -> Option<Key>
         ensures { result ≡ self.now.value.next }
     {
-        self.leaf.next
+        self.fields.next
     }
 
     /// The block of the newest version; 0 for the sentinel.
     pub fn newest_block(&self) -> u32
         ensures { result ≡ self.now.value.newest_block }
     {
-        self.leaf.newest_block
+        self.fields.newest_block
     }
 
     /// The digest of its header; zeros for the sentinel.
     pub fn newest(&self) -> Digest
         ensures { result ≡ self.now.value.newest }
     {
-        self.leaf.newest
+        self.fields.newest
     }
 
     /// How many versions were derived from the newest one so far; 0 for the sentinel.
     pub fn open_count(&self) -> u64
         ensures { result ≡ self.now.value.open_count }
     {
-        self.leaf.open_count
+        self.fields.open_count
     }
 
     /// The digest of these, as a forward list.
     pub fn open_digest(&self) -> Digest
         ensures { result ≡ self.now.value.open_digest }
     {
-        self.leaf.open_digest
-    }
-
-    /// The bytes that it was read from, which are its fields.
-    pub fn bytes(&self) -> &'p [u8]
-        ensures spelled { IsSpelled leaf_fields IsLeaf self.now.value result.now }
-    {
-        self.bytes
-    }
-
-    /// The offset after its last byte.
-    pub fn end(&self) -> usize
-        ensures { result ≡ self.now.end }
-    {
-        self.end
+        self.fields.open_digest
     }
 }
 
@@ -122,28 +98,9 @@ fn leaf(reader: &mut Reader) -> Result<Leaf, Fault>
     })
 }
 
-fn leaf_from<'p>(bytes: &'p [u8], at: usize) -> Result<LeafView<'p>, FieldError>
-    ensures { result ≡ read_from leaf_at bytes.now at }
-{
-    let rest = tail(bytes, at);
-    let mut reader = Reader::new(rest);
-    match leaf(&mut reader) {
-        Ok(leaf) => {
-            let length = rest.len() - reader.left();
-            Ok(LeafView {
-                leaf,
-                bytes: &rest[..length],
-                end: at + length,
-            })
-        }
-        Err(fault) => Err(FieldError {
-            at: at + (rest.len() - fault.left),
-        }),
-    }
-}
-
 /// The leaf that stands in the bytes from the offset `at` on, without the byte before it where it is
 /// hashed. An error exactly where none stands there.
+#[tactic(auto, using(crate::proofs::Leaves::leaf_field))]
 pub fn read_leaf<'p>(bytes: &'p [u8], at: usize) -> Result<LeafView<'p>, FieldError>
     // What is read stands there.
     ensures found { IfOk result (λ leaf. StandsAt leaf_fields IsLeaf bytes.now at leaf.value leaf.end) }
@@ -154,5 +111,16 @@ pub fn read_leaf<'p>(bytes: &'p [u8], at: usize) -> Result<LeafView<'p>, FieldEr
     // What stands there is said by a function, and that is the answer.
     ensures exact { result ≡ read_from leaf_at bytes.now at }
 {
-    leaf_from(bytes, at)
+    let mut reader = Reader::new(tail(bytes, at));
+    let fields = leaf(&mut reader);
+    placed(bytes, at, fields, &reader)
+}
+
+/// The leaf where a reader stands.
+#[tactic(auto, using(crate::proofs::Leaves::leaf_field))]
+pub fn next_leaf<'p>(reader: &mut Reader<'p>) -> Result<LeafView<'p>, Fault>
+    ensures { ReadsAs (λ leaf. leaf.value) fault_left result (leaf_at reader.old) reader.new }
+{
+    let leaf = read_leaf(reader.rest(), 0);
+    taken(reader, leaf)
 }

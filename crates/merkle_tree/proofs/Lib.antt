@@ -8,5 +8,4 @@ mod Raising
 mod Top
 mod Siblings
 mod Beside
-mod Together
 mod Renewed

@@ -1,11 +1,11 @@
--- What levels are after a hash was set or put.
+-- What levels are after a hash was put.
 use Rattle.std.proofs.Common.{◌≡◌, ℕ, zero, suc, ◌+◌, ◌*◌, ◌/◌, ◌<◌, ◌≤◌, List, [], ◌∷◌, ◌++◌, length, take, drop, get_or, map, refl, sym, ap, ◌∙◌, arith, Vec, Global}
 use Rattle.std.proofs.Math.ListN.{set}
 use Rattle.std.proofs.lemmas.List.{get_or_past, take_more_set, map-append, drop-set-lt, drop_more, append_assoc, take_all, drop_all, append-nil}
 use Rattle.std.specs.List.{All}
-use Rattle.std.proofs.lemmas.List.{drop-drop, length-drop, get_or-drop, length-set, length-append}
+use Rattle.std.proofs.lemmas.List.{drop-drop, length-drop, get_or-drop, length-append}
 use Rattle.std.proofs.lemmas.List.Elements.{All-push, All-drop}
-use Rattle.merkle_tree.specs.Levels.{join, pair_up, levels_over, hash_over, set_through, put, put_through, HasRoom, leaf_level, AreLevels}
+use Rattle.merkle_tree.specs.Levels.{join, pair_up, levels_over, hash_over, put, put_through, HasRoom, leaf_level, AreLevels}
 use Rattle.merkle_tree.specs.declared.limits.TheConstants.{MAX_HEIGHT, MAX_LEAVES}
 use Rattle.lc_base.specs.declared.digest.Digest.{Digest}
 
@@ -17,21 +17,6 @@ pub length-pair_up : (xs : List Digest) → length (pair_up xs) ≡ (length xs +
 length-pair_up [] = refl
 length-pair_up (x ∷ []) = refl
 length-pair_up (x ∷ y ∷ xs) = omega (arith, length-pair_up xs)
-
-pub pair_up-set : (xs : List Digest) (m : ℕ) (v : Digest) → m < length xs → pair_up (set xs m v) ≡ set (pair_up xs) (m / 2) (hash_over (set xs m v) m v)
-pair_up-set [] m v h = absurd (omega arith)
-pair_up-set (x ∷ []) zero v h = refl
-pair_up-set (x ∷ []) (suc m) v h = absurd (omega arith)
-pair_up-set (x ∷ y ∷ xs) zero v h = refl
-pair_up-set (x ∷ y ∷ xs) (suc zero) v h = refl
-pair_up-set (x ∷ y ∷ xs) (suc (suc m)) v h = rw half_suc (ap (λ (t : List Digest). join x y ∷ t) (pair_up-set xs m v (omega arith)))
-
-pub set_keeps-levels : (j m : ℕ) (v : Digest) (hs : List Digest) → m < length hs → set_through m v (levels_over j hs) ≡ levels_over j (set hs m v)
-unfolding set_through levels_over
-set_keeps-levels zero m v hs h = refl
-set_keeps-levels (suc j) m v hs h =
-    let up : m / 2 < length (pair_up hs) = omega (arith, length-pair_up hs) in
-    ap (λ (t : List (List Digest)). set hs m v ∷ t) (set_keeps-levels j (m / 2) (hash_over (set hs m v) m v) (pair_up hs) up ∙ ap (levels_over j) (sym (pair_up-set hs m v h)))
 
 -- ---- what stands over a place
 
@@ -71,33 +56,10 @@ above_last xs m left d is h =
 pub above_none : (xs : List Digest) (m left : ℕ) (d : Digest) → left ≡ m / 2 * 2 → length xs ≤ left → hash_over xs m d ≡ d
 above_none xs m left d is h = get_or_past (pair_up xs) (m / 2) d (omega (arith, length-pair_up xs))
 
--- One level more.
-pub set-more : (m : ℕ) (v : Digest) (l : List Digest) (ls : List (List Digest)) → set_through m v (l ∷ ls) ≡ set l m v ∷ set_through (m / 2) (hash_over (set l m v) m v) ls
-unfolding set_through
-set-more m v l ls = refl
-
-pub set-none : (m : ℕ) (v : Digest) → set_through m v [] ≡ []
-unfolding set_through
-set-none m v = refl
-
--- The loop that sets each level.
-pub one_level : (vs : List (Vec Digest Global)) (i m : ℕ) (v up : Digest) (w d : Vec Digest Global) → i < length vs → w.items ≡ set (get_or vs i d).items m v → up ≡ hash_over (set (get_or vs i d).items m v) m v
-    → map (λ (level : Vec Digest Global). level.items) (take (i + 1) (set vs i w)) ++ set_through (m / 2) up (map (λ (level : Vec Digest Global). level.items) (drop (i + 1) (set vs i w)))
-    ≡ map (λ (level : Vec Digest Global). level.items) (take i vs) ++ set_through m v (map (λ (level : Vec Digest Global). level.items) (drop i vs))
-one_level vs i m v up w d below is up_is =
-    let f = λ (level : Vec Digest Global). level.items in
-    let front : map f (take (i + 1) (set vs i w)) ≡ map f (take i vs) ++ w.items ∷ [] = ap (map f) (take_more_set vs i w below) ∙ map-append f (take i vs) (w ∷ []) in
-    let back : drop (i + 1) (set vs i w) ≡ drop (i + 1) vs = drop-set-lt (i + 1) vs i w (omega arith) in
-    let whole : drop i vs ≡ get_or vs i d ∷ drop (i + 1) vs = drop_more vs i d below in
-    rw (front, back, whole, is, up_is) (append_assoc (map f (take i vs)) (set (get_or vs i d).items m v ∷ []) (set_through (m / 2) (hash_over (set (get_or vs i d).items m v) m v) (map f (drop (i + 1) vs))) ∙ rw set-more refl)
-
-pub all_levels : (vs : List (Vec Digest Global)) (i m : ℕ) (v : Digest) → length vs ≤ i
-    → map (λ (level : Vec Digest Global). level.items) (take i vs) ++ set_through m v (map (λ (level : Vec Digest Global). level.items) (drop i vs)) ≡ map (λ (level : Vec Digest Global). level.items) vs
-all_levels vs i m v h = rw (take_all i vs h, drop_all i vs h, set-none) (append-nil (map (λ (level : Vec Digest Global). level.items) vs))
-
 pub same_digest : (a b : Digest) → a.0 ≡ b.0 → a ≡ b
 same_digest a b e = ap (λ (bytes : List ℕ). record { 0 = bytes }) e
 
+-- One level more.
 pub put-more : (m : ℕ) (v : Digest) (l : List Digest) (ls : List (List Digest)) → put_through m v (l ∷ ls) ≡ put l m v ∷ put_through (m / 2) (hash_over (put l m v) m v) ls
 unfolding put_through
 put-more m v l ls = refl
@@ -180,12 +142,6 @@ pub are_over : (new : List (List Digest)) (hs : List Digest) → new ≡ levels_
 are_over new hs e few =
     let lowest : leaf_level new ≡ hs = ap leaf_level e ∙ leaf_level-over MAX_HEIGHT hs in
     (record { pairs = e ∙ ap (levels_over MAX_HEIGHT) (sym lowest); few = rw lowest few }, lowest)
-
--- All levels, after a hash was set.
-pub are_set : (old new : List (List Digest)) (i : ℕ) (v : Digest) → AreLevels old → i < length (leaf_level old) → new ≡ set_through i v old → AreLevels new × (leaf_level new ≡ set (leaf_level old) i v)
-are_set old new i v is below e =
-    let pairs : new ≡ levels_over MAX_HEIGHT (set (leaf_level old) i v) = e ∙ ap (set_through i v) is.pairs ∙ set_keeps-levels MAX_HEIGHT i v (leaf_level old) below in
-    are_over new (set (leaf_level old) i v) pairs (rw (length-set (leaf_level old) i v) is.few)
 
 -- All levels, after a hash was put behind the others.
 pub are_put : (old new : List (List Digest)) (v : Digest) → AreLevels old → length (leaf_level old) < MAX_LEAVES → new ≡ put_through (length (leaf_level old)) v old → AreLevels new × (leaf_level new ≡ leaf_level old ++ v ∷ [])

@@ -1,7 +1,7 @@
 -- What levels are after some leaves were added and some hashes were set.
-use Rattle.std.proofs.Common.{◌≡◌, ℕ, zero, suc, ◌+◌, ◌*◌, ◌-◌, ◌/◌, ◌<◌, ◌≤◌, ◌==◌, ◌||◌, Bool, true, false, List, [], ◌∷◌, ◌++◌, length, take, drop, get_or, map, replicate, refl, sym, ap, ap₂, ◌∙◌, arith, inl, inr, Vec, Global}
+use Rattle.std.proofs.Common.{◌≡◌, ℕ, zero, suc, ◌+◌, ◌*◌, ◌-◌, ◌/◌, ◌<◌, ◌≤◌, ◌==◌, ◌||◌, Bool, true, false, List, [], ◌∷◌, ◌++◌, length, take, drop, get_or, replicate, refl, sym, ap, ap₂, ◌∙◌, arith, inl, inr, Vec, Global}
 use Rattle.std.proofs.Math.ListN.{set}
-use Rattle.std.specs.List.{All, list_any}
+use Rattle.std.specs.List.{All}
 use Rattle.std.specs.Prelude.{vec_capacity}
 use Rattle.std.proofs.lemmas.Bool.{cases_eq, cases_lt, cases_Bool, eq-eqb, eqb-true}
 use Rattle.std.proofs.lemmas.List.{length-set, length-append, length-replicate, get_or_append_left, get_or-set_same, get_or-set_other, take_more_set, map-append, drop-set-lt, drop_more, append_assoc, take_all, drop_all, append-nil}
@@ -12,9 +12,12 @@ use Rattle.merkle_tree.specs.declared.setting_all.TheConstants.{NO_HASH}
 use Rattle.merkle_tree.specs.declared.limits.TheConstants.{MAX_HEIGHT, MAX_LEAVES}
 use Rattle.merkle_tree.specs.Levels.{join, pair_up, levels_over, hashes_in, leaf_level, AreLevels, set_each, over_one, over_each, is_set, IsOwn, Renews, count_above, lengthened, renew_through, HaveRoom}
 use Rattle.merkle_tree.proofs.Raising.{length-pair_up, pair_at, last_at, are_over}
-use Rattle.merkle_tree.proofs.Together.{length-set_each}
 
 -- ---- one level
+
+length-set_each : (hashes : List HashAt) (xs : List Digest) → length (set_each xs hashes) ≡ length xs
+length-set_each [] xs = refl
+length-set_each (one ∷ hashes) xs = length-set_each hashes (set xs one.index one.hash) ∙ length-set xs one.index one.hash
 
 -- Lists of one length with equal items are equal.
 same_items : (xs ys : List Digest) → length xs ≡ length ys → ((i : ℕ) → i < length ys → get_or xs i NO_HASH ≡ get_or ys i NO_HASH) → xs ≡ ys

@@ -51,11 +51,6 @@ pub record AreLevels (levels : List (List Digest)) : Type 0 where
 abbrev pub hash_over : List Digest → ℕ → Digest → Digest
 hash_over level m none = slice_index_or (pair_up level) (m / 2) none
 
--- Levels after a hash was set at place m of the lowest.
-unfoldable pub set_through : ℕ → Digest → List (List Digest) → List (List Digest)
-set_through m hash [] = []
-set_through m hash (level ∷ above) = slice_set level m hash ∷ set_through (m / 2) (hash_over (slice_set level m hash) m hash) above
-
 -- A level after some hashes were set, one after another.
 abbrev pub set_each : List Digest → List HashAt → List Digest
 set_each level hashes = fold (λ (level : List Digest) (one : HashAt). slice_set level one.index one.hash) level hashes
@@ -71,11 +66,6 @@ over_each level hashes = map (over_one level) hashes
 -- The hash is the one over its place.
 abbrev pub StandsOver : List Digest → HashAt → Type 0
 StandsOver level one = one.hash ≡ slice_index_or (pair_up level) one.index NO_HASH
-
--- Levels after some hashes were set in the lowest, one after another.
-unfoldable pub set_all_through : List HashAt → List (List Digest) → List (List Digest)
-set_all_through hashes [] = []
-set_all_through hashes (level ∷ above) = set_each level hashes ∷ set_all_through (over_each (set_each level hashes) hashes) above
 
 -- Whether one of these hashes has this place.
 abbrev pub is_set : List HashAt → ℕ → Bool

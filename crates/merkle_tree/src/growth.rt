@@ -3,7 +3,7 @@
 ghost use Rattle.std.specs.Prelude.{◌≡◌, All, OnOk};
 ghost use Rattle.merkle_tree.specs.Levels.{hash_over, put, put_through, hashes_in, HasRoom};
 
-use crate::setting::hash_over;
+use crate::pairing::hash_over;
 use lc_base::{Digest, Memory};
 
 /// Takes room for one more hash in each level.

@@ -1,19 +1,17 @@
 //! A tree that is changed leaf by leaf.
 
-ghost use Rattle.std.specs.Prelude.{◌≡◌, ◌<◌, ◌≤◌, [], ◌∷◌, ◌++◌, ℕ, List, length, map, slice_set, OnOk, OnErr, IfOk, All};
+ghost use Rattle.std.specs.Prelude.{◌≡◌, ◌<◌, ◌≤◌, [], ◌∷◌, ◌++◌, ℕ, List, length, map, OnOk, OnErr, IfOk};
 ghost use Rattle.merkle_tree.specs.Tree.{tree_hash, audit_path};
 ghost use Rattle.merkle_tree.specs.Climbing.{bytes_of};
-ghost use Rattle.merkle_tree.specs.Levels.{digest_of, set_each, Renews};
+ghost use Rattle.merkle_tree.specs.Levels.{digest_of, Renews};
 ghost use Rattle.merkle_tree.specs.declared.limits.TheConstants.{MAX_LEAVES};
-ghost use Rattle.merkle_tree.specs.declared.setting_all.HashAt.{HashAt};
 
 use crate::growth::{make_room, put_through};
 use crate::hash::empty_hash;
 use crate::limits::MAX_HEIGHT;
 use crate::reading::siblings_up;
 use crate::renewing::{renew_through, take_room};
-use crate::setting::set_through;
-use crate::setting_all::{HashAt, set_all_through};
+use crate::setting_all::HashAt;
 use lc_base::{Digest, DigestList, Memory};
 use std::alloc::Global;
 use std::marker::Model;
@@ -66,23 +64,6 @@ impl Levels {
         make_room(self.levels.as_mut_slice())?;
         put_through(self.levels.as_mut_slice(), index, hash);
         Ok(())
-    }
-
-    /// Sets the hash of a leaf. It takes no memory.
-    pub fn set(&mut self, index: u32, hash: Digest)
-        requires { index < length self.old }
-        ensures { self.new ≡ slice_set self.old index hash }
-    {
-        set_through(self.levels.as_mut_slice(), index as usize, hash);
-    }
-
-    /// Sets the hashes of some leaves, one after another, and then those of the nodes over them. Where
-    /// the indexes ascend, each node is hashed once. It takes no memory.
-    pub fn set_all(&mut self, hashes: Vec<HashAt>)
-        requires { All (λ (one : HashAt). one.index < length self.old) hashes.items }
-        ensures { self.new ≡ set_each self.old hashes.items }
-    {
-        set_all_through(self.levels.as_mut_slice(), hashes);
     }
 
     /// Adds leaves up to this number, and sets the hashes of some; and then those of the nodes over them.

@@ -7,10 +7,10 @@ mod hash;
 mod laws;
 mod levels;
 mod limits;
+mod pairing;
 mod plain;
 mod reading;
 mod renewing;
-mod setting;
 mod setting_all;
 
 pub use climbing::{audit_length, root_from_leaf};

@@ -1,9 +1,9 @@
-//! The levels after the hashes of some leaves were set together. It takes no memory.
+//! One level after some hashes were set together, and the hashes over them. It takes no memory.
 
 ghost use Rattle.std.specs.Prelude.{◌≡◌, IfSome};
-ghost use Rattle.merkle_tree.specs.Levels.{set_each, over_one, over_each, StandsOver, set_all_through, hashes_in};
+ghost use Rattle.merkle_tree.specs.Levels.{set_each, over_one, over_each, StandsOver};
 
-use crate::setting::hash_over;
+use crate::pairing::hash_over;
 use lc_base::Digest;
 
 /// What is taken for the hash over a place past the end of a level.
@@ -52,16 +52,5 @@ pub(crate) fn raise_each(level: &[Digest], hashes: &mut [HashAt])
     for one in hashes.iter_mut() {
         *one = over_one(level, one, &before);
         before = Some(*one);
-    }
-}
-
-/// Sets the hashes of some leaves, one after another, and those over them.
-pub(crate) fn set_all_through(levels: &mut [Vec<Digest>], hashes: Vec<HashAt>)
-    ensures { hashes_in levels.new ≡ set_all_through hashes.items (hashes_in levels.old) }
-{
-    let mut over = hashes;
-    for level in levels.iter_mut() {
-        set_each(level.as_mut_slice(), over.as_slice());
-        raise_each(level.as_slice(), over.as_mut_slice());
     }
 }

@@ -1,16 +1,14 @@
 //! Lists of headers as they stand in bytes.
 
-ghost use Rattle.std.specs.Prelude.{◌≡◌, ◌∷◌, [], length, slice_get, MatchOption};
-ghost use Rattle.std.specs.Option.{option_map};
+ghost use Rattle.std.specs.Prelude.{◌≡◌, ◌∷◌, [], length, MatchOption};
 ghost use Rattle.byte_fields.specs.Reader.{fault_left, Reads};
 ghost use Rattle.byte_fields.specs.Reading.{items_at};
 ghost use Rattle.entry_views.specs.Items.{Skips};
 ghost use Rattle.entry_views.specs.Reading.{header_at};
 ghost use Rattle.proof_codec.specs.Reading.{headers_at};
 
-use crate::header::header;
 use byte_fields::{Fault, Reader};
-use entry_views::HeaderView;
+use entry_views::{HeaderView, next_header};
 use std::marker::Model;
 
 /// Headers, the newest first.
@@ -53,20 +51,6 @@ impl<'p> HeadersView<'p> {
         }
     }
 
-    /// The header at an index, from 0; `None` exactly past the end. All before it are read.
-    pub fn get(&self, i: usize) -> Option<HeaderView<'p>>
-        ensures { option_map (λ header. header.value) result ≡ slice_get self.now i }
-    {
-        let mut rest = self.again();
-        for _ in 0..i {
-            match rest.next() {
-                None => return None,
-                Some(_) => {}
-            }
-        }
-        rest.next()
-    }
-
     /// Takes the first header away; `None` exactly where there is none.
     pub fn next(&mut self) -> Option<HeaderView<'p>>
         ensures { MatchOption result (self.old ≡ []) (λ header. self.old ≡ header.value ∷ self.new) }
@@ -75,7 +59,7 @@ impl<'p> HeadersView<'p> {
             return None;
         }
         let mut reader = Reader::new(self.bytes);
-        match header(&mut reader) {
+        match next_header(&mut reader) {
             Ok(header) => {
                 self.count -= 1;
                 self.bytes = reader.rest();
@@ -90,7 +74,7 @@ fn skip_headers(reader: &mut Reader, count: u8) -> Result<(), Fault>
     ensures { Skips result (items_at header_at count reader.old) reader.new }
 {
     for _ in 0..count {
-        header(reader)?;
+        next_header(reader)?;
     }
     Ok(())
 }

@@ -1,7 +1,6 @@
 //! Proofs as they stand in bytes, read without being copied.
 #![tactic(auto)]
 
-mod body;
 mod front;
 mod leaf;
 mod proof_view;

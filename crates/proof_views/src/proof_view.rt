@@ -11,11 +11,10 @@ ghost use Rattle.proof_codec.specs.Reading.{if_any_at, uses_at, way_at, proof_at
 ghost use Rattle.proof_codec.specs.declared.proof.Proof.{Proof as ProofValue};
 ghost use Rattle.proof_views.specs.Viewing.{Spells, proof_in, told_at};
 
-use crate::body::body;
 use crate::front::{FrontView, front};
 use crate::leaf::leaf;
 use byte_fields::{Fault, Reader};
-use entry_views::{BodyView, HeaderView, LeafView};
+use entry_views::{BodyView, HeaderView, LeafView, next_body};
 use lc_base::{Digest, Kind, Query};
 use merkle_tree::audit_length;
 use proof_lists::{AuditView, HeadersView, UseView, read_audit, read_headers, read_uses};
@@ -151,7 +150,7 @@ fn body_if<'p>(reader: &mut Reader<'p>, there: bool) -> Result<Option<BodyView<'
     if !there {
         return Ok(None);
     }
-    Ok(Some(body(reader)?))
+    Ok(Some(next_body(reader)?))
 }
 
 fn uses_if<'p>(reader: &mut Reader<'p>, there: bool) -> Result<Option<UseView<'p>>, Fault>

@@ -1,20 +1,19 @@
-//! Digests of headers, bodies and leaves, hashed piece by piece. None of these calls takes memory.
+//! Digests of headers and leaves, hashed piece by piece. None of these calls takes memory.
 
 ghost use Rattle.std.specs.Prelude.{◌≡◌, ◌^◌, ◌<◌, ◌≤◌, length};
 ghost use Rattle.std.specs.List.{concat, flat_map, AllByRecursion};
 ghost use Rattle.sha2.specs.Sha256.{sha256};
 ghost use Rattle.lc_names.specs.KeyBytes.{IsKey};
-ghost use Rattle.lc_base.specs.declared.limits.TheConstants.{MAX_DEPS};
-ghost use Rattle.byte_fields.specs.Spelling.{string_fields, value_fields, IsValue};
+ghost use Rattle.byte_fields.specs.Spelling.{string_fields};
 ghost use Rattle.merkle_tree.specs.Tree.{leaf_text};
 ghost use Rattle.prov_entry.specs.declared.limits.TheConstants.{MAX_LINKS};
 ghost use Rattle.prov_entry.specs.Digests.{Adds};
-ghost use Rattle.prov_entry.specs.Spelling.{IsLink, IsHeader, IsBodyDep, IsBody, IsKeyIfAny, IsLeaf, link_fields, body_dep_fields, key_or_empty, next_fields, header_text, body_text, leaf_bytes};
+ghost use Rattle.prov_entry.specs.Spelling.{IsLink, IsHeader, IsKeyIfAny, IsLeaf, link_fields, key_or_empty, next_fields, header_text, leaf_bytes};
 
-use crate::entry::{Body, BodyDep, Header, Leaf, Link};
-use crate::limits::{BODY, HEADER};
+use crate::entry::{Header, Leaf, Link};
+use crate::limits::HEADER;
 use digest_kit::TagHasher;
-use lc_base::{Digest, Key, Value};
+use lc_base::{Digest, Key};
 use merkle_tree::LEAF;
 
 fn add_string(hasher: &mut TagHasher, bytes: &[u8])
@@ -30,22 +29,6 @@ fn add_key(hasher: &mut TagHasher, key: &Key)
     ensures lawful { IsKey key.now }
 {
     add_string(hasher, key.as_bytes());
-}
-
-fn add_value(hasher: &mut TagHasher, value: &Value)
-    ensures added { Adds hasher.old hasher.new (concat (value_fields value.now)) }
-    ensures lawful { IsValue value.now }
-{
-    match value {
-        Value::Int(number) => {
-            hasher.add(&[0]);
-            hasher.add(&number.to_be_bytes());
-        }
-        Value::Text(text) => {
-            hasher.add(&[1]);
-            add_string(hasher, text.as_bytes());
-        }
-    }
 }
 
 fn add_link(hasher: &mut TagHasher, link: &Link)
@@ -80,37 +63,6 @@ pub fn header_digest(header: &Header) -> Digest
     hasher.add(&header.closed_digest.0);
     hasher.add(&[header.links.len() as u8]);
     add_links(&mut hasher, header.links.as_slice());
-    hasher.finish()
-}
-
-fn add_body_dep(hasher: &mut TagHasher, dep: &BodyDep)
-    ensures added { Adds hasher.old hasher.new (concat (body_dep_fields dep.now)) }
-    ensures lawful { IsBodyDep dep.now }
-{
-    add_key(hasher, &dep.key);
-    hasher.add(&dep.block.to_be_bytes());
-    hasher.add(&dep.digest.0);
-}
-
-fn add_body_deps(hasher: &mut TagHasher, deps: &[BodyDep])
-    ensures added { Adds hasher.old hasher.new (concat (flat_map body_dep_fields deps.now)) }
-    ensures lawful { AllByRecursion IsBodyDep deps.now }
-{
-    for dep in deps {
-        add_body_dep(hasher, dep);
-    }
-}
-
-/// The digest of a body's text.
-pub fn body_digest(body: &Body) -> Digest
-    requires { length body.now.deps ≤ MAX_DEPS }
-    ensures digest { result.0 ≡ sha256 (body_text body.now) }
-    ensures lawful { IsBody body.now }
-{
-    let mut hasher = TagHasher::new(BODY);
-    add_value(&mut hasher, &body.value);
-    hasher.add(&[body.deps.len() as u8]);
-    add_body_deps(&mut hasher, body.deps.as_slice());
     hasher.finish()
 }
 

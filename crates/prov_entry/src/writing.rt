@@ -1,7 +1,7 @@
 //! Writing headers, bodies and leaves as their fields, without the byte that stands before them
 //! where they are hashed.
 
-ghost use Rattle.std.specs.Prelude.{◌≡◌, ◌≤◌, ◌++◌, length, IfOk, OnOk};
+ghost use Rattle.std.specs.Prelude.{◌≡◌, ◌≤◌, ◌++◌, ℕ, List, length, IfOk, OnOk};
 ghost use Rattle.std.specs.List.{concat, flat_map, AllByRecursion};
 ghost use Rattle.lc_base.specs.declared.limits.TheConstants.{MAX_DEPS};
 ghost use Rattle.prov_entry.specs.declared.limits.TheConstants.{MAX_LINKS};
@@ -13,20 +13,48 @@ use byte_fields::{put_digest, put_key, put_u8, put_u16, put_u32, put_u64, put_va
 use lc_base::{Bytes, Key, Memory};
 use std::alloc::Global;
 
-fn put_link(out: &mut Vec<u8>, link: &Link) -> Result<(), Memory>
-    ensures written { OnOk result (out.new.items ≡ out.old.items ++ concat (link_fields link.now)) }
-    ensures lawful { OnOk result (IsLink link.now) }
-{
-    put_u32(out, link.block)?;
-    put_digest(out, &link.digest)
+/// An item of an entry's list.
+trait Spelled {
+    /// Its fields.
+    ghost fields: { Self → List (List ℕ) };
+    /// The lawful ones.
+    ghost lawful: { Self → Type 0 };
+
+    /// Writes its fields.
+    fn put(&self, out: &mut Vec<u8>) -> Result<(), Memory>
+        ensures written { OnOk result (out.new.items ≡ out.old.items ++ concat (fields self.now)) }
+        ensures is { OnOk result (lawful self.now) };
 }
 
-fn put_links(out: &mut Vec<u8>, links: &[Link]) -> Result<(), Memory>
-    ensures written { OnOk result (out.new.items ≡ out.old.items ++ concat (flat_map link_fields links.now)) }
-    ensures lawful { OnOk result (AllByRecursion IsLink links.now) }
+impl Spelled for Link {
+    ghost fields = { link_fields };
+
+    ghost lawful = { IsLink };
+
+    fn put(&self, out: &mut Vec<u8>) -> Result<(), Memory> {
+        put_u32(out, self.block)?;
+        put_digest(out, &self.digest)
+    }
+}
+
+impl Spelled for BodyDep {
+    ghost fields = { body_dep_fields };
+
+    ghost lawful = { IsBodyDep };
+
+    fn put(&self, out: &mut Vec<u8>) -> Result<(), Memory> {
+        put_key(out, &self.key)?;
+        put_u32(out, self.block)?;
+        put_digest(out, &self.digest)
+    }
+}
+
+fn put_all<T: Spelled>(out: &mut Vec<u8>, items: &[T]) -> Result<(), Memory>
+    ensures written { OnOk result (out.new.items ≡ out.old.items ++ concat (flat_map T.fields items.now)) }
+    ensures lawful { OnOk result (AllByRecursion T.lawful items.now) }
 {
-    for link in links {
-        put_link(out, link)?;
+    for item in items {
+        item.put(out)?;
     }
     Ok(())
 }
@@ -45,27 +73,8 @@ pub fn write_header(alloc: Global, header: &Header) -> Result<Bytes, Memory>
     put_u64(&mut out, header.closed)?;
     put_digest(&mut out, &header.closed_digest)?;
     put_u8(&mut out, header.links.len() as u8)?;
-    put_links(&mut out, header.links.as_slice())?;
+    put_all(&mut out, header.links.as_slice())?;
     Ok(Bytes::from_vec(out))
-}
-
-fn put_body_dep(out: &mut Vec<u8>, dep: &BodyDep) -> Result<(), Memory>
-    ensures written { OnOk result (out.new.items ≡ out.old.items ++ concat (body_dep_fields dep.now)) }
-    ensures lawful { OnOk result (IsBodyDep dep.now) }
-{
-    put_key(out, &dep.key)?;
-    put_u32(out, dep.block)?;
-    put_digest(out, &dep.digest)
-}
-
-fn put_body_deps(out: &mut Vec<u8>, deps: &[BodyDep]) -> Result<(), Memory>
-    ensures written { OnOk result (out.new.items ≡ out.old.items ++ concat (flat_map body_dep_fields deps.now)) }
-    ensures lawful { OnOk result (AllByRecursion IsBodyDep deps.now) }
-{
-    for dep in deps {
-        put_body_dep(out, dep)?;
-    }
-    Ok(())
 }
 
 /// The fields of a body, the first one first.
@@ -77,7 +86,7 @@ pub fn write_body(alloc: Global, body: &Body) -> Result<Bytes, Memory>
     let mut out = Vec::new(alloc);
     put_value(&mut out, &body.value)?;
     put_u8(&mut out, body.deps.len() as u8)?;
-    put_body_deps(&mut out, body.deps.as_slice())?;
+    put_all(&mut out, body.deps.as_slice())?;
     Ok(Bytes::from_vec(out))
 }
 

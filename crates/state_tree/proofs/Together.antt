@@ -1,10 +1,10 @@
 -- What some leaves say, set together, and the hashes that are stale.
-use Rattle.std.proofs.Common.{◌≡◌, ℕ, zero, suc, ◌+◌, ◌<◌, ◌≢◌, Bool, true, false, ◌==◌, List, [], ◌∷◌, ◌++◌, length, get_or, map, refl, sym, ap, subst, ◌∙◌, arith, inl, inr}
+use Rattle.std.proofs.Common.{◌≡◌, ℕ, zero, suc, ◌+◌, ◌<◌, ◌≢◌, Bool, true, false, ◌==◌, List, [], ◌∷◌, ◌++◌, length, get_or, map, refl, sym, ap, subst, ◌∙◌, arith}
 use Rattle.std.proofs.Math.ListN.{set}
 use Rattle.std.specs.Prelude.{reverse}
 use Rattle.std.specs.List.{All, Contains}
 use Rattle.std.specs.BTreeMap.{BTreeMap}
-use Rattle.std.proofs.lemmas.Bool.{cases_eq, eq-eqb}
+use Rattle.std.proofs.lemmas.Bool.{eq-eqb}
 use Rattle.std.proofs.lemmas.List.{length-set, length-append, length-map, set-get_or, get_or-map, get_or_append_left, get_or-set_other, get_or-set_same, get_or_default, reverse-append, set-set}
 use Rattle.std.proofs.lemmas.List.Folds.{list_any_at}
 use Rattle.std.proofs.lemmas.List.Elements.{All-nil, All-cons, All-map, All-append, All-head, All-tail, All-weaker, Contains-append_left, Contains-append_right}
@@ -93,31 +93,6 @@ stale_grown leaves leaves' hashes stale stale' cover fresh after but inside leav
         let old : i < length leaves = omega (arith, below, long, not_last) in
         let is = but.others i old (λ there. apart (Contains-append_left stale (cover ∷ length leaves ∷ []) i there)) in
         (is.0, is.1 ∙ hash_alike leaves grown i old below (sym (get_or-set_other (leaves ++ fresh ∷ []) cover i after (sentinel []) not_cover ∙ get_or_append_left leaves (fresh ∷ []) (sentinel []) i old)))
-
--- With a leaf and its hash set.
-pub stale_set : (leaves : List Leaf) (hashes hashes' : List Digest) (stale : List ℕ) (i : ℕ) (after : Leaf) → AreHashedBut leaves hashes stale → hashes' ≡ set hashes i (leaf_digest after) → AreHashedBut (set leaves i after) hashes' stale
-stale_set leaves hashes hashes' stale i after but is = subst (λ (hs : List Digest). AreHashedBut (set leaves i after) hs stale) (sym is) (record {
-  fewer = omega (arith, but.fewer, length-set leaves i after, length-set hashes i (leaf_digest after));
-  within = All-weaker (λ (index : ℕ). index < length leaves) (λ (index : ℕ). index < length (set leaves i after)) (λ index h. omega (arith, h, length-set leaves i after)) stale but.within;
-  others = others;
-})
-  where
-    others : (k : ℕ) → k < length (set leaves i after) → (Contains stale k → ⊥) → (k < length (set hashes i (leaf_digest after))) × (get_or (set hashes i (leaf_digest after)) k no_hash ≡ get_or (leaf_hashes (set leaves i after)) k no_hash)
-    others k below apart =
-        let old : k < length leaves = omega (arith, below, length-set leaves i after) in
-        let was = but.others k old apart in (
-          omega (arith, was.0, length-set hashes i (leaf_digest after)),
-          elim (cases_eq k i) [
-            | inl same ↦
-                ap (λ (j : ℕ). get_or (set hashes i (leaf_digest after)) j no_hash) same ∙ get_or-set_same hashes i (leaf_digest after) no_hash (omega (arith, same, was.0))
-                ∙ ap leaf_digest (sym (get_or-set_same leaves i after (sentinel []) (omega (arith, same, old))))
-                ∙ sym (hash_there (set leaves i after) i (sentinel []) (omega (arith, same, below)))
-                ∙ ap (λ (j : ℕ). get_or (leaf_hashes (set leaves i after)) j no_hash) (sym same)
-            | inr apart' ↦
-                get_or-set_other hashes i k (leaf_digest after) no_hash apart' ∙ was.1
-                ∙ hash_alike leaves (set leaves i after) k old below (sym (get_or-set_other leaves i k after (sentinel []) apart'))
-          ],
-        )
 
 -- What is set to renew hashes: those of all leaves that are stale.
 pub renews : (leaves : List Leaf) (hashes : List Digest) (indexes : List ℕ) → AreHashedBut leaves hashes indexes → Renews hashes (leaf_hashes leaves) (map (hash_at leaves) indexes)

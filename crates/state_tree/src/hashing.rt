@@ -1,6 +1,6 @@
 //! The hashes of leaves.
 
-ghost use Rattle.std.specs.Prelude.{◌≡◌, ◌<◌, ◌≤◌, ℕ, length, map, slice_set, OnOk, OnErr, IfOk};
+ghost use Rattle.std.specs.Prelude.{◌≡◌, ◌<◌, ◌≤◌, ℕ, length, map, OnOk, OnErr, IfOk};
 ghost use Rattle.std.specs.List.{All};
 ghost use Rattle.prov_entry.specs.Spelling.{leaf_bytes, IsKeyIfAny};
 ghost use Rattle.merkle_tree.specs.Tree.{leaf_text};
@@ -20,15 +20,6 @@ pub(crate) fn hash_of(leaf: &Leaf) -> Digest
     ensures lawful { IsKeyIfAny leaf.now.key }
 {
     leaf_digest(leaf)
-}
-
-/// Sets the hash of a leaf, where it has one.
-pub(crate) fn set_hash(levels: &mut Levels, index: u32, hash: Digest)
-    ensures { levels.new ≡ slice_set levels.old index hash }
-{
-    if index < levels.len() {
-        levels.set(index, hash);
-    }
 }
 
 fn hash_at(leaves: &[Leaf], index: u32) -> HashAt

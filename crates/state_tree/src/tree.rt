@@ -1,6 +1,6 @@
 //! The leaves of the newest versions of all keys.
 
-ghost use Rattle.std.specs.Prelude.{◌≡◌, ◌<◌, ◌+◌, ℕ, List, [], ◌∷◌, length, slice_get, slice_set, Some, None, OnOk, OnErr, IfOk};
+ghost use Rattle.std.specs.Prelude.{◌≡◌, ◌<◌, ◌+◌, ℕ, List, [], ◌∷◌, length, slice_get, Some, None, OnOk, OnErr, IfOk};
 ghost use Rattle.std.specs.List.{All};
 ghost use Rattle.merkle_tree.specs.Tree.{audit_path};
 ghost use Rattle.merkle_tree.specs.Climbing.{bytes_of};
@@ -12,7 +12,7 @@ ghost use Rattle.state_tree.specs.Covering.{Covers};
 ghost use Rattle.merkle_tree.specs.declared.limits.TheConstants.{MAX_LEAVES};
 
 use crate::growth::{add_leaf, fresh_leaf, sentinel, with_next};
-use crate::hashing::{hash_of, set_hash};
+use crate::hashing::hash_of;
 use crate::order::last_up_to;
 use crate::setting::{indexes_with, renew};
 use crate::states::LeafState;
@@ -122,30 +122,6 @@ impl Tree {
         )?;
         self.leaves[cover as usize] = with_next(&before, &key);
         Ok(index)
-    }
-
-    /// Sets what a leaf says of the versions of its key. It takes no memory.
-    pub fn set_leaf(
-        &mut self,
-        index: u32,
-        newest_block: u32,
-        newest: Digest,
-        open_count: u64,
-        open_digest: Digest,
-    )
-        requires own { 0 < index }
-        requires below { index < length self.old }
-        ensures { (leaf : Leaf) → slice_get self.old index ≡ Some leaf → self.new ≡ slice_set self.old index (record leaf { newest_block = newest_block; newest = newest; open_count = open_count; open_digest = open_digest }) }
-    {
-        let leaf = Leaf {
-            newest_block,
-            newest,
-            open_count,
-            open_digest,
-            ..self.leaf(index)
-        };
-        set_hash(&mut self.levels, index, hash_of(&leaf));
-        self.leaves[index as usize] = leaf;
     }
 
     /// Sets what some leaves say of the versions of their keys, one after another. These leaves and those

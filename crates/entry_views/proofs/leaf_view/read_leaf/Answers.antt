@@ -4,10 +4,10 @@ use Rattle.entry_views.proofs.Placing.{found, only, fault}
 use Rattle.entry_views.proofs.leaf_view.read_leaf.Goals as goal
 
 pub returns-clause-found : goal.returns-clause-found
-returns-clause-found c = found leaf_field c.args.bytes.now c.args.at (λ i. omega (arith, c.type_inv.bytes i)) c.leaf_from.result c.leaf_from.ensures
+returns-clause-found c = found leaf_field c.args.bytes.now c.args.at (λ i. omega (arith, c.type_inv.bytes i)) c.placed.result c.placed.ensures
 
 pub returns-clause-only : goal.returns-clause-only
-returns-clause-only c = λ leaf end is. only leaf_field c.args.bytes.now c.args.at c.leaf_from.result c.leaf_from.ensures leaf end is
+returns-clause-only c = λ leaf end is. only leaf_field c.args.bytes.now c.args.at c.placed.result c.placed.ensures leaf end is
 
 pub returns-clause-fault : goal.returns-clause-fault
-returns-clause-fault c = fault leaf_field c.args.bytes.now c.args.at (λ i. omega (arith, c.type_inv.bytes i)) c.leaf_from.result c.leaf_from.ensures
+returns-clause-fault c = fault leaf_field c.args.bytes.now c.args.at (λ i. omega (arith, c.type_inv.bytes i)) c.placed.result c.placed.ensures

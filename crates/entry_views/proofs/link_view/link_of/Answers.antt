@@ -15,4 +15,4 @@ returns-then-i-count c =
 pub returns : goal.returns
 returns c =
     c.ok.ensures.value
-    ∙ link_there c.args.count c.args.i c.args.bytes.now (λ i. omega (arith, c.type_inv.bytes i)) c.requires c.if-i-count.false c.new-reader.result (c.new-reader.ensures ∙ c.tail.ensures) c.link.result c.link.new.reader c.link.ensures
+    ∙ link_there c.args.count c.args.i c.args.bytes.now (λ i. omega (arith, c.type_inv.bytes i)) c.requires c.if-i-count.false c.new-reader.result (c.new-reader.ensures ∙ c.tail.ensures) c.read.result c.read.new.reader c.read.ensures

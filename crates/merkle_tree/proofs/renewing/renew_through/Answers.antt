@@ -2,7 +2,6 @@ use Rattle.std.proofs.Common.{◌≡◌, ◌∙◌, ◌<◌, sym, ap, arith, len
 use Rattle.std.specs.Vec.{with_items}
 use Rattle.std.proofs.lemmas.List.{with_items_is}
 use Rattle.lc_base.specs.declared.digest.Digest.{Digest}
-use Rattle.merkle_tree.specs.declared.setting_all.HashAt.{HashAt}
 use Rattle.merkle_tree.specs.Levels.{lengthened, set_each, over_each}
 use Rattle.merkle_tree.proofs.Renewed.{one_renewed, none_renewed, room_there, room_after}
 use Rattle.merkle_tree.proofs.renewing.renew_through.Goals as goal
