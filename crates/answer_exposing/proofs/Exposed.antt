@@ -1,5 +1,6 @@
 -- What is exposed by the rows of a lineage, and what it says of answers.
-use Rattle.std.proofs.Common.{◌≡◌, ◌∙◌, ℕ, ◌<◌, true, nat_eq, nat_le, List, [], length, slice_get, Option, Some, None, refl, sym, ap, arith, inl, inr, true≢false}
+use Rattle.std.proofs.Common.{◌≡◌, ◌∙◌, ℕ, ◌<◌, true, nat_eq, nat_le, List, [], length, slice_get}
+use Rattle.std.proofs.Common.{Option, Some, None, refl, sym, ap, arith, inl, inr, true≢false}
 use Rattle.std.specs.List.{All}
 use Rattle.std.specs.Option.{option_eq}
 use Rattle.std.proofs.lemmas.Bool.{le-leb, eqb-true}
@@ -20,29 +21,40 @@ use Rattle.answer_exposing.specs.declared.exposing.Clash.{Clash}
 use Rattle.answer_exposing.specs.Exposing.{IsFound, Clears}
 
 -- Where the rows up to a block are these, they have the texts of the ledger at it.
-pub texts_of_part : (rows part : List Row) (digests : List Digest) (block : ℕ) (digest : Digest) → up_to rows block ≡ part → slice_get digests block ≡ Some digest
+pub texts_of_part : (rows part : List Row) (digests : List Digest) (block : ℕ) (digest : Digest)
+    → up_to rows block ≡ part → slice_get digests block ≡ Some digest
     → joined (history_parts part block digest.0) ≡ ledger_texts rows digests block
 unfolding ledger_texts
 texts_of_part rows part digests block digest is at =
     let none : Digest = record { 0 = [] } in
-    let same : digest_at digests block ≡ digest.0 = ap (λ (d : Digest). d.0) (get_or_from_slice_get digests block digest none at) in
-    ap (λ (d : List ℕ). joined (history_parts part block d)) (sym same) ∙ ap (λ (r : List Row). joined (history_parts r block (digest_at digests block))) (sym is)
+    let same : digest_at digests block ≡ digest.0 = ap (λ (d : Digest). d.0)
+    (get_or_from_slice_get digests block digest none at) in
+    ap (λ (d : List ℕ). joined (history_parts part block d)) (sym same)
+    ∙ ap (λ (r : List Row). joined (history_parts r block (digest_at digests block))) (sym is)
 
 -- Up to the last block the rows are all.
-pub all_up_to_head : (rows : List Row) (digests : List Digest) (head : Option ℕ) (block : ℕ) → true ≡ option_eq nat_eq head (Some block) → IsHead digests head → All (λ (row : Row). row.block < length digests) rows
+pub all_up_to_head : (rows : List Row) (digests : List Digest) (head : Option ℕ) (block : ℕ)
+    → true ≡ option_eq nat_eq head (Some block) → IsHead digests head
+    → All (λ (row : Row). row.block < length digests) rows
     → up_to rows block ≡ rows
 all_up_to_head rows digests None block same last within = elim (true≢false same) [ ]
 all_up_to_head rows digests (Some head) block same last within =
     let is : head ≡ block = eqb-true head block (sym same) in
     let are = recursion_from_All (λ (row : Row). row.block < length digests) rows within in
     keep_all (λ (row : Row). nat_le row.block block) rows
-    (all_weaker (λ (row : Row). row.block < length digests) (λ (row : Row). nat_le row.block block ≡ true) (λ row low. le-leb row.block block (omega (arith, low, last, is))) rows are)
+    (all_weaker (λ (row : Row). row.block < length digests)
+    (λ (row : Row). nat_le row.block block ≡ true)
+    (λ row low. le-leb row.block block (omega (arith, low, last, is))) rows are)
 
 -- Where no clash is found, what is accepted is the answer of the rows.
-pub clears : (ledger : Ledger) (root_at : ℕ) (proof : Proof) (found : Option Clash) → IsTypedLedger ledger.rows ledger.digests → root_at < length ledger.digests
-    → IsFound (proof_texts proof) (ledger_texts ledger.rows ledger.digests root_at) found → Clears ledger root_at proof found
+pub clears : (ledger : Ledger) (root_at : ℕ) (proof : Proof) (found : Option Clash)
+    → IsTypedLedger ledger.rows ledger.digests → root_at < length ledger.digests
+    → IsFound (proof_texts proof) (ledger_texts ledger.rows ledger.digests root_at) found
+    → Clears ledger root_at proof found
 clears ledger root_at proof None typed low none = λ query answer is accepted.
-    elim (accepted_is_sound (root_of ledger.rows ledger.digests root_at) query proof answer is accepted ledger.rows ledger.digests root_at typed.history (omega (arith, low, typed.few)) refl) [
+    elim (accepted_is_sound (root_of ledger.rows ledger.digests root_at) query proof answer is
+    accepted ledger.rows ledger.digests root_at typed.history (omega (arith, low, typed.few))
+    refl) [
       | inl same ↦ same
       | inr clash ↦ elim (none clash) [ ]
     ]

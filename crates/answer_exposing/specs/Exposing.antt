@@ -1,4 +1,4 @@
--- What is answered where the first clash of a proof with a ledger is asked.
+-- What is answered where the first clash of a proof's texts with those of a ledger is asked.
 use Rattle.std.specs.Prelude.{◌≡◌, ◌<◌, ◌≤◌, ℕ, List, length, Option, Some, None, Result, Ok, Err}
 use Rattle.lc_base.specs.declared.answer.Query.{Query}
 use Rattle.lc_base.specs.declared.answer.Answer.{Answer}
@@ -18,25 +18,43 @@ use Rattle.answer_exposing.specs.declared.exposing.ExposeError.TheVariants as er
 
 -- These are the texts at two places: that of the first list, and that of the second.
 abbrev pub AreTextsAt : List (List ℕ) → List (List ℕ) → ℕ × ℕ → Clash → Type 0
-AreTextsAt given own pair clash = (clash.proof_text ≡ text_at given pair.0) × (clash.chain_text ≡ text_at own pair.1)
+AreTextsAt given own pair clash = (clash.proof_text ≡ text_at given pair.0)
+    × (clash.chain_text ≡ text_at own pair.1)
 
 -- The texts of the first clash of two lists, or that there is none.
 abbrev pub IsFound : List (List ℕ) → List (List ℕ) → Option Clash → Type 0
 IsFound given own None = HasClash given own → ⊥
-IsFound given own (Some clash) = (pair : ℕ × ℕ) × IsFirstAt given own pair × AreTextsAt given own pair clash
+IsFound given own (Some clash) = (pair : ℕ × ℕ) × IsFirstAt given own pair
+    × AreTextsAt given own pair clash
 
--- A block of the ledger has the first clash of the proof's texts with those of the ledger at this block,
--- unless there is no memory for it; one that is past the last is refused, with the number of the last
--- block.
+-- A block that is past the last one is refused, with the number of the last block, and no other one
+-- is.
+abbrev pub TellsBeyond : Ledger → ℕ → Result (Option Clash) ExposeError → Type 0
+TellsBeyond ledger root_at (Ok found) = root_at < length ledger.digests
+TellsBeyond ledger root_at (Err (errors.Beyond head)) = (length ledger.digests ≤ root_at)
+    × IsHead ledger.digests head
+TellsBeyond ledger root_at (Err errors.Fault) = root_at < length ledger.digests
+TellsBeyond ledger root_at (Err errors.Memory) = root_at < length ledger.digests
+
+-- A block of the ledger has the first clash of the proof's texts with those of the ledger at this
+-- block,
+-- unless the scratch device fails or there is no memory for it; one that is past the last is
+-- refused, with
+-- the number of the last block.
 abbrev pub IsExposed : Ledger → ℕ → Proof → Result (Option Clash) ExposeError → Type 0
-IsExposed ledger root_at proof (Ok found) = (root_at < length ledger.digests) × IsFound (proof_texts proof) (ledger_texts ledger.rows ledger.digests root_at) found
-IsExposed ledger root_at proof (Err (errors.Beyond head)) = (length ledger.digests ≤ root_at) × IsHead ledger.digests head
+IsExposed ledger root_at proof (Ok found) = (root_at < length ledger.digests)
+    × IsFound (proof_texts proof) (ledger_texts ledger.rows ledger.digests root_at) found
+IsExposed ledger root_at proof (Err (errors.Beyond head)) = (length ledger.digests ≤ root_at)
+    × IsHead ledger.digests head
+IsExposed ledger root_at proof (Err errors.Fault) = root_at < length ledger.digests
 IsExposed ledger root_at proof (Err errors.Memory) = root_at < length ledger.digests
 
--- Where nothing was found, each answer with which the proof is accepted by one who has the root at the
+-- Where nothing was found, each answer with which the proof is accepted by one who has the root at
+-- the
 -- block is that of the rows up to it.
 abbrev pub Clears : Ledger → ℕ → Proof → Option Clash → Type 0
 Clears ledger root_at proof None =
-    (query : Query) (answer : Answer) → IsProof proof → verdict (root_of ledger.rows ledger.digests root_at) query proof ≡ Ok answer
+    (query : Query) (answer : Answer) → IsProof proof
+    → verdict (root_of ledger.rows ledger.digests root_at) query proof ≡ Ok answer
     → answer ≡ scan (up_to ledger.rows root_at) query
 Clears ledger root_at proof (Some clash) = Unit {0}

@@ -1,17 +1,22 @@
 //! The first clash of a proof's texts with those of a ledger.
 
-ghost use Rattle.std.specs.Prelude.{◌≡◌, ◌<◌, Some, length, slice_get, IfOk};
+ghost use Rattle.std.specs.Prelude.{◌≡◌, ◌<◌, true, Some, length, slice_get, IfOk, IsErrOf};
+ghost use Rattle.lc_base.specs.Faults.{HasCause};
+ghost use Rattle.scratch_model.specs.Scratch.{is_told};
 ghost use Rattle.merkle_tree.specs.Tree.{audit_length};
+ghost use Rattle.merkle_dag.specs.Lineage.{ledger_in, AgreesWith, StaysSame};
 ghost use Rattle.proof_checks.specs.ProofTexts.{joined, proof_texts};
 ghost use Rattle.proof_checks.specs.LedgerTexts.{history_parts, ledger_texts};
 ghost use Rattle.text_clashes.specs.FirstClash.{ClashAt, text_at};
 ghost use Rattle.answer_exposing.specs.Exposing.{AreTextsAt, IsFound, IsExposed, Clears};
+ghost use Rattle.answer_exposing.specs.Exposing.{TellsBeyond};
 
 use crate::ledger::ledger_texts;
 use hashed_texts::proof_texts;
 use lc_base::{Bytes, Digest, Memory, TextList};
-use merkle_dag::Lineage;
+use merkle_dag::{DagError, Lineage};
 use proof_views::ProofView;
+use scratch_model::Scratch;
 use std::alloc::Global;
 use text_clashes::first_clash;
 
@@ -32,14 +37,10 @@ pub enum ExposeError {
         /// The number of the last block; `None` where there is none.
         head: Option<u32>,
     },
+    /// The scratch device failed.
+    Fault,
     /// Out of memory.
     Memory,
-}
-
-impl From<Memory> for ExposeError {
-    fn from(_memory: Memory) -> ExposeError {
-        ExposeError::Memory
-    }
 }
 
 /// The text at a place.
@@ -76,60 +77,112 @@ fn clash_of(alloc: Global, given: &TextList, own: &TextList) -> Result<Option<Cl
     }
 }
 
-/// The first clash with all rows of a lineage, where they are those up to a block, which has this digest.
-fn exposed_by_rows(
-    alloc: Global,
-    lineage: &Lineage,
-    root_at: u32,
-    block_digest: &Digest,
-    view: &ProofView,
-) -> Result<Option<Clash>, Memory>
+/// The first clash of the texts of a proof with those of a ledger.
+fn clash_with(alloc: Global, view: &ProofView, own: &TextList) -> Result<Option<Clash>, Memory>
     requires { length view.now.audit ≡ audit_length view.now.leaf_index view.now.leaf_count }
-    ensures { IfOk result (IsFound (proof_texts view.now) (joined (history_parts lineage.now.rows root_at block_digest.now.0))) }
+    ensures { IfOk result (IsFound (proof_texts view.now) own.now) }
 {
     let given = proof_texts(alloc, view)?;
-    let own = ledger_texts(alloc, lineage, root_at, block_digest)?;
-    clash_of(alloc, &given, &own)
+    clash_of(alloc, &given, own)
 }
 
-/// The first clash with the ledger at a block, which has this digest. Where that is the last block, the
-/// lineage is used as it is; else one of the blocks up to it is made.
-fn exposed_at(
+/// The first clash with all rows of a lineage, where they are those up to a block, which has this
+/// digest.
+fn exposed_by_rows<S: Scratch>(
     alloc: Global,
-    lineage: &Lineage,
+    lineage: &mut Lineage,
+    scratch: &mut S,
     root_at: u32,
     block_digest: &Digest,
     view: &ProofView,
-) -> Result<Option<Clash>, Memory>
-    requires within { slice_get lineage.now.digests root_at ≡ Some block_digest.now }
+) -> Result<Option<Clash>, DagError>
     requires long { length view.now.audit ≡ audit_length view.now.leaf_index view.now.leaf_count }
-    ensures { IfOk result (IsFound (proof_texts view.now) (ledger_texts lineage.now.rows lineage.now.digests root_at)) }
+    requires agrees { AgreesWith lineage.old (S.state scratch.old) }
+    // Where it is told which bytes the scratch device holds:
+    ensures found { is_told (S.state scratch.old) ≡ true
+        → IfOk result (IsFound (proof_texts view.now)
+        (joined (history_parts lineage.old.rows root_at block_digest.now.0))) }
+    // Whether that is told or not:
+    ensures same { StaysSame lineage.old (S.state scratch.old) lineage.new (S.state scratch.new) }
+    ensures cause { HasCause (S.scratch_faults scratch.old) (S.scratch_faults scratch.new)
+        (IsErrOf result DagError.Fault) }
+{
+    match ledger_texts(alloc, lineage, scratch, root_at, block_digest) {
+        Ok(own) => match clash_with(alloc, view, &own) {
+            Ok(found) => Ok(found),
+            Err(Memory) => Err(DagError::Memory),
+        },
+        Err(error) => Err(error),
+    }
+}
+
+/// The first clash with the ledger at a block, which has this digest. Where that is the last block,
+/// the
+/// lineage is used as it is; else one of the blocks up to it is made.
+fn exposed_at<S: Scratch>(
+    alloc: Global,
+    lineage: &mut Lineage,
+    scratch: &mut S,
+    root_at: u32,
+    block_digest: &Digest,
+    view: &ProofView,
+) -> Result<Option<Clash>, DagError>
+    requires within { slice_get lineage.old.digests root_at ≡ Some block_digest.now }
+    requires long { length view.now.audit ≡ audit_length view.now.leaf_index view.now.leaf_count }
+    requires agrees { AgreesWith lineage.old (S.state scratch.old) }
+    // Where it is told which bytes the scratch device holds:
+    ensures found { is_told (S.state scratch.old) ≡ true
+        → IfOk result (IsFound (proof_texts view.now)
+        (ledger_texts lineage.old.rows lineage.old.digests root_at)) }
+    // Whether that is told or not:
+    ensures same { StaysSame lineage.old (S.state scratch.old) lineage.new (S.state scratch.new) }
+    ensures cause { HasCause (S.scratch_faults scratch.old) (S.scratch_faults scratch.new)
+        (IsErrOf result DagError.Fault) }
 {
     // The rows are of blocks up to the last one.
     let _ledger = lineage.row_count();
     if lineage.head() == Some(root_at) {
-        return exposed_by_rows(alloc, lineage, root_at, block_digest, view);
+        return exposed_by_rows(alloc, lineage, scratch, root_at, block_digest, view);
     }
-    let rewound = lineage.rewind(root_at)?;
-    let found = exposed_by_rows(alloc, &rewound, root_at, block_digest, view);
-    rewound.give_up();
-    found
+    match lineage.rewind(root_at) {
+        Ok(mut rewound) => {
+            let found = exposed_by_rows(alloc, &mut rewound, scratch, root_at, block_digest, view);
+            rewound.give_up();
+            found
+        }
+        Err(Memory) => Err(DagError::Memory),
+    }
 }
 
-/// The first clash of the texts that a proof tells of with those of the ledger at a block: two texts that
-/// differ and have one digest; `None` exactly where there is no clash. The proof has as many hashes in its
-/// audit path as its leaf wants, as each one has that stands in bytes.
-pub fn expose(
+/// The first clash of the texts that a proof tells of with those of the ledger at a block: two
+/// texts that
+/// differ and have one digest; `None` exactly where there is no clash. The proof has as many hashes
+/// in its
+/// audit path as its leaf wants, as each one has that stands in bytes. The bytes of bodies are read
+/// from
+/// the scratch device. Only the bodies at hand may be others after it.
+pub fn expose<S: Scratch>(
     alloc: Global,
-    lineage: &Lineage,
+    lineage: &mut Lineage,
+    scratch: &mut S,
     root_at: u32,
     view: &ProofView,
 ) -> Result<Option<Clash>, ExposeError>
-    requires { length view.now.audit ≡ audit_length view.now.leaf_index view.now.leaf_count }
-    ensures exposed { IsExposed lineage.now root_at view.now result }
-    // Where there is none, each answer with which the proof is accepted by one who has the root at the block
+    requires long { length view.now.audit ≡ audit_length view.now.leaf_index view.now.leaf_count }
+    requires agrees { AgreesWith lineage.old (S.state scratch.old) }
+    // Where it is told which bytes the scratch device holds:
+    ensures exposed { is_told (S.state scratch.old) ≡ true
+        → IsExposed (ledger_in lineage.old) root_at view.now result }
+    // Where there is none, each answer with which the proof is accepted by one who has the root at
+    // the block
     // is that of the rows up to it.
-    ensures clears { IfOk result (Clears lineage.now root_at view.now) }
+    ensures clears { is_told (S.state scratch.old) ≡ true
+        → IfOk result (Clears (ledger_in lineage.old) root_at view.now) }
+    // Whether that is told or not:
+    ensures beyond { TellsBeyond (ledger_in lineage.old) root_at result }
+    ensures same { StaysSame lineage.old (S.state scratch.old) lineage.new (S.state scratch.new) }
+    ensures cause { HasCause (S.scratch_faults scratch.old) (S.scratch_faults scratch.new)
+        (IsErrOf result ExposeError.Fault) }
 {
     // The rows are within their types.
     let _typed = lineage.row_count();
@@ -138,8 +191,9 @@ pub fn expose(
             head: lineage.head(),
         });
     };
-    match exposed_at(alloc, lineage, root_at, &block_digest, view) {
+    match exposed_at(alloc, lineage, scratch, root_at, &block_digest, view) {
         Ok(found) => Ok(found),
-        Err(Memory) => Err(ExposeError::Memory),
+        Err(DagError::Fault) => Err(ExposeError::Fault),
+        Err(DagError::Memory) => Err(ExposeError::Memory),
     }
 }

@@ -1,23 +1,30 @@
 //! The texts of a ledger.
 
-ghost use Rattle.std.specs.Prelude.{◌≡◌, [], ◌∷◌, ◌++◌, IfOk, OnOk};
+ghost use Rattle.std.specs.Prelude.{◌≡◌, true, [], ◌∷◌, ◌++◌, IfOk, OnOk, IsErrOf};
+ghost use Rattle.std.specs.List.{flat_map};
+ghost use Rattle.lc_base.specs.Faults.{HasCause};
+ghost use Rattle.scratch_model.specs.Scratch.{is_told};
 ghost use Rattle.root_laws.specs.Root.{root_text};
 ghost use Rattle.merkle_tree.specs.Tree.{node_texts};
+ghost use Rattle.merkle_dag.specs.Lineage.{AgreesWith, StaysSame};
+ghost use Rattle.prov_entry.specs.ForwardLists.{start_text};
 ghost use Rattle.proof_checks.specs.ProofTexts.{joined};
-ghost use Rattle.proof_checks.specs.LedgerTexts.{history_parts, texts_of_leaves};
+ghost use Rattle.proof_checks.specs.LedgerTexts.{history_parts, texts_of_leaves, texts_of_row_uses};
 
 use crate::leaves::{bytes_of_leaves, push_leaves};
 use crate::nodes::push_nodes;
 use crate::rows::{push_all_uses, push_rows};
 use hashed_texts::{push_root, push_tagged};
 use lc_base::{Digest, Memory, TextList};
-use merkle_dag::Lineage;
+use merkle_dag::{DagError, Lineage};
 use merkle_tree::MAX_HEIGHT;
 use prov_entry::FORWARD_START;
+use scratch_model::Scratch;
 use state_tree::Tree;
 use std::alloc::Global;
 
-/// Adds the texts of the leaves of a tree, of its nodes, and of the root over it at a block with this
+/// Adds the texts of the leaves of a tree, of its nodes, and of the root over it at a block with
+/// this
 /// digest.
 fn push_tree(
     texts: &mut TextList,
@@ -25,7 +32,10 @@ fn push_tree(
     block: u32,
     block_digest: &Digest,
 ) -> Result<(), Memory>
-    ensures { OnOk result (texts.new ≡ texts.old ++ (texts_of_leaves tree.now ++ (node_texts (texts_of_leaves tree.now) ++ root_text block block_digest.now.0 tree.now ∷ []))) }
+    ensures { OnOk result (texts.new ≡ texts.old ++
+        (texts_of_leaves tree.now ++
+        (node_texts (texts_of_leaves tree.now) ++ root_text block block_digest.now.0 tree.now ∷
+        []))) }
 {
     let count = tree.count();
     let leaves = bytes_of_leaves(texts.allocator(), tree)?;
@@ -34,21 +44,50 @@ fn push_tree(
     push_root(texts, block, block_digest, count, &top)
 }
 
-/// The texts of the ledger of a lineage at its last block, which has this number and this digest: those of
-/// the leaves over all keys, of the nodes over these, of the root, of the header and the body of each row,
-/// of the empty forward list, and of the uses of each row.
-pub fn ledger_texts(
+/// Adds the texts of the empty forward list and of the uses of each row.
+fn push_lists(texts: &mut TextList, lineage: &Lineage) -> Result<(), Memory>
+    ensures { OnOk result (texts.new ≡ texts.old ++
+        (start_text ∷ flat_map (texts_of_row_uses lineage.now.rows) lineage.now.rows)) }
+{
+    push_tagged(texts, FORWARD_START, &[])?;
+    push_all_uses(texts, lineage)
+}
+
+/// The texts of the ledger of a lineage at its last block, which has this number and this digest:
+/// those of
+/// the leaves over all keys, of the nodes over these, of the root, of the header and the body of
+/// each row,
+/// of the empty forward list, and of the uses of each row. The bytes of bodies are read from the
+/// scratch
+/// device. Only the bodies at hand may be others after it.
+pub fn ledger_texts<S: Scratch>(
     alloc: Global,
-    lineage: &Lineage,
+    lineage: &mut Lineage,
+    scratch: &mut S,
     block: u32,
     block_digest: &Digest,
-) -> Result<TextList, Memory>
-    ensures { IfOk result (λ texts. texts ≡ joined (history_parts lineage.now.rows block block_digest.now.0)) }
+) -> Result<TextList, DagError>
+    requires agrees { AgreesWith lineage.old (S.state scratch.old) }
+    // Where it is told which bytes the scratch device holds:
+    ensures texts { is_told (S.state scratch.old) ≡ true
+        → IfOk result (λ texts. texts ≡ joined
+        (history_parts lineage.old.rows block block_digest.now.0)) }
+    // Whether that is told or not:
+    ensures same { StaysSame lineage.old (S.state scratch.old) lineage.new (S.state scratch.new) }
+    ensures cause { HasCause (S.scratch_faults scratch.old) (S.scratch_faults scratch.new)
+        (IsErrOf result DagError.Fault) }
 {
     let mut texts = TextList::new(alloc);
-    push_tree(&mut texts, lineage.tree(), block, block_digest)?;
-    push_rows(&mut texts, lineage)?;
-    push_tagged(&mut texts, FORWARD_START, &[])?;
-    push_all_uses(&mut texts, lineage)?;
-    Ok(texts)
+    match push_tree(&mut texts, lineage.tree(), block, block_digest) {
+        Ok(()) => {}
+        Err(Memory) => return Err(DagError::Memory),
+    }
+    match push_rows(&mut texts, lineage, scratch) {
+        Ok(()) => {}
+        Err(error) => return Err(error),
+    }
+    match push_lists(&mut texts, lineage) {
+        Ok(()) => Ok(texts),
+        Err(Memory) => Err(DagError::Memory),
+    }
 }

@@ -17,8 +17,10 @@ fn push_parts(texts: &mut TextList, left: &Digest, right: &Digest) -> Result<Dig
     Ok(node_hash(left, right))
 }
 
-/// Adds the texts of the nodes over leaves with these bytes, in a tree of at most this height, and gives
-/// the hash at its top: each part's left side first, then its right side, then the node over both. There
+/// Adds the texts of the nodes over leaves with these bytes, in a tree of at most this height, and
+/// gives
+/// the hash at its top: each part's left side first, then its right side, then the node over both.
+/// There
 /// is at least one leaf.
 #[tactic(auto, using(merkle_tree::proofs::Steps::plain, crate::proofs::TreeTexts::nodes_upward))]
 pub(crate) fn push_nodes(
@@ -29,7 +31,8 @@ pub(crate) fn push_nodes(
     requires some { 0 < length leaves.now }
     requires low { height ≤ MAX_HEIGHT }
     ensures hash { IfOk result (λ hash. hash.0 ≡ hash_to height (map leaf_text leaves.now)) }
-    ensures texts { OnOk result (texts.new ≡ texts.old ++ node_texts_to height (map leaf_text leaves.now)) }
+    ensures texts { OnOk result
+        (texts.new ≡ texts.old ++ node_texts_to height (map leaf_text leaves.now)) }
 {
     if height == 0 {
         return Ok(leaf_hash(leaves[0].as_bytes()));

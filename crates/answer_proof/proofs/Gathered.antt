@@ -1,5 +1,5 @@
 -- What is gathered over the rows is the proof that is made of them.
-use Rattle.std.proofs.Common.{◌≡◌, ◌∙◌, ℕ, ◌+◌, ◌<◌, ◌≤◌, ◌^◌, true, nat_le, List, [], length, slice_get, Option, Some, None, Result, refl, sym, ap, subst, arith}
+use Rattle.std.proofs.Common.{◌≡◌, ◌∙◌, ℕ, ◌+◌, ◌<◌, ◌≤◌, ◌^◌, true, nat_le, List, [], length, slice_get, Option, Some, None, is_some, Result, refl, sym, ap, subst, arith}
 use Rattle.std.specs.Prelude.{IfOk}
 use Rattle.std.specs.List.{All, concat}
 use Rattle.std.specs.Option.{option_map}
@@ -7,7 +7,6 @@ use Rattle.std.proofs.lemmas.Bool.{le-leb}
 use Rattle.std.proofs.lemmas.List.Elements.{recursion_from_All}
 use Rattle.std.proofs.lemmas.Option.{get_or_from_slice_get}
 use Rattle.lc_names.specs.KeyBytes.{IsKey}
-use Rattle.lc_base.specs.declared.memory.Memory.{Memory}
 use Rattle.lc_base.specs.declared.digest.Digest.{Digest}
 use Rattle.lc_base.specs.declared.row.Row.{Row}
 use Rattle.lc_base.specs.declared.row.Dep.{Dep}
@@ -20,6 +19,7 @@ use Rattle.merkle_tree.specs.Climbing.{bytes_of as bytes_of_digests}
 use Rattle.prov_entry.specs.declared.entry.Header.{Header}
 use Rattle.prov_entry.specs.declared.entry.Body.{Body}
 use Rattle.prov_entry.specs.declared.entry.Leaf.{Leaf}
+use Rattle.prov_entry.specs.Spelling.{IsBody}
 use Rattle.root_laws.specs.Naming.{body_of}
 use Rattle.root_laws.specs.Root.{leaves, digest_at}
 use Rattle.root_laws.proofs.Lists.{all_weaker, keep_all}
@@ -27,14 +27,12 @@ use Rattle.typed_ledger.specs.TypedLedger.{IsTypedHistory}
 use Rattle.state_tree.specs.Leaves.{leaf_texts}
 use Rattle.state_tree.specs.Covering.{Covers}
 use Rattle.proof_codec.specs.declared.proof.Proof.{Proof}
-use Rattle.proof_codec.specs.Spelling.{IsProof, proof_fields, last_of}
+use Rattle.proof_codec.specs.Spelling.{IsProof, IsIfAny, asks_uses, proof_fields}
 use Rattle.proof_checks.specs.Making.{path_headers, uses_if, made_of, made_proof, IsMade}
 use Rattle.proof_checks.proofs.Rows.{latest_key}
 use Rattle.proof_checks.proofs.MadeOnce.{made_once}
 use Rattle.proof_checks.proofs.MadeThere.{made_of_is_made}
 use Rattle.proof_checks.proofs.MadeLawful.{made_is_lawful}
-use Rattle.answer_proof.specs.Walking.{answering}
-use Rattle.answer_proof.proofs.Latest.{answer_is_latest}
 use Rattle.answer_proof.proofs.Covered.{covers_key}
 
 -- ---- the rows
@@ -72,19 +70,42 @@ all_up_to_last rows block count last within = all_up_to rows block (subst (λ (n
 
 -- ---- the bytes
 
-pub bytes_of : (result : Result (List ℕ) Memory) (proof other : Proof) → proof ≡ other → IfOk result (λ bytes. bytes ≡ concat (proof_fields proof)) → IfOk result (λ bytes. bytes ≡ concat (proof_fields other))
+pub bytes_of : {E : Type 0} (result : Result (List ℕ) E) (proof other : Proof) → proof ≡ other → IfOk result (λ bytes. bytes ≡ concat (proof_fields proof)) → IfOk result (λ bytes. bytes ≡ concat (proof_fields other))
 bytes_of result proof other same are = subst (λ (p : Proof). IfOk result (λ bytes. bytes ≡ concat (proof_fields p))) same are
 
 -- ---- all parts together
 
-module _ (rows : List Row) (block : ℕ) (digest : Digest) (query : Query) (tree : List Leaf) (count index : ℕ) (leaf : Leaf) (audit : List Digest) (headers given : List Header) (answer : Option ℕ) (body : Option Body) (list : Option (List Dep))
+-- A proof is lawful with each body in place of its own.
+other_body : (proof : Proof) (body : Option Body) → IsProof proof → is_some body ≡ is_some proof.body → IsIfAny IsBody body → IsProof (record proof { body = body })
+other_body proof body is there lawful = record {
+  key_is_key = is.key_is_key;
+  root_at_fits = is.root_at_fits;
+  at_within = is.at_within;
+  block_digest_fits = is.block_digest_fits;
+  leaf_count_fits = is.leaf_count_fits;
+  leaf_within = is.leaf_within;
+  leaf_is_leaf = is.leaf_is_leaf;
+  first_without_key = is.first_without_key;
+  audit_counted = is.audit_counted;
+  audit_fits = is.audit_fits;
+  few_headers = is.few_headers;
+  headers_are_headers = is.headers_are_headers;
+  body_if_answered = there ∙ is.body_if_answered;
+  body_is_body = lawful;
+  uses_if_asked = is.uses_if_asked ∙ ap (asks_uses proof.query.kind) (sym there);
+  uses_are_uses = is.uses_are_uses;
+}
+
+module _ (rows : List Row) (block : ℕ) (digest : Digest) (query : Query) (tree : List Leaf) (count index : ℕ) (leaf : Leaf) (audit : List Digest) (headers : List Header) (answer : Option ℕ) (body : Option Body) (list : Option (List Dep))
     (history : IsTypedHistory rows) (key : IsKey query.key) (tree_is : tree ≡ leaves rows) (count_is : count ≡ length tree) (covering : Covers tree query.key index) (leaf_is : slice_get tree index ≡ Some leaf)
-    (audit_is : bytes_of_digests audit ≡ audit_path index (leaf_texts tree)) (headers_are : headers ≡ path_headers rows query.key query.at) (given_are : given ≡ headers)
-    (stands : IsRowAt rows answer (answering rows query.key query.at (last_of given)))
-    (body_is : (version : Option Row) → IsRowAt rows answer version → body ≡ option_map (body_of rows) version)
+    (audit_is : bytes_of_digests audit ≡ audit_path index (leaf_texts tree)) (headers_are : headers ≡ path_headers rows query.key query.at)
+    (stands : IsRowAt rows answer (latest rows query.key query.at))
     (list_is : (version : Option Row) → IsRowAt rows answer version → list ≡ uses_if query.kind (option_map (λ (row : Row). uses rows row.key row.block) version)) where
-  abbrev proof : Proof
-  proof = record {
+  abbrev own_body : Option Body
+  own_body = option_map (body_of rows) (latest rows query.key query.at)
+
+  abbrev with_body : Option Body → Proof
+  with_body one = record {
     query = query;
     root_at = block;
     block_digest = digest;
@@ -93,7 +114,7 @@ module _ (rows : List Row) (block : ℕ) (digest : Digest) (query : Query) (tree
     leaf = leaf;
     audit = audit;
     headers = headers;
-    body = body;
+    body = one;
     uses = list;
   }
 
@@ -103,11 +124,7 @@ module _ (rows : List Row) (block : ℕ) (digest : Digest) (query : Query) (tree
   at_leaf : slice_get (leaves rows) index ≡ Some leaf
   at_leaf = ap (λ (ls : List Leaf). slice_get ls index) (sym tree_is) ∙ leaf_is
 
-  latest_stands : IsRowAt rows answer (latest rows query.key query.at)
-  latest_stands =
-      subst (IsRowAt rows answer) (ap (λ (hs : List Header). answering rows query.key query.at (last_of hs)) (given_are ∙ headers_are) ∙ answer_is_latest rows query.key query.at history.lawful history.typed some) stands
-
-  is_made : IsMade rows block digest.0 proof
+  is_made : IsMade rows block digest.0 (with_body own_body)
   is_made = record {
     root_at_is = refl;
     block_digest_is = refl;
@@ -116,12 +133,19 @@ module _ (rows : List Row) (block : ℕ) (digest : Digest) (query : Query) (tree
     leaf_covers = covers_key rows query.key index leaf history.lawful history.typed some at_leaf (subst (λ (ls : List Leaf). Covers ls query.key index) tree_is covering);
     audit_is = audit_is ∙ ap (λ (ls : List Leaf). audit_path index (leaf_texts ls)) tree_is;
     headers_are = headers_are;
-    body_is = body_is (latest rows query.key query.at) latest_stands;
-    uses_are = list_is (latest rows query.key query.at) latest_stands ∙ own_uses rows query.kind query.key query.at;
+    body_is = refl;
+    uses_are = list_is (latest rows query.key query.at) stands ∙ own_uses rows query.kind query.key query.at;
   }
 
-  pub gathered : proof ≡ made_of rows block digest.0 query
-  gathered = made_once rows block digest.0 (made_of rows block digest.0 query) proof history.lawful history.typed (made_of_is_made rows block digest.0 query some) is_made refl
+  pub gathered : body ≡ own_body → with_body body ≡ made_of rows block digest.0 query
+  gathered is =
+      ap with_body is ∙ made_once rows block digest.0 (made_of rows block digest.0 query) (with_body own_body) history.lawful history.typed (made_of_is_made rows block digest.0 query some) is_made refl
 
-  pub gathered_lawful : block < 2 ^ 32 → query.at ≤ block → length digest.0 ≡ 32 → IsProof proof
-  gathered_lawful fits early long = made_is_lawful rows block digest.0 proof history.lawful history.typed fits early key long is_made
+  pub gathered_lawful : is_some body ≡ is_some (latest rows query.key query.at) → IsIfAny IsBody body → block < 2 ^ 32 → query.at ≤ block → length digest.0 ≡ 32 → IsProof (with_body body)
+  gathered_lawful there lawful fits early long =
+      other_body (with_body own_body) body (made_is_lawful rows block digest.0 (with_body own_body) history.lawful history.typed fits early key long is_made)
+      (there ∙ sym (some_body (latest rows query.key query.at))) lawful
+    where
+      some_body : (o : Option Row) → is_some (option_map (body_of rows) o) ≡ is_some o
+      some_body None = refl
+      some_body (Some row) = refl

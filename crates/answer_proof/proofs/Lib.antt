@@ -1,5 +1,5 @@
 pub mod Walks
-pub mod Latest
+pub mod Bodies
 pub mod Covered
 pub mod Gathered
 pub mod Shown

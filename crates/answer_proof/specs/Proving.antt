@@ -21,11 +21,20 @@ IsWithin ledger query root_at = (root_at < length ledger.digests) × (query.at �
 abbrev pub IsBeyond : Ledger → Query → ℕ → Type 0
 IsBeyond ledger query root_at = (length ledger.digests ≤ root_at) ⊎ (root_at < query.at)
 
+-- A query that goes beyond is refused, with the number of the last block, and no other one is.
+abbrev pub TellsBeyond : Ledger → Query → ℕ → Result (List ℕ) ProveError → Type 0
+TellsBeyond ledger query root_at (Ok bytes) = IsWithin ledger query root_at
+TellsBeyond ledger query root_at (Err (errors.Beyond head)) = IsBeyond ledger query root_at × IsHead ledger.digests head
+TellsBeyond ledger query root_at (Err errors.Fault) = IsWithin ledger query root_at
+TellsBeyond ledger query root_at (Err errors.Memory) = IsWithin ledger query root_at
+
 -- A query that is within has the bytes of the proof that is made of the ledger at the root's block,
--- unless there is no memory for it; one that goes beyond is refused, with the number of the last block.
+-- unless the scratch device fails or there is no memory for it; one that goes beyond is refused, with
+-- the number of the last block.
 abbrev pub IsProved : Ledger → Query → ℕ → Result (List ℕ) ProveError → Type 0
 IsProved ledger query root_at (Ok bytes) = IsWithin ledger query root_at × (bytes ≡ concat (proof_fields (made_proof ledger.rows ledger.digests root_at query)))
 IsProved ledger query root_at (Err (errors.Beyond head)) = IsBeyond ledger query root_at × IsHead ledger.digests head
+IsProved ledger query root_at (Err errors.Fault) = IsWithin ledger query root_at
 IsProved ledger query root_at (Err errors.Memory) = IsWithin ledger query root_at
 
 -- The bytes are those of a proof that is accepted by one who has the root at the block, with the answer of

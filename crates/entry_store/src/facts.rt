@@ -13,6 +13,7 @@ use crate::kept::Kept;
 use digest_kit::TagHasher;
 use lc_base::{Digest, Memory};
 use prov_entry::{BODY, Header, Link, LinkList, header_digest};
+use shared_list::Shared;
 use std::alloc::Global;
 
 /// The digest of a body, by the bytes of its fields.
@@ -24,14 +25,14 @@ pub(crate) fn body_digest(body: &[u8]) -> Digest
     hasher.finish()
 }
 
-fn digest_at(entries: &[Kept], index: u32) -> Digest
+fn digest_at(entries: &Shared<Kept>, index: u32) -> Digest
     requires { index < length entries.now }
     ensures { result ≡ entry_digest (slice_get entries.now index) }
 {
-    entries[index as usize].facts().digest
+    entries.at(index as usize).facts().digest
 }
 
-fn named_link(entries: &[Kept], hop: &Hop) -> Link
+fn named_link(entries: &Shared<Kept>, hop: &Hop) -> Link
     requires { hop.now.id.0 < length entries.now }
     ensures { result ≡ named_link entries.now hop.now }
 {
@@ -42,7 +43,11 @@ fn named_link(entries: &[Kept], hop: &Hop) -> Link
 }
 
 /// The hops with the digests of the headers that they lead to.
-pub(crate) fn links_of(alloc: Global, entries: &[Kept], hops: &[Hop]) -> Result<LinkList, Memory>
+pub(crate) fn links_of(
+    alloc: Global,
+    entries: &Shared<Kept>,
+    hops: &[Hop],
+) -> Result<LinkList, Memory>
     requires { All (λ (hop : Hop). hop.id.0 < length entries.now) hops.now }
     ensures { IfOk result (λ links. links ≡ map (named_link entries.now) hops.now) }
 {

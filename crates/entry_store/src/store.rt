@@ -1,9 +1,8 @@
 //! The arena of entries.
 
-ghost use Rattle.std.specs.Prelude.{◌≡◌, ◌<◌, ◌≤◌, [], ◌∷◌, ◌++◌, length, map, slice_get, Some, MatchOption, IfOk, OnOk, OnErr};
+ghost use Rattle.std.specs.Prelude.{◌≡◌, ◌<◌, ◌≤◌, [], ◌∷◌, ◌++◌, length, map, take, slice_get, Some, MatchOption, IfOk, OnOk, OnErr};
 ghost use Rattle.std.specs.List.{All};
 ghost use Rattle.std.specs.Option.{option_map};
-ghost use Rattle.std.specs.Rc.{rc_slice_items};
 ghost use Rattle.lc_base.specs.declared.limits.TheConstants.{MAX_ROWS};
 ghost use Rattle.prov_entry.specs.declared.limits.TheConstants.{MAX_LINKS};
 ghost use Rattle.entry_store.specs.declared.entry.Hop.{Hop};
@@ -14,16 +13,17 @@ use crate::entry::{EntryId, Facts, Hop, HopList, Links};
 use crate::facts::{body_digest, facts_of, links_of};
 use crate::kept::Kept;
 use crate::steps::Steps;
-use lc_base::{Digest, Key, Memory};
+use lc_base::{Bytes, Digest, Key, Memory};
 use prov_entry::{Header, LinkList};
+use shared_list::Shared;
 use std::alloc::Global;
 use std::marker::Model;
-use std::rc::RcSlice;
 
-/// Versions in the order in which they were pushed. An entry never changes.
+/// Versions in the order in which they were pushed. An entry never changes, and a front shares its
+/// entries with the store that it is of.
 #[derive(Drop)]
 pub struct Store {
-    entries: Vec<Kept>,
+    entries: Shared<Kept>,
 }
 
 impl Model for Store {
@@ -32,9 +32,9 @@ impl Model for Store {
 
     ghost Value = { List Entry };
 
-    ghost view = { λ store. store.entries.items };
+    ghost view = { λ store. store.entries };
 
-    ghost invariant = { λ store. AreEntries store.entries.items };
+    ghost invariant = { λ store. AreEntries store.entries };
 }
 
 impl Store {
@@ -43,7 +43,7 @@ impl Store {
         ensures { IfOk result (λ store. store ≡ []) }
     {
         Ok(Store {
-            entries: Vec::new(alloc),
+            entries: Shared::new(alloc),
         })
     }
 
@@ -58,29 +58,29 @@ impl Store {
         hops: HopList,
         closed: u64,
         closed_digest: Digest,
-        body: RcSlice<u8>,
+        body: &Bytes,
     ) -> Result<EntryId, Memory>
         requires room { length self.old < MAX_ROWS }
         requires few { length hops ≤ MAX_LINKS }
         requires back { All (LeadsBack self.old key block) hops }
         ensures id { IfOk result (λ id. id.0 ≡ length self.old) }
-        ensures ok { OnOk result (self.new ≡ self.old ++ new_entry self.old key block tx hops closed closed_digest (rc_slice_items body) ∷ []) }
+        ensures ok { OnOk result (self.new ≡ self.old ++ new_entry self.old key block tx hops closed closed_digest body.now ∷ []) }
         ensures err { OnErr result (self.new ≡ self.old) }
     {
-        let alloc = *self.entries.allocator();
+        let alloc = self.entries.allocator();
         let id = EntryId(self.entries.len() as u32);
         let header = Header {
             key,
             block,
             tx,
-            body: body_digest(&body),
+            body: body_digest(body.as_slice()),
             closed,
             closed_digest,
             links: links_of(alloc, &self.entries, hops.as_slice())?,
         };
         let facts = facts_of(&header);
         let links = Links { block, hops };
-        self.entries.push(Kept::new(links, facts, &body))?;
+        self.entries.push(Kept::new(links, facts, body))?;
         Ok(id)
     }
 
@@ -94,7 +94,7 @@ impl Store {
         ensures never_less { steps.old ≤ steps.new }
     {
         steps.raise();
-        self.entries[id.0 as usize].links()
+        self.entries.at(id.0 as usize).links()
     }
 
     /// The other facts of an entry.
@@ -102,7 +102,7 @@ impl Store {
         requires { id.0 < length self.now }
         ensures { option_map (λ (entry : Entry). entry.facts) (slice_get self.now id.0) ≡ Some result }
     {
-        self.entries[id.0 as usize].facts()
+        self.entries.at(id.0 as usize).facts()
     }
 
     /// Hops with the digests of the headers that they lead to.
@@ -129,5 +129,14 @@ impl Store {
             return Some(EntryId(index));
         }
         None
+    }
+    /// The store of the first entries, so many, which it shares with this store.
+    pub fn front(&self, count: u32) -> Result<Store, Memory>
+        requires { count ≤ length self.now }
+        ensures { IfOk result (λ front. front ≡ take count self.now) }
+    {
+        Ok(Store {
+            entries: self.entries.prefix(count as usize)?,
+        })
     }
 }

@@ -1,62 +1,84 @@
-//! The body of a row. What the row was derived from stands at the indexes that are kept of it.
+//! The body of a row. What the row was derived from stands at the indexes that are given of it.
 
-ghost use Rattle.std.specs.Prelude.{◌≡◌, ◌<◌, ℕ, List, Some, length, map, slice_get, IfOk};
+ghost use Rattle.std.specs.Prelude.{◌≡◌, ◌<◌, ◌≤◌, ℕ, List, Some, length, map, slice_get, Contains};
+ghost use Rattle.std.specs.Prelude.{IfOk};
+ghost use Rattle.std.specs.List.{concat};
+ghost use Rattle.std.specs.Rc.{rc_slice_items};
+ghost use Rattle.lc_base.specs.declared.limits.TheConstants.{MAX_DEPS};
 ghost use Rattle.lc_base.specs.declared.row.Row.{Row};
 ghost use Rattle.lc_base.specs.declared.row.Dep.{Dep};
 ghost use Rattle.rows_index.specs.Users.{AreVersionsAt};
+ghost use Rattle.prov_entry.specs.Spelling.{body_fields};
 ghost use Rattle.root_laws.specs.Naming.{named_before, with_digest, body_of};
 ghost use Rattle.lineage_index.specs.Index.{IsIndexOf};
 ghost use Rattle.lineage_entries.specs.Entries.{named_at, AreOlder};
 
-use lc_base::{Duplicate, Memory};
+use entry_store::EntryId;
+use lc_base::{Duplicate, Memory, Row};
 use lineage_index::LineageIndex;
-use plain_rows::PlainRows;
-use prov_entry::{Body, BodyDep, BodyDepList};
+use prov_entry::{Body, BodyDep, BodyDepList, write_body};
 use std::alloc::Global;
+use std::rc::RcSlice;
 
 /// The version at an index, with the digest of its header.
-fn body_dep(rows: &PlainRows, index: &LineageIndex, place: u32) -> BodyDep
-    requires { (blocks : ℕ) × IsIndexOf rows.now blocks index.now × (place < length rows.now) }
-    ensures { (blocks : ℕ) (row : Row) → IsIndexOf rows.now blocks index.now → slice_get rows.now place ≡ Some row → result ≡ named_at rows.now row }
+fn body_dep(index: &LineageIndex, place: u32) -> BodyDep
+    requires { (rows : List Row) × (blocks : ℕ) × IsIndexOf rows blocks index.now
+        × (place < length rows) }
+    ensures { (rows : List Row) (blocks : ℕ) (row : Row) → IsIndexOf rows blocks index.now
+        → slice_get rows place ≡ Some row → result ≡ named_at rows row }
 {
-    let row = rows.row(place);
+    let facts = index.store().facts(EntryId(place));
     BodyDep {
-        key: row.key,
-        block: row.block,
+        key: facts.key,
+        block: facts.block,
         digest: index.header_digest(place),
     }
 }
 
 /// The versions at these indexes, each with the digest of its header.
-fn body_deps(
-    alloc: Global,
-    rows: &PlainRows,
-    index: &LineageIndex,
-    places: &[u32],
-) -> Result<BodyDepList, Memory>
-    requires { (blocks : ℕ) × (deps : List Dep) × IsIndexOf rows.now blocks index.now × AreVersionsAt rows.now places.now deps }
-    ensures { (blocks block : ℕ) (deps : List Dep) → IsIndexOf rows.now blocks index.now → AreVersionsAt rows.now places.now deps → AreOlder block deps
-        → IfOk result (λ list. list ≡ map (with_digest (named_before rows.now block)) deps) }
+fn body_deps(alloc: Global, index: &LineageIndex, places: &[u32]) -> Result<BodyDepList, Memory>
+    requires { (rows : List Row) × (blocks : ℕ) × (deps : List Dep)
+        × IsIndexOf rows blocks index.now × AreVersionsAt rows places.now deps }
+    ensures { (rows : List Row) (blocks block : ℕ) (deps : List Dep)
+        → IsIndexOf rows blocks index.now → AreVersionsAt rows places.now deps → AreOlder block deps
+        → IfOk result (λ list. list ≡ map (with_digest (named_before rows block)) deps) }
 {
     let mut list = BodyDepList::new(alloc);
     for place in places {
-        list.push(body_dep(rows, index, *place))?;
+        list.push(body_dep(index, *place))?;
     }
     Ok(list)
 }
 
-/// The body of the row at an index.
-pub fn body(
-    alloc: Global,
-    rows: &PlainRows,
-    index: &LineageIndex,
-    place: u32,
-) -> Result<Body, Memory>
-    requires { (blocks : ℕ) × IsIndexOf rows.now blocks index.now × (place < length rows.now) }
-    ensures { (blocks : ℕ) (row : Row) → IsIndexOf rows.now blocks index.now → slice_get rows.now place ≡ Some row → IfOk result (λ body. body ≡ body_of rows.now row) }
+/// The body of a row of a history. `places` are the indexes of the rows that it was derived from.
+fn body(alloc: Global, index: &LineageIndex, row: &Row, places: &[u32]) -> Result<Body, Memory>
+    requires { (rows : List Row) × (blocks : ℕ) × IsIndexOf rows blocks index.now
+        × AreVersionsAt rows places.now row.now.deps }
+    ensures { (rows : List Row) (blocks : ℕ) → IsIndexOf rows blocks index.now
+        → AreVersionsAt rows places.now row.now.deps → Contains rows row.now
+        → IfOk result (λ body. body ≡ body_of rows row.now) }
 {
-    let row = rows.row(place);
     let value = row.value.copy(alloc)?;
-    let deps = body_deps(alloc, rows, index, row.deps.as_slice())?;
+    let deps = body_deps(alloc, index, places)?;
     Ok(Body { value, deps })
+}
+
+/// The bytes of the body of a row of a history: its fields, one after another. `index` is the index
+/// over the history, `places` are the indexes of the rows that this row was derived from.
+pub fn body_bytes(
+    alloc: Global,
+    index: &LineageIndex,
+    row: &Row,
+    places: &[u32],
+) -> Result<RcSlice<u8>, Memory>
+    requires few { length row.now.deps ≤ MAX_DEPS }
+    requires row { (rows : List Row) × (blocks : ℕ) × IsIndexOf rows blocks index.now
+        × AreVersionsAt rows places.now row.now.deps × Contains rows row.now }
+    ensures { (rows : List Row) (blocks : ℕ) → IsIndexOf rows blocks index.now
+        → AreVersionsAt rows places.now row.now.deps → Contains rows row.now
+        → IfOk result (λ bytes. rc_slice_items bytes ≡ concat (body_fields (body_of rows row.now))) }
+{
+    let body = body(alloc, index, row, places)?;
+    let bytes = write_body(alloc, &body)?;
+    Ok(RcSlice::from_slice(alloc, bytes.as_slice())?)
 }

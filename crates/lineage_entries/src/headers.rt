@@ -14,8 +14,10 @@ use std::alloc::Global;
 
 /// The header of the row at an index.
 pub fn header(alloc: Global, index: &LineageIndex, place: u32) -> Result<Header, Memory>
-    requires { (rows : List Row) × (blocks : ℕ) × IsIndexOf rows blocks index.now × (place < length rows) }
-    ensures { (rows : List Row) (blocks : ℕ) (row : Row) → IsIndexOf rows blocks index.now → slice_get rows place ≡ Some row → IfOk result (λ header. header ≡ header_of rows row) }
+    requires { (rows : List Row) × (blocks : ℕ) × IsIndexOf rows blocks index.now
+        × (place < length rows) }
+    ensures { (rows : List Row) (blocks : ℕ) (row : Row) → IsIndexOf rows blocks index.now
+        → slice_get rows place ≡ Some row → IfOk result (λ header. header ≡ header_of rows row) }
 {
     let mut steps = Steps::new();
     let header = entry_header(alloc, index.store(), EntryId(place), &mut steps)?;

@@ -1,8 +1,8 @@
-//! The headers and bodies of the rows of a history, made again from the rows and the index over them.
+//! The headers and bodies of the rows of a history, made of the index over them.
 #![tactic(auto)]
 
 mod bodies;
 mod headers;
 
-pub use bodies::body;
+pub use bodies::body_bytes;
 pub use headers::header;

@@ -107,7 +107,7 @@ leaf_told keys entry index new apart within =
     ∙ ap (λ (leaf : Leaf). slice_set (leaves_with keys entry) (1 + j) (record leaf { newest_block = new.newest_block; newest = new.newest; open_count = new.open_count; open_digest = new.open_digest })) at
     ∙ leaf_set keys entry (key_at keys index) j new [] apart l refl
 
-leaves_told : (keys : List (List ℕ)) (old new : List ℕ → Entry) (done : List (List ℕ)) (indexes : List ℕ) → AllPairs ◌≢◌ keys → AllByRecursion (IsLeafIndex keys) indexes
+pub leaves_told : (keys : List (List ℕ)) (old new : List ℕ → Entry) (done : List (List ℕ)) (indexes : List ℕ) → AllPairs ◌≢◌ keys → AllByRecursion (IsLeafIndex keys) indexes
     → with_states (leaves_with keys (renewed old new done)) (map (λ (index : ℕ). told index (new (key_at keys index))) indexes) ≡ leaves_with keys (renewed old new (done ++ map (key_at keys) indexes))
 leaves_told keys old new done [] apart within = ap (λ (ks : List (List ℕ)). leaves_with keys (renewed old new ks)) (sym (append-nil done))
 leaves_told keys old new done (index ∷ indexes) apart within =

@@ -2,7 +2,6 @@
 -- rows before, and the lists have the uses of all rows of the block.
 use Rattle.std.specs.Prelude.{◌≡◌, ℕ, if◌then◌else◌, List, [], ◌∷◌, ◌++◌, length, map, replicate, slice_index_or, Option, Some, None}
 use Rattle.std.specs.List.{concat}
-use Rattle.std.specs.Rc.{rc_slice_items}
 use Rattle.lc_base.specs.declared.digest.Digest.{Digest}
 use Rattle.lc_base.specs.declared.row.Row.{Row}
 use Rattle.lc_base.specs.declared.row.Dep.{Dep}
@@ -70,4 +69,4 @@ pub record IsVersionOf (tree : List Leaf) (list : List Dep) (row : Row) (version
   pub tx_is : version.tx ≡ row.tx
   pub closed_is : version.closed ≡ length list
   pub closed_digest_is : version.closed_digest ≡ digest_of_uses list
-  pub body_is : rc_slice_items version.body ≡ concat (body_fields (body_in tree row))
+  pub body_is : version.body ≡ concat (body_fields (body_in tree row))

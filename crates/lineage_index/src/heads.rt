@@ -53,8 +53,9 @@ fn replace_newest(lists: &mut OpenLists, newest: &mut Vec<u32>, index: u32, row:
     newest[index as usize] = row;
 }
 
-/// Makes the row at an index the newest version of a key.
-pub(crate) fn set_newest(
+/// Makes the row at an index the newest version of a key. The list of the version before is closed; a
+/// key without a leaf gets one, and an empty list. On `Memory` only a part of it may be there.
+pub fn set_newest(
     tree: &mut Tree,
     lists: &mut OpenLists,
     newest: &mut Vec<u32>,

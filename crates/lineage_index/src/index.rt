@@ -12,6 +12,7 @@ ghost use Rattle.entry_store.specs.Steps.{raised};
 ghost use Rattle.lineage_store.specs.Entries.{entries_of};
 ghost use Rattle.lineage_store.specs.OnPath.{AreEntriesIn};
 ghost use Rattle.lineage_index.specs.Growth.{Grows};
+ghost use Rattle.lineage_index.specs.Blocks.{IsKept};
 ghost use Rattle.lineage_index.specs.Index.{IsIndexOf};
 
 use crate::advancing::advance;
@@ -45,6 +46,18 @@ impl LineageIndex {
             newest: Vec::new(alloc),
             store,
         })
+    }
+
+    /// The index of these parts.
+    pub fn of_parts(tree: Tree, lists: OpenLists, newest: Vec<u32>, store: Store) -> LineageIndex
+        ensures { (rows : List Row) (n : ℕ) → IsKept rows n tree lists newest.items store → IsIndexOf rows n result }
+    {
+        LineageIndex {
+            tree,
+            lists,
+            newest,
+            store,
+        }
     }
 
     /// Adds the rows of the next block. On `Memory` only a part of them may be there.

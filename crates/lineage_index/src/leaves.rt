@@ -23,8 +23,9 @@ pub(crate) fn newest_at(newest: &[u32], index: u32) -> u32
     newest[index as usize]
 }
 
-/// What the leaf at an index is to say, by what is kept of the newest version of its key.
-fn leaf_state(lists: &OpenLists, newest: &[u32], store: &Store, index: u32) -> LeafState
+/// What the leaf at an index is to say, by what is kept of the newest version of its key. The index of
+/// the sentinel is 0.
+pub fn leaf_state(lists: &OpenLists, newest: &[u32], store: &Store, index: u32) -> LeafState
     requires { (rows : List Row) × AreBesideLeaves rows lists.now newest.now store.now × IsLeafIndex (keys_of rows) index }
     ensures { (rows : List Row) → AreBesideLeaves rows lists.now newest.now store.now → IsLeafIndex (keys_of rows) index
         → result ≡ state_of rows index }

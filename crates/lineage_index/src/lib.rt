@@ -12,4 +12,6 @@ mod newest_row;
 mod settling;
 mod uses;
 
+pub use heads::set_newest;
 pub use index::LineageIndex;
+pub use leaves::leaf_state;

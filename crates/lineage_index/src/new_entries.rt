@@ -2,7 +2,6 @@
 
 ghost use Rattle.std.specs.Prelude.{◌≡◌, ◌≤◌, ◌++◌, ◌∷◌, [], ℕ, List, length, map, IfOk, OnOk};
 ghost use Rattle.std.specs.List.{concat};
-ghost use Rattle.std.specs.Rc.{rc_slice_items};
 ghost use Rattle.lc_base.specs.declared.limits.TheConstants.{MAX_DEPS};
 ghost use Rattle.lc_base.specs.declared.row.Row.{Row};
 ghost use Rattle.lc_base.specs.declared.row.Dep.{Dep};
@@ -16,12 +15,11 @@ use crate::heads::index_of;
 use crate::newest_row::newest_entry_of;
 use entry_store::{Steps, Store};
 use forward_links::{OpenList, OpenLists};
-use lc_base::{Dep, Digest, Duplicate, Key, Memory, Row};
+use lc_base::{Bytes, Dep, Digest, Duplicate, Key, Memory, Row};
 use lineage_store::{NewVersion, push_version};
 use prov_entry::{Body, BodyDep, BodyDepList, write_body};
 use state_tree::Tree;
 use std::alloc::Global;
-use std::rc::RcSlice;
 
 /// The list that a new version of the key closes.
 fn closed_by(tree: &Tree, lists: &OpenLists, key: &Key) -> OpenList
@@ -66,16 +64,15 @@ fn body_deps(alloc: Global, tree: &Tree, deps: &[Dep]) -> Result<BodyDepList, Me
 }
 
 /// The bytes of the fields of the body of a row.
-fn body_bytes(alloc: Global, tree: &Tree, row: &Row) -> Result<RcSlice<u8>, Memory>
+fn body_bytes(alloc: Global, tree: &Tree, row: &Row) -> Result<Bytes, Memory>
     requires { length row.now.deps ≤ MAX_DEPS }
-    ensures { IfOk result (λ bytes. rc_slice_items bytes ≡ concat (body_fields (body_in tree.now row.now))) }
+    ensures { IfOk result (λ bytes. bytes ≡ concat (body_fields (body_in tree.now row.now))) }
 {
     let body = Body {
         value: row.value.copy(alloc)?,
         deps: body_deps(alloc, tree, row.deps.as_slice())?,
     };
-    let bytes = write_body(alloc, &body)?;
-    Ok(RcSlice::from_slice(alloc, bytes.as_slice())?)
+    write_body(alloc, &body)
 }
 
 /// The version of a row.

@@ -4,7 +4,6 @@ use Rattle.std.specs.Prelude.{slice_get, IsSomeAnd}
 use Rattle.std.proofs.lemmas.List.{get_or_append_left, length-append, append_assoc}
 use Rattle.std.proofs.lemmas.Option.{none-some, same_Some}
 use Rattle.std.specs.List.{All, AllByRecursion, AllPairs, Contains, concat}
-use Rattle.std.specs.Rc.{rc_slice_items}
 use Rattle.lc_base.specs.declared.digest.Digest.{Digest}
 use Rattle.lc_base.specs.declared.limits.TheConstants.{MAX_ROWS}
 use Rattle.lc_base.specs.declared.row.Row.{Row}
@@ -162,10 +161,10 @@ entry_is all rows row after lawful first =
 
 new_is : (all rows : List Row) (row : Row) (newest : Option EntryId) (entries : List Entry) (version : NewVersion) (hops : List Hop) → IsNextVersion all rows row newest entries version
     → hops ≡ links_over version.block (versions_of_key rows row.key)
-    → new_entry entries version.key version.block version.tx hops version.closed version.closed_digest (rc_slice_items version.body) ≡ entry_for all rows row
+    → new_entry entries version.key version.block version.tx hops version.closed version.closed_digest version.body ≡ entry_for all rows row
 new_is all rows row newest entries version hops next are =
     let before = entries_of all rows in
-    let body = rc_slice_items version.body in
+    let body = version.body in
     let versions = versions_of_key rows row.key in
     let uses = closed (up_to all row.block) row.key row.block in
     ap (λ (es : List Entry). new_entry es version.key version.block version.tx hops version.closed version.closed_digest body) next.entries_are
@@ -180,7 +179,7 @@ new_is all rows row newest entries version hops next are =
 
 pub next_entries : (all rows : List Row) (row : Row) (newest : Option EntryId) (entries : List Entry) (version : NewVersion) (hops : List Hop) → IsNextVersion all rows row newest entries version
     → hops ≡ links_over version.block (versions_of_key rows row.key)
-    → entries ++ new_entry entries version.key version.block version.tx hops version.closed version.closed_digest (rc_slice_items version.body) ∷ [] ≡ entries_of all (rows ++ row ∷ [])
+    → entries ++ new_entry entries version.key version.block version.tx hops version.closed version.closed_digest version.body ∷ [] ≡ entries_of all (rows ++ row ∷ [])
 next_entries all rows row newest entries version hops next are =
     ap (λ (entry : Entry). entries ++ entry ∷ []) (new_is all rows row newest entries version hops next are)
     ∙ ap (λ (others : List Entry). others ++ entry_for all rows row ∷ []) next.entries_are

@@ -1,22 +1,16 @@
 -- Rows are read back from their entries.
-use Rattle.std.proofs.Common.{◌≡◌, ◌∙◌, ℕ, List, [], ◌∷◌, ◌++◌, map, refl, sym, ap}
-use Rattle.std.specs.List.{All, AllByRecursion, concat}
-use Rattle.std.proofs.lemmas.List.{append-nil}
+use Rattle.std.proofs.Common.{◌≡◌, ◌∙◌, List, [], ◌∷◌, ◌++◌, map, refl, ap}
+use Rattle.std.specs.List.{All, AllByRecursion}
 use Rattle.std.proofs.lemmas.List.Elements.{recursion_from_All}
 use Rattle.lc_base.specs.declared.row.Dep.{Dep}
 use Rattle.lc_base.specs.declared.row.Row.{Row}
-use Rattle.prov_entry.specs.declared.entry.Body.{Body}
 use Rattle.prov_entry.specs.declared.entry.BodyDep.{BodyDep}
-use Rattle.prov_entry.specs.Spelling.{IsBody, body_fields}
+use Rattle.prov_entry.specs.Spelling.{IsBody}
 use Rattle.root_laws.specs.Naming.{with_digest, named_before, body_of}
-use Rattle.entry_views.specs.Reading.{body_at}
-use Rattle.entry_views.proofs.Bodies.{body_field}
+use Rattle.row_bodies.specs.Bodies.{dep_without_digest}
+use Rattle.row_bodies.proofs.Bodies.{body_back}
 use Rattle.lineage_store.specs.Entries.{entry_for, entries_after, entries_of}
-use Rattle.lineage_store.specs.ReadBack.{body_read, dep_without_digest, row_with, row_read, rows_read}
-
-body_back : (body : Body) → IsBody body → body_read (body_at (concat (body_fields body))) ≡ body
-body_back body is =
-    ap (λ (bytes : List ℕ). body_read (body_at bytes)) (sym (append-nil (concat (body_fields body)))) ∙ ap body_read (body_field.again body [] is)
+use Rattle.lineage_store.specs.ReadBack.{row_with, row_read, rows_read}
 
 deps_back : (named : List BodyDep) (deps : List Dep) → map dep_without_digest (map (with_digest named) deps) ≡ deps
 deps_back named [] = refl

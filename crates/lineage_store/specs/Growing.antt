@@ -1,7 +1,6 @@
 -- A version that is to become the next entry.
 use Rattle.std.specs.Prelude.{◌≡◌, ◌∷◌, ◌++◌, List, length, Option}
 use Rattle.std.specs.List.{concat}
-use Rattle.std.specs.Rc.{rc_slice_items}
 use Rattle.lc_base.specs.declared.row.Row.{Row}
 use Rattle.lc_base.specs.History.{IsLawful, up_to}
 use Rattle.prov_entry.specs.Spelling.{body_fields}
@@ -26,4 +25,4 @@ pub record IsNextVersion (all rows : List Row) (row : Row) (newest : Option Entr
   pub tx_is : version.tx ≡ row.tx
   pub closed_is : version.closed ≡ length (closed (up_to all row.block) row.key row.block)
   pub closed_digest_is : version.closed_digest ≡ digest_of_uses (closed (up_to all row.block) row.key row.block)
-  pub body_is : rc_slice_items version.body ≡ concat (body_fields (body_of all row))
+  pub body_is : version.body ≡ concat (body_fields (body_of all row))

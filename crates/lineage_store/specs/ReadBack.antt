@@ -1,22 +1,10 @@
 -- The rows that entries are of, as they are read from them.
-use Rattle.std.specs.Prelude.{pos, List, [], map, Ok, Err}
-use Rattle.lc_base.specs.declared.row.Dep.{Dep}
+use Rattle.std.specs.Prelude.{List, map}
 use Rattle.lc_base.specs.declared.row.Row.{Row}
-use Rattle.lc_base.specs.declared.value.Value.TheVariants.{Int}
-use Rattle.byte_fields.specs.Reading.{Field}
 use Rattle.prov_entry.specs.declared.entry.Body.{Body}
-use Rattle.prov_entry.specs.declared.entry.BodyDep.{BodyDep}
 use Rattle.entry_views.specs.Reading.{body_at}
+use Rattle.row_bodies.specs.Bodies.{body_read, dep_without_digest}
 use Rattle.entry_store.specs.Entries.{Entry}
-
--- The body that was read; the value 0 without dependencies, where none stands there.
-abbrev pub body_read : Field Body → Body
-body_read (Ok read) = read.0
-body_read (Err left) = record { value = Int (pos 0); deps = [] }
-
--- A dependency without the digest.
-abbrev pub dep_without_digest : BodyDep → Dep
-dep_without_digest dep = record { key = dep.key; block = dep.block }
 
 -- A row of the facts of an entry and of its body.
 abbrev pub row_with : Entry → Body → Row

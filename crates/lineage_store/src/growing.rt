@@ -8,10 +8,9 @@ ghost use Rattle.lineage_store.specs.Entries.{entries_of};
 ghost use Rattle.lineage_store.specs.Growing.{IsNextVersion};
 
 use entry_store::{EntryId, Steps, Store};
-use lc_base::{Digest, Key, Memory};
+use lc_base::{Bytes, Digest, Key, Memory};
 use skip_list::links_for;
 use std::alloc::Global;
-use std::rc::RcSlice;
 
 /// A version that is to become an entry.
 #[derive(Drop)]
@@ -26,7 +25,7 @@ pub struct NewVersion {
     /// The digest of these, as a forward list.
     pub closed_digest: Digest,
     /// The fields of its body.
-    pub body: RcSlice<u8>,
+    pub body: Bytes,
 }
 
 /// Adds the version of a row, with the links to older versions of its key. `newest` is the entry of
@@ -53,7 +52,7 @@ pub fn push_version(
         hops,
         version.closed,
         version.closed_digest,
-        version.body,
+        &version.body,
     )?;
     Ok(id)
 }

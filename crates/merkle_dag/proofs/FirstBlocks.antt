@@ -1,63 +1,182 @@
--- The first blocks of a ledger, one more at a time.
-use Rattle.std.proofs.Common.{◌≡◌, ◌∙◌, ℕ, ◌+◌, ◌<◌, true, nat_lt, nat_le, List, [], ◌∷◌, ◌++◌, length, get_or, take, filter, Option, Some, None, refl, sym, ap, subst, arith, inl, inr}
-use Rattle.std.specs.List.{All}
-use Rattle.std.proofs.lemmas.Bool.{cases_lt, eqb-true, lt-ltb, le-ltb, lt-leb, le-leb}
-use Rattle.std.proofs.lemmas.List.{length-take-le, take_more}
-use Rattle.std.proofs.lemmas.List.Elements.{All-from_recursion, recursion_from_All, filter_passes}
+-- The first blocks of a lineage.
+use Rattle.std.proofs.Common.{◌≡◌, ◌∙◌, ℕ, suc, ◌+◌, ◌<◌, ◌≤◌, true, false, nat_le, List, [], ◌∷◌}
+use Rattle.std.proofs.Common.{◌++◌, length, take, drop, map, refl, sym, ap, subst, arith, inl, inr}
+use Rattle.std.specs.List.{All, AllPairs, range_with_len}
+use Rattle.std.proofs.lemmas.Bool.{cases_lt, le-leb, lt-leb}
+use Rattle.std.proofs.lemmas.List.{length-append, length-map, length-take-le, take-append-drop}
+use Rattle.std.proofs.lemmas.List.{take-map}
+use Rattle.std.proofs.lemmas.List.FromFn.{length-range_with_len, take-map-range_with_len}
+use Rattle.std.proofs.lemmas.List.Elements.{All-cons, All-nil, All-take, recursion_from_All}
 use Rattle.lc_base.specs.declared.digest.Digest.{Digest}
 use Rattle.lc_base.specs.declared.row.Row.{Row}
-use Rattle.lc_base.specs.History.{IsLawful, below, up_to, newest}
-use Rattle.skip_links.specs.Versions.{newest_index}
-use Rattle.skip_links.proofs.Threads.{newest_found}
-use Rattle.root_laws.specs.Naming.{is_of_block}
-use Rattle.root_laws.proofs.Lists.{all_weaker}
-use Rattle.typed_ledger.proofs.Parts.{lawful_up_to}
-use Rattle.rows_index.specs.Places.{IsRowAt}
-use Rattle.plain_rows.proofs.OneBlock.{up_to_is}
-use Rattle.lineage_index.proofs.Settled.{row_there}
+use Rattle.lc_base.specs.History.{StandsBefore, up_to}
+use Rattle.body_store.specs.Bodies.{KeptBody, BodiesState}
+use Rattle.root_laws.specs.Root.{root_of}
+use Rattle.root_laws.proofs.Lists.{all_weaker, keep_none}
+use Rattle.root_laws.proofs.UpToBlock.{earlier_roots_stay}
+use Rattle.rows_index.specs.declared.index.RowsIndex.{RowsIndex}
+use Rattle.rows_index.specs.Index.{IsIndexOf as IsUsesIndexOf}
+use Rattle.rows_index.proofs.LastPlace.{blocks_rise}
+use Rattle.typed_ledger.specs.TypedLedger.{IsTypedRow}
+use Rattle.typed_ledger.proofs.Parts.{rows_up_to}
+use Rattle.entry_store.specs.Entries.{Entry}
+use Rattle.lineage_store.specs.Entries.{entries_of}
+use Rattle.lineage_store.proofs.Entries.{as_many, earlier_entries}
+use Rattle.lineage_index.specs.Index.{IsIndexOf}
+use Rattle.lineage_index.specs.declared.index.LineageIndex.{LineageIndex}
+use Rattle.merkle_dag.specs.Kept.{Keeps}
+use Rattle.merkle_dag.specs.Ledger.{roots_of}
+use Rattle.merkle_dag.proofs.LedgerSteps.{map_on_range}
 
 -- ---- rows
 
-same_test : (block n : ℕ) → nat_lt block (n + 1) ≡ nat_le block n
-same_test block n = elim (cases_lt block (n + 1)) [
-  | inl less ↦ lt-ltb block (n + 1) less ∙ sym (le-leb block n (omega (arith, less)))
-  | inr more ↦ le-ltb block (n + 1) more ∙ sym (lt-leb block n (omega (arith, more)))
+-- the rows behind those of the blocks up to one are of later blocks
+record AreParted (rows : List Row) (at : ℕ) : Type 0 where
+  more : List Row
+  parted : rows ≡ up_to rows at ++ more
+  first : All (λ (row : Row). row.block < at + 1) (up_to rows at)
+  later : All (λ (row : Row). suc at ≤ row.block) more
+
+part : (rows : List Row) (at : ℕ) → AllPairs StandsBefore rows → AreParted rows at
+part [] at ordered = record {
+  more = [];
+  parted = refl;
+  first = All-nil (λ (row : Row). row.block < at + 1);
+  later = All-nil
+      (λ (row : Row). suc at ≤ row.block);
+}
+part (row ∷ rows) at ordered = elim (cases_lt at row.block) [
+  | inl high ↦
+      let all : All (λ (other : Row). suc at ≤ other.block) (row ∷ rows) = λ k d l. omega
+      (arith, high, blocks_rise (row ∷ rows) ordered 0 k d (omega arith) l) in
+      let none : up_to (row ∷ rows) at ≡ [] = keep_none (λ (other : Row). nat_le other.block at)
+      (row ∷ rows)
+      (all_weaker (λ (other : Row). suc at ≤ other.block)
+      (λ (other : Row). nat_le other.block at ≡ false) (λ other h. lt-leb other.block at h)
+      (row ∷ rows)
+      (recursion_from_All (λ (other : Row). suc at ≤ other.block) (row ∷ rows) all)) in
+      record {
+        more = row ∷ rows;
+        parted = ap (λ (rs : List Row). rs ++ row ∷ rows) (sym none);
+        first = subst (All (λ (other : Row). other.block < at + 1)) (sym none)
+            (All-nil (λ (other : Row). other.block < at + 1));
+        later = all;
+      }
+  | inr low ↦
+      let rest = part rows at (λ i j d l m. ordered (suc i) (suc j) d (omega (arith, l))
+      (omega (arith, m))) in
+      let here : nat_le row.block at ≡ true = le-leb row.block at low in
+      let up : up_to (row ∷ rows) at ≡ row ∷ up_to rows at = rw here refl in
+      record {
+        more = rest.more;
+        parted = ap (λ (rs : List Row). row ∷ rs) rest.parted
+            ∙ ap (λ (rs : List Row). rs ++ rest.more) (sym up);
+        first = subst (All (λ (other : Row). other.block < at + 1)) (sym up)
+            (All-cons (λ (other : Row). other.block < at + 1) row (up_to rows at)
+            (omega (arith, low)) rest.first);
+        later = rest.later;
+      }
 ]
 
--- the rows before the next block are those up to this one
-pub below_next : (rows : List Row) (n : ℕ) → below rows (n + 1) ≡ up_to rows n
-below_next rows n = λ i. filter (λ (row : Row). same_test row.block n i) rows
+-- the entries of these rows are the first ones
+first_entries : (rows : List Row) (at : ℕ) → AllPairs StandsBefore rows
+    → take (length (up_to rows at)) (entries_of rows rows) ≡ entries_of (up_to rows at)
+    (up_to rows at)
+first_entries rows at ordered =
+    let p = part rows at ordered in
+    ap (λ (rs : List Row). take (length (up_to rows at)) (entries_of rs rs)) p.parted
+    ∙ earlier_entries (up_to rows at) p.more (at + 1) p.first
+    (λ k d l. omega (arith, p.later k d l))
 
-pub below_zero : (rows : List Row) → below rows 0 ≡ []
-below_zero [] = refl
-below_zero (row ∷ rows) = rw (le-ltb row.block 0 (omega arith)) (below_zero rows)
+-- ---- roots
 
--- the next block: its rows are all of it, and a lawful history with those before
-module _ (rows before new : List Row) (n : ℕ) (lawful : IsLawful rows) (first : before ≡ below rows n) (is : new ≡ filter (is_of_block n) rows) where
-  pub with_next : before ++ new ≡ up_to rows n
-  with_next = ap (λ (rs : List Row). rs ++ new) first ∙ ap (λ (rs : List Row). below rows n ++ rs) is ∙ sym (up_to_is rows n lawful.ordered)
+first_roots : (rows : List Row) (digests roots : List Digest) (at : ℕ) → AllPairs StandsBefore rows
+    → at < length digests → map (λ (root : Digest). root.0) roots ≡ roots_of rows digests
+    → map (λ (root : Digest). root.0) (take (at + 1) roots) ≡ roots_of (up_to rows at)
+    (take (at + 1) digests)
+first_roots rows digests roots at ordered within are =
+    let n = at + 1 in
+    let first = up_to rows at in
+    let p = part rows at ordered in
+    let f = root_of rows digests in
+    let g = root_of first (take n digests) in
+    let long : length (take n digests) ≡ n = length-take-le n digests (omega (arith, within)) in
+    let same : (r : ℕ) → r < n → f r ≡ g r =
+    λ r l. ap (λ (rs : List Row). root_of rs digests r) p.parted
+    ∙ ap (λ (ds : List Digest). root_of (first ++ p.more) ds r)
+    (sym (take-append-drop n digests))
+    ∙ earlier_roots_stay first p.more (take n digests) (drop n digests) r
+    (λ k d m. omega (arith, l, p.later k d m)) (omega (arith, l, long)) in
+    sym (take-map (λ (root : Digest). root.0) n roots) ∙ ap (take n) are
+    ∙ take-map-range_with_len f 0 (length digests) n (omega (arith, within))
+    ∙ map_on_range f g 0 n n (omega arith) same
+    ∙ ap (λ (k : ℕ). map g (range_with_len 0 k)) (sym long)
 
-  pub next_lawful : IsLawful (before ++ new)
-  next_lawful = subst IsLawful (sym with_next) (lawful_up_to rows n lawful)
+pub as_many_roots : (rows : List Row) (digests roots : List Digest)
+    → map (λ (root : Digest). root.0) roots ≡ roots_of rows digests → length roots ≡ length digests
+as_many_roots rows digests roots are =
+    sym (length-map roots (λ (root : Digest). root.0)) ∙ ap length are
+    ∙ length-map (range_with_len 0 (length digests)) (root_of rows digests)
+    ∙ length-range_with_len 0 (length digests)
 
-  pub next_rows : All (λ (row : Row). row.block ≡ n) new
-  next_rows = subst (All (λ (row : Row). row.block ≡ n)) (sym is) (All-from_recursion (λ (row : Row). row.block ≡ n) (filter (is_of_block n) rows)
-      (all_weaker (λ (row : Row). is_of_block n row ≡ true) (λ (row : Row). row.block ≡ n) (λ row t. eqb-true row.block n t) (filter (is_of_block n) rows)
-      (recursion_from_All (λ (row : Row). is_of_block n row ≡ true) (filter (is_of_block n) rows) (filter_passes (is_of_block n) rows))))
+-- ---- all that is kept
 
--- ---- digests
+module _ (rows : List Row) (index first : LineageIndex) (uses first_uses : RowsIndex)
+    (bodies first_bodies : BodiesState) (digests roots : List Digest) (at count : ℕ)
+    (keeps : Keeps rows index uses bodies digests roots) (within : at < length digests)
+    (is : IsIndexOf (up_to rows at) (at + 1) first)
+    (count_is : count ≡ length (entries_of (up_to rows at) (up_to rows at))) where
+  pub count_within : count ≤ length bodies.kept
+  count_within =
+      let p = part rows at keeps.ledger.lawful.ordered in
+      omega (
+        arith,
+        count_is,
+        as_many (up_to rows at) [] (up_to rows at),
+        ap length p.parted,
+        length-append (up_to rows at) p.more,
+        ap length keeps.bodies_are,
+        length-map bodies.kept (λ (one : KeptBody). one.body),
+        length-map index.store (λ (entry : Entry). entry.body),
+        ap length keeps.index_is.store.entries_are,
+        as_many rows [] rows,
+      )
 
-pub next_number : (digests before : List Digest) (n : ℕ) → before ≡ take n digests → n < length digests → n ≡ length before
-next_number digests before n is l = sym (ap length is ∙ length-take-le n digests (omega (arith, l)))
+  pub first_typed : All IsTypedRow (up_to rows at)
+  first_typed = rows_up_to rows at keeps.typed
 
-pub next_digests : (digests before : List Digest) (n : ℕ) (other : Digest) → before ≡ take n digests → n < length digests → before ++ get_or digests n other ∷ [] ≡ take (n + 1) digests
-next_digests digests before n other is l = ap (λ (ds : List Digest). ds ++ get_or digests n other ∷ []) is ∙ sym (take_more digests n other l)
-
--- ---- the newest row of a key
-
-pub newest_row_is : (rows : List Row) (key : List ℕ) → IsRowAt rows (newest_index rows key) (newest rows key)
-newest_row_is rows key = go (newest_index rows key) refl
-  where
-    go : (o : Option ℕ) → newest_index rows key ≡ o → IsRowAt rows o (newest rows key)
-    go None e = (let all = newest_found rows key in rw e at all)
-    go (Some index) e = row_there rows key index e
+  pub first_keeps : IsUsesIndexOf (up_to rows at) first_uses
+      → first_bodies.kept ≡ take count bodies.kept
+      → Keeps (up_to rows at) first first_uses first_bodies (take (at + 1) digests)
+      (take (at + 1) roots)
+  first_keeps users front =
+      let long : length (take (at + 1) digests) ≡ at + 1 = length-take-le (at + 1) digests
+      (omega (arith, within)) in
+      let many : count ≡ length (up_to rows at) = count_is
+      ∙ as_many (up_to rows at) [] (up_to rows at) in
+      let body : Entry → List ℕ = λ (entry : Entry). entry.body in
+      record {
+        ledger = record {
+          lawful = is.store.lawful;
+          within = subst (λ (n : ℕ). All (λ (row : Row). row.block < n) (up_to rows at)) (sym long)
+              is.within;
+          few = omega (arith, long, within, keeps.ledger.few);
+        };
+        typed = first_typed;
+        digests_fit = All-take (λ (digest : Digest). length digest.0 ≡ 32) (at + 1) digests
+            keeps.digests_fit;
+        index_is = subst (λ (n : ℕ). IsIndexOf (up_to rows at) n first) (sym long) is;
+        uses_are = users;
+        bodies_are =
+            ap (map (λ (one : KeptBody). one.body)) front
+            ∙ sym (take-map (λ (one : KeptBody). one.body) count bodies.kept)
+            ∙ ap (take count) keeps.bodies_are
+            ∙ take-map body count index.store
+            ∙ ap (λ (es : List Entry). map body (take count es))
+            keeps.index_is.store.entries_are
+            ∙ ap (λ (n : ℕ). map body (take n (entries_of rows rows))) many
+            ∙ ap (map body) (first_entries rows at keeps.ledger.lawful.ordered)
+            ∙ ap (map body) (sym is.store.entries_are);
+        roots_are = first_roots rows digests roots at keeps.ledger.lawful.ordered within
+            keeps.roots_are;
+      }

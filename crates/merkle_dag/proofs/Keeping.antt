@@ -1,5 +1,6 @@
 -- What a lineage keeps, at first and with one block more.
-use Rattle.std.proofs.Common.{◌≡◌, ◌∙◌, ℕ, ◌+◌, ◌<◌, List, [], ◌∷◌, ◌++◌, length, map, refl, sym, ap, subst, rules, arith}
+use Rattle.std.proofs.Common.{◌≡◌, ◌∙◌, ℕ, ◌+◌, ◌<◌, List, [], ◌∷◌, ◌++◌, length, map, refl, sym}
+use Rattle.std.proofs.Common.{ap, subst, rules, arith}
 use Rattle.std.specs.List.{All}
 use Rattle.std.proofs.lemmas.List.{length_push}
 use Rattle.std.proofs.lemmas.List.Elements.{All-append, All-cons, All-nil}
@@ -16,30 +17,44 @@ use Rattle.merkle_dag.specs.Ledger.{IsLedger, roots_of}
 use Rattle.merkle_dag.proofs.LedgerSteps.{grows_from, roots_after, ledger_after, root_now}
 
 pub ledger_none : IsLedger [] []
-ledger_none = record { lawful = record { few = omega arith; ordered = search rules; lawful_deps = search rules }; within = search rules; few = omega arith }
+ledger_none = record {
+  lawful = record
+      { few = omega arith; ordered = search rules; lawful_deps = search rules };
+  within = search
+      rules;
+  few = omega arith;
+}
 
 pub roots_none : map (λ (root : Digest). root.0) [] ≡ roots_of [] []
 roots_none = refl
 
-pub digests_are : (digests : List Digest) (d : Digest) → All (λ (digest : Digest). length digest.0 ≡ 32) digests → length d.0 ≡ 32 → All (λ (digest : Digest). length digest.0 ≡ 32) (digests ++ d ∷ [])
+pub digests_are : (digests : List Digest) (d : Digest)
+    → All (λ (digest : Digest). length digest.0 ≡ 32) digests → length d.0 ≡ 32
+    → All (λ (digest : Digest). length digest.0 ≡ 32) (digests ++ d ∷ [])
 digests_are digests d before now =
     let Fits : Digest → Type 0 = λ (digest : Digest). length digest.0 ≡ 32 in
     All-append Fits digests (d ∷ []) before (All-cons Fits d [] now (All-nil Fits))
 
 -- the next block: its number and its rows
-module _ (rows new : List Row) (digests roots : List Digest) (n : ℕ) (d root : Digest) (ledger : IsLedger rows digests) (count : n ≡ length digests) (now : All (λ (row : Row). row.block ≡ n) new) (lawful : IsLawful (rows ++ new)) where
+module _ (rows new : List Row) (digests roots : List Digest) (n : ℕ) (d root : Digest)
+    (ledger : IsLedger rows digests) (count : n ≡ length digests)
+    (now : All (λ (row : Row). row.block ≡ n) new) (lawful : IsLawful (rows ++ new)) where
   pub grows : Grows rows new n
   grows = grows_from rows new digests n ledger count now lawful
 
-  pub root_is : root.0 ≡ sha256 (root_text n d.0 (leaves (rows ++ new))) → root.0 ≡ root_of (rows ++ new) (digests ++ d ∷ []) n
+  pub root_is : root.0 ≡ sha256 (root_text n d.0 (leaves (rows ++ new)))
+      → root.0 ≡ root_of (rows ++ new) (digests ++ d ∷ []) n
   root_is made = made ∙ sym (root_now rows new digests d n grows count)
 
   pub ledger_is : n < MAX_LINEAGE_BLOCKS → IsLedger (rows ++ new) (digests ++ d ∷ [])
   ledger_is low = ledger_after rows new digests d n grows count low
 
-  pub index_is : (index : LineageIndex) → IsIndexOf (rows ++ new) (n + 1) index → IsIndexOf (rows ++ new) (length (digests ++ d ∷ [])) index
-  index_is index is = subst (λ (m : ℕ). IsIndexOf (rows ++ new) m index) (ap (λ (k : ℕ). k + 1) count ∙ sym (length_push digests d)) is
+  pub index_is : (index : LineageIndex) → IsIndexOf (rows ++ new) (n + 1) index
+      → IsIndexOf (rows ++ new) (length (digests ++ d ∷ [])) index
+  index_is index is = subst (λ (m : ℕ). IsIndexOf (rows ++ new) m index)
+      (ap (λ (k : ℕ). k + 1) count ∙ sym (length_push digests d)) is
 
-  pub roots_are : root.0 ≡ sha256 (root_text n d.0 (leaves (rows ++ new))) → map (λ (r : Digest). r.0) roots ≡ roots_of rows digests
+  pub roots_are : root.0 ≡ sha256 (root_text n d.0 (leaves (rows ++ new)))
+      → map (λ (r : Digest). r.0) roots ≡ roots_of rows digests
       → map (λ (r : Digest). r.0) (roots ++ root ∷ []) ≡ roots_of (rows ++ new) (digests ++ d ∷ [])
   roots_are made before = roots_after rows new digests d roots root n grows count before made

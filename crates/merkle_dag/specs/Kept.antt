@@ -1,28 +1,36 @@
 -- All that a lineage keeps.
-use Rattle.std.specs.Prelude.{◌≡◌, ℕ, List, length, map, take}
+use Rattle.std.specs.Prelude.{◌≡◌, List, length, map}
 use Rattle.std.specs.List.{All}
 use Rattle.lc_base.specs.declared.digest.Digest.{Digest}
 use Rattle.lc_base.specs.declared.row.Row.{Row}
-use Rattle.lc_base.specs.History.{below}
+use Rattle.typed_ledger.specs.TypedLedger.{IsTypedRow}
+use Rattle.rows_index.specs.declared.index.RowsIndex.{RowsIndex}
+use Rattle.rows_index.specs.Index.{IsIndexOf as IsUsesIndexOf}
+use Rattle.body_store.specs.Bodies.{BodiesState, bodies_in}
+use Rattle.entry_store.specs.Entries.{Entry}
+use Rattle.lineage_store.specs.ReadBack.{rows_read}
 use Rattle.lineage_index.specs.Index.{IsIndexOf}
 use Rattle.lineage_index.specs.declared.index.LineageIndex.{LineageIndex}
 use Rattle.merkle_dag.specs.declared.kept.Kept.{Kept}
 use Rattle.merkle_dag.specs.Ledger.{IsLedger, roots_of}
 
--- Rows and digests of a ledger, with the index over the rows and the roots of all blocks. The digests
--- have 32 bytes.
-pub record Keeps (rows : List Row) (index : LineageIndex) (digests roots : List Digest) : Type 0 where
+-- The rows that an index is over, as they are read from its entries. No row is kept.
+unfoldable pub rows_kept : LineageIndex → List Row
+rows_kept index = rows_read index.store
+
+-- Rows and digests of a ledger, within their types; the index over the rows, which rows were
+-- derived from which, the bodies of the entries, one after another, and the roots of all blocks.
+pub record Keeps (rows : List Row) (index : LineageIndex) (uses : RowsIndex) (bodies : BodiesState)
+    (digests roots : List Digest) : Type 0 where
   pub ledger : IsLedger rows digests
+  pub typed : All IsTypedRow rows
   pub digests_fit : All (λ (digest : Digest). length digest.0 ≡ 32) digests
   pub index_is : IsIndexOf rows (length digests) index
+  pub uses_are : IsUsesIndexOf rows uses
+  pub bodies_are : bodies_in bodies ≡ map (λ (entry : Entry). entry.body) index.store
   pub roots_are : map (λ (root : Digest). root.0) roots ≡ roots_of rows digests
 
 -- All parts belong together.
 abbrev pub IsWhole : Kept → Type 0
-IsWhole kept = Keeps kept.rows kept.index kept.digests.items kept.roots.items
-
--- These are the first blocks, so many, of another lineage.
-pub record AreFirstBlocks (kept : Kept) (count : ℕ) (made : Kept) : Type 0 where
-  pub whole : IsWhole made
-  pub rows_are : made.rows ≡ below kept.rows count
-  pub digests_are : made.digests.items ≡ take count kept.digests.items
+IsWhole kept = Keeps (rows_kept kept.index) kept.index kept.uses kept.bodies kept.digests.items
+    kept.roots.items

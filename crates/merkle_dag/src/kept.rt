@@ -1,23 +1,33 @@
 //! All that a lineage keeps, and how a block is added to it.
 
-ghost use Rattle.std.specs.Prelude.{◌≡◌, ◌<◌, ◌++◌, ◌∷◌, [], length, IfOk, OnOk};
+ghost use Rattle.std.specs.Prelude.{◌≡◌, ◌<◌, ◌++◌, ◌∷◌, [], length, IfOk, OnOk, IsErrOf};
 ghost use Rattle.std.specs.List.{All};
+ghost use Rattle.lc_base.specs.Faults.{HasCause};
 ghost use Rattle.lc_base.specs.History.{IsLawful};
 ghost use Rattle.lc_base.specs.declared.row.Row.{Row};
+ghost use Rattle.scratch_model.specs.Scratch.{Retains};
+ghost use Rattle.body_store.specs.Agreement.{Agrees};
 ghost use Rattle.root_laws.specs.Root.{root_of};
+ghost use Rattle.merkle_dag.specs.declared.error.DagError.TheVariants.{Fault};
 ghost use Rattle.merkle_dag.specs.declared.limits.TheConstants.{MAX_LINEAGE_BLOCKS};
-ghost use Rattle.merkle_dag.specs.Kept.{IsWhole};
+ghost use Rattle.merkle_dag.specs.Kept.{IsWhole, rows_kept};
 
+use crate::adding::add_rows;
+use crate::error::DagError;
 use crate::root::root_of_tree;
-use lc_base::{Digest, Memory, RowList};
+use body_store::Bodies;
+use lc_base::{Digest, RowList};
 use lineage_index::LineageIndex;
-use plain_rows::PlainRows;
+use rows_index::RowsIndex;
+use scratch_model::Scratch;
 
-/// The rows of all blocks and the index over them, and the digest and the root of each block.
+/// The index over the rows of all blocks, which rows were derived from which, where the bodies of
+/// the rows are kept, and the digest and the root of each block.
 #[derive(Drop)]
 pub(crate) struct Kept {
-    pub rows: PlainRows,
     pub index: LineageIndex,
+    pub uses: RowsIndex,
+    pub bodies: Bodies,
     pub digests: Vec<Digest>,
     pub roots: Vec<Digest>,
 }
@@ -29,31 +39,50 @@ fn check_digest(digest: &Digest)
     let _bytes = digest.0.as_slice();
 }
 
-/// Adds the next block: its number, its digest and its rows. It gives the root at the block. On
-/// `Memory` only a part of the block may be there.
-pub(crate) fn grow(
+/// Adds the next block: its number, its digest and its rows. It gives the root at the block. On an
+/// error only a part of the block may be there.
+pub(crate) fn grow<S: Scratch>(
     kept: &mut Kept,
+    scratch: &mut S,
     number: u32,
     digest: Digest,
     new: &RowList,
-) -> Result<Digest, Memory>
+) -> Result<Digest, DagError>
     requires whole { IsWhole kept.old }
     requires next { number ≡ length kept.old.digests.items }
     requires low { number < MAX_LINEAGE_BLOCKS }
     requires block { All (λ (row : Row). row.block ≡ number) new.now }
-    requires lawful { IsLawful (kept.old.rows ++ new.now) }
+    requires lawful { IsLawful (rows_kept kept.old.index ++ new.now) }
+    requires agrees { Agrees kept.old.bodies (S.state scratch.old) }
     ensures whole { OnOk result (IsWhole kept.new) }
-    ensures rows { OnOk result (kept.new.rows ≡ kept.old.rows ++ new.now) }
+    ensures rows { OnOk result (rows_kept kept.new.index ≡ rows_kept kept.old.index ++ new.now) }
     ensures digests { OnOk result (kept.new.digests.items ≡ kept.old.digests.items ++ digest ∷ []) }
-    ensures root { IfOk result (λ root. root.0 ≡ root_of (kept.old.rows ++ new.now) (kept.old.digests.items ++ digest ∷ []) number) }
+    ensures root { IfOk result
+        (λ root. root.0 ≡ root_of (rows_kept kept.old.index ++ new.now)
+        (kept.old.digests.items ++ digest ∷ []) number) }
+    ensures agrees { OnOk result (Agrees kept.new.bodies (S.state scratch.new)) }
+    ensures retains { Retains (S.state scratch.old) (S.state scratch.new) }
+    ensures cause { HasCause (S.scratch_faults scratch.old) (S.scratch_faults scratch.new)
+        (IsErrOf result Fault) }
 {
     check_digest(&digest);
+    let alloc = *kept.digests.allocator();
     kept.index.add_block(new.as_slice())?;
     let root = root_of_tree(kept.index.tree(), number, &digest);
-    kept.rows.add(new)?;
     kept.digests.push(digest)?;
     kept.roots.push(root)?;
-    Ok(root)
+    let added = add_rows(
+        alloc,
+        &kept.index,
+        &mut kept.uses,
+        &mut kept.bodies,
+        scratch,
+        new.as_slice(),
+    );
+    match added {
+        Ok(()) => Ok(root),
+        Err(error) => Err(error),
+    }
 }
 
 /// Drops what was kept, whose many parts are dropped here alone.

@@ -1,13 +1,18 @@
-//! The lineage of a ledger: the rows of its blocks, with the digest and the root of each block.
+//! The lineage of a ledger: the rows of its blocks, with the digest and the root of each block. The
+//! bodies of the rows are on a scratch device.
 #![tactic(auto)]
 
-mod asking;
-mod host;
+mod adding;
+mod bodies;
+mod error;
 mod kept;
 mod limits;
 mod lineage;
 mod rewinding;
 mod root;
+mod typed;
+mod uses;
 
+pub use error::DagError;
 pub use limits::MAX_LINEAGE_BLOCKS;
-pub use lineage::{DagError, Lineage};
+pub use lineage::Lineage;

@@ -1,95 +1,93 @@
 //! The lineage of a ledger.
 
-ghost use Rattle.std.specs.Prelude.{◌≡◌, ◌≤◌, ◌<◌, ◌+◌, ◌++◌, ◌∷◌, [], Some, length, reverse, slice_get, take, IfOk, MatchOption};
-ghost use Rattle.std.specs.List.{All, find};
-ghost use Rattle.lc_base.specs.History.{IsLawful, newest, scan, up_to, uses};
+ghost use Rattle.std.specs.Prelude.{◌≡◌, ◌≤◌, ◌<◌, ◌+◌, ◌^◌, ◌++◌, ◌∷◌, true, [], Some, length};
+ghost use Rattle.std.specs.Prelude.{slice_get, take, IfOk, IsErrOf, MatchOption};
+ghost use Rattle.std.specs.List.{All, concat};
+ghost use Rattle.std.specs.Rc.{rc_slice_items};
+ghost use Rattle.lc_base.specs.Faults.{HasCause};
+ghost use Rattle.lc_base.specs.History.{IsLawful, latest, up_to, uses};
 ghost use Rattle.lc_base.specs.declared.row.Row.{Row};
+ghost use Rattle.scratch_model.specs.Scratch.{ScratchState, is_told, Retains};
 ghost use Rattle.skip_path.specs.Paths.{path};
 ghost use Rattle.rows_index.specs.Places.{IsRowAt};
 ghost use Rattle.entry_store.specs.Steps.{raised};
+ghost use Rattle.prov_entry.specs.Spelling.{body_fields};
+ghost use Rattle.lineage_store.specs.Versions.{newest_entry};
+ghost use Rattle.lineage_store.specs.Entries.{entries_of};
 ghost use Rattle.lineage_store.specs.OnPath.{AreEntriesIn};
 ghost use Rattle.root_laws.specs.Naming.{header_of, body_of};
 ghost use Rattle.root_laws.specs.Root.{root_of, leaves};
-ghost use Rattle.root_laws.specs.WalkLaws.{is_version_in};
 ghost use Rattle.typed_ledger.specs.TypedLedger.{IsTypedLedger};
 ghost use Rattle.merkle_dag.specs.declared.limits.TheConstants.{MAX_LINEAGE_BLOCKS};
-ghost use Rattle.merkle_dag.specs.Ledger.{Ledger, IsLedger, IsHead};
+ghost use Rattle.merkle_dag.specs.Ledger.{IsLedger, IsHead};
+ghost use Rattle.merkle_dag.specs.Lineage.{AgreesWith, AreFactsOf, StaysSame, ledger_in};
 
-use crate::asking::asked;
+use crate::bodies::body_at;
+use crate::error::DagError;
 use crate::kept::{Kept, discard, grow};
-use crate::rewinding::copy_blocks;
-use entry_store::{EntryList, Steps};
-use lc_base::{Answer, DepList, Digest, Key, Memory, Query, RowList};
+use crate::rewinding::first_blocks;
+use crate::uses::{nth_version, users_of, versions_at};
+use body_store::Bodies;
+use entry_store::{EntryId, EntryList, Facts, Steps, Store};
+use lc_base::{Dep, DepList, Digest, Key, Memory, RowList};
 use lineage_index::LineageIndex;
-use plain_rows::PlainRows;
-use prov_entry::{Body, Header};
+use prov_entry::Header;
+use rows_index::RowsIndex;
+use scratch_model::Scratch;
 use state_tree::Tree;
-use std::alloc::{AllocError, AllocFailed, Global};
+use std::alloc::Global;
 use std::marker::Model;
+use std::rc::RcSlice;
 
-/// Why a lineage did not take a block.
-#[derive(Clone, Copy, Debug, PartialEq, Eq)]
-pub enum DagError {
-    /// Out of memory.
-    Memory,
-}
-
-impl From<Memory> for DagError {
-    fn from(_memory: Memory) -> DagError {
-        DagError::Memory
-    }
-}
-
-impl From<AllocError> for DagError {
-    fn from(_error: AllocError) -> DagError {
-        DagError::Memory
-    }
-}
-
-impl<T: Drop> From<AllocFailed<T>> for DagError {
-    fn from(_error: AllocFailed<T>) -> DagError {
-        DagError::Memory
-    }
-}
-
-/// The rows of all blocks, and the digest and the root of each block.
+/// What is kept of the rows of all blocks, and the digest and the root of each block. The bodies of
+/// the rows are on a scratch device.
 #[derive(Drop)]
 pub struct Lineage {
     pub(crate) kept: Kept,
 }
 
-// Contracts see the rows, and the digests of the blocks.
+// Contracts see the rows, the digests of the blocks, and where the bodies of the rows are kept.
 impl Model for Lineage {
-    ghost use Rattle.merkle_dag.specs.Ledger.{Ledger};
-    ghost use Rattle.merkle_dag.specs.Kept.{IsWhole};
+    ghost use Rattle.merkle_dag.specs.Lineage.{LineageState};
+    ghost use Rattle.merkle_dag.specs.Kept.{IsWhole, rows_kept};
 
-    ghost Value = { Ledger };
+    ghost Value = { LineageState };
 
-    ghost view = { λ lineage. record { rows = lineage.kept.rows; digests = lineage.kept.digests.items } };
+    ghost view = { λ lineage. record {
+      rows = rows_kept lineage.kept.index;
+      digests = lineage.kept.digests.items;
+      bodies = lineage.kept.bodies;
+    } };
 
     ghost invariant = { λ lineage. IsWhole lineage.kept };
 }
 
 impl Lineage {
-    /// The lineage without a block.
-    #[tactic(auto, using(crate::proofs::Keeping::ledger_none, crate::proofs::Keeping::roots_none))]
+    /// The lineage without a block. It agrees with every device.
     pub fn new(alloc: Global) -> Result<Lineage, Memory>
-        ensures { IfOk result (λ lineage. lineage ≡ record { rows = []; digests = [] }) }
+        ensures none { IfOk result
+            (λ lineage. ledger_in lineage ≡ record { rows = []; digests = [] }) }
+        ensures agrees { IfOk result
+            (λ lineage. (scratch : ScratchState) → AgreesWith lineage scratch) }
     {
         let index = LineageIndex::new(alloc)?;
+        let bodies = Bodies::new(alloc)?;
         let kept = Kept {
-            rows: PlainRows::new(alloc),
             index,
+            uses: RowsIndex::new(alloc),
+            bodies,
             digests: Vec::new(alloc),
             roots: Vec::new(alloc),
         };
         Ok(Lineage { kept })
     }
 
-    /// Adds a block: its number, its digest and its rows. It gives the lineage with the block, and
-    /// the root at the block. On `Memory` the lineage is given up.
-    pub fn add_block(
+    /// Adds a block: its number, its digest and its rows, whose bodies the device is to keep. It
+    /// gives the lineage with the block, and the root at the block. On an error the lineage is
+    /// given up.
+    pub fn add_block<S: Scratch>(
         self,
+        scratch: &mut S,
         number: u32,
         digest: Digest,
         rows: &RowList,
@@ -98,21 +96,30 @@ impl Lineage {
         requires low { number < MAX_LINEAGE_BLOCKS }
         requires block { All (λ (row : Row). row.block ≡ number) rows.now }
         requires lawful { IsLawful (self.rows ++ rows.now) }
-        ensures kept { IfOk result (λ pair. pair.0 ≡ record { rows = self.rows ++ rows.now; digests = self.digests ++ digest ∷ [] }) }
-        ensures root { IfOk result (λ pair. pair.1.0 ≡ root_of (self.rows ++ rows.now) (self.digests ++ digest ∷ []) number) }
+        requires agrees { AgreesWith self (S.state scratch.old) }
+        ensures kept { IfOk result
+            (λ pair. ledger_in pair.0 ≡ record
+            { rows = self.rows ++ rows.now; digests = self.digests ++ digest ∷ [] }) }
+        ensures root { IfOk result
+            (λ pair. pair.1.0 ≡ root_of (self.rows ++ rows.now) (self.digests ++ digest ∷ [])
+            number) }
+        ensures agrees { IfOk result (λ pair. AgreesWith pair.0 (S.state scratch.new)) }
+        ensures retains { Retains (S.state scratch.old) (S.state scratch.new) }
+        ensures cause { HasCause (S.scratch_faults scratch.old) (S.scratch_faults scratch.new)
+            (IsErrOf result DagError.Fault) }
     {
         let Lineage { mut kept } = self;
-        match grow(&mut kept, number, digest, rows) {
+        match grow(&mut kept, scratch, number, digest, rows) {
             Ok(root) => Ok((Lineage { kept }, root)),
-            Err(Memory) => {
+            Err(error) => {
                 discard(kept);
-                Err(DagError::Memory)
+                Err(error)
             }
         }
     }
 
-    /// Ends the lineage. What it keeps has many parts; a function that ends it by this call, and not
-    /// where its scope ends, is checked in much less time.
+    /// Ends the lineage. What it keeps has many parts; a function that ends it by this call, and
+    /// not where its scope ends, is checked in much less time.
     pub fn give_up(self) {
         discard(self.kept);
     }
@@ -129,7 +136,9 @@ impl Lineage {
 
     /// The root at a block; `None` exactly past the last one.
     pub fn root(&self, at: u32) -> Option<Digest>
-        ensures { MatchOption result (length self.now.digests ≤ at) (λ root. (at < length self.now.digests) × (root.0 ≡ root_of self.now.rows self.now.digests at)) }
+        ensures { MatchOption result (length self.now.digests ≤ at)
+            (λ root. (at < length self.now.digests)
+            × (root.0 ≡ root_of self.now.rows self.now.digests at)) }
     {
         digest_at(&self.kept.roots, at)
     }
@@ -141,32 +150,45 @@ impl Lineage {
         digest_at(&self.kept.digests, at)
     }
 
-    /// The number of the rows of all blocks, which are a lawful history of blocks up to the last one,
-    /// within its types.
+    /// The number of the rows of all blocks, which are a lawful history of blocks up to the last
+    /// one, within its types.
     pub fn row_count(&self) -> usize
         ensures count { result ≡ length self.now.rows }
         ensures ledger { IsLedger self.now.rows self.now.digests }
         ensures typed { IsTypedLedger self.now.rows self.now.digests }
     {
-        self.kept.rows.len()
+        self.kept.index.store().count() as usize
     }
 
-    /// The index, from 0, of the row of the key in a block; `None` exactly where there is none.
-    pub fn row_place(&self, key: &Key, block: u32) -> Option<u32>
-        ensures { IsRowAt self.now.rows result (find (is_version_in key.now block) (reverse self.now.rows)) }
+    /// The entries of the rows, each with the index of its row as its id.
+    pub fn store(&self) -> &Store
+        ensures { result.now ≡ entries_of self.now.rows self.now.rows }
     {
-        self.kept.rows.row_place(key, block)
+        self.kept.index.store()
     }
 
-    /// The index of the newest row of the key; `None` exactly where the key has none.
-    pub fn newest_row(&self, key: &Key) -> Option<u32>
-        ensures { IsRowAt self.now.rows result (newest self.now.rows key.now) }
+    /// The entry of the newest row of the key; `None` exactly where the key has none.
+    pub fn newest(&self, key: &Key) -> Option<EntryId>
+        ensures { result ≡ newest_entry self.now.rows key.now }
     {
-        self.kept.index.newest_row(key)
+        match self.kept.index.newest_row(key) {
+            None => None,
+            Some(index) => Some(EntryId(index)),
+        }
     }
 
-    /// The rows of the key that a lookup of its last version up to a block looks at, from the newest one
-    /// on; the id of a row's entry is its index.
+    /// The index of the last row of the key in a block up to `at`; `None` exactly where there is
+    /// none. The count rises by the number of the versions of the key that are looked at, also
+    /// where there is none.
+    pub fn latest_row(&self, key: &Key, at: u32, steps: &mut Steps) -> Option<u32>
+        ensures latest { IsRowAt self.now.rows result (latest self.now.rows key.now at) }
+        ensures count { steps.new ≡ raised steps.old (length (path self.now.rows key.now at)) }
+    {
+        self.kept.index.latest_row(key, at, steps)
+    }
+
+    /// The rows of the key that a lookup of its last version up to a block looks at, from the
+    /// newest one on; the id of a row's entry is its index.
     pub fn path(&self, key: &Key, at: u32) -> Result<EntryList, Memory>
         ensures { IfOk result (AreEntriesIn self.now.rows key.now (path self.now.rows key.now at)) }
     {
@@ -177,54 +199,84 @@ impl Lineage {
     /// The header of the row at an index.
     pub fn header(&self, index: u32) -> Result<Header, Memory>
         requires { index < length self.now.rows }
-        ensures { (row : Row) → slice_get self.now.rows index ≡ Some row → IfOk result (λ header. header ≡ header_of self.now.rows row) }
+        ensures { (row : Row) → slice_get self.now.rows index ≡ Some row
+            → IfOk result (λ header. header ≡ header_of self.now.rows row) }
     {
         let alloc = *self.kept.digests.allocator();
         lineage_entries::header(alloc, &self.kept.index, index)
     }
 
-    /// The body of the row at an index.
-    pub fn body(&self, index: u32) -> Result<Body, Memory>
+    /// Where the row at an index stands: its key, its block and its transaction.
+    pub fn row_facts(&self, index: u32) -> Facts
         requires { index < length self.now.rows }
-        ensures { (row : Row) → slice_get self.now.rows index ≡ Some row → IfOk result (λ body. body ≡ body_of self.now.rows row) }
+        ensures { (row : Row) → slice_get self.now.rows index ≡ Some row → AreFactsOf row result }
     {
-        let alloc = *self.kept.digests.allocator();
-        lineage_entries::body(alloc, &self.kept.rows, &self.kept.index, index)
+        self.kept.index.store().facts(EntryId(index))
     }
 
     /// The versions that were derived from the row at an index, in the order of their rows.
     pub fn uses(&self, index: u32) -> Result<DepList, Memory>
         requires { index < length self.now.rows }
-        ensures { (row : Row) → slice_get self.now.rows index ≡ Some row → IfOk result (λ list. list ≡ uses self.now.rows row.key row.block) }
+        ensures { (row : Row) → slice_get self.now.rows index ≡ Some row
+            → IfOk result (λ list. list ≡ uses self.now.rows row.key row.block) }
     {
-        self.kept.rows.uses(index)
+        let alloc = *self.kept.digests.allocator();
+        versions_at(alloc, self.kept.index.store(), users_of(&self.kept, index))
     }
 
-    /// The lineage of the blocks 0 to `at`. It is made anew, block by block.
+    /// How many versions were derived from the row at an index, fewer than 2^63.
+    pub fn use_count(&self, index: u32) -> u64
+        requires { index < length self.now.rows }
+        ensures count { (row : Row) → slice_get self.now.rows index ≡ Some row
+            → result ≡ length (uses self.now.rows row.key row.block) }
+        ensures bound { result < 2 ^ 63 }
+    {
+        users_of(&self.kept, index).len() as u64
+    }
+
+    /// One of these versions: that of an item, from 0. `None` exactly past the last one.
+    pub fn use_at(&self, index: u32, item: u64) -> Option<Dep>
+        requires { index < length self.now.rows }
+        ensures { (row : Row) → slice_get self.now.rows index ≡ Some row
+            → result ≡ slice_get (uses self.now.rows row.key row.block) item }
+    {
+        let places = users_of(&self.kept, index);
+        nth_version(self.kept.index.store(), places, item as usize)
+    }
+
+    /// The bytes of the body of a row, by its entry. The rows stay as they are.
+    pub fn body_of<S: Scratch>(
+        &mut self,
+        scratch: &mut S,
+        id: EntryId,
+    ) -> Result<RcSlice<u8>, DagError>
+        requires within { id.0 < length self.old.rows }
+        requires agrees { AgreesWith self.old (S.state scratch.old) }
+        ensures body { (row : Row) → slice_get self.old.rows id.0 ≡ Some row
+            → is_told (S.state scratch.old) ≡ true
+            → IfOk result (λ bytes. rc_slice_items bytes ≡ concat
+            (body_fields (body_of self.old.rows row))) }
+        ensures same { StaysSame self.old (S.state scratch.old) self.new (S.state scratch.new) }
+        ensures cause { HasCause (S.scratch_faults scratch.old) (S.scratch_faults scratch.new)
+            (IsErrOf result DagError.Fault) }
+    {
+        body_at(&mut self.kept.bodies, scratch, id.0)
+    }
+
+    /// The lineage of the blocks 0 to `at`. The bodies stay where they are; none of them is at
+    /// hand.
     pub fn rewind(&self, at: u32) -> Result<Lineage, Memory>
         requires { at < length self.now.digests }
-        ensures { IfOk result (λ lineage. lineage ≡ record { rows = up_to self.now.rows at; digests = take (at + 1) self.now.digests }) }
+        ensures rewound { IfOk result
+            (λ lineage. ledger_in lineage ≡ record
+            { rows = up_to self.now.rows at; digests = take (at + 1) self.now.digests }) }
+        ensures agrees { IfOk result
+            (λ lineage. (scratch : ScratchState) → AgreesWith self.now scratch
+            → AgreesWith lineage scratch) }
     {
         let alloc = *self.kept.digests.allocator();
-        let Lineage { kept: mut made } = Lineage::new(alloc)?;
-        match copy_blocks(&self.kept, &mut made, at) {
-            Ok(()) => Ok(Lineage { kept: made }),
-            Err(Memory) => {
-                discard(made);
-                Err(Memory)
-            }
-        }
-    }
-
-    /// The answer to a question over all rows. `Memory` changes nothing either. The count rises by the
-    /// number of the versions of the key that are looked at, also where there is no answer.
-    pub fn ask(&mut self, query: &Query, steps: &mut Steps) -> Result<Answer, Memory>
-        ensures answer { IfOk result (λ answer. answer ≡ scan self.old.rows query.now) }
-        ensures unchanged { self.new ≡ self.old }
-        ensures count { steps.new ≡ raised steps.old (length (path self.old.rows query.now.key query.now.at)) }
-    {
-        let alloc = *self.kept.digests.allocator();
-        asked(alloc, &self.kept, query, steps)
+        let kept = first_blocks(alloc, &self.kept, at)?;
+        Ok(Lineage { kept })
     }
 
     /// The leaves at the last block.

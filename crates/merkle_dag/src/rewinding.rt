@@ -1,32 +1,48 @@
-//! The first blocks of a lineage, added to one that has none.
+//! The first blocks of a lineage.
 
-ghost use Rattle.std.specs.Prelude.{◌<◌, ◌+◌, length, OnOk};
-ghost use Rattle.merkle_dag.specs.Kept.{AreFirstBlocks, IsWhole};
+ghost use Rattle.std.specs.Prelude.{◌≡◌, ◌+◌, ◌≤◌, ◌<◌, length, take, IfOk};
+ghost use Rattle.lc_base.specs.History.{up_to};
+ghost use Rattle.scratch_model.specs.Scratch.{ScratchState};
+ghost use Rattle.body_store.specs.Agreement.{Agrees};
+ghost use Rattle.merkle_dag.specs.Kept.{IsWhole, rows_kept};
 
-use crate::kept::{Kept, grow};
-use lc_base::Memory;
+use crate::kept::Kept;
+use lc_base::{Digest, Memory};
+use lineage_front::front;
+use std::alloc::{AllocError, Global};
 
-/// Adds the next block, as another lineage has it.
-fn copy_block(kept: &Kept, made: &mut Kept, number: u32) -> Result<(), Memory>
-    requires whole { IsWhole kept.now }
-    requires within { number < length kept.now.digests.items }
-    requires before { AreFirstBlocks kept.now number made.old }
-    ensures { OnOk result (AreFirstBlocks kept.now (number + 1) made.new) }
+/// The first digests, so many.
+fn first_digests(alloc: Global, digests: &[Digest], count: usize) -> Result<Vec<Digest>, AllocError>
+    requires { count ≤ length digests.now }
+    ensures { IfOk result (λ first. first.items ≡ take count digests.now) }
 {
-    let rows = kept.rows.rows_of_block(number)?;
-    grow(made, number, kept.digests[number as usize], &rows)?;
-    Ok(())
+    Vec::from_slice(alloc, &digests[..count])
 }
 
-/// Adds the blocks 0 to `at` of another lineage. On `Memory` only some of them may be there.
-pub(crate) fn copy_blocks(kept: &Kept, made: &mut Kept, at: u32) -> Result<(), Memory>
+/// What is kept of the blocks 0 to `at`. No row and no body is read: entries, and where bodies are
+/// kept, are shared with the lineage of all blocks.
+pub(crate) fn first_blocks(alloc: Global, kept: &Kept, at: u32) -> Result<Kept, Memory>
     requires whole { IsWhole kept.now }
     requires within { at < length kept.now.digests.items }
-    requires before { AreFirstBlocks kept.now 0 made.old }
-    ensures { OnOk result (AreFirstBlocks kept.now (at + 1) made.new) }
+    ensures whole { IfOk result IsWhole }
+    ensures rows { IfOk result
+        (λ first. rows_kept first.index ≡ up_to (rows_kept kept.now.index) at) }
+    ensures digests { IfOk result
+        (λ first. first.digests.items ≡ take (at + 1) kept.now.digests.items) }
+    ensures agrees { IfOk result
+        (λ first. (scratch : ScratchState) → Agrees kept.now.bodies scratch
+        → Agrees first.bodies scratch) }
 {
-    for number in 0..at + 1 {
-        copy_block(kept, made, number)?;
-    }
-    Ok(())
+    let count = at as usize + 1;
+    let (index, uses) = front(alloc, &kept.index, &kept.uses, at)?;
+    let bodies = kept.bodies.front(index.store().count())?;
+    let digests = first_digests(alloc, &kept.digests, count)?;
+    let roots = first_digests(alloc, &kept.roots, count)?;
+    Ok(Kept {
+        index,
+        uses,
+        bodies,
+        digests,
+        roots,
+    })
 }

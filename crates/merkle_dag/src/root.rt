@@ -14,7 +14,9 @@ use state_tree::Tree;
 /// The digest of the text of a root: the block, its digest, the number of leaves, and their tree
 /// hash.
 fn root_digest(block: u32, digest: &Digest, leaf_count: u32, tree_hash: &Digest) -> Digest
-    ensures { result.0 ≡ sha256 (ROOT ∷ to_be_bytes w32 block ++ digest.now.0 ++ to_be_bytes w32 leaf_count ++ tree_hash.now.0) }
+    ensures { result.0 ≡ sha256
+        (ROOT ∷ to_be_bytes w32 block ++ digest.now.0 ++ to_be_bytes w32 leaf_count ++
+        tree_hash.now.0) }
 {
     let mut hasher = TagHasher::new(ROOT);
     hasher.add(&block.to_be_bytes());

@@ -9,16 +9,35 @@ use Rattle.merkle_dag.specs.Ledger.{Ledger, IsHead}
 use Rattle.prov_query.specs.declared.questions.AskError.{AskError}
 use Rattle.prov_query.specs.declared.questions.AskError.TheVariants as errors
 
--- A question about a block of the ledger has the answer that its rows give, unless there is no
--- memory for it; one past the last block is refused, with the number of the last block.
+-- A question about a block of the ledger has the answer that its rows give, unless the scratch
+-- device
+-- fails, or there is no memory for it; one past the last block is refused, with the number of the
+-- last
+-- block.
 abbrev pub IsAnswered : Ledger → Query → Result Answer AskError → Type 0
-IsAnswered ledger query (Ok answer) = (query.at < length ledger.digests) × (answer ≡ scan ledger.rows query)
-IsAnswered ledger query (Err (errors.Beyond head)) = (length ledger.digests ≤ query.at) × IsHead ledger.digests head
+IsAnswered ledger query (Ok answer) = (query.at < length ledger.digests)
+    × (answer ≡ scan ledger.rows query)
+IsAnswered ledger query (Err (errors.Beyond head)) = (length ledger.digests ≤ query.at)
+    × IsHead ledger.digests head
+IsAnswered ledger query (Err errors.Fault) = query.at < length ledger.digests
 IsAnswered ledger query (Err errors.Memory) = query.at < length ledger.digests
 
--- A count of the versions that lookups look at rises by the length of the path over the rows; it stays
+-- A question is refused, with the number of the last block, exactly where it is past that block.
+abbrev pub IsRefusedBeyond : Ledger → Query → Result Answer AskError → Type 0
+IsRefusedBeyond ledger query (Ok answer) = query.at < length ledger.digests
+IsRefusedBeyond ledger query (Err (errors.Beyond head)) = (length ledger.digests ≤ query.at)
+    × IsHead ledger.digests head
+IsRefusedBeyond ledger query (Err errors.Fault) = query.at < length ledger.digests
+IsRefusedBeyond ledger query (Err errors.Memory) = query.at < length ledger.digests
+
+-- A count of the versions that lookups look at rises by the length of the path over the rows; it
+-- stays
 -- where the question is past the last block.
 abbrev pub IsCounted : Ledger → Query → Result Answer AskError → ℕ → ℕ → Type 0
 IsCounted ledger query (Err (errors.Beyond head)) before after = after ≡ before
-IsCounted ledger query (Ok answer) before after = after ≡ raised before (length (path ledger.rows query.key query.at))
-IsCounted ledger query (Err errors.Memory) before after = after ≡ raised before (length (path ledger.rows query.key query.at))
+IsCounted ledger query (Ok answer) before after = after ≡ raised before
+    (length (path ledger.rows query.key query.at))
+IsCounted ledger query (Err errors.Fault) before after = after ≡ raised before
+    (length (path ledger.rows query.key query.at))
+IsCounted ledger query (Err errors.Memory) before after = after ≡ raised before
+    (length (path ledger.rows query.key query.at))

@@ -1,11 +1,17 @@
 //! The answer to a question about the rows of a lineage.
 
-ghost use Rattle.std.specs.Prelude.{◌≡◌};
-ghost use Rattle.prov_query.specs.Asking.{IsAnswered, IsCounted};
+ghost use Rattle.std.specs.Prelude.{◌≡◌, true, IsErrOf};
+ghost use Rattle.lc_base.specs.Faults.{HasCause};
+ghost use Rattle.scratch_model.specs.Scratch.{is_told};
+ghost use Rattle.merkle_dag.specs.Lineage.{ledger_in, AgreesWith, StaysSame};
+ghost use Rattle.prov_query.specs.Asking.{IsAnswered, IsRefusedBeyond, IsCounted};
 
 use entry_store::Steps;
-use lc_base::{Answer, Memory, Query};
-use merkle_dag::Lineage;
+use lc_base::{Answer, Query};
+use lineage_reading::answer;
+use merkle_dag::{DagError, Lineage};
+use scratch_model::Scratch;
+use std::alloc::Global;
 
 /// Why a question has no answer.
 #[derive(Clone, Copy, Debug, PartialEq, Eq)]
@@ -15,31 +21,43 @@ pub enum AskError {
         /// The number of the last block; `None` where there is none.
         head: Option<u32>,
     },
+    /// The scratch device failed.
+    Fault,
     /// Out of memory.
     Memory,
 }
 
-impl From<Memory> for AskError {
-    fn from(_memory: Memory) -> AskError {
-        AskError::Memory
-    }
-}
-
-/// The answer to a question about the blocks up to the one that it names. The lineage stays as it
-/// was, also where there is no answer. The count rises by the number of the versions of the key that
-/// are looked at: those of the path, also out of memory, and none past the last block.
-pub fn ask(lineage: &mut Lineage, query: &Query, steps: &mut Steps) -> Result<Answer, AskError>
-    ensures answered { IsAnswered lineage.old query.now result }
-    ensures unchanged { lineage.new ≡ lineage.old }
-    ensures counted { IsCounted lineage.old query.now result steps.old steps.new }
+/// The answer to a question about the blocks up to the one that it names, where it is told which
+/// bytes
+/// the device holds. The lineage stays as it was, but for the bodies at hand, also where there is
+/// no
+/// answer. The count rises by the number of the versions of the key that are looked at: those of
+/// the
+/// path, also where the device fails or out of memory, and none past the last block.
+pub fn ask<S: Scratch>(
+    alloc: Global,
+    lineage: &mut Lineage,
+    scratch: &mut S,
+    query: &Query,
+    steps: &mut Steps,
+) -> Result<Answer, AskError>
+    requires agrees { AgreesWith lineage.old (S.state scratch.old) }
+    ensures answered { is_told (S.state scratch.old) ≡ true
+        → IsAnswered (ledger_in lineage.old) query.now result }
+    ensures beyond { IsRefusedBeyond (ledger_in lineage.old) query.now result }
+    ensures same { StaysSame lineage.old (S.state scratch.old) lineage.new (S.state scratch.new) }
+    ensures counted { IsCounted (ledger_in lineage.old) query.now result steps.old steps.new }
+    ensures cause { HasCause (S.scratch_faults scratch.old) (S.scratch_faults scratch.new)
+        (IsErrOf result AskError.Fault) }
 {
     if lineage.digest(query.at).is_none() {
         return Err(AskError::Beyond {
             head: lineage.head(),
         });
     }
-    match lineage.ask(query, steps) {
+    match answer(alloc, lineage, scratch, query, steps) {
         Ok(answer) => Ok(answer),
-        Err(Memory) => Err(AskError::Memory),
+        Err(DagError::Fault) => Err(AskError::Fault),
+        Err(DagError::Memory) => Err(AskError::Memory),
     }
 }

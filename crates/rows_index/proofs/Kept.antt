@@ -9,14 +9,40 @@ use Rattle.std.proofs.lemmas.Slice.Eq.{bytes_eq-Decides}
 use Rattle.rows_index.specs.declared.places.Place.{Place}
 use Rattle.rows_index.specs.Places.{listed, places_in}
 
-pub kept_more : (before after : BTreeMap (List ℕ) (List Place)) (key other : List ℕ) (place : Place) (list : List Place)
+pub kept_more : (before after : BTreeMap (List ℕ) (List Place)) (key other : List ℕ) (place : Place)
+    (list : List Place)
     → list ≡ places_in before key ++ place ∷ []
-    → get (slice_cmp nat_cmp) after other ≡ cond (is_eq (slice_cmp nat_cmp key other)) (Some list) (get (slice_cmp nat_cmp) before other)
-    → places_in after other ≡ cond (pointwise ◌==◌ key other) (places_in before other ++ place ∷ []) (places_in before other)
-kept_more before after key other place list own updates = elim (cases_Bool (pointwise ◌==◌ key other)) [
-  | inl t ↦ rw t (ap listed updates ∙ chosen t ∙ own ∙ ap (λ (k : List ℕ). places_in before k ++ place ∷ []) ((bytes_eq-Decides key other).0 t))
+    → get (slice_cmp nat_cmp) after other ≡ cond (is_eq (slice_cmp nat_cmp key other)) (Some list)
+    (get (slice_cmp nat_cmp) before other)
+    → places_in after other ≡ cond (pointwise ◌==◌ key other) (places_in before other ++ place ∷ [])
+    (places_in before other)
+kept_more before after key other place list own updates = elim
+    (cases_Bool (pointwise ◌==◌ key other)) [
+      | inl t ↦ rw t (ap listed updates ∙ chosen t ∙ own
+          ∙ ap (λ (k : List ℕ). places_in before k ++ place ∷ []) ((bytes_eq-Decides key other).0 t))
+      | inr f ↦ rw f (ap listed updates ∙ chosen f)
+    ]
+  where
+    chosen : {b : _} → pointwise ◌==◌ key other ≡ b
+        → listed (cond (is_eq (slice_cmp nat_cmp key other)) (Some list)
+        (get (slice_cmp nat_cmp) before other)) ≡ listed
+        (cond b (Some list) (get (slice_cmp nat_cmp) before other))
+    chosen e = ap (λ b. listed (cond b (Some list) (get (slice_cmp nat_cmp) before other)))
+        (is_eq-slice_cmp key other ∙ e)
+
+pub kept_new : (before after : BTreeMap (List ℕ) (List Place)) (key other : List ℕ)
+    (list : List Place)
+    → get (slice_cmp nat_cmp) after other ≡ cond (is_eq (slice_cmp nat_cmp key other)) (Some list)
+    (get (slice_cmp nat_cmp) before other)
+    → places_in after other ≡ cond (pointwise ◌==◌ key other) list (places_in before other)
+kept_new before after key other list updates = elim (cases_Bool (pointwise ◌==◌ key other)) [
+  | inl t ↦ rw t (ap listed updates ∙ chosen t)
   | inr f ↦ rw f (ap listed updates ∙ chosen f)
 ]
   where
-    chosen : {b : _} → pointwise ◌==◌ key other ≡ b → listed (cond (is_eq (slice_cmp nat_cmp key other)) (Some list) (get (slice_cmp nat_cmp) before other)) ≡ listed (cond b (Some list) (get (slice_cmp nat_cmp) before other))
-    chosen e = ap (λ b. listed (cond b (Some list) (get (slice_cmp nat_cmp) before other))) (is_eq-slice_cmp key other ∙ e)
+    chosen : {b : _} → pointwise ◌==◌ key other ≡ b
+        → listed (cond (is_eq (slice_cmp nat_cmp key other)) (Some list)
+        (get (slice_cmp nat_cmp) before other)) ≡ listed
+        (cond b (Some list) (get (slice_cmp nat_cmp) before other))
+    chosen e = ap (λ b. listed (cond b (Some list) (get (slice_cmp nat_cmp) before other)))
+        (is_eq-slice_cmp key other ∙ e)

@@ -1,3 +1,4 @@
 pub mod Places
 pub mod Users
+pub mod First
 pub mod Index

@@ -1,5 +1,6 @@
 -- Where the versions of keys stand in a history.
-use Rattle.std.specs.Prelude.{◌≡◌, ◌==◌, ℕ, suc, Bool, if◌then◌else◌, List, [], ◌∷◌, Option, None, Some, reverse, nat_le, slice_get}
+use Rattle.std.specs.Prelude.{◌≡◌, ◌==◌, ℕ, suc, Bool, if◌then◌else◌, List, [], ◌∷◌, Option, None}
+use Rattle.std.specs.Prelude.{Some, reverse, nat_le, slice_get}
 use Rattle.std.specs.List.{find}
 use Rattle.std.specs.BTreeMap.{BTreeMap, get}
 use Rattle.std.specs.Option.{option_map}
@@ -55,9 +56,11 @@ index_up_to rows key at = option_map row_index (last_up_to at (places rows key))
 
 -- The row at an index is this version.
 abbrev pub StandsAt : List Row → Dep → ℕ → Type 0
-StandsAt rows dep index = (row : Row) × (slice_get rows index ≡ Some row) × (row.key ≡ dep.key) × (row.block ≡ dep.block)
+StandsAt rows dep index = (row : Row) × (slice_get rows index ≡ Some row) × (row.key ≡ dep.key)
+    × (row.block ≡ dep.block)
 
 -- This is the row at an index, and none where there is no index.
 abbrev pub IsRowAt : List Row → Option ℕ → Option Row → Type 0
 IsRowAt rows None found = found ≡ None
-IsRowAt rows (Some index) found = (row : Row) × (found ≡ Some row) × (slice_get rows index ≡ Some row)
+IsRowAt rows (Some index) found = (row : Row) × (found ≡ Some row)
+    × (slice_get rows index ≡ Some row)

@@ -1,5 +1,6 @@
 -- Of each row the rows that were derived from it.
-use Rattle.std.specs.Prelude.{◌≡◌, ◌==◌, ◌&&◌, ◌++◌, ◌<◌, ◌≢◌, ℕ, Bool, false, if◌then◌else◌, List, [], ◌∷◌, length, map, slice_get, slice_index_or, Option, Some}
+use Rattle.std.specs.Prelude.{◌≡◌, ◌==◌, ◌&&◌, ◌++◌, ◌<◌, ◌≢◌, ℕ, Bool, false, if◌then◌else◌, List}
+use Rattle.std.specs.Prelude.{[], ◌∷◌, length, map, slice_get, slice_index_or, Option, Some}
 use Rattle.std.specs.List.{list_any, AllPairs}
 use Rattle.std.specs.Option.{option_map}
 use Rattle.std.specs.BTreeMap.{BTreeMap}
@@ -23,10 +24,12 @@ is_among deps row = list_any (λ dep. pointwise ◌==◌ dep.key row.key && dep.
 
 -- Of each row the rows that were derived from it are kept, and row n where it is one of these
 -- versions.
-pub record AreUsersWith (rows : List Row) (deps : List Dep) (n : ℕ) (lists : List (List ℕ)) : Type 0 where
-  pub long : length lists ≡ length rows
-  pub each : (index : ℕ) (row : Row) → slice_get rows index ≡ Some row →
-      slice_get lists index ≡ Some (if is_among deps row then users rows row ++ n ∷ [] else users rows row)
+pub record AreUsersWith (rows : List Row) (deps : List Dep) (n : ℕ) (lists : List (List ℕ)) : Type 0
+  where
+    pub long : length lists ≡ length rows
+    pub each : (index : ℕ) (row : Row) → slice_get rows index ≡ Some row →
+        slice_get lists index ≡ Some
+        (if is_among deps row then users rows row ++ n ∷ [] else users rows row)
 
 abbrev pub AreUsers : List Row → List (List ℕ) → Type 0
 AreUsers rows lists = AreUsersWith rows [] 0 lists
@@ -43,13 +46,16 @@ abbrev pub AreVersionsAt : List Row → List ℕ → List Dep → Type 0
 AreVersionsAt rows indexes deps = map (version_at rows) indexes ≡ map there deps
 
 -- What it takes to add a row that depends on these versions: they stand in the rows, none twice.
-pub record CanUse (rows : List Row) (deps : List Dep) (places : BTreeMap (List ℕ) (List Place)) (lists : List (List ℕ)) : Type 0 where
+pub record CanUse (rows : List Row) (deps : List Dep) (places : BTreeMap (List ℕ) (List Place))
+    (lists : List (List ℕ)) : Type 0 where
   pub ordered : AllPairs StandsBefore rows
   pub kept : ArePlaces rows places
   pub once : AllPairs ◌≢◌ deps
-  pub stand : (i : ℕ) (d : Dep) → i < length deps → (index : ℕ) × StandsAt rows (slice_index_or deps i d) index
+  pub stand : (i : ℕ) (d : Dep) → i < length deps → (index : ℕ)
+      × StandsAt rows (slice_index_or deps i d) index
   pub users : AreUsers rows lists
 
 -- No row was derived from this one.
 abbrev pub IsUnused : List Row → Row → Type 0
-IsUnused rows row = (index : ℕ) (other : Row) → slice_get rows index ≡ Some other → depends_on row.key row.block other ≡ false
+IsUnused rows row = (index : ℕ) (other : Row) → slice_get rows index ≡ Some other
+    → depends_on row.key row.block other ≡ false

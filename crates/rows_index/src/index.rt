@@ -1,6 +1,7 @@
 //! The index over the rows of a history.
 
-ghost use Rattle.std.specs.Prelude.{◌≡◌, ◌<◌, ℕ, List, [], ◌∷◌, ◌++◌, length, slice_get, Some, OnOk, IfOk};
+ghost use Rattle.std.specs.Prelude.{◌≡◌, ◌<◌, ◌≤◌, ℕ, List, [], ◌∷◌, ◌++◌, length, take, slice_get};
+ghost use Rattle.std.specs.Prelude.{Some, OnOk, IfOk};
 ghost use Rattle.std.specs.List.{AllPairs};
 ghost use Rattle.lc_base.specs.declared.row.Row.{Row};
 ghost use Rattle.lc_base.specs.History.{StandsBefore, latest, uses};
@@ -8,8 +9,8 @@ ghost use Rattle.rows_index.specs.Places.{ArePlaces, IsRowAt};
 ghost use Rattle.rows_index.specs.Users.{AreUsers, AreVersionsAt};
 ghost use Rattle.rows_index.specs.Index.{IsIndexOf, IsNext};
 
-use crate::places::{Place, PlaceList, push_place, row_up_to};
-use crate::users::{IndexList, add_users};
+use crate::places::{Place, PlaceList, map_below, push_place, row_up_to};
+use crate::users::{IndexList, add_users, users_below};
 use lc_base::{Key, Memory, Row};
 use std::alloc::Global;
 use std::collections::BTreeMap;
@@ -29,12 +30,16 @@ fn add_row(
     users: &mut Vec<IndexList>,
     row: &Row,
 ) -> Result<IndexList, Memory>
-    requires { (rows : List Row) × IsNext rows row.now × ArePlaces rows places.old × AreUsers rows users.old.items }
-    ensures places { (rows : List Row) → IsNext rows row.now → ArePlaces rows places.old → AreUsers rows users.old.items
+    requires { (rows : List Row) × IsNext rows row.now × ArePlaces rows places.old
+        × AreUsers rows users.old.items }
+    ensures places { (rows : List Row) → IsNext rows row.now → ArePlaces rows places.old
+        → AreUsers rows users.old.items
         → OnOk result (ArePlaces (rows ++ row.now ∷ []) places.new) }
-    ensures users { (rows : List Row) → IsNext rows row.now → ArePlaces rows places.old → AreUsers rows users.old.items
+    ensures users { (rows : List Row) → IsNext rows row.now → ArePlaces rows places.old
+        → AreUsers rows users.old.items
         → OnOk result (AreUsers (rows ++ row.now ∷ []) users.new.items) }
-    ensures deps { (rows : List Row) → IsNext rows row.now → ArePlaces rows places.old → AreUsers rows users.old.items
+    ensures deps { (rows : List Row) → IsNext rows row.now → ArePlaces rows places.old
+        → AreUsers rows users.old.items
         → IfOk result (λ indexes. AreVersionsAt rows indexes row.now.deps) }
 {
     let index = users.len() as u32;
@@ -50,7 +55,8 @@ fn add_row(
 /// The rows that were derived from the row at an index.
 fn uses_of(users: &[IndexList], index: usize) -> &[u32]
     requires { (rows : List Row) × AreUsers rows users.now × (index < length rows) }
-    ensures { (rows : List Row) (row : Row) → AreUsers rows users.now → slice_get rows index ≡ Some row
+    ensures { (rows : List Row) (row : Row) → AreUsers rows users.now
+        → slice_get rows index ≡ Some row
         → AreVersionsAt rows result.now (uses rows row.key row.block) }
 {
     users[index].as_slice()
@@ -83,7 +89,8 @@ impl RowsIndex {
     /// The index of the last row of the key with a block up to `at`.
     pub fn latest(&self, key: &Key, at: u32) -> Option<u32>
         requires { (rows : List Row) × AllPairs StandsBefore rows × IsIndexOf rows self.now }
-        ensures { (rows : List Row) → IsIndexOf rows self.now → IsRowAt rows result (latest rows key.now at) }
+        ensures { (rows : List Row) → IsIndexOf rows self.now
+            → IsRowAt rows result (latest rows key.now at) }
     {
         row_up_to(&self.places, key, at)
     }
@@ -91,9 +98,23 @@ impl RowsIndex {
     /// The indexes of the rows that were derived from the row at an index, in order.
     pub fn uses(&self, index: u32) -> &[u32]
         requires { (rows : List Row) × IsIndexOf rows self.now × (index < length rows) }
-        ensures { (rows : List Row) (row : Row) → IsIndexOf rows self.now → slice_get rows index ≡ Some row
+        ensures { (rows : List Row) (row : Row) → IsIndexOf rows self.now
+            → slice_get rows index ≡ Some row
             → AreVersionsAt rows result.now (uses rows row.key row.block) }
     {
         uses_of(self.users.as_slice(), index as usize)
+    }
+    /// The index over the first rows, so many, made of this one without the rows.
+    pub fn front(&self, count: u32) -> Result<RowsIndex, Memory>
+        requires { (rows : List Row) × IsIndexOf rows self.now × (count ≤ length rows) }
+        ensures { (rows : List Row) → IsIndexOf rows self.now
+            → IfOk result (IsIndexOf (take count rows)) }
+    {
+        let alloc = *self.users.allocator();
+        let first = &self.users[..count as usize];
+        Ok(RowsIndex {
+            places: map_below(alloc, &self.places, count)?,
+            users: users_below(alloc, first, count)?,
+        })
     }
 }

@@ -1,12 +1,14 @@
 //! Of each key the places of its versions.
 
-ghost use Rattle.std.specs.Prelude.{◌≡◌, ◌==◌, ℕ, List, [], ◌∷◌, ◌++◌, reverse, nat_le, if◌then◌else◌, OnOk};
+ghost use Rattle.std.specs.Prelude.{◌≡◌, ◌==◌, ℕ, List, [], ◌∷◌, ◌++◌, reverse, filter, nat_le};
+ghost use Rattle.std.specs.Prelude.{if◌then◌else◌, OnOk, IfOk};
 ghost use Rattle.std.specs.List.{AllPairs};
 ghost use Rattle.std.specs.List.Sorted.{IsNonDecreasingBy};
 ghost use Rattle.std.specs.Cmp.Lexicographic.{pointwise};
 ghost use Rattle.lc_base.specs.declared.row.Row.{Row};
 ghost use Rattle.lc_base.specs.History.{StandsBefore};
 ghost use Rattle.rows_index.specs.Places.{ArePlaces, block_of, index_up_to, last_up_to, places_in};
+ghost use Rattle.rows_index.specs.First.{stands_below, places_below};
 
 use lc_base::{Key, Memory, Seq};
 use std::alloc::Global;
@@ -73,4 +75,50 @@ pub(crate) fn row_up_to(places: &BTreeMap<Key, PlaceList>, key: &Key, at: u32) -
             Some(place) => Some(place.row),
         },
     }
+}
+
+/// Appends a place, where its row is below `end`.
+fn push_below(list: &mut PlaceList, place: &Place, end: u32) -> Result<(), Memory>
+    ensures { OnOk result (list.new ≡ list.old ++ filter (stands_below end) (place.now ∷ [])) }
+{
+    if place.row < end {
+        list.push(*place)?;
+    }
+    Ok(())
+}
+
+/// The places of rows below `end`.
+fn list_below(alloc: Global, places: &[Place], end: u32) -> Result<PlaceList, Memory>
+    ensures { IfOk result (λ below. below ≡ places_below end places.now) }
+{
+    let mut below = PlaceList::new(alloc);
+    for place in places {
+        push_below(&mut below, place, end)?;
+    }
+    Ok(below)
+}
+
+/// Keeps these places of a key.
+fn put_places(kept: &mut BTreeMap<Key, PlaceList>, key: &Key, list: PlaceList) -> Result<(), Memory>
+    ensures { OnOk result ((other : List ℕ) → places_in kept.new other
+        ≡ (if pointwise ◌==◌ key.now other then list else places_in kept.old other)) }
+{
+    kept.insert(*key, list)?;
+    Ok(())
+}
+
+/// Of each key the places of rows below `end`.
+pub(crate) fn map_below(
+    alloc: Global,
+    places: &BTreeMap<Key, PlaceList>,
+    end: u32,
+) -> Result<BTreeMap<Key, PlaceList>, Memory>
+    ensures { IfOk result (λ below. (key : List ℕ)
+        → places_in below key ≡ places_below end (places_in places.now key)) }
+{
+    let mut below = BTreeMap::new(alloc);
+    for (key, list) in places.iter() {
+        put_places(&mut below, key, list_below(alloc, list.as_slice(), end)?)?;
+    }
+    Ok(below)
 }

@@ -1,11 +1,13 @@
 //! Of each row the indexes of the rows that were derived from it.
 
-ghost use Rattle.std.specs.Prelude.{◌≡◌, ◌<◌, ℕ, List, [], ◌∷◌, ◌++◌, length, slice_index_or, slice_set, OnOk, IfOk};
+ghost use Rattle.std.specs.Prelude.{◌≡◌, ◌<◌, ℕ, List, [], ◌∷◌, ◌++◌, length, map, filter};
+ghost use Rattle.std.specs.Prelude.{slice_index_or, slice_set, OnOk, IfOk};
 ghost use Rattle.std.specs.List.{AllPairs};
 ghost use Rattle.lc_base.specs.declared.row.Row.{Row};
 ghost use Rattle.lc_base.specs.History.{StandsBefore};
 ghost use Rattle.rows_index.specs.Places.{ArePlaces, StandsAt};
 ghost use Rattle.rows_index.specs.Users.{AreUsers, AreUsersWith, AreVersionsAt, CanUse, IsUnused};
+ghost use Rattle.rows_index.specs.First.{is_below, numbers_below};
 
 use crate::places::{PlaceList, row_up_to};
 use lc_base::{Dep, Key, Memory, Row, Seq};
@@ -18,15 +20,18 @@ pub type IndexList = Seq<u32>;
 /// Appends a row to those that were derived from the row at an index.
 fn push_user(users: &mut Vec<IndexList>, index: usize, row: u32) -> Result<(), Memory>
     requires { index < length users.old.items }
-    ensures { OnOk result (users.new.items ≡ slice_set users.old.items index (slice_index_or users.old.items index [] ++ row ∷ [])) }
+    ensures { OnOk result (users.new.items ≡ slice_set users.old.items index
+        (slice_index_or users.old.items index [] ++ row ∷ [])) }
 {
     users[index].push(row)
 }
 
 /// The index of the row that is this version.
 fn row_of_version(places: &BTreeMap<Key, PlaceList>, dep: &Dep) -> u32
-    requires { (rows : List Row) × AllPairs StandsBefore rows × ArePlaces rows places.now × ((index : ℕ) × StandsAt rows dep.now index) }
-    ensures { (rows : List Row) (index : ℕ) → AllPairs StandsBefore rows → ArePlaces rows places.now → StandsAt rows dep.now index → result ≡ index }
+    requires { (rows : List Row) × AllPairs StandsBefore rows × ArePlaces rows places.now
+        × ((index : ℕ) × StandsAt rows dep.now index) }
+    ensures { (rows : List Row) (index : ℕ) → AllPairs StandsBefore rows → ArePlaces rows places.now
+        → StandsAt rows dep.now index → result ≡ index }
 {
     match row_up_to(places, &dep.key, dep.block) {
         Some(index) => index,
@@ -68,7 +73,8 @@ pub(crate) fn add_users(
     row: &Row,
 ) -> Result<IndexList, Memory>
     requires { (rows : List Row) × CanUse rows row.now.deps places.now users.old.items }
-    ensures users { (rows : List Row) → CanUse rows row.now.deps places.now users.old.items → index ≡ length rows → IsUnused (rows ++ row.now ∷ []) row.now
+    ensures users { (rows : List Row) → CanUse rows row.now.deps places.now users.old.items
+        → index ≡ length rows → IsUnused (rows ++ row.now ∷ []) row.now
         → OnOk result (AreUsers (rows ++ row.now ∷ []) users.new.items) }
     ensures deps { (rows : List Row) → CanUse rows row.now.deps places.now users.old.items
         → IfOk result (λ indexes. AreVersionsAt rows indexes row.now.deps) }
@@ -76,4 +82,40 @@ pub(crate) fn add_users(
     let deps = add_to_versions(alloc, places, users, index, row.deps.as_slice())?;
     users.push(IndexList::new(alloc))?;
     Ok(deps)
+}
+
+/// Appends the index of a row, where it is below `end`.
+fn push_below(list: &mut IndexList, index: u32, end: u32) -> Result<(), Memory>
+    ensures { OnOk result (list.new ≡ list.old ++ filter (is_below end) (index ∷ [])) }
+{
+    if index < end {
+        list.push(index)?;
+    }
+    Ok(())
+}
+
+/// The indexes below `end`.
+fn indexes_below(alloc: Global, indexes: &[u32], end: u32) -> Result<IndexList, Memory>
+    ensures { IfOk result (λ below. below ≡ numbers_below end indexes.now) }
+{
+    let mut below = IndexList::new(alloc);
+    for index in indexes {
+        push_below(&mut below, *index, end)?;
+    }
+    Ok(below)
+}
+
+/// Of each of these lists the indexes below `end`.
+pub(crate) fn users_below(
+    alloc: Global,
+    users: &[IndexList],
+    end: u32,
+) -> Result<Vec<IndexList>, Memory>
+    ensures { IfOk result (λ below. below.items ≡ map (numbers_below end) users.now) }
+{
+    let mut below = Vec::with_capacity(alloc, users.len())?;
+    for list in users {
+        below.push(indexes_below(alloc, list.as_slice(), end)?)?;
+    }
+    Ok(below)
 }

@@ -10,22 +10,29 @@ use Rattle.answer_exposing.proofs.nodes.+push_nodes.Goals as goal
 pub returns-then-height-eq0-clause-hash : goal.returns-then-height-eq0-clause-hash
 returns-then-height-eq0-clause-hash t c =
     c.leaf_hash.ensures ∙ ap (λ (bytes : List ℕ). sha256 (leaf_text bytes)) c.as_bytes.ensures
-    ∙ sym (one_leaf leaf_text c.args.height _ c.args.leaves.now (omega arith) c.requires.some c.index-leaves-0.is)
+    ∙ sym (one_leaf leaf_text c.args.height _ c.args.leaves.now (omega arith) c.requires.some
+    c.index-leaves-0.is)
 
 pub returns-then-height-eq0-clause-texts : goal.returns-then-height-eq0-clause-texts
 returns-then-height-eq0-clause-texts t c =
-    sym (ap (λ (more : List (List ℕ)). c.args.texts.now ++ more) (nodes_none leaf_text c.args.height c.args.leaves.now (omega arith)) ∙ append-nil c.args.texts.now)
+    sym (ap (λ (more : List (List ℕ)). c.args.texts.now ++ more)
+    (nodes_none leaf_text c.args.height c.args.leaves.now (omega arith))
+    ∙ append-nil c.args.texts.now)
 
 pub push_nodes-requires-then-half-leaves : goal.push_nodes-requires-then-half-leaves
 push_nodes-requires-then-half-leaves t c =
-    let len = rw (← c.split_at.ensures.back) at (length-drop c.half_of-half.result c.args.leaves.now) in
+    let len = rw (← c.split_at.ensures.back) at
+    (length-drop c.half_of-half.result c.args.leaves.now) in
     (omega arith, (omega (arith, len, c.if-half-leaves.true), (omega arith)))
 
 pub returns-in_ok-right-clause-texts : goal.returns-in_ok-right-clause-texts
 returns-in_ok-right-clause-texts t c =
     let pos : 0 < c.args.height = omega arith in
     on_ok_weaker c.push_parts.result (λ e.
-    parts_added c.args.height c.half_of-half.result c.args.leaves.now c.split_at.result.0.now c.split_at.result.1.now c.in_ok-left.left.0 c.in_ok-right.right.0
-    pos c.half_of-half.ensures c.if-half-leaves.true c.split_at.ensures.front c.split_at.ensures.back c.in_ok-left.ensures.hash c.in_ok-right.ensures.hash
-    c.args.texts.now c.push_nodes.new.texts c.push_nodes-then-half-leaves.new.texts c.push_parts.new.texts c.in_ok-left.ensures.texts c.in_ok-right.ensures.texts e)
+    parts_added c.args.height c.half_of-half.result c.args.leaves.now c.split_at.result.0.now
+    c.split_at.result.1.now c.in_ok-left.left.0 c.in_ok-right.right.0
+    pos c.half_of-half.ensures c.if-half-leaves.true c.split_at.ensures.front
+    c.split_at.ensures.back c.in_ok-left.ensures.hash c.in_ok-right.ensures.hash
+    c.args.texts.now c.push_nodes.new.texts c.push_nodes-then-half-leaves.new.texts
+    c.push_parts.new.texts c.in_ok-left.ensures.texts c.in_ok-right.ensures.texts e)
     c.push_parts.ensures.texts

@@ -1,6 +1,8 @@
-use Rattle.answer_proof.proofs.Gathered.{bytes_of}
+use Rattle.std.proofs.Common.{◌∙◌, ap}
+use Rattle.std.specs.List.{concat}
+use Rattle.proof_codec.specs.declared.proof.Proof.{Proof}
+use Rattle.proof_codec.specs.Spelling.{proof_fields}
 use Rattle.answer_proof.proofs.gathering.bytes_of_rows.Goals as goal
-use Rattle.proof_checks.specs.Making.{made_of}
 
-pub returns : goal.returns
-returns c = bytes_of c.write.result c.in_ok-proof.proof (made_of c.args.lineage.now.rows c.args.root_at c.args.block_digest.now.0 c.args.query.now) c.in_ok-proof.ensures.made c.write.ensures
+pub returns-in-Ok-write-clause-bytes : goal.returns-in-Ok-write-clause-bytes
+returns-in-Ok-write-clause-bytes g c told = c.in-Ok-write.ensures ∙ ap (λ (p : Proof). concat (proof_fields p)) (c.in-Ok.ensures.made told)

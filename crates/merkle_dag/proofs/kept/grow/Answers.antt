@@ -1,47 +1,163 @@
-use Rattle.std.proofs.Common.{◌∙◌, ◌+◌, ◌++◌, sym, ap, subst, List, ℕ}
+use Rattle.std.proofs.Common.{◌≡◌, ◌∙◌, ◌+◌, ◌++◌, ◌∷◌, [], sym, ap, subst, List, ℕ, length, map}
+use Rattle.std.proofs.Common.{arith}
+use Rattle.std.specs.List.{All}
+use Rattle.std.proofs.lemmas.List.{length-append}
+use Rattle.std.proofs.lemmas.List.Elements.{All-append}
 use Rattle.sha2.specs.Sha256.{sha256}
 use Rattle.lc_base.specs.declared.row.Row.{Row}
 use Rattle.prov_entry.specs.declared.entry.Leaf.{Leaf}
-use Rattle.root_laws.specs.Root.{root_text}
+use Rattle.root_laws.specs.Root.{root_text, leaves}
+use Rattle.rows_index.specs.Index.{IsIndexOf as IsUsesIndexOf}
+use Rattle.typed_ledger.specs.TypedLedger.{IsTypedRow}
 use Rattle.lineage_index.specs.Growth.{Grows}
 use Rattle.lineage_index.specs.Index.{IsIndexOf}
+use Rattle.body_store.specs.Bodies.{bodies_in}
+use Rattle.entry_store.specs.Entries.{Entry}
+use Rattle.merkle_dag.specs.declared.kept.Kept.{Kept}
+use Rattle.merkle_dag.specs.Adding.{bytes_of}
+use Rattle.merkle_dag.specs.Kept.{rows_kept}
 use Rattle.merkle_dag.proofs.Keeping.{digests_are, grows, root_is, ledger_is, index_is, roots_are}
+use Rattle.merkle_dag.proofs.RowBodies.{as_many_bodies, bodies_after, keeps_at, rows_are}
+use Rattle.merkle_dag.proofs.kept.grow.Given.{Over}
 use Rattle.merkle_dag.proofs.kept.grow.Goals as goal
 
 pub add_block-requires : goal.add_block-requires
-add_block-requires c =
+add_block-requires g c =
     let old = c.args.kept.now in
+    let rows = rows_kept old.index in
     let given = c.requires in (
-      old.rows,
+      rows,
       c.args.number,
-      subst (λ (new : List Row). Grows old.rows new c.args.number) (sym c.as_slice.ensures)
-          (grows old.rows c.args.new.now old.digests.items old.roots.items c.args.number c.args.digest c.args.digest given.whole.ledger given.next given.block given.lawful),
-      subst (λ (m : ℕ). IsIndexOf old.rows m old.index) (sym given.next) given.whole.index_is,
+      subst (λ (new : List Row). Grows rows new c.args.number) (sym c.as_slice.ensures)
+          (grows rows c.args.new.now old.digests.items old.roots.items c.args.number c.args.digest
+          c.args.digest given.whole.ledger given.next given.block given.lawful),
+      subst (λ (m : ℕ). IsIndexOf rows m old.index) (sym given.next) given.whole.index_is,
     )
 
-pub returns-clause-whole : goal.returns-clause-whole
-returns-clause-whole c =
+pub add_rows-added-requires-clause-rows : goal.add_rows-added-requires-clause-rows
+add_rows-added-requires-clause-rows g c =
     let old = c.args.kept.now in
+    let rows = rows_kept old.index in
     let given = c.requires in
-    let growing = grows old.rows c.args.new.now old.digests.items old.roots.items c.args.number c.args.digest c.args.digest given.whole.ledger given.next given.block given.lawful in
-    let after = c.in_ok-add_block.ensures old.rows c.args.number (subst (λ (new : List Row). Grows old.rows new c.args.number) (sym c.as_slice.ensures) growing)
-    (subst (λ (m : ℕ). IsIndexOf old.rows m old.index) (sym given.next) given.whole.index_is) in
-    let index : IsIndexOf (old.rows ++ c.args.new.now) (c.args.number + 1) c.add_block.new.self = rw c.as_slice.ensures at after in
-    let made = c.root_of_tree-root.ensures ∙ ap (λ (ls : List Leaf). sha256 (root_text c.args.number c.args.digest.0 ls)) (c.tree.ensures (old.rows ++ c.args.new.now) (c.args.number + 1) index) in
-    rw (c.in_ok-add.ensures.ok, c.in_ok-push.ensures.items, c.in_ok-push-2.ensures.items) (record {
-      ledger = ledger_is old.rows c.args.new.now old.digests.items old.roots.items c.args.number c.args.digest c.root_of_tree-root.result given.whole.ledger given.next given.block given.lawful given.low;
-      digests_fit = digests_are old.digests.items c.args.digest given.whole.digests_fit c.check_digest.ensures;
-      index_is = index_is old.rows c.args.new.now old.digests.items old.roots.items c.args.number c.args.digest c.root_of_tree-root.result given.whole.ledger given.next given.block given.lawful c.add_block.new.self index;
-      roots_are = roots_are old.rows c.args.new.now old.digests.items old.roots.items c.args.number c.args.digest c.root_of_tree-root.result given.whole.ledger given.next given.block given.lawful made given.whole.roots_are;
+    let growing = grows rows c.args.new.now old.digests.items old.roots.items c.args.number
+    c.args.digest c.args.digest given.whole.ledger given.next given.block given.lawful in
+    let after = c.in_ok-add_block.ensures rows c.args.number
+    (subst (λ (new : List Row). Grows rows new c.args.number) (sym c.as_slice.ensures) growing)
+    (subst (λ (m : ℕ). IsIndexOf rows m old.index) (sym given.next) given.whole.index_is) in
+    let index : IsIndexOf (rows ++ c.args.new.now) (c.args.number + 1) c.add_block.new.self = rw
+    c.as_slice.ensures at after in (
+      rows,
+      c.args.number + 1,
+      subst
+          (λ (new : List Row). IsIndexOf (rows ++ new) (c.args.number + 1) c.add_block.new.self)
+          (sym c.as_slice-2.ensures) index,
+      given.whole.uses_are,
+    )
+
+pub add_rows-added-requires-clause-room : goal.add_rows-added-requires-clause-room
+add_rows-added-requires-clause-room g c =
+    let old = c.args.kept.now in
+    let rows = rows_kept old.index in
+    let given = c.requires in
+    omega (
+      arith,
+      as_many_bodies rows old.index.store old.bodies
+          given.whole.index_is.store.entries_are given.whole.bodies_are,
+      length-append rows
+          c.args.new.now,
+      given.lawful.few,
+      ap length c.as_slice-2.ensures,
+    )
+
+module _ (g : Over) (c : goal.In-Ok g) where
+  abbrev old : Kept
+  old = c.args.kept.now
+
+  abbrev rows : List Row
+  rows = rows_kept c.args.kept.now.index
+
+  abbrev new : List Row
+  new = c.args.new.now
+
+  abbrev number : ℕ
+  number = c.args.number
+
+  growing : Grows rows new number
+  growing = grows rows new old.digests.items old.roots.items number c.args.digest c.args.digest
+      c.requires.whole.ledger c.requires.next c.requires.block c.requires.lawful
+
+  before : IsIndexOf rows number old.index
+  before = subst (λ (m : ℕ). IsIndexOf rows m old.index) (sym c.requires.next)
+      c.requires.whole.index_is
+
+  index : IsIndexOf (rows ++ new) (number + 1) c.add_block.new.self
+  index =
+      let after = c.in_ok-add_block.ensures rows number
+      (subst (λ (more : List Row). Grows rows more number) (sym c.as_slice.ensures) growing)
+      before in
+      subst (λ (more : List Row). IsIndexOf (rows ++ more) (number + 1) c.add_block.new.self)
+      c.as_slice.ensures after
+
+  over : IsIndexOf (rows ++ c.as_slice-2.result.now) (number + 1) c.add_block.new.self
+  over = subst (λ (more : List Row). IsIndexOf (rows ++ more) (number + 1) c.add_block.new.self)
+      (sym c.as_slice-2.ensures) index
+
+  typed : All IsTypedRow (rows ++ new)
+  typed = All-append IsTypedRow rows new c.requires.whole.typed
+      (subst (All IsTypedRow) c.as_slice-2.ensures c.in-Ok.ensures.typed)
+
+  all_rows : rows_kept c.add_block.new.self ≡ rows ++ new
+  all_rows = rows_are (rows ++ new) (number + 1) c.add_block.new.self index typed
+
+  users : IsUsesIndexOf (rows ++ new) c.add_rows-added.new.uses
+  users =
+      let after = c.in-Ok.ensures.uses rows (number + 1) over c.requires.whole.uses_are in
+      subst (λ (more : List Row). IsUsesIndexOf (rows ++ more) c.add_rows-added.new.uses)
+      c.as_slice-2.ensures after
+
+  bodies : bodies_in c.add_rows-added.new.bodies ≡ map (λ (entry : Entry). entry.body)
+      c.add_block.new.self.store
+  bodies =
+      let added = c.in-Ok.ensures.bodies rows (number + 1) over c.requires.whole.uses_are in
+      bodies_after rows new number (number + 1) old.index c.add_block.new.self old.bodies
+      c.add_rows-added.new.bodies growing before index c.requires.whole.bodies_are
+      (subst (λ (more : List Row). bodies_in c.add_rows-added.new.bodies ≡ bodies_in old.bodies ++
+      map (bytes_of (rows ++ more)) more) c.as_slice-2.ensures added)
+
+  made : c.root_of_tree-root.result.0 ≡ sha256
+      (root_text number c.args.digest.0 (leaves (rows ++ new)))
+  made = c.root_of_tree-root.ensures
+      ∙ ap (λ (ls : List Leaf). sha256 (root_text number c.args.digest.0 ls))
+      (c.tree.ensures (rows ++ new) (number + 1) index)
+
+pub returns-in-Ok-clause-whole : goal.returns-in-Ok-clause-whole
+returns-in-Ok-clause-whole g c =
+    let given = c.requires in
+    let root = c.root_of_tree-root.result in
+    let digests = (old g c).digests.items in
+    let roots = (old g c).roots.items in
+    keeps_at (rows g c ++ new g c) _ c.add_block.new.self c.add_rows-added.new.uses
+    c.add_rows-added.new.bodies (digests ++ c.args.digest ∷ []) _ (roots ++ root ∷ []) _
+    (all_rows g c) c.in_ok-push.ensures.items c.in_ok-push-2.ensures.items (record {
+      ledger = ledger_is (rows g c) (new g c) digests roots c.args.number c.args.digest root
+          given.whole.ledger given.next given.block given.lawful given.low;
+      typed = typed g c;
+      digests_fit = digests_are digests c.args.digest given.whole.digests_fit
+          c.check_digest.ensures;
+      index_is = index_is (rows g c) (new g c) digests roots c.args.number c.args.digest root
+          given.whole.ledger given.next given.block given.lawful c.add_block.new.self (index g c);
+      uses_are = users g c;
+      bodies_are = bodies g c;
+      roots_are = roots_are (rows g c) (new g c) digests roots c.args.number c.args.digest root
+          given.whole.ledger given.next given.block given.lawful (made g c) given.whole.roots_are;
     })
 
-pub returns-clause-root : goal.returns-clause-root
-returns-clause-root c =
-    let old = c.args.kept.now in
+pub returns-in-Ok-clause-rows : goal.returns-in-Ok-clause-rows
+returns-in-Ok-clause-rows g c = all_rows g c
+
+pub returns-in-Ok-clause-root : goal.returns-in-Ok-clause-root
+returns-in-Ok-clause-root g c =
     let given = c.requires in
-    let growing = grows old.rows c.args.new.now old.digests.items old.roots.items c.args.number c.args.digest c.args.digest given.whole.ledger given.next given.block given.lawful in
-    let after = c.in_ok-add_block.ensures old.rows c.args.number (subst (λ (new : List Row). Grows old.rows new c.args.number) (sym c.as_slice.ensures) growing)
-    (subst (λ (m : ℕ). IsIndexOf old.rows m old.index) (sym given.next) given.whole.index_is) in
-    let index : IsIndexOf (old.rows ++ c.args.new.now) (c.args.number + 1) c.add_block.new.self = rw c.as_slice.ensures at after in
-    root_is old.rows c.args.new.now old.digests.items old.roots.items c.args.number c.args.digest c.root_of_tree-root.result given.whole.ledger given.next given.block given.lawful
-    (c.root_of_tree-root.ensures ∙ ap (λ (ls : List Leaf). sha256 (root_text c.args.number c.args.digest.0 ls)) (c.tree.ensures (old.rows ++ c.args.new.now) (c.args.number + 1) index))
+    root_is (rows g c) (new g c) (old g c).digests.items (old g c).roots.items c.args.number
+    c.args.digest c.root_of_tree-root.result given.whole.ledger given.next given.block
+    given.lawful (made g c)

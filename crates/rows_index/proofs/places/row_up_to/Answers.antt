@@ -9,5 +9,7 @@ pub last_place-requires : goal.last_place-requires
 last_place-requires c =
     let rows = c.requires.0 in
     let key = c.args.key.now in
-    let same : c.as_slice.result.now ≡ places rows key = c.as_slice.ensures ∙ ap listed c.in-Some.ensures.value ∙ c.requires.2 key in
-    subst (IsNonDecreasingBy block_of) (sym same) (places_rise (is_of key) 0 rows (blocks_rise rows c.requires.1))
+    let same : c.as_slice.result.now ≡ places rows key = c.as_slice.ensures
+    ∙ ap listed c.in-Some.ensures.value ∙ c.requires.2 key in
+    subst (IsNonDecreasingBy block_of) (sym same)
+    (places_rise (is_of key) 0 rows (blocks_rise rows c.requires.1))

@@ -6,4 +6,6 @@ use Rattle.rows_index.proofs.index.RowsIndex.latest.Goals as goal
 
 pub returns : goal.returns
 returns c rows kept =
-    subst (λ (index : Option ℕ). IsRowAt rows index (latest rows c.args.key.now c.args.at)) (sym (c.row_up_to.ensures rows kept.places_are)) (latest_up_to rows c.args.key.now c.args.at)
+    subst (λ (index : Option ℕ). IsRowAt rows index (latest rows c.args.key.now c.args.at))
+    (sym (c.row_up_to.ensures rows kept.places_are))
+    (latest_up_to rows c.args.key.now c.args.at)

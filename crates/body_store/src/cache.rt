@@ -1,0 +1,57 @@
+//! The bodies at hand.
+
+ghost use Rattle.std.specs.Prelude.{◌≡◌, ◌⊎◌, ℕ, List, Contains, IfOk, IfSome};
+ghost use Rattle.std.specs.Rc.{rc_slice_items};
+ghost use Rattle.body_store.specs.Cached.{pairs_of};
+
+use crate::kept::BodyIndex;
+use lc_base::Memory;
+use lru::LruCache;
+use std::rc::RcSlice;
+
+/// Puts a body at hand, if there is memory for it.
+pub(crate) fn keep(
+    cache: &mut LruCache<BodyIndex, RcSlice<u8>>,
+    index: BodyIndex,
+    body: RcSlice<u8>,
+)
+    ensures { (pair : ℕ × List ℕ) → Contains (pairs_of cache.new.entries) pair
+        → Contains (pairs_of cache.old.entries) pair ⊎ (pair ≡ (index.0, rc_slice_items body)) }
+{
+    match cache.put(index, body) {
+        Ok(_) => {}
+        Err(_) => {}
+    }
+}
+
+/// Puts a body at hand that is used besides, if there is memory for it.
+pub(crate) fn keep_shared(
+    cache: &mut LruCache<BodyIndex, RcSlice<u8>>,
+    index: BodyIndex,
+    body: &RcSlice<u8>,
+)
+    ensures { (pair : ℕ × List ℕ) → Contains (pairs_of cache.new.entries) pair
+        → Contains (pairs_of cache.old.entries) pair ⊎ (pair ≡ (index.0, rc_slice_items body.now)) }
+{
+    match body.clone() {
+        Ok(shared) => keep(cache, index, shared),
+        Err(_) => {}
+    }
+}
+
+/// A body, where it is at hand.
+pub(crate) fn cached(
+    cache: &mut LruCache<BodyIndex, RcSlice<u8>>,
+    index: BodyIndex,
+) -> Result<Option<RcSlice<u8>>, Memory>
+    ensures kept { (pair : ℕ × List ℕ) → Contains (pairs_of cache.new.entries) pair
+        → Contains (pairs_of cache.old.entries) pair }
+    ensures found { IfOk result
+        (λ body. IfSome body (λ body. Contains (pairs_of cache.old.entries)
+        (index.0, rc_slice_items body))) }
+{
+    match cache.get(&index) {
+        Some(body) => Ok(Some(body.clone()?)),
+        None => Ok(None),
+    }
+}

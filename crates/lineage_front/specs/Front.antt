@@ -1,0 +1,51 @@
+-- What is made of the first entries of a store.
+use Rattle.std.specs.Prelude.{◌≡◌, ℕ, zero, suc, ◌<◌, ◌≤◌, List, [], ◌∷◌, length, map, take, drop}
+use Rattle.std.specs.Prelude.{Some, slice_get}
+use Rattle.std.specs.List.{All}
+use Rattle.lc_base.specs.declared.row.Row.{Row}
+use Rattle.lc_base.specs.declared.row.Dep.{Dep}
+use Rattle.rows_index.specs.declared.index.RowsIndex.{RowsIndex}
+use Rattle.rows_index.specs.Index.{IsIndexOf as AreUsesOf}
+use Rattle.rows_index.specs.Users.{AreVersionsAt}
+use Rattle.root_laws.specs.Root.{keys_of}
+use Rattle.entry_store.specs.Entries.{Entry}
+use Rattle.forward_links.specs.declared.open_list.OpenList.{OpenList}
+use Rattle.forward_links.specs.declared.limits.TheConstants.{MAX_USES}
+use Rattle.forward_links.specs.Lists.{open_of}
+use Rattle.lineage_index.specs.Heads.{newest_at}
+use Rattle.lineage_index.specs.Settling.{IsStoreOf}
+
+-- So many first rows are those of the blocks up to this one, and the others are of later blocks.
+pub record AreUpTo (rows : List Row) (at count : ℕ) : Type 0 where
+  pub within : count ≤ length rows
+  pub first : All (λ (row : Row). row.block ≤ at) (take count rows)
+  pub later : All (λ (row : Row). at < row.block) (drop count rows)
+
+-- The empty list, for each key.
+abbrev pub no_list : List ℕ → List Dep
+no_list key = []
+
+-- The lists of some keys, where so many first ones are those of this function, and the others
+-- empty.
+abbrev pub filled : (List ℕ → List Dep) → ℕ → List (List ℕ) → List (List Dep)
+filled list zero keys = map no_list keys
+filled list (suc n) [] = []
+filled list (suc n) (key ∷ keys) = list key ∷ filled list n keys
+
+-- The versions at the indexes of these users are these, so that they can be added to the list at an
+-- index, which is empty.
+pub record CanFill (rows : List Row) (deps : List Dep) (all : List (List Dep)) (list : ℕ)
+    (lists : List OpenList) (entries : List Entry) (users : List ℕ) : Type 0 where
+  pub store : IsStoreOf rows entries
+  pub versions_are : AreVersionsAt rows users deps
+  pub few : length deps < MAX_USES
+  pub lists_are : lists ≡ map open_of all
+  pub empty : slice_get all list ≡ Some []
+
+-- What is kept of the rows of a history, and of its keys, where all lists are empty.
+pub record AreEmpty (rows : List Row) (lists : List OpenList) (newest : List ℕ)
+    (entries : List Entry) (uses : RowsIndex) : Type 0 where
+  pub store : IsStoreOf rows entries
+  pub uses_are : AreUsesOf rows uses
+  pub lists_are : lists ≡ map open_of (map no_list (keys_of rows))
+  pub newest_are : newest ≡ map (newest_at rows) (keys_of rows)

@@ -1,0 +1,55 @@
+//! The leaves of all keys, made anew.
+
+ghost use Rattle.std.specs.Prelude.{◌≡◌, [], ℕ, List, length, map, OnOk, IfOk};
+ghost use Rattle.std.specs.List.{range_with_len};
+ghost use Rattle.lc_base.specs.declared.row.Row.{Row};
+ghost use Rattle.root_laws.specs.Root.{keys_of};
+ghost use Rattle.lineage_index.specs.Growth.{Entry};
+ghost use Rattle.lineage_index.specs.Heads.{AreHeads, states_of};
+ghost use Rattle.lineage_index.specs.Settling.{AreRenewing};
+ghost use Rattle.lineage_index.specs.Leaves.{AreBesideLeaves, state_of};
+
+use entry_store::Store;
+use forward_links::OpenLists;
+use lc_base::Memory;
+use lineage_index::leaf_state;
+use state_tree::{LeafState, Tree};
+use std::alloc::Global;
+
+/// What the leaves of all keys are to say.
+fn all_states(
+    alloc: Global,
+    lists: &OpenLists,
+    newest: &[u32],
+    store: &Store,
+) -> Result<Vec<LeafState>, Memory>
+    requires { (rows : List Row) × AreBesideLeaves rows lists.now newest.now store.now }
+    ensures { (rows : List Row) → AreBesideLeaves rows lists.now newest.now store.now
+        → IfOk result (λ states. states.items ≡ map (state_of rows)
+        (range_with_len 1 (length (keys_of rows)))) }
+{
+    let mut states = Vec::with_capacity(alloc, newest.len())?;
+    for key in 0..newest.len() {
+        states.push(leaf_state(lists, newest, store, key as u32 + 1))?;
+    }
+    Ok(states)
+}
+
+/// Sets the leaves of all keys.
+pub(crate) fn renew_all(
+    alloc: Global,
+    tree: &mut Tree,
+    lists: &OpenLists,
+    newest: &[u32],
+    store: &Store,
+) -> Result<(), Memory>
+    requires { (rows : List Row) × (entry : List ℕ → Entry)
+        × AreRenewing rows entry [] tree.old lists.now newest.now store.now }
+    ensures { (rows : List Row) (entry : List ℕ → Entry)
+        → AreRenewing rows entry [] tree.old lists.now newest.now store.now
+        → OnOk result (AreHeads tree.new lists.now newest.now (states_of rows)) }
+{
+    let states = all_states(alloc, lists, newest, store)?;
+    tree.set_leaves(&states)?;
+    Ok(())
+}

@@ -1,0 +1,11 @@
+//! The index over the first blocks of a lineage, made of entries and of lists of users: no row is
+//! read, and no body.
+#![tactic(auto)]
+
+mod cutting;
+mod first_blocks;
+mod leaves;
+mod lists;
+mod settling;
+
+pub use first_blocks::front;

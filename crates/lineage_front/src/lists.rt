@@ -1,0 +1,56 @@
+//! The open lists, made of the lists of users.
+
+ghost use Rattle.std.specs.Prelude.{◌≡◌, ℕ, List, map, Some, slice_set};
+ghost use Rattle.lc_base.specs.declared.row.Dep.{Dep};
+ghost use Rattle.lc_base.specs.declared.row.Row.{Row};
+ghost use Rattle.root_laws.specs.Root.{keys_of};
+ghost use Rattle.rows_index.specs.Users.{version_at};
+ghost use Rattle.forward_links.specs.Lists.{open_of};
+ghost use Rattle.lineage_index.specs.Heads.{open_list};
+ghost use Rattle.lineage_index.specs.Settling.{IsStoreOf};
+ghost use Rattle.lineage_front.specs.Front.{CanFill, AreEmpty};
+
+use entry_store::{EntryId, Store};
+use forward_links::OpenLists;
+use lc_base::Dep;
+use rows_index::RowsIndex;
+
+/// The version whose entry stands at an index.
+fn version_of(store: &Store, index: u32) -> Dep
+    requires { (rows : List Row) × (dep : Dep) × IsStoreOf rows store.now
+        × (version_at rows index ≡ Some dep) }
+    ensures { (rows : List Row) (dep : Dep) → IsStoreOf rows store.now
+        → version_at rows index ≡ Some dep → result ≡ dep }
+{
+    let facts = store.facts(EntryId(index));
+    Dep {
+        key: facts.key,
+        block: facts.block,
+    }
+}
+
+/// Adds the versions at the indexes of these users to a list, which is empty.
+fn add_users(lists: &mut OpenLists, list: u32, store: &Store, users: &[u32])
+    requires { (rows : List Row) × (deps : List Dep) × (all : List (List Dep))
+        × CanFill rows deps all list lists.old store.now users.now }
+    ensures { (rows : List Row) (deps : List Dep) (all : List (List Dep))
+        → CanFill rows deps all list lists.old store.now users.now
+        → lists.new ≡ map open_of (slice_set all list deps) }
+{
+    for user in users {
+        lists.add(list, &version_of(store, *user));
+    }
+}
+
+/// Adds to the list of each key the versions that were derived from the newest version of the key.
+/// All lists are empty before.
+pub(crate) fn add_uses(lists: &mut OpenLists, newest: &[u32], store: &Store, uses: &RowsIndex)
+    requires { (rows : List Row) × AreEmpty rows lists.old newest.now store.now uses.now }
+    ensures { (rows : List Row) → AreEmpty rows lists.old newest.now store.now uses.now
+        → lists.new ≡ map open_of (map (open_list rows) (keys_of rows)) }
+{
+    for key in 0..newest.len() {
+        let users = uses.uses(newest[key]);
+        add_users(lists, key as u32, store, users);
+    }
+}

@@ -1,0 +1,34 @@
+//! The rows of entries become the newest versions of their keys.
+
+ghost use Rattle.std.specs.Prelude.{[], List, OnOk};
+ghost use Rattle.lc_base.specs.declared.row.Row.{Row};
+ghost use Rattle.lineage_index.specs.Heads.{AreHeads};
+ghost use Rattle.lineage_index.specs.Settling.{IsStoreOf, settling};
+ghost use Rattle.lineage_front.specs.Front.{no_list};
+
+use entry_store::{EntryId, Store};
+use forward_links::OpenLists;
+use lc_base::Memory;
+use lineage_index::set_newest;
+use state_tree::Tree;
+
+/// Makes the rows of the entries one after another the newest versions of their keys. All lists
+/// stay empty.
+pub(crate) fn settle_entries(
+    tree: &mut Tree,
+    lists: &mut OpenLists,
+    newest: &mut Vec<u32>,
+    store: &Store,
+) -> Result<(), Memory>
+    requires { (rows : List Row) × IsStoreOf rows store.now
+        × AreHeads tree.old lists.old newest.old.items (settling [] no_list []) }
+    ensures { (rows : List Row) → IsStoreOf rows store.now
+        → AreHeads tree.old lists.old newest.old.items (settling [] no_list [])
+        → OnOk result (AreHeads tree.new lists.new newest.new.items (settling [] no_list rows)) }
+{
+    for index in 0..store.count() {
+        let facts = store.facts(EntryId(index));
+        set_newest(tree, lists, newest, &facts.key, index)?;
+    }
+    Ok(())
+}

@@ -1,0 +1,50 @@
+-- The body of a row is read as the row has it.
+use Rattle.std.proofs.Common.{◌≡◌, ◌∙◌, ℕ, List, [], ◌∷◌, map, Some, refl, ap, subst}
+use Rattle.std.specs.Prelude.{slice_get}
+use Rattle.std.specs.List.{concat}
+use Rattle.std.proofs.lemmas.Option.{get_or_from_slice_get, slice_get_within}
+use Rattle.lc_base.specs.declared.row.Dep.{Dep}
+use Rattle.lc_base.specs.declared.row.Row.{Row}
+use Rattle.prov_entry.specs.declared.entry.Body.{Body}
+use Rattle.prov_entry.specs.declared.entry.BodyDep.{BodyDep}
+use Rattle.prov_entry.specs.Spelling.{IsBody, body_fields}
+use Rattle.root_laws.specs.Naming.{with_digest, named_before, body_of}
+use Rattle.entry_views.specs.Reading.{body_at}
+use Rattle.row_bodies.specs.Bodies.{body_read, dep_without_digest}
+use Rattle.row_bodies.proofs.Bodies.{body_back}
+use Rattle.typed_ledger.specs.TypedLedger.{IsTypedHistory}
+use Rattle.typed_ledger.proofs.Spellings.{bodies_spelled}
+
+deps_back : (named : List BodyDep) (deps : List Dep)
+    → map dep_without_digest (map (with_digest named) deps) ≡ deps
+deps_back named [] = refl
+deps_back named (dep ∷ deps) = ap (λ (rest : List Dep). dep ∷ rest) (deps_back named deps)
+
+-- the body of each row can be spelled
+is_body : (rows : List Row) (index : ℕ) (row : Row) → IsTypedHistory rows
+    → slice_get rows index ≡ Some row → IsBody (body_of rows row)
+is_body rows index row typed at =
+    subst (λ (r : Row). IsBody (body_of rows r)) (get_or_from_slice_get rows index row row at)
+    (bodies_spelled rows typed index row (slice_get_within rows index row at))
+
+-- so its fields are read as it
+body_again : (rows : List Row) (index : ℕ) (row : Row) (bytes : List ℕ) → IsTypedHistory rows
+    → slice_get rows index ≡ Some row → bytes ≡ concat (body_fields (body_of rows row))
+    → body_read (body_at bytes) ≡ body_of rows row
+body_again rows index row bytes typed at are =
+    ap (λ (spelled : List ℕ). body_read (body_at spelled)) are
+    ∙ body_back (body_of rows row) (is_body rows index row typed at)
+
+pub value_again : (rows : List Row) (index : ℕ) (row : Row) (bytes : List ℕ) → IsTypedHistory rows
+    → slice_get rows index ≡ Some row → bytes ≡ concat (body_fields (body_of rows row))
+    → (body_read (body_at bytes)).value ≡ row.value
+value_again rows index row bytes typed at are = ap (λ (body : Body). body.value)
+    (body_again rows index row bytes typed at are)
+
+pub deps_again : (rows : List Row) (index : ℕ) (row : Row) (bytes : List ℕ) → IsTypedHistory rows
+    → slice_get rows index ≡ Some row → bytes ≡ concat (body_fields (body_of rows row))
+    → map dep_without_digest (body_read (body_at bytes)).deps ≡ row.deps
+deps_again rows index row bytes typed at are =
+    ap (λ (body : Body). map dep_without_digest body.deps)
+    (body_again rows index row bytes typed at are)
+    ∙ deps_back (named_before rows row.block) row.deps

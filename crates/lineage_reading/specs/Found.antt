@@ -1,0 +1,22 @@
+-- The version that is found.
+use Rattle.std.specs.Prelude.{◌≡◌, map, Option, Some, None}
+use Rattle.std.specs.Rc.{rc_slice_items}
+use Rattle.lc_base.specs.declared.row.Row.{Row}
+use Rattle.entry_views.specs.Reading.{body_at}
+use Rattle.row_bodies.specs.Bodies.{body_read, dep_without_digest}
+use Rattle.lineage_reading.specs.declared.found.Found.{Found}
+
+-- What was found is this row: where it stands, and what the bytes of its body say.
+pub record IsRow (row : Row) (found : Found) : Type 0 where
+  pub block_is : found.block ≡ row.block
+  pub tx_is : found.tx ≡ row.tx
+  pub value_is : (body_read (body_at (rc_slice_items found.body))).value ≡ row.value
+  pub deps_are : map dep_without_digest (body_read (body_at (rc_slice_items found.body))).deps ≡
+      row.deps
+
+-- It is that row, where there is one.
+abbrev pub IsFound : Option Row → Option Found → Type 0
+IsFound None None = Unit {0}
+IsFound None (Some found) = ⊥
+IsFound (Some row) None = ⊥
+IsFound (Some row) (Some found) = IsRow row found

@@ -1,0 +1,79 @@
+//! The answer to a question over all rows of a lineage.
+
+ghost use Rattle.std.specs.Prelude.{◌≡◌, ◌<◌, true, length, slice_get, Some, IfOk, IsErrOf};
+ghost use Rattle.lc_base.specs.Faults.{HasCause};
+ghost use Rattle.lc_base.specs.History.{answer_about, scan};
+ghost use Rattle.lc_base.specs.declared.row.Row.{Row};
+ghost use Rattle.skip_path.specs.Paths.{path};
+ghost use Rattle.entry_store.specs.Steps.{raised};
+ghost use Rattle.scratch_model.specs.Scratch.{is_told};
+ghost use Rattle.merkle_dag.specs.Lineage.{AgreesWith, StaysSame};
+
+use crate::found::Found;
+use entry_store::Steps;
+use lc_base::{Answer, Kind, Query};
+use merkle_dag::{DagError, Lineage};
+use row_bodies::{deps_of_bytes, value_of_bytes};
+use scratch_model::Scratch;
+use std::alloc::Global;
+
+/// What is asked of the row at an index. Of its uses it is answered without its body.
+fn about<S: Scratch>(
+    alloc: Global,
+    lineage: &mut Lineage,
+    scratch: &mut S,
+    index: u32,
+    kind: Kind,
+) -> Result<Answer, DagError>
+    requires within { index < length lineage.old.rows }
+    requires agrees { AgreesWith lineage.old (S.state scratch.old) }
+    ensures answer { (row : Row) → slice_get lineage.old.rows index ≡ Some row
+        → is_told (S.state scratch.old) ≡ true
+        → IfOk result (λ answer. answer ≡ answer_about lineage.old.rows kind row.key row) }
+    ensures same { StaysSame lineage.old (S.state scratch.old) lineage.new (S.state scratch.new) }
+    ensures cause { HasCause (S.scratch_faults scratch.old) (S.scratch_faults scratch.new)
+        (IsErrOf result DagError.Fault) }
+{
+    match kind {
+        Kind::Hist => {
+            let Found { block, tx, body } = Found::at(lineage, scratch, index)?;
+            let value = value_of_bytes(alloc, &body)?;
+            Ok(Answer::Hist { block, tx, value })
+        }
+        Kind::Back => {
+            let Found { block, tx: _, body } = Found::at(lineage, scratch, index)?;
+            let deps = deps_of_bytes(alloc, &body)?;
+            Ok(Answer::Back { block, deps })
+        }
+        Kind::Fwd => {
+            let block = lineage.row_facts(index).block;
+            let uses = lineage.uses(index)?;
+            Ok(Answer::Fwd { block, uses })
+        }
+    }
+}
+
+/// The answer to a question over all rows of a lineage, by one lookup, where it is told which bytes
+/// the device holds. The count rises by the number of the versions of the key that are looked at,
+/// also where there is no answer.
+pub fn answer<S: Scratch>(
+    alloc: Global,
+    lineage: &mut Lineage,
+    scratch: &mut S,
+    query: &Query,
+    steps: &mut Steps,
+) -> Result<Answer, DagError>
+    requires agrees { AgreesWith lineage.old (S.state scratch.old) }
+    ensures answer { is_told (S.state scratch.old) ≡ true
+        → IfOk result (λ answer. answer ≡ scan lineage.old.rows query.now) }
+    ensures same { StaysSame lineage.old (S.state scratch.old) lineage.new (S.state scratch.new) }
+    ensures count { steps.new ≡ raised steps.old
+        (length (path lineage.old.rows query.now.key query.now.at)) }
+    ensures cause { HasCause (S.scratch_faults scratch.old) (S.scratch_faults scratch.new)
+        (IsErrOf result DagError.Fault) }
+{
+    match lineage.latest_row(&query.key, query.at, steps) {
+        None => Ok(Answer::Nothing),
+        Some(index) => about(alloc, lineage, scratch, index, query.kind),
+    }
+}

@@ -1,0 +1,76 @@
+//! A version of a key, with its body.
+
+ghost use Rattle.std.specs.Prelude.{◌≡◌, ◌<◌, true, length, slice_get, Some, IfOk, IsErrOf};
+ghost use Rattle.lc_base.specs.Faults.{HasCause};
+ghost use Rattle.lc_base.specs.History.{latest};
+ghost use Rattle.lc_base.specs.declared.row.Row.{Row};
+ghost use Rattle.scratch_model.specs.Scratch.{is_told};
+ghost use Rattle.merkle_dag.specs.Lineage.{AgreesWith, StaysSame};
+
+use entry_store::{EntryId, Steps};
+use lc_base::{HostError, Key};
+use merkle_dag::{DagError, Lineage};
+use scratch_model::Scratch;
+use std::rc::RcSlice;
+
+/// A version: the number of its block, the index of its transaction there, and the bytes of its
+/// body.
+#[derive(Drop)]
+pub(crate) struct Found {
+    pub block: u32,
+    pub tx: u16,
+    pub body: RcSlice<u8>,
+}
+
+impl Found {
+    ghost use Rattle.lineage_reading.specs.Found.{IsRow, IsFound};
+
+    /// The version that the row at an index is.
+    pub(crate) fn at<S: Scratch>(
+        lineage: &mut Lineage,
+        scratch: &mut S,
+        index: u32,
+    ) -> Result<Found, DagError>
+        requires within { index < length lineage.old.rows }
+        requires agrees { AgreesWith lineage.old (S.state scratch.old) }
+        ensures found { (row : Row) → slice_get lineage.old.rows index ≡ Some row
+            → is_told (S.state scratch.old) ≡ true → IfOk result (IsRow row) }
+        ensures same { StaysSame lineage.old (S.state scratch.old) lineage.new (S.state scratch.new) }
+        ensures cause { HasCause (S.scratch_faults scratch.old) (S.scratch_faults scratch.new)
+            (IsErrOf result DagError.Fault) }
+    {
+        // So that the rows are known to be within their types: their bodies can be spelled.
+        let _count = lineage.row_count();
+        let facts = lineage.row_facts(index);
+        let (block, tx) = (facts.block, facts.tx);
+        match lineage.body_of(scratch, EntryId(index)) {
+            Ok(body) => Ok(Found { block, tx, body }),
+            Err(error) => Err(error),
+        }
+    }
+
+    /// The newest version of a key in the blocks up to `at`.
+    pub(crate) fn latest<S: Scratch>(
+        lineage: &mut Lineage,
+        scratch: &mut S,
+        key: &Key,
+        at: u32,
+    ) -> Result<Option<Found>, HostError>
+        requires agrees { AgreesWith lineage.old (S.state scratch.old) }
+        ensures found { is_told (S.state scratch.old) ≡ true
+            → IfOk result (IsFound (latest lineage.old.rows key.now at)) }
+        ensures same { StaysSame lineage.old (S.state scratch.old) lineage.new (S.state scratch.new) }
+        ensures cause { HasCause (S.scratch_faults scratch.old) (S.scratch_faults scratch.new)
+            (IsErrOf result HostError.Fault) }
+    {
+        let mut steps = Steps::new();
+        match lineage.latest_row(key, at, &mut steps) {
+            None => Ok(None),
+            Some(index) => match Found::at(lineage, scratch, index) {
+                Ok(found) => Ok(Some(found)),
+                Err(DagError::Fault) => Err(HostError::Fault),
+                Err(DagError::Memory) => Err(HostError::Memory),
+            },
+        }
+    }
+}

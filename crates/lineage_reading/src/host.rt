@@ -1,0 +1,80 @@
+//! A lineage and the device that keeps its bodies, as the host of contracts that run.
+
+ghost use Rattle.std.specs.Prelude.{◌≡◌, refl};
+ghost use Rattle.std.proofs.Common.{◌∙◌};
+ghost use Rattle.scratch_model.specs.Scratch.{is_told};
+ghost use Rattle.merkle_dag.specs.Lineage.{AgreesWith, StaysSame};
+ghost use Rattle.merkle_dag.specs.Staying.{stays_refl, stays_trans};
+ghost use Rattle.lineage_reading.specs.Telling.{told_rows, stays_told};
+
+use crate::parts::{back_at, back_count, fwd_at, fwd_count, version};
+use lc_base::{Dep, Host, HostError, Key, Version};
+use merkle_dag::Lineage;
+use scratch_model::Scratch;
+use std::alloc::Global;
+
+/// A lineage, lent together with the device that keeps its bodies.
+#[derive(Drop)]
+pub struct Reading<'a, S: Scratch> {
+    pub lineage: &'a mut Lineage,
+    pub scratch: &'a mut S,
+}
+
+impl<'a, S: Scratch> Host for Reading<'a, S> {
+    ghost rows = { λ s. told_rows (is_told (S.state s.scratch.now)) s.lineage.now.rows };
+
+    ghost host_faults = { λ s. S.scratch_faults s.scratch.now };
+
+    ghost ready = { λ s. AgreesWith s.lineage.now (S.state s.scratch.now) };
+
+    // Both fields are still the references that it was made with.
+    ghost same = { λ s t. (t.lineage.ghost_name ≡ s.lineage.ghost_name)
+        × (t.scratch.ghost_name ≡ s.scratch.ghost_name)
+        × StaysSame s.lineage.now (S.state s.scratch.now) t.lineage.now (S.state t.scratch.now) };
+
+    fn hist(&mut self, alloc: Global, key: &Key, at: u32) -> Result<Option<Version>, HostError> {
+        version(alloc, self.lineage, self.scratch, key, at)
+    }
+
+    fn back_count(&mut self, _alloc: Global, key: &Key, at: u32) -> Result<Option<u32>, HostError> {
+        back_count(self.lineage, self.scratch, key, at)
+    }
+
+    fn back_at(
+        &mut self,
+        _alloc: Global,
+        key: &Key,
+        at: u32,
+        index: u32,
+    ) -> Result<Option<Dep>, HostError> {
+        back_at(self.lineage, self.scratch, key, at, index)
+    }
+
+    fn fwd_count(&mut self, _alloc: Global, key: &Key, at: u32) -> Result<Option<u64>, HostError> {
+        Ok(fwd_count(self.lineage, key, at))
+    }
+
+    fn fwd_at(
+        &mut self,
+        _alloc: Global,
+        key: &Key,
+        at: u32,
+        index: u64,
+    ) -> Result<Option<Dep>, HostError> {
+        Ok(fwd_at(self.lineage, key, at, index))
+    }
+
+    ghost same_refl = { λ s. (refl, refl, stays_refl s.lineage.now (S.state s.scratch.now)) };
+
+    ghost same_trans = { λ s t u p q. (
+      q.0 ∙ p.0,
+      q.1 ∙ p.1,
+      stays_trans s.lineage.now (S.state s.scratch.now) t.lineage.now
+          (S.state t.scratch.now) u.lineage.now (S.state u.scratch.now) p.2 q.2,
+    ) };
+
+    ghost same_ready = { λ s t p r. p.2.agrees r };
+
+    ghost same_rows = { λ s t p. stays_told s.lineage.now (S.state s.scratch.now) t.lineage.now
+        (S.state t.scratch.now) p.2 };
+}

@@ -1,0 +1,21 @@
+use Rattle.std.proofs.Common.{length}
+use Rattle.merkle_dag.specs.Kept.{rows_kept}
+use Rattle.merkle_dag.proofs.lineage.Lineage.latest_row.Goals as goal
+
+pub latest_row-requires : goal.latest_row-requires
+latest_row-requires c = (
+  rows_kept c.self.inside.kept.index,
+  length
+      c.self.inside.kept.digests.items,
+  c.self.invariant.index_is,
+)
+
+pub returns-clause-latest : goal.returns-clause-latest
+returns-clause-latest c = rw (← c.self.view_is)
+    (c.latest_row.ensures.latest (rows_kept c.self.inside.kept.index)
+    (length c.self.inside.kept.digests.items) c.self.invariant.index_is)
+
+pub returns-clause-count : goal.returns-clause-count
+returns-clause-count c = rw (← c.self.view_is)
+    (c.latest_row.ensures.count (rows_kept c.self.inside.kept.index)
+    (length c.self.inside.kept.digests.items) c.self.invariant.index_is)

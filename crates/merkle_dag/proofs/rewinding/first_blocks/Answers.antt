@@ -1,0 +1,67 @@
+use Rattle.std.proofs.Common.{◌∙◌, ◌+◌, length, take, ap, arith}
+use Rattle.lc_base.specs.History.{up_to}
+use Rattle.body_store.specs.Bodies.{BodiesState}
+use Rattle.merkle_dag.specs.Kept.{rows_kept}
+use Rattle.merkle_dag.proofs.FirstBlocks.{as_many_roots, count_within, first_keeps, first_typed}
+use Rattle.merkle_dag.proofs.RowBodies.{keeps_at, rows_are}
+use Rattle.merkle_dag.proofs.rewinding.first_blocks.Goals as goal
+
+pub front-requires-2 : goal.front-requires-2
+front-requires-2 c =
+    let kept = c.args.kept.now in
+    let rows = rows_kept kept.index in
+    let whole = c.requires.whole in
+    let both = c.in_ok-index.ensures rows (length kept.digests.items) whole.index_is whole.uses_are
+    in
+    count_within rows kept.index c.in_ok-index.index kept.uses c.in_ok-index.uses kept.bodies
+    kept.bodies kept.digests.items kept.roots.items c.args.at c.count.result whole
+    c.requires.within both.0
+    (c.count.ensures.count ∙ ap length
+    (c.store.ensures (up_to rows c.args.at) (c.args.at + 1) both.0))
+
+pub first_digests-requires-2 : goal.first_digests-requires-2
+first_digests-requires-2 c =
+    let kept = c.args.kept.now in
+    omega (
+      arith,
+      c.requires.within,
+      ap length c.deref-2.ensures.value,
+      as_many_roots
+          (rows_kept kept.index) kept.digests.items kept.roots.items c.requires.whole.roots_are,
+    )
+
+pub returns-clause-rows : goal.returns-clause-rows
+returns-clause-rows c =
+    let kept = c.args.kept.now in
+    let rows = rows_kept kept.index in
+    let whole = c.requires.whole in
+    let both = c.in_ok-index.ensures rows (length kept.digests.items) whole.index_is whole.uses_are
+    in
+    rows_are (up_to rows c.args.at) (c.args.at + 1) c.in_ok-index.index both.0
+    (first_typed rows kept.index c.in_ok-index.index kept.uses c.in_ok-index.uses kept.bodies
+    kept.bodies kept.digests.items kept.roots.items c.args.at c.count.result whole
+    c.requires.within both.0
+    (c.count.ensures.count ∙ ap length
+    (c.store.ensures (up_to rows c.args.at) (c.args.at + 1) both.0)))
+
+pub returns-clause-whole : goal.returns-clause-whole
+returns-clause-whole c =
+    let kept = c.args.kept.now in
+    let rows = rows_kept kept.index in
+    let whole = c.requires.whole in
+    let both = c.in_ok-index.ensures rows (length kept.digests.items) whole.index_is whole.uses_are
+    in
+    let count_is = c.count.ensures.count
+    ∙ ap length (c.store.ensures (up_to rows c.args.at) (c.args.at + 1) both.0) in
+    let typed = first_typed rows kept.index c.in_ok-index.index kept.uses c.in_ok-index.uses
+    kept.bodies kept.bodies kept.digests.items kept.roots.items c.args.at c.count.result whole
+    c.requires.within both.0 count_is in
+    keeps_at (up_to rows c.args.at) _ c.in_ok-index.index c.in_ok-index.uses c.in_ok-bodies.bodies
+    (take (c.args.at + 1) kept.digests.items) _ (take (c.args.at + 1) kept.roots.items) _
+    (rows_are (up_to rows c.args.at) (c.args.at + 1) c.in_ok-index.index both.0 typed)
+    (c.in_ok-digests.ensures ∙ ap (take (c.args.at + 1)) c.deref.ensures.value)
+    (c.in_ok-roots.ensures ∙ ap (take (c.args.at + 1)) c.deref-2.ensures.value)
+    (first_keeps rows kept.index c.in_ok-index.index kept.uses c.in_ok-index.uses kept.bodies
+    c.in_ok-bodies.bodies kept.digests.items kept.roots.items c.args.at c.count.result whole
+    c.requires.within both.0 count_is
+    both.1 (ap (λ (s : BodiesState). s.kept) c.in_ok-bodies.ensures.front))

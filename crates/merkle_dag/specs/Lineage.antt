@@ -1,0 +1,38 @@
+-- A lineage, as contracts see it, and the scratch device that keeps its bodies.
+use Rattle.std.specs.Prelude.{◌≡◌, List}
+use Rattle.lc_base.specs.declared.digest.Digest.{Digest}
+use Rattle.lc_base.specs.declared.row.Row.{Row}
+use Rattle.scratch_model.specs.Scratch.{ScratchState, Retains}
+use Rattle.body_store.specs.Bodies.{BodiesState}
+use Rattle.body_store.specs.Agreement.{Agrees}
+use Rattle.entry_store.specs.declared.entry.Facts.{Facts}
+use Rattle.merkle_dag.specs.Ledger.{Ledger}
+
+-- The rows of the blocks, the digests of these, and where the bodies of the rows are kept.
+pub record LineageState : Type 0 where
+  pub rows : List Row
+  pub digests : List Digest
+  pub bodies : BodiesState
+
+-- The ledger of a lineage.
+abbrev pub ledger_in : LineageState → Ledger
+ledger_in lineage = record { rows = lineage.rows; digests = lineage.digests }
+
+-- The device keeps the bodies; where it is told which bytes it holds, those at hand are the same.
+abbrev pub AgreesWith : LineageState → ScratchState → Type 0
+AgreesWith lineage scratch = Agrees lineage.bodies scratch
+
+-- Only the bodies at hand are others, and they agree with the device where they did. Whatever the
+-- device kept is kept.
+pub record StaysSame (old : LineageState) (before : ScratchState) (new : LineageState)
+    (after : ScratchState) : Type 0 where
+  pub rows : new.rows ≡ old.rows
+  pub digests : new.digests ≡ old.digests
+  pub agrees : AgreesWith old before → AgreesWith new after
+  pub retains : Retains before after
+
+-- These say where a row stands: its key, its block and its transaction.
+pub record AreFactsOf (row : Row) (facts : Facts) : Type 0 where
+  pub key_is : facts.key ≡ row.key
+  pub block_is : facts.block ≡ row.block
+  pub tx_is : facts.tx ≡ row.tx

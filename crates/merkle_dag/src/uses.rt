@@ -1,0 +1,65 @@
+//! The versions that were derived from a row.
+
+ghost use Rattle.std.specs.Prelude.{◌≡◌, ◌<◌, ℕ, List, Some, length, slice_get, IfOk};
+ghost use Rattle.lc_base.specs.History.{uses, version_of};
+ghost use Rattle.lc_base.specs.declared.row.Row.{Row};
+ghost use Rattle.lc_base.specs.declared.row.Dep.{Dep};
+ghost use Rattle.rows_index.specs.Users.{AreVersionsAt};
+ghost use Rattle.lineage_store.specs.Entries.{entries_of};
+ghost use Rattle.merkle_dag.specs.Kept.{IsWhole, rows_kept};
+
+use crate::kept::Kept;
+use entry_store::{EntryId, Store};
+use lc_base::{Dep, DepList, Memory};
+use std::alloc::Global;
+
+/// The version that the row at an index is.
+fn version_at(store: &Store, place: u32) -> Dep
+    requires { (rows : List Row) × (store.now ≡ entries_of rows rows) × (place < length rows) }
+    ensures { (rows : List Row) (row : Row) → store.now ≡ entries_of rows rows
+        → slice_get rows place ≡ Some row → result ≡ version_of row }
+{
+    let facts = store.facts(EntryId(place));
+    Dep {
+        key: facts.key,
+        block: facts.block,
+    }
+}
+
+/// The versions at these indexes.
+pub(crate) fn versions_at(alloc: Global, store: &Store, places: &[u32]) -> Result<DepList, Memory>
+    requires { (rows : List Row) × (deps : List Dep) × (store.now ≡ entries_of rows rows)
+        × AreVersionsAt rows places.now deps }
+    ensures { (rows : List Row) (deps : List Dep) → store.now ≡ entries_of rows rows
+        → AreVersionsAt rows places.now deps → IfOk result (λ list. list ≡ deps) }
+{
+    let mut list = DepList::new(alloc);
+    for place in places {
+        list.push(version_at(store, *place))?;
+    }
+    Ok(list)
+}
+
+/// The version at an item of a list of indexes.
+pub(crate) fn nth_version(store: &Store, places: &[u32], item: usize) -> Option<Dep>
+    requires { (rows : List Row) × (deps : List Dep) × (store.now ≡ entries_of rows rows)
+        × AreVersionsAt rows places.now deps }
+    ensures { (rows : List Row) (deps : List Dep) → store.now ≡ entries_of rows rows
+        → AreVersionsAt rows places.now deps → result ≡ slice_get deps item }
+{
+    match places.get(item) {
+        None => None,
+        Some(place) => Some(version_at(store, *place)),
+    }
+}
+
+/// The indexes of the rows that were derived from the row at an index.
+pub(crate) fn users_of(kept: &Kept, index: u32) -> &[u32]
+    requires whole { IsWhole kept.now }
+    requires within { index < length (rows_kept kept.now.index) }
+    ensures { (row : Row) → slice_get (rows_kept kept.now.index) index ≡ Some row
+        → AreVersionsAt (rows_kept kept.now.index) result.now
+        (uses (rows_kept kept.now.index) row.key row.block) }
+{
+    kept.uses.uses(index)
+}
