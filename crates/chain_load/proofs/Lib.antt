@@ -2,3 +2,4 @@ pub mod Lengths
 pub mod Placed
 pub mod Counting
 pub mod Told
+pub mod Causes

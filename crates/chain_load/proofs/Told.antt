@@ -1,9 +1,9 @@
 -- What a load tells of a chain, and of its look-ups.
-use Rattle.std.proofs.Common.{◌≡◌, ◌∙◌, ℕ, zero, suc, ◌-◌, List, [], ◌∷◌, length, map, refl, sym, ap, arith}
+use Rattle.std.proofs.Common.{◌≡◌, ◌∙◌, ℕ, zero, suc, ◌-◌, List, [], ◌∷◌, length, map, refl, sym}
+use Rattle.std.proofs.Common.{ap, arith}
 use Rattle.std.proofs.lemmas.List.{length-map, length-append}
 use Rattle.lc_base.specs.declared.digest.Digest.{Digest}
 use Rattle.lc_base.specs.declared.row.Row.{Row}
-use Rattle.block_codec.specs.Placement.{digest_of}
 use Rattle.chain_exec.specs.Compiled.{compiled_in}
 use Rattle.chain_replay.specs.Chain.{ChainState, StandsFor}
 use Rattle.rooted_chain.specs.Roots.{root_in}
@@ -13,7 +13,7 @@ use Rattle.chain_load.specs.Lookups.{lookup_drawn, lookups_drawn, looked_at, cou
 use Rattle.chain_load.specs.Loads.{blocks_of, rows_of, counts_of, load_of}
 use Rattle.chain_load.specs.declared.looking.Looked.{Looked}
 use Rattle.chain_load.specs.declared.loading.Load.{Load}
-use Rattle.chain_load.proofs.Placed.{made_count, rows_are}
+use Rattle.chain_load.proofs.Placed.{rows_are}
 
 many_drawn : (blocks count state : ℕ) → length (lookups_drawn blocks count state) ≡ count
 unfolding repeated
@@ -23,25 +23,46 @@ many_drawn blocks (suc count) state =
     let last = lookup_drawn blocks (repeated (lookup_drawn blocks) count state).1 in
     omega (arith, before, length-append (lookups_drawn blocks count state) (last.0 ∷ []))
 
-pub many_digests : (chain : ChainState) (seed blocks : ℕ) → StandsFor chain (blocks_of blocks seed) → length chain.digests ≡ blocks
-many_digests chain seed blocks stands = ap (length {A = Digest}) stands.digests_are ∙ length-map (blocks_of blocks seed) digest_of ∙ made_count seed blocks
-
 abbrev load_with : ℕ → ℕ → Digest → ℕ → Looked → Load
-load_with blocks rows root lookups looked = record { blocks = blocks; rows = rows; root = root; lookups = lookups; entries = looked.entries; most = looked.most }
+load_with blocks rows root lookups looked = record {
+  blocks = blocks;
+  rows = rows;
+  root = root;
+  lookups = lookups;
+  entries = looked.entries;
+  most =
+      looked.most;
+}
 
-pub load_is : (chain : ChainState) (generator : Progress) (blocks seed count : ℕ) (rows : List Row) (root : Digest) (looked : Looked) → StandsFor chain (blocks_of blocks seed) → generator ≡ progress seed blocks blocks
-    → rows ≡ chain.rows → count ≡ length rows → root.0 ≡ root_in compiled_in (blocks_of blocks seed) (blocks - 1)
+pub load_is : (chain : ChainState) (generator : Progress) (blocks seed count : ℕ) (rows : List Row)
+    (root : Digest) (looked : Looked) → StandsFor chain (blocks_of blocks seed)
+    → generator ≡ progress seed blocks blocks
+    → rows ≡ chain.rows → count ≡ length rows
+    → root.0 ≡ root_in compiled_in (blocks_of blocks seed) (blocks - 1)
     → looked ≡ counted (map (looked_at rows) (lookups_drawn blocks blocks generator.state))
     → load_with blocks count root blocks looked ≡ load_of compiled_in blocks seed
-load_is chain generator blocks seed count rows root looked stands generator_is kept count_is root_is looked_is =
-    let all : rows ≡ rows_of compiled_in blocks seed = kept ∙ rows_are chain (blocks_of blocks seed) stands in
-    let state : generator.state ≡ (made seed blocks).state = ap (λ (g : Progress). g.state) generator_is in
-    let counts : map (looked_at rows) (lookups_drawn blocks blocks generator.state) ≡ counts_of compiled_in blocks seed =
-    ap (λ (s : ℕ). map (looked_at rows) (lookups_drawn blocks blocks s)) state ∙ ap (λ (rs : List Row). map (looked_at rs) (lookups_drawn blocks blocks (made seed blocks).state)) all in
+load_is chain generator blocks seed count rows root looked stands generator_is kept count_is root_is
+    looked_is =
+    let all : rows ≡ rows_of compiled_in blocks seed = kept
+    ∙ rows_are chain (blocks_of blocks seed) stands in
+    let state : generator.state ≡ (made seed blocks).state = ap (λ (g : Progress). g.state)
+    generator_is in
+    let counts : map (looked_at rows) (lookups_drawn blocks blocks generator.state) ≡ counts_of
+    compiled_in blocks seed =
+    ap (λ (s : ℕ). map (looked_at rows) (lookups_drawn blocks blocks s)) state
+    ∙ ap (λ (rs : List Row). map (looked_at rs)
+    (lookups_drawn blocks blocks (made seed blocks).state)) all in
     let many : blocks ≡ length (counts_of compiled_in blocks seed) =
-    sym (length-map (lookups_drawn blocks blocks (made seed blocks).state) (looked_at (rows_of compiled_in blocks seed)) ∙ many_drawn blocks blocks (made seed blocks).state) in
-    let digest : root ≡ record { 0 = root_in compiled_in (blocks_of blocks seed) (blocks - 1) } = ap (λ (bytes : List ℕ). let d : Digest = record { 0 = bytes } in d) root_is in
+    sym (length-map (lookups_drawn blocks blocks (made seed blocks).state)
+    (looked_at (rows_of compiled_in blocks seed))
+    ∙ many_drawn blocks blocks (made seed blocks).state) in
+    let digest : root ≡ record { 0 = root_in compiled_in (blocks_of blocks seed) (blocks - 1) } = ap
+    (λ (bytes : List ℕ). let d : Digest = record { 0 = bytes } in d) root_is in
     ap (λ (n : ℕ). load_with blocks n root blocks looked) (count_is ∙ ap (length {A = Row}) all)
-    ∙ ap (λ (d : Digest). load_with blocks (length (rows_of compiled_in blocks seed)) d blocks looked) digest
-    ∙ ap (λ (n : ℕ). load_with blocks (length (rows_of compiled_in blocks seed)) (record { 0 = root_in compiled_in (blocks_of blocks seed) (blocks - 1) }) n looked) many
-    ∙ ap (λ (l : Looked). load_with blocks (length (rows_of compiled_in blocks seed)) (record { 0 = root_in compiled_in (blocks_of blocks seed) (blocks - 1) }) (length (counts_of compiled_in blocks seed)) l) (looked_is ∙ ap counted counts)
+    ∙ ap (λ (d : Digest). load_with blocks (length (rows_of compiled_in blocks seed)) d blocks
+    looked) digest
+    ∙ ap (λ (n : ℕ). load_with blocks (length (rows_of compiled_in blocks seed))
+    (record { 0 = root_in compiled_in (blocks_of blocks seed) (blocks - 1) }) n looked) many
+    ∙ ap (λ (l : Looked). load_with blocks (length (rows_of compiled_in blocks seed))
+    (record { 0 = root_in compiled_in (blocks_of blocks seed) (blocks - 1) })
+    (length (counts_of compiled_in blocks seed)) l) (looked_is ∙ ap counted counts)

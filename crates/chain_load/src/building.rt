@@ -1,41 +1,68 @@
 //! The chain of the blocks of a seed.
 
-ghost use Rattle.std.specs.Prelude.{◌≡◌, ℕ, ◌+◌, ◌*◌, ◌<◌, ◌≤◌, List, [], ◌∷◌, ◌++◌, length, IfOk};
+ghost use Rattle.std.specs.Prelude.{◌≡◌, ℕ, ◌+◌, ◌*◌, ◌<◌, ◌≤◌, true, List, [], ◌∷◌, ◌++◌, length};
+ghost use Rattle.std.specs.Prelude.{IfOk, IsErrOf};
+ghost use Rattle.lc_base.specs.Faults.{HasCause};
+ghost use Rattle.scratch_model.specs.Scratch.{is_told, Retains};
 ghost use Rattle.dep_capture.specs.declared.limits.TheConstants.{MAX_KEYS_PUT};
+ghost use Rattle.block_codec.specs.Placement.{digest_of};
 ghost use Rattle.block_codec.specs.Spelling.{Spells};
 ghost use Rattle.block_codec.specs.declared.block.Block.{Block as Blocks};
 ghost use Rattle.block_codec.specs.declared.limits.TheConstants.{MAX_BLOCKS};
 ghost use Rattle.block_codec.specs.declared.placement.Placement.TheVariants.{Next};
 ghost use Rattle.chain_exec.specs.Compiled.{compiled_in};
-ghost use Rattle.chain_replay.specs.Chain.{placement_in, StandsFor};
+ghost use Rattle.chain_replay.specs.Chain.{placement_in, HasRoom, StandsFor};
+ghost use Rattle.merkle_dag.specs.Lineage.{AgreesWith};
+ghost use Rattle.rooted_chain.specs.Roots.{kept_in, lineage_in};
 ghost use Rattle.chain_gen.specs.Generator.{made, progress};
 ghost use Rattle.chain_load.specs.Building.{HasAdded};
 
-use block_codec::{NO_PARENT, block_digest};
+use block_codec::{DecodeError, NO_PARENT, block_digest, decode};
 use chain_gen::Gen;
-use chain_replay::{Judged, Replay};
+use chain_replay::{Replay, ReplayError};
 use lc_base::{Digest, Memory};
 use rooted_chain::LineageChain;
+use scratch_model::Scratch;
 use std::alloc::Global;
 
-/// The chain with its next block after the others, which these bytes spell. On `Memory` the chain is
+/// The chain with its next block after the others, which these bytes spell. On an error the chain
+/// is
 /// given up.
-fn with_block(alloc: Global, chain: LineageChain, bytes: &[u8]) -> Result<LineageChain, Memory>
-    requires next { (blocks : List Blocks) × (block : Blocks) × StandsFor chain blocks × Spells bytes.now block × (placement_in compiled_in blocks block ≡ Next) }
-    ensures stands { (blocks : List Blocks) (block : Blocks) → StandsFor chain blocks → Spells bytes.now block → placement_in compiled_in blocks block ≡ Next
-        → IfOk result (λ longer. StandsFor longer (blocks ++ block ∷ [])) }
-    ensures few { (block : Blocks) → Spells bytes.now block → IfOk result (λ longer. length longer.rows ≤ length chain.rows + MAX_KEYS_PUT * length block.txs) }
+fn with_block<S: Scratch>(
+    alloc: Global,
+    scratch: &mut S,
+    chain: LineageChain,
+    bytes: &[u8],
+) -> Result<LineageChain, ReplayError>
+    requires next { (block : Blocks) × Spells bytes.now block × HasRoom (kept_in chain) block }
+    requires agrees { AgreesWith (lineage_in chain) (S.state scratch.old) }
+    ensures stands { IfOk result
+        (λ longer. is_told (S.state scratch.old) ≡ true → (blocks : List Blocks) (block : Blocks)
+        → StandsFor (kept_in chain) blocks → Spells bytes.now block
+        → placement_in compiled_in blocks block ≡ Next
+        → StandsFor (kept_in longer) (blocks ++ block ∷ [])) }
+    ensures digests { (block : Blocks) → Spells bytes.now block
+        → IfOk result (λ longer. longer.digests ≡ chain.digests ++ digest_of block ∷ []) }
+    ensures few { (block : Blocks) → Spells bytes.now block
+        → IfOk result (λ longer. length longer.rows ≤ length chain.rows + MAX_KEYS_PUT * length
+        block.txs) }
+    ensures agrees { IfOk result (λ longer. AgreesWith (lineage_in longer) (S.state scratch.new)) }
+    ensures retains { Retains (S.state scratch.old) (S.state scratch.new) }
+    ensures cause { HasCause (S.scratch_faults scratch.old) (S.scratch_faults scratch.new)
+        (IsErrOf result ReplayError.Fault) }
 {
-    match chain.judge(alloc, bytes) {
-        Ok(Judged::Next { block, digest }) => match chain.extended(alloc, &block, digest) {
-            Ok((longer, _, _)) => Ok(longer),
-            Err(Memory) => Err(Memory),
-        },
-        Ok(Judged::Known { .. }) => unreachable!(),
-        Ok(Judged::Refused(_)) => unreachable!(),
-        Err(Memory) => {
+    match decode(alloc, bytes) {
+        Ok(block) => {
+            let digest = block_digest(bytes);
+            match chain.extended(alloc, scratch, &block, digest) {
+                Ok((longer, _, _)) => Ok(longer),
+                Err(error) => Err(error),
+            }
+        }
+        Err(DecodeError::Malformed { .. }) => unreachable!(),
+        Err(DecodeError::Memory) => {
             chain.give_up();
-            Err(Memory)
+            Err(ReplayError::Memory)
         }
     }
 }
@@ -47,11 +74,25 @@ struct Building {
     parent: Digest,
 }
 
-/// The same with one block more. On `Memory` the chain is given up.
-fn with_next(alloc: Global, building: Building) -> Result<Building, Memory>
-    requires next { (seed : ℕ) × (count : ℕ) × (added : ℕ) × HasAdded seed count added building.chain building.generator building.parent × (added < count) × (count ≤ MAX_BLOCKS) }
-    ensures added { (seed count added : ℕ) → HasAdded seed count added building.chain building.generator building.parent → added < count → count ≤ MAX_BLOCKS
-        → IfOk result (λ more. HasAdded seed count (added + 1) more.chain more.generator more.parent) }
+/// The same with one block more. On an error the chain is given up.
+fn with_next<S: Scratch>(
+    alloc: Global,
+    scratch: &mut S,
+    building: Building,
+) -> Result<Building, ReplayError>
+    requires next { (seed : ℕ) × (count : ℕ) × (added : ℕ)
+        × HasAdded (is_told (S.state scratch.old)) seed count added (kept_in building.chain)
+        building.generator building.parent × (added < count) × (count ≤ MAX_BLOCKS) }
+    requires agrees { AgreesWith (lineage_in building.chain) (S.state scratch.old) }
+    ensures added { (seed count added : ℕ)
+        → HasAdded (is_told (S.state scratch.old)) seed count added (kept_in building.chain)
+        building.generator building.parent → added < count → count ≤ MAX_BLOCKS
+        → IfOk result (λ more. HasAdded (is_told (S.state scratch.old)) seed count (added + 1)
+        (kept_in more.chain) more.generator more.parent) }
+    ensures agrees { IfOk result (λ more. AgreesWith (lineage_in more.chain) (S.state scratch.new)) }
+    ensures retains { Retains (S.state scratch.old) (S.state scratch.new) }
+    ensures cause { HasCause (S.scratch_faults scratch.old) (S.scratch_faults scratch.new)
+        (IsErrOf result ReplayError.Fault) }
 {
     let Building {
         chain,
@@ -61,40 +102,55 @@ fn with_next(alloc: Global, building: Building) -> Result<Building, Memory>
     match generator.next(alloc, parent) {
         Ok(Some((bytes, generator))) => {
             let parent = block_digest(bytes.as_bytes());
-            match with_block(alloc, chain, bytes.as_bytes()) {
+            match with_block(alloc, scratch, chain, bytes.as_bytes()) {
                 Ok(chain) => Ok(Building {
                     chain,
                     generator,
                     parent,
                 }),
-                Err(Memory) => Err(Memory),
+                Err(error) => Err(error),
             }
         }
         Ok(None) => unreachable!(),
         Err(Memory) => {
             chain.give_up();
-            Err(Memory)
+            Err(ReplayError::Memory)
         }
     }
 }
 
 /// The chain of so many blocks of a seed, and the generator that has given them.
-pub(crate) fn chain_made(
+pub(crate) fn chain_made<S: Scratch>(
     alloc: Global,
+    scratch: &mut S,
     blocks: u32,
     seed: u32,
-) -> Result<(LineageChain, Gen), Memory>
+) -> Result<(LineageChain, Gen), ReplayError>
     requires { blocks ≤ MAX_BLOCKS }
-    ensures chain { IfOk result (λ pair. StandsFor pair.0 (made seed blocks).blocks) }
+    ensures chain { IfOk result
+        (λ pair. is_told (S.state scratch.old) ≡ true
+        → StandsFor (kept_in pair.0) (made seed blocks).blocks) }
+    ensures digests { IfOk result (λ pair. length pair.0.digests ≡ blocks) }
     ensures generator { IfOk result (λ pair. pair.1 ≡ progress seed blocks blocks) }
+    ensures agrees { IfOk result (λ pair. AgreesWith (lineage_in pair.0) (S.state scratch.new)) }
+    ensures retains { Retains (S.state scratch.old) (S.state scratch.new) }
+    ensures cause { HasCause (S.scratch_faults scratch.old) (S.scratch_faults scratch.new)
+        (IsErrOf result ReplayError.Fault) }
 {
+    let chain = match LineageChain::start(alloc) {
+        Ok(chain) => chain,
+        Err(Memory) => return Err(ReplayError::Memory),
+    };
     let mut building = Building {
-        chain: LineageChain::start(alloc)?,
+        chain,
         generator: Gen::new(blocks, seed),
         parent: NO_PARENT,
     };
     for _ in 0..blocks {
-        building = with_next(alloc, building)?;
+        building = match with_next(alloc, scratch, building) {
+            Ok(more) => more,
+            Err(error) => return Err(error),
+        };
     }
     let Building {
         chain,

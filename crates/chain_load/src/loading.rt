@@ -1,18 +1,24 @@
 //! A load of the blocks of a seed.
 
-ghost use Rattle.std.specs.Prelude.{◌≡◌, ℕ, ◌<◌, ◌≤◌, ◌-◌, IfOk};
+ghost use Rattle.std.specs.Prelude.{◌≡◌, ℕ, ◌<◌, ◌≤◌, ◌-◌, true, length, IfOk, IsErrOf};
+ghost use Rattle.lc_base.specs.Faults.{HasCause};
+ghost use Rattle.scratch_model.specs.Scratch.{is_told, Retains};
 ghost use Rattle.block_codec.specs.declared.limits.TheConstants.{MAX_BLOCKS};
 ghost use Rattle.chain_exec.specs.Compiled.{compiled_in};
 ghost use Rattle.chain_replay.specs.Chain.{StandsFor};
-ghost use Rattle.rooted_chain.specs.Roots.{root_in};
+ghost use Rattle.merkle_dag.specs.Lineage.{AgreesWith};
+ghost use Rattle.rooted_chain.specs.Roots.{kept_in, lineage_in, root_in};
 ghost use Rattle.chain_gen.specs.Generator.{made, progress};
 ghost use Rattle.chain_load.specs.Loads.{load_of};
 
 use crate::building::chain_made;
+use crate::error::LoadError;
 use crate::looking::look_up_all;
 use chain_gen::Gen;
-use lc_base::{Digest, Memory};
+use chain_replay::ReplayError;
+use lc_base::Digest;
 use rooted_chain::LineageChain;
+use scratch_model::Scratch;
 use std::alloc::Global;
 
 /// What a load tells.
@@ -35,8 +41,9 @@ pub struct Load {
 /// The root at the last of so many blocks of a chain.
 fn last_root(chain: &LineageChain, blocks: u32) -> Digest
     requires some { 0 < blocks }
-    requires made { (seed : ℕ) × StandsFor chain.now (made seed blocks).blocks }
-    ensures { (seed : ℕ) → StandsFor chain.now (made seed blocks).blocks → result.0 ≡ root_in compiled_in (made seed blocks).blocks (blocks - 1) }
+    requires blocks { length chain.now.digests ≡ blocks }
+    ensures { (seed : ℕ) → StandsFor (kept_in chain.now) (made seed blocks).blocks
+        → result.0 ≡ root_in compiled_in (made seed blocks).blocks (blocks - 1) }
 {
     match chain.root(blocks - 1) {
         Some(root) => root,
@@ -45,15 +52,27 @@ fn last_root(chain: &LineageChain, blocks: u32) -> Digest
 }
 
 /// What a load tells, once its blocks are in the chain, which takes no further one.
-fn loaded(chain: LineageChain, generator: Gen, blocks: u32) -> Result<Load, Memory>
+fn loaded<S: Scratch>(
+    alloc: Global,
+    scratch: &mut S,
+    chain: LineageChain,
+    generator: Gen,
+    blocks: u32,
+) -> Result<Load, LoadError>
     requires some { 0 < blocks }
-    requires made { (seed : ℕ) × StandsFor chain (made seed blocks).blocks × (generator ≡ progress seed blocks blocks) }
-    ensures { (seed : ℕ) → StandsFor chain (made seed blocks).blocks → generator ≡ progress seed blocks blocks → IfOk result (λ load. load ≡ load_of compiled_in blocks seed) }
+    requires blocks { length chain.digests ≡ blocks }
+    requires agrees { AgreesWith (lineage_in chain) (S.state scratch.old) }
+    ensures load { (seed : ℕ) → StandsFor (kept_in chain) (made seed blocks).blocks
+        → generator ≡ progress seed blocks blocks
+        → IfOk result (λ load. load ≡ load_of compiled_in blocks seed) }
+    ensures retains { Retains (S.state scratch.old) (S.state scratch.new) }
+    ensures cause { HasCause (S.scratch_faults scratch.old) (S.scratch_faults scratch.new)
+        (IsErrOf result LoadError.Fault) }
 {
     let root = last_root(&chain, blocks);
     let mut lineage = chain.into_lineage();
     let rows = lineage.row_count();
-    let looked = look_up_all(&mut lineage, generator, blocks);
+    let looked = look_up_all(alloc, &mut lineage, scratch, generator, blocks);
     lineage.give_up();
     match looked {
         Ok(looked) => Ok(Load {
@@ -64,17 +83,32 @@ fn loaded(chain: LineageChain, generator: Gen, blocks: u32) -> Result<Load, Memo
             entries: looked.entries,
             most: looked.most,
         }),
-        Err(Memory) => Err(Memory),
+        Err(error) => Err(error),
     }
 }
 
-/// Adds so many blocks of a seed to a chain in memory, and makes as many look-ups of it, which are drawn
-/// after the blocks.
-pub fn load_chain(alloc: Global, blocks: u32, seed: u32) -> Result<Load, Memory>
+/// Adds so many blocks of a seed to a chain in memory, whose bodies are on the scratch device, and
+/// makes
+/// as many look-ups of it, which are drawn after the blocks. What it tells is known where it is
+/// told
+/// which bytes the device holds.
+pub fn load_chain<S: Scratch>(
+    alloc: Global,
+    scratch: &mut S,
+    blocks: u32,
+    seed: u32,
+) -> Result<Load, LoadError>
     requires some { 0 < blocks }
     requires few { blocks ≤ MAX_BLOCKS }
-    ensures { IfOk result (λ load. load ≡ load_of compiled_in blocks seed) }
+    ensures load { is_told (S.state scratch.old) ≡ true
+        → IfOk result (λ load. load ≡ load_of compiled_in blocks seed) }
+    ensures retains { Retains (S.state scratch.old) (S.state scratch.new) }
+    ensures cause { HasCause (S.scratch_faults scratch.old) (S.scratch_faults scratch.new)
+        (IsErrOf result LoadError.Fault) }
 {
-    let (chain, generator) = chain_made(alloc, blocks, seed)?;
-    loaded(chain, generator, blocks)
+    match chain_made(alloc, scratch, blocks, seed) {
+        Ok((chain, generator)) => loaded(alloc, scratch, chain, generator, blocks),
+        Err(ReplayError::Fault) => Err(LoadError::Fault),
+        Err(ReplayError::Memory) => Err(LoadError::Memory),
+    }
 }

@@ -1,15 +1,20 @@
 //! The look-ups of a load.
 
-ghost use Rattle.std.specs.Prelude.{◌≡◌, ◌<◌, ◌≤◌, ◌+◌, ◌^◌, max, length, map, IfOk};
+ghost use Rattle.std.specs.Prelude.{◌≡◌, ◌<◌, ◌≤◌, ◌+◌, ◌^◌, max, length, map, IfOk, IsErrOf};
+ghost use Rattle.lc_base.specs.Faults.{HasCause};
 ghost use Rattle.skip_path.specs.Paths.{path};
+ghost use Rattle.merkle_dag.specs.Lineage.{AgreesWith, StaysSame};
 ghost use Rattle.chain_gen.specs.Generator.{standing_at};
 ghost use Rattle.chain_load.specs.Lookups.{lookup_drawn, lookups_drawn, looked_at, counted};
 
+use crate::error::LoadError;
 use chain_gen::Gen;
 use entry_store::Steps;
-use lc_base::{Kind, Memory, Query};
+use lc_base::{Kind, Query};
 use merkle_dag::Lineage;
 use prov_query::{AskError, ask};
+use scratch_model::Scratch;
+use std::alloc::Global;
 
 /// What was counted of look-ups.
 #[derive(Clone, Copy, Debug, PartialEq, Eq)]
@@ -34,29 +39,50 @@ impl Looked {
 }
 
 /// Asks a question about a block of the lineage: how many versions were looked at for its answer.
-fn versions_looked_at(lineage: &mut Lineage, query: &Query) -> Result<u64, Memory>
+fn versions_looked_at<S: Scratch>(
+    alloc: Global,
+    lineage: &mut Lineage,
+    scratch: &mut S,
+    query: &Query,
+) -> Result<u64, LoadError>
     requires block { query.now.at < length lineage.old.digests }
     requires few_rows { length lineage.old.rows < 2 ^ 32 }
-    ensures count { IfOk result (λ count. count ≡ length (path lineage.old.rows query.now.key query.now.at)) }
-    ensures unchanged { lineage.new ≡ lineage.old }
+    requires agrees { AgreesWith lineage.old (S.state scratch.old) }
+    ensures count { IfOk result
+        (λ count. count ≡ length (path lineage.old.rows query.now.key query.now.at)) }
+    ensures same { StaysSame lineage.old (S.state scratch.old) lineage.new (S.state scratch.new) }
+    ensures cause { HasCause (S.scratch_faults scratch.old) (S.scratch_faults scratch.new)
+        (IsErrOf result LoadError.Fault) }
 {
     let mut steps = Steps::new();
-    match ask(lineage, query, &mut steps) {
+    match ask(alloc, lineage, scratch, query, &mut steps) {
         Ok(_answer) => Ok(steps.count()),
         Err(AskError::Beyond { .. }) => unreachable!(),
-        Err(AskError::Memory) => Err(Memory),
+        Err(AskError::Fault) => Err(LoadError::Fault),
+        Err(AskError::Memory) => Err(LoadError::Memory),
     }
 }
 
 /// Draws a look-up over so many blocks, and makes it: how many versions it looked at.
 #[tactic(auto, unfolding(crate::specs::Lookups::lookup_drawn))]
-fn look_up(lineage: &mut Lineage, generator: &mut Gen, blocks: u32) -> Result<u64, Memory>
+fn look_up<S: Scratch>(
+    alloc: Global,
+    lineage: &mut Lineage,
+    scratch: &mut S,
+    generator: &mut Gen,
+    blocks: u32,
+) -> Result<u64, LoadError>
     requires some { 0 < blocks }
     requires blocks { blocks ≤ length lineage.old.digests }
     requires few_rows { length lineage.old.rows < 2 ^ 32 }
-    ensures count { IfOk result (λ count. count ≡ looked_at lineage.old.rows (lookup_drawn blocks generator.old.state).0) }
-    ensures unchanged { lineage.new ≡ lineage.old }
-    ensures state { generator.new ≡ standing_at (lookup_drawn blocks generator.old.state).1 generator.old }
+    requires agrees { AgreesWith lineage.old (S.state scratch.old) }
+    ensures count { IfOk result
+        (λ count. count ≡ looked_at lineage.old.rows (lookup_drawn blocks generator.old.state).0) }
+    ensures same { StaysSame lineage.old (S.state scratch.old) lineage.new (S.state scratch.new) }
+    ensures state { generator.new ≡ standing_at (lookup_drawn blocks generator.old.state).1
+        generator.old }
+    ensures cause { HasCause (S.scratch_faults scratch.old) (S.scratch_faults scratch.new)
+        (IsErrOf result LoadError.Fault) }
 {
     let key = generator.draw_key();
     let at = generator.draw(blocks);
@@ -65,19 +91,27 @@ fn look_up(lineage: &mut Lineage, generator: &mut Gen, blocks: u32) -> Result<u6
         key,
         at,
     };
-    versions_looked_at(lineage, &query)
+    versions_looked_at(alloc, lineage, scratch, &query)
 }
 
 /// Draws as many look-ups as there are blocks, and makes them.
-pub(crate) fn look_up_all(
+pub(crate) fn look_up_all<S: Scratch>(
+    alloc: Global,
     lineage: &mut Lineage,
+    scratch: &mut S,
     generator: Gen,
     blocks: u32,
-) -> Result<Looked, Memory>
+) -> Result<Looked, LoadError>
     requires some { 0 < blocks }
     requires blocks { blocks ≤ length lineage.old.digests }
     requires few_rows { length lineage.old.rows < 2 ^ 32 }
-    ensures { IfOk result (λ looked. looked ≡ counted (map (looked_at lineage.old.rows) (lookups_drawn blocks blocks generator.state))) }
+    requires agrees { AgreesWith lineage.old (S.state scratch.old) }
+    ensures looked { IfOk result
+        (λ looked. looked ≡ counted
+        (map (looked_at lineage.old.rows) (lookups_drawn blocks blocks generator.state))) }
+    ensures same { StaysSame lineage.old (S.state scratch.old) lineage.new (S.state scratch.new) }
+    ensures cause { HasCause (S.scratch_faults scratch.old) (S.scratch_faults scratch.new)
+        (IsErrOf result LoadError.Fault) }
 {
     let mut generator = generator;
     let mut looked = Looked {
@@ -85,8 +119,10 @@ pub(crate) fn look_up_all(
         most: 0,
     };
     for _ in 0..blocks {
-        let count = look_up(lineage, &mut generator, blocks)?;
-        looked = looked.with(count);
+        match look_up(alloc, lineage, scratch, &mut generator, blocks) {
+            Ok(count) => looked = looked.with(count),
+            Err(error) => return Err(error),
+        }
     }
     Ok(looked)
 }

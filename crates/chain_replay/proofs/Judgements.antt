@@ -10,7 +10,7 @@ use Rattle.block_codec.specs.declared.placement.Placement.{Placement}
 use Rattle.block_codec.specs.declared.placement.Placement.TheVariants.{Known as KnownBlock, Next, Fork, Full, Number, Parent, Budget}
 use Rattle.chain_exec.specs.Compiled.{Compiler}
 use Rattle.chain_replay.specs.Chain.{ChainState, HasRoom, placement_in, placement_kept}
-use Rattle.chain_replay.specs.Judging.{Taken, Added, judged, judged_by_placement, IsJudged, IsPlacedBlock, IfNext, IsNextBlock}
+use Rattle.chain_replay.specs.Judging.{Added, judged, judged_by_placement, IsJudged, IsPlacedBlock, IfNext, IsNextBlock}
 use Rattle.chain_replay.specs.declared.judging.Judged.{Judged}
 use Rattle.chain_replay.specs.declared.judging.Judged.TheVariants as judgements
 

@@ -1,4 +1,3 @@
 pub mod Kept
 pub mod Chains
 pub mod Judgements
-pub mod Faults

@@ -1,5 +1,5 @@
 -- Chains of blocks, and what is kept of them.
-use Rattle.std.specs.Prelude.{◌≡◌, ℕ, ◌<◌, ◌≤◌, List, [], ◌∷◌, ◌++◌, length, map, slice_get, slice_index_or, take}
+use Rattle.std.specs.Prelude.{◌≡◌, ℕ, ◌<◌, ◌≤◌, Bool, true, List, [], ◌∷◌, ◌++◌, length, map, slice_get, slice_index_or, take}
 use Rattle.std.specs.List.{All}
 use Rattle.lc_base.specs.History.{IsLawful}
 use Rattle.lc_base.specs.declared.digest.Digest.{Digest}
@@ -9,6 +9,7 @@ use Rattle.block_codec.specs.declared.limits.TheConstants.{MAX_BLOCKS, MAX_ROWS_
 use Rattle.block_codec.specs.declared.block.Block.{Block}
 use Rattle.block_codec.specs.declared.placement.Placement.{Placement}
 use Rattle.block_codec.specs.declared.placement.Placement.TheVariants as placements
+use Rattle.scratch_model.specs.Scratch.{ScratchState, is_told}
 use Rattle.contract_tree.specs.declared.tree.Contract.{Contract}
 use Rattle.world_state.specs.Known.{Known}
 use Rattle.world_state.specs.World.{StandsForRows}
@@ -77,3 +78,9 @@ pub record StandsFor (kept : ChainState) (blocks : List Block) : Type 0 where
   pub chained : IsChain compiled_in blocks
   pub digests_are : kept.digests ≡ map digest_of blocks
   pub history_is : history_kept kept ≡ replay compiled_in blocks
+
+-- ---- a scratch device that a chain may be lent
+
+-- Where the device is called, it is told which bytes it holds.
+abbrev pub IsToldFor : Bool → ScratchState → Type 0
+IsToldFor calls_scratch scratch = calls_scratch ≡ true → is_told scratch ≡ true

@@ -1,6 +1,6 @@
 //! A chain of blocks.
 
-ghost use Rattle.std.specs.Prelude.{◌≡◌, List, [], ◌∷◌, ◌++◌, length, IfOk, OnOk};
+ghost use Rattle.std.specs.Prelude.{◌≡◌, false, List, [], ◌∷◌, ◌++◌, length, IfOk, OnOk};
 ghost use Rattle.lc_base.specs.History.{IsLawful, scan};
 ghost use Rattle.block_codec.specs.Spelling.{IsBlock};
 ghost use Rattle.block_codec.specs.Placement.{digest_of, last_digest};
@@ -8,13 +8,13 @@ ghost use Rattle.block_codec.specs.declared.block.Block.{Block as Blocks};
 ghost use Rattle.chain_exec.specs.Compiled.{compiled_in};
 ghost use Rattle.chain_replay.specs.Chain.{nothing_kept, placement_in, HasRoom, IsAfter, StandsFor};
 
-use crate::replaying::Replay;
-use crate::running::run_next;
+use crate::replaying::{Replay, ReplayError};
 use block_codec::{Block, NO_PARENT, Placement, place};
-use chain_exec::BlockRun;
+use chain_exec::{BlockRun, run_block};
 use contract_check::Checked;
-use lc_base::{Answer, Digest, DigestList, Memory, Query, RowList};
+use lc_base::{Answer, Digest, DigestList, HostError, Memory, Query, RowList};
 use plain_rows::PlainRows;
+use scratch_model::Scratch;
 use std::alloc::Global;
 use std::marker::Model;
 use world_state::World;
@@ -116,12 +116,13 @@ impl Chain {
             mut rows,
             mut world,
         } = self;
-        let run = match run_next(alloc, &mut rows, &mut world, block) {
+        let run = match run_block(alloc, &mut rows, &mut world, block) {
             Ok(run) => run,
-            Err(Memory) => {
+            Err(HostError::Memory) => {
                 discard(world);
                 return Err(Memory);
             }
+            Err(HostError::Fault) => unreachable!(),
         };
         let world = world.commit()?;
         match record(&mut digests, digest, &mut rows, &run.rows) {
@@ -144,6 +145,10 @@ impl Chain {
 impl Replay for Chain {
     ghost kept = { λ chain. chain };
 
+    ghost calls_scratch = { false };
+
+    ghost agrees = { λ _ _. Unit {0} };
+
     fn start(alloc: Global) -> Result<Chain, Memory> {
         Ok(Chain::new(alloc))
     }
@@ -154,9 +159,18 @@ impl Replay for Chain {
         place(self.len(), rows, have, self.last_digest(), block, digest)
     }
 
-    fn replay(self, alloc: Global, block: &Block, digest: Digest) -> Result<Chain, Memory> {
-        let (longer, _) = self.extended(alloc, block, digest)?;
-        Ok(longer)
+    #[tactic(auto, using(scratch_model::proofs::Retaining::retains_refl))]
+    fn replay<S: Scratch>(
+        self,
+        alloc: Global,
+        _scratch: &mut S,
+        block: &Block,
+        digest: Digest,
+    ) -> Result<Chain, ReplayError> {
+        match self.extended(alloc, block, digest) {
+            Ok((longer, _run)) => Ok(longer),
+            Err(Memory) => Err(ReplayError::Memory),
+        }
     }
 
     fn give_up(self) {

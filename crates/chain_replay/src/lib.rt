@@ -5,10 +5,8 @@ mod chain;
 mod judging;
 mod refusal;
 mod replaying;
-mod running;
 
 pub use chain::Chain;
 pub use judging::Judged;
 pub use refusal::Refusal;
-pub use replaying::Replay;
-pub use running::run_next;
+pub use replaying::{Replay, ReplayError};

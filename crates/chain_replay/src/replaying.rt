@@ -1,28 +1,49 @@
 //! Blocks, run one after another.
 
-ghost use Rattle.std.specs.Prelude.{◌≡◌, List, [], ◌∷◌, ◌++◌, IfOk};
+ghost use Rattle.std.specs.Prelude.{◌≡◌, Bool, false, List, [], ◌∷◌, ◌++◌, IfOk, IsErrOf};
+ghost use Rattle.lc_base.specs.Faults.{HasCause};
 ghost use Rattle.block_codec.specs.Reading.{block_in};
 ghost use Rattle.block_codec.specs.Spelling.{IsBlock};
 ghost use Rattle.block_codec.specs.Placement.{digest_of};
 ghost use Rattle.block_codec.specs.declared.block.Block.{Block as Blocks};
 ghost use Rattle.chain_exec.specs.Compiled.{compiled_in};
-ghost use Rattle.chain_replay.specs.Chain.{ChainState, nothing_kept, placement_in, placement_kept, HasRoom, StandsFor};
+ghost use Rattle.chain_replay.specs.Chain.{ChainState, nothing_kept, placement_in, placement_kept, HasRoom, IsToldFor, StandsFor};
 ghost use Rattle.chain_replay.specs.Judging.{judged, IsJudged, IfNext, IsNextBlock};
+ghost use Rattle.chain_replay.specs.declared.replaying.ReplayError.TheVariants.{Fault};
+ghost use Rattle.scratch_model.specs.Scratch.{ScratchState, Retains};
 
 use crate::judging::{Judged, judge_block};
 use crate::refusal::Refusal;
 use block_codec::{Block, DecodeError, Placement, block_digest, decode};
 use lc_base::{Digest, Memory};
+use scratch_model::Scratch;
 use std::alloc::Global;
 
-/// What is kept of a chain while its blocks are run, one after another.
+/// Why a block was not replayed.
+#[derive(Clone, Copy, Debug, PartialEq, Eq)]
+pub enum ReplayError {
+    /// A call of the scratch device failed.
+    Fault,
+    /// Out of memory.
+    Memory,
+}
+
+/// What is kept of a chain while its blocks are run, one after another, with a scratch device that
+/// may keep a part of it.
 pub trait Replay: Drop {
     /// What is kept.
     ghost kept: { Self → ChainState };
 
-    /// No block yet.
+    /// Whether the device is called.
+    ghost calls_scratch: { Bool };
+
+    /// Whether it agrees with the device.
+    ghost agrees: { Self → ScratchState → Type 0 };
+
+    /// No block yet. It agrees with every device.
     fn start(alloc: Global) -> Result<Self, Memory>
-        ensures { IfOk result (λ chain. kept chain ≡ nothing_kept) };
+        ensures kept { IfOk result (λ chain. kept chain ≡ nothing_kept) }
+        ensures agrees { IfOk result (λ chain. (scratch : ScratchState) → agrees chain scratch) };
 
     /// Where a block with this digest stands to the chain.
     fn place(&self, block: &Block, digest: Digest) -> Placement
@@ -31,12 +52,26 @@ pub trait Replay: Drop {
         ensures stands { (blocks : List Blocks) → StandsFor (kept self.now) blocks → digest ≡ digest_of block.now → result ≡ placement_in compiled_in blocks block.now }
         ensures room { result ≡ Placement.Next → HasRoom (kept self.now) block.now };
 
-    /// The chain with the next block after the others, which has run. On `Memory` the chain is given
+    /// The chain with the next block after the others, which has run. On an error the chain is given
     /// up.
-    fn replay(self, alloc: Global, block: &Block, digest: Digest) -> Result<Self, Memory>
+    fn replay<S: Scratch>(
+        self,
+        alloc: Global,
+        scratch: &mut S,
+        block: &Block,
+        digest: Digest,
+    ) -> Result<Self, ReplayError>
         requires room { HasRoom (kept self) block.now }
         requires is_block { IsBlock block.now }
-        ensures stands { IfOk result (λ longer. (blocks : List Blocks) → StandsFor (kept self) blocks → digest ≡ digest_of block.now → placement_in compiled_in blocks block.now ≡ Placement.Next → StandsFor (kept longer) (blocks ++ block.now ∷ [])) };
+        requires agrees { agrees self (S.state scratch.old) }
+        // Where the device is not called, or it is told which bytes it holds.
+        ensures stands { IfOk result (λ longer. IsToldFor calls_scratch (S.state scratch.old) → (blocks : List Blocks) → StandsFor (kept self) blocks → digest ≡ digest_of block.now → placement_in compiled_in blocks block.now ≡ Placement.Next → StandsFor (kept longer) (blocks ++ block.now ∷ [])) }
+        // Whether that is told or not.
+        ensures digests { IfOk result (λ longer. (kept longer).digests ≡ (kept self).digests ++ digest ∷ []) }
+        ensures agrees { IfOk result (λ longer. agrees longer (S.state scratch.new)) }
+        ensures retains { Retains (S.state scratch.old) (S.state scratch.new) }
+        ensures cause { HasCause (S.scratch_faults scratch.old) (S.scratch_faults scratch.new) (IsErrOf result Fault) }
+        ensures unused { calls_scratch ≡ false → (scratch.new ≡ scratch.old) × (IsErrOf result Fault → ⊥) };
 
     /// Ends the chain. What it keeps has many parts; a function that ends it by this call, and not
     /// where its scope ends, is checked in much less time.

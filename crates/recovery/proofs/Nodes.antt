@@ -1,5 +1,6 @@
 -- A node with one more block, and a node that takes none.
-use Rattle.std.proofs.Common.{◌≡◌, inl, ℕ, ◌+◌, ◌-◌, List, [], ◌∷◌, ◌++◌, length, Option, Some, None, Result, Ok, Err, refl, sym, ap, ◌∙◌, arith}
+use Rattle.std.proofs.Common.{◌≡◌, inl, ℕ, ◌+◌, ◌-◌, List, [], ◌∷◌, ◌++◌, length, Option, Some}
+use Rattle.std.proofs.Common.{None, Result, Ok, Err, refl, sym, ap, subst, ◌∙◌, arith}
 use Rattle.std.specs.Prelude.{slice_get, unwrap_or}
 use Rattle.std.proofs.lemmas.List.{length-append, get_or_push}
 use Rattle.std.proofs.lemmas.Option.{unwrap_or-slice_get}
@@ -7,7 +8,6 @@ use Rattle.lc_base.specs.declared.digest.Digest.{Digest}
 use Rattle.byte_fields.specs.Spelling.{IsBytes}
 use Rattle.block_codec.specs.Placement.{bytes_digest, no_parent, last_digest}
 use Rattle.block_codec.proofs.WholeBlocks.{decided}
-use Rattle.chain_exec.specs.declared.block.BlockRun.{BlockRun}
 use Rattle.std.specs.Option.{is_some}
 use Rattle.lc_io.specs.Disk.{DiskState}
 use Rattle.disk_model.specs.Disk.{Keeps, Rests, content_of}
@@ -16,24 +16,21 @@ use Rattle.block_codec.specs.declared.block.Block.{Block}
 use Rattle.block_log.specs.Log.{LogState, Agrees, IsNextAfter}
 use Rattle.block_log.proofs.Resting.{rests_at, rests_keeps}
 use Rattle.chain_exec.specs.Compiled.{compiled_in}
-use Rattle.chain_replay.specs.Chain.{ChainState, IsAfter, StandsFor, placement_in}
-use Rattle.chain_replay.specs.Judging.{Taken, Added, judged, IsNextBlock}
+use Rattle.chain_replay.specs.Chain.{ChainState, StandsFor, placement_in}
+use Rattle.chain_replay.specs.Judging.{Taken, Added, judged, judged_by_placement, IsNextBlock}
 use Rattle.chain_replay.specs.declared.refusal.Refusal.{Refusal}
+use Rattle.chain_replay.proofs.Chains.{placed_as_kept}
 use Rattle.chain_replay.proofs.Judgements.{added_is_next}
-use Rattle.recovery.specs.Node.{NodeState, AreOfOneChain, HoldsChain, IsNodeOf, IsStepOf, chain_in}
+use Rattle.recovery.specs.Node.{NodeState, AreOfBlocks, AreOfOneChain, HoldsChain, IsNodeOf}
+use Rattle.recovery.specs.Node.{IsStepOf, chain_in}
 use Rattle.recovery.proofs.Placing.{stricter}
 
-rests_weaker : (P Q : List ℕ → Type 0) (state : Option DiskState) → Rests state P → ((c : List ℕ) → P c → Q c) → Rests state Q
-rests_weaker P Q None rests leads = tt
-rests_weaker P Q (Some s) rests leads = (rests.0, leads s.content rests.1)
-
--- the log of a node agrees with its disk
-pub agrees : (node : NodeState) (state : Option DiskState) (blocks : List Block) → IsNodeOf node state blocks → Rests state (Agrees node.log)
-agrees node state blocks is = rests_weaker (HoldsChain node.log blocks) (Agrees node.log) state is.log (λ c holds. holds.agrees)
-
 -- bytes that are judged to be added are the next block after those that the content stands for
-pub next_after : (node : NodeState) (state : Option DiskState) (blocks : List Block) (content bytes : List ℕ) (block : Block) → IsNodeOf node state blocks → content_of state ≡ Some content → block_in bytes ≡ Ok block
-    → judged compiled_in blocks (block_in bytes) ≡ Ok (Added block) → IsNextAfter (placement_in compiled_in) content bytes blocks block
+pub next_after : (node : NodeState) (state : Option DiskState) (blocks : List Block)
+    (content bytes : List ℕ) (block : Block) → IsNodeOf node state blocks
+    → content_of state ≡ Some content → block_in bytes ≡ Ok block
+    → judged compiled_in blocks (block_in bytes) ≡ Ok (Added block)
+    → IsNextAfter (placement_in compiled_in) content bytes blocks block
 next_after node state blocks content bytes block is told decoded judgement = record {
   stricter = stricter compiled_in;
   stands = (rests_at (HoldsChain node.log blocks) state content is.log told).1.stands;
@@ -41,41 +38,84 @@ next_after node state blocks content bytes block is told decoded judgement = rec
   placed = added_is_next compiled_in blocks (block_in bytes) block block decoded judgement;
 }
 
-held_step : (blocks : List Block) (judgement : Result Taken Refusal) (image : List ℕ) → chain_in image ≡ Some blocks → IsStepOf blocks judgement image
+held_step : (blocks : List Block) (judgement : Result Taken Refusal) (image : List ℕ)
+    → chain_in image ≡ Some blocks → IsStepOf blocks judgement image
 held_step blocks (Ok frame) image is = inl is
 held_step blocks (Err refusal) image is = is
 
 -- a node that leaves its disk as it is
-pub still : {D : Type 0} (now : D → ℕ) (disk : D → ℕ → Option DiskState) (old : D) (node : NodeState) (blocks : List Block) (content : List ℕ) (judgement : Result Taken Refusal)
-    → IsNodeOf node (disk old (now old)) blocks → content_of (disk old (now old)) ≡ Some content → Keeps now disk old old (IsStepOf blocks judgement)
+pub still : {D : Type 0} (now : D → ℕ) (disk : D → ℕ → Option DiskState) (old : D)
+    (node : NodeState) (blocks : List Block) (content : List ℕ) (judgement : Result Taken Refusal)
+    → IsNodeOf node (disk old (now old)) blocks → content_of (disk old (now old)) ≡ Some content
+    → Keeps now disk old old (IsStepOf blocks judgement)
 still now disk old node blocks content judgement is told =
     let here = rests_at (HoldsChain node.log blocks) (disk old (now old)) content is.log told in
-    rests_keeps now disk old (IsStepOf blocks judgement) content here.0 (held_step blocks judgement content here.1.stands)
+    rests_keeps now disk old (IsStepOf blocks judgement) content here.0
+    (held_step blocks judgement content here.1.stands)
+
+-- where the disk stays as it is, its content is all that a crash may leave
+pub still_only : {D : Type 0} (now : D → ℕ) (disk : D → ℕ → Option DiskState) (old new : D)
+    (log : LogState) → new ≡ old → Rests (disk old (now old)) (Agrees log) → (content : List ℕ)
+    → content_of (disk old (now old)) ≡ Some content
+    → Keeps now disk old new (λ (image : List ℕ). image ≡ content)
+still_only {D} now disk old new log same rests content told =
+    subst (λ (d : D). Keeps now disk old d (λ (image : List ℕ). image ≡ content)) (sym same)
+    (rests_keeps now disk old (λ (image : List ℕ). image ≡ content) content
+    (rests_at (Agrees log) (disk old (now old)) content rests told).0 refl)
+
+-- bytes that spell the next block of what is kept are judged to be added
+pub is_added : (chain : ChainState) (bytes : List ℕ) (blocks : List Block) (block : Block)
+    (digest : Digest) → IsNextBlock chain bytes block digest → StandsFor chain blocks
+    → judged compiled_in blocks (block_in bytes) ≡ Ok (Added block)
+is_added chain bytes blocks block digest next stands =
+    ap (judged compiled_in blocks) next.decoded
+    ∙ ap (judged_by_placement block)
+    (sym (placed_as_kept chain blocks block digest stands next.digest_is) ∙ next.placed)
 
 -- a node after its next block was stored
-pub longer_node : (node : NodeState) (state new : Option DiskState) (blocks : List Block) (block : Block) (chain : ChainState) (log : LogState) → IsNodeOf node state blocks → StandsFor chain (blocks ++ block ∷ [])
-    → is_some new ≡ is_some state → Rests new (Agrees log) → ((content : List ℕ) → content_of state ≡ Some content → Rests new (λ image. chain_in image ≡ Some (blocks ++ block ∷ [])))
-    → IsNodeOf (record { chain = chain; log = log }) new (blocks ++ block ∷ [])
-longer_node node state new blocks block chain log is stands still agrees added = record { kept = stands; log = both state new still agrees added }
+pub longer_node : (node : NodeState) (state new : Option DiskState) (blocks : List Block)
+    (block : Block) (chain : ChainState) (log : LogState) → IsNodeOf node state blocks
+    → StandsFor chain (blocks ++ block ∷ [])
+    → is_some new ≡ is_some state → Rests new (Agrees log)
+    → ((content : List ℕ) → content_of state ≡ Some content
+    → Rests new (λ image. chain_in image ≡ Some (blocks ++ block ∷ [])))
+    → AreOfBlocks chain log new (blocks ++ block ∷ [])
+longer_node node state new blocks block chain log is stands still agrees added = record
+    { kept = stands; log = both state new still agrees added }
   where
-    both : (state new : Option DiskState) → is_some new ≡ is_some state → Rests new (Agrees log) → ((content : List ℕ) → content_of state ≡ Some content → Rests new (λ image. chain_in image ≡ Some (blocks ++ block ∷ [])))
+    both : (state new : Option DiskState) → is_some new ≡ is_some state → Rests new (Agrees log)
+        → ((content : List ℕ) → content_of state ≡ Some content
+        → Rests new (λ image. chain_in image ≡ Some (blocks ++ block ∷ [])))
         → Rests new (HoldsChain log (blocks ++ block ∷ []))
     both None None still agrees added = tt
     both None (Some n) still agrees added = absurd (cc still)
     both (Some s) None still agrees added = tt
-    both (Some s) (Some n) still agrees added = (agrees.0, record { agrees = agrees.1; stands = (added s.content refl).1 })
+    both (Some s) (Some n) still agrees added =
+        (agrees.0, record { agrees = agrees.1; stands = (added s.content refl).1 })
 
 -- ---- what a longer node keeps
 
 last_of : (digests : List Digest) (digest : Digest) → last_digest (digests ++ digest ∷ []) ≡ digest
 last_of digests digest =
-    let size : length (digests ++ digest ∷ []) - 1 ≡ length digests = omega (arith, length-append digests (digest ∷ [])) in
+    let size : length (digests ++ digest ∷ []) - 1 ≡ length digests = omega
+    (arith, length-append digests (digest ∷ [])) in
     ap (λ (i : ℕ). unwrap_or (slice_get (digests ++ digest ∷ []) i) no_parent) size
-    ∙ unwrap_or-slice_get (digests ++ digest ∷ []) (length digests) no_parent ∙ get_or_push digests digest no_parent (length digests) refl
+    ∙ unwrap_or-slice_get (digests ++ digest ∷ []) (length digests) no_parent
+    ∙ get_or_push digests digest no_parent (length digests) refl
 
-pub one_more : (chain longer : ChainState) (log new : LogState) (bytes : List ℕ) (block : Block) (digest : Digest) (run : BlockRun) → IsBytes bytes → AreOfOneChain chain log → IsNextBlock chain bytes block digest → IsAfter chain block digest longer run
+pub one_more : (chain longer : ChainState) (log new : LogState) (bytes : List ℕ) (block : Block)
+    (digest : Digest) → IsBytes bytes → AreOfOneChain chain log
+    → IsNextBlock chain bytes block digest → longer.digests ≡ chain.digests ++ digest ∷ []
     → new.count ≡ log.count + 1 → new.last ≡ bytes_digest bytes → AreOfOneChain longer new
-one_more chain longer log new bytes block digest run fits one next after count last = record {
-  count_is = omega (arith, count, one.count_is, ap (length {A = Digest}) after.digests, length-append chain.digests (digest ∷ []));
-  last_is = last ∙ ap bytes_digest (decided.found bytes block fits next.decoded).spelled ∙ sym next.digest_is ∙ sym (last_of chain.digests digest) ∙ ap last_digest (sym after.digests);
+one_more chain longer log new bytes block digest fits one next added count last = record {
+  count_is = omega (
+    arith,
+    count,
+    one.count_is,
+    ap (length {A = Digest}) added,
+    length-append
+        chain.digests (digest ∷ []),
+  );
+  last_is = last ∙ ap bytes_digest (decided.found bytes block fits next.decoded).spelled
+      ∙ sym next.digest_is ∙ sym (last_of chain.digests digest) ∙ ap last_digest (sym added);
 }

@@ -1,12 +1,16 @@
 -- A block that is next where rows are counted is next where none is.
-use Rattle.std.proofs.Common.{◌≡◌, ℕ, Bool, true, false, List, length, map, Option, Some, None, refl, ap, ◌∙◌}
+use Rattle.std.proofs.Common.{◌≡◌, ℕ, Bool, true, false, List, length, map, Option, Some, None}
+use Rattle.std.proofs.Common.{refl, ap, ◌∙◌}
 use Rattle.std.specs.Prelude.{◌||◌, ◌==◌, nat_lt, not, if◌then◌else◌, slice_get}
 use Rattle.lc_base.specs.declared.digest.Digest.{Digest}
-use Rattle.block_codec.specs.Placement.{digest_of, last_digest, is_same_digest, block_budget, new_placement, placement}
-use Rattle.block_codec.specs.declared.limits.TheConstants.{MAX_BLOCKS, MAX_BLOCK_BUDGET, MAX_ROWS_BEFORE_BLOCK}
+use Rattle.block_codec.specs.Placement.{digest_of, last_digest, is_same_digest, block_budget}
+use Rattle.block_codec.specs.Placement.{new_placement, placement}
+use Rattle.block_codec.specs.declared.limits.TheConstants.{MAX_BLOCKS, MAX_BLOCK_BUDGET}
+use Rattle.block_codec.specs.declared.limits.TheConstants.{MAX_ROWS_BEFORE_BLOCK}
 use Rattle.block_codec.specs.declared.block.Block.{Block}
 use Rattle.block_codec.specs.declared.placement.Placement.{Placement}
-use Rattle.block_codec.specs.declared.placement.Placement.TheVariants.{Known, Next, Fork, Full, Number, Parent, Budget}
+use Rattle.block_codec.specs.declared.placement.Placement.TheVariants.{Known, Next, Fork, Full}
+use Rattle.block_codec.specs.declared.placement.Placement.TheVariants.{Number, Parent, Budget}
 use Rattle.block_log.specs.Log.{LogState, IsStricter, IsNextOf}
 use Rattle.chain_exec.specs.Compiled.{Compiler}
 use Rattle.chain_replay.specs.Chain.{ChainState, placement_in}
@@ -14,7 +18,8 @@ use Rattle.chain_replay.specs.Judging.{IsNextBlock}
 use Rattle.recovery.specs.Node.{AreOfOneChain}
 
 -- a chain that is full has no next block
-not_full : (full : Bool) (rest : Placement) → (if full then Full else rest) ≡ Next → (full ≡ false) × (rest ≡ Next)
+not_full : (full : Bool) (rest : Placement) → (if full then Full else rest) ≡ Next → (full ≡ false)
+    × (rest ≡ Next)
 not_full true rest is = absurd (cc is)
 not_full false rest is = (refl, is)
 
@@ -22,36 +27,54 @@ or_false : (a b : Bool) → (a || b) ≡ false → a ≡ false
 or_false true b e = e
 or_false false b e = refl
 
-fewer_rows : (held rows : ℕ) (parent : Digest) (block : Block) → new_placement held rows parent block ≡ Next → new_placement held 0 parent block ≡ Next
+fewer_rows : (held rows : ℕ) (parent : Digest) (block : Block)
+    → new_placement held rows parent block ≡ Next → new_placement held 0 parent block ≡ Next
 fewer_rows held rows parent block is =
-    let rest : Placement = if not (block.number == held) then Number held else (if not (is_same_digest block.parent parent) then Parent parent else (if nat_lt MAX_BLOCK_BUDGET (block_budget block) then Budget (block_budget block) else Next)) in
+    let rest : Placement = if not (block.number == held) then Number held else
+    (if not (is_same_digest block.parent parent) then Parent parent else
+    (if nat_lt MAX_BLOCK_BUDGET (block_budget block) then Budget (block_budget block) else
+    Next)) in
     let open_ended = not_full (held == MAX_BLOCKS || nat_lt MAX_ROWS_BEFORE_BLOCK rows) rest is in
-    let few : (held == MAX_BLOCKS) ≡ false = or_false (held == MAX_BLOCKS) (nat_lt MAX_ROWS_BEFORE_BLOCK rows) open_ended.0 in
-    ap (λ (full : Bool). if (full || nat_lt MAX_ROWS_BEFORE_BLOCK 0) then Full else rest) few ∙ open_ended.1
+    let few : (held == MAX_BLOCKS) ≡ false = or_false (held == MAX_BLOCKS)
+    (nat_lt MAX_ROWS_BEFORE_BLOCK rows) open_ended.0 in
+    ap (λ (full : Bool). if (full || nat_lt MAX_ROWS_BEFORE_BLOCK 0) then Full else rest) few
+    ∙ open_ended.1
 
 never_next : (same : Bool) (have : Digest) → (if same then Known else Fork have) ≡ Next → ⊥
 never_next true have is = cc is
 never_next false have is = cc is
 
 -- a block that is next has a number that is not held
-pub new_one : (held rows : ℕ) (have : Option Digest) (parent : Digest) (block : Block) (digest : Digest) → placement held rows have parent block digest ≡ Next → (have ≡ None) × (new_placement held 0 parent block ≡ Next)
-new_one held rows (Some have) parent block digest is = absurd (never_next (is_same_digest have digest) have is)
+pub new_one : (held rows : ℕ) (have : Option Digest) (parent : Digest) (block : Block)
+    (digest : Digest) → placement held rows have parent block digest ≡ Next → (have ≡ None)
+    × (new_placement held 0 parent block ≡ Next)
+new_one held rows (Some have) parent block digest is = absurd
+    (never_next (is_same_digest have digest) have is)
 new_one held rows None parent block digest is = (refl, fewer_rows held rows parent block is)
 
-unrun : (held rows : ℕ) (have : Option Digest) (parent : Digest) (block : Block) (digest : Digest) → placement held rows have parent block digest ≡ Next → placement held 0 have parent block digest ≡ Next
-unrun held rows (Some have) parent block digest is = absurd (never_next (is_same_digest have digest) have is)
+unrun : (held rows : ℕ) (have : Option Digest) (parent : Digest) (block : Block) (digest : Digest)
+    → placement held rows have parent block digest ≡ Next
+    → placement held 0 have parent block digest ≡ Next
+unrun held rows (Some have) parent block digest is = absurd
+    (never_next (is_same_digest have digest) have is)
 unrun held rows None parent block digest is = fewer_rows held rows parent block is
 
 -- A placement that counts rows is stricter than that of the log.
 pub stricter : (compile : Compiler) → IsStricter (placement_in compile)
-stricter compile blocks block is = unrun (length blocks) _ (slice_get (map digest_of blocks) block.number) (last_digest (map digest_of blocks)) block (digest_of block) is
+stricter compile blocks block is = unrun (length blocks) _
+    (slice_get (map digest_of blocks) block.number) (last_digest (map digest_of blocks)) block
+    (digest_of block) is
 
 -- The next block of a chain is that of the log of its blocks.
-pub next_of_log : (chain : ChainState) (log : LogState) (bytes : List ℕ) (block : Block) (digest : Digest) → AreOfOneChain chain log → IsNextBlock chain bytes block digest → IsNextOf log bytes
+pub next_of_log : (chain : ChainState) (log : LogState) (bytes : List ℕ) (block : Block)
+    (digest : Digest) → AreOfOneChain chain log → IsNextBlock chain bytes block digest
+    → IsNextOf log bytes
 next_of_log chain log bytes block digest one next = record {
   block = block;
   decoded = next.decoded;
   placed =
-      ap (λ (count : ℕ). new_placement count 0 log.last block) one.count_is ∙ ap (λ (last : Digest). new_placement (length chain.digests) 0 last block) one.last_is
-      ∙ (new_one (length chain.digests) (length chain.rows) (slice_get chain.digests block.number) (last_digest chain.digests) block digest next.placed).1;
+      ap (λ (count : ℕ). new_placement count 0 log.last block) one.count_is
+      ∙ ap (λ (last : Digest). new_placement (length chain.digests) 0 last block) one.last_is
+      ∙ (new_one (length chain.digests) (length chain.rows) (slice_get chain.digests block.number)
+      (last_digest chain.digests) block digest next.placed).1;
 }

@@ -1,10 +1,12 @@
 -- Running the blocks of a log one after another, as a loop does.
-use Rattle.std.proofs.Common.{◌≡◌, ℕ, List, [], ◌∷◌, ◌++◌, false, refl, sym, ap, subst, ◌∙◌, append_assoc, arith}
+use Rattle.std.proofs.Common.{◌≡◌, ℕ, List, [], ◌∷◌, ◌++◌, false, refl, sym, ap, subst, ◌∙◌}
+use Rattle.std.proofs.Common.{append_assoc, arith}
 use Rattle.std.specs.Option.{is_some}
 use Rattle.std.proofs.lemmas.List.{append-nil, map_push}
 use Rattle.block_codec.specs.declared.block.Block.{Block}
 use Rattle.block_codec.specs.declared.placement.Placement.{Placement}
-use Rattle.block_codec.specs.declared.placement.Placement.TheVariants.{Known, Next, Fork, Full, Number, Parent, Budget}
+use Rattle.block_codec.specs.declared.placement.Placement.TheVariants.{Known, Next, Fork, Full}
+use Rattle.block_codec.specs.declared.placement.Placement.TheVariants.{Number, Parent, Budget}
 use Rattle.block_log.specs.Standing.{Standing, Damaged, if_next, blocks_in, records_at, standing}
 use Rattle.block_log.specs.Log.{next_in_log}
 use Rattle.block_log.specs.Stricter.{restood}
@@ -16,20 +18,28 @@ use Rattle.chain_replay.specs.Chain.{ChainState, StandsFor, nothing_kept, placem
 use Rattle.recovery.specs.Node.{next_in_chain}
 use Rattle.recovery.proofs.Placing.{stricter}
 
--- These blocks have run, one after another; a placement that counts rows goes on after them, whatever
+-- These blocks have run, one after another; a placement that counts rows goes on after them,
+-- whatever
 -- blocks follow.
 pub record AreRun (stored : List Stored) (chain : ChainState) : Type 0 where
   pub stands : StandsFor chain (blocks_in stored)
-  pub same : (more : List Stored) (end : List Stored → Standing) → restood (placement_in compiled_in) [] (stored ++ more) end ≡ restood (placement_in compiled_in) stored more end
+  pub same : (more : List Stored) (end : List Stored → Standing)
+      → restood (placement_in compiled_in) [] (stored ++ more) end ≡ restood
+      (placement_in compiled_in) stored more end
 
 no_blocks : StandsFor nothing_kept []
 unfolding replay
-no_blocks = record { chained = λ i block within. absurd (omega arith); digests_are = refl; history_is = refl }
+no_blocks = record {
+  chained = λ i block within. absurd (omega arith);
+  digests_are = refl;
+  history_is = refl;
+}
 
 pub none_run : AreRun [] nothing_kept
 none_run = record { stands = no_blocks; same = λ more end. refl }
 
-not_next : (block : Block) (place : Placement) → (place ≡ Next → ⊥) → is_some (if_next block place) ≡ false
+not_next : (block : Block) (place : Placement) → (place ≡ Next → ⊥)
+    → is_some (if_next block place) ≡ false
 not_next block Known other = refl
 not_next block Next other = absurd (other refl)
 not_next block (Fork have) other = refl
@@ -40,21 +50,33 @@ not_next block (Budget sum) other = refl
 
 module _ (stored : List Stored) (chain : ChainState) (run : AreRun stored chain) where
   -- one more block, which is the next one
-  pub one_run : (next : Stored) (longer : ChainState) → placement_in compiled_in (blocks_in stored) next.block ≡ Next → StandsFor longer (blocks_in stored ++ next.block ∷ []) → AreRun (stored ++ next ∷ []) longer
+  pub one_run : (next : Stored) (longer : ChainState)
+      → placement_in compiled_in (blocks_in stored) next.block ≡ Next
+      → StandsFor longer (blocks_in stored ++ next.block ∷ []) → AreRun (stored ++ next ∷ []) longer
   one_run next longer here extended = record {
-    stands = subst (StandsFor longer) (sym (map_push (λ (s : Stored). s.block) stored next)) extended;
+    stands = subst (StandsFor longer) (sym (map_push (λ (s : Stored). s.block) stored next))
+        extended;
     same = λ more end.
-        ap (λ (all : List Stored). restood (placement_in compiled_in) [] all end) (append_assoc stored (next ∷ []) more) ∙ run.same (next ∷ more) end
-        ∙ restood_next (placement_in compiled_in) stored next more end (ap (λ (p : Placement). is_some (if_next next.block p)) here);
+        ap (λ (all : List Stored). restood (placement_in compiled_in) [] all end)
+        (append_assoc stored (next ∷ []) more) ∙ run.same (next ∷ more) end
+        ∙ restood_next (placement_in compiled_in) stored next more end
+        (ap (λ (p : Placement). is_some (if_next next.block p)) here);
   }
 
   -- one that is not
-  pub not_run : (next : Stored) (image : List ℕ) (count gate : ℕ) (bytes : List ℕ) → (placement_in compiled_in (blocks_in stored) next.block ≡ Next → ⊥)
-      → standing next_in_log image ≡ records_at next_in_log count gate (stored ++ next ∷ []) bytes → standing next_in_chain image ≡ Damaged stored next.place
+  pub not_run : (next : Stored) (image : List ℕ) (count gate : ℕ) (bytes : List ℕ)
+      → (placement_in compiled_in (blocks_in stored) next.block ≡ Next → ⊥)
+      → standing next_in_log image ≡ records_at next_in_log count gate (stored ++ next ∷ []) bytes
+      → standing next_in_chain image ≡ Damaged stored next.place
   not_run next image count gate bytes other stands =
-      damaged_at (placement_in compiled_in) (stricter compiled_in) image count gate stored next bytes stands run.same (not_next next.block (placement_in compiled_in (blocks_in stored) next.block) other)
+      damaged_at (placement_in compiled_in) (stricter compiled_in) image count gate stored next
+      bytes stands run.same (not_next next.block
+      (placement_in compiled_in (blocks_in stored) next.block) other)
 
   -- no more
-  pub all_run : (end : List Stored → Standing) → restood (placement_in compiled_in) [] stored end ≡ end stored
+  pub all_run : (end : List Stored → Standing)
+      → restood (placement_in compiled_in) [] stored end ≡ end stored
   all_run end =
-      ap (λ (all : List Stored). restood (placement_in compiled_in) [] all end) (sym (append-nil stored)) ∙ run.same [] end ∙ restood_none (placement_in compiled_in) stored end
+      ap (λ (all : List Stored). restood (placement_in compiled_in) [] all end)
+      (sym (append-nil stored)) ∙ run.same [] end
+      ∙ restood_none (placement_in compiled_in) stored end

@@ -1,16 +1,18 @@
 -- The node that a log is started with.
-use Rattle.std.proofs.Common.{◌≡◌, inl, inr, ℕ, Bool, true, false, eqb, List, [], length, Option, Some, None, Result, Ok, Err, refl, sym, ap, subst, ◌∙◌, true≢false}
+use Rattle.std.proofs.Common.{◌≡◌, inl, inr, ℕ, Bool, eqb, List, [], length, Option, Some, None}
+use Rattle.std.proofs.Common.{Result, Ok, Err, refl, sym, ap, subst, ◌∙◌, true≢false}
 use Rattle.std.specs.Prelude.{IfOk, IsErrOf, MatchBool}
 use Rattle.std.proofs.lemmas.List.{length-map}
 use Rattle.std.proofs.lemmas.Bool.{cases_Bool, eqb-true, eq-eqb}
 use Rattle.lc_base.specs.Faults.{HasCause}
 use Rattle.lc_base.specs.declared.digest.Digest.{Digest}
 use Rattle.lc_io.specs.Disk.{DiskState}
-use Rattle.disk_model.specs.Disk.{IsSettled, content_of}
-use Rattle.block_codec.specs.Placement.{digest_of, last_digest}
+use Rattle.disk_model.specs.Disk.{IsSettled, Rests, content_of}
+use Rattle.block_codec.specs.Placement.{last_digest}
 use Rattle.block_codec.specs.declared.block.Block.{Block}
 use Rattle.block_log.specs.Standing.{NotALog, Damaged, Holds, blocks_in, blocks_of, standing}
-use Rattle.block_log.specs.Log.{LogState, AgreesWithBlocks, AgreesWithBlank, IsStarted as IsLogStarted, next_in_log}
+use Rattle.block_log.specs.Log.{LogState, Agrees, AgreesWithBlocks, AgreesWithBlank}
+use Rattle.block_log.specs.Log.{IsStarted as IsLogStarted, next_in_log}
 use Rattle.block_log.specs.Reader.{AreAll, IsOpened, IsTurn}
 use Rattle.block_log.specs.declared.error.LogError.{LogError}
 use Rattle.block_log.specs.declared.error.LogError.TheVariants as logs
@@ -19,102 +21,180 @@ use Rattle.block_log.proofs.Stricter.{stands_stricter}
 use Rattle.block_log.specs.declared.layout.Stored.{Stored}
 use Rattle.chain_exec.specs.Compiled.{compiled_in}
 use Rattle.chain_replay.specs.Chain.{ChainState, nothing_kept, placement_in}
-use Rattle.recovery.specs.Node.{AreOfOneChain, IsNodeOf, IsStarted, chain_in, next_in_chain}
-use Rattle.recovery.specs.Restoring.{HasRun, IsRestored, start_error}
+use Rattle.recovery.specs.Node.{AreOfBlocks, AreOfOneChain, IsStarted, chain_in, next_in_chain}
+use Rattle.recovery.specs.Restoring.{HasRead, HasRun, IsRestored, start_error}
 use Rattle.recovery.specs.declared.errors.StartError.{StartError}
 use Rattle.recovery.specs.declared.errors.StartError.TheVariants as starts
 use Rattle.recovery.proofs.Placing.{stricter}
 use Rattle.recovery.proofs.Replaying.{AreRun, none_run, all_run}
 
 -- what bytes stand for where rows are counted
-counted : (image : List ℕ) → standing next_in_chain image ≡ restanding (placement_in compiled_in) (standing next_in_log image)
+counted : (image : List ℕ)
+    → standing next_in_chain image ≡ restanding (placement_in compiled_in)
+    (standing next_in_log image)
 counted image = stands_stricter (placement_in compiled_in) (stricter compiled_in) image
 
-pub not_a_log : (image : List ℕ) → standing next_in_log image ≡ NotALog → standing next_in_chain image ≡ NotALog
+pub not_a_log : (image : List ℕ) → standing next_in_log image ≡ NotALog
+    → standing next_in_chain image ≡ NotALog
 not_a_log image is = counted image ∙ ap (restanding (placement_in compiled_in)) is
 
 module _ (stored : List Stored) (chain : ChainState) (run : AreRun stored chain) where
   -- the log is damaged after these blocks
-  pub damaged_after : (image : List ℕ) (at : ℕ) → standing next_in_log image ≡ Damaged stored at → standing next_in_chain image ≡ Damaged stored at
-  damaged_after image at is = counted image ∙ ap (restanding (placement_in compiled_in)) is ∙ all_run stored chain run (λ held. Damaged held at)
+  pub damaged_after : (image : List ℕ) (at : ℕ) → standing next_in_log image ≡ Damaged stored at
+      → standing next_in_chain image ≡ Damaged stored at
+  damaged_after image at is = counted image ∙ ap (restanding (placement_in compiled_in)) is
+      ∙ all_run stored chain run (λ held. Damaged held at)
 
   -- these are all blocks, of bytes with a head or without
-  chain_is : (log : LogState) (image : List ℕ) → IsLogStarted log stored image → chain_in image ≡ Some (blocks_in stored)
+  chain_is : (log : LogState) (image : List ℕ) → IsLogStarted log stored image
+      → chain_in image ≡ Some (blocks_in stored)
   chain_is log image started = elim (cases_Bool log.is_ready) [
     | inl ready ↦
-        let holds = subst (λ (b : Bool). MatchBool b (standing next_in_log image ≡ Holds stored log.gate) (stored ≡ [])) ready started.1 in
-        ap blocks_of (counted image ∙ ap (restanding (placement_in compiled_in)) holds ∙ all_run stored chain run (λ held. Holds held log.gate))
+        let holds = subst (λ (b : Bool). MatchBool b
+        (standing next_in_log image ≡ Holds stored log.gate) (stored ≡ [])) ready started.1 in
+        ap blocks_of (counted image ∙ ap (restanding (placement_in compiled_in)) holds
+        ∙ all_run stored chain run (λ held. Holds held log.gate))
     | inr headless ↦
-        let blank = (subst (λ (b : Bool). MatchBool b (AgreesWithBlocks log image) (AgreesWithBlank log image)) headless started.0).stands in
-        let none = subst (λ (b : Bool). MatchBool b (standing next_in_log image ≡ Holds stored log.gate) (stored ≡ [])) headless started.1 in
-        ap blocks_of (counted image ∙ ap (restanding (placement_in compiled_in)) blank) ∙ ap (λ (all : List Stored). Some (blocks_in all)) (sym none)
+        let blank = (subst (λ (b : Bool). MatchBool b (AgreesWithBlocks log image)
+        (AgreesWithBlank log image)) headless started.0).stands in
+        let none = subst (λ (b : Bool). MatchBool b
+        (standing next_in_log image ≡ Holds stored log.gate) (stored ≡ [])) headless started.1
+        in
+        ap blocks_of (counted image ∙ ap (restanding (placement_in compiled_in)) blank)
+        ∙ ap (λ (all : List Stored). Some (blocks_in all)) (sym none)
   ]
 
-  pub has_run : (log : LogState) (content : Option (List ℕ)) → AreAll log content stored → HasRun chain log content
-  has_run log content all = record { stored = stored; all = all; stands = run.stands; counted = λ image told. chain_is log image (all.started image told) }
+  pub has_run : (log : LogState) (content : Option (List ℕ)) → AreAll log content stored
+      → HasRun chain log content
+  has_run log content all = record {
+    stored = stored;
+    all = all;
+    stands = run.stands;
+    counted = λ image told. chain_is log image
+        (all.started image told);
+  }
 
 -- There is no block.
-pub blank_run : (chain : ChainState) (log : LogState) (content : Option (List ℕ)) → chain ≡ nothing_kept → AreAll log content [] → HasRun chain log content
-blank_run chain log content is all = has_run [] chain (subst (AreRun []) (sym is) none_run) log content all
+pub blank_run : (chain : ChainState) (log : LogState) (content : Option (List ℕ))
+    → chain ≡ nothing_kept → AreAll log content [] → HasRun chain log content
+blank_run chain log content is all = has_run [] chain (subst (AreRun []) (sym is) none_run) log
+    content all
+
+-- There is no block, whatever the device holds.
+pub blank_read : (chain : ChainState) (log : LogState) (content : Option (List ℕ))
+    → chain ≡ nothing_kept → AreAll log content [] → HasRead chain log content
+blank_read chain log content is all = record
+    { stored = []; all = all; digests_are = ap (λ (kept : ChainState). kept.digests) is }
 
 -- the chain and the log of the same blocks
-one_chain : (chain : ChainState) (log : LogState) (content : Option (List ℕ)) → HasRun chain log content → AreOfOneChain chain log
-one_chain chain log content run = record {
-  count_is =
-      run.all.held.count_is ∙ sym (length-map run.stored (λ (s : Stored). s.block)) ∙ sym (length-map (blocks_in run.stored) digest_of)
-      ∙ ap (length {A = Digest}) (sym run.stands.digests_are);
-  last_is = run.all.held.last_is ∙ ap last_digest (sym run.stands.digests_are);
+one_chain : (chain : ChainState) (log : LogState) (content : Option (List ℕ))
+    → HasRead chain log content → AreOfOneChain chain log
+one_chain chain log content read = record {
+  count_is = read.all.held.count_is ∙ sym (length-map read.stored (λ (s : Stored). s.digest))
+      ∙ ap (length {A = Digest}) (sym read.digests_are);
+  last_is = read.all.held.last_is
+      ∙ ap last_digest (sym (read.digests_are ∙ read.all.are_stored.digests_are));
 }
 
--- The node of the blocks of a log.
-node_of : (chain : ChainState) (log : LogState) (state : Option DiskState) → IsSettled state → (run : HasRun chain log (content_of state)) → IsNodeOf (record { chain = chain; log = log }) state (blocks_in run.stored)
+-- the log agrees with what is told of its disk
+log_rests : (chain : ChainState) (log : LogState) (state : Option DiskState) → IsSettled state
+    → HasRead chain log (content_of state) → Rests state (Agrees log)
+log_rests chain log None rests read = tt
+log_rests chain log (Some s) rests read = (rests, (read.all.started s.content refl).0)
+
+-- The chain and the log of these blocks.
+node_of : (chain : ChainState) (log : LogState) (state : Option DiskState) → IsSettled state
+    → (run : HasRun chain log (content_of state))
+    → AreOfBlocks chain log state (blocks_in run.stored)
 node_of chain log None rests run = record { kept = run.stands; log = tt }
-node_of chain log (Some s) rests run = record { kept = run.stands; log = (rests, record { agrees = (run.all.started s.content refl).0; stands = run.counted s.content refl }) }
+node_of chain log (Some s) rests run = record {
+  kept = run.stands;
+  log = (
+    rests,
+    record {
+      agrees = (run.all.started s.content refl).0;
+      stands = run.counted s.content
+          refl;
+    },
+  );
+}
 
-module _ {C : Type 0} (kept : C → ChainState) (state : Option DiskState) (rests : IsSettled state) where
-  pub started : (result : Result (C × LogState) StartError) → IsRestored kept (content_of state) result → (image : List ℕ) → content_of state ≡ Some image
-      → IsStarted (λ (opened : C × LogState). IsNodeOf (record { chain = kept opened.0; log = opened.1 }) state) (standing next_in_chain image) result
-  started (Ok opened) run image told = (blocks_in run.stored, run.counted image told, node_of (kept opened.0) opened.1 state rests run)
-  started (Err starts.NotALog) run image told = run image told
-  started (Err (starts.Damaged at)) run image told = run image told
-  started (Err starts.DiskFault) run image told = tt
-  started (Err starts.Memory) run image told = tt
+module _ {C : Type 0} (kept : C → ChainState) (state : Option DiskState) (rests : IsSettled state)
+  where
+    pub started : (result : Result (C × LogState) StartError)
+        → IsRestored kept (content_of state) result → (image : List ℕ) → content_of state ≡ Some image
+        → IsStarted (λ (opened : C × LogState). AreOfBlocks (kept opened.0) opened.1 state)
+        (standing next_in_chain image) result
+    started (Ok opened) run image told = (
+      blocks_in run.stored,
+      run.counted image told,
+      node_of (kept opened.0) opened.1 state rests
+          run,
+    )
+    started (Err starts.NotALog) run image told = run image told
+    started (Err (starts.Damaged at)) run image told = run image told
+    started (Err starts.DiskFault) run image told = tt
+    started (Err starts.ScratchFault) run image told = tt
+    started (Err starts.Memory) run image told = tt
 
-  pub has_node : (result : Result (C × LogState) StartError) → IsRestored kept (content_of state) result
-      → IfOk result (λ (opened : C × LogState). (blocks : List Block) × IsNodeOf (record { chain = kept opened.0; log = opened.1 }) state blocks)
-  has_node (Ok opened) run = (blocks_in run.stored, node_of (kept opened.0) opened.1 state rests run)
-  has_node (Err error) run = tt
+    pub has_node : (result : Result (C × LogState) StartError)
+        → IsRestored kept (content_of state) result
+        → IfOk result (λ (opened : C × LogState). (blocks : List Block)
+        × AreOfBlocks (kept opened.0) opened.1 state blocks)
+    has_node (Ok opened) run =
+        (blocks_in run.stored, node_of (kept opened.0) opened.1 state rests run)
+    has_node (Err error) run = tt
 
-  pub has_one_chain : (result : Result (C × LogState) StartError) → IsRestored kept (content_of state) result → IfOk result (λ (opened : C × LogState). AreOfOneChain (kept opened.0) opened.1)
-  has_one_chain (Ok opened) run = one_chain (kept opened.0) opened.1 (content_of state) run
-  has_one_chain (Err error) run = tt
+    pub has_one_chain : (result : Result (C × LogState) StartError)
+        → IfOk result (λ (opened : C × LogState). HasRead (kept opened.0) opened.1 (content_of state))
+        → IfOk result (λ (opened : C × LogState). AreOfOneChain (kept opened.0) opened.1)
+    has_one_chain (Ok opened) read = one_chain (kept opened.0) opened.1 (content_of state) read
+    has_one_chain (Err error) read = tt
+
+    pub has_log : (result : Result (C × LogState) StartError)
+        → IfOk result (λ (opened : C × LogState). HasRead (kept opened.0) opened.1 (content_of state))
+        → IfOk result (λ (opened : C × LogState). Rests state (Agrees opened.1))
+    has_log (Ok opened) read = log_rests (kept opened.0) opened.1 state rests read
+    has_log (Err error) read = tt
 
 -- Nothing was started with, since reading the log failed so.
-pub failed_start : {C : Type 0} (kept : C → ChainState) (content : Option (List ℕ)) (failed : LogError) (error : StartError) → error ≡ start_error failed → IsOpened content (Err failed) → IsRestored kept content (Err error)
-failed_start {C} kept content failed error is opened = subst (λ (e : StartError). IsRestored {C = C} kept content (Err e)) (sym is) (there failed opened)
+pub failed_start : {C : Type 0} (kept : C → ChainState) (content : Option (List ℕ))
+    (failed : LogError) (error : StartError) → error ≡ start_error failed
+    → IsOpened content (Err failed) → IsRestored kept content (Err error)
+failed_start {C} kept content failed error is opened = subst
+    (λ (e : StartError). IsRestored {C = C} kept content (Err e)) (sym is) (there failed opened)
   where
-    there : (failed : LogError) → IsOpened content (Err failed) → IsRestored {C = C} kept content (Err (start_error failed))
+    there : (failed : LogError) → IsOpened content (Err failed)
+        → IsRestored {C = C} kept content (Err (start_error failed))
     there logs.NotALog opened = λ image told. not_a_log image (opened image told)
     there (logs.Damaged at) opened = absurd opened
     there logs.DiskFault opened = tt
     there logs.Memory opened = tt
 
 -- Reading a block failed so, after blocks that have run.
-pub failed_turn : {C : Type 0} (kept : C → ChainState) (content : Option (List ℕ)) (stored : List Stored) (chain : ChainState) → AreRun stored chain → (failed : LogError) (error : StartError) → error ≡ start_error failed → IsTurn content stored (Err failed) → IsRestored kept content (Err error)
-failed_turn {C} kept content stored chain run failed error is turn = subst (λ (e : StartError). IsRestored {C = C} kept content (Err e)) (sym is) (there failed turn)
+pub failed_turn : {C : Type 0} (kept : C → ChainState) (content : Option (List ℕ))
+    (stored : List Stored) (chain : ChainState) → AreRun stored chain
+    → (failed : LogError) (error : StartError) → error ≡ start_error failed
+    → IsTurn content stored (Err failed) → IsRestored kept content (Err error)
+failed_turn {C} kept content stored chain run failed error is turn = subst
+    (λ (e : StartError). IsRestored {C = C} kept content (Err e)) (sym is) (there failed turn)
   where
-    there : (failed : LogError) → IsTurn content stored (Err failed) → IsRestored {C = C} kept content (Err (start_error failed))
+    there : (failed : LogError) → IsTurn content stored (Err failed)
+        → IsRestored {C = C} kept content (Err (start_error failed))
     there logs.NotALog turn = absurd turn
-    there (logs.Damaged at) turn = λ image told. (stored, damaged_after stored chain run image at (turn image told))
+    there (logs.Damaged at) turn = λ image told.
+        (stored, damaged_after stored chain run image at (turn image told))
     there logs.DiskFault turn = tt
     there logs.Memory turn = tt
 
 -- A call that ends well leaves a count of faults as it was.
-pub unblamed : {T E : Type 0} {x : T} {e : E} (before now : ℕ) → HasCause before now (IsErrOf (Ok x) e) → now ≡ before
+pub unblamed : {T E : Type 0} {x : T} {e : E} (before now : ℕ)
+    → HasCause before now (IsErrOf (Ok x) e) → now ≡ before
 unblamed {T} {E} {x} {e} before now cause =
     elim (cases_Bool (eqb now before)) [
       | inl same ↦ eqb-true now before same
       | inr differ ↦
-          let both : Ok x ≡ Err e = cause.told (λ is. true≢false (sym (eq-eqb now before is) ∙ differ)) in
+          let both : Ok x ≡ Err e = cause.told
+          (λ is. true≢false (sym (eq-eqb now before is) ∙ differ)) in
           absurd cc
     ]

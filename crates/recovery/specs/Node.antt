@@ -1,11 +1,17 @@
 -- The chain of a log's blocks, and the log.
-use Rattle.std.specs.Prelude.{◌≡◌, ◌⊎◌, ℕ, Bool, true, false, List, [], ◌∷◌, ◌++◌, length, Option, Some, None, Result, Ok, Err}
+use Rattle.std.specs.Prelude.{◌≡◌, ◌⊎◌, ℕ, Bool, true, false, List, [], ◌∷◌, ◌++◌, length, Option}
+use Rattle.std.specs.Prelude.{Some, None, IfSome, Result, Ok, Err}
+use Rattle.std.specs.Option.{is_some}
 use Rattle.lc_io.specs.Disk.{DiskState}
+use Rattle.scratch_model.specs.Scratch.{ScratchState, is_told}
+use Rattle.body_store.specs.Bodies.{BodiesState}
+use Rattle.merkle_dag.specs.Lineage.{LineageState, AgreesWith}
 use Rattle.disk_model.specs.Disk.{Rests}
 use Rattle.block_codec.specs.Reading.{block_in}
 use Rattle.block_codec.specs.Placement.{last_digest}
 use Rattle.block_codec.specs.declared.block.Block.{Block}
-use Rattle.block_log.specs.Standing.{Standing, NotALog, Damaged, NextBlock, next_block, blocks_of, chain_of}
+use Rattle.block_log.specs.Standing.{Standing, NotALog, Damaged, NextBlock, next_block, blocks_of}
+use Rattle.block_log.specs.Standing.{chain_of}
 use Rattle.block_log.specs.Log.{LogState, Agrees}
 use Rattle.block_log.specs.declared.layout.Stored.{Stored}
 use Rattle.chain_exec.specs.Compiled.{compiled_in}
@@ -14,7 +20,9 @@ use Rattle.chain_exec.specs.Replay.{replay}
 use Rattle.chain_replay.specs.Chain.{ChainState, StandsFor, placement_in}
 use Rattle.chain_replay.specs.Judging.{Taken, Known, Added, added_by}
 use Rattle.chain_replay.specs.declared.refusal.Refusal.{Refusal}
-use Rattle.rooted_chain.specs.Roots.{root_in}
+use Rattle.chain_replay.specs.declared.replaying.ReplayError.{ReplayError}
+use Rattle.chain_replay.specs.declared.replaying.ReplayError.TheVariants as replays
+use Rattle.rooted_chain.specs.Roots.{root_in, lineage_of}
 use Rattle.recovery.specs.declared.errors.StartError.{StartError}
 use Rattle.recovery.specs.declared.errors.StartError.TheVariants as starts
 use Rattle.recovery.specs.declared.errors.AppendError.{AppendError}
@@ -22,10 +30,15 @@ use Rattle.recovery.specs.declared.errors.AppendError.TheVariants as errors
 use Rattle.recovery.specs.declared.node.Appended.{Appended}
 use Rattle.recovery.specs.declared.node.Appended.TheVariants as appendeds
 
--- What a node keeps.
+-- What a node keeps: that of its chain, where the bodies of the rows are kept, and that of the log.
 pub record NodeState : Type 0 where
   pub chain : ChainState
+  pub bodies : BodiesState
   pub log : LogState
+
+-- The lineage of its chain.
+abbrev pub lineage_in : NodeState → LineageState
+lineage_in node = lineage_of node.chain node.bodies
 
 -- The log holds the number of the chain's blocks and the digest of the last one.
 pub record AreOfOneChain (chain : ChainState) (log : LogState) : Type 0 where
@@ -45,23 +58,43 @@ pub record HoldsChain (log : LogState) (blocks : List Block) (image : List ℕ) 
   pub agrees : Agrees log image
   pub stands : chain_in image ≡ Some blocks
 
--- A node of these blocks: its chain stands for them, and where the disk is told nothing is pending,
--- and its content stands for them.
-pub record IsNodeOf (node : NodeState) (state : Option DiskState) (blocks : List Block) : Type 0 where
-  pub kept : StandsFor node.chain blocks
-  pub log : Rests state (HoldsChain node.log blocks)
+-- A chain and a log of these blocks: the chain stands for them, and where the disk is told nothing
+-- is
+-- pending, and its content stands for them.
+pub record AreOfBlocks (chain : ChainState) (held : LogState) (state : Option DiskState)
+    (blocks : List Block) : Type 0 where
+  pub kept : StandsFor chain blocks
+  pub log : Rests state (HoldsChain held blocks)
+
+-- A node of these blocks.
+abbrev pub IsNodeOf : NodeState → Option DiskState → List Block → Type 0
+IsNodeOf node state blocks = AreOfBlocks node.chain node.log state blocks
+
+-- A node over a disk and a scratch device. Whether it is told which bytes the device holds or not,
+-- the
+-- lineage agrees with the device, and where the disk is told nothing is pending, and the log agrees
+-- with
+-- its content. Where it is told which bytes the device holds, it is the node of some blocks.
+pub record IsReady (node : NodeState) (state : Option DiskState) (scratch : ScratchState) : Type 0
+  where
+    pub agrees : AgreesWith (lineage_in node) scratch
+    pub log : Rests state (Agrees node.log)
+    pub of : is_told scratch ≡ true → (blocks : List Block) × IsNodeOf node state blocks
 
 -- Why there is nothing to start with on bytes that stand so.
 abbrev pub IsNoStart : Standing → StartError → Type 0
 IsNoStart stands starts.NotALog = stands ≡ NotALog
 IsNoStart stands (starts.Damaged at) = (before : List Stored) × (stands ≡ Damaged before at)
 IsNoStart stands starts.DiskFault = Unit {0}
+IsNoStart stands starts.ScratchFault = Unit {0}
 IsNoStart stands starts.Memory = Unit {0}
 
 -- What is started with on bytes that stand so: it is of their blocks in this way, or it is said why
 -- there is nothing.
-abbrev pub IsStarted : {A : Type 0} → (A → List Block → Type 0) → Standing → Result A StartError → Type 0
-IsStarted IsOf stands (Ok started) = (blocks : List Block) × (blocks_of stands ≡ Some blocks) × IsOf started blocks
+abbrev pub IsStarted : {A : Type 0} → (A → List Block → Type 0) → Standing → Result A StartError
+    → Type 0
+IsStarted IsOf stands (Ok started) = (blocks : List Block) × (blocks_of stands ≡ Some blocks)
+    × IsOf started blocks
 IsStarted IsOf stands (Err error) = IsNoStart stands error
 
 -- A node of the blocks, on this disk.
@@ -74,15 +107,18 @@ IsChainStored stands result = IsStarted StandsFor stands result
 
 -- ---- one more block
 
--- What a crash may leave while bytes that are judged so are taken: the chain from before, or that with
+-- What a crash may leave while bytes that are judged so are taken: the chain from before, or that
+-- with
 -- the block that they add.
 abbrev pub IsStepOf : List Block → Result Taken Refusal → List ℕ → Type 0
-IsStepOf blocks (Ok frame) image = (chain_in image ≡ Some blocks) ⊎ (chain_in image ≡ Some (blocks ++ added_by frame))
+IsStepOf blocks (Ok frame) image = (chain_in image ≡ Some blocks)
+    ⊎ (chain_in image ≡ Some (blocks ++ added_by frame))
 IsStepOf blocks (Err refusal) image = chain_in image ≡ Some blocks
 
 -- What is told of bytes that are judged so. A block that is held already leaves the node as it was;
 -- of one that was added the rows, the receipts, and the root at it are told.
-abbrev pub IsAppended : NodeState → List Block → Result Taken Refusal → NodeState → Appended → Type 0
+abbrev pub IsAppended : NodeState → List Block → Result Taken Refusal → NodeState → Appended
+    → Type 0
 IsAppended old blocks judgement node (appendeds.Known number) =
     (block : Block) × (judgement ≡ Ok (Known block)) × (number ≡ block.number) × (node ≡ old)
 IsAppended old blocks judgement node (appendeds.Added number rows receipts root) =
@@ -98,15 +134,26 @@ blocks_after blocks (Err refusal) = blocks
 
 -- What is handed back where bytes that are judged so were not taken: the node as it was where they
 -- are refused, and none otherwise.
-abbrev pub IsHandedBack : NodeState → Option DiskState → List Block → Result Taken Refusal → Option NodeState → AppendError → Type 0
-IsHandedBack old state blocks judgement back (errors.Refused refusal) = (judgement ≡ Err refusal) × (back ≡ Some old) × IsNodeOf old state blocks
+abbrev pub IsHandedBack : NodeState → Option DiskState → List Block → Result Taken Refusal
+    → Option NodeState → AppendError → Type 0
+IsHandedBack old state blocks judgement back (errors.Refused refusal) = (judgement ≡ Err refusal)
+    × (back ≡ Some old) × IsNodeOf old state blocks
 IsHandedBack old state blocks judgement back errors.DiskFault = back ≡ None
+IsHandedBack old state blocks judgement back errors.ScratchFault = back ≡ None
 IsHandedBack old state blocks judgement back errors.Memory = back ≡ None
 
 -- What is answered to bytes that are judged so.
-abbrev pub IsAppendAnswer : NodeState → Option DiskState → List Block → Result Taken Refusal → Result (NodeState × Appended) (Option NodeState × AppendError) → Type 0
-IsAppendAnswer old state blocks judgement (Ok done) = IsAppended old blocks judgement done.0 done.1 × IsNodeOf done.0 state (blocks_after blocks judgement)
-IsAppendAnswer old state blocks judgement (Err back) = IsHandedBack old state blocks judgement back.0 back.1
+abbrev pub IsAppendAnswer : NodeState → Option DiskState → List Block → Result Taken Refusal
+    → Result (NodeState × Appended) (Option NodeState × AppendError) → Type 0
+IsAppendAnswer old state blocks judgement (Ok done) = IsAppended old blocks judgement done.0 done.1
+    × IsNodeOf done.0 state (blocks_after blocks judgement)
+IsAppendAnswer old state blocks judgement (Err back) = IsHandedBack old state blocks judgement
+    back.0 back.1
+
+-- Why a block was not replayed, as a node tells it.
+abbrev pub append_error : ReplayError → AppendError
+append_error replays.Fault = errors.ScratchFault
+append_error replays.Memory = errors.Memory
 
 -- Whether a block was added.
 abbrev pub was_added : Appended → Bool
@@ -114,17 +161,43 @@ was_added (appendeds.Known number) = false
 was_added (appendeds.Added number rows receipts root) = true
 
 -- Whether the disk failed.
-abbrev pub is_fault : AppendError → Bool
-is_fault (errors.Refused refusal) = false
-is_fault errors.DiskFault = true
-is_fault errors.Memory = false
+abbrev pub is_disk_fault : AppendError → Bool
+is_disk_fault (errors.Refused refusal) = false
+is_disk_fault errors.DiskFault = true
+is_disk_fault errors.ScratchFault = false
+is_disk_fault errors.Memory = false
+
+-- Whether the scratch device failed.
+abbrev pub is_scratch_fault : AppendError → Bool
+is_scratch_fault (errors.Refused refusal) = false
+is_scratch_fault errors.DiskFault = false
+is_scratch_fault errors.ScratchFault = true
+is_scratch_fault errors.Memory = false
+
+-- Whether the chain refused the bytes.
+abbrev pub is_refusal : AppendError → Bool
+is_refusal (errors.Refused refusal) = true
+is_refusal errors.DiskFault = false
+is_refusal errors.ScratchFault = false
+is_refusal errors.Memory = false
 
 -- Whether the disk was reached for: a block was added, or the disk failed.
 abbrev pub reaches_disk : {N B : Type 0} → Result (N × Appended) (B × AppendError) → Bool
 reaches_disk (Ok done) = was_added done.1
-reaches_disk (Err back) = is_fault back.1
+reaches_disk (Err back) = is_disk_fault back.1
 
--- The answer blames the disk.
-abbrev pub IsDiskFault : {N B : Type 0} → Result N (B × AppendError) → Type 0
-IsDiskFault (Ok done) = ⊥
-IsDiskFault (Err back) = is_fault back.1 ≡ true
+-- The answer blames what failed so.
+abbrev pub Blames : {N B : Type 0} → (AppendError → Bool) → Result N (B × AppendError) → Type 0
+Blames is_fault (Ok done) = ⊥
+Blames is_fault (Err back) = is_fault back.1 ≡ true
+
+-- A node is handed back exactly with a refusal.
+abbrev pub HandsBack : {N M : Type 0} → Result N (Option M × AppendError) → Type 0
+HandsBack (Ok done) = Unit {0}
+HandsBack (Err back) = is_some back.0 ≡ is_refusal back.1
+
+-- The node is so, where there is one: with what became of the block, or handed back.
+abbrev pub IfNode : (NodeState → Type 0)
+    → Result (NodeState × Appended) (Option NodeState × AppendError) → Type 0
+IfNode P (Ok done) = P done.0
+IfNode P (Err back) = IfSome back.0 P

@@ -11,6 +11,8 @@ pub enum StartError {
     Damaged { at: u64 },
     /// A call of the disk failed.
     DiskFault,
+    /// A call of the scratch device failed.
+    ScratchFault,
     /// Out of memory.
     Memory,
 }
@@ -22,6 +24,8 @@ pub enum AppendError {
     Refused(Refusal),
     /// A call of the disk failed.
     DiskFault,
+    /// A call of the scratch device failed.
+    ScratchFault,
     /// Out of memory.
     Memory,
 }

@@ -1,15 +1,17 @@
 //! A node: the chain of the blocks that a log holds, and the log.
 
-ghost use Rattle.std.specs.Prelude.{◌≡◌, ◌<◌, ◌≤◌, ℕ, List, length, slice_get, Some, IfOk, IsErrOf, MatchOption};
+ghost use Rattle.std.specs.Prelude.{◌≡◌, ◌<◌, ◌≤◌, ℕ, true, List, length, slice_get, Some, IfOk};
+ghost use Rattle.std.specs.Prelude.{IsErrOf, MatchOption};
 ghost use Rattle.lc_base.specs.Faults.{HasCause};
 ghost use Rattle.lc_io.specs.Disk.{Stays};
 ghost use Rattle.disk_model.specs.Disk.{IsSettled, content_of};
+ghost use Rattle.scratch_model.specs.Scratch.{is_told, Retains};
 ghost use Rattle.block_codec.specs.declared.block.Block.{Block as Blocks};
 ghost use Rattle.block_log.specs.Standing.{standing};
 ghost use Rattle.chain_exec.specs.Compiled.{compiled_in};
 ghost use Rattle.chain_replay.specs.Chain.{StandsFor};
-ghost use Rattle.rooted_chain.specs.Roots.{ledger_kept, root_in};
-ghost use Rattle.recovery.specs.Node.{IsNodeOf, IsNodeStarted, next_in_chain};
+ghost use Rattle.rooted_chain.specs.Roots.{root_in};
+ghost use Rattle.recovery.specs.Node.{IsNodeStarted, IsReady, lineage_in, next_in_chain};
 
 use crate::errors::StartError;
 use crate::opening::open;
@@ -20,10 +22,11 @@ use disk_model::Disk;
 use lc_base::Digest;
 use merkle_dag::Lineage;
 use rooted_chain::LineageChain;
+use scratch_model::Scratch;
 use std::alloc::Global;
 use std::marker::Model;
 
-/// The chain of the blocks that a log holds, and the log.
+/// The chain of the blocks that a log holds, whose bodies are on a scratch device, and the log.
 #[derive(Drop)]
 pub struct Node {
     pub(crate) chain: LineageChain,
@@ -31,6 +34,7 @@ pub struct Node {
 }
 
 impl Model for Node {
+    ghost use Rattle.rooted_chain.specs.Roots.{kept_in};
     ghost use Rattle.recovery.specs.Node.{NodeState, AreOfOneChain};
     ghost use Rattle.contract_tree.specs.contracts.tree.Contract as contracts;
     ghost use Rattle.std.specs.Coded.{codes};
@@ -39,9 +43,10 @@ impl Model for Node {
 
     ghost coded = { Prim.hlevel (codes, contracts.the_row.coded) };
 
-    ghost view = { λ node. record { chain = node.chain; log = node.log } };
+    ghost view = { λ node. record
+        { chain = kept_in node.chain; bodies = node.chain.bodies; log = node.log } };
 
-    ghost invariant = { λ node. AreOfOneChain node.chain node.log };
+    ghost invariant = { λ node. AreOfOneChain (kept_in node.chain) node.log };
 }
 
 /// What became of a block that was not refused.
@@ -62,20 +67,32 @@ pub enum Appended {
 }
 
 impl Node {
-    /// The node of the log on a disk. It writes nothing.
-    pub fn start<M: Disk>(alloc: Global, machine: &mut M) -> Result<Node, StartError>
+    /// The node of the log on a disk. It writes nothing to the disk.
+    pub fn start<M: Disk, S: Scratch>(
+        alloc: Global,
+        machine: &mut M,
+        scratch: &mut S,
+    ) -> Result<Node, StartError>
         requires settled { IsSettled (M.disk machine.old (M.now machine.old)) }
-        // The node is that of the chain that the content stands for, or it stands for none.
-        ensures answer { (content : List ℕ) → content_of (M.disk machine.old (M.now machine.old)) ≡ Some content
-            → IsNodeStarted (M.disk machine.new (M.now machine.new)) (standing next_in_chain content) result }
-        // Whether the disk is told or not, it is the node of some blocks.
-        ensures blocks { IfOk result (λ node. (blocks : List Blocks) × IsNodeOf node (M.disk machine.new (M.now machine.new)) blocks) }
+        // Where it is told which bytes the scratch device holds, the node is that of the chain that
+        // the content stands for, or it stands for none.
+        ensures answer { is_told (S.state scratch.old) ≡ true → (content : List ℕ)
+            → content_of (M.disk machine.old (M.now machine.old)) ≡ Some content
+            → IsNodeStarted (M.disk machine.new (M.now machine.new))
+            (standing next_in_chain content) result }
+        // Whether that is told or not, and the disk.
+        ensures ready { IfOk result
+            (λ node. IsReady node (M.disk machine.new (M.now machine.new)) (S.state scratch.new)) }
         ensures disk { Stays M.now M.disk machine.old machine.new }
         ensures told { M.told machine.new ≡ M.told machine.old }
         ensures wire_faults { M.wire_faults machine.new ≡ M.wire_faults machine.old }
-        ensures cause { HasCause (M.disk_faults machine.old) (M.disk_faults machine.new) (IsErrOf result StartError.DiskFault) }
+        ensures retains { Retains (S.state scratch.old) (S.state scratch.new) }
+        ensures disk_cause { HasCause (M.disk_faults machine.old) (M.disk_faults machine.new)
+            (IsErrOf result StartError.DiskFault) }
+        ensures scratch_cause { HasCause (S.scratch_faults scratch.old)
+            (S.scratch_faults scratch.new) (IsErrOf result StartError.ScratchFault) }
     {
-        match open::<LineageChain, M>(alloc, machine) {
+        match open::<LineageChain, M, S>(alloc, machine, scratch) {
             Ok((chain, log)) => Ok(Node { chain, log }),
             Err(error) => Err(error),
         }
@@ -97,21 +114,24 @@ impl Node {
 
     /// The root at a block; `None` exactly past the last one.
     pub fn root(&self, at: u32) -> Option<Digest>
-        ensures { (blocks : List Blocks) → StandsFor self.now.chain blocks → MatchOption result (length blocks ≤ at) (λ root. (at < length blocks) × (root.0 ≡ root_in compiled_in blocks at)) }
+        ensures { (blocks : List Blocks) → StandsFor self.now.chain blocks
+            → MatchOption result (length blocks ≤ at)
+            (λ root. (at < length blocks) × (root.0 ≡ root_in compiled_in blocks at)) }
     {
         self.chain.root(at)
     }
 
     /// The lineage of its chain.
     pub fn lineage(&self) -> &Lineage
-        ensures { result.now ≡ ledger_kept self.now.chain }
+        ensures { result.now ≡ lineage_in self.now }
     {
         self.chain.lineage()
     }
 
-    /// The lineage of its chain alone, for a command that appends no more.
+    /// The lineage of its chain alone, for a command that appends no more. Its bodies are where
+    /// they were.
     pub fn into_lineage(self) -> Lineage
-        ensures { result ≡ ledger_kept self.chain }
+        ensures { result ≡ lineage_in self }
     {
         let Node { chain, log: _log } = self;
         chain.into_lineage()

@@ -1,22 +1,25 @@
 //! The chain of the blocks of a log, which run as they are read.
 
-ghost use Rattle.std.specs.Prelude.{◌≡◌, [], List, IfOk, IsErrOf};
+ghost use Rattle.std.specs.Prelude.{◌≡◌, [], ◌∷◌, ◌++◌, false, List, IfOk, IsErrOf};
 ghost use Rattle.lc_base.specs.Faults.{HasCause};
 ghost use Rattle.lc_io.specs.Disk.{Stays};
 ghost use Rattle.disk_model.specs.Disk.{content_of};
+ghost use Rattle.scratch_model.specs.Scratch.{Retains};
 ghost use Rattle.block_codec.specs.Spelling.{IsBlock};
 ghost use Rattle.block_codec.specs.Placement.{digest_of};
 ghost use Rattle.block_codec.specs.declared.block.Block.{Block as Blocks};
 ghost use Rattle.block_log.specs.Reader.{AreRead};
-ghost use Rattle.chain_replay.specs.Chain.{StandsFor};
-ghost use Rattle.recovery.specs.Restoring.{IsRestored, IsRun, start_error};
+ghost use Rattle.chain_replay.specs.Chain.{IsToldFor, StandsFor};
+ghost use Rattle.chain_replay.specs.declared.replaying.ReplayError.TheVariants.{Fault};
+ghost use Rattle.recovery.specs.Restoring.{HasRead, IfMade, IsRestored, IsRun, start_error};
 
 use crate::errors::StartError;
 use block_codec::Placement;
 use block_log::{Log, LogError, LogReader, Stored, Turn};
-use chain_replay::Replay;
+use chain_replay::{Replay, ReplayError};
 use disk_model::Disk;
 use lc_base::Memory;
+use scratch_model::Scratch;
 use std::alloc::Global;
 
 impl From<LogError> for StartError {
@@ -44,13 +47,30 @@ impl From<Memory> for StartError {
 
 /// The chain with this block of a log, which has run. Where it is not the next one, since those
 /// before it wrote too many rows: the offset of its gate.
-fn run_stored<C: Replay>(alloc: Global, chain: C, next: &Stored) -> Result<Result<C, u64>, Memory>
-    requires { IsBlock next.now.block }
-    ensures { (blocks : List Blocks) → StandsFor (C.kept chain) blocks → next.now.digest ≡ digest_of next.now.block → IfOk result (IsRun C.kept blocks next.now) }
+fn run_stored<C: Replay, S: Scratch>(
+    alloc: Global,
+    chain: C,
+    scratch: &mut S,
+    next: &Stored,
+) -> Result<Result<C, u64>, ReplayError>
+    requires is_block { IsBlock next.now.block }
+    requires agrees { C.agrees chain (S.state scratch.old) }
+    ensures run { IsToldFor C.calls_scratch (S.state scratch.old) → (blocks : List Blocks)
+        → StandsFor (C.kept chain) blocks → next.now.digest ≡ digest_of next.now.block
+        → IfOk result (IsRun C.kept blocks next.now) }
+    ensures digests { IfOk result
+        (IfMade (λ longer. (C.kept longer).digests ≡ (C.kept chain).digests ++ next.now.digest ∷
+        [])) }
+    ensures agrees { IfOk result (IfMade (λ longer. C.agrees longer (S.state scratch.new))) }
+    ensures retains { Retains (S.state scratch.old) (S.state scratch.new) }
+    ensures cause { HasCause (S.scratch_faults scratch.old) (S.scratch_faults scratch.new)
+        (IsErrOf result Fault) }
+    ensures unused { C.calls_scratch ≡ false → (scratch.new ≡ scratch.old)
+        × (IsErrOf result Fault → ⊥) }
 {
     match chain.place(&next.block, next.digest) {
         Placement::Next => {
-            let longer = chain.replay(alloc, &next.block, next.digest)?;
+            let longer = chain.replay(alloc, scratch, &next.block, next.digest)?;
             Ok(Ok(longer))
         }
         _ => {
@@ -60,19 +80,31 @@ fn run_stored<C: Replay>(alloc: Global, chain: C, next: &Stored) -> Result<Resul
     }
 }
 
-/// The chain of the blocks of a log, none of which was read yet, and the log. Each block runs as soon
-/// as it is read, so one is held at a time.
-pub fn restore<C: Replay, M: Disk>(
+/// The chain of the blocks of a log, none of which was read yet, and the log. Each block runs as
+/// soon as it is read, so one is held at a time.
+pub fn restore<C: Replay, M: Disk, S: Scratch>(
     alloc: Global,
     machine: &mut M,
+    scratch: &mut S,
     first: LogReader,
 ) -> Result<(C, Log), StartError>
     requires none_read { AreRead first (content_of (M.disk machine.old (M.now machine.old))) [] }
-    ensures restored { IsRestored C.kept (content_of (M.disk machine.new (M.now machine.new))) result }
+    ensures restored { IsToldFor C.calls_scratch (S.state scratch.old)
+        → IsRestored C.kept (content_of (M.disk machine.new (M.now machine.new))) result }
+    ensures read { IfOk result
+        (λ opened. HasRead (C.kept opened.0) opened.1
+        (content_of (M.disk machine.new (M.now machine.new)))) }
+    ensures agrees { IfOk result (λ opened. C.agrees opened.0 (S.state scratch.new)) }
     ensures disk { Stays M.now M.disk machine.old machine.new }
     ensures told { M.told machine.new ≡ M.told machine.old }
     ensures wire_faults { M.wire_faults machine.new ≡ M.wire_faults machine.old }
-    ensures cause { HasCause (M.disk_faults machine.old) (M.disk_faults machine.new) (IsErrOf result StartError.DiskFault) }
+    ensures retains { Retains (S.state scratch.old) (S.state scratch.new) }
+    ensures disk_cause { HasCause (M.disk_faults machine.old) (M.disk_faults machine.new)
+        (IsErrOf result StartError.DiskFault) }
+    ensures scratch_cause { HasCause (S.scratch_faults scratch.old) (S.scratch_faults scratch.new)
+        (IsErrOf result StartError.ScratchFault) }
+    ensures unused { C.calls_scratch ≡ false → (scratch.new ≡ scratch.old)
+        × (IsErrOf result StartError.ScratchFault → ⊥) }
 {
     let mut chain = C::start(alloc)?;
     let mut reader = first;
@@ -82,12 +114,14 @@ pub fn restore<C: Replay, M: Disk>(
             Turn::Block {
                 next,
                 reader: further,
-            } => match run_stored(alloc, chain, &next)? {
-                Ok(longer) => {
+            } => match run_stored(alloc, chain, scratch, &next) {
+                Ok(Ok(longer)) => {
                     chain = longer;
                     reader = further;
                 }
-                Err(at) => return Err(StartError::Damaged { at }),
+                Ok(Err(at)) => return Err(StartError::Damaged { at }),
+                Err(ReplayError::Fault) => return Err(StartError::ScratchFault),
+                Err(ReplayError::Memory) => return Err(StartError::Memory),
             },
         }
     }

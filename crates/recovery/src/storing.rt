@@ -19,13 +19,22 @@ pub fn store<M: Disk>(log: Log, machine: &mut M, bytes: &[u8]) -> Result<Log, Di
     requires next { IsNextOf log bytes.now }
     ensures count { IfOk result (λ longer. longer.count ≡ log.count + 1) }
     ensures last { IfOk result (λ longer. longer.last ≡ bytes_digest bytes.now) }
-    ensures agrees { IfOk result (λ longer. Rests (M.disk machine.new (M.now machine.new)) (Agrees longer)) }
-    ensures images { (place : Placer) (content : List ℕ) (blocks : List Block) (block : Block) → content_of (M.disk machine.old (M.now machine.old)) ≡ Some content
-        → IsNextAfter place content bytes.now blocks block → Keeps M.now M.disk machine.old machine.new (IsOldOrNew (next_block block_in place) blocks block) }
-    ensures added { IfOk result (λ longer. (place : Placer) (content : List ℕ) (blocks : List Block) (block : Block) → content_of (M.disk machine.old (M.now machine.old)) ≡ Some content
+    ensures agrees { IfOk result
+        (λ longer. Rests (M.disk machine.new (M.now machine.new)) (Agrees longer)) }
+    ensures images { (place : Placer) (content : List ℕ) (blocks : List Block) (block : Block)
+        → content_of (M.disk machine.old (M.now machine.old)) ≡ Some content
         → IsNextAfter place content bytes.now blocks block
-        → Rests (M.disk machine.new (M.now machine.new)) (λ image. chain_of (next_block block_in place) image ≡ Some (blocks ++ block ∷ []))) }
-    ensures still_told { IfOk result (λ longer. is_some (M.disk machine.new (M.now machine.new)) ≡ is_some (M.disk machine.old (M.now machine.old))) }
+        → Keeps M.now M.disk machine.old machine.new
+        (IsOldOrNew (next_block block_in place) blocks block) }
+    ensures added { IfOk result
+        (λ longer. (place : Placer) (content : List ℕ) (blocks : List Block) (block : Block)
+        → content_of (M.disk machine.old (M.now machine.old)) ≡ Some content
+        → IsNextAfter place content bytes.now blocks block
+        → Rests (M.disk machine.new (M.now machine.new))
+        (λ image. chain_of (next_block block_in place) image ≡ Some (blocks ++ block ∷ []))) }
+    ensures still_told { IfOk result
+        (λ longer. is_some (M.disk machine.new (M.now machine.new)) ≡ is_some
+        (M.disk machine.old (M.now machine.old))) }
     ensures told { M.told machine.new ≡ M.told machine.old }
     ensures wire_faults { M.wire_faults machine.new ≡ M.wire_faults machine.old }
     ensures cause { HasCause (M.disk_faults machine.old) (M.disk_faults machine.new) (IsErr result) }

@@ -1,16 +1,36 @@
 -- The lineage of a chain, and the roots of its blocks.
 use Rattle.std.specs.Prelude.{ℕ, List, map}
+use Rattle.lc_base.specs.declared.digest.Digest.{Digest}
+use Rattle.lc_base.specs.declared.row.Row.{Row}
+use Rattle.body_store.specs.Bodies.{BodiesState}
 use Rattle.block_codec.specs.Placement.{digest_of}
 use Rattle.block_codec.specs.declared.block.Block.{Block}
+use Rattle.contract_tree.specs.declared.tree.Contract.{Contract}
 use Rattle.chain_exec.specs.Compiled.{Compiler}
 use Rattle.chain_exec.specs.Replay.{replay}
 use Rattle.chain_replay.specs.Chain.{ChainState}
 use Rattle.root_laws.specs.Root.{root_of}
-use Rattle.merkle_dag.specs.Ledger.{Ledger}
+use Rattle.merkle_dag.specs.Lineage.{LineageState}
 
--- The rows and the digests of what is kept of a chain.
-abbrev pub ledger_kept : ChainState → Ledger
-ledger_kept kept = record { rows = kept.rows; digests = kept.digests }
+-- What is kept of a chain with its lineage: the digests of the blocks, their rows, the contracts that
+-- they deployed, by name, and where the bodies of the rows are kept.
+pub record RootedState : Type 0 where
+  pub digests : List Digest
+  pub rows : List Row
+  pub codes : List (List ℕ × Contract)
+  pub bodies : BodiesState
+
+-- The same, but for the bodies: what is kept of any chain.
+abbrev pub kept_in : RootedState → ChainState
+kept_in rooted = record { digests = rooted.digests; rows = rooted.rows; codes = rooted.codes }
+
+-- The lineage of what is kept of a chain, whose bodies are kept so.
+abbrev pub lineage_of : ChainState → BodiesState → LineageState
+lineage_of kept bodies = record { rows = kept.rows; digests = kept.digests; bodies = bodies }
+
+-- The lineage of the chain.
+abbrev pub lineage_in : RootedState → LineageState
+lineage_in rooted = lineage_of (kept_in rooted) rooted.bodies
 
 -- The root at a block of a chain: over the rows that replaying its blocks gives, and their digests.
 abbrev pub root_in : Compiler → List Block → ℕ → List ℕ

@@ -1,24 +1,27 @@
 //! A chain of blocks over a lineage.
 
-ghost use Rattle.std.specs.Prelude.{◌≡◌, ◌<◌, ◌≤◌, List, length, map, slice_get, MatchOption};
+ghost use Rattle.std.specs.Prelude.{◌≡◌, ◌<◌, ◌≤◌, true, List, length, map, slice_get, MatchOption};
 ghost use Rattle.block_codec.specs.Placement.{digest_of, last_digest};
 ghost use Rattle.block_codec.specs.declared.limits.TheConstants.{MAX_BLOCKS};
 ghost use Rattle.block_codec.specs.declared.block.Block.{Block as Blocks};
 ghost use Rattle.chain_exec.specs.Compiled.{compiled_in};
 ghost use Rattle.chain_replay.specs.Chain.{StandsFor};
 ghost use Rattle.root_laws.specs.Root.{root_of};
-ghost use Rattle.rooted_chain.specs.Roots.{ledger_kept, root_in};
+ghost use Rattle.merkle_dag.specs.Lineage.{AgreesWith};
+ghost use Rattle.rooted_chain.specs.Roots.{kept_in, lineage_in, root_in};
 
 use block_codec::{Block, NO_PARENT, Placement, place};
-use chain_replay::Replay;
+use chain_replay::{Replay, ReplayError};
 use contract_check::Checked;
 use lc_base::{Digest, Memory};
 use merkle_dag::Lineage;
+use scratch_model::Scratch;
 use std::alloc::Global;
 use std::marker::Model;
 use world_state::World;
 
-/// What is kept of a chain: its lineage, and the state that the next block runs on.
+/// What is kept of a chain: its lineage, whose bodies are on a scratch device, and the state that the
+/// next block runs on.
 #[derive(Drop)]
 pub struct LineageChain {
     pub(crate) lineage: Lineage,
@@ -26,15 +29,16 @@ pub struct LineageChain {
 }
 
 impl Model for LineageChain {
-    ghost use Rattle.chain_replay.specs.Chain.{ChainState, IsKept};
+    ghost use Rattle.chain_replay.specs.Chain.{IsKept};
+    ghost use Rattle.rooted_chain.specs.Roots.{RootedState};
     ghost use Rattle.contract_tree.specs.contracts.tree.Contract as contracts;
     ghost use Rattle.std.specs.Coded.{codes};
 
-    ghost Value = { ChainState };
+    ghost Value = { RootedState };
 
     ghost coded = { Prim.hlevel (codes, contracts.the_row.coded) };
 
-    ghost view = { λ chain. record { digests = chain.lineage.digests; rows = chain.lineage.rows; codes = chain.world.codes } };
+    ghost view = { λ chain. record { digests = chain.lineage.digests; rows = chain.lineage.rows; codes = chain.world.codes; bodies = chain.lineage.bodies } };
 
     ghost invariant = { λ chain. IsKept chain.lineage.digests chain.lineage.rows chain.world };
 }
@@ -74,7 +78,7 @@ impl LineageChain {
     /// The digest of a block; `None` exactly past the last one.
     pub fn digest(&self, at: u32) -> Option<Digest>
         ensures digest { result ≡ slice_get self.now.digests at }
-        ensures stands { (blocks : List Blocks) → StandsFor self.now blocks → result ≡ slice_get (map digest_of blocks) at }
+        ensures stands { (blocks : List Blocks) → StandsFor (kept_in self.now) blocks → result ≡ slice_get (map digest_of blocks) at }
     {
         self.lineage.digest(at)
     }
@@ -82,21 +86,21 @@ impl LineageChain {
     /// The root at a block; `None` exactly past the last one.
     pub fn root(&self, at: u32) -> Option<Digest>
         ensures root { MatchOption result (length self.now.digests ≤ at) (λ root. (at < length self.now.digests) × (root.0 ≡ root_of self.now.rows self.now.digests at)) }
-        ensures stands { (blocks : List Blocks) → StandsFor self.now blocks → MatchOption result (length blocks ≤ at) (λ root. (at < length blocks) × (root.0 ≡ root_in compiled_in blocks at)) }
+        ensures stands { (blocks : List Blocks) → StandsFor (kept_in self.now) blocks → MatchOption result (length blocks ≤ at) (λ root. (at < length blocks) × (root.0 ≡ root_in compiled_in blocks at)) }
     {
         self.lineage.root(at)
     }
 
     /// The lineage of its blocks.
     pub fn lineage(&self) -> &Lineage
-        ensures { result.now ≡ ledger_kept self.now }
+        ensures { result.now ≡ lineage_in self.now }
     {
         &self.lineage
     }
 
     /// Its lineage alone, for a chain that is to take no further block.
     pub fn into_lineage(self) -> Lineage
-        ensures { result ≡ ledger_kept self }
+        ensures { result ≡ lineage_in self }
     {
         let LineageChain { lineage, world } = self;
         discard(world);
@@ -105,7 +109,11 @@ impl LineageChain {
 }
 
 impl Replay for LineageChain {
-    ghost kept = { λ chain. chain };
+    ghost kept = { λ chain. kept_in chain };
+
+    ghost calls_scratch = { true };
+
+    ghost agrees = { λ chain scratch. AgreesWith (lineage_in chain) scratch };
 
     fn start(alloc: Global) -> Result<LineageChain, Memory> {
         let lineage = Lineage::new(alloc)?;
@@ -129,9 +137,17 @@ impl Replay for LineageChain {
         )
     }
 
-    fn replay(self, alloc: Global, block: &Block, digest: Digest) -> Result<LineageChain, Memory> {
-        let (longer, _, _) = self.extended(alloc, block, digest)?;
-        Ok(longer)
+    fn replay<S: Scratch>(
+        self,
+        alloc: Global,
+        scratch: &mut S,
+        block: &Block,
+        digest: Digest,
+    ) -> Result<LineageChain, ReplayError> {
+        match self.extended(alloc, scratch, block, digest) {
+            Ok((longer, _run, _root)) => Ok(longer),
+            Err(error) => Err(error),
+        }
     }
 
     fn give_up(self) {

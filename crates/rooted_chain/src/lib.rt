@@ -3,5 +3,6 @@
 
 mod chain;
 mod extending;
+mod running;
 
 pub use chain::LineageChain;

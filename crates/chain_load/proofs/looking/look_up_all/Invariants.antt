@@ -1,9 +1,13 @@
 use Rattle.std.proofs.Common.{◌≡◌}
+use Rattle.merkle_dag.specs.Lineage.{StaysSame}
 use Rattle.chain_load.proofs.Counting.{IsLooking}
 use Rattle.chain_load.proofs.looking.look_up_all.Given as goal
 
 abbrev pub invariant-loop : goal.invariant-loop
-invariant-loop l = record {
-  same : l.lineage ≡ l.fn.lineage;
-  looking : IsLooking l.fn.lineage.rows l.fn.blocks l.fn.generator.state l.counter l.generator l.looked;
+invariant-loop g l = record {
+  same : StaysSame l.initial.lineage (g.S.Scratch.state l.initial.scratch) l.lineage
+      (g.S.Scratch.state l.scratch);
+  looking : IsLooking l.initial.lineage.rows l.fn.blocks l.fn.generator.state l.counter l.generator
+      l.looked;
+  no_fault : g.S.Scratch.scratch_faults l.scratch ≡ g.S.Scratch.scratch_faults l.initial.scratch;
 }

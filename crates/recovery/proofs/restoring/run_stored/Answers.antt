@@ -1,10 +1,11 @@
 use Rattle.std.proofs.Common.{refl, sym, ◌∙◌}
 use Rattle.recovery.proofs.restoring.run_stored.Goals as goal
 
-pub returns-in_ok-longer-in-Next : goal.returns-in_ok-longer-in-Next
-returns-in_ok-longer-in-Next g c blocks stands digest =
+pub returns-in_ok-longer-in-Next-clause-run : goal.returns-in_ok-longer-in-Next-clause-run
+returns-in_ok-longer-in-Next-clause-run g c known blocks stands digest =
     let here = sym (c.place.ensures.stands blocks stands digest) ∙ c.in-Next.is in
-    (here, c.in_ok-longer-in-Next.ensures.stands blocks stands digest here)
+    (here, c.in_ok-longer-in-Next.ensures.stands known blocks stands digest here)
 
-pub returns-in_default : goal.returns-in_default
-returns-in_default g c blocks stands digest = (λ is. c.in_default.not-Next (c.place.ensures.stands blocks stands digest ∙ is), refl)
+pub returns-in_default-clause-run : goal.returns-in_default-clause-run
+returns-in_default-clause-run g c known blocks stands digest =
+    (λ is. c.in_default.not-Next (c.place.ensures.stands blocks stands digest ∙ is), refl)

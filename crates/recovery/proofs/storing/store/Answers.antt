@@ -7,19 +7,28 @@ use Rattle.recovery.proofs.storing.store.Goals as goal
 pub returns-in_err-log-clause-images : goal.returns-in_err-log-clause-images
 returns-in_err-log-clause-images g c place content blocks block told next =
     let headless : c.args.log.is_ready ≡ false = sym c.ready.ensures ∙ c.if-ready.false in
-    let none = no_block c.args.log _ place content c.args.bytes.now blocks block headless c.requires.agrees told next in
-    only_created g.M.Clock.now g.M.Clock.disk c.args.machine.now c.create.new.machine place blocks block none (c.create.ensures.images (next_block block_in place) content told)
+    let none = no_block c.args.log _ place content c.args.bytes.now blocks block headless
+    c.requires.agrees told next in
+    only_created g.M.Clock.now g.M.Clock.disk c.args.machine.now c.create.new.machine place blocks
+    block none (c.create.ensures.images (next_block block_in place) content told)
 
 pub returns-clause-images : goal.returns-clause-images
 returns-clause-images g c place content blocks block told next =
     let headless : c.args.log.is_ready ≡ false = sym c.ready.ensures ∙ c.if-ready.false in
-    let none = no_block c.args.log _ place content c.args.bytes.now blocks block headless c.requires.agrees told next in
-    then_appended g.M.Clock.now g.M.Clock.disk c.args.machine.now c.create.new.machine c.append-2.new.machine place content c.args.bytes.now blocks block told next none
-    (c.create.ensures.images (next_block block_in place) content told) c.in_ok-log.ensures.empty c.append-2.ensures.images
+    let none = no_block c.args.log _ place content c.args.bytes.now blocks block headless
+    c.requires.agrees told next in
+    then_appended g.M.Clock.now g.M.Clock.disk c.args.machine.now c.create.new.machine
+    c.append-2.new.machine place content c.args.bytes.now blocks block told next none
+    (c.create.ensures.images (next_block block_in place) content told) c.in_ok-log.ensures.empty
+    c.append-2.ensures.images
 
 pub returns-clause-added : goal.returns-clause-added
 returns-clause-added g c =
-    if_ok c.append-2.result _ _ c.append-2.ensures.added (λ longer appended place content blocks block told next.
+    if_ok c.append-2.result _ _ c.append-2.ensures.added
+    (λ longer appended place content blocks block told next.
     let headless : c.args.log.is_ready ≡ false = sym c.ready.ensures ∙ c.if-ready.false in
-    let none = no_block c.args.log _ place content c.args.bytes.now blocks block headless c.requires.agrees told next in
-    then_added g.M.Clock.now g.M.Clock.disk c.args.machine.now c.create.new.machine c.append-2.new.machine place content c.args.bytes.now blocks block told next none c.in_ok-log.ensures.still_told c.in_ok-log.ensures.empty appended)
+    let none = no_block c.args.log _ place content c.args.bytes.now blocks block headless
+    c.requires.agrees told next in
+    then_added g.M.Clock.now g.M.Clock.disk c.args.machine.now c.create.new.machine
+    c.append-2.new.machine place content c.args.bytes.now blocks block told next none
+    c.in_ok-log.ensures.still_told c.in_ok-log.ensures.empty appended)

@@ -1,4 +1,4 @@
-use Rattle.std.proofs.Common.{◌≡◌, ◌<◌, ◌≤◌, ℕ, List, [], ◌∷◌, ◌++◌, length, ap, subst, sym, ◌∙◌}
+use Rattle.std.proofs.Common.{◌≡◌, ◌<◌, ◌≤◌, ℕ, List, [], ◌∷◌, ◌++◌, length, Err, ap, subst, sym, ◌∙◌, arith}
 use Rattle.std.specs.Prelude.{◌==◌}
 use Rattle.std.specs.Map.{lookup}
 use Rattle.std.specs.Cmp.Lexicographic.{pointwise}
@@ -34,7 +34,12 @@ invariant_of-chain c =
 pub returns-in-Ok-record-clause-stands : goal.returns-in-Ok-record-clause-stands
 returns-in-Ok-record-clause-stands c =
     let rows = c.in-Ok-record.ensures.rows ∙ ap (λ (rows : List Row). rows ++ c.in-Ok.run'.rows) c.in-Ok.ensures.same in
-    let after = is_after c.self.inside.digests c.record.new.digests c.self.inside.rows c.record.new.rows c.self.inside.world c.run_next.new.world c.in_ok-world.world c.args.block.now c.args.digest c.in-Ok.run'
+    let after = is_after c.self.inside.digests c.record.new.digests c.self.inside.rows c.record.new.rows c.self.inside.world c.run_block.new.world c.in_ok-world.world c.args.block.now c.args.digest c.in-Ok.run'
     c.in-Ok.ensures.effects c.in-Ok.ensures.codes c.in_ok-world.ensures.codes c.in-Ok-record.ensures.digests rows in
     λ blocks stands is next.
     stands_after _ _ blocks c.args.block.now c.args.digest c.in-Ok.run' after (subst (λ (kept : ChainState). StandsFor kept blocks) (sym c.self.view_is) stands) is next
+
+pub unreachable-requires : goal.unreachable-requires
+unreachable-requires c =
+    let rose_from_none : 1 ≤ 0 = c.in-Err-Fault.ensures.cause.failed (ap Err c.in-Err-Fault.field-0-is) in
+    omega (arith, rose_from_none)

@@ -1,4 +1,4 @@
-use Rattle.std.proofs.Common.{sym, subst, Result}
+use Rattle.std.proofs.Common.{refl, sym, subst, Result}
 use Rattle.disk_model.specs.Disk.{Keeps}
 use Rattle.block_codec.specs.Reading.{block_in}
 use Rattle.chain_exec.specs.Compiled.{compiled_in}
@@ -6,22 +6,54 @@ use Rattle.chain_replay.specs.Chain.{StandsFor}
 use Rattle.chain_replay.specs.Judging.{Taken, judged}
 use Rattle.chain_replay.specs.declared.refusal.Refusal.{Refusal}
 use Rattle.chain_replay.proofs.Judgements.{added}
+use Rattle.rooted_chain.specs.Roots.{kept_in}
 use Rattle.recovery.specs.Node.{NodeState, IsStepOf}
-use Rattle.recovery.proofs.Nodes.{still}
+use Rattle.recovery.proofs.Nodes.{still, still_only}
 use Rattle.recovery.proofs.node.Node.append.Goals as goal
 
 pub returns-in-Ok-Known-clause-images : goal.returns-in-Ok-Known-clause-images
-returns-in-Ok-Known-clause-images g c blocks content is told = still g.M.Clock.now g.M.Clock.disk c.args.machine.now c.args.self blocks content (judged compiled_in blocks (block_in c.args.bytes.now)) is told
+returns-in-Ok-Known-clause-images g c told blocks content is shown = still g.M.Clock.now
+    g.M.Clock.disk c.args.machine.now c.args.self blocks content
+    (judged compiled_in blocks (block_in c.args.bytes.now)) is shown
 
 pub returns-in-Ok-Next-clause-images : goal.returns-in-Ok-Next-clause-images
-returns-in-Ok-Next-clause-images g c blocks content is told =
-    let kept : StandsFor c.self.inside.chain blocks = subst (λ (n : NodeState). StandsFor n.chain blocks) (sym c.self.view_is) is.kept in
+returns-in-Ok-Next-clause-images g c told blocks content is shown =
+    let kept : StandsFor (kept_in c.self.inside.chain) blocks = subst
+    (λ (n : NodeState). StandsFor n.chain blocks) (sym c.self.view_is) is.kept in
     let a =
-    added compiled_in blocks c.self.inside.chain c.args.bytes.now c.in-Ok-Next.field-0 c.in-Ok-Next.block c.in-Ok-Next.digest c.in-Ok-Next.field-0-is (c.in-Ok-Next.ensures.judged blocks kept) c.in-Ok-Next.ensures.next in
-    subst (λ (j : Result Taken Refusal). Keeps g.M.Clock.now g.M.Clock.disk c.args.machine.now c.add.new.machine (IsStepOf blocks j)) (sym a.judgement) (c.add.ensures.images blocks content is told a.judgement)
+    added compiled_in blocks (kept_in c.self.inside.chain) c.args.bytes.now c.in-Ok-Next.field-0
+    c.in-Ok-Next.block c.in-Ok-Next.digest c.in-Ok-Next.field-0-is
+    (c.in-Ok-Next.ensures.judged blocks kept) c.in-Ok-Next.ensures.next in
+    subst (λ (j : Result Taken Refusal). Keeps g.M.Clock.now g.M.Clock.disk c.args.machine.now
+    c.add.new.machine (IsStepOf blocks j)) (sym a.judgement)
+    (c.add.ensures.images told blocks content is shown a.judgement)
 
 pub returns-in-Ok-Refused-clause-images : goal.returns-in-Ok-Refused-clause-images
-returns-in-Ok-Refused-clause-images g c blocks content is told = still g.M.Clock.now g.M.Clock.disk c.args.machine.now c.args.self blocks content (judged compiled_in blocks (block_in c.args.bytes.now)) is told
+returns-in-Ok-Refused-clause-images g c told blocks content is shown = still g.M.Clock.now
+    g.M.Clock.disk c.args.machine.now c.args.self blocks content
+    (judged compiled_in blocks (block_in c.args.bytes.now)) is shown
 
 pub returns-in-Err-clause-images : goal.returns-in-Err-clause-images
-returns-in-Err-clause-images g c blocks content is told = still g.M.Clock.now g.M.Clock.disk c.args.machine.now c.args.self blocks content (judged compiled_in blocks (block_in c.args.bytes.now)) is told
+returns-in-Err-clause-images g c told blocks content is shown = still g.M.Clock.now g.M.Clock.disk
+    c.args.machine.now c.args.self blocks content
+    (judged compiled_in blocks (block_in c.args.bytes.now)) is shown
+
+pub returns-in-Ok-Known-clause-only_image : goal.returns-in-Ok-Known-clause-only_image
+returns-in-Ok-Known-clause-only_image g c unreached content shown = still_only g.M.Clock.now
+    g.M.Clock.disk c.args.machine.now c.args.machine.now c.args.self.log refl c.requires.ready.log
+    content shown
+
+pub returns-in-Ok-Next-clause-only_image : goal.returns-in-Ok-Next-clause-only_image
+returns-in-Ok-Next-clause-only_image g c unreached content shown = still_only g.M.Clock.now
+    g.M.Clock.disk c.args.machine.now c.add.new.machine c.args.self.log
+    (c.add.ensures.untouched unreached) c.requires.ready.log content shown
+
+pub returns-in-Ok-Refused-clause-only_image : goal.returns-in-Ok-Refused-clause-only_image
+returns-in-Ok-Refused-clause-only_image g c unreached content shown = still_only g.M.Clock.now
+    g.M.Clock.disk c.args.machine.now c.args.machine.now c.args.self.log refl c.requires.ready.log
+    content shown
+
+pub returns-in-Err-clause-only_image : goal.returns-in-Err-clause-only_image
+returns-in-Err-clause-only_image g c unreached content shown = still_only g.M.Clock.now
+    g.M.Clock.disk c.args.machine.now c.args.machine.now c.args.self.log refl c.requires.ready.log
+    content shown

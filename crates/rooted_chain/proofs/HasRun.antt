@@ -1,0 +1,39 @@
+-- A chain whose next block has run, and a lineage that took its rows.
+use Rattle.std.proofs.Common.{◌≡◌, ℕ, ◌<◌, ◌≤◌, List, [], ◌∷◌, ◌++◌, length, ap, subst, sym, ◌∙◌}
+use Rattle.lc_base.specs.History.{IsLawful}
+use Rattle.lc_base.specs.declared.digest.Digest.{Digest}
+use Rattle.lc_base.specs.declared.row.Row.{Row}
+use Rattle.block_codec.specs.declared.limits.TheConstants.{MAX_BLOCKS, MAX_TXS, MAX_ROWS_BEFORE_BLOCK}
+use Rattle.block_codec.specs.declared.block.Block.{Block}
+use Rattle.contract_tree.specs.declared.tree.Contract.{Contract}
+use Rattle.world_state.specs.Known.{Known}
+use Rattle.world_state.specs.World.{newest_of, StandsForRows}
+use Rattle.chain_exec.specs.BlockRows.{AreBlockRows}
+use Rattle.chain_replay.specs.Chain.{HasRoom, IsKept}
+use Rattle.chain_replay.proofs.Kept.{next_lawful, next_kept}
+use Rattle.merkle_dag.specs.Lineage.{LineageState}
+use Rattle.rooted_chain.specs.Roots.{RootedState, kept_in}
+
+-- what a chain keeps, by its parts
+abbrev pub rooted_of : LineageState → List (List ℕ × Contract) → RootedState
+rooted_of lineage codes = record { digests = lineage.digests; rows = lineage.rows; codes = codes; bodies = lineage.bodies }
+
+module _ (lineage : LineageState) (world : Known Contract) (rooted : RootedState) (seen : rooted_of lineage world.codes ≡ rooted) (kept : IsKept lineage.digests lineage.rows world)
+    (block : Block) (room : HasRoom (kept_in rooted) block) (few : length block.txs ≤ MAX_TXS) (more : List Row) (written : AreBlockRows (newest_of world) block.number (length block.txs) more) where
+  numbered : block.number ≡ length lineage.digests
+  numbered = room.number ∙ sym (ap (λ (r : RootedState). length r.digests) seen)
+
+  -- its rows keep the history lawful
+  pub run_lawful : IsLawful (lineage.rows ++ more)
+  run_lawful =
+      next_lawful lineage.digests lineage.rows world more block.number (length block.txs) kept numbered
+      (subst (λ (r : RootedState). length r.rows ≤ MAX_ROWS_BEFORE_BLOCK) (sym seen) room.few_rows) few written
+
+  -- and what is kept with them belongs together, as before
+  pub run_kept : (after : Known Contract) (digest : Digest) (digests : List Digest) (rows : List Row) → StandsForRows after (lineage.rows ++ more) → after.staged ≡ [] → after.staged_codes ≡ []
+      → digests ≡ lineage.digests ++ digest ∷ [] → rows ≡ lineage.rows ++ more → IsKept digests rows after
+  run_kept after digest digests rows stands no_rows no_codes digests_are rows_are =
+      let longer = next_kept lineage.digests lineage.rows world more block.number (length block.txs) kept numbered after digest
+      (subst (λ (r : RootedState). length r.digests < MAX_BLOCKS) (sym seen) room.room) run_lawful written stands no_rows no_codes in
+      subst (λ (ds : List Digest). IsKept ds rows after) (sym digests_are)
+      (subst (λ (all : List Row). IsKept (lineage.digests ++ digest ∷ []) all after) (sym rows_are) longer)

@@ -1,0 +1,49 @@
+//! Running a block over a lineage and the device that keeps its bodies.
+
+ghost use Rattle.std.specs.Prelude.{◌≡◌, true, [], length, map, IfOk, OnOk, IsErrOf};
+ghost use Rattle.lc_base.specs.Faults.{HasCause};
+ghost use Rattle.scratch_model.specs.Scratch.{is_told};
+ghost use Rattle.block_codec.specs.Spelling.{IsBlock};
+ghost use Rattle.world_state.specs.Rows.{entry_of};
+ghost use Rattle.world_state.specs.World.{newest_of, StandsForRows};
+ghost use Rattle.chain_exec.specs.BlockRows.{AreBlockRows};
+ghost use Rattle.chain_exec.specs.Compiled.{compiled_in};
+ghost use Rattle.chain_exec.specs.Fold.{block_effects};
+ghost use Rattle.chain_exec.specs.Running.{history_in, staged_in};
+ghost use Rattle.merkle_dag.specs.Lineage.{AgreesWith, StaysSame};
+
+use block_codec::Block;
+use chain_exec::{BlockRun, run_block};
+use contract_check::Checked;
+use lc_base::HostError;
+use lineage_reading::Reading;
+use merkle_dag::Lineage;
+use scratch_model::Scratch;
+use std::alloc::Global;
+use world_state::World;
+
+/// Runs a block over a lineage, as `run_block` does. What it does is known where it is told which
+/// bytes the device holds; that its rows are lawful is so whether that is told or not.
+pub(crate) fn run_next<S: Scratch>(
+    alloc: Global,
+    lineage: &mut Lineage,
+    scratch: &mut S,
+    world: &mut World<Checked>,
+    block: &Block,
+) -> Result<BlockRun, HostError>
+    requires agrees { AgreesWith lineage.old (S.state scratch.old) }
+    requires stands { StandsForRows world.old lineage.old.rows }
+    requires is_block { IsBlock block.now }
+    requires no_rows { world.old.staged ≡ [] }
+    requires no_codes { world.old.staged_codes ≡ [] }
+    ensures same { StaysSame lineage.old (S.state scratch.old) lineage.new (S.state scratch.new) }
+    ensures effects { is_told (S.state scratch.old) ≡ true → IfOk result (λ run. staged_in world.new run ≡ block_effects compiled_in (history_in lineage.old.rows world.old) block.now) }
+    ensures newest { OnOk result (world.new.newest ≡ world.old.newest) }
+    ensures codes { OnOk result (world.new.codes ≡ world.old.codes) }
+    ensures staged { IfOk result (λ run. world.new.staged ≡ map entry_of run.rows) }
+    ensures lawful { IfOk result (λ run. AreBlockRows (newest_of world.old) block.now.number (length block.now.txs) run.rows) }
+    ensures cause { HasCause (S.scratch_faults scratch.old) (S.scratch_faults scratch.new) (IsErrOf result HostError.Fault) }
+{
+    let mut reading = Reading { lineage, scratch };
+    run_block(alloc, &mut reading, world, block)
+}
