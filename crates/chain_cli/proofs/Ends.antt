@@ -1,6 +1,7 @@
 -- Which commands end how.
-use Rattle.std.proofs.Common.{◌≡◌, true, false, List, ℕ, [], Option, Some, None, Result, Ok, Err, refl, sym, subst}
-use Rattle.std.specs.Prelude.{IfOk}
+use Rattle.std.proofs.Common.{◌≡◌, true, false, List, ℕ, [], Option, Some, None, Result, Ok, Err}
+use Rattle.std.proofs.Common.{refl, sym, subst}
+use Rattle.std.specs.Prelude.{IfOk, IfErr}
 use Rattle.contract_tree.specs.Tree.{FunctionTree}
 use Rattle.contract_parse.specs.Syntax.{Outcome as SourceOutcome}
 use Rattle.contract_check.specs.Faults.{check_fault}
@@ -21,77 +22,113 @@ use Rattle.cli_lines.specs.declared.outcome.Ending.TheVariants as endings
 use Rattle.cli_lines.specs.declared.status.Status.{Status}
 use Rattle.cli_lines.specs.declared.status.Status.TheVariants as statuses
 use Rattle.cli_output.specs.Blocks.{draft_outcome}
-use Rattle.cli_output.specs.Output.{Output, output_of, fmt_outcome, source_outcome, IsFmtOutput, Long, Source, uses_disk}
+use Rattle.cli_output.specs.Output.{Output, output_of, fmt_outcome, source_outcome, IsFmtOutput}
+use Rattle.cli_output.specs.Output.{Long, Source, uses_disk}
 use Rattle.cli_output.specs.Running.{MayEnd, found_no_log}
-use Rattle.cli_output.specs.Telling.{status_of_result, append_answer}
+use Rattle.cli_output.specs.Telling.{status_of_result, status_of_stop, stop_of_outcome}
+use Rattle.cli_output.specs.Telling.{append_answer}
+use Rattle.cli_output.specs.declared.stop.OutcomeStop.{OutcomeStop}
+use Rattle.cli_output.specs.declared.stop.OutcomeStop.TheVariants as outcomes
 use Rattle.cli_output.specs.declared.stop.RunStop.{RunStop}
 use Rattle.cli_output.specs.declared.stop.RunStop.TheVariants as stops
 
 -- ---- inputs that are read whole
 
-functions_end : (functions : List FunctionTree) (fault : Option Fault) → MayEnd (status_of (fmt_outcome functions fault).ending) (Some Fmt)
+functions_end : (functions : List FunctionTree) (fault : Option Fault)
+    → MayEnd (status_of (fmt_outcome functions fault).ending) (Some Fmt)
 functions_end functions None = refl
 functions_end functions (Some fault) = refl
 
-source_ends : (outcome : SourceOutcome) → MayEnd (status_of (source_outcome outcome).ending) (Some Fmt)
+source_ends : (outcome : SourceOutcome)
+    → MayEnd (status_of (source_outcome outcome).ending) (Some Fmt)
 source_ends (Ok functions) = functions_end functions (check_fault functions)
 source_ends (Err fault) = refl
 
-output_ends : (input : List ℕ) (output : Output) → IsFmtOutput input output → MayEnd output.status (Some Fmt)
+output_ends : (input : List ℕ) (output : Output) → IsFmtOutput input output
+    → MayEnd output.status (Some Fmt)
 output_ends input _ (Long long) = refl
 output_ends input _ (Source fits outcome is) = source_ends outcome
 
-pub fmt_ends : (source : List ℕ) (outcome : Outcome) → IsFmtOutput source (output_of outcome []) → MayEnd (status_of outcome.ending) (Some Fmt)
+pub fmt_ends : (source : List ℕ) (outcome : Outcome) → IsFmtOutput source (output_of outcome [])
+    → MayEnd (status_of outcome.ending) (Some Fmt)
 fmt_ends source outcome is = output_ends source (output_of outcome []) is
 
-draft_ends : (found : Result (List (List ℕ)) PackError) → MayEnd (status_of (draft_outcome found).ending) (Some Pack)
+draft_ends : (found : Result (List (List ℕ)) PackError)
+    → MayEnd (status_of (draft_outcome found).ending) (Some Pack)
 draft_ends (Ok blocks) = refl
 draft_ends (Err fault) = refl
 
-pub pack_ends : (outcome : Outcome) (found : Result (List (List ℕ)) PackError) → outcome ≡ draft_outcome found → MayEnd (status_of outcome.ending) (Some Pack)
-pack_ends outcome found is = subst (λ (o : Outcome). MayEnd (status_of o.ending) (Some Pack)) (sym is) (draft_ends found)
+pub pack_ends : (outcome : Outcome) (found : Result (List (List ℕ)) PackError)
+    → outcome ≡ draft_outcome found → MayEnd (status_of outcome.ending) (Some Pack)
+pack_ends outcome found is = subst (λ (o : Outcome). MayEnd (status_of o.ending) (Some Pack))
+    (sym is) (draft_ends found)
 
 -- ---- `append`
 
-pub answer_ends : (answer : Result AppendEnd AppendStop) → MayEnd (status_of_result (append_answer answer)) (Some Append)
+pub answer_ends : (answer : Result AppendEnd AppendStop)
+    → MayEnd (status_of_result (append_answer answer)) (Some Append)
 answer_ends (Ok appends.Whole) = refl
 answer_ends (Ok (appends.Refused frame cause)) = refl
 answer_ends (Err halts.Unreadable) = refl
 answer_ends (Err halts.Untold) = tt
 answer_ends (Err halts.DiskFault) = refl
+answer_ends (Err halts.ScratchFault) = refl
 answer_ends (Err halts.Memory) = tt
 
-pub answer_has_log : (answer : Result AppendEnd AppendStop) → found_no_log (status_of_result (append_answer answer)) ≡ false
+pub answer_has_log : (answer : Result AppendEnd AppendStop)
+    → found_no_log (status_of_result (append_answer answer)) ≡ false
 answer_has_log (Ok appends.Whole) = refl
 answer_has_log (Ok (appends.Refused frame cause)) = refl
 answer_has_log (Err halts.Unreadable) = refl
 answer_has_log (Err halts.Untold) = refl
 answer_has_log (Err halts.DiskFault) = refl
+answer_has_log (Err halts.ScratchFault) = refl
 answer_has_log (Err halts.Memory) = refl
 
 -- ---- whole runs
 
 -- a command that tells what it makes
-pub done_ends : (result : Result Ending RunStop) (command : Command) → IfOk result (λ ending. ending ≡ endings.Done) → (result ≡ Err stops.Unreadable → ⊥) → (result ≡ Err stops.DiskFault → ⊥) → MayEnd (status_of_result result) (Some command)
-done_ends (Ok ending) command done reads writes = subst (λ (e : Ending). MayEnd (status_of e) (Some command)) (sym done) refl
-done_ends (Err stops.Unreadable) command done reads writes = absurd (reads refl)
-done_ends (Err stops.Untold) command done reads writes = tt
-done_ends (Err stops.DiskFault) command done reads writes = absurd (writes refl)
-done_ends (Err stops.Memory) command done reads writes = tt
+pub done_ends : (result : Result Ending RunStop) (command : Command)
+    → IfOk result (λ ending. ending ≡ endings.Done) → (result ≡ Err stops.Unreadable → ⊥)
+    → (result ≡ Err stops.DiskFault → ⊥) → (result ≡ Err stops.ScratchFault → ⊥)
+    → MayEnd (status_of_result result) (Some command)
+done_ends (Ok ending) command done reads writes keeps = subst
+    (λ (e : Ending). MayEnd (status_of e) (Some command)) (sym done) refl
+done_ends (Err stops.Unreadable) command done reads writes keeps = absurd (reads refl)
+done_ends (Err stops.Untold) command done reads writes keeps = tt
+done_ends (Err stops.DiskFault) command done reads writes keeps = absurd (writes refl)
+done_ends (Err stops.ScratchFault) command done reads writes keeps = absurd (keeps refl)
+done_ends (Err stops.Memory) command done reads writes keeps = tt
 
-pub load_ends : {E : Type 0} (generation : Generation) (found : Result Outcome E) → IfOk found (λ outcome. outcome.ending ≡ endings.Done) → IfOk found (λ outcome. MayEnd (status_of outcome.ending) (Some (Load generation)))
-load_ends generation (Ok outcome) done = subst (λ (e : Ending). MayEnd (status_of e) (Some (Load generation))) (sym done) refl
+pub load_ends : {E : Type 0} (generation : Generation) (found : Result Outcome E)
+    → IfOk found (λ outcome. outcome.ending ≡ endings.Done)
+    → IfOk found (λ outcome. MayEnd (status_of outcome.ending) (Some (Load generation)))
+load_ends generation (Ok outcome) done = subst
+    (λ (e : Ending). MayEnd (status_of e) (Some (Load generation))) (sym done) refl
 load_ends generation (Err error) done = tt
 
--- a load that can be given is of as many blocks as may be made
-pub is_count : (command : Command) (generation : Generation) → command ≡ Load generation → CanBeGiven command → IsCount generation.blocks
-is_count command generation is given = let can : CanBeGiven (Load generation) = subst CanBeGiven is given in can.count
+pub load_stops : (generation : Generation) (found : Result Outcome OutcomeStop)
+    → (found ≡ Err outcomes.Unreadable → ⊥)
+    → IfErr found (λ stop. MayEnd (status_of_stop (stop_of_outcome stop)) (Some (Load generation)))
+load_stops generation (Ok outcome) reads = tt
+load_stops generation (Err outcomes.Unreadable) reads = absurd (reads refl)
+load_stops generation (Err outcomes.ScratchFault) reads = refl
+load_stops generation (Err outcomes.Memory) reads = tt
 
-pub of_given : (status : Status) (command given : Command) → command ≡ given → MayEnd status (Some given) → MayEnd status (Some command)
-of_given status command given is ends = subst (λ (c : Command). MayEnd status (Some c)) (sym is) ends
+-- a load that can be given is of as many blocks as may be made
+pub is_count : (command : Command) (generation : Generation) → command ≡ Load generation
+    → CanBeGiven command → IsCount generation.blocks
+is_count command generation is given = let can : CanBeGiven (Load generation) = subst CanBeGiven is
+    given in can.count
+
+pub of_given : (status : Status) (command given : Command) → command ≡ given
+    → MayEnd status (Some given) → MayEnd status (Some command)
+of_given status command given is ends = subst (λ (c : Command). MayEnd status (Some c)) (sym is)
+    ends
 
 -- a command that found no log uses the disk
-no_log_uses : (status : Status) (command : Option Command) → found_no_log status ≡ true → MayEnd status command → uses_disk command ≡ true
+no_log_uses : (status : Status) (command : Option Command) → found_no_log status ≡ true
+    → MayEnd status command → uses_disk command ≡ true
 no_log_uses statuses.NotALog command none ends = ends
 no_log_uses statuses.Damaged command none ends = ends
 no_log_uses statuses.Done command none ends = absurd (cc none)
@@ -104,7 +141,9 @@ no_log_uses statuses.Refused command none ends = absurd (cc none)
 no_log_uses statuses.Beyond command none ends = absurd (cc none)
 no_log_uses statuses.Rejected command none ends = absurd (cc none)
 no_log_uses statuses.BadInput command none ends = absurd (cc none)
+no_log_uses statuses.ScratchFault command none ends = absurd (cc none)
 
 -- so one that uses none did not find that there is none
-pub found_log : (status : Status) (given : Command) → uses_disk (Some given) ≡ false → MayEnd status (Some given) → found_no_log status ≡ true → ⊥
+pub found_log : (status : Status) (given : Command) → uses_disk (Some given) ≡ false
+    → MayEnd status (Some given) → found_no_log status ≡ true → ⊥
 found_log status given unused ends none = cc (unused, no_log_uses status (Some given) none ends)

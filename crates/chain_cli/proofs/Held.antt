@@ -1,5 +1,5 @@
 -- What `verify` tells where it accepts a proof is the answer of each chain with the root.
-use Rattle.std.proofs.Common.{◌≡◌, ◌⊎◌, inl, inr, ℕ, List, map, Result, Ok, Err, refl, ap}
+use Rattle.std.proofs.Common.{◌≡◌, inl, inr, ℕ, List, map, Result, Ok, Err, refl, ap}
 use Rattle.lc_base.specs.declared.answer.Answer.{Answer}
 use Rattle.lc_base.specs.declared.answer.Query.{Query}
 use Rattle.proof_codec.specs.declared.proof.Proof.{Proof}
@@ -9,11 +9,11 @@ use Rattle.proof_checks.specs.declared.reject.Reject.{Reject}
 use Rattle.proof_commands.specs.declared.verification.Verification.{Verification}
 use Rattle.proof_commands.specs.Verifying.{of_verdict, IsVerification, OddDigits, NoDigit, NoProof, Judged}
 use Rattle.replay_soundness.proofs.Sound.{accepted_proofs_answer_as_replays}
-use Rattle.crash_promises.specs.Promises.{Line, plain}
+use Rattle.crash_promises.specs.Promises.{plain}
 use Rattle.cli_lines.specs.Lines.{answer_lines}
 use Rattle.cli_lines.specs.Outcome.{status_of}
 use Rattle.cli_lines.specs.declared.status.Status.TheVariants as statuses
-use Rattle.cli_output.specs.Output.{Output, IsVerifyOutput, LongProof, Verified}
+use Rattle.cli_output.specs.Output.{LongProof, Verified}
 use Rattle.cli_output.specs.Proofs.{verification_outcome}
 use Rattle.cli_output.specs.Showing.{IsProofInHex, TellsReplays, VerifiedAnswersHold}
 

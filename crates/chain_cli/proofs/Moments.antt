@@ -49,8 +49,8 @@ module _ {D : Type 0} (now : D → ℕ) (disk : D → ℕ → Option DiskState) 
       (λ c more. (Appends more.0, (blocks, s.1, (length more.0, more.1 ∙ ap (λ (b : List Block). Some (blocks ++ b)) (sym (take-length more.0)))))))
 
   -- a command that changes the log or does not
-  pub any_command : (changes : Bool) (old new : D) → IsSettled (disk old (now old)) → (changes ≡ false → Stays now disk old new)
-      → (changes ≡ true → (content : List ℕ) → content_of (disk old (now old)) ≡ Some content → Keeps now disk old new (MayLeaveAny next_in_chain content))
-      → (content : List ℕ) → content_of (disk old (now old)) ≡ Some content → Keeps now disk old new (MayLeaveAny next_in_chain content)
-  any_command false old new settled stays goes content here = stays_any old new content settled here (stays refl)
-  any_command true old new settled stays goes content here = goes refl content here
+  pub any_command : (changes held : Bool) (old new : D) → IsSettled (disk old (now old)) → (changes ≡ false → Stays now disk old new)
+      → (changes ≡ true → held ≡ true → (content : List ℕ) → content_of (disk old (now old)) ≡ Some content → Keeps now disk old new (MayLeaveAny next_in_chain content))
+      → held ≡ true → (content : List ℕ) → content_of (disk old (now old)) ≡ Some content → Keeps now disk old new (MayLeaveAny next_in_chain content)
+  any_command false held old new settled stays goes told content here = stays_any old new content settled here (stays refl)
+  any_command true held old new settled stays goes told content here = goes refl told content here

@@ -23,6 +23,7 @@ fn tell_frame<M: Wire>(alloc: Global, machine: &mut M, block: &[u8]) -> Result<(
     ensures lines { (next : NextBlock) → Telling next M.now M.disk M.told machine.old machine.new (plain (frame block.now) ∷ []) (is_ok result) }
     ensures reads { IsErrOf result RunStop.Unreadable → ⊥ }
     ensures writes { IsErrOf result RunStop.DiskFault → ⊥ }
+    ensures keeps { IsErrOf result RunStop.ScratchFault → ⊥ }
     ensures disk { Stays M.now M.disk machine.old machine.new }
     ensures disk_faults { M.disk_faults machine.new ≡ M.disk_faults machine.old }
     ensures cause { HasCause (M.wire_faults machine.old) (M.wire_faults machine.new) (IsErrOf result RunStop.Untold) }
@@ -46,6 +47,7 @@ pub fn generate<M: Wire>(
     ensures ending { IfOk result (λ ending. ending ≡ Ending.Done) }
     ensures reads { IsErrOf result RunStop.Unreadable → ⊥ }
     ensures writes { IsErrOf result RunStop.DiskFault → ⊥ }
+    ensures keeps { IsErrOf result RunStop.ScratchFault → ⊥ }
     ensures disk { Stays M.now M.disk machine.old machine.new }
     ensures disk_faults { M.disk_faults machine.new ≡ M.disk_faults machine.old }
     ensures cause { HasCause (M.wire_faults machine.old) (M.wire_faults machine.new) (IsErrOf result RunStop.Untold) }

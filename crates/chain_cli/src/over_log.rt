@@ -8,6 +8,7 @@ ghost use Rattle.block_codec.specs.Reading.{block_in};
 ghost use Rattle.block_codec.specs.declared.block.Block.{Block as Blocks};
 ghost use Rattle.chain_exec.specs.Compiled.{compiled_in};
 ghost use Rattle.chain_replay.specs.Chain.{StandsFor};
+ghost use Rattle.scratch_model.specs.Scratch.{is_told};
 ghost use Rattle.recovery.specs.Node.{next_in_chain};
 ghost use Rattle.crash_promises.specs.Promises.{MayLeaveAny};
 ghost use Rattle.cli_words.specs.declared.words.Command.TheVariants.{Append, Root, Ask};
@@ -25,6 +26,7 @@ use disk_model::Disk;
 use lc_base::{Key, Kind, Memory, Query};
 use lc_io::{Source, Wire};
 use recovery::{Node, stored_chain};
+use scratch_model::Scratch;
 use std::alloc::Global;
 
 /// How a command ends that appended.
@@ -37,27 +39,30 @@ fn append_answer(answer: Result<AppendEnd, AppendStop>) -> Result<Ending, RunSto
         Err(AppendStop::Unreadable) => Err(RunStop::Unreadable),
         Err(AppendStop::Untold) => Err(RunStop::Untold),
         Err(AppendStop::DiskFault) => Err(RunStop::DiskFault),
+        Err(AppendStop::ScratchFault) => Err(RunStop::ScratchFault),
         Err(AppendStop::Memory) => Err(RunStop::Memory),
     }
 }
 
 /// Takes the blocks of the input into the chain of the log, and tells of each.
-pub fn append<I: Source, M: Disk + Wire>(
+pub fn append<I: Source, M: Disk + Wire, S: Scratch>(
     alloc: Global,
     source: &mut I,
     machine: &mut M,
+    scratch: &mut S,
 ) -> Result<Ending, RunStop>
     requires settled { IsSettled (M.disk machine.old (M.now machine.old)) }
-    ensures run { IsRun M.now M.disk M.told machine.old machine.new (status_of_result result) (I.left source.old) (I.left source.new) block_in compiled_in (Some Append) }
-    ensures goes_on { (content : List ℕ) → content_of (M.disk machine.old (M.now machine.old)) ≡ Some content → Keeps M.now M.disk machine.old machine.new (MayLeaveAny next_in_chain content) }
+    ensures run { IsRun M.now M.disk M.told machine.old machine.new (status_of_result result) (I.left source.old) (I.left source.new) (is_told (S.state scratch.old)) block_in compiled_in (Some Append) }
+    ensures goes_on { is_told (S.state scratch.old) ≡ true → (content : List ℕ) → content_of (M.disk machine.old (M.now machine.old)) ≡ Some content → Keeps M.now M.disk machine.old machine.new (MayLeaveAny next_in_chain content) }
     ensures ends { MayEnd (status_of_result result) (Some Append) }
     ensures no_log { found_no_log (status_of_result result) ≡ true → source.new ≡ source.old }
     ensures unreadable { HasCause (I.source_faults source.old) (I.source_faults source.new) (IsErrOf result RunStop.Unreadable) }
     ensures disk_fault { HasCause (M.disk_faults machine.old) (M.disk_faults machine.new) (IsErrOf result RunStop.DiskFault) }
+    ensures scratch_fault { HasCause (S.scratch_faults scratch.old) (S.scratch_faults scratch.new) (IsErrOf result RunStop.ScratchFault) }
     ensures untold { HasCause (M.wire_faults machine.old) (M.wire_faults machine.new) (IsErrOf result RunStop.Untold) }
 {
-    match start(alloc, machine) {
-        Ok(node) => append_answer(append_frames(alloc, source, machine, node)),
+    match start(alloc, machine, scratch) {
+        Ok(node) => append_answer(append_frames(alloc, source, machine, scratch, node)),
         Err(error) => tell_start(alloc, machine, error),
     }
 }
@@ -79,23 +84,26 @@ fn last_answer(
 }
 
 /// Tells the answer to a question over the blocks of the log.
-pub fn ask<M: Disk + Wire>(
+pub fn ask<M: Disk + Wire, S: Scratch>(
     alloc: Global,
     kind: Kind,
     key: Key,
     at: Option<u32>,
     machine: &mut M,
+    scratch: &mut S,
 ) -> Result<Ending, RunStop>
     requires settled { IsSettled (M.disk machine.old (M.now machine.old)) }
-    ensures run { (left : Option (List ℕ)) → IsRun M.now M.disk M.told machine.old machine.new (status_of_result result) left left block_in compiled_in (Some (Ask kind key at)) }
+    ensures run { (left : Option (List ℕ)) → IsRun M.now M.disk M.told machine.old machine.new (status_of_result result) left left (is_told (S.state scratch.old)) block_in compiled_in (Some (Ask kind key at)) }
     ensures ends { MayEnd (status_of_result result) (Some (Ask kind key at)) }
     ensures silent { IsSilent (status_of_result result) (M.told machine.old) (M.told machine.new) }
     ensures reads { IsErrOf result RunStop.Unreadable → ⊥ }
     ensures disk { Stays M.now M.disk machine.old machine.new }
     ensures disk_fault { HasCause (M.disk_faults machine.old) (M.disk_faults machine.new) (IsErrOf result RunStop.DiskFault) }
+    ensures keeps { IsErrOf result RunStop.ScratchFault → ⊥ }
+    ensures scratch { scratch.new ≡ scratch.old }
     ensures untold { HasCause (M.wire_faults machine.old) (M.wire_faults machine.new) (IsErrOf result RunStop.Untold) }
 {
-    match stored_chain(alloc, machine) {
+    match stored_chain(alloc, machine, scratch) {
         Ok(chain) => tell_made(machine, last_answer(alloc, kind, key, at, chain)),
         Err(error) => tell_start(alloc, machine, error),
     }
@@ -128,21 +136,23 @@ fn last_root(alloc: Global, at: Option<u32>, node: Node) -> Result<Outcome, Memo
 }
 
 /// Tells the root at a block of the log.
-pub fn root<M: Disk + Wire>(
+pub fn root<M: Disk + Wire, S: Scratch>(
     alloc: Global,
     at: Option<u32>,
     machine: &mut M,
+    scratch: &mut S,
 ) -> Result<Ending, RunStop>
     requires settled { IsSettled (M.disk machine.old (M.now machine.old)) }
-    ensures run { (left : Option (List ℕ)) → IsRun M.now M.disk M.told machine.old machine.new (status_of_result result) left left block_in compiled_in (Some (Root at)) }
+    ensures run { (left : Option (List ℕ)) → IsRun M.now M.disk M.told machine.old machine.new (status_of_result result) left left (is_told (S.state scratch.old)) block_in compiled_in (Some (Root at)) }
     ensures ends { MayEnd (status_of_result result) (Some (Root at)) }
     ensures silent { IsSilent (status_of_result result) (M.told machine.old) (M.told machine.new) }
     ensures reads { IsErrOf result RunStop.Unreadable → ⊥ }
     ensures disk { Stays M.now M.disk machine.old machine.new }
     ensures disk_fault { HasCause (M.disk_faults machine.old) (M.disk_faults machine.new) (IsErrOf result RunStop.DiskFault) }
+    ensures scratch_fault { HasCause (S.scratch_faults scratch.old) (S.scratch_faults scratch.new) (IsErrOf result RunStop.ScratchFault) }
     ensures untold { HasCause (M.wire_faults machine.old) (M.wire_faults machine.new) (IsErrOf result RunStop.Untold) }
 {
-    match Node::start(alloc, machine) {
+    match Node::start(alloc, machine, scratch) {
         Ok(node) => tell_made(machine, last_root(alloc, at, node)),
         Err(error) => tell_start(alloc, machine, error),
     }

@@ -10,10 +10,11 @@ ghost use Rattle.block_codec.specs.Reading.{block_in};
 ghost use Rattle.block_codec.specs.Spelling.{Decoder, IsDecoder};
 ghost use Rattle.chain_exec.specs.Compiled.{Compiler, IsCompiler, compiled_in};
 ghost use Rattle.cli_words.specs.declared.words.Command.{Command as Commands};
+ghost use Rattle.scratch_model.specs.Scratch.{is_told};
 ghost use Rattle.recovery.specs.Node.{next_in_chain};
 ghost use Rattle.crash_promises.specs.Promises.{MayLeaveAny};
 ghost use Rattle.cli_words.specs.Words.{CanBeGiven, IsCommand, IsOneCommand};
-ghost use Rattle.cli_output.specs.Output.{FormatsAgain, IsWanted, IsOneOutput, next_by, reads_input, uses_disk, changes_log, tells_as_it_goes};
+ghost use Rattle.cli_output.specs.Output.{FormatsAgain, IsWanted, IsOneOutput, next_by, reads_input, uses_disk, uses_scratch, changes_log, tells_as_it_goes};
 ghost use Rattle.cli_output.specs.Running.{IsRun, IsSilent, MayEnd, found_no_log};
 ghost use Rattle.cli_output.specs.Showing.{VerifiedAnswersHold, WrongAnswersAreTold};
 ghost use Rattle.cli_output.specs.Telling.{status_of_result};
@@ -25,106 +26,115 @@ use crate::over_log::{append, ask, root};
 use crate::packing::pack;
 use crate::scan::scan;
 use cli_lines::{Ending, Status};
-use cli_output::{RunStop, tell_made, tell_result, tell_usage};
+use cli_output::{RunStop, tell_answer, tell_result, tell_usage};
 use cli_proofs::{expose, prove, verify};
 use cli_words::{Command, command_of};
 use disk_model::Disk;
 use lc_io::{Source, Wire};
+use scratch_model::Scratch;
 use std::alloc::Global;
 
 /// Does what a command is for.
-fn run_command<I: Source, M: Disk + Wire>(
+fn run_command<I: Source, M: Disk + Wire, S: Scratch>(
     alloc: Global,
     command: &Command,
     source: &mut I,
     machine: &mut M,
+    scratch: &mut S,
 ) -> Result<Ending, RunStop>
     requires given { CanBeGiven command.now }
     requires settled { IsSettled (M.disk machine.old (M.now machine.old)) }
-    ensures run { IsRun M.now M.disk M.told machine.old machine.new (status_of_result result) (I.left source.old) (I.left source.new) block_in compiled_in (Some command.now) }
+    ensures run { IsRun M.now M.disk M.told machine.old machine.new (status_of_result result) (I.left source.old) (I.left source.new) (is_told (S.state scratch.old)) block_in compiled_in (Some command.now) }
     ensures untouched { changes_log (Some command.now) ≡ false → Stays M.now M.disk machine.old machine.new }
     ensures silent { tells_as_it_goes (Some command.now) ≡ false → IsSilent (status_of_result result) (M.told machine.old) (M.told machine.new) }
     ensures unread { reads_input (Some command.now) ≡ false → source.new ≡ source.old }
-    ensures goes_on { changes_log (Some command.now) ≡ true → (content : List ℕ) → content_of (M.disk machine.old (M.now machine.old)) ≡ Some content
+    ensures goes_on { changes_log (Some command.now) ≡ true → is_told (S.state scratch.old) ≡ true → (content : List ℕ) → content_of (M.disk machine.old (M.now machine.old)) ≡ Some content
         → Keeps M.now M.disk machine.old machine.new (MayLeaveAny next_in_chain content) }
     ensures unused { uses_disk (Some command.now) ≡ false → M.disk_faults machine.new ≡ M.disk_faults machine.old }
+    ensures unused_scratch { uses_scratch (Some command.now) ≡ false → scratch.new ≡ scratch.old }
     ensures ends { MayEnd (status_of_result result) (Some command.now) }
     ensures no_log { found_no_log (status_of_result result) ≡ true → source.new ≡ source.old }
     ensures unreadable { HasCause (I.source_faults source.old) (I.source_faults source.new) (IsErrOf result RunStop.Unreadable) }
     ensures untold { HasCause (M.wire_faults machine.old) (M.wire_faults machine.new) (IsErrOf result RunStop.Untold) }
     ensures disk_fault { HasCause (M.disk_faults machine.old) (M.disk_faults machine.new) (IsErrOf result RunStop.DiskFault) }
+    ensures scratch_fault { HasCause (S.scratch_faults scratch.old) (S.scratch_faults scratch.new) (IsErrOf result RunStop.ScratchFault) }
 {
     match command {
         Command::Scan(query) => tell_result(machine, scan(alloc, query, source)),
         Command::Fmt => tell_result(machine, fmt(alloc, source)),
         Command::Pack => tell_result(machine, pack(alloc, source)),
         Command::Gen(generation) => generate(alloc, machine, generation),
-        Command::Load(generation) => tell_made(machine, load_outcome(alloc, generation)),
-        Command::Append => append(alloc, source, machine),
-        Command::Root(at) => root(alloc, *at, machine),
-        Command::Ask { kind, key, at } => ask(alloc, *kind, *key, *at, machine),
-        Command::Prove { query, root_at } => prove(alloc, query, *root_at, machine),
+        Command::Load(generation) => tell_answer(machine, load_outcome(alloc, scratch, generation)),
+        Command::Append => append(alloc, source, machine, scratch),
+        Command::Root(at) => root(alloc, *at, machine, scratch),
+        Command::Ask { kind, key, at } => ask(alloc, *kind, *key, *at, machine, scratch),
+        Command::Prove { query, root_at } => prove(alloc, query, *root_at, machine, scratch),
         Command::Verify { root, query } => tell_result(machine, verify(alloc, root, query, source)),
         Command::Expose {
             root,
             query,
             root_at,
-        } => expose(alloc, root, query, *root_at, source, machine),
+        } => expose(alloc, root, query, *root_at, source, machine, scratch),
     }
 }
 
 /// What the program does on a command, or on words that are none.
-fn run_words<I: Source, M: Disk + Wire>(
+fn run_words<I: Source, M: Disk + Wire, S: Scratch>(
     alloc: Global,
     command: Option<Command>,
     source: &mut I,
     machine: &mut M,
+    scratch: &mut S,
 ) -> Status
     requires given { IfSome command CanBeGiven }
     requires settled { IsSettled (M.disk machine.old (M.now machine.old)) }
-    ensures run { IsRun M.now M.disk M.told machine.old machine.new result (I.left source.old) (I.left source.new) block_in compiled_in command }
+    ensures run { IsRun M.now M.disk M.told machine.old machine.new result (I.left source.old) (I.left source.new) (is_told (S.state scratch.old)) block_in compiled_in command }
     ensures untouched { changes_log command ≡ false → Stays M.now M.disk machine.old machine.new }
     ensures silent { tells_as_it_goes command ≡ false → IsSilent result (M.told machine.old) (M.told machine.new) }
     ensures unread { reads_input command ≡ false → source.new ≡ source.old }
-    ensures goes_on { changes_log command ≡ true → (content : List ℕ) → content_of (M.disk machine.old (M.now machine.old)) ≡ Some content
+    ensures goes_on { changes_log command ≡ true → is_told (S.state scratch.old) ≡ true → (content : List ℕ) → content_of (M.disk machine.old (M.now machine.old)) ≡ Some content
         → Keeps M.now M.disk machine.old machine.new (MayLeaveAny next_in_chain content) }
     ensures unused { uses_disk command ≡ false → M.disk_faults machine.new ≡ M.disk_faults machine.old }
+    ensures unused_scratch { uses_scratch command ≡ false → scratch.new ≡ scratch.old }
     ensures ends { MayEnd result command }
     ensures no_log { found_no_log result ≡ true → source.new ≡ source.old }
     ensures unreadable { HasCause (I.source_faults source.old) (I.source_faults source.new) (result ≡ Status.Unreadable) }
     ensures untold { HasCause (M.wire_faults machine.old) (M.wire_faults machine.new) (result ≡ Status.Untold) }
     ensures disk_fault { HasCause (M.disk_faults machine.old) (M.disk_faults machine.new) (result ≡ Status.DiskFault) }
+    ensures scratch_fault { HasCause (S.scratch_faults scratch.old) (S.scratch_faults scratch.new) (result ≡ Status.ScratchFault) }
 {
     match command {
         None => match tell_usage(alloc, machine) {
             Ok(()) => Status::Usage,
             Err(stop) => stop.status(),
         },
-        Some(command) => match run_command(alloc, &command, source, machine) {
+        Some(command) => match run_command(alloc, &command, source, machine, scratch) {
             Ok(ending) => ending.status(),
             Err(stop) => stop.status(),
         },
     }
 }
 
-/// Everything that the program does: it reads the words, the input and the disk, tells the lines, and
-/// appends to the log.
+/// Everything that the program does: it reads the words, the input and the disk, keeps bodies of versions
+/// on the scratch device, tells the lines, and appends to the log.
 #[tactic(auto, using(crate::proofs::OneOutput::one_output, crate::proofs::Formatted::formats_again, crate::proofs::Held::verified_holds, cli_output::proofs::WrongTold::wrong_answers_are_told, block_codec::proofs::WholeBlocks::decided, chain_exec::proofs::TheLaws::one_compiler))]
-pub fn run<I: Source, M: Disk + Wire>(
+pub fn run<I: Source, M: Disk + Wire, S: Scratch>(
     alloc: Global,
     words: &[String],
     source: &mut I,
     machine: &mut M,
+    scratch: &mut S,
 ) -> Status
     // Where the machine tells its disk, nothing is pending.
     requires settled { IsSettled (M.disk machine.old (M.now machine.old)) }
     // The words are one command, or none.
     ensures command { (command : Option Commands) × IsOneCommand (map string_bytes words.now) command }
     // What is told, the status, what is left of the input, and what a crash at any moment may leave of
-    // the log, are those that the words, the input and the content of the disk want.
+    // the log, are those that the words, the input and the content of the disk want; of a command that uses
+    // the scratch device, where it is told which bytes this holds.
     ensures output { (read : Decoder) × IsDecoder read × ((compile : Compiler) × IsCompiler compile
         × ((command : Option Commands) → IsCommand (map string_bytes words.now) command
-        → IsRun M.now M.disk M.told machine.old machine.new result (I.left source.old) (I.left source.new) read compile command)) }
+        → IsRun M.now M.disk M.told machine.old machine.new result (I.left source.old) (I.left source.new) (is_told (S.state scratch.old)) read compile command)) }
     // A command, an input of bytes and a disk of bytes want one output.
     ensures one { (command : Option Commands) (input content : List ℕ) → IsBytes input → IsBytes content
         → IsOneOutput (IsWanted command input content) }
@@ -136,10 +146,10 @@ pub fn run<I: Source, M: Disk + Wire>(
     // Of a proof that is accepted with another answer than that of a chain with the root, `expose` tells a
     // text of the proof and one of that chain's ledger that differ and have one digest.
     ensures exposed { (root : List ℕ) (query : Query) (root_at : ℕ) (input : List ℕ) → WrongAnswersAreTold root query root_at input }
-    // Whatever the source has left, where the disk is told: a crash at any moment leaves what it held, or
-    // the chain of that with further blocks.
+    // Whatever the source has left, where the disk is told, and which bytes the scratch device holds: a crash
+    // at any moment leaves what the disk held, or the chain of that with further blocks.
     ensures goes_on { (read : Decoder) × IsDecoder read × ((compile : Compiler) × IsCompiler compile
-        × ((content : List ℕ) → content_of (M.disk machine.old (M.now machine.old)) ≡ Some content
+        × (is_told (S.state scratch.old) ≡ true → (content : List ℕ) → content_of (M.disk machine.old (M.now machine.old)) ≡ Some content
         → Keeps M.now M.disk machine.old machine.new (MayLeaveAny (next_by read compile) content))) }
     // Whatever the source has left and the disk holds: a command that does not change the log leaves
     // the disk as it is;
@@ -148,6 +158,9 @@ pub fn run<I: Source, M: Disk + Wire>(
     // in one that does not use the disk no call of it fails;
     ensures unused { (command : Option Commands) → IsCommand (map string_bytes words.now) command
         → uses_disk command ≡ false → M.disk_faults machine.new ≡ M.disk_faults machine.old }
+    // one that does not use the scratch device leaves it as it is, and so no call of it fails;
+    ensures unused_scratch { (command : Option Commands) → IsCommand (map string_bytes words.now) command
+        → uses_scratch command ≡ false → scratch.new ≡ scratch.old }
     // one that reads no input leaves the source as it is;
     ensures unread { (command : Option Commands) → IsCommand (map string_bytes words.now) command
         → reads_input command ≡ false → source.new ≡ source.old }
@@ -160,11 +173,12 @@ pub fn run<I: Source, M: Disk + Wire>(
     // a status comes only of the commands that may end with it;
     ensures ends { (command : Option Commands) → IsCommand (map string_bytes words.now) command
         → MayEnd result command }
-    // and a source, a wire or a disk is blamed where it failed, and only there.
+    // and a source, a wire, a disk or a scratch device is blamed where it failed, and only there.
     ensures unreadable { HasCause (I.source_faults source.old) (I.source_faults source.new) (result ≡ Status.Unreadable) }
     ensures untold { HasCause (M.wire_faults machine.old) (M.wire_faults machine.new) (result ≡ Status.Untold) }
     ensures disk_fault { HasCause (M.disk_faults machine.old) (M.disk_faults machine.new) (result ≡ Status.DiskFault) }
+    ensures scratch_fault { HasCause (S.scratch_faults scratch.old) (S.scratch_faults scratch.new) (result ≡ Status.ScratchFault) }
 {
     let command = command_of(words);
-    run_words(alloc, command, source, machine)
+    run_words(alloc, command, source, machine, scratch)
 }

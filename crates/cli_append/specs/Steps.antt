@@ -52,6 +52,12 @@ IsTaken state blocks judgement (Ok (Ok node)) = (frame : Taken) × (judgement �
 IsTaken state blocks judgement (Ok (Err refusal)) = (judgement ≡ Err refusal) × Rests state (λ image. chain_in image ≡ Some blocks)
 IsTaken state blocks judgement (Err stop) = Unit {0}
 
+-- A node goes on after the frame, and this is so of it.
+abbrev pub IfLonger : (NodeState → Type 0) → Result (Result NodeState Refusal) AppendStop → Type 0
+IfLonger P (Ok (Ok node)) = P node
+IfLonger P (Ok (Err refusal)) = Unit {0}
+IfLonger P (Err stop) = Unit {0}
+
 -- A frame that is judged so was taken or refused, or taking it was stopped.
 pub record Takes {D : Type 0} (now : D → ℕ) (disk : D → ℕ → Option DiskState) (told : D → Option (List Tell)) (old new : D) (blocks : List Block) (judgement : Result Taken Refusal) (result : Result (Result NodeState Refusal) AppendStop) : Type 0 where
   pub images : IsTold (disk old (now old)) → Keeps now disk old new (IsStepOf blocks judgement)

@@ -1,13 +1,14 @@
 //! Taking all frames of an input.
 
-ghost use Rattle.std.specs.Prelude.{◌≡◌, ◌+◌, ℕ, List, Some, IsErrOf};
+ghost use Rattle.std.specs.Prelude.{◌≡◌, true, ◌+◌, ℕ, List, Some, IsErrOf};
 ghost use Rattle.lc_base.specs.Faults.{HasCause};
 ghost use Rattle.block_codec.specs.Reading.{block_in};
 ghost use Rattle.block_codec.specs.declared.block.Block.{Block};
 ghost use Rattle.block_codec.specs.declared.limits.TheConstants.{MAX_FRAMES};
 ghost use Rattle.chain_exec.specs.Compiled.{compiled_in};
 ghost use Rattle.chain_input.specs.Folding.{fold_from};
-ghost use Rattle.recovery.specs.Node.{IsNodeOf};
+ghost use Rattle.scratch_model.specs.Scratch.{is_told, Retains};
+ghost use Rattle.recovery.specs.Node.{IsNodeOf, IsReady};
 ghost use Rattle.disk_model.specs.Disk.{Keeps};
 ghost use Rattle.cli_append.specs.Appending.{AppendsAll, GoesFrom, IsTold};
 
@@ -19,25 +20,31 @@ use chain_input::Cause;
 use disk_model::Disk;
 use lc_io::{Source, Wire};
 use recovery::Node;
+use scratch_model::Scratch;
 use std::alloc::Global;
 
 /// Takes the frames of the input one after another, up to the first that is refused: the block of
 /// each is stored where it is the chain's next one, and then a line is told of it.
-pub fn append<I: Source, M: Disk + Wire>(
+pub fn append<I: Source, M: Disk + Wire, S: Scratch>(
     alloc: Global,
     source: &mut I,
     machine: &mut M,
+    scratch: &mut S,
     node: Node,
 ) -> Result<AppendEnd, AppendStop>
-    requires node { (blocks : List Block) × IsNodeOf node (M.disk machine.old (M.now machine.old)) blocks }
-    // Where the source tells what it has left, the frames are taken, and told, as they fold.
-    ensures appends { (blocks : List Block) (input : List ℕ) → IsNodeOf node (M.disk machine.old (M.now machine.old)) blocks → I.left source.old ≡ Some input
+    requires ready { IsReady node (M.disk machine.old (M.now machine.old)) (S.state scratch.old) }
+    // Where the source tells what it has left, and the scratch device which bytes it holds, the frames
+    // are taken, and told, as they fold.
+    ensures appends { is_told (S.state scratch.old) ≡ true → (blocks : List Block) (input : List ℕ) → IsNodeOf node (M.disk machine.old (M.now machine.old)) blocks → I.left source.old ≡ Some input
         → AppendsAll M.now M.disk M.told machine.old machine.new (I.left source.new) blocks (fold_from block_in compiled_in (MAX_FRAMES + 1) blocks input) result }
     // Whether the source tells or not: a crash at any moment leaves the chain from before, and any blocks after it.
-    ensures goes_on { (blocks : List Block) → IsNodeOf node (M.disk machine.old (M.now machine.old)) blocks → IsTold (M.disk machine.old (M.now machine.old)) → Keeps M.now M.disk machine.old machine.new (GoesFrom blocks) }
-    // A source, a disk or a wire is blamed only where it failed.
+    ensures goes_on { is_told (S.state scratch.old) ≡ true → (blocks : List Block) → IsNodeOf node (M.disk machine.old (M.now machine.old)) blocks → IsTold (M.disk machine.old (M.now machine.old)) → Keeps M.now M.disk machine.old machine.new (GoesFrom blocks) }
+    // What was on the scratch device stays there.
+    ensures retains { Retains (S.state scratch.old) (S.state scratch.new) }
+    // A source, a disk, a scratch device or a wire is blamed only where it failed.
     ensures unreadable { HasCause (I.source_faults source.old) (I.source_faults source.new) (IsErrOf result AppendStop.Unreadable) }
     ensures disk_fault { HasCause (M.disk_faults machine.old) (M.disk_faults machine.new) (IsErrOf result AppendStop.DiskFault) }
+    ensures scratch_fault { HasCause (S.scratch_faults scratch.old) (S.scratch_faults scratch.new) (IsErrOf result AppendStop.ScratchFault) }
     ensures untold { HasCause (M.wire_faults machine.old) (M.wire_faults machine.new) (IsErrOf result AppendStop.Untold) }
 {
     let mut node = node;
@@ -49,7 +56,13 @@ pub fn append<I: Source, M: Disk + Wire>(
                 node.give_up();
                 return Ok(AppendEnd::Whole);
             }
-            Ok(Some((bytes, more))) => match take_frame(alloc, machine, node, bytes.as_bytes()) {
+            Ok(Some((bytes, more))) => match take_frame(
+                alloc,
+                machine,
+                scratch,
+                node,
+                bytes.as_bytes(),
+            ) {
                 Ok(Ok(longer)) => {
                     node = longer;
                     frames = more;

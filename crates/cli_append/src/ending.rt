@@ -20,6 +20,8 @@ pub enum AppendStop {
     Untold,
     /// A call of the disk failed.
     DiskFault,
+    /// A call of the scratch device failed.
+    ScratchFault,
     /// Out of memory.
     Memory,
 }

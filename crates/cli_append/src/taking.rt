@@ -1,13 +1,14 @@
 //! Taking one frame.
 
-ghost use Rattle.std.specs.Prelude.{◌≡◌, ℕ, List, IsErrOf};
+ghost use Rattle.std.specs.Prelude.{◌≡◌, true, ℕ, List, IsErrOf};
 ghost use Rattle.lc_base.specs.Faults.{HasCause};
 ghost use Rattle.block_codec.specs.Reading.{block_in};
 ghost use Rattle.block_codec.specs.declared.block.Block.{Block};
 ghost use Rattle.chain_exec.specs.Compiled.{compiled_in};
 ghost use Rattle.chain_replay.specs.Judging.{judged};
-ghost use Rattle.recovery.specs.Node.{IsNodeOf};
-ghost use Rattle.cli_append.specs.Steps.{IsCauseOf, Takes};
+ghost use Rattle.scratch_model.specs.Scratch.{is_told, Retains};
+ghost use Rattle.recovery.specs.Node.{IsNodeOf, IsReady};
+ghost use Rattle.cli_append.specs.Steps.{IsCauseOf, IfLonger, Takes};
 
 use crate::ending::AppendStop;
 use crate::lines::appended_line;
@@ -19,6 +20,7 @@ use disk_model::Disk;
 use lc_base::Memory;
 use lc_io::{Failed, Wire};
 use recovery::{AppendError, Node};
+use scratch_model::Scratch;
 use std::alloc::Global;
 
 /// Why no further frame could be taken: what it says of the input, or that it says nothing.
@@ -42,20 +44,24 @@ fn give_up(back: Option<Node>) {
 }
 
 /// Takes a frame: its block is stored where it is the next one, and then its line is told.
-pub fn take_frame<M: Disk + Wire>(
+pub fn take_frame<M: Disk + Wire, S: Scratch>(
     alloc: Global,
     machine: &mut M,
+    scratch: &mut S,
     node: Node,
     frame: &[u8],
 ) -> Result<Result<Node, Refusal>, AppendStop>
-    requires node { (blocks : List Block) × IsNodeOf node (M.disk machine.old (M.now machine.old)) blocks }
-    ensures takes { (blocks : List Block) → IsNodeOf node (M.disk machine.old (M.now machine.old)) blocks
+    requires ready { IsReady node (M.disk machine.old (M.now machine.old)) (S.state scratch.old) }
+    ensures takes { is_told (S.state scratch.old) ≡ true → (blocks : List Block) → IsNodeOf node (M.disk machine.old (M.now machine.old)) blocks
         → Takes M.now M.disk M.told machine.old machine.new blocks (judged compiled_in blocks (block_in frame.now)) result }
+    ensures ready { IfLonger (λ longer. IsReady longer (M.disk machine.new (M.now machine.new)) (S.state scratch.new)) result }
+    ensures retains { Retains (S.state scratch.old) (S.state scratch.new) }
     ensures disk_fault { HasCause (M.disk_faults machine.old) (M.disk_faults machine.new) (IsErrOf result AppendStop.DiskFault) }
+    ensures scratch_fault { HasCause (S.scratch_faults scratch.old) (S.scratch_faults scratch.new) (IsErrOf result AppendStop.ScratchFault) }
     ensures untold { HasCause (M.wire_faults machine.old) (M.wire_faults machine.new) (IsErrOf result AppendStop.Untold) }
     ensures reads { IsErrOf result AppendStop.Unreadable → ⊥ }
 {
-    match node.append(alloc, machine, frame) {
+    match node.append(alloc, machine, scratch, frame) {
         Ok((longer, appended)) => match appended_line(alloc, &appended) {
             Ok(line) => match tell_line(machine, line.as_bytes()) {
                 Ok(()) => Ok(Ok(longer)),
@@ -74,6 +80,7 @@ pub fn take_frame<M: Disk + Wire>(
             match error {
                 AppendError::Refused(refusal) => Ok(Err(refusal)),
                 AppendError::DiskFault => Err(AppendStop::DiskFault),
+                AppendError::ScratchFault => Err(AppendStop::ScratchFault),
                 AppendError::Memory => Err(AppendStop::Memory),
             }
         }

@@ -40,6 +40,7 @@ pub fn refuse<M: Wire>(
     ensures untold { HasCause (M.wire_faults machine.old) (M.wire_faults machine.new) (IsErrOf result AppendStop.Untold) }
     ensures reads { IsErrOf result AppendStop.Unreadable → ⊥ }
     ensures writes { IsErrOf result AppendStop.DiskFault → ⊥ }
+    ensures keeps { IsErrOf result AppendStop.ScratchFault → ⊥ }
 {
     match refused_line(alloc, frame, &cause) {
         Ok(line) => match tell_line(machine, line.as_bytes()) {

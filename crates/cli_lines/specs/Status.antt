@@ -17,3 +17,4 @@ status_number statuses.Refused = 8
 status_number statuses.Beyond = 9
 status_number statuses.Rejected = 10
 status_number statuses.BadInput = 11
+status_number statuses.ScratchFault = 12

@@ -30,6 +30,8 @@ pub enum Status {
     Rejected,
     /// The input is not of its grammar, or too long.
     BadInput,
+    /// A call of the scratch device failed.
+    ScratchFault,
 }
 
 impl Status {
@@ -50,6 +52,7 @@ impl Status {
             Status::Beyond => 9,
             Status::Rejected => 10,
             Status::BadInput => 11,
+            Status::ScratchFault => 12,
         }
     }
 }

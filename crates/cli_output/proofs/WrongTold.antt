@@ -1,24 +1,20 @@
 -- `expose` tells a clash of a proof that is accepted with a wrong answer.
-use Rattle.std.proofs.Common.{◌≡◌, ◌≢◌, ◌∙◌, ℕ, ◌<◌, List, [], Option, Some, None, Result, Ok, Err, refl, sym, ap, subst, arith}
+use Rattle.std.proofs.Common.{◌≡◌, ℕ, List, [], Option, Some, None, Result, Ok, Err, refl, ap, arith}
 use Rattle.std.specs.Prelude.{IsSomeAnd}
 use Rattle.lc_base.specs.declared.answer.Answer.{Answer}
 use Rattle.lc_base.specs.declared.answer.Query.{Query}
-use Rattle.block_codec.specs.declared.block.Block.{Block}
-use Rattle.chain_exec.specs.Compiled.{Compiler}
-use Rattle.proof_codec.specs.declared.proof.Proof.{Proof}
 use Rattle.proof_checks.specs.Checks.{verdict}
 use Rattle.proof_checks.specs.ProofTexts.{proof_texts}
 use Rattle.proof_checks.specs.declared.reject.Reject.{Reject}
 use Rattle.text_clashes.specs.FirstClash.{IsFirstAt}
-use Rattle.proof_commands.specs.Verifying.{of_verdict, IsVerification, Judged}
-use Rattle.proof_commands.specs.declared.verification.Verification.{Verification}
+use Rattle.proof_commands.specs.Verifying.{of_verdict, Judged}
 use Rattle.proof_commands.specs.declared.verification.Verification.TheVariants.{Accepted}
 use Rattle.proof_commands.proofs.Verified.{one_answer}
-use Rattle.replay_soundness.specs.Soundness.{HasRoot, replayed_answer, replayed_texts}
+use Rattle.replay_soundness.specs.Soundness.{replayed_texts}
 use Rattle.replay_soundness.proofs.Sound.{wrong_answers_are_exposed}
-use Rattle.cli_output.specs.Output.{Output, output_of, FitsInput, IsExposeOutput, OutOfReach, LongExposed, NotAccepted, Exposed}
-use Rattle.cli_output.specs.Proofs.{is_accepted, IsAcceptedHex, clash_outcome}
-use Rattle.cli_output.specs.Showing.{IsProofInHex, TellsClash, WrongAnswersAreTold}
+use Rattle.cli_output.specs.Output.{output_of, OutOfReach, LongExposed, NotAccepted, Exposed}
+use Rattle.cli_output.specs.Proofs.{is_accepted, clash_outcome}
+use Rattle.cli_output.specs.Showing.{TellsClash, WrongAnswersAreTold}
 
 accepted_by : (v : Result Answer Reject) (answer : Answer) → Accepted answer ≡ of_verdict v → v ≡ Ok answer
 accepted_by (Ok other) answer same = cc same

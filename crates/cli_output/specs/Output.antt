@@ -323,6 +323,22 @@ uses_disk (Some (Prove query root_at)) = true
 uses_disk (Some (Verify root query)) = false
 uses_disk (Some (Expose root query root_at)) = true
 
+-- Whether it uses the scratch device. The questions `hist`, `back` and `fwd` run the blocks of the log
+-- into rows in memory, and use none.
+abbrev pub uses_scratch : Option Command → Bool
+uses_scratch None = false
+uses_scratch (Some (Scan query)) = false
+uses_scratch (Some Fmt) = false
+uses_scratch (Some Pack) = false
+uses_scratch (Some (Gen generation)) = false
+uses_scratch (Some (Load generation)) = true
+uses_scratch (Some Append) = true
+uses_scratch (Some (Root at)) = true
+uses_scratch (Some (Ask kind key at)) = false
+uses_scratch (Some (Prove query root_at)) = true
+uses_scratch (Some (Verify root query)) = false
+uses_scratch (Some (Expose root query root_at)) = true
+
 -- Whether it may change the log.
 abbrev pub changes_log : Option Command → Bool
 changes_log None = false

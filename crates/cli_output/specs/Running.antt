@@ -11,7 +11,7 @@ use Rattle.crash_promises.specs.Promises.{Change, NoChange, Appends, Telling, Ma
 use Rattle.cli_words.specs.declared.words.Command.{Command}
 use Rattle.cli_lines.specs.declared.status.Status.{Status}
 use Rattle.cli_lines.specs.declared.status.Status.TheVariants as statuses
-use Rattle.cli_output.specs.Output.{Output, Wants, next_by, reads_input, uses_disk, takes_frames, asks_for_block, checks_proof, reads_whole}
+use Rattle.cli_output.specs.Output.{Output, Wants, next_by, reads_input, uses_disk, uses_scratch, takes_frames, asks_for_block, checks_proof, reads_whole}
 
 -- Whether a run with this status came to its end: nothing outside failed, and memory did not run out.
 abbrev pub came_to_end : Status → Bool
@@ -27,6 +27,7 @@ came_to_end statuses.Refused = true
 came_to_end statuses.Beyond = true
 came_to_end statuses.Rejected = true
 came_to_end statuses.BadInput = true
+came_to_end statuses.ScratchFault = false
 
 -- Which commands may end with a status. Every one may be out of memory, or have a wire that fails.
 abbrev pub MayEnd : Status → Option Command → Type 0
@@ -42,6 +43,7 @@ MayEnd statuses.Refused command = takes_frames command ≡ true
 MayEnd statuses.Beyond command = asks_for_block command ≡ true
 MayEnd statuses.Rejected command = checks_proof command ≡ true
 MayEnd statuses.BadInput command = reads_whole command ≡ true
+MayEnd statuses.ScratchFault command = uses_scratch command ≡ true
 
 -- Whether a run with this status found no log that it could read: the disk holds something else, or
 -- the log is damaged.
@@ -58,6 +60,7 @@ found_no_log statuses.Refused = false
 found_no_log statuses.Beyond = false
 found_no_log statuses.Rejected = false
 found_no_log statuses.BadInput = false
+found_no_log statuses.ScratchFault = false
 
 -- What is left of the input, where that is told.
 abbrev pub leaves : Option (List ℕ) → List ℕ → Option (List ℕ)
@@ -94,14 +97,19 @@ IsGiven uses (Some told) bytes = told ≡ bytes
 IsGiven true None bytes = ⊥
 IsGiven false None bytes = Unit {0}
 
--- Whatever the input and the content of the disk are, where a command that uses them is told them, it
--- did what an output says that it wants of them.
-abbrev pub IsRun : {D : Type 0} → (D → ℕ) → (D → ℕ → Option DiskState) → (D → Option (List Tell)) → D → D → Status → Option (List ℕ) → Option (List ℕ) → Decoder → Compiler → Option Command → Type 0
-IsRun now disk told old new status left_old left_new read compile command =
-    (input content : List ℕ) → IsGiven (reads_input command) left_old input → IsGiven (uses_disk command) (content_of (disk old (now old))) content
+-- A command that uses the scratch device is told which bytes it holds.
+abbrev pub HeldIsGiven : Bool → Option Command → Type 0
+HeldIsGiven held command = uses_scratch command ≡ true → held ≡ true
+
+-- Whatever the input and the content of the disk are, where a command that uses them is told them, and
+-- one that uses the scratch device is told which bytes this holds, it did what an output says that it
+-- wants of them. `held` is whether the device tells that.
+abbrev pub IsRun : {D : Type 0} → (D → ℕ) → (D → ℕ → Option DiskState) → (D → Option (List Tell)) → D → D → Status → Option (List ℕ) → Option (List ℕ) → Bool → Decoder → Compiler → Option Command → Type 0
+IsRun now disk told old new status left_old left_new held read compile command =
+    HeldIsGiven held command → (input content : List ℕ) → IsGiven (reads_input command) left_old input → IsGiven (uses_disk command) (content_of (disk old (now old))) content
     → (output : Output) × Wants read compile command input content output × Meets (next_by read compile) now disk told old new status left_old left_new content output
 
--- Where the source or the disk failed, or memory ran out, nothing was told.
+-- Where the source, the disk or the scratch device failed, or memory ran out, nothing was told.
 abbrev pub IsSilent : Status → Option (List Tell) → Option (List Tell) → Type 0
 IsSilent statuses.Done old new = Unit {0}
 IsSilent statuses.Usage old new = Unit {0}
@@ -115,3 +123,4 @@ IsSilent statuses.Refused old new = Unit {0}
 IsSilent statuses.Beyond old new = Unit {0}
 IsSilent statuses.Rejected old new = Unit {0}
 IsSilent statuses.BadInput old new = Unit {0}
+IsSilent statuses.ScratchFault old new = new ≡ old

@@ -20,6 +20,8 @@ use Rattle.cli_lines.specs.declared.outcome.Ending.TheVariants as endings
 use Rattle.cli_lines.specs.declared.status.Status.{Status}
 use Rattle.cli_lines.specs.declared.status.Status.TheVariants as statuses
 use Rattle.cli_output.specs.Output.{fold_ending}
+use Rattle.cli_output.specs.declared.stop.OutcomeStop.{OutcomeStop}
+use Rattle.cli_output.specs.declared.stop.OutcomeStop.TheVariants as outcomes
 use Rattle.cli_output.specs.declared.stop.RunStop.{RunStop}
 use Rattle.cli_output.specs.declared.stop.RunStop.TheVariants as stops
 
@@ -30,6 +32,7 @@ abbrev pub status_of_stop : RunStop → Status
 status_of_stop stops.Unreadable = statuses.Unreadable
 status_of_stop stops.Untold = statuses.Untold
 status_of_stop stops.DiskFault = statuses.DiskFault
+status_of_stop stops.ScratchFault = statuses.ScratchFault
 status_of_stop stops.Memory = statuses.Memory
 
 -- The status that a command gives.
@@ -47,12 +50,24 @@ abbrev pub append_stop : AppendStop → RunStop
 append_stop appends.Unreadable = stops.Unreadable
 append_stop appends.Untold = stops.Untold
 append_stop appends.DiskFault = stops.DiskFault
+append_stop appends.ScratchFault = stops.ScratchFault
 append_stop appends.Memory = stops.Memory
 
 -- How a command ends that appends.
 abbrev pub append_answer : Result AppendEnd AppendStop → Result Ending RunStop
 append_answer (Ok end) = Ok (fold_ending (fold_end end))
 append_answer (Err stop) = Err (append_stop stop)
+
+-- Why there is no outcome, for a source.
+abbrev pub stop_of_source : Stop → OutcomeStop
+stop_of_source reads.Fault = outcomes.Unreadable
+stop_of_source reads.Memory = outcomes.Memory
+
+-- Why a command stopped that has no outcome.
+abbrev pub stop_of_outcome : OutcomeStop → RunStop
+stop_of_outcome outcomes.Unreadable = stops.Unreadable
+stop_of_outcome outcomes.ScratchFault = stops.ScratchFault
+stop_of_outcome outcomes.Memory = stops.Memory
 
 -- ---- outcomes
 
@@ -72,9 +87,15 @@ TellsResult next now disk told old new (Ok outcome) result = Says next now disk 
 TellsResult next now disk told old new (Err reads.Fault) result = StopsSilent told old new stops.Unreadable result
 TellsResult next now disk told old new (Err reads.Memory) result = StopsSilent told old new stops.Memory result
 
+-- The same of a command that may also have been stopped by the scratch device.
+abbrev pub TellsAnswer : {D : Type 0} → NextBlock → (D → ℕ) → (D → ℕ → Option DiskState) → (D → Option (List Tell)) → D → D → Result Outcome OutcomeStop → Result Ending RunStop → Type 0
+TellsAnswer next now disk told old new (Ok outcome) result = Says next now disk told old new outcome result
+TellsAnswer next now disk told old new (Err stop) result = StopsSilent told old new (stop_of_outcome stop) result
+
 -- What is told where there is no node to start with.
 abbrev pub TellsStart : {D : Type 0} → NextBlock → (D → ℕ) → (D → ℕ → Option DiskState) → (D → Option (List Tell)) → D → D → StartError → Result Ending RunStop → Type 0
 TellsStart next now disk told old new starts.NotALog result = Says next now disk told old new (outcome_with (not_a_log_line ∷ []) endings.NotALog) result
 TellsStart next now disk told old new (starts.Damaged at) result = Says next now disk told old new (outcome_with (damaged_line at ∷ []) endings.Damaged) result
 TellsStart next now disk told old new starts.DiskFault result = StopsSilent told old new stops.DiskFault result
+TellsStart next now disk told old new starts.ScratchFault result = StopsSilent told old new stops.ScratchFault result
 TellsStart next now disk told old new starts.Memory result = StopsSilent told old new stops.Memory result

@@ -9,5 +9,5 @@ mod telling;
 
 pub use asking::beyond;
 pub use starting::tell_start;
-pub use stop::RunStop;
-pub use telling::{tell_made, tell_outcome, tell_result, tell_usage};
+pub use stop::{OutcomeStop, RunStop};
+pub use telling::{tell_answer, tell_made, tell_outcome, tell_result, tell_usage};

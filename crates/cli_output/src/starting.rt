@@ -8,7 +8,7 @@ ghost use Rattle.recovery.specs.declared.errors.StartError.TheVariants as starts
 ghost use Rattle.cli_lines.specs.Lines.{not_a_log_line, damaged_line};
 ghost use Rattle.cli_lines.specs.Outcome.{outcome_with};
 ghost use Rattle.cli_words.specs.declared.words.Command.{Command};
-ghost use Rattle.cli_output.specs.Output.{uses_disk};
+ghost use Rattle.cli_output.specs.Output.{uses_disk, uses_scratch};
 ghost use Rattle.cli_output.specs.Running.{IsSilent, MayEnd};
 ghost use Rattle.cli_output.specs.Telling.{TellsStart, status_of_result};
 
@@ -41,11 +41,13 @@ pub fn tell_start<M: Wire>(
     error: StartError,
 ) -> Result<Ending, RunStop>
     ensures says { (next : NextBlock) → TellsStart next M.now M.disk M.told machine.old machine.new error result }
-    ensures ends { (command : Option Command) → uses_disk command ≡ true → MayEnd (status_of_result result) command }
+    ensures ends { (command : Option Command) → uses_disk command ≡ true → (error ≡ starts.ScratchFault → uses_scratch command ≡ true) → MayEnd (status_of_result result) command }
     ensures silent { IsSilent (status_of_result result) (M.told machine.old) (M.told machine.new) }
     ensures reads { IsErrOf result RunStop.Unreadable → ⊥ }
     ensures disk_fault { IsErrOf result RunStop.DiskFault → error ≡ starts.DiskFault }
     ensures blamed { error ≡ starts.DiskFault → IsErrOf result RunStop.DiskFault }
+    ensures scratch_fault { IsErrOf result RunStop.ScratchFault → error ≡ starts.ScratchFault }
+    ensures scratch_blamed { error ≡ starts.ScratchFault → IsErrOf result RunStop.ScratchFault }
     ensures disk { Stays M.now M.disk machine.old machine.new }
     ensures disk_faults { M.disk_faults machine.new ≡ M.disk_faults machine.old }
     ensures cause { HasCause (M.wire_faults machine.old) (M.wire_faults machine.new) (IsErrOf result RunStop.Untold) }
@@ -54,6 +56,7 @@ pub fn tell_start<M: Wire>(
         StartError::NotALog => tell_made(machine, not_a_log(alloc)),
         StartError::Damaged { at } => tell_made(machine, damaged(alloc, at)),
         StartError::DiskFault => Err(RunStop::DiskFault),
+        StartError::ScratchFault => Err(RunStop::ScratchFault),
         StartError::Memory => Err(RunStop::Memory),
     }
 }

@@ -12,9 +12,10 @@ ghost use Rattle.cli_lines.specs.declared.outcome.Outcome.{Outcome as Outcomes};
 ghost use Rattle.cli_words.specs.declared.words.Command.{Command};
 ghost use Rattle.cli_output.specs.Output.{reads_input};
 ghost use Rattle.cli_output.specs.Running.{IsSilent, MayEnd};
-ghost use Rattle.cli_output.specs.Telling.{Says, TellsResult, status_of_result, status_of_usage};
+ghost use Rattle.cli_output.specs.Telling.{Says, TellsAnswer, TellsResult, status_of_result, status_of_stop, status_of_usage, stop_of_outcome};
+ghost use Rattle.cli_output.specs.declared.stop.OutcomeStop.TheVariants as outcomes;
 
-use crate::stop::RunStop;
+use crate::stop::{OutcomeStop, RunStop};
 use chain_input::Stop;
 use cli_lines::{Ending, Outcome, usage_line};
 use lc_base::{Bytes, Memory};
@@ -62,6 +63,7 @@ pub fn tell_result<M: Wire>(
     ensures unreadable { IsErrOf result RunStop.Unreadable → outcome ≡ Err stops.Fault }
     ensures unread { outcome ≡ Err stops.Fault → IsErrOf result RunStop.Unreadable }
     ensures writes { IsErrOf result RunStop.DiskFault → ⊥ }
+    ensures keeps { IsErrOf result RunStop.ScratchFault → ⊥ }
     ensures disk { Stays M.now M.disk machine.old machine.new }
     ensures disk_faults { M.disk_faults machine.new ≡ M.disk_faults machine.old }
     ensures cause { HasCause (M.wire_faults machine.old) (M.wire_faults machine.new) (IsErrOf result RunStop.Untold) }
@@ -70,6 +72,31 @@ pub fn tell_result<M: Wire>(
         Ok(outcome) => tell_outcome(machine, &outcome),
         Err(Stop::Fault) => Err(RunStop::Unreadable),
         Err(Stop::Memory) => Err(RunStop::Memory),
+    }
+}
+
+/// Tells the outcome of a command, or says why it stopped before it told anything: also for the scratch
+/// device.
+pub fn tell_answer<M: Wire>(
+    machine: &mut M,
+    answer: Result<Outcome, OutcomeStop>,
+) -> Result<Ending, RunStop>
+    ensures tells { (next : NextBlock) → TellsAnswer next M.now M.disk M.told machine.old machine.new answer result }
+    ensures says { (next : NextBlock) (wanted : Outcomes) → IfOk answer (λ o. o ≡ wanted) → Says next M.now M.disk M.told machine.old machine.new wanted result }
+    ensures ends { (command : Option Command) → IfOk answer (λ o. MayEnd (status_of o.ending) command) → IfErr answer (λ stop. MayEnd (status_of_stop (stop_of_outcome stop)) command) → MayEnd (status_of_result result) command }
+    ensures silent { IsSilent (status_of_result result) (M.told machine.old) (M.told machine.new) }
+    ensures unreadable { IsErrOf result RunStop.Unreadable → answer ≡ Err outcomes.Unreadable }
+    ensures unread { answer ≡ Err outcomes.Unreadable → IsErrOf result RunStop.Unreadable }
+    ensures scratch_fault { IsErrOf result RunStop.ScratchFault → answer ≡ Err outcomes.ScratchFault }
+    ensures scratch_blamed { answer ≡ Err outcomes.ScratchFault → IsErrOf result RunStop.ScratchFault }
+    ensures writes { IsErrOf result RunStop.DiskFault → ⊥ }
+    ensures disk { Stays M.now M.disk machine.old machine.new }
+    ensures disk_faults { M.disk_faults machine.new ≡ M.disk_faults machine.old }
+    ensures cause { HasCause (M.wire_faults machine.old) (M.wire_faults machine.new) (IsErrOf result RunStop.Untold) }
+{
+    match answer {
+        Ok(outcome) => tell_outcome(machine, &outcome),
+        Err(stop) => Err(stop.run_stop()),
     }
 }
 
@@ -83,6 +110,7 @@ pub fn tell_made<M: Wire>(
     ensures silent { IsSilent (status_of_result result) (M.told machine.old) (M.told machine.new) }
     ensures reads { IsErrOf result RunStop.Unreadable → ⊥ }
     ensures writes { IsErrOf result RunStop.DiskFault → ⊥ }
+    ensures keeps { IsErrOf result RunStop.ScratchFault → ⊥ }
     ensures disk { Stays M.now M.disk machine.old machine.new }
     ensures disk_faults { M.disk_faults machine.new ≡ M.disk_faults machine.old }
     ensures cause { HasCause (M.wire_faults machine.old) (M.wire_faults machine.new) (IsErrOf result RunStop.Untold) }
@@ -99,6 +127,7 @@ pub fn tell_usage<M: Wire>(alloc: Global, machine: &mut M) -> Result<(), RunStop
     ensures silent { IsSilent (status_of_usage result) (M.told machine.old) (M.told machine.new) }
     ensures reads { IsErrOf result RunStop.Unreadable → ⊥ }
     ensures writes { IsErrOf result RunStop.DiskFault → ⊥ }
+    ensures keeps { IsErrOf result RunStop.ScratchFault → ⊥ }
     ensures disk { Stays M.now M.disk machine.old machine.new }
     ensures disk_faults { M.disk_faults machine.new ≡ M.disk_faults machine.old }
     ensures cause { HasCause (M.wire_faults machine.old) (M.wire_faults machine.new) (IsErrOf result RunStop.Untold) }

@@ -11,16 +11,21 @@ ghost use Rattle.cli_program.specs.Words.{status_without_words};
 use crate::words::words_of;
 use chain_cli::run::run;
 use cli_lines::Status;
-use disk_model::FileMachine;
+use file_machine::FileMachine;
 use lc_io::HostSource;
+use scratch_model::FileScratch;
 use std::env::Args;
 use std::io;
 
 /// The file of the log, in the present folder.
 const LOG_FILE: &str = "chain.log";
 
+/// The file of the scratch device, in the present folder. Each run makes its own.
+const SCRATCH_FILE: &str = "chain.scratch";
+
 /// Runs on the words that the program was started with, its name left out, over standard input,
-/// standard output and the log.
+/// standard output, the log and a scratch file. The name of the scratch file is removed at the end; where
+/// that fails, the next run that makes one removes it.
 pub fn run_on_host(rt: &HostRuntime, args: io::Result<Args>) -> Status
     // Each status comes only of the commands that may end with it.
     ensures ends { IfOk args (λ args. (command : Option Command) → IsCommand (map string_bytes (drop 1 (into_iter_items args))) command → MayEnd result command) }
@@ -31,7 +36,10 @@ pub fn run_on_host(rt: &HostRuntime, args: io::Result<Args>) -> Status
         Ok(words) => {
             let mut source = HostSource::new(rt.stdin());
             let mut machine = FileMachine::new(rt, LOG_FILE, rt.stdout());
-            run(rt.alloc(), &words, &mut source, &mut machine)
+            let mut scratch = FileScratch::new(rt, SCRATCH_FILE);
+            let status = run(rt.alloc(), &words, &mut source, &mut machine, &mut scratch);
+            let _closed = scratch.close();
+            status
         }
         Err(status) => status,
     }

@@ -1,7 +1,10 @@
 -- What `expose` tells, by cases.
-use Rattle.std.proofs.Common.{◌≡◌, ◌∙◌, ℕ, ◌+◌, ◌-◌, ◌<◌, ◌≤◌, Bool, true, false, cond, List, [], ◌∷◌, length, map, drop, Option, Some, None, Result, Ok, Err, is_ok, refl, sym, ap, subst, arith}
-use Rattle.std.specs.Prelude.{◌&&◌, nat_lt, nat_le, codes, IfOk, IfSome}
-use Rattle.std.proofs.lemmas.Bool.{ne_eqb, eq-eqb, and_parts, and_from, lt-ltb, le-leb, ltb-true, leb-true}
+use Rattle.std.proofs.Common.{◌≡◌, ◌∙◌, ℕ, ◌+◌, ◌-◌, ◌<◌, ◌≤◌, Bool, true, false, cond, List, []}
+use Rattle.std.proofs.Common.{◌∷◌, length, map, drop, Option, Some, None, Result, Ok, Err, is_ok}
+use Rattle.std.proofs.Common.{refl, sym, ap, subst, arith}
+use Rattle.std.specs.Prelude.{◌&&◌, nat_lt, nat_le, codes, IfOk, IfErr, IfSome}
+use Rattle.std.proofs.lemmas.Bool.{ne_eqb, eq-eqb, and_parts, and_from, lt-ltb, le-leb, ltb-true}
+use Rattle.std.proofs.lemmas.Bool.{leb-true}
 use Rattle.hex.specs.Hex.{decode_of}
 use Rattle.hex.specs.declared.error.FromHexError.{FromHexError}
 use Rattle.lc_base.specs.declared.answer.Query.{Query}
@@ -13,11 +16,11 @@ use Rattle.disk_model.proofs.Moments.{stays_on}
 use Rattle.block_codec.specs.Reading.{block_in}
 use Rattle.block_codec.specs.Placement.{digest_of}
 use Rattle.block_codec.specs.declared.block.Block.{Block}
-use Rattle.block_log.specs.Standing.{Standing, standing}
+use Rattle.block_log.specs.Standing.{standing}
 use Rattle.chain_exec.specs.Compiled.{compiled_in}
 use Rattle.chain_exec.specs.Effect.{History}
 use Rattle.chain_replay.specs.Chain.{ChainState, StandsFor}
-use Rattle.merkle_dag.specs.Ledger.{IsHead}
+use Rattle.merkle_dag.specs.Ledger.{Ledger, IsHead}
 use Rattle.recovery.specs.Node.{IsChainStored, IsNoStart, next_in_chain}
 use Rattle.recovery.specs.declared.errors.StartError.{StartError}
 use Rattle.proof_codec.specs.declared.proof.Proof.{Proof}
@@ -26,18 +29,18 @@ use Rattle.proof_checks.specs.Checks.{verdict}
 use Rattle.proof_checks.specs.ProofTexts.{proof_texts}
 use Rattle.proof_checks.specs.LedgerTexts.{ledger_texts}
 use Rattle.proof_checks.specs.declared.reject.Reject.{Reject}
-use Rattle.text_clashes.specs.FirstClash.{text_at, IsFirstClash}
+use Rattle.text_clashes.specs.FirstClash.{text_at}
 use Rattle.answer_exposing.specs.Exposing.{IsFound}
 use Rattle.answer_exposing.specs.declared.exposing.Clash.{Clash}
 use Rattle.proof_verifier.specs.Answering.{verdict_on}
 use Rattle.proof_commands.specs.Lines.{rejected_line}
-use Rattle.proof_commands.specs.Verifying.{hex_text, of_verdict, of_decoded, bytes_or_fault, verification, IsVerification}
+use Rattle.proof_commands.specs.Verifying.{hex_text, of_verdict, of_decoded, bytes_or_fault}
+use Rattle.proof_commands.specs.Verifying.{verification, IsVerification}
 use Rattle.proof_commands.specs.declared.verification.HexFault.{HexFault}
 use Rattle.proof_commands.specs.declared.verification.Verification.{Verification}
-use Rattle.proof_commands.specs.declared.verification.Verification.TheVariants.{Accepted, Rejected, BadHex}
+use Rattle.proof_commands.specs.declared.verification.Verification.TheVariants.{Accepted, Rejected}
+use Rattle.proof_commands.specs.declared.verification.Verification.TheVariants.{BadHex}
 use Rattle.proof_commands.proofs.Verified.{is_verification}
-use Rattle.chain_input.specs.declared.stop.Stop.{Stop}
-use Rattle.chain_input.specs.declared.stop.Stop.TheVariants as reads
 use Rattle.cli_words.specs.declared.words.Command.TheVariants.{Expose}
 use Rattle.cli_lines.specs.Whole.{IsWholeInput}
 use Rattle.cli_lines.specs.Outcome.{status_of, outcome_with, bad_input}
@@ -46,16 +49,23 @@ use Rattle.cli_lines.specs.declared.outcome.Outcome.{Outcome}
 use Rattle.cli_lines.specs.declared.outcome.Ending.{Ending}
 use Rattle.cli_lines.specs.declared.outcome.Ending.TheVariants as endings
 use Rattle.replay_soundness.specs.Soundness.{replayed_texts}
-use Rattle.cli_output.specs.Output.{Output, output_of, beyond_outcome, beyond_head, on_log, Reach, IsExposeOutput, OutOfReach, LongExposed, NotAccepted, Exposed}
-use Rattle.cli_output.specs.Proofs.{hex_cause, verification_outcome, is_accepted, IsAcceptedHex, clash_line, clash_outcome}
-use Rattle.cli_output.specs.Running.{MayEnd, IsRun, IsGiven, found_no_log}
+use Rattle.cli_output.specs.Output.{Output, output_of, beyond_outcome, beyond_head, on_log, Reach}
+use Rattle.cli_output.specs.Output.{IsExposeOutput, OutOfReach, LongExposed, NotAccepted, Exposed}
+use Rattle.cli_output.specs.Proofs.{hex_cause, verification_outcome, IsAcceptedHex, clash_line}
+use Rattle.cli_output.specs.Running.{MayEnd, IsRun, found_no_log}
 use Rattle.cli_output.specs.Scanning.{EndsAsked, EndsExposed, IsExposeOutcome}
-use Rattle.cli_output.specs.Telling.{status_of_result, status_of_stop, TellsResult, TellsStart}
+use Rattle.cli_output.specs.Telling.{status_of_result, status_of_stop, stop_of_outcome, TellsAnswer}
+use Rattle.cli_output.specs.Telling.{TellsStart}
+use Rattle.cli_output.specs.declared.stop.OutcomeStop.{OutcomeStop}
+use Rattle.cli_output.specs.declared.stop.OutcomeStop.TheVariants as outcomes
 use Rattle.cli_output.specs.declared.stop.RunStop.{RunStop}
 use Rattle.cli_output.specs.declared.stop.RunStop.TheVariants as stops
 use Rattle.cli_output.proofs.Exposed.{some_expose, expose_no_change}
-use Rattle.cli_output.proofs.Meets.{told_input, rests_given, left_read, same_may_leave, reading_since, start_met, is_on_log_blocks, some_on_log, on_log_no_change}
-use Rattle.cli_proofs.specs.Exposing.{reaches, IsHeld, Refused, Held, found_outcome, texts_kept}
+use Rattle.cli_output.proofs.Meets.{told_input, rests_given, left_read, same_may_leave}
+use Rattle.cli_output.proofs.Meets.{answer_since, start_met, is_on_log_blocks, some_on_log}
+use Rattle.cli_output.proofs.Meets.{on_log_no_change}
+use Rattle.cli_proofs.specs.Exposing.{ledger_kept, reaches, IsHeld, Refused, Held, found_outcome}
+use Rattle.cli_proofs.specs.Exposing.{texts_kept}
 use Rattle.cli_proofs.proofs.Proves.{as_many}
 
 -- ---- an input that was read whole, against what is kept of a chain
@@ -63,100 +73,196 @@ use Rattle.cli_proofs.proofs.Proves.{as_many}
 abbrev by_bytes : List ℕ → Query → Result (List ℕ) FromHexError → Verification
 by_bytes root query r = of_decoded root query (bytes_or_fault r)
 
-told_so : (root : List ℕ) (query : Query) (input : List ℕ) (told : Verification) → verification root query input ≡ told → IsVerification root query input told
-told_so root query input told is = subst (IsVerification root query input) is (is_verification root query input)
+told_so : (root : List ℕ) (query : Query) (input : List ℕ) (told : Verification)
+    → verification root query input ≡ told → IsVerification root query input told
+told_so root query input told is = subst (IsVerification root query input) is
+    (is_verification root query input)
 
-pub refused_held : {E : Type 0} (kept : ChainState) (root : List ℕ) (query : Query) (root_at : ℕ) (bytes : List ℕ) (reject : Reject) (result : Result Outcome E) → verdict_on root query bytes ≡ Err reject
-    → IfOk result (λ o. o ≡ outcome_with (rejected_line reject ∷ []) endings.Rejected) → (input : List ℕ) → decode_of (hex_text input) ≡ Ok bytes → IfOk result (IsHeld kept root query root_at input)
-refused_held kept root query root_at bytes reject (Err e) fails made input decoded = tt
-refused_held kept root query root_at bytes reject (Ok outcome) fails made input decoded =
-    let told : verification root query input ≡ Rejected reject = ap (by_bytes root query) decoded ∙ ap of_verdict fails in
-    subst (IsHeld kept root query root_at input) (sym made) (Refused (Rejected reject) (told_so root query input (Rejected reject) told) refl)
+pub refused_held : (ledger : Ledger) (root : List ℕ) (query : Query) (root_at : ℕ) (bytes : List ℕ)
+    (reject : Reject) (outcome : Outcome) → verdict_on root query bytes ≡ Err reject
+    → outcome ≡ outcome_with (rejected_line reject ∷ []) endings.Rejected
+    → (input : List ℕ) → decode_of (hex_text input) ≡ Ok bytes
+    → IsHeld ledger root query root_at input outcome
+refused_held ledger root query root_at bytes reject outcome fails made input decoded =
+    let told : verification root query input ≡ Rejected reject = ap (by_bytes root query) decoded
+    ∙ ap of_verdict fails in
+    subst (IsHeld ledger root query root_at input) (sym made)
+    (Refused (Rejected reject) (told_so root query input (Rejected reject) told) refl)
 
-pub accepted_held : {E : Type 0} (kept : ChainState) (root : List ℕ) (query : Query) (root_at : ℕ) (bytes : List ℕ) (proof : Proof) (result : Result Outcome E) → Spells bytes proof → is_ok (verdict root query proof) ≡ true
-    → IfOk result (λ o. (found : Option Clash) × IsFound (proof_texts proof) (texts_kept kept root_at) found × (o ≡ found_outcome found)) → (input : List ℕ) → decode_of (hex_text input) ≡ Ok bytes → IfOk result (IsHeld kept root query root_at input)
-accepted_held kept root query root_at bytes proof (Err e) spelled passes made input decoded = tt
-accepted_held kept root query root_at bytes proof (Ok outcome) spelled passes made input decoded =
-    subst (IsHeld kept root query root_at input) (sym made.2) (Held proof (record { bytes = bytes; decoded = decoded; spelled = spelled; accepted = passes }) made.0 made.1)
+pub accepted_held : {E : Type 0} (ledger : Ledger) (root : List ℕ) (query : Query) (root_at : ℕ)
+    (bytes : List ℕ) (proof : Proof) (result : Result Outcome E) → Spells bytes proof
+    → is_ok (verdict root query proof) ≡ true
+    → IfOk result (λ o. (found : Option Clash)
+    × IsFound (proof_texts proof) (texts_kept ledger root_at) found × (o ≡ found_outcome found))
+    → (input : List ℕ) → decode_of (hex_text input) ≡ Ok bytes
+    → IfOk result (IsHeld ledger root query root_at input)
+accepted_held ledger root query root_at bytes proof (Err e) spelled passes made input decoded = tt
+accepted_held ledger root query root_at bytes proof (Ok outcome) spelled passes made input decoded =
+    subst (IsHeld ledger root query root_at input) (sym made.2)
+    (Held proof (record {
+      bytes = bytes;
+      decoded = decoded;
+      spelled = spelled;
+      accepted = passes;
+    }) made.0 made.1)
 
-pub bad_hex_held : {E : Type 0} (kept : ChainState) (root : List ℕ) (query : Query) (root_at : ℕ) (input : List ℕ) (fault : HexFault) (result : Result Outcome E) → bytes_or_fault (decode_of (hex_text input)) ≡ Err fault
-    → IfOk result (λ o. o ≡ bad_input (hex_cause fault)) → IfOk result (IsHeld kept root query root_at input)
-bad_hex_held kept root query root_at input fault (Err e) is made = tt
-bad_hex_held kept root query root_at input fault (Ok outcome) is made =
+pub bad_hex_held : (ledger : Ledger) (root : List ℕ) (query : Query) (root_at : ℕ) (input : List ℕ)
+    (fault : HexFault) (outcome : Outcome) → bytes_or_fault (decode_of (hex_text input)) ≡ Err fault
+    → outcome ≡ bad_input (hex_cause fault)
+    → IsHeld ledger root query root_at input outcome
+bad_hex_held ledger root query root_at input fault outcome is made =
     let told : verification root query input ≡ BadHex fault = ap (of_decoded root query) is in
-    subst (IsHeld kept root query root_at input) (sym made) (Refused (BadHex fault) (told_so root query input (BadHex fault) told) refl)
+    subst (IsHeld ledger root query root_at input) (sym made)
+    (Refused (BadHex fault) (told_so root query input (BadHex fault) told) refl)
 
-pub decoded_is : (r : Result (List ℕ) FromHexError) (bytes : List ℕ) → bytes_or_fault r ≡ Ok bytes → r ≡ Ok bytes
+pub decoded_is : (r : Result (List ℕ) FromHexError) (bytes : List ℕ) → bytes_or_fault r ≡ Ok bytes
+    → r ≡ Ok bytes
 decoded_is (Ok found) bytes is = let same : found ≡ bytes = cc is in ap (λ (b : List ℕ). Ok b) same
 decoded_is (Err error) bytes is = absurd (cc is)
 
 -- ---- against the blocks
 
-head_is : (digests : List Digest) (blocks : List Block) (head : Option ℕ) → IsHead digests head → length digests ≡ length blocks → beyond_outcome head ≡ beyond_head blocks
-head_is digests blocks None none count = sym (ap (λ (empty : Bool). cond empty (beyond_outcome None) (beyond_outcome (Some (length blocks - 1)))) (eq-eqb (length blocks) 0 (sym count ∙ none)))
+head_is : (digests : List Digest) (blocks : List Block) (head : Option ℕ) → IsHead digests head
+    → length digests ≡ length blocks → beyond_outcome head ≡ beyond_head blocks
+head_is digests blocks None none count = sym
+    (ap (λ (empty : Bool). cond empty (beyond_outcome None)
+    (beyond_outcome (Some (length blocks - 1)))) (eq-eqb (length blocks) 0 (sym count ∙ none)))
 head_is digests blocks (Some head) last count =
     ap (λ (n : ℕ). beyond_outcome (Some n)) (omega (arith, last, count))
-    ∙ sym (ap (λ (empty : Bool). cond empty (beyond_outcome None) (beyond_outcome (Some (length blocks - 1)))) (ne_eqb (length blocks) 0 (λ none. omega (arith, last, count, none))))
+    ∙ sym (ap (λ (empty : Bool). cond empty (beyond_outcome None)
+    (beyond_outcome (Some (length blocks - 1))))
+    (ne_eqb (length blocks) 0 (λ none. omega (arith, last, count, none))))
 
-texts_same : (kept : ChainState) (blocks : List Block) (at : ℕ) → StandsFor kept blocks → texts_kept kept at ≡ replayed_texts compiled_in blocks at
+texts_same : (kept : ChainState) (blocks : List Block) (at : ℕ) → StandsFor kept blocks
+    → texts_kept (ledger_kept kept) at ≡ replayed_texts compiled_in blocks at
 texts_same kept blocks at stands =
     ap (λ (digests : List Digest). ledger_texts kept.rows digests at) stands.digests_are
-    ∙ ap (λ (history : History). ledger_texts history.rows (map digest_of blocks) at) stands.history_is
+    ∙ ap (λ (history : History). ledger_texts history.rows (map digest_of blocks) at)
+    stands.history_is
 
-in_reach : (at root_at kept count : ℕ) → (nat_lt root_at kept && nat_le at root_at) ≡ true → kept ≡ count → (root_at < count) × (at ≤ root_at)
+in_reach : (at root_at kept count : ℕ) → (nat_lt root_at kept && nat_le at root_at) ≡ true
+    → kept ≡ count → (root_at < count) × (at ≤ root_at)
 in_reach at root_at kept count within same =
     let parts = and_parts (nat_lt root_at kept) (nat_le at root_at) within in
     let low : root_at < kept = ltb-true root_at kept parts.0 in
     (omega (arith, low, same), leb-true at root_at parts.1)
 
-out_of_reach : (at root_at kept count : ℕ) → (nat_lt root_at kept && nat_le at root_at) ≡ false → kept ≡ count → (root_at < count) × (at ≤ root_at) → ⊥
+out_of_reach : (at root_at kept count : ℕ) → (nat_lt root_at kept && nat_le at root_at) ≡ false
+    → kept ≡ count → (root_at < count) × (at ≤ root_at) → ⊥
 out_of_reach at root_at kept count past same reach =
     let low : root_at < kept = omega (arith, reach.0, same) in
-    let fits : (nat_lt root_at kept && nat_le at root_at) ≡ true = and_from (nat_lt root_at kept) (nat_le at root_at) (lt-ltb root_at kept low) (le-leb at root_at reach.1) in
+    let fits : (nat_lt root_at kept && nat_le at root_at) ≡ true = and_from (nat_lt root_at kept)
+    (nat_le at root_at) (lt-ltb root_at kept low) (le-leb at root_at reach.1) in
     cc (past, fits)
 
-module _ (kept : ChainState) (root : List ℕ) (query : Query) (root_at : ℕ) where
+module _ (ledger : Ledger) (kept : ChainState) (same : ledger ≡ ledger_kept kept) (root : List ℕ)
+    (query : Query) (root_at : ℕ) where
   abbrev ToldOf : Outcome → Option (List ℕ) → List ℕ → Type 0
-  ToldOf outcome left input = (blocks : List Block) → StandsFor kept blocks → IsExposeOutcome root query root_at blocks outcome left input
+  ToldOf outcome left input = (blocks : List Block) → StandsFor kept blocks
+      → IsExposeOutcome root query root_at blocks outcome left input
 
-  exposed : (blocks : List Block) (input : List ℕ) (proof : Proof) (found : Option Clash) → Reach blocks query root_at → length input ≤ MAX_WHOLE_INPUT_BYTES → IsAcceptedHex root query input proof → IsFound (proof_texts proof) (replayed_texts compiled_in blocks root_at) found
-      → IsExposeOutput compiled_in root query root_at input blocks (output_of (found_outcome found) [])
-  exposed blocks input proof None within fits accepted none = Exposed within fits proof accepted None none
+  count_is : (blocks : List Block) → StandsFor kept blocks → length ledger.digests ≡ length blocks
+  count_is blocks stands = ap (λ (l : Ledger). length l.digests) same ∙ as_many kept blocks stands
+
+  exposed : (blocks : List Block) (input : List ℕ) (proof : Proof) (found : Option Clash)
+      → Reach blocks query root_at → length input ≤ MAX_WHOLE_INPUT_BYTES
+      → IsAcceptedHex root query input proof
+      → IsFound (proof_texts proof) (replayed_texts compiled_in blocks root_at) found
+      → IsExposeOutput compiled_in root query root_at input blocks
+      (output_of (found_outcome found) [])
+  exposed blocks input proof None within fits accepted none = Exposed within fits proof accepted
+      None none
   exposed blocks input proof (Some clash) within fits accepted (pair, first, texts) =
-      let line_is : clash_line (text_at (proof_texts proof) pair.0) (text_at (replayed_texts compiled_in blocks root_at) pair.1) ≡ clash_line clash.proof_text clash.chain_text =
-      ap (λ (t : List ℕ). clash_line t (text_at (replayed_texts compiled_in blocks root_at) pair.1)) (sym texts.0) ∙ ap (clash_line clash.proof_text) (sym texts.1) in
-      subst (λ (l : List ℕ). IsExposeOutput compiled_in root query root_at input blocks (output_of (outcome_with (l ∷ []) endings.Done) [])) line_is
+      let line_is : clash_line (text_at (proof_texts proof) pair.0)
+      (text_at (replayed_texts compiled_in blocks root_at) pair.1) ≡ clash_line clash.proof_text
+      clash.chain_text =
+      ap (λ (t : List ℕ). clash_line t (text_at (replayed_texts compiled_in blocks root_at) pair.1))
+      (sym texts.0) ∙ ap (clash_line clash.proof_text) (sym texts.1) in
+      subst (λ (l : List ℕ). IsExposeOutput compiled_in root query root_at input blocks
+      (output_of (outcome_with (l ∷ []) endings.Done) [])) line_is
       (Exposed within fits proof accepted (Some pair) first)
 
-  held_exposed : (input : List ℕ) (outcome : Outcome) → IsHeld kept root query root_at input outcome → (blocks : List Block) → StandsFor kept blocks → Reach blocks query root_at → length input ≤ MAX_WHOLE_INPUT_BYTES
+  held_exposed : (input : List ℕ) (outcome : Outcome)
+      → IsHeld ledger root query root_at input outcome → (blocks : List Block)
+      → StandsFor kept blocks → Reach blocks query root_at → length input ≤ MAX_WHOLE_INPUT_BYTES
       → IsExposeOutput compiled_in root query root_at input blocks (output_of outcome [])
-  held_exposed input _ (Refused told is fails) blocks stands within fits = NotAccepted within fits told is fails
+  held_exposed input _ (Refused told is fails) blocks stands within fits = NotAccepted within fits
+      told is fails
   held_exposed input _ (Held proof accepted found is) blocks stands within fits =
-      exposed blocks input proof found within fits accepted (subst (λ (own : List (List ℕ)). IsFound (proof_texts proof) own found) (texts_same kept blocks root_at stands) is)
+      exposed blocks input proof found within fits accepted
+      (subst (λ (own : List (List ℕ)). IsFound (proof_texts proof) own found)
+      (ap (λ (l : Ledger). texts_kept l root_at) same ∙ texts_same kept blocks root_at stands)
+      is)
 
-  pub past_told : (head : Option ℕ) (left : Option (List ℕ)) (outcome : Outcome) → reaches kept query root_at ≡ false → IsHead kept.digests head → outcome ≡ beyond_outcome head → IfSome left (ToldOf outcome left)
+  pub past_told : (head : Option ℕ) (left : Option (List ℕ)) (outcome : Outcome)
+      → reaches ledger query root_at ≡ false → IsHead ledger.digests head
+      → outcome ≡ beyond_outcome head → IfSome left (ToldOf outcome left)
   past_told head None outcome past is told = tt
   past_told head (Some input) outcome past is told = λ blocks stands.
-      let count = as_many kept blocks stands in
-      (input, refl, subst (λ (o : Outcome). IsExposeOutput compiled_in root query root_at input blocks (output_of o input)) (sym (told ∙ head_is kept.digests blocks head is count)) (OutOfReach (out_of_reach query.at root_at (length kept.digests) (length blocks) past count)))
+      let count = count_is blocks stands in (
+        input,
+        refl,
+        subst (λ (o : Outcome). IsExposeOutput compiled_in root query root_at input
+            blocks (output_of o input)) (sym (told ∙ head_is ledger.digests blocks head is count))
+            (OutOfReach (out_of_reach query.at root_at (length ledger.digests) (length blocks) past
+            count)),
+      )
 
-  long_here : (first left : Option (List ℕ)) (outcome : Outcome) → reaches kept query root_at ≡ true → IfSome first (λ input. IsWholeInput None input left) → outcome ≡ bad_input (codes "long") → IfSome first (ToldOf outcome left)
+  long_here : (first left : Option (List ℕ)) (outcome : Outcome)
+      → reaches ledger query root_at ≡ true → IfSome first (λ input. IsWholeInput None input left)
+      → outcome ≡ bad_input (codes "long") → IfSome first (ToldOf outcome left)
   long_here None left outcome within whole is = tt
   long_here (Some input) left outcome within (long, rest) is = λ blocks stands.
-      let count = as_many kept blocks stands in
-      (drop (MAX_WHOLE_INPUT_BYTES + 1) input, rest, subst (λ (o : Outcome). IsExposeOutput compiled_in root query root_at input blocks (output_of o (drop (MAX_WHOLE_INPUT_BYTES + 1) input))) (sym is) (LongExposed (in_reach query.at root_at (length kept.digests) (length blocks) within count) long))
+      let count = count_is blocks stands in (
+        drop (MAX_WHOLE_INPUT_BYTES + 1) input,
+        rest,
+        subst
+            (λ (o : Outcome). IsExposeOutput compiled_in root query root_at input blocks
+            (output_of o (drop (MAX_WHOLE_INPUT_BYTES + 1) input))) (sym is)
+            (LongExposed (in_reach query.at root_at (length ledger.digests) (length blocks) within
+            count) long),
+      )
 
-  pub long_told : (first left found : Option (List ℕ)) (outcome : Outcome) → reaches kept query root_at ≡ true → found ≡ None → IfSome first (λ input. IsWholeInput found input left) → outcome ≡ bad_input (codes "long") → IfSome first (ToldOf outcome left)
-  long_told first left found outcome within none whole is = long_here first left outcome within (subst (λ (f : Option (List ℕ)). IfSome first (λ input. IsWholeInput f input left)) none whole) is
+  pub long_told : (first left found : Option (List ℕ)) (outcome : Outcome)
+      → reaches ledger query root_at ≡ true → found ≡ None
+      → IfSome first (λ input. IsWholeInput found input left) → outcome ≡ bad_input (codes "long")
+      → IfSome first (ToldOf outcome left)
+  long_told first left found outcome within none whole is = long_here first left outcome within
+      (subst (λ (f : Option (List ℕ)). IfSome first (λ input. IsWholeInput f input left)) none
+      whole) is
 
-  whole_here : (first left : Option (List ℕ)) (bytes : List ℕ) (outcome : Outcome) → reaches kept query root_at ≡ true → IfSome first (λ input. IsWholeInput (Some bytes) input left) → IsHeld kept root query root_at bytes outcome → IfSome first (ToldOf outcome left)
+  whole_here : (first left : Option (List ℕ)) (bytes : List ℕ) (outcome : Outcome)
+      → reaches ledger query root_at ≡ true
+      → IfSome first (λ input. IsWholeInput (Some bytes) input left)
+      → IsHeld ledger root query root_at bytes outcome → IfSome first (ToldOf outcome left)
   whole_here None left bytes outcome within whole is = tt
-  whole_here (Some input) left bytes outcome within (same, fits, rest) is = λ blocks stands.
-      let count = as_many kept blocks stands in
-      ([], rest, held_exposed input outcome (subst (λ (b : List ℕ). IsHeld kept root query root_at b outcome) same is) blocks stands (in_reach query.at root_at (length kept.digests) (length blocks) within count) fits)
+  whole_here (Some input) left bytes outcome within (alike, fits, rest) is = λ blocks stands.
+      let count = count_is blocks stands in (
+        [],
+        rest,
+        held_exposed input outcome
+            (subst (λ (b : List ℕ). IsHeld ledger root query root_at b outcome) alike is) blocks
+            stands (in_reach query.at root_at (length ledger.digests) (length blocks) within count)
+            fits,
+      )
 
-  pub whole_told : (first left found : Option (List ℕ)) (bytes : List ℕ) (outcome : Outcome) → reaches kept query root_at ≡ true → found ≡ Some bytes → IfSome first (λ input. IsWholeInput found input left) → IsHeld kept root query root_at bytes outcome → IfSome first (ToldOf outcome left)
-  whole_told first left found bytes outcome within some whole is = whole_here first left bytes outcome within (subst (λ (f : Option (List ℕ)). IfSome first (λ input. IsWholeInput f input left)) some whole) is
+  whole_told : (first left found : Option (List ℕ)) (bytes : List ℕ) (outcome : Outcome)
+      → reaches ledger query root_at ≡ true → found ≡ Some bytes
+      → IfSome first (λ input. IsWholeInput found input left)
+      → IsHeld ledger root query root_at bytes outcome → IfSome first (ToldOf outcome left)
+  whole_told first left found bytes outcome within some whole is = whole_here first left bytes
+      outcome within (subst (λ (f : Option (List ℕ)). IfSome first
+      (λ input. IsWholeInput f input left)) some whole) is
+
+  pub whole_result : {E : Type 0} (first left found : Option (List ℕ)) (bytes : List ℕ)
+      (result : Result Outcome E) → reaches ledger query root_at ≡ true → found ≡ Some bytes
+      → IfSome first (λ input. IsWholeInput found input left)
+      → IfOk result (IsHeld ledger root query root_at bytes)
+      → IfSome first (λ input. IfOk result (λ outcome. ToldOf outcome left input))
+  whole_result first left found bytes (Ok outcome) within some whole is = whole_told first left
+      found bytes outcome within some whole is
+  whole_result None left found bytes (Err e) within some whole is = tt
+  whole_result (Some input) left found bytes (Err e) within some whole is = tt
 
 -- ---- how it ends
 
@@ -169,9 +275,11 @@ found_ends : (found : Option Clash) → EndsExposed (found_outcome found).ending
 found_ends None = tt
 found_ends (Some clash) = tt
 
-pub held_ends : (kept : ChainState) (root : List ℕ) (query : Query) (root_at : ℕ) (input : List ℕ) (outcome : Outcome) → IsHeld kept root query root_at input outcome → EndsExposed outcome.ending
-held_ends kept root query root_at input _ (Refused told is fails) = told_ends told
-held_ends kept root query root_at input _ (Held proof accepted found is) = found_ends found
+pub held_ends : (ledger : Ledger) (root : List ℕ) (query : Query) (root_at : ℕ) (input : List ℕ)
+    (outcome : Outcome) → IsHeld ledger root query root_at input outcome
+    → EndsExposed outcome.ending
+held_ends ledger root query root_at input _ (Refused told is fails) = told_ends told
+held_ends ledger root query root_at input _ (Held proof accepted found is) = found_ends found
 
 pub asked_ends : (ending : Ending) → EndsAsked ending → EndsExposed ending
 asked_ends endings.Done ends = tt
@@ -182,7 +290,8 @@ asked_ends endings.BadInput ends = absurd ends
 asked_ends endings.NotALog ends = absurd ends
 asked_ends endings.Damaged ends = absurd ends
 
-end_may : (root : Digest) (query : Query) (root_at : ℕ) (ending : Ending) → EndsExposed ending → MayEnd (status_of ending) (Some (Expose root query root_at))
+end_may : (root : Digest) (query : Query) (root_at : ℕ) (ending : Ending) → EndsExposed ending
+    → MayEnd (status_of ending) (Some (Expose root query root_at))
 end_may root query root_at endings.Done ends = refl
 end_may root query root_at endings.Beyond ends = refl
 end_may root query root_at endings.Rejected ends = refl
@@ -191,9 +300,20 @@ end_may root query root_at endings.Refused ends = absurd ends
 end_may root query root_at endings.NotALog ends = absurd ends
 end_may root query root_at endings.Damaged ends = absurd ends
 
-pub outcome_may : {E : Type 0} (root : Digest) (query : Query) (root_at : ℕ) (found : Result Outcome E) → IfOk found (λ outcome. EndsExposed outcome.ending) → IfOk found (λ outcome. MayEnd (status_of outcome.ending) (Some (Expose root query root_at)))
+pub outcome_may : {E : Type 0} (root : Digest) (query : Query) (root_at : ℕ)
+    (found : Result Outcome E) → IfOk found (λ outcome. EndsExposed outcome.ending)
+    → IfOk found (λ outcome. MayEnd (status_of outcome.ending) (Some (Expose root query root_at)))
 outcome_may root query root_at (Ok outcome) ends = end_may root query root_at outcome.ending ends
 outcome_may root query root_at (Err e) ends = tt
+
+pub stop_may : {T : Type 0} (root : Digest) (query : Query) (root_at : ℕ)
+    (found : Result T OutcomeStop)
+    → IfErr found (λ stop. MayEnd (status_of_stop (stop_of_outcome stop))
+    (Some (Expose root query root_at)))
+stop_may root query root_at (Ok outcome) = tt
+stop_may root query root_at (Err outcomes.Unreadable) = refl
+stop_may root query root_at (Err outcomes.ScratchFault) = refl
+stop_may root query root_at (Err outcomes.Memory) = tt
 
 -- ---- whole runs
 
@@ -210,45 +330,92 @@ stop_has_log : (stop : RunStop) → found_no_log (status_of_stop stop) ≡ false
 stop_has_log stops.Unreadable = refl
 stop_has_log stops.Untold = refl
 stop_has_log stops.DiskFault = refl
+stop_has_log stops.ScratchFault = refl
 stop_has_log stops.Memory = refl
 
-of_blocks : {E : Type 0} (found : Result Outcome E) (P : List Block → Type 0) (Q : List Block → Outcome → Type 0) → IfOk found (λ o. (blocks : List Block) → P blocks → Q blocks o) → (blocks : List Block) → P blocks → IfOk found (Q blocks)
+of_blocks : {E : Type 0} (found : Result Outcome E) (P : List Block → Type 0)
+    (Q : List Block → Outcome → Type 0)
+    → IfOk found (λ o. (blocks : List Block) → P blocks → Q blocks o) → (blocks : List Block)
+    → P blocks → IfOk found (Q blocks)
 of_blocks (Ok outcome) P Q is blocks p = is blocks p
 of_blocks (Err e) P Q is blocks p = tt
 
-module _ {D : Type 0} (now : D → ℕ) (disk : D → ℕ → Option DiskState) (told : D → Option (List Tell)) where
+module _ {D : Type 0} (now : D → ℕ) (disk : D → ℕ → Option DiskState)
+    (told : D → Option (List Tell)) where
   -- a node was found
-  pub has_log : (old new : D) (found : Result Outcome Stop) (result : Result Ending RunStop) → TellsResult next_in_chain now disk told old new found result → IfOk found (λ o. EndsExposed o.ending) → found_no_log (status_of_result result) ≡ false
+  pub has_log : (old new : D) (found : Result Outcome OutcomeStop) (result : Result Ending RunStop)
+      → TellsAnswer next_in_chain now disk told old new found result
+      → IfOk found (λ o. EndsExposed o.ending) → found_no_log (status_of_result result) ≡ false
   has_log old new found (Err stop) says ends = stop_has_log stop
-  has_log old new (Ok outcome) (Ok ending) says ends = ap (λ (e : Ending). found_no_log (status_of e)) says.ending ∙ end_has_log outcome.ending ends
-  has_log old new (Err reads.Fault) (Ok ending) says ends = absurd (cc says.stop_is)
-  has_log old new (Err reads.Memory) (Ok ending) says ends = absurd (cc says.stop_is)
+  has_log old new (Ok outcome) (Ok ending) says ends = ap
+      (λ (e : Ending). found_no_log (status_of e)) says.ending ∙ end_has_log outcome.ending ends
+  has_log old new (Err halt) (Ok ending) says ends = absurd (cc says.stop_is)
 
-  pub expose_run : (old mid new : D) (root : Digest) (query : Query) (root_at : ℕ) (chain : ChainState) (found : Result Outcome Stop) (result : Result Ending RunStop) (left_old left_new : Option (List ℕ)) → IsSettled (disk old (now old)) → Stays now disk old mid → told mid ≡ told old
-      → ((content : List ℕ) → content_of (disk old (now old)) ≡ Some content → IsChainStored (standing next_in_chain content) (Ok chain))
-      → IfSome left_old (λ input. IfOk found (λ outcome. (blocks : List Block) → StandsFor chain blocks → IsExposeOutcome root.0 query root_at blocks outcome left_new input))
-      → Stays now disk mid new → TellsResult next_in_chain now disk told mid new found result
-      → IsRun now disk told old new (status_of_result result) left_old left_new block_in compiled_in (Some (Expose root query root_at))
-  expose_run old mid new root query root_at chain found result left_old left_new settled begins same started answers stays says input content given_input given =
+  pub expose_run : (old mid new : D) (root : Digest) (query : Query) (root_at : ℕ)
+      (chain : ChainState) (found : Result Outcome OutcomeStop) (result : Result Ending RunStop)
+      (left_old left_new : Option (List ℕ)) (held : Bool) → IsSettled (disk old (now old))
+      → Stays now disk old mid → told mid ≡ told old
+      → (held ≡ true → (content : List ℕ) → content_of (disk old (now old)) ≡ Some content
+      → IsChainStored (standing next_in_chain content) (Ok chain))
+      → (held ≡ true → IfSome left_old
+      (λ input. IfOk found (λ outcome. (blocks : List Block) → StandsFor chain blocks
+      → IsExposeOutcome root.0 query root_at blocks outcome left_new input)))
+      → Stays now disk mid new → TellsAnswer next_in_chain now disk told mid new found result
+      → IsRun now disk told old new (status_of_result result) left_old left_new held block_in
+      compiled_in (Some (Expose root query root_at))
+  expose_run old mid new root query root_at chain found result left_old left_new held settled begins
+      same started answers stays says heard input content given_input given =
       let left_is = told_input left_old input given_input in
-      let s = started content (told_input (content_of (disk old (now old))) content given) in
-      let answer = subst (λ (l : Option (List ℕ)). IfSome l (λ i. IfOk found (λ outcome. (blocks : List Block) → StandsFor chain blocks → IsExposeOutcome root.0 query root_at blocks outcome left_new i))) left_is answers in
-      let here = of_blocks found (StandsFor chain) (λ blocks outcome. IsExposeOutcome root.0 query root_at blocks outcome left_new input) answer s.0 s.2 in
+      let s = started (heard refl) content
+      (told_input (content_of (disk old (now old))) content given) in
+      let answer = subst (λ (l : Option (List ℕ)). IfSome l
+      (λ i. IfOk found (λ outcome. (blocks : List Block) → StandsFor chain blocks
+      → IsExposeOutcome root.0 query root_at blocks outcome left_new i))) left_is
+      (answers (heard refl)) in
+      let here = of_blocks found (StandsFor chain)
+      (λ blocks outcome. IsExposeOutcome root.0 query root_at blocks outcome left_new input)
+      answer s.0 s.2 in
       let some = some_expose root.0 query input compiled_in root_at s.0 in
-      let met = reading_since now disk told old mid new (IsExposeOutput compiled_in root.0 query root_at input s.0) some.0 some.1 (expose_no_change compiled_in root.0 query root_at input s.0 some.0 some.1) found result left_old left_new input content
-      (rests_given true (disk old (now old)) content settled given) (stays_on now disk old mid new begins stays) same left_is says here in
-      (met.0, is_on_log_blocks (IsExposeOutput compiled_in root.0 query root_at input) input (standing next_in_chain content) s.0 met.0 s.1 met.1, met.2)
+      let met = answer_since now disk told old mid new
+      (IsExposeOutput compiled_in root.0 query root_at input s.0) some.0 some.1
+      (expose_no_change compiled_in root.0 query root_at input s.0 some.0 some.1) found result
+      left_old left_new input content
+      (rests_given true (disk old (now old)) content settled given)
+      (stays_on now disk old mid new begins stays) same left_is says here in (
+        met.0,
+        is_on_log_blocks (IsExposeOutput compiled_in root.0 query root_at input) input
+            (standing next_in_chain content) s.0 met.0 s.1 met.1,
+        met.2,
+      )
 
   -- or none
-  pub expose_refused : (old mid new : D) (root : Digest) (query : Query) (root_at : ℕ) (error : StartError) (result : Result Ending RunStop) (left : Option (List ℕ)) → IsSettled (disk old (now old)) → Stays now disk old mid → told mid ≡ told old
-      → ((content : List ℕ) → content_of (disk old (now old)) ≡ Some content → IsNoStart (standing next_in_chain content) error) → Stays now disk mid new → TellsStart next_in_chain now disk told mid new error result
-      → IsRun now disk told old new (status_of_result result) left left block_in compiled_in (Some (Expose root query root_at))
-  expose_refused old mid new root query root_at error result left settled begins same started stays says input content given_input given =
+  pub expose_refused : (old mid new : D) (root : Digest) (query : Query) (root_at : ℕ)
+      (error : StartError) (result : Result Ending RunStop) (left : Option (List ℕ)) (held : Bool)
+      → IsSettled (disk old (now old)) → Stays now disk old mid → told mid ≡ told old
+      → (held ≡ true → (content : List ℕ) → content_of (disk old (now old)) ≡ Some content
+      → IsNoStart (standing next_in_chain content) error) → Stays now disk mid new
+      → TellsStart next_in_chain now disk told mid new error result
+      → IsRun now disk told old new (status_of_result result) left left held block_in compiled_in
+      (Some (Expose root query root_at))
+  expose_refused old mid new root query root_at error result left held settled begins same started
+      stays says heard input content given_input given =
       let left_is = told_input left input given_input in
-      let over : List Block → Output = λ blocks. (some_expose root.0 query input compiled_in root_at blocks).0 in
-      let none = on_log_no_change over (λ blocks. expose_no_change compiled_in root.0 query root_at input blocks (over blocks) (some_expose root.0 query input compiled_in root_at blocks).1) input (standing next_in_chain content) in (
+      let over : List Block → Output = λ blocks.
+      (some_expose root.0 query input compiled_in root_at blocks).0 in
+      let none = on_log_no_change over
+      (λ blocks. expose_no_change compiled_in root.0 query root_at input blocks (over blocks)
+      (some_expose root.0 query input compiled_in root_at blocks).1) input
+      (standing next_in_chain content) in (
         on_log over input (standing next_in_chain content),
-        some_on_log (IsExposeOutput compiled_in root.0 query root_at input) over (λ blocks. (some_expose root.0 query input compiled_in root_at blocks).1) input (standing next_in_chain content),
-        start_met now disk told old mid new over error result left left input content (rests_given true (disk old (now old)) content settled given) (stays_on now disk old mid new begins stays) same (left_is ∙ left_read left input input left_is)
-            (λ c at. same_may_leave content (on_log over input (standing next_in_chain content)).change c none at) (started content (told_input (content_of (disk old (now old))) content given)) says,
+        some_on_log (IsExposeOutput compiled_in root.0 query root_at input) over
+            (λ blocks. (some_expose root.0 query input compiled_in root_at blocks).1) input
+            (standing next_in_chain content),
+        start_met now disk told old mid new over error result left left input content
+            (rests_given true (disk old (now old)) content settled given)
+            (stays_on now disk old mid new begins stays) same
+            (left_is ∙ left_read left input input left_is)
+            (λ c at. same_may_leave content
+            (on_log over input (standing next_in_chain content)).change c none at)
+            (started (heard refl) content
+            (told_input (content_of (disk old (now old))) content given)) says,
       )

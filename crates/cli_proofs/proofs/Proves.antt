@@ -1,6 +1,7 @@
 -- What `prove` tells of the blocks of a log, by cases.
-use Rattle.std.proofs.Common.{◌≡◌, ℕ, ◌-◌, ◌<◌, ◌≤◌, Bool, true, cond, leb, ltb, ◌&&◌, List, [], ◌∷◌, length, map, Result, Ok, Err, sym, ap, ◌∙◌, subst, arith}
-use Rattle.std.specs.Prelude.{IfOk}
+use Rattle.std.proofs.Common.{◌≡◌, ℕ, ◌<◌, ◌≤◌, Bool, true, cond, leb, ltb, ◌&&◌, List, [], ◌∷◌}
+use Rattle.std.proofs.Common.{length, map, Some, Result, Ok, Err, refl, sym, ap, ◌∙◌, subst, arith}
+use Rattle.std.specs.Prelude.{IfErr}
 use Rattle.std.specs.List.{concat}
 use Rattle.std.proofs.lemmas.Bool.Decides.{nat_tests}
 use Rattle.std.proofs.lemmas.List.{length-map}
@@ -13,47 +14,85 @@ use Rattle.chain_exec.specs.Compiled.{compiled_in}
 use Rattle.chain_exec.specs.Effect.{History}
 use Rattle.chain_replay.specs.Chain.{ChainState, StandsFor}
 use Rattle.merkle_dag.specs.Ledger.{Ledger}
-use Rattle.rooted_chain.specs.Roots.{ledger_kept}
 use Rattle.proof_codec.specs.declared.proof.Proof.{Proof}
 use Rattle.proof_codec.specs.Spelling.{proof_fields}
 use Rattle.proof_checks.specs.Making.{made_proof}
 use Rattle.answer_proof.specs.Proving.{IsWithin, IsProved}
+use Rattle.cli_proofs.specs.Exposing.{ledger_kept}
 use Rattle.cli_lines.specs.Lines.{line}
 use Rattle.cli_lines.specs.Outcome.{outcome_with}
 use Rattle.cli_lines.specs.declared.outcome.Outcome.{Outcome}
 use Rattle.cli_lines.specs.declared.outcome.Ending.TheVariants as endings
+use Rattle.cli_words.specs.declared.words.Command.TheVariants.{Prove}
 use Rattle.cli_output.specs.Output.{beyond_head, prove_outcome, made_in}
+use Rattle.cli_output.specs.Running.{MayEnd}
+use Rattle.cli_output.specs.Telling.{status_of_stop, stop_of_outcome}
+use Rattle.cli_output.specs.declared.stop.OutcomeStop.{OutcomeStop}
+use Rattle.cli_output.specs.declared.stop.OutcomeStop.TheVariants as outcomes
 use Rattle.cli_output.specs.Proofs.{proof_line}
 
-pub as_many : (kept : ChainState) (blocks : List Block) → StandsFor kept blocks → length kept.digests ≡ length blocks
-as_many kept blocks stands = ap (length {A = Digest}) stands.digests_are ∙ length-map blocks digest_of
+pub as_many : (kept : ChainState) (blocks : List Block) → StandsFor kept blocks
+    → length kept.digests ≡ length blocks
+as_many kept blocks stands = ap (length {A = Digest}) stands.digests_are
+    ∙ length-map blocks digest_of
 
 -- what is told, by whether the chain has the block and the question is about no later one
 abbrev within : Bool → Query → ℕ → List Block → Outcome
-within fits query root_at blocks = cond fits (outcome_with (proof_line (made_in compiled_in blocks query root_at) ∷ []) endings.Done) (beyond_head blocks)
+within fits query root_at blocks = cond fits
+    (outcome_with (proof_line (made_in compiled_in blocks query root_at) ∷ []) endings.Done)
+    (beyond_head blocks)
 
-told_of : (query : Query) (root_at : ℕ) (blocks : List Block) → root_at < length blocks → query.at ≤ root_at → prove_outcome compiled_in query root_at blocks ≡ outcome_with (proof_line (made_in compiled_in blocks query root_at) ∷ []) endings.Done
+told_of : (query : Query) (root_at : ℕ) (blocks : List Block) → root_at < length blocks
+    → query.at ≤ root_at → prove_outcome compiled_in query root_at blocks ≡ outcome_with
+    (proof_line (made_in compiled_in blocks query root_at) ∷ []) endings.Done
 told_of query root_at blocks low early =
-    let fits : leb query.at root_at && ltb root_at (length blocks) ≡ true = grind (arith, nat_tests) in
+    let fits : leb query.at root_at && ltb root_at (length blocks) ≡ true = grind (arith, nat_tests)
+    in
     ap (λ (b : Bool). within b query root_at blocks) fits
 
 -- the proof that is made of what is kept of a chain is that of its blocks
-made_is : (kept : ChainState) (blocks : List Block) (query : Query) (root_at : ℕ) → StandsFor kept blocks → made_proof kept.rows kept.digests root_at query ≡ made_in compiled_in blocks query root_at
+made_is : (kept : ChainState) (blocks : List Block) (query : Query) (root_at : ℕ)
+    → StandsFor kept blocks → made_proof kept.rows kept.digests root_at query ≡ made_in compiled_in
+    blocks query root_at
 made_is kept blocks query root_at stands =
     ap (λ (digests : List Digest). made_proof kept.rows digests root_at query) stands.digests_are
-    ∙ ap (λ (history : History). made_proof history.rows (map digest_of blocks) root_at query) stands.history_is
+    ∙ ap (λ (history : History). made_proof history.rows (map digest_of blocks) root_at query)
+    stands.history_is
 
-proved : (kept : ChainState) (blocks : List Block) (query : Query) (root_at : ℕ) (bytes told : List ℕ) (outcome : Outcome) → StandsFor kept blocks → IsWithin (ledger_kept kept) query root_at
-    → bytes ≡ concat (proof_fields (made_proof kept.rows kept.digests root_at query)) → told ≡ line (encode_lower bytes) → outcome ≡ outcome_with (told ∷ []) endings.Done → outcome ≡ prove_outcome compiled_in query root_at blocks
+proved : (kept : ChainState) (blocks : List Block) (query : Query) (root_at : ℕ)
+    (bytes told : List ℕ) (outcome : Outcome) → StandsFor kept blocks
+    → IsWithin (ledger_kept kept) query root_at
+    → bytes ≡ concat (proof_fields (made_proof kept.rows kept.digests root_at query))
+    → told ≡ line (encode_lower bytes) → outcome ≡ outcome_with (told ∷ []) endings.Done
+    → outcome ≡ prove_outcome compiled_in query root_at blocks
 proved kept blocks query root_at bytes told outcome stands (low, early) spelled is made =
-    made ∙ ap (λ (t : List ℕ). outcome_with (t ∷ []) endings.Done) (is ∙ ap (λ (b : List ℕ). line (encode_lower b)) (spelled ∙ ap (λ (proof : Proof). concat (proof_fields proof)) (made_is kept blocks query root_at stands)))
+    made ∙ ap (λ (t : List ℕ). outcome_with (t ∷ []) endings.Done)
+    (is ∙ ap (λ (b : List ℕ). line (encode_lower b))
+    (spelled ∙ ap (λ (proof : Proof). concat (proof_fields proof))
+    (made_is kept blocks query root_at stands)))
     ∙ sym (told_of query root_at blocks (omega (arith, low, as_many kept blocks stands)) early)
 
 -- ---- what is told of what was answered
 
-pub proved_told : {E : Type 0} (result : Result Outcome E) (ledger : Ledger) (kept : ChainState) (query : Query) (root_at : ℕ) (proof bytes told : List ℕ) → ledger ≡ ledger_kept kept → IsProved ledger query root_at (Ok proof) → bytes ≡ proof → told ≡ line (encode_lower bytes)
-    → IfOk result (λ outcome. outcome ≡ outcome_with (told ∷ []) endings.Done) → IfOk result (λ outcome. (blocks : List Block) → StandsFor kept blocks → outcome ≡ prove_outcome compiled_in query root_at blocks)
-proved_told (Err e) ledger kept query root_at proof bytes told same is spelled line_is made = tt
-proved_told (Ok outcome) ledger kept query root_at proof bytes told same is spelled line_is made = λ blocks stands.
-    let of_kept : IsProved (ledger_kept kept) query root_at (Ok proof) = subst (λ (l : Ledger). IsProved l query root_at (Ok proof)) same is in
-    proved kept blocks query root_at bytes told outcome stands of_kept.0 (spelled ∙ of_kept.1) line_is made
+pub proved_told : (ledger : Ledger) (kept : ChainState) (query : Query) (root_at : ℕ)
+    (proof bytes told : List ℕ) (outcome : Outcome) → ledger ≡ ledger_kept kept
+    → IsProved ledger query root_at (Ok proof) → bytes ≡ proof → told ≡ line (encode_lower bytes)
+    → outcome ≡ outcome_with (told ∷ []) endings.Done → (blocks : List Block)
+    → StandsFor kept blocks → outcome ≡ prove_outcome compiled_in query root_at blocks
+proved_told ledger kept query root_at proof bytes told outcome same is spelled line_is made = λ
+    blocks stands.
+    let of_kept : IsProved (ledger_kept kept) query root_at (Ok proof) = subst
+    (λ (l : Ledger). IsProved l query root_at (Ok proof)) same is in
+    proved kept blocks query root_at bytes told outcome stands of_kept.0 (spelled ∙ of_kept.1)
+    line_is made
+
+-- ---- how it ends
+
+pub prove_stops : {T : Type 0} (query : Query) (root_at : ℕ) (found : Result T OutcomeStop)
+    → (found ≡ Err outcomes.Unreadable → ⊥)
+    → IfErr found (λ stop. MayEnd (status_of_stop (stop_of_outcome stop))
+    (Some (Prove query root_at)))
+prove_stops query root_at (Ok told) reads = tt
+prove_stops query root_at (Err outcomes.Unreadable) reads = absurd (reads refl)
+prove_stops query root_at (Err outcomes.ScratchFault) reads = refl
+prove_stops query root_at (Err outcomes.Memory) reads = tt

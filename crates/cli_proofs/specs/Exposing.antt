@@ -1,7 +1,8 @@
--- What is told of an input that is held against what is kept of a chain.
+-- What is told of an input that is held against the ledger of a chain.
 use Rattle.std.specs.Prelude.{◌≡◌, ℕ, ◌&&◌, nat_lt, nat_le, Bool, false, List, [], ◌∷◌, length, Option, Some, None}
 use Rattle.lc_base.specs.declared.answer.Query.{Query}
 use Rattle.chain_replay.specs.Chain.{ChainState}
+use Rattle.merkle_dag.specs.Ledger.{Ledger}
 use Rattle.proof_codec.specs.declared.proof.Proof.{Proof}
 use Rattle.proof_checks.specs.ProofTexts.{proof_texts}
 use Rattle.proof_checks.specs.LedgerTexts.{ledger_texts}
@@ -14,23 +15,27 @@ use Rattle.cli_lines.specs.declared.outcome.Outcome.{Outcome}
 use Rattle.cli_lines.specs.declared.outcome.Ending.TheVariants as endings
 use Rattle.cli_output.specs.Proofs.{verification_outcome, is_accepted, IsAcceptedHex, no_clash_line, clash_line}
 
--- Whether what is kept of a chain reaches the block of the root, and the question is about no later one.
-abbrev pub reaches : ChainState → Query → ℕ → Bool
-reaches kept query root_at = nat_lt root_at (length kept.digests) && nat_le query.at root_at
+-- The ledger of what is kept of a chain: its rows, and the digests of its blocks.
+abbrev pub ledger_kept : ChainState → Ledger
+ledger_kept kept = record { rows = kept.rows; digests = kept.digests }
+
+-- Whether a ledger reaches the block of the root, and the question is about no later one.
+abbrev pub reaches : Ledger → Query → ℕ → Bool
+reaches ledger query root_at = nat_lt root_at (length ledger.digests) && nat_le query.at root_at
 
 -- What is told of two texts that clash, or that none do.
 abbrev pub found_outcome : Option Clash → Outcome
 found_outcome None = outcome_with (no_clash_line ∷ []) endings.Done
 found_outcome (Some clash) = outcome_with (clash_line clash.proof_text clash.chain_text ∷ []) endings.Done
 
--- The texts that are hashed for the root at a block of what is kept of a chain.
-abbrev pub texts_kept : ChainState → ℕ → List (List ℕ)
-texts_kept kept at = ledger_texts kept.rows kept.digests at
+-- The texts that are hashed for the root at a block of a ledger.
+abbrev pub texts_kept : Ledger → ℕ → List (List ℕ)
+texts_kept ledger at = ledger_texts ledger.rows ledger.digests at
 
--- What is told of an input that was read whole, against what is kept of a chain up to a block: what
+-- What is told of an input that was read whole, against a ledger up to a block: what
 -- `verify` tells where it does not accept it, else the first clash with the proof, or that there is none.
-pub data IsHeld (kept : ChainState) (root : List ℕ) (query : Query) (root_at : ℕ) (input : List ℕ) : Outcome → Type 0 where
+pub data IsHeld (ledger : Ledger) (root : List ℕ) (query : Query) (root_at : ℕ) (input : List ℕ) : Outcome → Type 0 where
   Refused : (told : Verification) → IsVerification root query input told → is_accepted told ≡ false →
-      IsHeld kept root query root_at input (verification_outcome told)
-  Held : (proof : Proof) → IsAcceptedHex root query input proof → (found : Option Clash) → IsFound (proof_texts proof) (texts_kept kept root_at) found →
-      IsHeld kept root query root_at input (found_outcome found)
+      IsHeld ledger root query root_at input (verification_outcome told)
+  Held : (proof : Proof) → IsAcceptedHex root query input proof → (found : Option Clash) → IsFound (proof_texts proof) (texts_kept ledger root_at) found →
+      IsHeld ledger root query root_at input (found_outcome found)

@@ -9,7 +9,10 @@ ghost use Rattle.merkle_tree.specs.Tree.{audit_length};
 ghost use Rattle.block_codec.specs.Reading.{block_in};
 ghost use Rattle.block_codec.specs.declared.block.Block.{Block as Blocks};
 ghost use Rattle.chain_exec.specs.Compiled.{compiled_in};
-ghost use Rattle.chain_replay.specs.Chain.{StandsFor};
+ghost use Rattle.chain_replay.specs.Chain.{ChainState, StandsFor};
+ghost use Rattle.scratch_model.specs.Scratch.{is_told};
+ghost use Rattle.merkle_dag.specs.Lineage.{AgreesWith, ledger_in};
+ghost use Rattle.recovery.specs.Node.{lineage_in};
 ghost use Rattle.proof_checks.specs.ProofTexts.{proof_texts};
 ghost use Rattle.proof_commands.specs.Verifying.{hex_text};
 ghost use Rattle.answer_exposing.specs.Exposing.{IsFound};
@@ -20,21 +23,22 @@ ghost use Rattle.cli_output.specs.Proofs.{clash_line};
 ghost use Rattle.cli_output.specs.Running.{IsRun, IsSilent, MayEnd, found_no_log};
 ghost use Rattle.cli_output.specs.Scanning.{EndsExposed, IsExposeOutcome};
 ghost use Rattle.cli_output.specs.Telling.{status_of_result};
-ghost use Rattle.cli_proofs.specs.Exposing.{IsHeld, found_outcome, reaches, texts_kept};
+ghost use Rattle.cli_proofs.specs.Exposing.{IsHeld, found_outcome, ledger_kept, reaches, texts_kept};
 
 use crate::lines::line_of;
 use crate::verifying::{bad_hex, rejected};
 use answer_exposing::{Clash, ExposeError, expose as expose_proof};
-use chain_input::Stop;
 use cli_lines::{Ending, Outcome, read_whole};
-use cli_output::{RunStop, beyond, tell_result, tell_start};
+use cli_output::{OutcomeStop, RunStop, beyond, tell_answer, tell_start};
 use disk_model::Disk;
 use lc_base::{Bytes, Digest, Memory, Query};
 use lc_io::{Source, Wire};
+use merkle_dag::Lineage;
 use proof_commands::decode_hex;
 use proof_verifier::accept;
 use proof_views::ProofView;
 use recovery::Node;
+use scratch_model::Scratch;
 use std::alloc::{AllocError, Global};
 
 /// Bytes in lower-case hex, after a word.
@@ -81,134 +85,173 @@ fn found_outcome(alloc: Global, found: &Option<Clash>) -> Result<Outcome, Memory
 }
 
 /// What is told of a proof that is accepted.
-fn accepted_outcome(
+fn accepted_outcome<S: Scratch>(
     alloc: Global,
     root_at: u32,
-    node: &Node,
+    lineage: &mut Lineage,
+    scratch: &mut S,
     proof: &ProofView,
-) -> Result<Outcome, Memory>
-    requires within { root_at < length node.now.chain.digests }
+) -> Result<Outcome, OutcomeStop>
+    requires within { root_at < length lineage.old.digests }
     requires long { length proof.now.audit ≡ audit_length proof.now.leaf_index proof.now.leaf_count }
-    ensures { IfOk result (λ outcome. (found : Option Clashes) × IsFound (proof_texts proof.now) (texts_kept node.now.chain root_at) found × (outcome ≡ found_outcome found)) }
+    requires agrees { AgreesWith lineage.old (S.state scratch.old) }
+    // Where it is told which bytes the scratch device holds:
+    ensures outcome { is_told (S.state scratch.old) ≡ true → IfOk result (λ outcome. (found : Option Clashes) × IsFound (proof_texts proof.now) (texts_kept (ledger_in lineage.old) root_at) found × (outcome ≡ found_outcome found)) }
+    // Whether that is told or not:
+    ensures ends { IfOk result (λ outcome. EndsExposed outcome.ending) }
+    ensures reads { IsErrOf result OutcomeStop.Unreadable → ⊥ }
+    ensures cause { HasCause (S.scratch_faults scratch.old) (S.scratch_faults scratch.new) (IsErrOf result OutcomeStop.ScratchFault) }
 {
-    match expose_proof(alloc, node.lineage(), root_at, proof) {
-        Ok(found) => found_outcome(alloc, &found),
+    match expose_proof(alloc, lineage, scratch, root_at, proof) {
+        Ok(found) => Ok(found_outcome(alloc, &found)?),
         Err(ExposeError::Beyond { .. }) => unreachable!(),
-        Err(ExposeError::Memory) => Err(Memory),
+        Err(ExposeError::Fault) => Err(OutcomeStop::ScratchFault),
+        Err(ExposeError::Memory) => Err(OutcomeStop::Memory),
     }
 }
 
 /// What is told of the bytes that an input has in hex.
-fn bytes_outcome(
+fn bytes_outcome<S: Scratch>(
     alloc: Global,
     root: &Digest,
     query: &Query,
     root_at: u32,
-    node: &Node,
+    lineage: &mut Lineage,
+    scratch: &mut S,
     bytes: &[u8],
-) -> Result<Outcome, Memory>
-    requires { root_at < length node.now.chain.digests }
-    ensures { (input : List ℕ) → decode_of (hex_text input) ≡ Ok bytes.now → IfOk result (IsHeld node.now.chain root.now.0 query.now root_at input) }
+) -> Result<Outcome, OutcomeStop>
+    requires within { root_at < length lineage.old.digests }
+    requires agrees { AgreesWith lineage.old (S.state scratch.old) }
+    ensures outcome { is_told (S.state scratch.old) ≡ true → (input : List ℕ) → decode_of (hex_text input) ≡ Ok bytes.now → IfOk result (IsHeld (ledger_in lineage.old) root.now.0 query.now root_at input) }
+    ensures ends { IfOk result (λ outcome. EndsExposed outcome.ending) }
+    ensures reads { IsErrOf result OutcomeStop.Unreadable → ⊥ }
+    ensures cause { HasCause (S.scratch_faults scratch.old) (S.scratch_faults scratch.new) (IsErrOf result OutcomeStop.ScratchFault) }
 {
     match accept(root, query, bytes) {
-        Ok(proof) => accepted_outcome(alloc, root_at, node, &proof),
-        Err(reject) => rejected(alloc, &reject),
+        Ok(proof) => accepted_outcome(alloc, root_at, lineage, scratch, &proof),
+        Err(reject) => Ok(rejected(alloc, &reject)?),
     }
 }
 
 /// What is told of an input that was read whole.
-fn input_outcome(
+fn input_outcome<S: Scratch>(
     alloc: Global,
     root: &Digest,
     query: &Query,
     root_at: u32,
-    node: &Node,
+    lineage: &mut Lineage,
+    scratch: &mut S,
     input: &[u8],
-) -> Result<Outcome, Memory>
-    requires { root_at < length node.now.chain.digests }
-    ensures { IfOk result (IsHeld node.now.chain root.now.0 query.now root_at input.now) }
+) -> Result<Outcome, OutcomeStop>
+    requires within { root_at < length lineage.old.digests }
+    requires agrees { AgreesWith lineage.old (S.state scratch.old) }
+    ensures outcome { is_told (S.state scratch.old) ≡ true → IfOk result (IsHeld (ledger_in lineage.old) root.now.0 query.now root_at input.now) }
+    ensures ends { IfOk result (λ outcome. EndsExposed outcome.ending) }
+    ensures reads { IsErrOf result OutcomeStop.Unreadable → ⊥ }
+    ensures cause { HasCause (S.scratch_faults scratch.old) (S.scratch_faults scratch.new) (IsErrOf result OutcomeStop.ScratchFault) }
 {
     match decode_hex(alloc, input)? {
-        Ok(bytes) => bytes_outcome(alloc, root, query, root_at, node, bytes.as_bytes()),
-        Err(fault) => bad_hex(alloc, &fault),
+        Ok(bytes) => bytes_outcome(
+            alloc,
+            root,
+            query,
+            root_at,
+            lineage,
+            scratch,
+            bytes.as_bytes(),
+        ),
+        Err(fault) => Ok(bad_hex(alloc, &fault)?),
     }
 }
 
-/// Whether a node has the block of the root, and the question is about no later one.
-fn reaches(node: &Node, query: &Query, root_at: u32) -> bool
-    ensures { result ≡ reaches node.now.chain query.now root_at }
+/// Whether a lineage has the block of the root, and the question is about no later one.
+fn reaches(lineage: &Lineage, query: &Query, root_at: u32) -> bool
+    ensures { result ≡ reaches (ledger_in lineage.now) query.now root_at }
 {
-    root_at < node.blocks() && query.at <= root_at
+    match lineage.head() {
+        None => false,
+        Some(head) => root_at <= head && query.at <= root_at,
+    }
 }
 
-/// What is told of the input, against the blocks of a node. Nothing of it is read where these don't reach
-/// the block of the root, or the question is about a later one.
-fn held_outcome<I: Source>(
+/// What is told of the input, against the lineage of a chain. Nothing of it is read where that doesn't
+/// reach the block of the root, or the question is about a later one.
+fn held_outcome<I: Source, S: Scratch>(
     alloc: Global,
     root: &Digest,
     query: &Query,
     root_at: u32,
-    node: &Node,
+    lineage: &mut Lineage,
     source: &mut I,
-) -> Result<Outcome, Stop>
-    ensures outcome { IfSome (I.left source.old) (λ input. IfOk result (λ outcome. (blocks : List Blocks) → StandsFor node.now.chain blocks → IsExposeOutcome root.now.0 query.now root_at blocks outcome (I.left source.new) input)) }
+    scratch: &mut S,
+) -> Result<Outcome, OutcomeStop>
+    requires agrees { AgreesWith lineage.old (S.state scratch.old) }
+    ensures outcome { is_told (S.state scratch.old) ≡ true → (kept : ChainState) → ledger_in lineage.old ≡ ledger_kept kept
+        → IfSome (I.left source.old) (λ input. IfOk result (λ outcome. (blocks : List Blocks) → StandsFor kept blocks → IsExposeOutcome root.now.0 query.now root_at blocks outcome (I.left source.new) input)) }
     ensures ends { IfOk result (λ outcome. EndsExposed outcome.ending) }
-    ensures cause { HasCause (I.source_faults source.old) (I.source_faults source.new) (IsErrOf result Stop.Fault) }
+    ensures unreadable { HasCause (I.source_faults source.old) (I.source_faults source.new) (IsErrOf result OutcomeStop.Unreadable) }
+    ensures scratch_fault { HasCause (S.scratch_faults scratch.old) (S.scratch_faults scratch.new) (IsErrOf result OutcomeStop.ScratchFault) }
 {
-    if !reaches(node, query, root_at) {
-        return Ok(beyond(alloc, node.lineage().head())?);
+    if !reaches(lineage, query, root_at) {
+        return Ok(beyond(alloc, lineage.head())?);
     }
     match read_whole(alloc, source)? {
         None => Ok(Outcome::bad_input(alloc, "long")?),
         Some(bytes) => {
             let input = bytes.as_bytes();
-            Ok(input_outcome(alloc, root, query, root_at, node, input)?)
+            input_outcome(alloc, root, query, root_at, lineage, scratch, input)
         }
     }
 }
 
-/// The same of a node that is given up.
-fn last_held<I: Source>(
+/// The same of the blocks of a node, which is given up.
+fn last_held<I: Source, S: Scratch>(
     alloc: Global,
     root: &Digest,
     query: &Query,
     root_at: u32,
     node: Node,
     source: &mut I,
-) -> Result<Outcome, Stop>
-    ensures outcome { IfSome (I.left source.old) (λ input. IfOk result (λ outcome. (blocks : List Blocks) → StandsFor node.chain blocks → IsExposeOutcome root.now.0 query.now root_at blocks outcome (I.left source.new) input)) }
+    scratch: &mut S,
+) -> Result<Outcome, OutcomeStop>
+    requires agrees { AgreesWith (lineage_in node) (S.state scratch.old) }
+    ensures outcome { is_told (S.state scratch.old) ≡ true → IfSome (I.left source.old) (λ input. IfOk result (λ outcome. (blocks : List Blocks) → StandsFor node.chain blocks → IsExposeOutcome root.now.0 query.now root_at blocks outcome (I.left source.new) input)) }
     ensures ends { IfOk result (λ outcome. EndsExposed outcome.ending) }
-    ensures cause { HasCause (I.source_faults source.old) (I.source_faults source.new) (IsErrOf result Stop.Fault) }
+    ensures unreadable { HasCause (I.source_faults source.old) (I.source_faults source.new) (IsErrOf result OutcomeStop.Unreadable) }
+    ensures scratch_fault { HasCause (S.scratch_faults scratch.old) (S.scratch_faults scratch.new) (IsErrOf result OutcomeStop.ScratchFault) }
 {
-    let outcome = held_outcome(alloc, root, query, root_at, &node, source);
-    node.give_up();
+    let mut lineage = node.into_lineage();
+    let outcome = held_outcome(alloc, root, query, root_at, &mut lineage, source, scratch);
+    lineage.give_up();
     outcome
 }
 
 /// Tells the first clash of the proof that the input is in hex, for one who has the root, with the blocks
 /// of the log up to one; or why it is not accepted.
-pub fn expose<I: Source, M: Disk + Wire>(
+pub fn expose<I: Source, M: Disk + Wire, S: Scratch>(
     alloc: Global,
     root: &Digest,
     query: &Query,
     root_at: u32,
     source: &mut I,
     machine: &mut M,
+    scratch: &mut S,
 ) -> Result<Ending, RunStop>
     requires settled { IsSettled (M.disk machine.old (M.now machine.old)) }
-    ensures run { IsRun M.now M.disk M.told machine.old machine.new (status_of_result result) (I.left source.old) (I.left source.new) block_in compiled_in (Some (Expose root.now query.now root_at)) }
+    ensures run { IsRun M.now M.disk M.told machine.old machine.new (status_of_result result) (I.left source.old) (I.left source.new) (is_told (S.state scratch.old)) block_in compiled_in (Some (Expose root.now query.now root_at)) }
     ensures ends { MayEnd (status_of_result result) (Some (Expose root.now query.now root_at)) }
     ensures silent { IsSilent (status_of_result result) (M.told machine.old) (M.told machine.new) }
     ensures no_log { found_no_log (status_of_result result) ≡ true → source.new ≡ source.old }
     ensures disk { Stays M.now M.disk machine.old machine.new }
     ensures unreadable { HasCause (I.source_faults source.old) (I.source_faults source.new) (IsErrOf result RunStop.Unreadable) }
     ensures disk_fault { HasCause (M.disk_faults machine.old) (M.disk_faults machine.new) (IsErrOf result RunStop.DiskFault) }
+    ensures scratch_fault { HasCause (S.scratch_faults scratch.old) (S.scratch_faults scratch.new) (IsErrOf result RunStop.ScratchFault) }
     ensures untold { HasCause (M.wire_faults machine.old) (M.wire_faults machine.new) (IsErrOf result RunStop.Untold) }
 {
-    match Node::start(alloc, machine) {
+    match Node::start(alloc, machine, scratch) {
         Ok(node) => {
-            let outcome = last_held(alloc, root, query, root_at, node, source);
-            tell_result(machine, outcome)
+            let outcome = last_held(alloc, root, query, root_at, node, source, scratch);
+            tell_answer(machine, outcome)
         }
         Err(error) => tell_start(alloc, machine, error),
     }

@@ -1,7 +1,7 @@
 //! Cases of commands: the words and the input of one, its status, what it told, and what became of
 //! the log.
 
-use crate::streams::{bytes_of, machine_of, source_of};
+use crate::streams::{bytes_of, machine_of, scratch_of, source_of};
 use anyhow::{Context, Result};
 use chain_cli::run::run;
 use disk_model::MemMachine;
@@ -27,6 +27,8 @@ pub struct Case<'a> {
     pub failing: Option<Failing<'a>>,
     /// What the disk holds before.
     pub image: Option<&'a str>,
+    /// The calls of the scratch device that fail; behind a `/` its room.
+    pub scratch: &'a str,
 }
 
 /// The words of a text with a blank between them.
@@ -115,7 +117,8 @@ pub fn run_command<W: Write>(alloc: Global, out: &mut W, case: &Case<'_>) -> Res
     };
     let mut source = source_of(alloc, case.piece, case.input, pulls)?;
     let mut machine = machine_of(alloc, case.image.unwrap_or(""), calls)?;
+    let mut scratch = scratch_of(alloc, case.scratch)?;
     let words = words_of(alloc, case.words)?;
-    let number = run(alloc, &words, &mut source, &mut machine).number();
+    let number = run(alloc, &words, &mut source, &mut machine, &mut scratch).number();
     print_outcome(alloc, out, case, number, source.left(), &machine)
 }

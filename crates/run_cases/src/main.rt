@@ -20,21 +20,31 @@ const BLOCKS: &str = "blocks ";
 /// What the words of a case of a tree begin with.
 const TREE: &str = "tree ";
 
+/// What stands before the first `|`, and what stands behind it, where there is one.
+fn cut(text: &str) -> (&str, Option<&str>) {
+    match text.split_once('|') {
+        None => (text, None),
+        Some((before, behind)) => (before, Some(behind)),
+    }
+}
+
 /// A case of a command; `rest` is what follows its words and its piece in the line.
 fn case_of<'a>(words: &'a str, piece: &'a str, rest: &'a str) -> Result<Case<'a>> {
-    let Some((input, failing)) = rest.split_once('|') else {
+    let (input, Some(failing)) = cut(rest) else {
         return Ok(Case {
             words,
             piece,
             input: rest,
             failing: None,
             image: None,
+            scratch: "",
         });
     };
     let (pulls, calls) = failing.split_once('|').context("a case without calls")?;
-    let (calls, image) = match calls.split_once('|') {
-        None => (calls, None),
-        Some((calls, image)) => (calls, Some(image)),
+    let (calls, disk) = cut(calls);
+    let (image, scratch) = match disk.map(cut) {
+        None => (None, None),
+        Some((image, scratch)) => (Some(image), scratch),
     };
     Ok(Case {
         words,
@@ -42,6 +52,7 @@ fn case_of<'a>(words: &'a str, piece: &'a str, rest: &'a str) -> Result<Case<'a>
         input,
         failing: Some(Failing { pulls, calls }),
         image,
+        scratch: scratch.unwrap_or(""),
     })
 }
 

@@ -1,4 +1,4 @@
-//! The source and the machine of a case, from the texts in its line.
+//! The source, the machine and the scratch device of a case, from the texts in its line.
 
 ghost use Rattle.std.specs.Prelude.{◌<◌, ◌≤◌, length, None, IfOk, IsErr};
 ghost use Rattle.lc_base.specs.Faults.{HasCause};
@@ -9,12 +9,19 @@ ghost use Rattle.disk_model.specs.Machine.{disk_of, now_of};
 use anyhow::{Context, Result};
 use disk_model::MemMachine;
 use lc_io::{Failed, MemSource, Room, Source};
+use scratch_model::MemScratch;
 use std::alloc::Global;
 
 /// Room for what a case tells and writes.
 const ROOM: Room = Room {
     calls: 4096,
     bytes: 1_048_576,
+};
+
+/// Room for the bodies of versions that a case keeps.
+const SCRATCH_ROOM: Room = Room {
+    calls: 1_048_576,
+    bytes: 16_777_216,
 };
 
 /// What stands before the numbers of pulls that give nothing.
@@ -118,4 +125,26 @@ pub fn machine_of(alloc: Global, image: &str, calls: &str) -> Result<MemMachine>
     MemMachine::new(alloc, &image, ROOM, &calls)
         .ok()
         .context("no memory for the machine")
+}
+
+/// A room: how many calls fit, and behind a `/` how many bytes.
+fn room_of(text: &str) -> Result<Room> {
+    let (calls, bytes) = text.split_once('/').context("a room without bytes")?;
+    Ok(Room {
+        calls: calls.parse::<u32>()?,
+        bytes: bytes.parse::<u32>()?,
+    })
+}
+
+/// A scratch device that keeps nothing yet, and of which the calls of these numbers fail; behind a `/`
+/// its room may stand.
+pub fn scratch_of(alloc: Global, text: &str) -> Result<MemScratch> {
+    let (failing, room) = match text.split_once('/') {
+        None => (text, SCRATCH_ROOM),
+        Some((failing, room)) => (failing, room_of(room)?),
+    };
+    let failing = numbers_of(alloc, failing)?;
+    MemScratch::new(alloc, room, &failing)
+        .ok()
+        .context("no memory for the scratch device")
 }

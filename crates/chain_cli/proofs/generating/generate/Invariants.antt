@@ -1,4 +1,4 @@
-use Rattle.std.proofs.Common.{◌≡◌, ◌≤◌, ◌-◌}
+use Rattle.std.proofs.Common.{◌≡◌, ◌-◌}
 use Rattle.chain_cli.proofs.Generated.{IsGenerating}
 use Rattle.chain_cli.proofs.generating.generate.Given as goal
 

@@ -1,7 +1,8 @@
-use Rattle.std.proofs.Common.{◌≡◌, ◌+◌, ◌-◌, ◌≤◌, List}
+use Rattle.std.proofs.Common.{◌≡◌, true, ◌+◌, ◌-◌, ◌≤◌, List}
 use Rattle.block_codec.specs.declared.block.Block.{Block}
 use Rattle.block_codec.specs.declared.limits.TheConstants.{MAX_FRAMES}
-use Rattle.recovery.specs.Node.{IsNodeOf}
+use Rattle.scratch_model.specs.Scratch.{is_told, Retains}
+use Rattle.recovery.specs.Node.{IsNodeOf, IsReady}
 use Rattle.cli_append.proofs.Loop.{Progress}
 use Rattle.cli_append.proofs.appending.append.Given as goal
 
@@ -11,8 +12,14 @@ invariant-turns g l = record {
   source_faults : g.I.Source.source_faults l.source ≡ g.I.Source.source_faults l.fn.source;
   disk_faults : g.M.Clock.disk_faults l.machine ≡ g.M.Clock.disk_faults l.fn.machine;
   wire_faults : g.M.Clock.wire_faults l.machine ≡ g.M.Clock.wire_faults l.fn.machine;
-  taken : (first : List Block) → IsNodeOf l.fn.node (g.M.Clock.disk l.fn.machine (g.M.Clock.now l.fn.machine)) first
-      → Progress g.M.Clock.now g.M.Clock.disk g.M.Clock.told l.fn.machine l.machine l.node l.frames (g.I.Source.left l.fn.source) (g.I.Source.left l.source) first;
+  scratch_faults : g.S.Scratch.scratch_faults l.scratch ≡ g.S.Scratch.scratch_faults l.fn.scratch;
+  ready : IsReady l.node (g.M.Clock.disk l.machine (g.M.Clock.now l.machine))
+      (g.S.Scratch.state l.scratch);
+  retains : Retains (g.S.Scratch.state l.fn.scratch) (g.S.Scratch.state l.scratch);
+  taken : is_told (g.S.Scratch.state l.fn.scratch) ≡ true → (first : List Block)
+      → IsNodeOf l.fn.node (g.M.Clock.disk l.fn.machine (g.M.Clock.now l.fn.machine)) first
+      → Progress g.M.Clock.now g.M.Clock.disk g.M.Clock.told l.fn.machine l.machine l.node l.frames
+      (g.I.Source.left l.fn.source) (g.I.Source.left l.source) first;
 }
 
 abbrev pub decreases-turns : goal.decreases-turns

@@ -1,4 +1,4 @@
-use Rattle.std.proofs.Common.{◌≡◌, ◌≤◌, map, take, true}
+use Rattle.std.proofs.Common.{◌≡◌, map, take, true}
 use Rattle.lc_io.specs.Disk.{Stays}
 use Rattle.block_log.specs.Standing.{NextBlock}
 use Rattle.crash_promises.specs.Promises.{plain, Telling}

@@ -1,3 +1,5 @@
+use Rattle.std.proofs.Common.{◌∙◌}
+use Rattle.scratch_model.specs.Scratch.{is_told}
 use Rattle.block_log.specs.Standing.{standing}
 use Rattle.recovery.specs.Node.{next_in_chain}
 use Rattle.cli_output.proofs.Meets.{chain_of_node}
@@ -6,17 +8,17 @@ use Rattle.cli_proofs.proofs.exposing.expose.Goals as goal
 
 pub returns-in-Ok-clause-run : goal.returns-in-Ok-clause-run
 returns-in-Ok-clause-run g c =
-    expose_run g.M.Clock.now g.M.Clock.disk g.M.Clock.told c.args.machine.now c.start.new.machine c.tell_result.new.machine c.args.root.now c.args.query.now c.args.root_at c.in-Ok.node.chain c.last_held-outcome.result c.tell_result.result
-    (g.I.Source.left c.args.source.now) (g.I.Source.left c.last_held-outcome.new.source) c.requires.settled c.start.ensures.disk c.start.ensures.told
-    (λ content told. chain_of_node (g.M.Clock.disk c.start.new.machine (g.M.Clock.now c.start.new.machine)) c.in-Ok.node (standing next_in_chain content) (c.in-Ok.ensures.answer content told))
-    c.last_held-outcome.ensures.outcome c.tell_result.ensures.disk (c.tell_result.ensures.says next_in_chain)
+    expose_run g.M.Clock.now g.M.Clock.disk g.M.Clock.told c.args.machine.now c.start.new.machine c.tell_answer.new.machine c.args.root.now c.args.query.now c.args.root_at c.in-Ok.node.chain c.last_held-outcome.result c.tell_answer.result
+    (g.I.Source.left c.args.source.now) (g.I.Source.left c.last_held-outcome.new.source) (is_told (g.S.Scratch.state c.args.scratch.now)) c.requires.settled c.start.ensures.disk c.start.ensures.told
+    (λ heard content told. chain_of_node (g.M.Clock.disk c.start.new.machine (g.M.Clock.now c.start.new.machine)) c.in-Ok.node (standing next_in_chain content) (c.in-Ok.ensures.answer heard content told))
+    (λ heard. c.last_held-outcome.ensures.outcome (c.start.ensures.retains.told ∙ heard)) c.tell_answer.ensures.disk (c.tell_answer.ensures.tells next_in_chain)
 
 pub returns-in-Ok-clause-no_log : goal.returns-in-Ok-clause-no_log
 returns-in-Ok-clause-no_log g c none =
-    let found = has_log g.M.Clock.now g.M.Clock.disk g.M.Clock.told c.start.new.machine c.tell_result.new.machine c.last_held-outcome.result c.tell_result.result (c.tell_result.ensures.says next_in_chain) c.last_held-outcome.ensures.ends in
+    let found = has_log g.M.Clock.now g.M.Clock.disk g.M.Clock.told c.start.new.machine c.tell_answer.new.machine c.last_held-outcome.result c.tell_answer.result (c.tell_answer.ensures.tells next_in_chain) c.last_held-outcome.ensures.ends in
     absurd (cc (none, found))
 
 pub returns-in-Err-clause-run : goal.returns-in-Err-clause-run
 returns-in-Err-clause-run g c =
-    expose_refused g.M.Clock.now g.M.Clock.disk g.M.Clock.told c.args.machine.now c.start.new.machine c.tell_start.new.machine c.args.root.now c.args.query.now c.args.root_at c.in-Err.error c.tell_start.result (g.I.Source.left c.args.source.now)
+    expose_refused g.M.Clock.now g.M.Clock.disk g.M.Clock.told c.args.machine.now c.start.new.machine c.tell_start.new.machine c.args.root.now c.args.query.now c.args.root_at c.in-Err.error c.tell_start.result (g.I.Source.left c.args.source.now) (is_told (g.S.Scratch.state c.args.scratch.now))
     c.requires.settled c.start.ensures.disk c.start.ensures.told c.in-Err.ensures.answer c.tell_start.ensures.disk (c.tell_start.ensures.says next_in_chain)
