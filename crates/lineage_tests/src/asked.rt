@@ -1,13 +1,26 @@
 //! A lineage that is asked by calls that the program doesn't make, over the chain of
 //! `examples/recall.blocks`.
 
+ghost use Rattle.std.specs.Prelude.{IfSome};
+ghost use Rattle.merkle_dag.specs.Lineage.{AgreesWith};
+ghost use Rattle.rooted_chain.specs.Roots.{lineage_in};
+
 use chain_replay::{Judged, Replay};
 use entry_store::Steps;
 use lc_base::{Answer, Dep, Digest, Key, Kind, Query, Value};
+use lc_io::Room;
+use lineage_reading::answer;
 use merkle_dag::Lineage;
 use prov_query::{AskError, ask};
 use rooted_chain::LineageChain;
+use scratch_model::{MemScratch, Scratch};
 use std::alloc::Global;
+
+/// Room for the bodies of the rows, and for reading them.
+const ROOM: Room = Room {
+    calls: 100,
+    bytes: 10_000,
+};
 
 /// Block 0.
 const BLOCK_0: [u8; 109] = [
@@ -58,9 +71,17 @@ const FOUR: [u8; 32] = [
 ];
 
 /// The chain with one block more; `None` where these bytes aren't its next block.
-fn longer(alloc: Global, chain: LineageChain, bytes: &[u8]) -> Option<LineageChain> {
+fn longer<S: Scratch>(
+    alloc: Global,
+    scratch: &mut S,
+    chain: LineageChain,
+    bytes: &[u8],
+) -> Option<LineageChain>
+    requires agrees { AgreesWith (lineage_in chain) (S.state scratch.old) }
+    ensures agrees { IfSome result (λ longer. AgreesWith (lineage_in longer) (S.state scratch.new)) }
+{
     match chain.judge(alloc, bytes) {
-        Ok(Judged::Next { block, digest }) => chain.replay(alloc, &block, digest).ok(),
+        Ok(Judged::Next { block, digest }) => chain.replay(alloc, scratch, &block, digest).ok(),
         _ => {
             chain.give_up();
             None
@@ -69,12 +90,18 @@ fn longer(alloc: Global, chain: LineageChain, bytes: &[u8]) -> Option<LineageCha
 }
 
 /// The lineage of the three blocks.
-fn lineage_of_blocks(alloc: Global) -> Option<Lineage> {
-    let chain = LineageChain::start(alloc).ok()?;
-    let chain = longer(alloc, chain, &BLOCK_0)?;
-    let chain = longer(alloc, chain, &BLOCK_1)?;
-    let chain = longer(alloc, chain, &BLOCK_2)?;
-    Some(chain.into_lineage())
+fn lineage_of_blocks<S: Scratch>(alloc: Global, scratch: &mut S) -> Option<Lineage>
+    ensures agrees { IfSome result (λ lineage. AgreesWith lineage (S.state scratch.new)) }
+{
+    match LineageChain::start(alloc) {
+        Ok(chain) => {
+            let chain = longer(alloc, scratch, chain, &BLOCK_0)?;
+            let chain = longer(alloc, scratch, chain, &BLOCK_1)?;
+            let chain = longer(alloc, scratch, chain, &BLOCK_2)?;
+            Some(chain.into_lineage())
+        }
+        Err(_) => None,
+    }
 }
 
 /// The version of this key in a block.
@@ -113,46 +140,62 @@ fn is_int(value: &Value, wanted: i64) -> bool {
 }
 
 /// Whether the uses of the first part are its two lots. One version is looked at.
-fn tells_uses(lineage: &mut Lineage) -> Option<bool> {
+fn tells_uses<S: Scratch>(alloc: Global, lineage: &mut Lineage, scratch: &mut S) -> Option<bool>
+    requires agrees { AgreesWith lineage.old (S.state scratch.old) }
+    ensures agrees { AgreesWith lineage.new (S.state scratch.new) }
+{
     let mut steps = Steps::new();
     let key = Key::new(b"raw/part/p1").ok()?;
     let lots = [version(b"raw/lot/l1", 1)?, version(b"raw/lot/l3", 2)?];
     let kind = Kind::Fwd;
-    match ask(lineage, &Query { kind, key, at: 2 }, &mut steps) {
+    let query = Query { kind, key, at: 2 };
+    match ask(alloc, lineage, scratch, &query, &mut steps) {
         Ok(answer) => Some(has_versions(&answer, 0, lots.as_slice()) && steps.count() == 1),
         Err(_) => None,
     }
 }
 
 /// Whether a question past the last block is answered with its number, and looks at nothing.
-fn tells_the_head(lineage: &mut Lineage) -> Option<bool> {
+fn tells_the_head<S: Scratch>(alloc: Global, lineage: &mut Lineage, scratch: &mut S) -> Option<bool>
+    requires agrees { AgreesWith lineage.old (S.state scratch.old) }
+    ensures agrees { AgreesWith lineage.new (S.state scratch.new) }
+{
     let mut steps = Steps::new();
     let key = Key::new(b"raw/part/p1").ok()?;
     let kind = Kind::Fwd;
-    match ask(lineage, &Query { kind, key, at: 3 }, &mut steps) {
+    let query = Query { kind, key, at: 3 };
+    match ask(alloc, lineage, scratch, &query, &mut steps) {
         Ok(_) => None,
         Err(error) => Some(error == AskError::Beyond { head: Some(2) } && steps.count() == 0),
     }
 }
 
 /// Whether the lineage itself tells what the third lot was made of.
-fn tells_parts(lineage: &mut Lineage) -> Option<bool> {
+fn tells_parts<S: Scratch>(alloc: Global, lineage: &mut Lineage, scratch: &mut S) -> Option<bool>
+    requires agrees { AgreesWith lineage.old (S.state scratch.old) }
+    ensures agrees { AgreesWith lineage.new (S.state scratch.new) }
+{
     let mut steps = Steps::new();
     let key = Key::new(b"raw/lot/l3").ok()?;
     let parts = [version(b"raw/part/p1", 0)?, version(b"raw/part/p2", 0)?];
     let kind = Kind::Back;
-    match lineage.ask(&Query { kind, key, at: 2 }, &mut steps) {
+    let query = Query { kind, key, at: 2 };
+    match answer(alloc, lineage, scratch, &query, &mut steps) {
         Ok(answer) => Some(has_versions(&answer, 2, parts.as_slice())),
         Err(_) => None,
     }
 }
 
 /// Whether the lineage itself tells the number of the third lot, also past the last block.
-fn tells_number(lineage: &mut Lineage) -> Option<bool> {
+fn tells_number<S: Scratch>(alloc: Global, lineage: &mut Lineage, scratch: &mut S) -> Option<bool>
+    requires agrees { AgreesWith lineage.old (S.state scratch.old) }
+    ensures agrees { AgreesWith lineage.new (S.state scratch.new) }
+{
     let mut steps = Steps::new();
     let key = Key::new(b"raw/lot/l3").ok()?;
     let kind = Kind::Hist;
-    match lineage.ask(&Query { kind, key, at: 9 }, &mut steps) {
+    let query = Query { kind, key, at: 9 };
+    match answer(alloc, lineage, scratch, &query, &mut steps) {
         Ok(answer) => Some(has_int(&answer, 2, 200)),
         Err(_) => None,
     }
@@ -172,15 +215,19 @@ fn has_audit_path(lineage: &Lineage, wanted: &[Digest]) -> bool {
 
 #[test]
 fn answers_of_a_lineage(rt: HostRuntime) {
-    let Some(mut lineage) = lineage_of_blocks(rt.alloc()) else {
+    let alloc = rt.alloc();
+    let Ok(mut scratch) = MemScratch::new(alloc, ROOM, &[]) else {
         assert!(rt; false);
         return;
     };
-    let asked = (tells_uses(&mut lineage), tells_the_head(&mut lineage));
-    let told = (tells_parts(&mut lineage), tells_number(&mut lineage));
-    let is_audited = has_audit_path(&lineage, &[Digest(PAIR), Digest(FOUR)]);
+    let Some(mut lineage) = lineage_of_blocks(alloc, &mut scratch) else {
+        assert!(rt; false);
+        return;
+    };
+    assert!(rt; tells_uses(alloc, &mut lineage, &mut scratch) == Some(true));
+    assert!(rt; tells_the_head(alloc, &mut lineage, &mut scratch) == Some(true));
+    assert!(rt; tells_parts(alloc, &mut lineage, &mut scratch) == Some(true));
+    assert!(rt; tells_number(alloc, &mut lineage, &mut scratch) == Some(true));
+    assert!(rt; has_audit_path(&lineage, &[Digest(PAIR), Digest(FOUR)]));
     lineage.give_up();
-    assert!(rt; asked == (Some(true), Some(true)));
-    assert!(rt; told == (Some(true), Some(true)));
-    assert!(rt; is_audited);
 }

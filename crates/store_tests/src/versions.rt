@@ -7,11 +7,10 @@ ghost use Rattle.entry_store.specs.declared.entry.Hop.{Hop};
 ghost use Rattle.store_tests.specs.Versions.{HasVersions, IsAbove};
 
 use entry_store::{EntryId, Hop, Steps, Store};
-use lc_base::{Digest, Key, MAX_ROWS, Memory};
+use lc_base::{Bytes, Digest, Key, MAX_ROWS, Memory};
 use skip_list::{find, links_for, path_entries};
 use std::alloc::Global;
 use std::marker::Model;
-use std::rc::RcSlice;
 
 /// The versions of one key, the newest of which is in the highest block.
 #[derive(Drop)]
@@ -84,8 +83,8 @@ fn push(
         links: hops.len(),
         read: steps.count(),
     };
-    let body = RcSlice::from_slice(alloc, b"body")?;
-    let id = store.push(key, block, 0, hops, 0, Digest([0; 32]), body)?;
+    let body = Bytes::new(alloc);
+    let id = store.push(key, block, 0, hops, 0, Digest([0; 32]), &body)?;
     Ok((Hop { block, id }, added))
 }
 

@@ -1,0 +1,214 @@
+//! Questions about each row of chains, answered by plain rows and by a lineage over a scratch
+//! device.
+
+ghost use Rattle.std.specs.Prelude.{IfSome};
+ghost use Rattle.merkle_dag.specs.Lineage.{AgreesWith};
+ghost use Rattle.rooted_chain.specs.Roots.{lineage_in};
+
+use crate::blocks::longer;
+use chain_gen::generated;
+use chain_replay::{Chain, Judged, Replay};
+use entry_store::Steps;
+use lc_base::{Answer, Kind, Query, TextList, Value};
+use lc_io::Room;
+use merkle_dag::Lineage;
+use prov_query::ask;
+use rooted_chain::LineageChain;
+use scratch_model::{MemScratch, Scratch};
+use std::alloc::Global;
+
+/// How many blocks a chain has.
+const BLOCKS: u32 = 16;
+
+/// The seeds of the chains.
+const SEEDS: [u32; 3] = [1, 7, 2026];
+
+/// Room for all calls.
+const ROOM: Room = Room {
+    calls: 100_000,
+    bytes: 10_000_000,
+};
+
+/// The plain chain with one block more; `None` where these bytes aren't its next block.
+fn plainly_longer<S: Scratch>(
+    alloc: Global,
+    scratch: &mut S,
+    chain: Chain,
+    bytes: &[u8],
+) -> Option<Chain> {
+    match chain.judge(alloc, bytes) {
+        Ok(Judged::Next { block, digest }) => chain.replay(alloc, scratch, &block, digest).ok(),
+        _ => {
+            chain.give_up();
+            None
+        }
+    }
+}
+
+/// The plain chain of these blocks.
+fn plain_chain<S: Scratch>(alloc: Global, scratch: &mut S, blocks: &TextList) -> Option<Chain> {
+    let mut chain = Chain::new(alloc);
+    for block in blocks.as_slice() {
+        chain = plainly_longer(alloc, scratch, chain, block.as_bytes())?;
+    }
+    Some(chain)
+}
+
+/// The chain with the lineage of these blocks.
+fn rooted_chain<S: Scratch>(
+    alloc: Global,
+    scratch: &mut S,
+    blocks: &TextList,
+) -> Option<LineageChain>
+    ensures agrees { IfSome result (λ chain. AgreesWith (lineage_in chain) (S.state scratch.new)) }
+{
+    let mut chain = match LineageChain::start(alloc) {
+        Ok(chain) => chain,
+        Err(_) => return None,
+    };
+    for block in blocks.as_slice() {
+        chain = longer(alloc, scratch, chain, block.as_bytes())?;
+    }
+    Some(chain)
+}
+
+/// Whether two values are the same.
+fn is_same_value(one: &Value, other: &Value) -> bool {
+    match (one, other) {
+        (Value::Int(one), Value::Int(other)) => *one == *other,
+        (Value::Text(one), Value::Text(other)) => one.as_bytes() == other.as_bytes(),
+        _ => false,
+    }
+}
+
+/// Whether two answers are the same.
+fn is_same_answer(one: &Answer, other: &Answer) -> bool {
+    match (one, other) {
+        (Answer::Nothing, Answer::Nothing) => true,
+        (
+            Answer::Hist { block, tx, value },
+            Answer::Hist {
+                block: other_block,
+                tx: other_tx,
+                value: other_value,
+            },
+        ) => *block == *other_block && *tx == *other_tx && is_same_value(value, other_value),
+        (
+            Answer::Back { block, deps },
+            Answer::Back {
+                block: other_block,
+                deps: other_deps,
+            },
+        ) => *block == *other_block && deps.as_slice() == other_deps.as_slice(),
+        (
+            Answer::Fwd { block, uses },
+            Answer::Fwd {
+                block: other_block,
+                uses: other_uses,
+            },
+        ) => *block == *other_block && uses.as_slice() == other_uses.as_slice(),
+        _ => false,
+    }
+}
+
+/// Whether both answer a question alike.
+fn ask_alike<S: Scratch>(
+    alloc: Global,
+    chain: &mut Chain,
+    lineage: &mut Lineage,
+    scratch: &mut S,
+    query: &Query,
+) -> bool
+    requires agrees { AgreesWith lineage.old (S.state scratch.old) }
+    ensures agrees { AgreesWith lineage.new (S.state scratch.new) }
+{
+    let mut steps = Steps::new();
+    match (
+        chain.ask(query),
+        ask(alloc, lineage, scratch, query, &mut steps),
+    ) {
+        (Ok(plain), Ok(answer)) => is_same_answer(&plain, &answer),
+        _ => false,
+    }
+}
+
+/// Whether both answer each question about a row alike: at its block, and at the last one.
+fn tell_row_alike<S: Scratch>(
+    alloc: Global,
+    chain: &mut Chain,
+    lineage: &mut Lineage,
+    scratch: &mut S,
+    index: u32,
+) -> bool
+    requires agrees { AgreesWith lineage.old (S.state scratch.old) }
+    ensures agrees { AgreesWith lineage.new (S.state scratch.new) }
+{
+    if index as usize >= lineage.row_count() {
+        return false;
+    }
+    let facts = lineage.row_facts(index);
+    let (key, block) = (facts.key, facts.block);
+    for kind in [Kind::Hist, Kind::Back, Kind::Fwd] {
+        if !ask_alike(
+            alloc,
+            chain,
+            lineage,
+            scratch,
+            &Query {
+                kind,
+                key,
+                at: block,
+            },
+        ) {
+            return false;
+        }
+        let last = Query {
+            kind,
+            key,
+            at: BLOCKS - 1,
+        };
+        if !ask_alike(alloc, chain, lineage, scratch, &last) {
+            return false;
+        }
+    }
+    true
+}
+
+/// Whether both answer each question about each row alike.
+fn tell_rows_alike<S: Scratch>(
+    alloc: Global,
+    chain: &mut Chain,
+    lineage: &mut Lineage,
+    scratch: &mut S,
+) -> bool
+    requires agrees { AgreesWith lineage.old (S.state scratch.old) }
+    ensures agrees { AgreesWith lineage.new (S.state scratch.new) }
+{
+    for index in 0..lineage.row_count() as u32 {
+        if !tell_row_alike(alloc, chain, lineage, scratch, index) {
+            return false;
+        }
+    }
+    true
+}
+
+/// Whether a chain of a seed, which has rows, is told alike.
+fn tell_seed_alike(alloc: Global, seed: u32) -> Option<bool> {
+    let blocks = generated(alloc, BLOCKS, seed).ok()?;
+    let mut scratch = MemScratch::new(alloc, ROOM, &[]).ok()?;
+    let mut plain = plain_chain(alloc, &mut scratch, &blocks)?;
+    let chain = rooted_chain(alloc, &mut scratch, &blocks)?;
+    let mut lineage = chain.into_lineage();
+    let has_rows = lineage.row_count() > 0;
+    let alike = tell_rows_alike(alloc, &mut plain, &mut lineage, &mut scratch);
+    lineage.give_up();
+    plain.give_up();
+    Some(has_rows && alike)
+}
+
+#[test]
+fn answers_are_those_of_plain_rows(rt: HostRuntime) {
+    for seed in SEEDS {
+        assert!(rt; tell_seed_alike(rt.alloc(), seed) == Some(true));
+    }
+}
