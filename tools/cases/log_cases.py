@@ -30,6 +30,7 @@ REFUSED = 8
 BEYOND = 9
 REJECTED = 10
 BAD_INPUT = 11
+SCRATCH_FAULT = 12
 
 SET_FILE = block_files.block_file([[sets("raw/a", 5)]])
 SET_LOG = HEAD + OPEN + SET_FILE + CLOSED
@@ -61,12 +62,16 @@ class LogCase:
     calls: str = ""
     # The greatest number of bytes that the source gives at once, where that matters.
     piece: int = None
+    # Those of the scratch device; behind a `/` how many calls it has room for, and behind another how many bytes.
+    scratch: str = ""
 
     def case(self):
         """Its words, what must be printed, the fields of its line after the piece, and the piece."""
         after = "same" if self.after in (None, self.image) else self.after.hex()
         printed = f"== {self.status} {self.words}\n{self.told}left {self.left}\nlog {after}\n"
         fields = [self.file.hex(), self.pulls, self.calls, self.image.hex()]
+        if self.scratch:
+            fields.append(self.scratch)
         return self.words, printed, "|".join(fields), self.piece
 
 

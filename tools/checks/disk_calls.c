@@ -4,6 +4,7 @@
  *
  * The environment says what is done; a number counts such calls from 0.
  *
+ *     CALLS_LOG=NAME     the log is the file of that name; `chain.log` where it is left out
  *     CALLS_FILE=PATH    a line for each call is written there:
  *                        NUMBER NAME WHAT OFFSET SIZE RESULT, RESULT being -1 where it failed
  *     CALLS_FAIL=N       call N is not made, and fails with EIO, or with the error CALLS_ERROR
@@ -37,7 +38,7 @@
 enum { NEVER = -1, FIRST_FREE = 500, MAX_LOG_BYTES = 1 << 22, MAX_WRITES = 100, BROKEN = 99 };
 enum action { MAKE, FAIL, SHORT, NOTHING };
 
-static const char log_name[] = "chain.log";
+static const char *log_name = "chain.log";
 static int told = -1;
 static long calls, allocations;
 static long failing = NEVER, shorter = NEVER, nothing = NEVER, before = NEVER;
@@ -58,6 +59,8 @@ __attribute__((constructor)) static void begin(void)
     const char *path = getenv("CALLS_FILE");
     if (!path)
         return;
+    if (getenv("CALLS_LOG"))
+        log_name = getenv("CALLS_LOG");
     failing = number_of("CALLS_FAIL");
     shorter = number_of("CALLS_SHORT");
     nothing = number_of("CALLS_NOTHING");
@@ -286,7 +289,8 @@ ssize_t pread(int file, void *bytes, size_t size, off_t at)
 ssize_t pwrite(int file, const void *bytes, size_t size, off_t at)
 {
     ssize_t count = move(SYS_pwrite64, "pwrite", file, (void *)bytes, size, at);
-    if (disk && count > 0)
+    const char *what = disk && count > 0 ? at_file(file) : NULL;
+    if (what && !strcmp(what, "log"))
         add_write(at, bytes, count);
     return count;
 }
@@ -356,6 +360,13 @@ int fcntl(int file, int command, ...)
     const char *what = command == F_DUPFD_CLOEXEC ? at_file(file) : NULL;
     long result = next(what) == FAIL ? fail() : syscall(SYS_fcntl, file, command, word);
     return tell("dup", what, "%ld", 0, 0, result);
+}
+
+int unlink(const char *path)
+{
+    const char *what = at_path(path);
+    long result = next(what) == FAIL ? fail() : syscall(SYS_unlink, path);
+    return tell("unlink", what, "%ld", 0, 0, result);
 }
 
 /* The other names that the C library has for the same calls. */

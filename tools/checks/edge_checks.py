@@ -7,12 +7,13 @@ import os
 import subprocess
 import tempfile
 
-from cases.log_cases import DISK_FAULT, DONE, HEAD, MEMORY, SET_FILE, SET_LINE, SET_LOG, UNREADABLE, UNTOLD, USAGE
-from cases.log_cases import frames_of, log_of
+from cases.log_cases import DISK_FAULT, DONE, HEAD, MEMORY, SCRATCH_FAULT, SET_FILE, SET_LINE, SET_LOG, UNREADABLE
+from cases.log_cases import UNTOLD, USAGE, frames_of, log_of
+from cases.root_cases import History
 from checks import disk_calls
 from checks.disk_calls import CREATE, NEW, SYNCS, TRUNCATE
 from checks.log_runs import LOG, held_frames, known_lines
-from checks.program_cases import RECALL_FILE, RECALL_LINES, RECALL_LOG, USED
+from checks.program_cases import RECALL_FILE, RECALL_LINES, RECALL_LOG, RECALL_ROWS, USED
 from checks.program_runs import take_rights
 
 # The status where a call fails, by what it touches.
@@ -147,20 +148,102 @@ def pipe_for_log(checks, watched):
                 checks.same(f"{words} over a pipe of mode {mode:o}", ran, answer)
 
 
+def bodies_of(count):
+    """How many bytes the bodies of the rows of the first blocks have, so many; the first byte of a text says what
+    is hashed."""
+    history = History(RECALL_ROWS)
+    return sum(len(history.body_text(row)) - 1 for row in RECALL_ROWS if row.block < count)
+
+
 def limit_of_a_file(checks, watched):
-    """A file that may not grow past some size: a write is short, or fails. What was told of stays."""
+    """Files that may not grow past some size: a write is short, or fails, to the log or first to the scratch file.
+    What was told of stays."""
     sizes = [0, 1, 8, 9, len(HEAD) + 1, len(SET_LOG), len(RECALL_LOG) - 1]
-    sizes += [len(log_of(b"".join(FRAMES[:count]))) for count in (1, 2)]
+    sizes += [len(log_of(b"".join(FRAMES[:count]))) for count in (1, 2)] + [bodies_of(1), bodies_of(1) + 30]
     for size in sizes:
         ran = watched.run("append", RECALL_FILE, file_limit=size)
         told = ran.told.count("\n")
         held = held_frames(ran.log or b"")
         name = f"append to a file of at most {size} bytes"
-        fits = sum(len(log_of(b"".join(FRAMES[: n + 1]))) <= size for n in range(len(FRAMES)))
-        checks.same(name, (ran.status, ran.told), (DISK_FAULT, "".join(LINES[:fits])))
+        kept = sum(bodies_of(n + 1) <= size for n in range(len(FRAMES)))
+        stored = sum(len(log_of(b"".join(FRAMES[: n + 1]))) <= size for n in range(len(FRAMES)))
+        status = DISK_FAULT if stored < kept else SCRATCH_FAULT
+        checks.same(name, (ran.status, ran.told), (status, "".join(LINES[: min(kept, stored)])))
         checks.same(f"blocks after {name}", held, FRAMES[:told])
         checks.holds(f"no more than the limit after {name}", len(ran.log or b"") <= size)
         goes_on(checks, watched, ran.log, name)
+
+
+# ---- the scratch file
+
+
+SCRATCH = "chain.scratch"
+# The lineage of the first block, of which the proof is made, has no body at hand.
+EARLIER_PROOF = "prove hist raw/part/p1 0 0"
+# Runs that use it: the words, the input, and the log before.
+SCRATCH_RUNS = [
+    ("append", RECALL_FILE, None), ("append", RECALL_FILE, log_of(FRAMES[0])), (EARLIER_PROOF, b"", RECALL_LOG),
+]
+
+
+def scratch_calls(checks, watched):
+    """What is done with the scratch file, in which order; and each of these calls failing, moving one byte, or taking
+    nothing. The last one takes the name away, which changes nothing that was told."""
+    for words, source, log in SCRATCH_RUNS:
+        good = watched.run(words, source, log, LOG=SCRATCH)
+        checks.same(f"status of {words} with its scratch file", good.status, DONE)
+        numbered = [(number, call) for number, call in enumerate(good.calls) if call.what == "log"]
+        made = [call for _, call in numbered]
+        checks.same(f"calls of the scratch file, {words}", list(scratch_steps(made)), wanted_steps(words))
+        for number, call in numbered:
+            settings = ["FAIL"] + ["NOTHING", "SHORT"] * call.moves_bytes()
+            for setting in settings:
+                ran = watched.run(words, source, log, LOG=SCRATCH, **{setting: number})
+                scratch_call(checks, watched, (words, source, log), good, number, setting, ran)
+
+
+def wanted_steps(words):
+    """The calls of the scratch file: it is made anew, the bodies are put one after another, and its name goes."""
+    history, at, steps = History(RECALL_ROWS), 0, ["unlink", "made anew", "dup"]
+    for row in RECALL_ROWS:
+        size = len(history.body_text(row)) - 1
+        steps.append(f"pwrite {at} {size}")
+        at += size
+    if words == EARLIER_PROOF:
+        steps.append(f"pread 0 {len(history.body_text(RECALL_ROWS[0])) - 1}")
+    return [*steps, "unlink"]
+
+
+def scratch_steps(calls):
+    """The same, of calls that were made."""
+    for call in calls:
+        if call.name == "open":
+            yield "made anew" if call.at & (CREATE | NEW) == CREATE | NEW and not call.at & TRUNCATE else "opened"
+        elif call.moves_bytes():
+            yield f"{call.name} {call.at} {call.size}"
+        else:
+            yield call.name
+
+
+def scratch_call(checks, watched, run, good, number, setting, ran):
+    """A run of which one call of the scratch file was made to fail, or to move fewer bytes."""
+    words, source, log = run
+    call = good.calls[number]
+    name = f"{words} over {len(log or b'')} bytes, {setting} {call} of the scratch file"
+    is_last = call.name == "unlink" and number > 0 and not any(c.what == "log" for c in good.calls[number + 1 :])
+    if setting == "SHORT" or is_last:
+        checks.same(name, (ran.told, ran.status, ran.log), (good.told, good.status, good.log))
+        return
+    lines = good.told.splitlines(keepends=True)
+    before = sum(other.what == "output" for other in good.calls[:number])
+    checks.same(f"status of {name}", ran.status, SCRATCH_FAULT)
+    checks.same(f"lines of {name}", ran.told, "".join(lines[:before]))
+    if words == "append":
+        held = max(before, len(held_frames(log or b"")))
+        checks.same(f"blocks after {name}", held_frames(ran.log or b""), FRAMES[:held])
+        goes_on(checks, watched, ran.log, name)
+    else:
+        checks.same(f"log after {name}", ran.log, log)
 
 
 def no_memory(checks, watched):
@@ -176,7 +259,9 @@ def no_memory(checks, watched):
     checks.holds("allocations were made", number > 0)
 
 
-PARTS = [order_of_calls, failing_calls, log_made_meanwhile, pipe_for_log, limit_of_a_file, no_memory]
+PARTS = [
+    order_of_calls, failing_calls, log_made_meanwhile, pipe_for_log, limit_of_a_file, scratch_calls, no_memory,
+]
 
 
 def check(checks, program, folder, parts=PARTS):

@@ -3,6 +3,7 @@
 What is expected was written from docs/formats.md and docs/language.md, never from what the program
 printed.
 """
+from cases.block_files import block_file
 from cases.generated_loads import load_line
 from cases.log_cases import SET_LINE, SET_LOG, frames_of, log_of
 from cases.root_cases import Row, roots
@@ -42,20 +43,21 @@ with open(f"{TOP}/examples/raw-a.proof", "rb") as raw_a:
 RAW_A_ROOT = "41f6c6fc6bc756e479b796f7f09689670bee66ffad0189a20e5bf0574966869d"
 VERIFY = f"verify {RAW_A_ROOT} hist raw/a 0".encode()
 EXPOSE = f"expose {RAW_A_ROOT} hist raw/a 0 0".encode()
+# A block without a transaction, which comes first.
+EMPTY_FRAME = block_file([[]])
+EMPTY_LOG = log_of(EMPTY_FRAME)
 with open(RECALL, "rb") as recall:
     RECALL_FILE = recall.read()
 RECALL_LOG = log_of(RECALL_FILE)
-RECALL_ROOTS = roots(
-    frames_of(RECALL_FILE),
-    [
-        Row("raw/part/p1", 0, 0, "batch 17", []),
-        Row("raw/part/p2", 0, 1, "batch 18", []),
-        Row("raw/lot/l1", 1, 0, 120, [("raw/part/p1", 0)]),
-        Row("raw/lot/l2", 1, 1, 80, [("raw/part/p2", 0)]),
-        Row("raw/lot/l3", 2, 0, 200, [("raw/part/p1", 0), ("raw/part/p2", 0)]),
-        Row("raw/shop/s1", 2, 1, "l1", [("raw/lot/l1", 1)]),
-    ],
-)
+RECALL_ROWS = [
+    Row("raw/part/p1", 0, 0, "batch 17", []),
+    Row("raw/part/p2", 0, 1, "batch 18", []),
+    Row("raw/lot/l1", 1, 0, 120, [("raw/part/p1", 0)]),
+    Row("raw/lot/l2", 1, 1, 80, [("raw/part/p2", 0)]),
+    Row("raw/lot/l3", 2, 0, 200, [("raw/part/p1", 0), ("raw/part/p2", 0)]),
+    Row("raw/shop/s1", 2, 1, "l1", [("raw/lot/l1", 1)]),
+]
+RECALL_ROOTS = roots(frames_of(RECALL_FILE), RECALL_ROWS)
 # What `append` tells of its blocks, and tells of them again.
 RECALL_LINES = "".join(
     f"block {n} rows 2 status 0,0 root {root}\n" for n, root in enumerate(RECALL_ROOTS)
@@ -92,12 +94,18 @@ CASES = [
     Case(b"root 1", None, f"root 1 {RECALL_ROOTS[1]}\n", 0, log=RECALL_LOG),
     Case(b"append", b"", "", 0),
     Case(b"append", ONE_SET, SET_LINE, 0, log=SET_LOG[:1], after=SET_LOG),
-    # A log that may only be read.
+    # A log that may only be read, in a folder where no file can be made: nor that of the scratch device, which
+    # a block without rows doesn't use.
     Case(b"hist raw/a", None, SET_ANSWER, 0, log=SET_LOG, is_read_only=True),
     Case(b"hist raw/a", None, "beyond empty\n", 9, is_read_only=True),
-    Case(b"append", ONE_SET, "known 0\n", 0, log=SET_LOG, is_read_only=True),
-    Case(b"append", RECALL, "", 4, log=SET_LOG[:8] + b"\0", is_read_only=True),
-    Case(b"append", ONE_SET, "", 4, is_read_only=True),
+    Case(b"append", EMPTY_FRAME, "known 0\n", 0, log=EMPTY_LOG, is_read_only=True),
+    Case(b"append", EMPTY_FRAME, "", 4, log=SET_LOG[:8] + b"\0", is_read_only=True),
+    Case(b"append", EMPTY_FRAME, "", 4, is_read_only=True),
+    Case(b"append", ONE_SET, "", 12, log=SET_LOG, is_read_only=True),
+    Case(b"append", RECALL, "", 12, log=SET_LOG[:8] + b"\0", is_read_only=True),
+    Case(b"append", ONE_SET, "", 12, is_read_only=True),
+    Case(b"root", None, "", 12, log=SET_LOG, is_read_only=True),
+    Case(b"load 20 7", None, "", 12, is_read_only=True),
     # What stands behind a closed gate means nothing.
     Case(b"append", ONE_SET, SET_LINE, 0, log=SET_LOG[:8] + b"\0junk", after=SET_LOG),
     Case(b"append", b"", "", 0, log=SET_LOG[:8] + b"\0" + bytes(80)),
@@ -110,12 +118,14 @@ CASES = [
     Case(SCAN, ONE_SET, SET_ANSWER, 0, log=b"hello"),
     Case(SCAN, ONE_SET, SET_ANSWER, 0, log="."),
     Case(b"prove hist raw/a 0 0", None, RAW_A_PROOF, 0, log=SET_LOG),
-    Case(b"prove hist raw/a 0 0", None, RAW_A_PROOF, 0, streams="<&-", log=SET_LOG, is_read_only=True),
+    Case(b"prove hist raw/a 0 0", None, RAW_A_PROOF, 0, streams="<&-", log=SET_LOG),
+    Case(b"prove hist raw/a 0 0", None, "", 12, log=SET_LOG, is_read_only=True),
     # A proof, with digits of either case and with a line end or not.
     Case(VERIFY, RAW_A_PROOF, SET_ANSWER, 0),
     Case(VERIFY, RAW_A_PROOF.rstrip().upper(), SET_ANSWER, 0, log=b"hello"),
     Case(EXPOSE, RAW_A_PROOF, "no clash\n", 0, log=SET_LOG),
-    Case(EXPOSE, RAW_A_PROOF.rstrip().upper(), "no clash\n", 0, log=SET_LOG, is_read_only=True),
+    Case(EXPOSE, RAW_A_PROOF.rstrip().upper(), "no clash\n", 0, log=SET_LOG),
+    Case(EXPOSE, RAW_A_PROOF, "", 12, log=SET_LOG, is_read_only=True),
     # 1: the words are no command: none, too few, one too many before or after those of a command.
     Case(b"", ONE_SET, "usage\n", 1),
     Case(b"scan hist raw/a", ONE_SET, "usage\n", 1),

@@ -14,7 +14,7 @@ from places import TOP
 BODIES = "tools/wrong-bodies"
 EDGE = "edge"
 # The crate of whose lines over a real file those of EDGE are wrong bodies.
-EDGE_CRATE = "disk_model"
+EDGE_CRATE = "file_machine"
 
 
 class BadEdit(Exception):

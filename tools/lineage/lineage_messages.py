@@ -31,6 +31,8 @@ SENTENCES = {
     6: "chain.log holds something else than a log",
     7: "chain.log was changed or cut: at the offset that was printed stands no record of the next\n"
     "block; docs/log.md says what to do",
+    12: "chain.scratch, the file of a run for bodies of versions, can't be made, written or read here;\n"
+    "docs/log.md says what to do",
 }
 TOO_LONG = "the input is longer than 67,108,864 bytes"
 BAD_CONTRACT = "the input is no contract"
