@@ -3,8 +3,8 @@ use Rattle.std.specs.Prelude.{◌≡◌, ℕ, ◌+◌, ◌<◌, ◌≤◌, ◌==
 use Rattle.std.specs.Int.{w32, from_be_bytes}
 use Rattle.lc_io.specs.Outside.{prepend, IsAtEnd}
 use Rattle.block_codec.specs.declared.limits.TheConstants.{MAX_BLOCK_BYTES, MAX_FRAMES}
-use Rattle.block_codec.specs.declared.frames.FrameError.{FrameError}
-use Rattle.block_codec.specs.declared.frames.FrameError.TheVariants as errors
+use Rattle.block_codec.specs.declared.error.FrameError.{FrameError}
+use Rattle.block_codec.specs.declared.error.FrameError.TheVariants as errors
 
 -- What stands at the start of an input.
 pub data FrameStep : Type 0 where

@@ -1,7 +1,6 @@
 //! Blocks and their transactions.
 
-use lc_base::{Bytes, Digest, Duplicate, Key, KeyList, Memory, Name, Seq, Value};
-use std::alloc::Global;
+use lc_base::{Bytes, Digest, Key, KeyList, Name, Seq, Value};
 
 /// The first byte of a block: the version of its format.
 pub const VERSION: u8 = 1;
@@ -56,44 +55,4 @@ pub struct Block {
     pub parent: Digest,
     /// At most `MAX_TXS`.
     pub txs: TxList,
-}
-
-impl Duplicate for Tx {
-    fn copy(&self, alloc: Global) -> Result<Tx, Memory> {
-        match self {
-            Tx::Set {
-                sender,
-                key,
-                value,
-                deps,
-            } => Ok(Tx::Set {
-                sender: *sender,
-                key: *key,
-                value: value.copy(alloc)?,
-                deps: deps.copy()?,
-            }),
-            Tx::Deploy {
-                sender,
-                name,
-                source,
-            } => Ok(Tx::Deploy {
-                sender: *sender,
-                name: *name,
-                source: source.copy()?,
-            }),
-            Tx::Call {
-                sender,
-                contract,
-                function,
-                args,
-                budget,
-            } => Ok(Tx::Call {
-                sender: *sender,
-                contract: *contract,
-                function: *function,
-                args: args.copy()?,
-                budget: *budget,
-            }),
-        }
-    }
 }

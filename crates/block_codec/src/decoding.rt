@@ -2,11 +2,12 @@
 
 ghost use Rattle.std.specs.Prelude.{◌≡◌, Ok, IfOk, IfErr, IfSome, length};
 ghost use Rattle.lc_base.specs.Answers.{Answers};
-ghost use Rattle.byte_fields.specs.Reading.{items_at};
-ghost use Rattle.byte_fields.specs.Reader.{error_left, Reads};
-ghost use Rattle.block_codec.specs.Spelling.{Spells, IsFaultOffset, IsDecoder};
-ghost use Rattle.block_codec.specs.Reading.{dep_keys_at, set_at, deploy_at, args_at, call_at, tx_at, txs_at, block_at, whole_block, block_in};
-ghost use Rattle.block_codec.specs.Decoding.{fault_offset};
+ghost use Rattle.byte_fields.specs.{Reading.{items_at}, Reader.{error_left, Reads}};
+ghost use Rattle.block_codec.specs.{
+  Spelling.{Spells, IsFaultOffset, IsDecoder},
+  Reading.{dep_keys_at, args_at, tx_at, txs_at, block_at, whole_block, block_in},
+  Decoding.{fault_offset},
+};
 
 use crate::block::{Block, CALL, DEPLOY, SET, Tx, TxList, VERSION};
 use crate::limits::{MAX_ARGS, MAX_BLOCK_BYTES, MAX_CALL_BUDGET, MAX_SOURCE_BYTES, MAX_TXS};
@@ -35,36 +36,6 @@ fn dep_keys(alloc: Global, reader: &mut Reader) -> Result<KeyList, ReadError>
     reader.keys(alloc, count)
 }
 
-#[tactic(auto, unfolding(crate::specs::Reading::set_at))]
-fn set(alloc: Global, reader: &mut Reader) -> Result<Tx, ReadError>
-    ensures { Reads error_left result (set_at reader.old) reader.new }
-{
-    let sender = reader.key()?;
-    let key = reader.key()?;
-    let value = reader.value(alloc)?;
-    let deps = dep_keys(alloc, reader)?;
-    Ok(Tx::Set {
-        sender,
-        key,
-        value,
-        deps,
-    })
-}
-
-#[tactic(auto, unfolding(crate::specs::Reading::deploy_at))]
-fn deploy(alloc: Global, reader: &mut Reader) -> Result<Tx, ReadError>
-    ensures { Reads error_left result (deploy_at reader.old) reader.new }
-{
-    let sender = reader.key()?;
-    let name = reader.name()?;
-    let source = reader.any_bytes(alloc, MAX_SOURCE_BYTES as u16)?;
-    Ok(Tx::Deploy {
-        sender,
-        name,
-        source,
-    })
-}
-
 #[tactic(auto, unfolding(crate::specs::Reading::args_at))]
 fn args(alloc: Global, reader: &mut Reader) -> Result<Seq<Value>, ReadError>
     ensures { Reads error_left result (args_at reader.old) reader.new }
@@ -73,33 +44,30 @@ fn args(alloc: Global, reader: &mut Reader) -> Result<Seq<Value>, ReadError>
     reader.values(alloc, count)
 }
 
-#[tactic(auto, unfolding(crate::specs::Reading::call_at))]
-fn call(alloc: Global, reader: &mut Reader) -> Result<Tx, ReadError>
-    ensures { Reads error_left result (call_at reader.old) reader.new }
-{
-    let sender = reader.key()?;
-    let contract = reader.name()?;
-    let function = reader.name()?;
-    let args = args(alloc, reader)?;
-    let budget = reader.u32_at_most(MAX_CALL_BUDGET)?;
-    Ok(Tx::Call {
-        sender,
-        contract,
-        function,
-        args,
-        budget,
-    })
-}
-
-#[tactic(auto, unfolding(crate::specs::Reading::tx_at))]
+#[tactic(auto, unfolding(crate::specs::Reading::tx_at, crate::specs::Reading::set_at, crate::specs::Reading::deploy_at, crate::specs::Reading::call_at))]
 fn tx(alloc: Global, reader: &mut Reader) -> Result<Tx, ReadError>
     ensures { Reads error_left result (tx_at reader.old) reader.new }
 {
     let left = reader.left();
     match reader.byte()? {
-        SET => set(alloc, reader),
-        DEPLOY => deploy(alloc, reader),
-        CALL => call(alloc, reader),
+        SET => Ok(Tx::Set {
+            sender: reader.key()?,
+            key: reader.key()?,
+            value: reader.value(alloc)?,
+            deps: dep_keys(alloc, reader)?,
+        }),
+        DEPLOY => Ok(Tx::Deploy {
+            sender: reader.key()?,
+            name: reader.name()?,
+            source: reader.any_bytes(alloc, MAX_SOURCE_BYTES as u16)?,
+        }),
+        CALL => Ok(Tx::Call {
+            sender: reader.key()?,
+            contract: reader.name()?,
+            function: reader.name()?,
+            args: args(alloc, reader)?,
+            budget: reader.u32_at_most(MAX_CALL_BUDGET)?,
+        }),
         _ => Err(ReadError::Fault(Fault { left })),
     }
 }

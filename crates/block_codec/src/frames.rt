@@ -2,49 +2,17 @@
 
 ghost use Rattle.std.specs.Prelude.{◌≡◌, ◌≤◌, length, IfOk, IfSome, IsErr, IsErrOf};
 ghost use Rattle.lc_base.specs.Faults.{HasCause};
-ghost use Rattle.block_codec.specs.Frames.{Fills, frame_of, IsBody, IsFrameAnswer, CountsFrame};
-ghost use Rattle.block_codec.specs.declared.limits.TheConstants.{MAX_FRAMES};
+ghost use Rattle.block_codec.specs.{
+  Frames.{Fills, frame_of, IsBody, IsFrameAnswer, CountsFrame},
+  declared.limits.TheConstants.{MAX_FRAMES},
+};
 
+use crate::error::FrameError;
 use crate::limits::{MAX_BLOCK_BYTES, MAX_FRAMES};
-use lc_base::Bytes;
+use lc_base::{Bytes, zeros};
 use lc_io::{Failed, Source};
-use std::alloc::{AllocError, Global};
+use std::alloc::Global;
 use std::marker::Model;
-
-/// Why no further frame could be taken.
-#[derive(Clone, Copy, Debug, PartialEq, Eq)]
-pub enum FrameError {
-    /// The input ends within the frame.
-    Truncated,
-    /// A frame has 1 to `MAX_BLOCK_BYTES` bytes, and this says that it has so many.
-    Length(u32),
-    /// An input has at most `MAX_FRAMES` frames.
-    Many,
-    /// The source failed.
-    Fault,
-    /// Out of memory.
-    Memory,
-}
-
-impl From<AllocError> for FrameError {
-    ghost use Rattle.block_codec.specs.declared.frames.FrameError.TheVariants.{Memory};
-
-    ghost from_gives = { λ _ error. error ≡ Memory };
-
-    fn from(_error: AllocError) -> FrameError {
-        FrameError::Memory
-    }
-}
-
-impl From<Failed> for FrameError {
-    ghost use Rattle.block_codec.specs.declared.frames.FrameError.TheVariants.{Fault};
-
-    ghost from_gives = { λ _ error. error ≡ Fault };
-
-    fn from(_failed: Failed) -> FrameError {
-        FrameError::Fault
-    }
-}
 
 /// Takes the frames of one input, in order.
 #[derive(Debug, Drop)]
@@ -85,7 +53,7 @@ fn body<I: Source>(alloc: Global, source: &mut I, count: u32) -> Result<Bytes, F
     ensures bytes { IfSome (I.left source.old) (λ input. IsBody (frame_of count input) result (I.left source.new)) }
     ensures cause { HasCause (I.source_faults source.old) (I.source_faults source.new) (IsErrOf result FrameError.Fault) }
 {
-    let mut bytes = vec![in alloc; 0u8; count as usize]?;
+    let mut bytes = zeros(alloc, count as usize)?;
     let filled = fill(source, &mut bytes)?;
     if filled < bytes.len() {
         return Err(FrameError::Truncated);

@@ -4,14 +4,16 @@
 mod block;
 mod decoding;
 mod encoding;
+mod error;
 mod frames;
 mod limits;
 mod placement;
 
 pub use block::{Block, CALL, DEPLOY, SET, Tx, TxList, VERSION};
 pub use decoding::{DecodeError, decode};
-pub use encoding::{EncodeError, encode};
-pub use frames::{FrameError, Frames};
+pub use encoding::encode;
+pub use error::{EncodeError, FrameError};
+pub use frames::Frames;
 pub use limits::{
     MAX_ARGS, MAX_BLOCK_BUDGET, MAX_BLOCK_BYTES, MAX_BLOCKS, MAX_CALL_BUDGET, MAX_FRAMES,
     MAX_ROWS_BEFORE_BLOCK, MAX_SOURCE_BYTES, MAX_TXS,

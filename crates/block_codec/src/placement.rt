@@ -1,8 +1,10 @@
 //! Where a block stands to a chain.
 
 ghost use Rattle.std.specs.Prelude.{◌≡◌, ◌<◌, ◌≤◌, ◌↔◌, IsSome};
-ghost use Rattle.block_codec.specs.Spelling.{IsBlock};
-ghost use Rattle.block_codec.specs.Placement.{bytes_digest, block_budget, tx_budget, held_placement, new_placement, placement};
+ghost use Rattle.block_codec.specs.{
+  Spelling.{IsBlock},
+  Placement.{bytes_digest, block_budget, tx_budget, held_placement, new_placement, placement},
+};
 
 use crate::block::{Block, Tx};
 use crate::limits::{MAX_BLOCK_BUDGET, MAX_BLOCKS, MAX_ROWS_BEFORE_BLOCK};

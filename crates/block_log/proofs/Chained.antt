@@ -132,11 +132,11 @@ has_room count last bytes block is = decoded (block_in bytes) is
     decoded (Err offset) is = absurd (cc is)
 
 -- One more block was read.
-pub read_more : (old new : Option (List ℕ)) (gate count size behind : ℕ) (last : Digest) (stored : List Stored) (block : Block) (bytes : List ℕ) → AreRead (log_at gate count last) old stored
-    → count ≤ MAX_BLOCKS → behind ≡ gate + (5 + size) → next_of count last bytes ≡ Some block → IsBlock block → new ≡ old
+pub read_more : (old new : Option (List ℕ)) (gate count size after : ℕ) (last : Digest) (stored : List Stored) (block : Block) (bytes : List ℕ) → AreRead (log_at gate count last) old stored
+    → count ≤ MAX_BLOCKS → after ≡ gate + (5 + size) → next_of count last bytes ≡ Some block → IsBlock block → new ≡ old
     → ((image : List ℕ) → old ≡ Some image → (record_of (drop gate image) ≡ records.Open size) × (bytes ≡ take size (drop 5 (drop gate image))))
-    → AreRead (log_at behind (count + 1) (digest_of block)) new (stored ++ stored_at gate block ∷ [])
-read_more old new gate count size behind last stored block bytes read few there is lawful same found =
+    → AreRead (log_at after (count + 1) (digest_of block)) new (stored ++ stored_at gate block ∷ [])
+read_more old new gate count size after last stored block bytes read few there is lawful same found =
     let next : next_in_log (blocks_in stored) bytes ≡ Some block = sym (next_same count last stored read.held.count_is read.held.last_is bytes) ∙ is in
     record {
       are_stored = stored_next stored gate block bytes read.are_stored next lawful;
@@ -148,5 +148,5 @@ read_more old new gate count size behind last stored block bytes read few there 
           let at = found image (sym same ∙ told) in
           let here : next_in_log (blocks_in stored) (take size (drop 5 (drop gate image))) ≡ Some block = ap (next_in_log (blocks_in stored)) (sym at.1) ∙ next in
           read.stands image (sym same ∙ told)
-          ∙ goes_on next_in_log (MAX_BLOCKS + 1 - count) (MAX_BLOCKS + 1 - (count + 1)) gate size behind stored image block (omega (arith, few)) there at.0 here;
+          ∙ goes_on next_in_log (MAX_BLOCKS + 1 - count) (MAX_BLOCKS + 1 - (count + 1)) gate size after stored image block (omega (arith, few)) there at.0 here;
     }

@@ -28,20 +28,20 @@ front_eight (a ∷ b ∷ c ∷ d ∷ e ∷ f ∷ []) = refl
 front_eight (a ∷ b ∷ c ∷ d ∷ e ∷ f ∷ g ∷ []) = refl
 front_eight (a ∷ b ∷ c ∷ d ∷ e ∷ f ∷ g ∷ h ∷ image) = refl
 
-behind_gate : (image : List ℕ) → take 7 (drop 1 (take 9 image)) ≡ take 7 (drop 1 image)
-behind_gate image = sym (shifted (take 9 image)) ∙ ap (drop 1) (front_eight image) ∙ shifted image
+after_gate : (image : List ℕ) → take 7 (drop 1 (take 9 image)) ≡ take 7 (drop 1 image)
+after_gate image = sym (shifted (take 9 image)) ∙ ap (drop 1) (front_eight image) ∙ shifted image
   where
     shifted : (bytes : List ℕ) → drop 1 (take 8 bytes) ≡ take 7 (drop 1 bytes)
     shifted [] = refl
     shifted (a ∷ bytes) = refl
 
--- Nothing behind the gate of the first record is looked at.
+-- Nothing after the gate of the first record is looked at.
 pub head_prefix : (image : List ℕ) → head_of (take 9 image) ≡ head_of image
 unfolding head_of
 head_prefix image =
     let long : nat_lt 8 (length (take 9 image)) ≡ nat_lt 8 (length image) = grind (arith, nat_tests, length-take 9 image) in
     let few : nat_le (length (take 9 image)) 1 ≡ nat_le (length image) 1 = grind (arith, nat_tests, length-take 9 image) in
-    rw (long, few, front_eight image, behind_gate image, get_or-take 9 image 0 1 (omega arith), get_or-take 9 image 0 165 (omega arith), get_or-take 9 image 8 165 (omega arith)) refl
+    rw (long, few, front_eight image, after_gate image, get_or-take 9 image 0 1 (omega arith), get_or-take 9 image 0 165 (omega arith), get_or-take 9 image 8 165 (omega arith)) refl
 
 -- ---- what bytes are by their head
 

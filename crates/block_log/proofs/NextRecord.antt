@@ -8,7 +8,7 @@ use Rattle.std.proofs.lemmas.Bool.Decides.{nat_tests}
 use Rattle.byte_fields.specs.Spelling.{IsBytes}
 use Rattle.lc_base.specs.declared.digest.Digest.{Digest}
 use Rattle.lc_io.specs.Disk.{DiskState}
-use Rattle.disk_model.specs.Disk.{Torn, overwritten, Rests, content_of, settled}
+use Rattle.disk_model.specs.Disk.{Torn, bytes_over, Rests, content_of, settled_disk}
 use Rattle.block_codec.specs.Spelling.{Spells}
 use Rattle.block_codec.specs.Reading.{block_in}
 use Rattle.block_codec.specs.Placement.{bytes_digest, digest_of, no_parent, last_digest, is_same_digest, new_placement, placement}
@@ -20,12 +20,12 @@ use Rattle.block_codec.proofs.WholeBlocks.{is_spelled}
 use Rattle.block_log.specs.declared.layout.TheConstants.{OPEN_GATE}
 use Rattle.block_log.specs.declared.layout.Stored.{Stored}
 use Rattle.block_log.specs.Standing.{Holds, Placer, NextBlock, next_decoded, if_next, next_block, blocks_in, blocks_of, standing, chain_of}
-use Rattle.block_log.specs.Log.{LogState, log_placement, next_in_log, IsKept, Agrees, AgreesWithBlocks, AgreesWithBlank, IsNextOf, IsNextAfter, IsOldOrNew, appended}
-use Rattle.block_log.specs.Steps.{rewritten, record_bytes}
+use Rattle.block_log.specs.Log.{LogState, log_placement, next_in_log, IsKeptLog, Agrees, AgreesWithBlocks, AgreesWithBlank, IsNextOf, IsNextAfter, IsOldOrNew, log_with_block}
+use Rattle.block_log.specs.Steps.{synced_write, record_bytes}
 use Rattle.block_log.proofs.Records.{IsLog, log_is, stored_at}
 use Rattle.block_log.proofs.Stricter.{same_blocks}
 use Rattle.block_log.proofs.Resting.{rests_at, rests_on, told_before}
-use Rattle.block_log.proofs.TornRecords.{within, staged_within, torn_behind, torn_gate, written_gate}
+use Rattle.block_log.proofs.TornRecords.{within, staged_within, torn_after, torn_gate, written_gate}
 
 -- ---- where the next block stands
 
@@ -116,16 +116,16 @@ module _ (log seen : LogState) (bytes : List ℕ) (same : log ≡ seen) (seen_ne
   is_next = subst (λ log. IsNextOf log bytes) (sym same) seen_next
 
   abbrev staged : List ℕ → List ℕ
-  staged content = overwritten (log.gate + 1) (record_bytes bytes) content
+  staged content = bytes_over (log.gate + 1) (record_bytes bytes) content
 
   abbrev whole : List ℕ → List ℕ
-  whole content = overwritten log.gate (OPEN_GATE ∷ []) (staged content)
+  whole content = bytes_over log.gate (OPEN_GATE ∷ []) (staged content)
 
   pub short : length bytes ≤ MAX_BLOCK_BYTES
   short = (is_spelled bytes is_next.block fits is_next.decoded).short
 
   -- the bounds of the log with the block
-  pub kept : IsKept log → IsKept (appended log bytes)
+  pub kept : IsKeptLog log → IsKeptLog (log_with_block log bytes)
   kept is =
       let room = (new_next log.count 0 log.last is_next.block is_next.placed).1 in
       record { few = omega (arith, below log.count MAX_BLOCKS is.few room); near = omega (arith, is.near, short); no_block = λ headless. absurd (cc headless) }
@@ -153,7 +153,7 @@ module _ (log seen : LogState) (bytes : List ℕ) (same : log ≡ seen) (seen_ne
       staged_within next_in_log content agrees.stored log.gate bytes is_next.block r.log r.low r.high r.few r.found
 
   -- the log with the block agrees with the bytes
-  agrees_after : (content : List ℕ) → AgreesWithBlocks log content → AgreesWithBlocks (appended log bytes) (whole content)
+  agrees_after : (content : List ℕ) → AgreesWithBlocks log content → AgreesWithBlocks (log_with_block log bytes) (whole content)
   agrees_after content agrees =
       let r = own content agrees in
       let stored = agrees.stored in
@@ -181,21 +181,21 @@ module _ (log seen : LogState) (bytes : List ℕ) (same : log ≡ seen) (seen_ne
     rests : Rests state (Agrees log)
     rests = subst (λ log. Rests state (Agrees log)) (sym same) seen_rests
 
-    at : (content : List ℕ) → content_of state ≡ Some content → (state ≡ Some (settled content)) × AgreesWithBlocks log content
+    at : (content : List ℕ) → content_of state ≡ Some content → (state ≡ Some (settled_disk content)) × AgreesWithBlocks log content
     at content told = let r = rests_at (Agrees log) state content rests told in (r.0, is_blocks content log.is_ready ready r.1)
 
     pub record_within : (content : List ℕ) → content_of state ≡ Some content → log.gate + 1 ≤ length content
     record_within content told = first_within content (at content told).1
 
-    pub gate_within : (mid : Option DiskState) → mid ≡ rewritten (log.gate + 1) (record_bytes bytes) state → (now : List ℕ) → content_of mid ≡ Some now → log.gate ≤ length now
+    pub gate_within : (mid : Option DiskState) → mid ≡ synced_write (log.gate + 1) (record_bytes bytes) state → (now : List ℕ) → content_of mid ≡ Some now → log.gate ≤ length now
     gate_within mid is now told =
         let before = told_before state mid (log.gate + 1) (record_bytes bytes) now is told in
         subst (λ (l : List ℕ). log.gate ≤ length l) (sym before.2) (second_within before.0 (at before.0 before.1).1)
 
-    pub agrees_then : (mid new : Option DiskState) → mid ≡ rewritten (log.gate + 1) (record_bytes bytes) state → new ≡ rewritten log.gate (OPEN_GATE ∷ []) mid → Rests new (Agrees (appended log bytes))
+    pub agrees_then : (mid new : Option DiskState) → mid ≡ synced_write (log.gate + 1) (record_bytes bytes) state → new ≡ synced_write log.gate (OPEN_GATE ∷ []) mid → Rests new (Agrees (log_with_block log bytes))
     agrees_then mid new first second =
-        rests_on (λ c. AgreesWithBlocks (appended log bytes) (overwritten log.gate (OPEN_GATE ∷ []) c)) (Agrees (appended log bytes)) log.gate (OPEN_GATE ∷ []) mid new
-        (rests_on (Agrees log) (λ c. AgreesWithBlocks (appended log bytes) (overwritten log.gate (OPEN_GATE ∷ []) c)) (log.gate + 1) (record_bytes bytes) state mid rests first
+        rests_on (λ c. AgreesWithBlocks (log_with_block log bytes) (bytes_over log.gate (OPEN_GATE ∷ []) c)) (Agrees (log_with_block log bytes)) log.gate (OPEN_GATE ∷ []) mid new
+        (rests_on (Agrees log) (λ c. AgreesWithBlocks (log_with_block log bytes) (bytes_over log.gate (OPEN_GATE ∷ []) c)) (log.gate + 1) (record_bytes bytes) state mid rests first
         (λ c agrees. agrees_after c (is_blocks c log.is_ready ready agrees))) second (λ c agrees. agrees)
 
     module _ (place : Placer) (content : List ℕ) (blocks : List Block) (block : Block) (told : content_of state ≡ Some content) (after : IsNextAfter place content bytes blocks block) where
@@ -215,13 +215,13 @@ module _ (log seen : LogState) (bytes : List ℕ) (same : log ≡ seen) (seen_ne
       with_block : (c : List ℕ) → standing next c ≡ Holds (stored ++ stored_at log.gate block ∷ []) (log.gate + 5 + length bytes) → chain_of next c ≡ Some (blocks ++ block ∷ [])
       with_block c is = ap blocks_of is ∙ ap Some (chain_with stored log.gate blocks block there.1)
 
-      pub rests_there : state ≡ Some (settled content)
+      pub rests_there : state ≡ Some (settled_disk content)
       rests_there = (at content told).0
 
       pub first_leaves : (c : List ℕ) → Torn (log.gate + 1) (length (record_bytes bytes)) content c → IsOldOrNew next blocks block c
       first_leaves c torn =
           let r = there.0 in
-          is_old c (torn_behind next content stored log.gate bytes block r.log r.low r.high r.few r.found c torn)
+          is_old c (torn_after next content stored log.gate bytes block r.log r.low r.high r.few r.found c torn)
 
       either : (c : List ℕ) → (standing next c ≡ Holds stored log.gate) ⊎ (standing next c ≡ Holds (stored ++ stored_at log.gate block ∷ []) (log.gate + 5 + length bytes)) → IsOldOrNew next blocks block c
       either c (inl is) = is_old c is
@@ -232,8 +232,8 @@ module _ (log seen : LogState) (bytes : List ℕ) (same : log ≡ seen) (seen_ne
           let r = there.0 in
           either c (torn_gate next content stored log.gate bytes block r.log r.low r.high r.few r.found c torn)
 
-      pub chain_then : (mid new : Option DiskState) → mid ≡ rewritten (log.gate + 1) (record_bytes bytes) state → new ≡ rewritten log.gate (OPEN_GATE ∷ []) mid → Rests new (λ image. chain_of next image ≡ Some (blocks ++ block ∷ []))
+      pub chain_then : (mid new : Option DiskState) → mid ≡ synced_write (log.gate + 1) (record_bytes bytes) state → new ≡ synced_write log.gate (OPEN_GATE ∷ []) mid → Rests new (λ image. chain_of next image ≡ Some (blocks ++ block ∷ []))
       chain_then mid new first second =
           let r = there.0 in
-          let all : new ≡ Some (settled (whole content)) = second ∙ ap (rewritten log.gate (OPEN_GATE ∷ [])) (first ∙ ap (rewritten (log.gate + 1) (record_bytes bytes)) rests_there) in
+          let all : new ≡ Some (settled_disk (whole content)) = second ∙ ap (synced_write log.gate (OPEN_GATE ∷ [])) (first ∙ ap (synced_write (log.gate + 1) (record_bytes bytes)) rests_there) in
           subst (λ n. Rests n (λ image. chain_of next image ≡ Some (blocks ++ block ∷ []))) (sym all) (refl, with_block (whole content) (written_gate next content stored log.gate bytes block r.log r.low r.high r.few r.found))

@@ -15,21 +15,21 @@ use Rattle.block_log.specs.declared.layout.TheConstants.{OPEN_GATE, FIRST_GATE}
 use Rattle.block_log.specs.declared.layout.Stored.{Stored}
 use Rattle.block_log.specs.Standing.{Standing, Blank, NotALog, Damaged, Holds, Placer, if_next, next_decoded, next_block, blocks_in, blocks_of, after_record, records_at, is_log, is_blank, standing, chain_of}
 use Rattle.block_log.specs.Log.{log_placement, next_in_log, IsStricter}
-use Rattle.block_log.specs.Stricter.{is_next_by, restood, restanding}
+use Rattle.block_log.specs.Stricter.{is_next_by, standing_after, restanding}
 use Rattle.block_log.proofs.Records.{stored_at, is_sized}
 
 -- ---- one step of the fold
 
-pub restood_none : (place : Placer) (held : List Stored) (end : List Stored → Standing) → restood place held [] end ≡ end held
-unfolding restood
+pub restood_none : (place : Placer) (held : List Stored) (end : List Stored → Standing) → standing_after place held [] end ≡ end held
+unfolding standing_after
 restood_none place held end = refl
 
-pub restood_next : (place : Placer) (held : List Stored) (s : Stored) (more : List Stored) (end : List Stored → Standing) → is_next_by place held s.block ≡ true → restood place held (s ∷ more) end ≡ restood place (held ++ s ∷ []) more end
-unfolding restood
+pub restood_next : (place : Placer) (held : List Stored) (s : Stored) (more : List Stored) (end : List Stored → Standing) → is_next_by place held s.block ≡ true → standing_after place held (s ∷ more) end ≡ standing_after place (held ++ s ∷ []) more end
+unfolding standing_after
 restood_next place held s more end is = rw is refl
 
-pub restood_other : (place : Placer) (held : List Stored) (s : Stored) (more : List Stored) (end : List Stored → Standing) → is_next_by place held s.block ≡ false → restood place held (s ∷ more) end ≡ Damaged held s.place
-unfolding restood
+pub restood_other : (place : Placer) (held : List Stored) (s : Stored) (more : List Stored) (end : List Stored → Standing) → is_next_by place held s.block ≡ false → standing_after place held (s ∷ more) end ≡ Damaged held s.place
+unfolding standing_after
 restood_other place held s more end is = rw is refl
 
 -- ---- both placements over the same records
@@ -45,7 +45,7 @@ record Restands (place : Placer) (held : List Stored) (own stricter : Standing) 
   pub closes : Bool
   pub end : ℕ
   pub own_is : own ≡ ended closes end (held ++ more)
-  pub stricter_is : stricter ≡ restood place held more (ended closes end)
+  pub stricter_is : stricter ≡ standing_after place held more (ended closes end)
 
 here : (place : Placer) (held : List Stored) (closes : Bool) (gate : ℕ) → Restands place held (ended closes gate held) (ended closes gate held)
 here place held closes gate = record {
@@ -127,7 +127,7 @@ module _ (place : Placer) (is_stricter : IsStricter place) where
       at_gate (byte == OPEN_GATE) gate held _ _
       (decoded count gate size held (drop size (drop 4 bytes)) (is_sized size (drop 4 bytes)) (block_in (take size (drop 4 bytes))) (λ gate held bytes. restands count gate held bytes))
 
-  restanding_ended : (closes : Bool) (end : ℕ) (stored : List Stored) → restanding place (ended closes end stored) ≡ restood place [] stored (ended closes end)
+  restanding_ended : (closes : Bool) (end : ℕ) (stored : List Stored) → restanding place (ended closes end stored) ≡ standing_after place [] stored (ended closes end)
   restanding_ended true end stored = refl
   restanding_ended false end stored = refl
 
@@ -148,16 +148,16 @@ module _ (place : Placer) (is_stricter : IsStricter place) where
   -- Where a block that the log takes is not the next one by the stricter placement, after blocks that
   -- all are, the log is damaged at its gate.
   pub damaged_at : (image : List ℕ) (count gate : ℕ) (held : List Stored) (s : Stored) (bytes : List ℕ) → standing next_in_log image ≡ records_at next_in_log count gate (held ++ s ∷ []) bytes
-      → ((more : List Stored) (end : List Stored → Standing) → restood place [] (held ++ more) end ≡ restood place held more end) → is_next_by place held s.block ≡ false
+      → ((more : List Stored) (end : List Stored → Standing) → standing_after place [] (held ++ more) end ≡ standing_after place held more end) → is_next_by place held s.block ≡ false
       → standing (next_block block_in place) image ≡ Damaged held s.place
   damaged_at image count gate held s bytes own same other =
       let q = restands count gate (held ++ s ∷ []) bytes in
       stands_stricter image ∙ ap (restanding place) (own ∙ q.own_is) ∙ restanding_ended q.closes q.end ((held ++ s ∷ []) ++ q.more)
-      ∙ ap (λ (all : List Stored). restood place [] all (ended q.closes q.end)) (append_assoc held (s ∷ []) q.more) ∙ same (s ∷ q.more) (ended q.closes q.end)
+      ∙ ap (λ (all : List Stored). standing_after place [] all (ended q.closes q.end)) (append_assoc held (s ∷ []) q.more) ∙ same (s ∷ q.more) (ended q.closes q.end)
       ∙ restood_other place held s q.more (ended q.closes q.end) other
 
   -- what blocks that are all the next ones end in
-  pub restood_all : (held more : List Stored) (gate : ℕ) (blocks : List Block) → blocks_of (restood place held more (λ held. Holds held gate)) ≡ Some blocks → restood place held more (λ held. Holds held gate) ≡ Holds (held ++ more) gate
+  pub restood_all : (held more : List Stored) (gate : ℕ) (blocks : List Block) → blocks_of (standing_after place held more (λ held. Holds held gate)) ≡ Some blocks → standing_after place held more (λ held. Holds held gate) ≡ Holds (held ++ more) gate
   restood_all held [] gate blocks is = restood_none place held (λ held. Holds held gate) ∙ ap (λ (held : List Stored). Holds held gate) (sym (append-nil held))
   restood_all held (s ∷ more) gate blocks is = elim (cases_Bool (is_next_by place held s.block)) [
     | inl next ↦

@@ -5,11 +5,11 @@ use Rattle.std.specs.Cmp.Lexicographic.{pointwise, same_text}
 use Rattle.std.proofs.lemmas.List.{take-append-drop, length-drop, drop_more, get_or-drop}
 use Rattle.std.proofs.lemmas.Bool.{cases_eq, cases_lt}
 use Rattle.std.proofs.lemmas.Bool.Decides.{nat_tests}
-use Rattle.disk_model.specs.Disk.{Torn, overwritten}
+use Rattle.disk_model.specs.Disk.{Torn, bytes_over}
 use Rattle.block_codec.specs.declared.limits.TheConstants.{MAX_BLOCKS}
 use Rattle.block_log.specs.declared.layout.TheConstants.{OPEN_GATE, CLOSED_GATE, FIRST_GATE}
 use Rattle.block_log.specs.Standing.{Blank, Holds, NextBlock, is_log, is_blank, standing, magic, blocks_of, chain_of}
-use Rattle.block_log.specs.Log.{LogState, IsBlank, IsKept, Agrees, next_in_log, created}
+use Rattle.block_log.specs.Log.{LogState, IsBlank, IsKeptLog, Agrees, next_in_log, log_with_head}
 use Rattle.block_log.specs.Steps.{HasClosedHead, IsPrepared, HasNoBlock}
 use Rattle.block_log.proofs.Records.{closed_records}
 use Rattle.block_log.proofs.Stricter.{blank_is}
@@ -26,6 +26,14 @@ short_stands next image short = blank_stands next image (grind (arith, nat_tests
 -- a closed head gate, as creation writes it first
 pub begun_stands : (next : NextBlock) (rest : List ℕ) → standing next (CLOSED_GATE ∷ rest) ≡ Blank
 begun_stands next rest = blank_stands next (CLOSED_GATE ∷ rest) (grind (arith, nat_tests)) (grind (arith, nat_tests))
+
+-- a head gate that is closed already
+pub begun_head : (content : List ℕ) → IsBlank true content → HasClosedHead content
+begun_head [] blank = let begun : true ≡ (get_or {A = ℕ} [] 0 1 == 0) = blank.begun_is in absurd (cc begun)
+begun_head (byte ∷ rest) blank =
+    let begun : true ≡ (get_or (byte ∷ rest) 0 1 == 0) = blank.begun_is in
+    let closed : byte ≡ CLOSED_GATE = grind (arith, nat_tests, begun) in
+    record { rest = rest; is = ap (λ (b : ℕ). b ∷ rest) closed }
 
 -- ---- the magic between two gates
 
@@ -59,13 +67,13 @@ first_torn old c torn some = drop_more c 0 0 (omega (arith, torn.no_shorter, som
 magic_there : (image : List ℕ) → is_blank image ≡ true → get_or image 0 1 == 0 ≡ false → 1 < length image → (gate : ℕ) × (rest : List ℕ) × (gate == OPEN_GATE ≡ false) × (drop 1 image ≡ magic ++ gate ∷ rest)
 magic_there image blank other more =
     let long : 8 < length image = grind (arith, nat_tests) in
-    let behind = drop 1 image in
-    let seven : true ≡ pointwise ◌==◌ (take 7 behind) magic = grind (arith, nat_tests) in
+    let later = drop 1 image in
+    let seven : true ≡ pointwise ◌==◌ (take 7 later) magic = grind (arith, nat_tests) in
     let shut : get_or image 8 OPEN_GATE == OPEN_GATE ≡ false = grind (arith, nat_tests) in (
-      get_or behind 7 OPEN_GATE,
-      drop 8 behind,
+      get_or later 7 OPEN_GATE,
+      drop 8 later,
       ap (λ g. g == OPEN_GATE) (get_or-drop 1 image 7 OPEN_GATE) ∙ shut,
-      sym (take-append-drop 7 behind) ∙ ap (λ (l : List ℕ). l ++ drop 7 behind) (same_text (take 7 behind) magic seven) ∙ ap (λ (l : List ℕ). magic ++ l) (drop_more behind 7 OPEN_GATE (omega (arith, long, length-drop 1 image))),
+      sym (take-append-drop 7 later) ∙ ap (λ (l : List ℕ). l ++ drop 7 later) (same_text (take 7 later) magic seven) ∙ ap (λ (l : List ℕ). magic ++ l) (drop_more later 7 OPEN_GATE (omega (arith, long, length-drop 1 image))),
     )
 
 -- the first step, at bytes that do not begin with 0
@@ -89,8 +97,8 @@ third_step content prepared c torn next =
     let whole = first_torn old c (subst (λ l. Torn 0 1 l c) prepared.is torn) (omega arith) in
     ap (chain_of next) whole ∙ any_head (get_or c 0 0) CLOSED_GATE prepared.rest refl next
 
-pub third_done : (next : NextBlock) (content : List ℕ) → IsPrepared content → standing next (overwritten 0 (OPEN_GATE ∷ []) content) ≡ Holds [] FIRST_GATE
-third_done next content prepared = ap (λ (l : List ℕ). standing next (overwritten 0 (OPEN_GATE ∷ []) l)) prepared.is ∙ opened_stands next CLOSED_GATE prepared.rest refl
+pub third_done : (next : NextBlock) (content : List ℕ) → IsPrepared content → standing next (bytes_over 0 (OPEN_GATE ∷ []) content) ≡ Holds [] FIRST_GATE
+third_done next content prepared = ap (λ (l : List ℕ). standing next (bytes_over 0 (OPEN_GATE ∷ []) l)) prepared.is ∙ opened_stands next CLOSED_GATE prepared.rest refl
 
-pub created_agrees : (log : LogState) → IsKept log → log.is_ready ≡ false → (content : List ℕ) → IsPrepared content → Agrees (created log) (overwritten 0 (OPEN_GATE ∷ []) content)
+pub created_agrees : (log : LogState) → IsKeptLog log → log.is_ready ≡ false → (content : List ℕ) → IsPrepared content → Agrees (log_with_head log) (bytes_over 0 (OPEN_GATE ∷ []) content)
 created_agrees log kept headless content prepared = let none = kept.no_block headless in record { stored = []; stands = third_done next_in_log content prepared; count_is = none.0; last_is = none.1 }

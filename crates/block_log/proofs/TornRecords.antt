@@ -6,7 +6,7 @@ use Rattle.std.proofs.lemmas.Nat.{from_be_bytes-to_be_bytes_4}
 use Rattle.std.proofs.lemmas.List.{take_at, drop_at, drop_more, length-append, take-append-drop}
 use Rattle.std.proofs.lemmas.Bool.{cases_eq}
 use Rattle.std.proofs.lemmas.Bool.Decides.{nat_tests}
-use Rattle.disk_model.specs.Disk.{Torn, overwritten}
+use Rattle.disk_model.specs.Disk.{Torn, bytes_over}
 use Rattle.block_codec.specs.declared.limits.TheConstants.{MAX_BLOCK_BYTES, MAX_BLOCKS}
 use Rattle.block_codec.specs.declared.block.Block.{Block}
 use Rattle.block_log.specs.declared.layout.TheConstants.{OPEN_GATE, CLOSED_GATE}
@@ -33,10 +33,10 @@ module _ (next : NextBlock) (content : List ℕ) (stored : List Stored) (gate : 
   record_there = record_bytes bytes
 
   abbrev staged : List ℕ
-  staged = overwritten (gate + 1) record_there content
+  staged = bytes_over (gate + 1) record_there content
 
-  abbrev behind : List ℕ
-  behind = record_there ++ drop (gate + 1 + length record_there) content
+  abbrev later : List ℕ
+  later = record_there ++ drop (gate + 1 + length record_there) content
 
   with_gate : content ≡ (log.front ++ log.byte ∷ []) ++ log.junk
   with_gate = log.is ∙ sym (append_assoc log.front (log.byte ∷ []) log.junk)
@@ -51,50 +51,50 @@ module _ (next : NextBlock) (content : List ℕ) (stored : List Stored) (gate : 
   within = omega (arith, ap (length {A = ℕ}) with_gate, gate_size, length-append (log.front ++ log.byte ∷ []) log.junk)
 
   -- the closed gate stands in each outcome of the first write
-  pub torn_behind : (c : List ℕ) → Torn (gate + 1) (length record_there) content c → standing next c ≡ Holds stored gate
-  torn_behind c torn =
+  pub torn_after : (c : List ℕ) → Torn (gate + 1) (length record_there) content c → standing next c ≡ Holds stored gate
+  torn_after c torn =
       let rest = drop (gate + 1) c in
       let whole : c ≡ log.front ++ log.byte ∷ rest =
       sym (take-append-drop (gate + 1) c) ∙ ap (λ (l : List ℕ). l ++ rest) (torn.before ∙ up_to_gate) ∙ append_assoc log.front (log.byte ∷ []) rest in
       ap (standing next) whole ∙ log.stands log.byte rest ∙ closed_records next log.left gate stored log.byte rest log.closed
 
-  staged_is : staged ≡ log.front ++ log.byte ∷ behind
-  staged_is = ap (λ (l : List ℕ). l ++ record_there ++ drop (gate + 1 + length record_there) content) up_to_gate ∙ append_assoc (log.front ++ log.byte ∷ []) record_there (drop (gate + 1 + length record_there) content) ∙ append_assoc log.front (log.byte ∷ []) behind
+  staged_is : staged ≡ log.front ++ log.byte ∷ later
+  staged_is = ap (λ (l : List ℕ). l ++ record_there ++ drop (gate + 1 + length record_there) content) up_to_gate ∙ append_assoc (log.front ++ log.byte ∷ []) record_there (drop (gate + 1 + length record_there) content) ∙ append_assoc log.front (log.byte ∷ []) later
 
   pub staged_within : gate ≤ length staged
-  staged_within = omega (arith, ap (length {A = ℕ}) staged_is, log.size, length-append log.front (log.byte ∷ behind))
+  staged_within = omega (arith, ap (length {A = ℕ}) staged_is, log.size, length-append log.front (log.byte ∷ later))
 
   staged_front : take gate staged ≡ log.front
-  staged_front = ap (take gate) staged_is ∙ take_at log.front (log.byte ∷ behind) gate log.size
+  staged_front = ap (take gate) staged_is ∙ take_at log.front (log.byte ∷ later) gate log.size
 
-  staged_back : drop (gate + 1) staged ≡ behind
-  staged_back = ap (drop (gate + 1)) (staged_is ∙ sym (append_assoc log.front (log.byte ∷ []) behind)) ∙ drop_at (log.front ++ log.byte ∷ []) behind (gate + 1) gate_size
+  staged_back : drop (gate + 1) staged ≡ later
+  staged_back = ap (drop (gate + 1)) (staged_is ∙ sym (append_assoc log.front (log.byte ∷ []) later)) ∙ drop_at (log.front ++ log.byte ∷ []) later (gate + 1) gate_size
 
   one_left : (l : ℕ) × (log.left ≡ suc l)
   one_left = (pred log.left, grind (arith, nat_tests, few, log.count_is))
 
-  opened : standing next (log.front ++ OPEN_GATE ∷ behind) ≡ Holds (stored ++ stored_at gate block ∷ []) (gate + 5 + length bytes)
-  opened = log.stands OPEN_GATE behind ∙ ap (λ n. records_at next (suc n) gate stored (OPEN_GATE ∷ behind)) one_left.1 ∙ open_record next one_left.0 gate stored bytes (drop (gate + 1 + length record_there) content) block low high found
+  opened : standing next (log.front ++ OPEN_GATE ∷ later) ≡ Holds (stored ++ stored_at gate block ∷ []) (gate + 5 + length bytes)
+  opened = log.stands OPEN_GATE later ∙ ap (λ n. records_at next (suc n) gate stored (OPEN_GATE ∷ later)) one_left.1 ∙ open_record next one_left.0 gate stored bytes (drop (gate + 1 + length record_there) content) block low high found
 
-  -- the record stands whole behind any gate
-  any_gate : (g : ℕ) → (standing next (log.front ++ g ∷ behind) ≡ Holds stored gate) ⊎ (standing next (log.front ++ g ∷ behind) ≡ Holds (stored ++ stored_at gate block ∷ []) (gate + 5 + length bytes))
+  -- the record stands whole after any gate
+  any_gate : (g : ℕ) → (standing next (log.front ++ g ∷ later) ≡ Holds stored gate) ⊎ (standing next (log.front ++ g ∷ later) ≡ Holds (stored ++ stored_at gate block ∷ []) (gate + 5 + length bytes))
   any_gate g = elim (cases_eq g OPEN_GATE) [
-    | inl open_gate ↦ inr (ap (λ h. standing next (log.front ++ h ∷ behind)) open_gate ∙ opened)
-    | inr shut ↦ inl (log.stands g behind ∙ closed_records next log.left gate stored g behind (grind (arith, nat_tests)))
+    | inl open_gate ↦ inr (ap (λ h. standing next (log.front ++ h ∷ later)) open_gate ∙ opened)
+    | inr shut ↦ inl (log.stands g later ∙ closed_records next log.left gate stored g later (grind (arith, nat_tests)))
   ]
 
   pub torn_gate : (c : List ℕ) → Torn gate 1 staged c → (standing next c ≡ Holds stored gate) ⊎ (standing next c ≡ Holds (stored ++ stored_at gate block ∷ []) (gate + 5 + length bytes))
   torn_gate c torn =
-      let long : gate < length c = omega (arith, torn.no_shorter, ap (length {A = ℕ}) staged_is, log.size, length-append log.front (log.byte ∷ behind)) in
+      let long : gate < length c = omega (arith, torn.no_shorter, ap (length {A = ℕ}) staged_is, log.size, length-append log.front (log.byte ∷ later)) in
       let g = get_or c gate 0 in
-      let whole : c ≡ log.front ++ g ∷ behind =
+      let whole : c ≡ log.front ++ g ∷ later =
       sym (take-append-drop gate c) ∙ ap (λ (l : List ℕ). l ++ drop gate c) (torn.before ∙ staged_front)
       ∙ ap (λ (l : List ℕ). log.front ++ l) (drop_more c gate 0 long ∙ ap (λ (l : List ℕ). g ∷ l) (torn.after ∙ staged_back)) in
       subst (λ d. (standing next d ≡ Holds stored gate) ⊎ (standing next d ≡ Holds (stored ++ stored_at gate block ∷ []) (gate + 5 + length bytes))) (sym whole) (any_gate g)
 
   -- and is there once the gate is written
-  pub written_gate : standing next (overwritten gate (OPEN_GATE ∷ []) staged) ≡ Holds (stored ++ stored_at gate block ∷ []) (gate + 5 + length bytes)
+  pub written_gate : standing next (bytes_over gate (OPEN_GATE ∷ []) staged) ≡ Holds (stored ++ stored_at gate block ∷ []) (gate + 5 + length bytes)
   written_gate =
-      let whole : overwritten gate (OPEN_GATE ∷ []) staged ≡ log.front ++ OPEN_GATE ∷ behind =
-      ap (λ (l : List ℕ). l ++ (OPEN_GATE ∷ []) ++ drop (gate + 1) staged) staged_front ∙ ap (λ (l : List ℕ). log.front ++ (OPEN_GATE ∷ []) ++ l) staged_back ∙ append_assoc log.front (OPEN_GATE ∷ []) behind in
+      let whole : bytes_over gate (OPEN_GATE ∷ []) staged ≡ log.front ++ OPEN_GATE ∷ later =
+      ap (λ (l : List ℕ). l ++ (OPEN_GATE ∷ []) ++ drop (gate + 1) staged) staged_front ∙ ap (λ (l : List ℕ). log.front ++ (OPEN_GATE ∷ []) ++ l) staged_back ∙ append_assoc log.front (OPEN_GATE ∷ []) later in
       ap (standing next) whole ∙ opened

@@ -123,15 +123,15 @@ refused next zero gate size stored bytes some is none = absurd (omega (arith, so
 refused next (suc more) gate size stored bytes some is none =
     turned next more gate stored bytes ∙ ap (turn next more gate stored bytes) is ∙ ap (after_record (records_at next more) gate size stored (drop size (drop 5 bytes))) none
 
--- After the next block reading goes on at the gate behind it.
-pub goes_on : (next : NextBlock) (n left gate size behind : ℕ) (stored : List Stored) (content : List ℕ) (block : Block) → n ≡ left + 1 → behind ≡ gate + (5 + size) → record_of (drop gate content) ≡ records.Open size → next (blocks_in stored) (take size (drop 5 (drop gate content))) ≡ Some block
-    → records_at next n gate stored (drop gate content) ≡ records_at next left behind (stored ++ stored_at gate block ∷ []) (drop behind content)
-goes_on next n left gate size behind stored content block fuel there is found =
+-- After the next block reading goes on at the gate after it.
+pub goes_on : (next : NextBlock) (n left gate size after : ℕ) (stored : List Stored) (content : List ℕ) (block : Block) → n ≡ left + 1 → after ≡ gate + (5 + size) → record_of (drop gate content) ≡ records.Open size → next (blocks_in stored) (take size (drop 5 (drop gate content))) ≡ Some block
+    → records_at next n gate stored (drop gate content) ≡ records_at next left after (stored ++ stored_at gate block ∷ []) (drop after content)
+goes_on next n left gate size after stored content block fuel there is found =
     let bytes = drop gate content in
     let count : n ≡ suc left = omega (arith, fuel) in
-    let at : gate + 5 + size ≡ behind = omega (arith, there) in
-    let rest : drop size (drop 5 bytes) ≡ drop behind content = drop-drop size 5 bytes ∙ drop-drop (5 + size) gate content ∙ ap (λ k. drop k content) (omega (arith, there)) in
+    let at : gate + 5 + size ≡ after = omega (arith, there) in
+    let rest : drop size (drop 5 bytes) ≡ drop after content = drop-drop size 5 bytes ∙ drop-drop (5 + size) gate content ∙ ap (λ k. drop k content) (omega (arith, there)) in
     ap (λ k. records_at next k gate stored bytes) count ∙ turned next left gate stored bytes ∙ ap (turn next left gate stored bytes) is
     ∙ ap (after_record (records_at next left) gate size stored (drop size (drop 5 bytes))) found
     ∙ ap (λ k. records_at next left k (stored ++ stored_at gate block ∷ []) (drop size (drop 5 bytes))) at
-    ∙ ap (records_at next left behind (stored ++ stored_at gate block ∷ [])) rest
+    ∙ ap (records_at next left after (stored ++ stored_at gate block ∷ [])) rest

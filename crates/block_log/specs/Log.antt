@@ -41,7 +41,7 @@ pub record LogState : Type 0 where
 
 -- Bounds of what a log keeps, by which every offset in it fits a u64; without a head it has no
 -- block.
-pub record IsKept (log : LogState) : Type 0 where
+pub record IsKeptLog (log : LogState) : Type 0 where
   pub few : log.count ≤ MAX_BLOCKS
   pub near : log.gate ≤ FIRST_GATE + log.count * MAX_RECORD_BYTES
   pub no_block : log.is_ready ≡ false → (log.count ≡ 0) × (log.last ≡ no_parent)
@@ -87,12 +87,12 @@ IsStarted log stored image = Agrees log image × MatchBool log.is_ready (standin
 -- ---- what its calls do
 
 -- The log with a head, and no block.
-abbrev pub created : LogState → LogState
-created log = record { gate = FIRST_GATE; count = log.count; last = log.last; is_ready = true; is_begun = false }
+abbrev pub log_with_head : LogState → LogState
+log_with_head log = record { gate = FIRST_GATE; count = log.count; last = log.last; is_ready = true; is_begun = false }
 
 -- The log with one more block, of these bytes.
-abbrev pub appended : LogState → List ℕ → LogState
-appended log bytes = record { gate = log.gate + 5 + length bytes; count = log.count + 1; last = bytes_digest bytes; is_ready = true; is_begun = log.is_begun }
+abbrev pub log_with_block : LogState → List ℕ → LogState
+log_with_block log bytes = record { gate = log.gate + 5 + length bytes; count = log.count + 1; last = bytes_digest bytes; is_ready = true; is_begun = log.is_begun }
 
 -- These bytes are the next block of the log.
 pub record IsNextOf (log : LogState) (bytes : List ℕ) : Type 0 where

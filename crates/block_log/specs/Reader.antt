@@ -16,8 +16,8 @@ use Rattle.block_log.specs.declared.reader.Found.{Found}
 use Rattle.block_log.specs.declared.reader.Found.TheVariants as founds
 use Rattle.block_log.specs.declared.reader.Turn.{Turn}
 use Rattle.block_log.specs.declared.reader.Turn.TheVariants as turns
-use Rattle.block_log.specs.declared.reader.ReadError.{ReadError}
-use Rattle.block_log.specs.declared.reader.ReadError.TheVariants as faults
+use Rattle.lc_base.specs.declared.host_error.HostError.{HostError}
+use Rattle.lc_base.specs.declared.host_error.HostError.TheVariants as faults
 use Rattle.block_log.specs.declared.start.Opened.{Opened}
 use Rattle.block_log.specs.declared.start.Opened.TheVariants as openeds
 
@@ -33,7 +33,7 @@ blank_log is_begun = record { gate = FIRST_GATE; count = 0; last = no_parent; is
 
 -- ---- blocks that are read one after another
 
--- Whether the content is told or not, these blocks were read so far: they are a chain, each with its
+-- Whether the content is known or not, these blocks were read so far: they are a chain, each with its
 -- digest, and the log is that of them, up to the next gate. What is told of the content stands for
 -- what the records from that gate on stand for after them.
 pub record AreRead (log : LogState) (content : Option (List ℕ)) (stored : List Stored) : Type 0 where
@@ -41,7 +41,7 @@ pub record AreRead (log : LogState) (content : Option (List ℕ)) (stored : List
   pub held : HoldsBlocks log stored
   pub stands : (image : List ℕ) → content ≡ Some image → standing next_in_log image ≡ records_at next_in_log (MAX_BLOCKS + 1 - log.count) log.gate stored (drop log.gate image)
 
--- Whether the content is told or not, these blocks were read, and are all: the log agrees with what is
+-- Whether the content is known or not, these blocks were read, and are all: the log agrees with what is
 -- told of it.
 pub record AreAll (log : LogState) (content : Option (List ℕ)) (stored : List Stored) : Type 0 where
   pub are_stored : AreStored stored
@@ -81,8 +81,8 @@ IfBlock old (turns.End log) = Unit {0}
 -- ---- one record
 
 -- The error as the log tells it.
-abbrev pub log_error : ReadError → LogError
-log_error faults.DiskFault = errors.DiskFault
+abbrev pub log_error : HostError → LogError
+log_error faults.Fault = errors.DiskFault
 log_error faults.Memory = errors.Memory
 
 -- A block that is stored after the gate at this offset.
@@ -98,18 +98,18 @@ next_of count last bytes = next_block block_in (λ blocks block. new_placement c
 abbrev pub IsFound : Option (List ℕ) → ℕ → ℕ → List Stored → Found → Type 0
 IsFound content gate count stored founds.Closed = (image : List ℕ) → content ≡ Some image → standing next_in_log image ≡ Holds stored gate
 IsFound content gate count stored founds.Broken = (image : List ℕ) → content ≡ Some image → standing next_in_log image ≡ Damaged stored gate
-IsFound content gate count stored (founds.Next next behind) = AreRead (log_at behind (count + 1) next.digest) content (stored ++ next ∷ [])
+IsFound content gate count stored (founds.Next next after) = AreRead (log_at after (count + 1) next.digest) content (stored ++ next ∷ [])
 
--- A block that is found has its own digest; the gate behind it is at most a record away, and the log
+-- A block that is found has its own digest; the gate after it is at most a record away, and the log
 -- had room for it.
-pub record IsNear (gate count : ℕ) (next : Stored) (behind : ℕ) : Type 0 where
+pub record IsNear (gate count : ℕ) (next : Stored) (after : ℕ) : Type 0 where
   pub lawful : IsBlock next.block
   pub digest_is : next.digest ≡ digest_of next.block
   pub place_is : next.place ≡ gate
-  pub near : behind ≤ gate + MAX_RECORD_BYTES
+  pub near : after ≤ gate + MAX_RECORD_BYTES
   pub few : count < MAX_BLOCKS
 
 abbrev pub IfNear : ℕ → ℕ → Found → Type 0
 IfNear gate count founds.Closed = Unit {0}
 IfNear gate count founds.Broken = Unit {0}
-IfNear gate count (founds.Next next behind) = IsNear gate count next behind
+IfNear gate count (founds.Next next after) = IsNear gate count next after

@@ -11,13 +11,13 @@ is_next_by place held block = is_some (if_next block (place (blocks_in held) blo
 
 -- Stored blocks, taken one by one after others as long as each is the next one; then they end so. At
 -- the first that is not the next one the log is damaged, at the gate of its record.
-unfoldable pub restood : Placer → List Stored → List Stored → (List Stored → Standing) → Standing
-restood place held [] end = end held
-restood place held (s ∷ more) end = if is_next_by place held s.block then restood place (held ++ s ∷ []) more end else Damaged held s.place
+unfoldable pub standing_after : Placer → List Stored → List Stored → (List Stored → Standing) → Standing
+standing_after place held [] end = end held
+standing_after place held (s ∷ more) end = if is_next_by place held s.block then standing_after place (held ++ s ∷ []) more end else Damaged held s.place
 
 -- What bytes stand for by this placement, from what they stand for by the log's own.
 abbrev pub restanding : Placer → Standing → Standing
 restanding place Blank = Blank
 restanding place NotALog = NotALog
-restanding place (Damaged stored gate) = restood place [] stored (λ held. Damaged held gate)
-restanding place (Holds stored gate) = restood place [] stored (λ held. Holds held gate)
+restanding place (Damaged stored gate) = standing_after place [] stored (λ held. Damaged held gate)
+restanding place (Holds stored gate) = standing_after place [] stored (λ held. Holds held gate)

@@ -1,16 +1,22 @@
 //! Appending to a log.
 
-ghost use Rattle.std.specs.Prelude.{◌≡◌, ◌≤◌, ◌+◌, true, List, ℕ, [], ◌∷◌, ◌++◌, length, take, Some, IfOk, IsErr};
-ghost use Rattle.std.specs.Option.{is_some};
+ghost use Rattle.std.specs.{
+  Prelude.{◌≡◌, ◌≤◌, ◌+◌, true, List, ℕ, [], ◌∷◌, ◌++◌, length, take, Some, IfOk, IsErr},
+  Option.{is_some},
+};
 ghost use Rattle.lc_base.specs.Faults.{HasCause};
 ghost use Rattle.disk_model.specs.Disk.{Keeps, Rests, content_of};
-ghost use Rattle.block_codec.specs.Reading.{block_in};
-ghost use Rattle.block_codec.specs.declared.block.Block.{Block};
-ghost use Rattle.block_codec.specs.declared.limits.TheConstants.{MAX_BLOCK_BYTES};
-ghost use Rattle.block_log.specs.declared.layout.TheConstants.{MAX_RECORD_BYTES};
-ghost use Rattle.block_log.specs.Standing.{Placer, next_block, chain_of};
-ghost use Rattle.block_log.specs.Log.{Agrees, IsNextOf, IsNextAfter, IsOldOrNew, appended};
-ghost use Rattle.block_log.specs.Steps.{record_bytes};
+ghost use Rattle.block_codec.specs.{
+  Reading.{block_in},
+  declared.block.Block.{Block},
+  declared.limits.TheConstants.{MAX_BLOCK_BYTES},
+};
+ghost use Rattle.block_log.specs.{
+  declared.layout.TheConstants.{MAX_RECORD_BYTES},
+  Standing.{Placer, next_block, chain_of},
+  Log.{Agrees, IsNextOf, IsNextAfter, IsOldOrNew, log_with_block},
+  Steps.{record_bytes},
+};
 
 use crate::error::DiskFault;
 use crate::layout::{CLOSED_GATE, OPEN_GATE};
@@ -51,7 +57,7 @@ impl Log {
         requires ready { self.is_ready ≡ true }
         requires agrees { Rests (M.disk machine.old (M.now machine.old)) (Agrees self) }
         requires next { IsNextOf self bytes.now }
-        ensures appended { IfOk result (λ log. log ≡ appended self bytes.now) }
+        ensures appended { IfOk result (λ log. log ≡ log_with_block self bytes.now) }
         ensures agrees { IfOk result (λ log. Rests (M.disk machine.new (M.now machine.new)) (Agrees log)) }
         // A crash at any moment of the call leaves the chain from before it, or that with the block.
         ensures images { (place : Placer) (content : List ℕ) (blocks : List Block) (block : Block) → content_of (M.disk machine.old (M.now machine.old)) ≡ Some content
@@ -59,7 +65,7 @@ impl Log {
         ensures added { IfOk result (λ log. (place : Placer) (content : List ℕ) (blocks : List Block) (block : Block) → content_of (M.disk machine.old (M.now machine.old)) ≡ Some content
             → IsNextAfter place content bytes.now blocks block
             → Rests (M.disk machine.new (M.now machine.new)) (λ image. chain_of (next_block block_in place) image ≡ Some (blocks ++ block ∷ []))) }
-        ensures still_told { IfOk result (λ log. is_some (M.disk machine.new (M.now machine.new)) ≡ is_some (M.disk machine.old (M.now machine.old))) }
+        ensures still_known { IfOk result (λ log. is_some (M.disk machine.new (M.now machine.new)) ≡ is_some (M.disk machine.old (M.now machine.old))) }
         ensures told { M.told machine.new ≡ M.told machine.old }
         ensures wire_faults { M.wire_faults machine.new ≡ M.wire_faults machine.old }
         ensures cause { HasCause (M.disk_faults machine.old) (M.disk_faults machine.new) (IsErr result) }

@@ -1,12 +1,16 @@
 //! Making the head of a log.
 
-ghost use Rattle.std.specs.Prelude.{◌≡◌, false, List, ℕ, [], Some, IfOk, OnOk, IsErr};
-ghost use Rattle.std.specs.Option.{is_some};
+ghost use Rattle.std.specs.{
+  Prelude.{◌≡◌, false, List, ℕ, [], Some, IfOk, IsErr},
+  Option.{is_some},
+};
 ghost use Rattle.lc_base.specs.Faults.{HasCause};
-ghost use Rattle.disk_model.specs.Disk.{Keeps, Rests, content_of};
-ghost use Rattle.block_log.specs.Standing.{NextBlock, chain_of};
-ghost use Rattle.block_log.specs.Log.{Agrees, IsBlank, created};
-ghost use Rattle.block_log.specs.Steps.{HasClosedHead, IsPrepared, HasNoBlock};
+ghost use Rattle.disk_model.specs.{Disk.{Keeps, Rests, content_of}, Leaving.{LeavesWire}};
+ghost use Rattle.block_log.specs.{
+  Standing.{NextBlock, chain_of},
+  Log.{Agrees, IsBlank, log_with_head},
+  Steps.{HasClosedHead, IsPrepared, MakesHead},
+};
 
 use crate::error::DiskFault;
 use crate::layout::{CLOSED_GATE, FIRST_GATE, MAGIC, OPEN_GATE};
@@ -18,11 +22,8 @@ use disk_model::Disk;
 // that is not written yet.
 fn close_head<M: Disk>(machine: &mut M, is_begun: bool) -> Result<(), DiskFault>
     requires blank { Rests (M.disk machine.old (M.now machine.old)) (IsBlank is_begun) }
-    ensures closed { OnOk result (Rests (M.disk machine.new (M.now machine.new)) HasClosedHead) }
-    ensures images { (content : List ℕ) → content_of (M.disk machine.old (M.now machine.old)) ≡ Some content → Keeps M.now M.disk machine.old machine.new HasNoBlock }
-    ensures still_told { OnOk result (is_some (M.disk machine.new (M.now machine.new)) ≡ is_some (M.disk machine.old (M.now machine.old))) }
-    ensures told { M.told machine.new ≡ M.told machine.old }
-    ensures wire_faults { M.wire_faults machine.new ≡ M.wire_faults machine.old }
+    ensures makes { MakesHead M.now M.disk HasClosedHead machine.old machine.new result }
+    ensures wire { LeavesWire M.told M.wire_faults machine.old machine.new }
     ensures cause { HasCause (M.disk_faults machine.old) (M.disk_faults machine.new) (IsErr result) }
 {
     if is_begun {
@@ -34,11 +35,8 @@ fn close_head<M: Disk>(machine: &mut M, is_begun: bool) -> Result<(), DiskFault>
 // The first two steps.
 fn prepare<M: Disk>(machine: &mut M, is_begun: bool) -> Result<(), DiskFault>
     requires blank { Rests (M.disk machine.old (M.now machine.old)) (IsBlank is_begun) }
-    ensures prepared { OnOk result (Rests (M.disk machine.new (M.now machine.new)) IsPrepared) }
-    ensures images { (content : List ℕ) → content_of (M.disk machine.old (M.now machine.old)) ≡ Some content → Keeps M.now M.disk machine.old machine.new HasNoBlock }
-    ensures still_told { OnOk result (is_some (M.disk machine.new (M.now machine.new)) ≡ is_some (M.disk machine.old (M.now machine.old))) }
-    ensures told { M.told machine.new ≡ M.told machine.old }
-    ensures wire_faults { M.wire_faults machine.new ≡ M.wire_faults machine.old }
+    ensures makes { MakesHead M.now M.disk IsPrepared machine.old machine.new result }
+    ensures wire { LeavesWire M.told M.wire_faults machine.old machine.new }
     ensures cause { HasCause (M.disk_faults machine.old) (M.disk_faults machine.new) (IsErr result) }
 {
     close_head(machine, is_begun)?;
@@ -54,14 +52,14 @@ impl Log {
     pub fn create<M: Disk>(self, machine: &mut M) -> Result<Log, DiskFault>
         requires headless { self.is_ready ≡ false }
         requires agrees { Rests (M.disk machine.old (M.now machine.old)) (Agrees self) }
-        ensures created { IfOk result (λ log. log ≡ created self) }
+        ensures created { IfOk result (λ log. log ≡ log_with_head self) }
         ensures agrees { IfOk result (λ log. Rests (M.disk machine.new (M.now machine.new)) (Agrees log)) }
         // A crash at any moment of the call leaves no block, whatever block comes next.
         ensures images { (next : NextBlock) (content : List ℕ) → content_of (M.disk machine.old (M.now machine.old)) ≡ Some content
             → Keeps M.now M.disk machine.old machine.new (λ image. chain_of next image ≡ Some []) }
         ensures empty { IfOk result (λ log. (next : NextBlock) → Rests (M.disk machine.new (M.now machine.new)) (λ image. chain_of next image ≡ Some [])) }
-        // Where it has answered Ok the disk is told as it was at entry.
-        ensures still_told { IfOk result (λ log. is_some (M.disk machine.new (M.now machine.new)) ≡ is_some (M.disk machine.old (M.now machine.old))) }
+        // Where it has answered Ok the disk is known as it was at entry.
+        ensures still_known { IfOk result (λ log. is_some (M.disk machine.new (M.now machine.new)) ≡ is_some (M.disk machine.old (M.now machine.old))) }
         ensures told { M.told machine.new ≡ M.told machine.old }
         ensures wire_faults { M.wire_faults machine.new ≡ M.wire_faults machine.old }
         ensures cause { HasCause (M.disk_faults machine.old) (M.disk_faults machine.new) (IsErr result) }

@@ -1,5 +1,8 @@
 //! Why a log could not be started, or a call of it went no further.
 
+ghost use Rattle.std.specs.Prelude.{◌≡◌};
+
+use lc_base::{HostError, Memory};
 use lc_io::Failed;
 
 /// Why there is no log to start with.
@@ -13,6 +16,39 @@ pub enum LogError {
     DiskFault,
     /// Out of memory.
     Memory,
+}
+
+impl From<HostError> for LogError {
+    ghost use Rattle.block_log.specs.Reader.{log_error};
+
+    ghost from_gives = { λ failed error. error ≡ log_error failed };
+
+    fn from(error: HostError) -> LogError {
+        match error {
+            HostError::Fault => LogError::DiskFault,
+            HostError::Memory => LogError::Memory,
+        }
+    }
+}
+
+impl From<Failed> for LogError {
+    ghost use Rattle.block_log.specs.declared.error.LogError.TheVariants.{DiskFault};
+
+    ghost from_gives = { λ _ error. error ≡ DiskFault };
+
+    fn from(_failed: Failed) -> LogError {
+        LogError::DiskFault
+    }
+}
+
+impl From<Memory> for LogError {
+    ghost use Rattle.block_log.specs.declared.error.LogError.TheVariants.{Memory};
+
+    ghost from_gives = { λ _ error. error ≡ Memory };
+
+    fn from(_memory: Memory) -> LogError {
+        LogError::Memory
+    }
 }
 
 /// A call of the disk failed.

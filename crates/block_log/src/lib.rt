@@ -1,4 +1,4 @@
-//! A log of blocks on a disk, each behind a gate that is opened once its bytes are sure to be there.
+//! A log of blocks on a disk, each after a gate that is opened once its bytes are sure to be there.
 #![tactic(auto)]
 
 mod appending;

@@ -20,14 +20,14 @@ pub struct Log {
 
 impl Model for Log {
     ghost use Rattle.std.specs.Prelude.{◌≡◌, length};
-    ghost use Rattle.block_log.specs.Log.{LogState, IsKept};
+    ghost use Rattle.block_log.specs.Log.{LogState, IsKeptLog};
     ghost use Rattle.block_log.specs.declared.layout.TheConstants.{MAX_RECORD_BYTES};
 
     ghost Value = { LogState };
 
     ghost view = { λ log. record { gate = log.gate; count = log.count; last = log.last; is_ready = log.is_ready; is_begun = log.is_begun } };
 
-    ghost invariant = { λ log. (length log.buffer.items ≡ MAX_RECORD_BYTES) × IsKept (record { gate = log.gate; count = log.count; last = log.last; is_ready = log.is_ready; is_begun = log.is_begun }) };
+    ghost invariant = { λ log. (length log.buffer.items ≡ MAX_RECORD_BYTES) × IsKeptLog (record { gate = log.gate; count = log.count; last = log.last; is_ready = log.is_ready; is_begun = log.is_begun }) };
 }
 
 impl Log {

@@ -1,17 +1,23 @@
 //! Reading the blocks of a log, one after another.
 
-ghost use Rattle.std.specs.Prelude.{◌≡◌, ℕ, ◌+◌, ◌*◌, ◌≤◌, ◌<◌, List, length, Some, IfOk, IfSome, IsErrOf};
-ghost use Rattle.std.specs.Option.{is_some, option_map};
+ghost use Rattle.std.specs.{
+  Prelude.{◌≡◌, ℕ, ◌+◌, ◌*◌, ◌≤◌, ◌<◌, List, length, Some, IfOk, IfSome, IsErrOf},
+  Option.{is_some, option_map},
+};
 ghost use Rattle.lc_base.specs.Faults.{HasCause};
 ghost use Rattle.lc_io.specs.Disk.{Stays};
 ghost use Rattle.disk_model.specs.Disk.{content_of};
-ghost use Rattle.block_codec.specs.Spelling.{IsBlock};
-ghost use Rattle.block_codec.specs.Placement.{digest_of, new_placement};
-ghost use Rattle.block_codec.specs.declared.limits.TheConstants.{MAX_BLOCKS, MAX_BLOCK_BYTES};
-ghost use Rattle.block_log.specs.declared.layout.Stored.{Stored as Storeds};
-ghost use Rattle.block_log.specs.declared.layout.TheConstants.{FIRST_GATE, MAX_RECORD_BYTES};
-ghost use Rattle.block_log.specs.Standing.{if_next};
-ghost use Rattle.block_log.specs.Reader.{AreRead, IsTurn, IsFound, IfBlock, IfNear, log_at, log_error, next_of, stored_at};
+ghost use Rattle.block_codec.specs.{
+  Spelling.{IsBlock},
+  Placement.{digest_of, new_placement},
+  declared.limits.TheConstants.{MAX_BLOCKS, MAX_BLOCK_BYTES},
+};
+ghost use Rattle.block_log.specs.{
+  declared.layout.Stored.{Stored as Storeds},
+  declared.layout.TheConstants.{FIRST_GATE, MAX_RECORD_BYTES},
+  Standing.{if_next},
+  Reader.{AreRead, IsTurn, IsFound, IfBlock, IfNear, log_at, next_of, stored_at},
+};
 
 use crate::error::LogError;
 use crate::layout::{MAX_RECORD_BYTES, Stored};
@@ -19,48 +25,9 @@ use crate::log::Log;
 use crate::reading::{PREFIX_BYTES, Record, read_record};
 use block_codec::{Block, DecodeError, Placement, block_digest, decode, place};
 use disk_model::Disk;
-use lc_base::{Digest, Memory};
-use lc_io::Failed;
+use lc_base::{Digest, HostError, Memory};
 use std::alloc::Global;
 use std::marker::Model;
-
-/// Why reading went no further.
-#[derive(Clone, Copy)]
-pub(crate) enum ReadError {
-    DiskFault,
-    Memory,
-}
-
-impl From<Failed> for ReadError {
-    ghost use Rattle.block_log.specs.declared.reader.ReadError.TheVariants.{DiskFault};
-
-    ghost from_gives = { λ _ error. error ≡ DiskFault };
-
-    fn from(_failed: Failed) -> ReadError {
-        ReadError::DiskFault
-    }
-}
-
-impl From<Memory> for ReadError {
-    ghost use Rattle.block_log.specs.declared.reader.ReadError.TheVariants.{Memory};
-
-    ghost from_gives = { λ _ error. error ≡ Memory };
-
-    fn from(_memory: Memory) -> ReadError {
-        ReadError::Memory
-    }
-}
-
-impl From<ReadError> for LogError {
-    ghost from_gives = { λ fault error. error ≡ log_error fault };
-
-    fn from(error: ReadError) -> LogError {
-        match error {
-            ReadError::DiskFault => LogError::DiskFault,
-            ReadError::Memory => LogError::Memory,
-        }
-    }
-}
 
 /// What stands at a gate.
 #[derive(Drop)]
@@ -70,7 +37,7 @@ pub(crate) enum Found {
     /// The gate is open, and no record of the next block follows it.
     Broken,
     /// The gate is open, and the next block follows it, and then the gate at this offset.
-    Next { next: Stored, behind: u64 },
+    Next { next: Stored, after: u64 },
 }
 
 /// Whether a block with this digest is the next one after `count` blocks, the last of which has the
@@ -120,7 +87,7 @@ fn read_next<M: Disk>(
     gate: u64,
     count: u32,
     last: Digest,
-) -> Result<Found, ReadError>
+) -> Result<Found, HostError>
     requires room { length buffer.old ≡ MAX_RECORD_BYTES }
     requires few { count ≤ MAX_BLOCKS }
     requires near { gate ≤ FIRST_GATE + count * MAX_RECORD_BYTES }
@@ -131,7 +98,7 @@ fn read_next<M: Disk>(
     ensures disk { Stays M.now M.disk machine.old machine.new }
     ensures told { M.told machine.new ≡ M.told machine.old }
     ensures wire_faults { M.wire_faults machine.new ≡ M.wire_faults machine.old }
-    ensures cause { HasCause (M.disk_faults machine.old) (M.disk_faults machine.new) (IsErrOf result ReadError.DiskFault) }
+    ensures cause { HasCause (M.disk_faults machine.old) (M.disk_faults machine.new) (IsErrOf result HostError.Fault) }
 {
     let size = match read_record(machine, buffer, gate)? {
         Record::Closed => return Ok(Found::Closed),
@@ -141,7 +108,7 @@ fn read_next<M: Disk>(
     match next_stored(alloc, gate, count, last, &buffer[..size])? {
         Some(next) => Ok(Found::Next {
             next,
-            behind: gate + (PREFIX_BYTES + size) as u64,
+            after: gate + (PREFIX_BYTES + size) as u64,
         }),
         None => Ok(Found::Broken),
     }
@@ -151,23 +118,18 @@ fn read_next<M: Disk>(
 /// that it has given.
 #[derive(Drop)]
 pub struct LogReader {
-    pub(crate) buffer: Vec<u8>,
-    pub(crate) gate: u64,
-    pub(crate) count: u32,
-    pub(crate) last: Digest,
+    pub(crate) log: Log,
 }
 
 impl Model for LogReader {
-    ghost use Rattle.std.specs.Prelude.{◌≡◌, length};
-    ghost use Rattle.block_log.specs.Log.{LogState, IsKept};
-    ghost use Rattle.std.specs.Prelude.{true, false};
-    ghost use Rattle.block_log.specs.declared.layout.TheConstants.{MAX_RECORD_BYTES};
+    ghost use Rattle.std.specs.Prelude.{◌≡◌, true, false};
+    ghost use Rattle.block_log.specs.Log.{LogState};
 
     ghost Value = { LogState };
 
-    ghost view = { λ reader. record { gate = reader.gate; count = reader.count; last = reader.last; is_ready = true; is_begun = false } };
+    ghost view = { λ reader. reader.log };
 
-    ghost invariant = { λ reader. (length reader.buffer.items ≡ MAX_RECORD_BYTES) × IsKept (record { gate = reader.gate; count = reader.count; last = reader.last; is_ready = true; is_begun = false }) };
+    ghost invariant = { λ reader. (reader.log.is_ready ≡ true) × (reader.log.is_begun ≡ false) };
 }
 
 /// What a look at a log gives.
@@ -183,7 +145,7 @@ impl LogReader {
     /// Reads the next block of the log, or that there is none. It writes nothing. It takes memory for
     /// the block alone.
     pub fn next<M: Disk>(self, alloc: Global, machine: &mut M) -> Result<Turn, LogError>
-        // Told or not: the blocks given so far are a chain, each with its digest, and the log holds
+        // Known or not: the blocks given so far are a chain, each with its digest, and the log holds
         // their number and the last digest.
         ensures answer { (stored : List Storeds) → AreRead self (content_of (M.disk machine.old (M.now machine.old))) stored
             → IsTurn (content_of (M.disk machine.new (M.now machine.new))) stored result }
@@ -193,30 +155,25 @@ impl LogReader {
         ensures wire_faults { M.wire_faults machine.new ≡ M.wire_faults machine.old }
         ensures cause { HasCause (M.disk_faults machine.old) (M.disk_faults machine.new) (IsErrOf result LogError.DiskFault) }
     {
-        let LogReader {
-            mut buffer,
-            gate,
-            count,
-            last,
-        } = self;
-        match read_next(alloc, machine, &mut buffer, gate, count, last)? {
-            Found::Closed => Ok(Turn::End {
-                log: Log {
-                    buffer,
-                    gate,
-                    count,
-                    last,
-                    is_ready: true,
-                    is_begun: false,
-                },
-            }),
-            Found::Broken => Err(LogError::Damaged { at: gate }),
-            Found::Next { next, behind } => {
+        let mut log = self.log;
+        match read_next(
+            alloc,
+            machine,
+            &mut log.buffer,
+            log.gate,
+            log.count,
+            log.last,
+        )? {
+            Found::Closed => Ok(Turn::End { log }),
+            Found::Broken => Err(LogError::Damaged { at: log.gate }),
+            Found::Next { next, after } => {
                 let reader = LogReader {
-                    buffer,
-                    gate: behind,
-                    count: count + 1,
-                    last: next.digest,
+                    log: Log {
+                        gate: after,
+                        count: log.count + 1,
+                        last: next.digest,
+                        ..log
+                    },
                 };
                 Ok(Turn::Block { next, reader })
             }

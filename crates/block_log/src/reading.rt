@@ -5,9 +5,11 @@ ghost use Rattle.lc_base.specs.Faults.{HasCause};
 ghost use Rattle.lc_io.specs.Disk.{Stays};
 ghost use Rattle.disk_model.specs.Disk.{content_of};
 ghost use Rattle.block_codec.specs.declared.limits.TheConstants.{MAX_BLOCK_BYTES};
-ghost use Rattle.block_log.specs.declared.layout.TheConstants.{MAX_RECORD_BYTES};
-ghost use Rattle.block_log.specs.Standing.{is_log, is_blank};
-ghost use Rattle.block_log.specs.Reading.{has_magic, head_of, sized_record, opened_record, gate_of, record_of, record_size, IsBuffered, IsBody};
+ghost use Rattle.block_log.specs.{
+  declared.layout.TheConstants.{MAX_RECORD_BYTES},
+  Standing.{is_log, is_blank},
+  Reading.{has_magic, head_of, sized_record, opened_record, gate_of, record_of, record_size, IsBuffered, IsBody},
+};
 
 use crate::layout::{CLOSED_GATE, FIRST_GATE, MAGIC, OPEN_GATE};
 use block_codec::MAX_BLOCK_BYTES;
@@ -101,7 +103,7 @@ pub(crate) fn read_head<M: Disk>(machine: &mut M) -> Result<Head, Failed>
 }
 
 /// A record whose block has so many bytes, where a block may have them.
-fn sized(size: u32) -> Record
+fn record_of_size(size: u32) -> Record
     ensures { result ≡ sized_record size }
 {
     let size = size as usize;
@@ -120,7 +122,7 @@ fn gate_in(bytes: &[u8]) -> Record
     match bytes {
         [] => Record::Broken,
         [gate, ..] if *gate != OPEN_GATE => Record::Closed,
-        [_, a, b, c, d, ..] => sized(u32::from_be_bytes([*a, *b, *c, *d])),
+        [_, a, b, c, d, ..] => record_of_size(u32::from_be_bytes([*a, *b, *c, *d])),
         _ => Record::Broken,
     }
 }

@@ -5,8 +5,10 @@ ghost use Rattle.lc_base.specs.Faults.{HasCause};
 ghost use Rattle.lc_io.specs.Disk.{Stays};
 ghost use Rattle.disk_model.specs.Disk.{content_of};
 ghost use Rattle.block_codec.specs.Placement.{no_parent};
-ghost use Rattle.block_log.specs.declared.layout.TheConstants.{FIRST_GATE, MAX_RECORD_BYTES};
-ghost use Rattle.block_log.specs.Reader.{IsOpened, blank_log, log_at};
+ghost use Rattle.block_log.specs.{
+  declared.layout.TheConstants.{FIRST_GATE, MAX_RECORD_BYTES},
+  Reader.{IsOpened, blank_log, log_at},
+};
 
 use crate::error::LogError;
 use crate::layout::{FIRST_GATE, MAX_RECORD_BYTES};
@@ -15,28 +17,8 @@ use crate::reader::LogReader;
 use crate::reading::{Head, read_head};
 use block_codec::NO_PARENT;
 use disk_model::Disk;
-use lc_io::Failed;
-use std::alloc::{AllocError, Global};
-
-impl From<Failed> for LogError {
-    ghost use Rattle.block_log.specs.declared.error.LogError.TheVariants.{DiskFault};
-
-    ghost from_gives = { λ _ error. error ≡ DiskFault };
-
-    fn from(_failed: Failed) -> LogError {
-        LogError::DiskFault
-    }
-}
-
-impl From<AllocError> for LogError {
-    ghost use Rattle.block_log.specs.declared.error.LogError.TheVariants.{Memory};
-
-    ghost from_gives = { λ _ error. error ≡ Memory };
-
-    fn from(_error: AllocError) -> LogError {
-        LogError::Memory
-    }
-}
+use lc_base::{Memory, zeros};
+use std::alloc::Global;
 
 /// What a disk holds.
 #[derive(Drop)]
@@ -47,11 +29,12 @@ pub enum Opened {
     Blank { log: Log },
 }
 
-/// So many bytes of memory.
-fn zeros(alloc: Global, count: usize) -> Result<Vec<u8>, AllocError>
+/// A buffer of so many bytes. Its callers need its length alone: that it holds zeros would be a list
+/// of all of them in their proofs.
+fn buffer_of(alloc: Global, count: usize) -> Result<Vec<u8>, Memory>
     ensures { IfOk result (λ bytes. length bytes.items ≡ count) }
 {
-    vec![in alloc; 0u8; count]
+    zeros(alloc, count)
 }
 
 /// A reader of a log, no block of which was read.
@@ -59,11 +42,12 @@ fn first_reader(buffer: Vec<u8>) -> LogReader
     requires room { length buffer.items ≡ MAX_RECORD_BYTES }
     ensures { result ≡ log_at FIRST_GATE 0 no_parent }
 {
+    let log = blank_log(buffer, false);
     LogReader {
-        buffer,
-        gate: FIRST_GATE,
-        count: 0,
-        last: NO_PARENT,
+        log: Log {
+            is_ready: true,
+            ..log
+        },
     }
 }
 
@@ -93,7 +77,7 @@ impl Log {
         ensures wire_faults { M.wire_faults machine.new ≡ M.wire_faults machine.old }
         ensures cause { HasCause (M.disk_faults machine.old) (M.disk_faults machine.new) (IsErrOf result LogError.DiskFault) }
     {
-        let buffer = zeros(alloc, MAX_RECORD_BYTES)?;
+        let buffer = buffer_of(alloc, MAX_RECORD_BYTES)?;
         match read_head(machine)? {
             Head::Log => Ok(Opened::Records {
                 reader: first_reader(buffer),

@@ -1,6 +1,7 @@
 -- How keys, names, texts, other strings and values are spelled, each as its list of fields: a field is read whole or is
 -- invalid.
-use Rattle.std.specs.Prelude.{ℕ, ℤ, ◌<◌, List, [], ◌∷◌, length, slice_index}
+use Rattle.std.specs.Prelude.{ℕ, ℤ, ◌<◌, ◌≡◌, List, [], ◌∷◌, ◌++◌, length, slice_index, Result, OnOk}
+use Rattle.std.specs.List.{concat, flat_map, AllByRecursion}
 use Rattle.std.specs.Int.{w16, w64, to_be_bytes, cast_unsigned}
 use Rattle.std.specs.Int.RustNames.{FitsSigned}
 use Rattle.lc_base.specs.TextBytes.{IsText}
@@ -28,3 +29,16 @@ value_fields (Text text) = (1 ∷ []) ∷ string_fields text
 abbrev pub IsValue : Value → Type 0
 IsValue (Int number) = FitsSigned w64 number
 IsValue (Text text) = IsText text
+
+-- The fields of a lawful value are written after what stood there; or a part of them may be, where
+-- the answer is an error.
+pub record Puts {T E : Type 0} (fields : List (List ℕ)) (Is : Type 0) (old new : List ℕ)
+    (result : Result T E) : Type 0 where
+  pub written : OnOk result (new ≡ old ++ concat fields)
+  pub lawful : OnOk result Is
+
+-- The same of the fields of many values, one value after another.
+abbrev pub PutsAll : {A T E : Type 0} → (A → List (List ℕ)) → (A → Type 0) → List A
+    → List ℕ → List ℕ → Result T E → Type 0
+PutsAll fields Is values old new result =
+    Puts (flat_map fields values) (AllByRecursion Is values) old new result

@@ -1,14 +1,21 @@
 //! A reader of fields, from the first byte to the last.
 
-ghost use Rattle.std.specs.Prelude.{◌≡◌, ◌≤◌, ◌==◌, ◌&&◌, nat_le, is_none, if◌then◌else◌, Ok, Err, length};
-ghost use Rattle.lc_names.specs.KeyBytes.{bad_key_byte};
-ghost use Rattle.lc_names.specs.NameBytes.{bad_name_byte};
-ghost use Rattle.lc_base.specs.TextBytes.{bad_text_byte};
-ghost use Rattle.lc_names.specs.declared.limits.TheConstants.{MAX_KEY_BYTES, MAX_NAME_BYTES};
-ghost use Rattle.lc_base.specs.declared.limits.TheConstants.{MAX_TEXT_BYTES};
-ghost use Rattle.std.specs.Int.{w16, w32, w64};
-ghost use Rattle.byte_fields.specs.Reading.{ruled_at, items_at, number_at, byte_at, bytes_at, key_at, name_at, any_bytes_at, text_at, key_or_empty_at, int_at, value_at};
-ghost use Rattle.byte_fields.specs.Reader.{fault_left, error_left, Reads, ReadsAs, value_seen};
+ghost use Rattle.std.specs.{
+  Prelude.{◌≡◌, ◌≤◌, ◌==◌, ◌&&◌, nat_le, is_none, if◌then◌else◌, Ok, Err, length},
+  Int.{w16, w32, w64},
+};
+ghost use Rattle.lc_names.specs.{
+  KeyBytes.{bad_key_byte},
+  declared.limits.TheConstants.{MAX_KEY_BYTES, MAX_NAME_BYTES},
+};
+ghost use Rattle.lc_base.specs.{
+  TextBytes.{bad_text_byte},
+  declared.limits.TheConstants.{MAX_TEXT_BYTES},
+};
+ghost use Rattle.byte_fields.specs.{
+  Reading.{ruled_at, items_at, number_at, byte_at, bytes_at, key_at, name_at, any_bytes_at, text_at, key_or_empty_at, int_at, value_at},
+  Reader.{fault_left, error_left, Reads, ReadsAs, value_seen},
+};
 
 use crate::fault::{Fault, ReadError};
 use crate::value_view::ValueView;
@@ -26,7 +33,7 @@ fn bad_text_byte(bytes: &[u8]) -> Option<usize>
 }
 
 /// The value of a field, or the fault where it breaks the field's rule.
-fn ruled<T: Copy>(value: T, is_lawful: bool, fault: Fault) -> Result<T, Fault>
+fn lawful_or<T: Copy>(value: T, is_lawful: bool, fault: Fault) -> Result<T, Fault>
     ensures { result ≡ (if is_lawful then Ok value else Err fault) }
 {
     if is_lawful { Ok(value) } else { Err(fault) }
@@ -135,7 +142,7 @@ impl<'a> Reader<'a> {
     {
         let fault = self.fault();
         let byte = self.byte()?;
-        ruled(byte, byte <= greatest, fault)
+        lawful_or(byte, byte <= greatest, fault)
     }
 
     /// A byte that can only be this one.
@@ -144,7 +151,7 @@ impl<'a> Reader<'a> {
     {
         let fault = self.fault();
         let byte = self.byte()?;
-        ruled(byte, byte == wanted, fault)
+        lawful_or(byte, byte == wanted, fault)
     }
 
     /// A number of two bytes that is at most this one.
@@ -153,7 +160,7 @@ impl<'a> Reader<'a> {
     {
         let fault = self.fault();
         let number = self.u16()?;
-        ruled(number, number <= greatest, fault)
+        lawful_or(number, number <= greatest, fault)
     }
 
     /// A number of four bytes that is at most this one.
@@ -162,7 +169,7 @@ impl<'a> Reader<'a> {
     {
         let fault = self.fault();
         let number = self.u32()?;
-        ruled(number, number <= greatest, fault)
+        lawful_or(number, number <= greatest, fault)
     }
 
     /// So many bytes, where they lie.
@@ -192,7 +199,7 @@ impl<'a> Reader<'a> {
     {
         let fault = self.fault();
         let length = self.u16()?;
-        ruled(
+        lawful_or(
             length as usize,
             fewest <= length && length <= greatest,
             fault,
@@ -232,26 +239,18 @@ impl<'a> Reader<'a> {
         }
     }
 
-    #[tactic(auto, unfolding(crate::specs::Reading::bytes_at))]
-    fn name_of(&mut self, length: usize) -> Result<Name, Fault>
-        requires { (1 ≤ length) × (length ≤ MAX_NAME_BYTES) }
-        ensures { Reads fault_left result (ruled_at (λ bytes. is_none (bad_name_byte bytes)) (bytes_at length) self.old) self.new }
+    /// A name: its length in two bytes, and its bytes.
+    #[tactic(auto, unfolding(crate::specs::Reading::name_at, crate::specs::Reading::string_at, crate::specs::Reading::bytes_at))]
+    pub fn name(&mut self) -> Result<Name, Fault>
+        ensures { Reads fault_left result (name_at self.old) self.new }
     {
+        let length = self.length_between(1, MAX_NAME_BYTES as u16)?;
         let fault = self.fault();
         let bytes = self.bytes(length)?;
         match Name::new(bytes) {
             Ok(name) => Ok(name),
             Err(_) => Err(fault),
         }
-    }
-
-    /// A name: its length in two bytes, and its bytes.
-    #[tactic(auto, unfolding(crate::specs::Reading::name_at, crate::specs::Reading::string_at))]
-    pub fn name(&mut self) -> Result<Name, Fault>
-        ensures { Reads fault_left result (name_at self.old) self.new }
-    {
-        let length = self.length_between(1, MAX_NAME_BYTES as u16)?;
-        self.name_of(length)
     }
 
     /// A string of any bytes, at most so many: its length in two bytes, and its bytes.

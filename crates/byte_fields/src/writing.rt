@@ -1,13 +1,14 @@
 //! Writing the fields that blocks, entries and proofs are spelled with. Where memory runs out, a
 //! part of a field may stand after what was written before.
 
-ghost use Rattle.std.specs.Prelude.{◌≡◌, [], ◌∷◌, ◌++◌, ◌^◌, ◌<◌, length, OnOk};
-ghost use Rattle.std.specs.List.{concat, flat_map, AllByRecursion};
-ghost use Rattle.std.specs.Int.{w16, w32, w64, to_be_bytes};
-ghost use Rattle.lc_names.specs.KeyBytes.{IsKey};
-ghost use Rattle.lc_names.specs.NameBytes.{IsName};
+ghost use Rattle.std.specs.{
+  Prelude.{◌≡◌, [], ◌∷◌, ◌++◌, ◌^◌, ◌<◌, length, OnOk},
+  List.{concat},
+  Int.{w16, w32, w64, to_be_bytes},
+};
+ghost use Rattle.lc_names.specs.{KeyBytes.{IsKey}, NameBytes.{IsName}};
 ghost use Rattle.lc_base.specs.TextBytes.{IsText};
-ghost use Rattle.byte_fields.specs.Spelling.{string_fields, value_fields, IsValue};
+ghost use Rattle.byte_fields.specs.Spelling.{string_fields, value_fields, IsValue, Puts, PutsAll};
 
 use lc_base::{Bytes, Digest, Key, Memory, Name, Text, Value};
 
@@ -63,16 +64,14 @@ pub fn put_digest(out: &mut Vec<u8>, digest: &Digest) -> Result<(), Memory>
 
 /// A key: its length in two bytes, and its bytes.
 pub fn put_key(out: &mut Vec<u8>, key: &Key) -> Result<(), Memory>
-    ensures written { OnOk result (out.new.items ≡ out.old.items ++ concat (string_fields key.now)) }
-    ensures lawful { OnOk result (IsKey key.now) }
+    ensures { Puts (string_fields key.now) (IsKey key.now) out.old.items out.new.items result }
 {
     put_string(out, key.as_bytes())
 }
 
 /// A name: its length in two bytes, and its bytes.
 pub fn put_name(out: &mut Vec<u8>, name: &Name) -> Result<(), Memory>
-    ensures written { OnOk result (out.new.items ≡ out.old.items ++ concat (string_fields name.now)) }
-    ensures lawful { OnOk result (IsName name.now) }
+    ensures { Puts (string_fields name.now) (IsName name.now) out.old.items out.new.items result }
 {
     put_string(out, name.as_bytes())
 }
@@ -87,16 +86,14 @@ pub fn put_any_bytes(out: &mut Vec<u8>, bytes: &Bytes) -> Result<(), Memory>
 
 /// A text: its length in two bytes, and its bytes.
 pub fn put_text(out: &mut Vec<u8>, text: &Text) -> Result<(), Memory>
-    ensures written { OnOk result (out.new.items ≡ out.old.items ++ concat (string_fields text.now)) }
-    ensures lawful { OnOk result (IsText text.now) }
+    ensures { Puts (string_fields text.now) (IsText text.now) out.old.items out.new.items result }
 {
     put_string(out, text.as_bytes())
 }
 
 /// A value: the byte 0 and an int, or the byte 1 and a text.
 pub fn put_value(out: &mut Vec<u8>, value: &Value) -> Result<(), Memory>
-    ensures written { OnOk result (out.new.items ≡ out.old.items ++ concat (value_fields value.now)) }
-    ensures lawful { OnOk result (IsValue value.now) }
+    ensures { Puts (value_fields value.now) (IsValue value.now) out.old.items out.new.items result }
 {
     match value {
         Value::Int(number) => {
@@ -113,8 +110,7 @@ pub fn put_value(out: &mut Vec<u8>, value: &Value) -> Result<(), Memory>
 
 /// Keys, one after another.
 pub fn put_keys(out: &mut Vec<u8>, keys: &[Key]) -> Result<(), Memory>
-    ensures written { OnOk result (out.new.items ≡ out.old.items ++ concat (flat_map string_fields keys.now)) }
-    ensures lawful { OnOk result (AllByRecursion IsKey keys.now) }
+    ensures { PutsAll string_fields IsKey keys.now out.old.items out.new.items result }
 {
     for key in keys {
         put_key(out, key)?;
@@ -124,8 +120,7 @@ pub fn put_keys(out: &mut Vec<u8>, keys: &[Key]) -> Result<(), Memory>
 
 /// Values, one after another.
 pub fn put_values(out: &mut Vec<u8>, values: &[Value]) -> Result<(), Memory>
-    ensures written { OnOk result (out.new.items ≡ out.old.items ++ concat (flat_map value_fields values.now)) }
-    ensures lawful { OnOk result (AllByRecursion IsValue values.now) }
+    ensures { PutsAll value_fields IsValue values.now out.old.items out.new.items result }
 {
     for value in values {
         put_value(out, value)?;

@@ -7,7 +7,7 @@ use Rattle.std.proofs.lemmas.List.{append-nil, drop_all}
 use Rattle.chain_draft.specs.declared.read_error.ReadError.{ReadError}
 use Rattle.chain_draft.specs.declared.read_error.ReadError.TheVariants as errors
 use Rattle.chain_draft.specs.Reading.{Reads}
-use Rattle.chain_draft.specs.Transactions.{each, in_front}
+use Rattle.chain_draft.specs.Transactions.{each, with_first}
 
 -- what was made before, and what is still made
 abbrev pub with_prefix : {A E : Type 0} → List A → Result (List A) E → Result (List A) E
@@ -31,7 +31,7 @@ length_more (y ∷ ys) x = omega (arith, length_more ys x)
 abbrev result_of : {A : Type 0} (E : Type 0) → A → Result A E
 result_of E x = Ok x
 
-pub regroup : {A E : Type 0} (before : List A) (x : A) (others : Result (List A) E) → with_prefix before (in_front x others) ≡ with_prefix (before ++ x ∷ []) others
+pub regroup : {A E : Type 0} (before : List A) (x : A) (others : Result (List A) E) → with_prefix before (with_first x others) ≡ with_prefix (before ++ x ∷ []) others
 regroup {A} {E} before x (Ok others) = ap (λ (xs : List A). result_of E xs) (simp append_assoc)
 regroup before x (Err fault) = refl
 

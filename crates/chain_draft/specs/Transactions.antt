@@ -46,14 +46,14 @@ abbrev pub budget_in : Data → Option ℕ
 budget_in json = as_number json >>= as_u64 >>= λ steps. if nat_le steps MAX_CALL_BUDGET then Some steps else None
 
 -- One item more in front.
-abbrev pub in_front : {A E : Type 0} → A → Result (List A) E → Result (List A) E
-in_front first (Ok others) = Ok (first ∷ others)
-in_front first (Err fault) = Err fault
+abbrev pub with_first : {A E : Type 0} → A → Result (List A) E → Result (List A) E
+with_first first (Ok others) = Ok (first ∷ others)
+with_first first (Err fault) = Err fault
 
 -- What is made of an item at this index, where something is, and of those after it.
 abbrev pub then_each : {A : Type 0} → ℕ → Option A → Result (List A) ℕ → Result (List A) ℕ
 then_each index None others = Err index
-then_each index (Some first) others = in_front first others
+then_each index (Some first) others = with_first first others
 
 -- What is made of each item, in order, the first at this index; or the index of the first of which
 -- nothing is made.

@@ -1,21 +1,21 @@
 //! The fields of transactions, read from JSON.
 
-ghost use Rattle.std.specs.Prelude.{◌≡◌, ◌≤◌, map, length, IfOk};
-ghost use Rattle.std.specs.Option.{option_map};
+ghost use Rattle.std.specs.{Prelude.{◌≡◌, ◌≤◌, map, length, IfOk}, Option.{option_map}};
 ghost use Rattle.serde_json.specs.View.{view};
-ghost use Rattle.lc_names.specs.KeyBytes.{IsKey};
-ghost use Rattle.lc_names.specs.NameBytes.{IsName};
+ghost use Rattle.lc_names.specs.{KeyBytes.{IsKey}, NameBytes.{IsName}};
 ghost use Rattle.byte_fields.specs.Spelling.{IsValue};
 ghost use Rattle.block_codec.specs.declared.limits.TheConstants.{MAX_CALL_BUDGET, MAX_SOURCE_BYTES};
-ghost use Rattle.chain_draft.specs.Json.{items_in, member_count};
-ghost use Rattle.chain_draft.specs.Transactions.{key_in, name_in, source_in, value_in, budget_in, key_at, name_at};
-ghost use Rattle.chain_draft.specs.Reading.{Reads};
+ghost use Rattle.chain_draft.specs.{
+  Json.{items_in, member_count},
+  Transactions.{key_in, name_in, source_in, value_in, budget_in, key_at, name_at},
+  Reading.{Reads, ReadsLawful},
+};
 
 use crate::read_error::ReadError;
 use block_codec::{MAX_CALL_BUDGET, MAX_SOURCE_BYTES};
 use lc_base::{Bytes, Key, Name, Text, TextError, Value};
 use serde_json::Value as Json;
-use std::alloc::Global;
+use std::alloc::{AllocError, Global};
 
 /// The items of a value that is an array.
 #[tactic(auto, using(crate::proofs::Views::items_listed))]
@@ -41,26 +41,18 @@ pub fn member_count(json: &Json) -> Option<usize>
 
 /// A key.
 pub fn key_in(json: &Json) -> Result<Key, ReadError>
-    ensures read { Reads result (key_in (view json.now)) }
-    ensures lawful { IfOk result IsKey }
+    ensures { ReadsLawful IsKey result (key_in (view json.now)) }
 {
     let text = json.as_str().ok_or(ReadError::Shape)?;
-    match Key::new(text.as_bytes()) {
-        Ok(key) => Ok(key),
-        Err(_) => Err(ReadError::Shape),
-    }
+    Key::new(text.as_bytes()).map_err(|_| ReadError::Shape)
 }
 
 /// A name.
 pub fn name_in(json: &Json) -> Result<Name, ReadError>
-    ensures read { Reads result (name_in (view json.now)) }
-    ensures lawful { IfOk result IsName }
+    ensures { ReadsLawful IsName result (name_in (view json.now)) }
 {
     let text = json.as_str().ok_or(ReadError::Shape)?;
-    match Name::new(text.as_bytes()) {
-        Ok(name) => Ok(name),
-        Err(_) => Err(ReadError::Shape),
-    }
+    Name::new(text.as_bytes()).map_err(|_| ReadError::Shape)
 }
 
 /// A source.
@@ -73,13 +65,15 @@ pub fn source_in(alloc: Global, json: &Json) -> Result<Bytes, ReadError>
     if bytes.len() > MAX_SOURCE_BYTES {
         return Err(ReadError::Shape);
     }
-    Ok(Bytes::from_vec(Vec::from_slice(alloc, bytes)?))
+    match Vec::from_slice(alloc, bytes) {
+        Ok(bytes) => Ok(Bytes::from_vec(bytes)),
+        Err(AllocError) => Err(ReadError::Memory),
+    }
 }
 
 /// A value.
 pub fn value_in(alloc: Global, json: &Json) -> Result<Value, ReadError>
-    ensures read { Reads result (value_in (view json.now)) }
-    ensures lawful { IfOk result IsValue }
+    ensures { ReadsLawful IsValue result (value_in (view json.now)) }
 {
     if let Some(number) = json.as_i64() {
         return Ok(Value::Int(number));
@@ -105,16 +99,14 @@ pub fn budget_in(json: &Json) -> Result<u32, ReadError>
 
 /// A key, as the member of this name.
 pub fn key_at(json: &Json, name: &str) -> Result<Key, ReadError>
-    ensures read { Reads result (key_at name.now (view json.now)) }
-    ensures lawful { IfOk result IsKey }
+    ensures { ReadsLawful IsKey result (key_at name.now (view json.now)) }
 {
     key_in(json.get(name).ok_or(ReadError::Shape)?)
 }
 
 /// A name, as the member of this name.
 pub fn name_at(json: &Json, name: &str) -> Result<Name, ReadError>
-    ensures read { Reads result (name_at name.now (view json.now)) }
-    ensures lawful { IfOk result IsName }
+    ensures { ReadsLawful IsName result (name_at name.now (view json.now)) }
 {
     name_in(json.get(name).ok_or(ReadError::Shape)?)
 }

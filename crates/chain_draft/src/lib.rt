@@ -2,6 +2,7 @@
 #![tactic(auto)]
 
 mod fields;
+mod lists;
 mod read_error;
 mod transaction;
 

@@ -3,7 +3,6 @@
 ghost use Rattle.std.specs.Prelude.{◌≡◌};
 
 use lc_base::Memory;
-use std::alloc::{AllocError, AllocFailed};
 
 /// Why a part of a draft was not read.
 #[derive(Clone, Copy, Debug, PartialEq, Eq)]
@@ -20,26 +19,6 @@ impl From<Memory> for ReadError {
     ghost from_gives = { λ _ error. error ≡ Memory };
 
     fn from(_memory: Memory) -> ReadError {
-        ReadError::Memory
-    }
-}
-
-impl From<AllocError> for ReadError {
-    ghost use Rattle.chain_draft.specs.declared.read_error.ReadError.TheVariants.{Memory};
-
-    ghost from_gives = { λ _ error. error ≡ Memory };
-
-    fn from(_error: AllocError) -> ReadError {
-        ReadError::Memory
-    }
-}
-
-impl<T: Drop> From<AllocFailed<T>> for ReadError {
-    ghost use Rattle.chain_draft.specs.declared.read_error.ReadError.TheVariants.{Memory};
-
-    ghost from_gives = { λ _ error. error ≡ Memory };
-
-    fn from(_error: AllocFailed<T>) -> ReadError {
         ReadError::Memory
     }
 }

@@ -4,32 +4,32 @@ use Rattle.std.proofs.lemmas.List.{map-append}
 use native.Mathlib.Numerals.{unary_clauses}
 use Rattle.lc_base.specs.declared.digest.Digest.{Digest}
 use Rattle.block_codec.specs.Placement.{bytes_digest, no_parent}
-use Rattle.chain_gen.specs.Generator.{Progress, GoesOn, none_made, one_more_made, made, generated, spelling, block_drawn, given_block, progress}
+use Rattle.chain_gen.specs.Generator.{Progress, GoesOn, none_made, one_more_made, first_blocks, blocks_of_seed, spelling, block_drawn, given_block, progress}
 
-made_more : (seed count : ℕ) → made seed (count + 1) ≡ one_more_made count (made seed count)
-unfolding made
+made_more : (seed count : ℕ) → first_blocks seed (count + 1) ≡ one_more_made count (first_blocks seed count)
+unfolding first_blocks
 made_more seed count = simp unary_clauses refl
 
-digest_is : (seed : ℕ) (gen : Progress) (parent : Digest) (bytes : List ℕ) → bytes ≡ spelling (block_drawn gen.given parent gen.state).0 → gen.state ≡ (made seed gen.given).state → parent ≡ (made seed gen.given).parent → bytes_digest bytes ≡ (made seed (gen.given + 1)).parent
+digest_is : (seed : ℕ) (gen : Progress) (parent : Digest) (bytes : List ℕ) → bytes ≡ spelling (block_drawn gen.given parent gen.state).0 → gen.state ≡ (first_blocks seed gen.given).state → parent ≡ (first_blocks seed gen.given).parent → bytes_digest bytes ≡ (first_blocks seed (gen.given + 1)).parent
 unfolding spelling
 digest_is seed gen parent bytes spelled state chained = rw (made_more seed gen.given, spelled, state, chained) refl
 
 -- the bytes of the next block, and the generator that has given it
 pub goes_on : (seed : ℕ) (gen after : Progress) (parent : Digest) (bytes : List ℕ) → bytes ≡ spelling (block_drawn gen.given parent gen.state).0 → after ≡ (given_block gen (block_drawn gen.given parent gen.state)).1
-    → gen ≡ progress seed gen.count gen.given → parent ≡ (made seed gen.given).parent → GoesOn seed gen (Some (bytes, after))
+    → gen ≡ progress seed gen.count gen.given → parent ≡ (first_blocks seed gen.given).parent → GoesOn seed gen (Some (bytes, after))
 goes_on seed gen after parent bytes spelled moved is chained =
     let step = made_more seed gen.given in
-    let state : gen.state ≡ (made seed gen.given).state = ap (λ (g : Progress). g.state) is in
-    let block = block_drawn gen.given (made seed gen.given).parent (made seed gen.given).state in
-    (rw (step, spelled, state, chained) (map-append spelling (made seed gen.given).blocks (block.0 ∷ [])), digest_is seed gen parent bytes spelled state chained, rw (step, moved, state, chained) refl)
+    let state : gen.state ≡ (first_blocks seed gen.given).state = ap (λ (g : Progress). g.state) is in
+    let block = block_drawn gen.given (first_blocks seed gen.given).parent (first_blocks seed gen.given).state in
+    (rw (step, spelled, state, chained) (map-append spelling (first_blocks seed gen.given).blocks (block.0 ∷ [])), digest_is seed gen parent bytes spelled state chained, rw (step, moved, state, chained) refl)
 
 -- Of blocks of a seed so many were given, the last of them is the next one's parent, and these are their bytes.
 pub record HasGiven (seed count given : ℕ) (gen : Progress) (parent : Digest) (texts : List (List ℕ)) : Type 0 where
   pub gen_is : gen ≡ progress seed count given
-  pub parent_is : parent ≡ (made seed given).parent
-  pub texts_are : texts ≡ generated given seed
+  pub parent_is : parent ≡ (first_blocks seed given).parent
+  pub texts_are : texts ≡ blocks_of_seed given seed
 
-pub given_none : (seed count : ℕ) (gen : Progress) (texts : List (List ℕ)) → gen ≡ progress seed count 0 → made seed 0 ≡ none_made seed → texts ≡ [] → HasGiven seed count 0 gen no_parent texts
+pub given_none : (seed count : ℕ) (gen : Progress) (texts : List (List ℕ)) → gen ≡ progress seed count 0 → first_blocks seed 0 ≡ none_made seed → texts ≡ [] → HasGiven seed count 0 gen no_parent texts
 given_none seed count gen texts start none no_texts = record { gen_is = start; parent_is = rw none refl; texts_are = rw (none, no_texts) refl }
 
 pub given_more : (seed count given : ℕ) (gen after : Progress) (parent next : Digest) (texts more : List (List ℕ)) (bytes : List ℕ) → HasGiven seed count given gen parent texts → GoesOn seed gen (Some (bytes, after)) → next ≡ bytes_digest bytes → more ≡ texts ++ bytes ∷ []

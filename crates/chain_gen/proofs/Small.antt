@@ -19,7 +19,7 @@ use Rattle.block_codec.specs.declared.limits.TheConstants.{MAX_BLOCKS, MAX_BLOCK
 use Rattle.block_codec.specs.declared.block.Tx.{Tx}
 use Rattle.block_codec.specs.declared.block.Tx.TheVariants.{Set}
 use Rattle.lc_base.specs.declared.value.Value.TheVariants.{Int}
-use Rattle.chain_gen.specs.Draws.{number_below, number_of_key, key_drawn, repeated}
+use Rattle.chain_gen.specs.Draws.{number_below, number_of_key, key_drawn, draw_list}
 use Rattle.chain_gen.specs.Transactions.{sender, contract, function, deploy, call_with, set_drawn, later_txs, txs_drawn}
 use Rattle.chain_gen.specs.Generator.{block_drawn, spelling, IsPlaced}
 use Rattle.chain_gen.specs.declared.limits.TheConstants.{FEW_KEYS, MANY_KEYS, ARGS, VALUES, DEP_COUNTS, SETS, MAX_TXS_MADE}
@@ -52,15 +52,15 @@ all_more : {A : Type 0} (Is : A → Type 0) (xs : List A) (x : A) → AllByRecur
 all_more Is [] x all is = (is, tt)
 all_more Is (y ∷ ys) x all is = (all.0, all_more Is ys x all.1 is)
 
-length_repeated : {A : Type 0} (item : ℕ → A × ℕ) (count state : ℕ) → length (repeated item count state).0 ≡ count
-unfolding repeated
+length_repeated : {A : Type 0} (item : ℕ → A × ℕ) (count state : ℕ) → length (draw_list item count state).0 ≡ count
+unfolding draw_list
 length_repeated item zero state = refl
-length_repeated item (suc count) state = omega (arith, length_repeated item count state, length-append (repeated item count state).0 ((item (repeated item count state).1).0 ∷ []))
+length_repeated item (suc count) state = omega (arith, length_repeated item count state, length-append (draw_list item count state).0 ((item (draw_list item count state).1).0 ∷ []))
 
-pub all_repeated : {A : Type 0} (Is : A → Type 0) (item : ℕ → A × ℕ) → ((state : ℕ) → Is (item state).0) → (count state : ℕ) → AllByRecursion Is (repeated item count state).0
-unfolding repeated
+pub all_repeated : {A : Type 0} (Is : A → Type 0) (item : ℕ → A × ℕ) → ((state : ℕ) → Is (item state).0) → (count state : ℕ) → AllByRecursion Is (draw_list item count state).0
+unfolding draw_list
 all_repeated Is item each zero state = tt
-all_repeated Is item each (suc count) state = all_more Is (repeated item count state).0 (item (repeated item count state).1).0 (all_repeated Is item each count state) (each (repeated item count state).1)
+all_repeated Is item each (suc count) state = all_more Is (draw_list item count state).0 (item (draw_list item count state).1).0 (all_repeated Is item each count state) (each (draw_list item count state).1)
 
 -- ---- transactions
 
@@ -90,7 +90,7 @@ set_drawn_is_small state =
     let count = number_below DEP_COUNTS value.1 in
     let few = number_is_below DEP_COUNTS value.1 (omega arith) in
     let long = length_repeated key_drawn count.0 count.1 in
-    set_is_small key.0 value.0 (repeated key_drawn count.0 count.1).0 (key_is_key state) (number_is_below VALUES key.1 (omega arith)) (all_repeated IsKey key_drawn key_is_key count.0 count.1) (omega (arith, few, long))
+    set_is_small key.0 value.0 (draw_list key_drawn count.0 count.1).0 (key_is_key state) (number_is_below VALUES key.1 (omega arith)) (all_repeated IsKey key_drawn key_is_key count.0 count.1) (omega (arith, few, long))
 
 contract_is_name : IsName contract
 contract_is_name = record { some = omega arith; short = omega arith; good = refl }

@@ -25,9 +25,9 @@ unfoldable pub key_drawn : ℕ → List ℕ × ℕ
 key_drawn state = let number = number_of_key state in (raw_key number.0, number.1)
 
 -- So many items, drawn one after another.
-unfoldable pub repeated : {A : Type 0} → (ℕ → A × ℕ) → ℕ → ℕ → List A × ℕ
-repeated item zero state = ([], state)
-repeated item (suc count) state =
-    let before = repeated item count state in
+unfoldable pub draw_list : {A : Type 0} → (ℕ → A × ℕ) → ℕ → ℕ → List A × ℕ
+draw_list item zero state = ([], state)
+draw_list item (suc count) state =
+    let before = draw_list item count state in
     let last = item before.1 in
     (before.0 ++ last.0 ∷ [], last.1)

@@ -1,4 +1,4 @@
--- The blocks that are made from a seed.
+-- The blocks that are first_blocks from a seed.
 use Rattle.std.specs.Prelude.{◌≡◌, ℕ, zero, suc, ◌+◌, ◌<◌, ◌≤◌, ◌==◌, if◌then◌else◌, List, [], ◌∷◌, ◌++◌, map, Option, Some, None}
 use Rattle.std.specs.List.{concat}
 use Rattle.lc_base.specs.declared.digest.Digest.{Digest}
@@ -17,7 +17,7 @@ block_drawn number parent state =
     let txs = txs_drawn number state in
     (record { number = number; parent = parent; txs = txs.0 }, txs.1)
 
--- What was made so far: the blocks, the parent that the next one has, and where drawing stands.
+-- What was first_blocks so far: the blocks, the parent that the next one has, and where drawing stands.
 pub record MadeSoFar : Type 0 where
   pub blocks : List Block
   pub parent : Digest
@@ -29,22 +29,22 @@ none_made seed = record { blocks = []; parent = no_parent; state = seed }
 
 -- One more block, of this number: it is the parent of the next one.
 abbrev pub one_more_made : ℕ → MadeSoFar → MadeSoFar
-one_more_made number made =
-    let block = block_drawn number made.parent made.state in
-    record { blocks = made.blocks ++ block.0 ∷ []; parent = digest_of block.0; state = block.1 }
+one_more_made number first_blocks =
+    let block = block_drawn number first_blocks.parent first_blocks.state in
+    record { blocks = first_blocks.blocks ++ block.0 ∷ []; parent = digest_of block.0; state = block.1 }
 
 -- The first blocks of a seed, as many as that.
-unfoldable pub made : ℕ → ℕ → MadeSoFar
-made seed zero = none_made seed
-made seed (suc count) = one_more_made count (made seed count)
+unfoldable pub first_blocks : ℕ → ℕ → MadeSoFar
+first_blocks seed zero = none_made seed
+first_blocks seed (suc count) = one_more_made count (first_blocks seed count)
 
 -- The bytes that spell a block.
 unfoldable pub spelling : Block → List ℕ
 spelling block = concat (block_fields block)
 
 -- So many blocks of a seed, each as the bytes that spell it.
-abbrev pub generated : ℕ → ℕ → List (List ℕ)
-generated count seed = map spelling (made seed count).blocks
+abbrev pub blocks_of_seed : ℕ → ℕ → List (List ℕ)
+blocks_of_seed count seed = map spelling (first_blocks seed count).blocks
 
 -- ---- a generator
 
@@ -56,7 +56,7 @@ pub record Progress : Type 0 where
 
 -- The generator with drawing at another state.
 abbrev pub standing_at : ℕ → Progress → Progress
-standing_at state gen = record { state = state; given = gen.given; count = gen.count }
+standing_at state gen = record gen { state = state }
 
 -- The bytes of a block, and the generator that has given it.
 abbrev pub given_block : Progress → Block × ℕ → List ℕ × Progress
@@ -70,15 +70,15 @@ next_block gen parent =
 
 -- A generator that has given so many blocks of a seed.
 abbrev pub progress : ℕ → ℕ → ℕ → Progress
-progress seed count given = record { state = (made seed given).state; given = given; count = count }
+progress seed count given = record { state = (first_blocks seed given).state; given = given; count = count }
 
 -- A generator that has given the first blocks of a seed, with their last one as parent, gives the
 -- one after them, if any, and then has given that too.
 abbrev pub GoesOn : ℕ → Progress → Option (List ℕ × Progress) → Type 0
 GoesOn seed gen None = gen.given ≡ gen.count
 GoesOn seed gen (Some next) =
-    (generated (gen.given + 1) seed ≡ generated gen.given seed ++ next.0 ∷ [])
-    × (bytes_digest next.0 ≡ (made seed (gen.given + 1)).parent)
+    (blocks_of_seed (gen.given + 1) seed ≡ blocks_of_seed gen.given seed ++ next.0 ∷ [])
+    × (bytes_digest next.0 ≡ (first_blocks seed (gen.given + 1)).parent)
     × (next.1 ≡ progress seed gen.count (gen.given + 1))
 
 -- A block is the next one of each chain of its number of blocks that ends in its parent, as long as

@@ -3,7 +3,7 @@ use Rattle.std.specs.Prelude.{ℕ, pos, ◌==◌, if◌then◌else◌, List, [],
 use Rattle.lc_base.specs.declared.value.Value.TheVariants.{Int}
 use Rattle.block_codec.specs.declared.block.Tx.{Tx}
 use Rattle.block_codec.specs.declared.block.Tx.TheVariants.{Set, Deploy, Call}
-use Rattle.chain_gen.specs.Draws.{number_below, key_drawn, repeated}
+use Rattle.chain_gen.specs.Draws.{number_below, key_drawn, draw_list}
 use Rattle.chain_gen.specs.declared.limits.TheConstants.{ARGS, VALUES, DEP_COUNTS, SETS, BUDGET}
 
 -- The sender of each transaction.
@@ -36,14 +36,14 @@ set_drawn state =
     let key = key_drawn state in
     let value = number_below VALUES key.1 in
     let count = number_below DEP_COUNTS value.1 in
-    let deps = repeated key_drawn count.0 count.1 in
+    let deps = draw_list key_drawn count.0 count.1 in
     (Set sender key.0 (Int (pos value.0)) deps.0, deps.1)
 
 -- The transactions of a block after the first: a call, and then some Sets.
 unfoldable pub later_txs : ℕ → List Tx × ℕ
 later_txs state =
     let argument = number_below ARGS state in
-    let sets = repeated set_drawn SETS argument.1 in
+    let sets = draw_list set_drawn SETS argument.1 in
     (call_with argument.0 ∷ sets.0, sets.1)
 
 -- The transactions of the block of a number.

@@ -2,8 +2,10 @@
 
 ghost use Rattle.std.specs.Prelude.{◌≡◌, ◌+◌, ◌<◌, ◌≤◌, ◌++◌, length, take};
 ghost use Rattle.lc_names.specs.KeyBytes.{IsKey};
-ghost use Rattle.chain_gen.specs.Draws.{next_state, number_below, number_of_key, key_drawn, raw_key};
-ghost use Rattle.chain_gen.specs.declared.limits.TheConstants.{MANY_KEYS};
+ghost use Rattle.chain_gen.specs.{
+  Draws.{next_state, number_below, number_of_key, key_drawn, raw_key},
+  declared.limits.TheConstants.{MANY_KEYS},
+};
 
 use crate::limits::{DIVISOR, FEW_KEYS, INCREMENT, MANY_KEYS, MULTIPLIER};
 use itoa::Buffer;

@@ -2,9 +2,11 @@
 
 ghost use Rattle.std.specs.Prelude.{◌≡◌, ℕ, ◌<◌, ◌≤◌, length, IfOk, IfSome};
 ghost use Rattle.block_codec.specs.Spelling.{Spells};
-ghost use Rattle.chain_gen.specs.Draws.{number_below, key_drawn};
-ghost use Rattle.chain_gen.specs.declared.limits.TheConstants.{MAX_TXS_MADE};
-ghost use Rattle.chain_gen.specs.Generator.{block_drawn, generated, made, none_made, next_block, progress, spelling, standing_at, GoesOn, IsPlaced};
+ghost use Rattle.chain_gen.specs.{
+  Draws.{number_below, key_drawn},
+  declared.limits.TheConstants.{MAX_TXS_MADE},
+  Generator.{block_drawn, blocks_of_seed, first_blocks, none_made, next_block, progress, spelling, standing_at, GoesOn, IsPlaced},
+};
 
 use crate::draws::Draws;
 use crate::txs::txs_drawn;
@@ -35,7 +37,7 @@ impl Model for Gen {
 
 /// The bytes that spell a block.
 #[tactic(auto, unfolding(crate::specs::Generator::spelling))]
-fn spelled(alloc: Global, block: &Block) -> Result<Bytes, Memory>
+fn spell(alloc: Global, block: &Block) -> Result<Bytes, Memory>
     requires { Spells (spelling block.now) block.now }
     ensures bytes { IfOk result (λ bytes. bytes ≡ spelling block.now) }
     ensures lawful { IfOk result (λ bytes. Spells bytes block.now) }
@@ -74,15 +76,15 @@ fn block_drawn(
         parent: whole(parent),
         txs,
     };
-    spelled(alloc, &block)
+    spell(alloc, &block)
 }
 
 impl Gen {
     /// Of so many blocks none was given yet, and drawing begins at the seed.
-    #[tactic(auto, unfolding(crate::specs::Generator::made))]
+    #[tactic(auto, unfolding(crate::specs::Generator::first_blocks))]
     pub fn new(blocks: u32, seed: u32) -> Gen
         ensures start { result ≡ progress seed blocks 0 }
-        ensures none { made seed 0 ≡ none_made seed }
+        ensures none { first_blocks seed 0 ≡ none_made seed }
     {
         Gen {
             state: u64::from(seed),
@@ -124,7 +126,7 @@ impl Gen {
         ensures lawful { IfOk result (λ next. IfSome next (λ next. Spells next.0 (block_drawn self.given parent self.state).0)) }
         ensures few { length (block_drawn self.given parent self.state).0.txs ≤ MAX_TXS_MADE }
         ensures placed { IsPlaced self.given parent (block_drawn self.given parent self.state).0 }
-        ensures goes_on { IfOk result (λ next. (seed : ℕ) → self ≡ progress seed self.count self.given → parent ≡ (made seed self.given).parent → GoesOn seed self next) }
+        ensures goes_on { IfOk result (λ next. (seed : ℕ) → self ≡ progress seed self.count self.given → parent ≡ (first_blocks seed self.given).parent → GoesOn seed self next) }
     {
         if self.given == self.count {
             return Ok(None);
@@ -143,8 +145,8 @@ impl Gen {
 }
 
 /// The bytes of so many blocks of a seed, in order.
-pub fn generated(alloc: Global, blocks: u32, seed: u32) -> Result<TextList, Memory>
-    ensures { IfOk result (λ texts. texts ≡ generated blocks seed) }
+pub fn blocks_of_seed(alloc: Global, blocks: u32, seed: u32) -> Result<TextList, Memory>
+    ensures { IfOk result (λ texts. texts ≡ blocks_of_seed blocks seed) }
 {
     let mut texts = TextList::new(alloc);
     let mut generator = Gen::new(blocks, seed);

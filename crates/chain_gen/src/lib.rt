@@ -6,5 +6,5 @@ mod generator;
 mod limits;
 mod txs;
 
-pub use generator::{Gen, generated};
+pub use generator::{Gen, blocks_of_seed};
 pub use limits::MAX_TXS_MADE;

@@ -1,9 +1,11 @@
 //! The transactions of a block.
 
 ghost use Rattle.std.specs.Prelude.{◌≡◌, ◌++◌, IfOk};
-ghost use Rattle.chain_gen.specs.Draws.{key_drawn, repeated};
-ghost use Rattle.chain_gen.specs.Transactions.{sender, contract, function, source, deploy, call_with, set_drawn, later_txs, txs_drawn};
-ghost use Rattle.chain_gen.specs.declared.limits.TheConstants.{SETS};
+ghost use Rattle.chain_gen.specs.{
+  Draws.{key_drawn, draw_list},
+  Transactions.{sender, contract, function, source, deploy, call_with, set_drawn, later_txs, txs_drawn},
+  declared.limits.TheConstants.{SETS},
+};
 
 use crate::draws::Draws;
 use crate::limits::{ARGS, BUDGET, DEP_COUNTS, SETS, VALUES};
@@ -68,8 +70,8 @@ fn call_with(alloc: Global, argument: u32) -> Result<Tx, Memory>
 }
 
 fn keys(alloc: Global, draws: &mut Draws, count: u32) -> Result<KeyList, Memory>
-    ensures keys { IfOk result (λ keys. keys ≡ (repeated key_drawn count draws.old).0) }
-    ensures state { IfOk result (λ keys. draws.new ≡ (repeated key_drawn count draws.old).1) }
+    ensures keys { IfOk result (λ keys. keys ≡ (draw_list key_drawn count draws.old).0) }
+    ensures state { IfOk result (λ keys. draws.new ≡ (draw_list key_drawn count draws.old).1) }
 {
     let mut keys = KeyList::new(alloc);
     for _ in 0..count {
@@ -96,8 +98,8 @@ fn set(alloc: Global, draws: &mut Draws) -> Result<Tx, Memory>
 }
 
 fn push_sets(alloc: Global, draws: &mut Draws, txs: &mut TxList) -> Result<(), Memory>
-    ensures txs { IfOk result (λ done. txs.new ≡ txs.old ++ (repeated set_drawn SETS draws.old).0) }
-    ensures state { IfOk result (λ done. draws.new ≡ (repeated set_drawn SETS draws.old).1) }
+    ensures txs { IfOk result (λ done. txs.new ≡ txs.old ++ (draw_list set_drawn SETS draws.old).0) }
+    ensures state { IfOk result (λ done. draws.new ≡ (draw_list set_drawn SETS draws.old).1) }
 {
     for _ in 0..SETS {
         txs.push(set(alloc, draws)?)?;

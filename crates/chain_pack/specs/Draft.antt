@@ -1,4 +1,4 @@
--- Drafts, and the texts of the blocks that they are packed into.
+-- Drafts, and the texts of the blocks that they are texts_of_draft into.
 use Rattle.std.specs.Prelude.{ℕ, ◌+◌, nat_lt, if◌then◌else◌, List, [], ◌∷◌, length, Option, Some, None, Result, Ok, Err}
 use Rattle.std.specs.List.{concat}
 use Rattle.serde_json.specs.Data.{Data}
@@ -9,7 +9,7 @@ use Rattle.block_codec.specs.declared.limits.TheConstants.{MAX_BLOCK_BUDGET, MAX
 use Rattle.block_codec.specs.declared.block.Tx.{Tx}
 use Rattle.block_codec.specs.declared.block.Block.{Block}
 use Rattle.chain_draft.specs.Json.{json_in, items_in}
-use Rattle.chain_draft.specs.Transactions.{each, in_front, tx_in}
+use Rattle.chain_draft.specs.Transactions.{each, with_first, tx_in}
 use Rattle.chain_pack.specs.declared.error.PackError.{PackError}
 use Rattle.chain_pack.specs.declared.error.PackError.TheVariants.{Json, Top, Shape, BlockLimit, Memory}
 
@@ -54,7 +54,7 @@ text_in number parent json = text_with number parent (txs_in number json)
 
 -- A text, and then those after it.
 abbrev pub then_texts : Result (List ℕ) PackError → (List ℕ → Result (List (List ℕ)) PackError) → Result (List (List ℕ)) PackError
-then_texts (Ok text) others = in_front text (others text)
+then_texts (Ok text) others = with_first text (others text)
 then_texts (Err fault) others = Err fault
 
 -- The texts of blocks, the first of this number and parent, and each of the others of the next
@@ -74,8 +74,8 @@ packed_of None = Err Json
 packed_of (Some json) = texts_of (items_in json)
 
 -- The texts of the blocks of a draft, or its first fault.
-abbrev pub packed : List ℕ → Result (List (List ℕ)) PackError
-packed draft = packed_of (json_in draft)
+abbrev pub texts_of_draft : List ℕ → Result (List (List ℕ)) PackError
+texts_of_draft draft = packed_of (json_in draft)
 
 -- A text is that of a block.
 abbrev pub IsBlockText : List ℕ → Type 0

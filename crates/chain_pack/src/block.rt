@@ -1,11 +1,12 @@
 //! Blocks, read from JSON and spelled.
 
-ghost use Rattle.std.specs.Prelude.{◌≡◌, ◌≤◌, map, length, IfOk};
-ghost use Rattle.std.specs.List.{AllByRecursion};
+ghost use Rattle.std.specs.{Prelude.{◌≡◌, ◌≤◌, map, length, IfOk}, List.{AllByRecursion}};
 ghost use Rattle.serde_json.specs.View.{view};
 ghost use Rattle.lc_base.specs.Answers.{Answers};
-ghost use Rattle.block_codec.specs.Spelling.{IsTx, IsBlock, Spells};
-ghost use Rattle.block_codec.specs.declared.limits.TheConstants.{MAX_TXS};
+ghost use Rattle.block_codec.specs.{
+  Spelling.{IsTx, IsBlock, Spells},
+  declared.limits.TheConstants.{MAX_TXS},
+};
 ghost use Rattle.chain_draft.specs.Transactions.{each, tx_in};
 ghost use Rattle.chain_pack.specs.Draft.{pack_fault, at_block, txs_in, text_of, text_in, IsBlockText};
 

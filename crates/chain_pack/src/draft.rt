@@ -1,14 +1,18 @@
 //! Whole drafts.
 
-ghost use Rattle.std.specs.Prelude.{◌≤◌, map, length, IfOk};
-ghost use Rattle.std.specs.Option.{ok_or};
-ghost use Rattle.std.specs.List.{AllByRecursion};
+ghost use Rattle.std.specs.{
+  Prelude.{◌≤◌, map, length, IfOk},
+  Option.{ok_or},
+  List.{AllByRecursion},
+};
 ghost use Rattle.serde_json.specs.View.{view};
 ghost use Rattle.lc_base.specs.Answers.{Answers};
 ghost use Rattle.chain_draft.specs.Json.{json_in};
-ghost use Rattle.chain_pack.specs.Draft.{pack_fault, texts_from, packed, IsBlockText};
+ghost use Rattle.chain_pack.specs.{
+  Draft.{pack_fault, texts_from, texts_of_draft, IsBlockText},
+  declared.draft.TheConstants.{MAX_PACKED_BLOCKS},
+};
 ghost use Rattle.block_codec.specs.Placement.{no_parent};
-ghost use Rattle.chain_pack.specs.declared.draft.TheConstants.{MAX_PACKED_BLOCKS};
 
 use crate::block::text_in;
 use crate::error::PackError;
@@ -51,7 +55,7 @@ fn texts(alloc: Global, blocks: &[Json]) -> Result<TextList, PackError>
 
 /// The texts of the blocks of a draft.
 pub fn pack(alloc: Global, draft: &[u8]) -> Result<TextList, PackError>
-    ensures packed { Answers (λ texts. texts) pack_fault result (packed draft.now) }
+    ensures packed { Answers (λ texts. texts) pack_fault result (texts_of_draft draft.now) }
     // Each text is that of a block, and so no longer than one.
     ensures spelled { IfOk result (AllByRecursion IsBlockText) }
 {

@@ -5,18 +5,18 @@ use Rattle.std.specs.List.{concat}
 use Rattle.std.proofs.lemmas.Bool.{leb-true}
 use Rattle.std.proofs.lemmas.List.{append-nil}
 use Rattle.lc_io.specs.Disk.{DiskState}
-use Rattle.lc_io.specs.Outside.{Tell, IsPrefix, joined}
+use Rattle.lc_io.specs.Outside.{Tell, IsPrefix, bytes_told}
 use Rattle.disk_model.specs.Disk.{IsImage}
 use Rattle.block_codec.specs.declared.block.Block.{Block}
 use Rattle.block_log.specs.Standing.{NextBlock, chain_of}
-use Rattle.crash_promises.specs.Promises.{Promise, NoPromise, Holds, Line, Change, NoChange, Appends, AreBegun, NoMore, Part, Full, IsKept, AreKept, MayLeave}
+use Rattle.crash_promises.specs.Promises.{Promise, NoPromise, Holds, Line, Change, NoChange, Appends, AreBegun, NoMore, Part, Full, IsPromiseKept, AreKept, MayLeave}
 use Rattle.crash_promises.specs.Laws.{Left, AllAreKept, GoesOn, AreRuns, last_image, all_acknowledged, acknowledged_by, StopLeaves}
 use Rattle.crash_promises.proofs.Sure.{has_more}
 
 -- ---- bytes
 
 -- what was told of lines is a prefix of them
-pub begun_prefix : (tells : List Tell) (lines : List Line) → AreBegun tells lines → IsPrefix (joined tells) (concat (map (λ (line : Line). line.text) lines))
+pub begun_prefix : (tells : List Tell) (lines : List Line) → AreBegun tells lines → IsPrefix (bytes_told tells) (concat (map (λ (line : Line). line.text) lines))
 begun_prefix tells lines (NoMore ls) = (concat (map (λ (line : Line). line.text) ls), refl)
 begun_prefix tells lines (Part t l ls front) = (
   front.0 ++ concat (map (λ (line : Line). line.text) ls),
@@ -26,13 +26,13 @@ begun_prefix tells lines (Part t l ls front) = (
 begun_prefix tells lines (Full t ts l ls same begun) =
     let f = begun_prefix ts ls begun in (
       f.0,
-      ap (λ (b : List ℕ). l.text ++ b) f.1 ∙ sym (append_assoc l.text (joined ts) f.0) ∙ ap (λ (b : List ℕ). (b ++ joined ts) ++ f.0) (sym same),
+      ap (λ (b : List ℕ). l.text ++ b) f.1 ∙ sym (append_assoc l.text (bytes_told ts) f.0) ∙ ap (λ (b : List ℕ). (b ++ bytes_told ts) ++ f.0) (sym same),
     )
 
 -- ---- runs one after another
 
 -- a longer chain keeps a promise too
-kept_more : (next : NextBlock) (blocks more : List Block) (promise : Promise) (image last : List ℕ) → chain_of next image ≡ Some blocks → chain_of next last ≡ Some (blocks ++ more) → IsKept next promise image → IsKept next promise last
+kept_more : (next : NextBlock) (blocks more : List Block) (promise : Promise) (image last : List ℕ) → chain_of next image ≡ Some blocks → chain_of next last ≡ Some (blocks ++ more) → IsPromiseKept next promise image → IsPromiseKept next promise last
 kept_more next blocks more NoPromise image last is goes kept = tt
 kept_more next blocks more (Holds number block) image last is goes (others, chain, there) =
     let same : others ≡ blocks = cc (chain, is) in

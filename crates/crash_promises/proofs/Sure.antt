@@ -7,7 +7,7 @@ use Rattle.std.proofs.lemmas.List.{length-append, get_or_append_left, take_at, t
 use Rattle.std.proofs.lemmas.Option.{slice_get_within, slice_get-get_or, get_or_from_slice_get}
 use Rattle.block_codec.specs.declared.block.Block.{Block}
 use Rattle.block_log.specs.Standing.{NextBlock, chain_of}
-use Rattle.crash_promises.specs.Promises.{Promise, NoPromise, Holds, Line, IsKept, KeepsLines, IsPartly}
+use Rattle.crash_promises.specs.Promises.{Promise, NoPromise, Holds, Line, IsPromiseKept, KeepsLines, IsPartly}
 
 -- the chain has what is promised
 abbrev pub IsSure : List Block → Promise → Type 0
@@ -41,7 +41,7 @@ sure_push blocks [] line all one = (one, tt)
 sure_push blocks (l ∷ lines) line all one = (all.0, sure_push blocks lines line all.1 one)
 
 -- an image of a chain keeps what the chain has
-pub sure_kept : (next : NextBlock) (blocks : List Block) (promise : Promise) (image : List ℕ) → IsSure blocks promise → chain_of next image ≡ Some blocks → IsKept next promise image
+pub sure_kept : (next : NextBlock) (blocks : List Block) (promise : Promise) (image : List ℕ) → IsSure blocks promise → chain_of next image ≡ Some blocks → IsPromiseKept next promise image
 sure_kept next blocks NoPromise image sure is = tt
 sure_kept next blocks (Holds number block) image sure is = (blocks, is, sure)
 

@@ -8,7 +8,7 @@ use Rattle.disk_model.specs.Disk.{IsImage, Keeps, LeftSince}
 use Rattle.disk_model.proofs.Moments.{started, since}
 use Rattle.disk_model.proofs.Calls.{stay_keeps}
 use Rattle.block_log.specs.Standing.{NextBlock}
-use Rattle.crash_promises.specs.Promises.{Promise, NoPromise, Line, plain, AreBegun, NoMore, Part, Full, AreLines, AreKept, IsKept, KeepsLines, IsKeptAt, Telling}
+use Rattle.crash_promises.specs.Promises.{Promise, NoPromise, Line, plain, AreBegun, NoMore, Part, Full, AreLines, AreKept, IsPromiseKept, KeepsLines, IsKeptAt, Telling}
 
 with_two : (old : Option (List Tell)) (a b : List Tell) → with_tells (with_tells old a) b ≡ with_tells old (a ++ b)
 with_two None a b = refl
@@ -93,8 +93,8 @@ module _ {D : Type 0} (next : NextBlock) (now : D → ℕ) (disk : D → ℕ →
   pub still : (old new : D) (P : List ℕ → Type 0) → ((s : DiskState) (c : List ℕ) → disk old (now old) ≡ Some s → IsImage s c → P c) → Stays now disk old new → Keeps now disk old new P
   still old new P here stays = stay_keeps now disk old old new P (started now disk old P here) stays
 
-  kept_now : (old new : D) (promise : Promise) → IsKeptAt next now disk old promise → Stays now disk old new → (c : List ℕ) → LeftSince now disk new (now old) c → IsKept next promise c
-  kept_now old new promise here stays c left = (still old new (IsKept next promise) here stays).each left.0 left.3 c left.1 left.2 left.4 left.5
+  kept_now : (old new : D) (promise : Promise) → IsKeptAt next now disk old promise → Stays now disk old new → (c : List ℕ) → LeftSince now disk new (now old) c → IsPromiseKept next promise c
+  kept_now old new promise here stays c left = (still old new (IsPromiseKept next promise) here stays).each left.0 left.3 c left.1 left.2 left.4 left.5
 
   pub told_ok : (old new : D) (bytes : List ℕ) (promise : Promise) → IsKeptAt next now disk old promise → Stays now disk old new → told new ≡ with_tells (told old) (record { at = now old; bytes = bytes } ∷ [])
       → Telling next now disk told old new (record { text = bytes; promise = promise } ∷ []) true

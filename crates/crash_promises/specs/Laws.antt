@@ -2,15 +2,15 @@
 use Rattle.std.specs.Prelude.{◌≡◌, ℕ, ◌≤◌, Bool, nat_le, if◌then◌else◌, List, [], ◌∷◌, ◌++◌, map, Option, Some}
 use Rattle.std.specs.List.{concat}
 use Rattle.lc_io.specs.Disk.{DiskState}
-use Rattle.lc_io.specs.Outside.{Tell, IsPrefix, joined}
+use Rattle.lc_io.specs.Outside.{Tell, IsPrefix, bytes_told}
 use Rattle.disk_model.specs.Disk.{IsImage, Keeps}
 use Rattle.block_codec.specs.declared.block.Block.{Block}
 use Rattle.block_log.specs.Standing.{NextBlock, chain_of}
-use Rattle.crash_promises.specs.Promises.{Promise, Line, Change, IsKept, AreBegun, Telling, MayLeave}
+use Rattle.crash_promises.specs.Promises.{Promise, Line, Change, IsPromiseKept, AreBegun, Telling, MayLeave}
 
 -- The bytes of pieces that were told for lines are a prefix of the lines' bytes.
 abbrev pub BegunIsPrefix : Type 0
-BegunIsPrefix = (tells : List Tell) (lines : List Line) → AreBegun tells lines → IsPrefix (joined tells) (concat (map (λ line. line.text) lines))
+BegunIsPrefix = (tells : List Tell) (lines : List Line) → AreBegun tells lines → IsPrefix (bytes_told tells) (concat (map (λ line. line.text) lines))
 
 -- ---- runs, one after another
 
@@ -22,7 +22,7 @@ pub record Left : Type 0 where
 -- The image keeps all these promises.
 abbrev pub AllAreKept : NextBlock → List Promise → List ℕ → Type 0
 AllAreKept next [] image = Unit {0}
-AllAreKept next (promise ∷ promises) image = IsKept next promise image × AllAreKept next promises image
+AllAreKept next (promise ∷ promises) image = IsPromiseKept next promise image × AllAreKept next promises image
 
 -- The image stands for the chain of the one before, and any blocks after it.
 abbrev pub GoesOn : NextBlock → List ℕ → List ℕ → Type 0

@@ -25,18 +25,18 @@ plain text = record { text = text; promise = NoPromise }
 
 -- The image keeps the promise: it stands for a chain that has the block as its block of that number.
 -- `next` says which bytes are the next block of a chain.
-abbrev pub IsKept : NextBlock → Promise → List ℕ → Type 0
-IsKept next NoPromise image = Unit {0}
-IsKept next (Holds number block) image = (blocks : List Block) × (chain_of next image ≡ Some blocks) × (slice_get blocks number ≡ Some block)
+abbrev pub IsPromiseKept : NextBlock → Promise → List ℕ → Type 0
+IsPromiseKept next NoPromise image = Unit {0}
+IsPromiseKept next (Holds number block) image = (blocks : List Block) × (chain_of next image ≡ Some blocks) × (slice_get blocks number ≡ Some block)
 
 -- The image keeps what all these lines promise.
 abbrev pub KeepsLines : NextBlock → List Line → List ℕ → Type 0
 KeepsLines next [] image = Unit {0}
-KeepsLines next (line ∷ lines) image = IsKept next line.promise image × KeepsLines next lines image
+KeepsLines next (line ∷ lines) image = IsPromiseKept next line.promise image × KeepsLines next lines image
 
 -- Whatever a crash may leave now keeps the promise.
 abbrev pub IsKeptAt : {D : Type 0} → NextBlock → (D → ℕ) → (D → ℕ → Option DiskState) → D → Promise → Type 0
-IsKeptAt next now disk machine promise = (state : DiskState) (image : List ℕ) → disk machine (now machine) ≡ Some state → IsImage state image → IsKept next promise image
+IsKeptAt next now disk machine promise = (state : DiskState) (image : List ℕ) → disk machine (now machine) ≡ Some state → IsImage state image → IsPromiseKept next promise image
 
 -- ---- what is told
 
@@ -57,7 +57,7 @@ abbrev pub AreKept : {D : Type 0} → NextBlock → (D → ℕ) → (D → ℕ �
 AreKept next now disk machine [] lines = Unit {0}
 AreKept next now disk machine (tell ∷ tells) [] = Unit {0}
 AreKept next now disk machine (tell ∷ tells) (line ∷ lines) =
-    ((image : List ℕ) → LeftSince now disk machine tell.at image → IsKept next line.promise image) × AreKept next now disk machine tells lines
+    ((image : List ℕ) → LeftSince now disk machine tell.at image → IsPromiseKept next line.promise image) × AreKept next now disk machine tells lines
 
 -- Between two states these lines were told, all of them where that is wanted, else a prefix of their
 -- bytes, and nothing else. Each line that was begun keeps its promise from then on.

@@ -60,7 +60,7 @@ module _ {D : Type 0} (now : D → ℕ) (disk : D → ℕ → Option DiskState) 
     past = λ t le. second.past t (omega (arith, first.later)) ∙ first.past t le;
     here = λ t after to. elim (cases_lt (now mid) t) [
       | inr before ↦ second.past t before ∙ first.here t after before
-      | inl behind ↦ second.here t behind to ∙ first.last
+      | inl past ↦ second.here t past to ∙ first.last
     ];
     last = second.last ∙ first.last;
   }

@@ -7,15 +7,15 @@ use Rattle.std.proofs.lemmas.Bool.{cases_lt}
 use Rattle.std.proofs.lemmas.Bool.Decides.{nat_tests}
 use Rattle.lc_io.specs.Disk.{DiskState, Turns, Stays}
 use Rattle.lc_io.specs.Outside.{Tell, Tells}
-use Rattle.disk_model.specs.Disk.{settled, written, pended, overwritten, Torn, Writes, Syncs}
+use Rattle.disk_model.specs.Disk.{settled_disk, disk_after_write, with_pending, bytes_over, Torn, Writes, Syncs}
 use Rattle.disk_model.specs.declared.mem_machine.Mark.{Mark}
 use Rattle.disk_model.specs.declared.mem_machine.Mark.TheVariants as marks
-use Rattle.disk_model.specs.Machine.{Call, Wrote, FailedWrite, Synced, Told, Idle, after_call, replayed, tells_from, MachineState, now_of, disk_of, content_now, told_of, has_room, with_call, with_disk_fault, with_wire_fault, Attempts, Makes, MakesRead, MakesWrite, MakesSync, MakesTell}
+use Rattle.disk_model.specs.Machine.{Call, Wrote, FailedWrite, Synced, Told, Idle, after_call, disk_after_calls, tells_from, MachineState, now_of, disk_of, content_now, told_of, has_room, with_call, with_disk_fault, with_wire_fault, Attempts, Makes, MakesRead, MakesWrite, MakesSync, MakesTell}
 use Rattle.disk_model.specs.Marks.{call_of, changed_by}
 
 -- ---- the content
 
-pub replayed_push : (state : DiskState) (calls : List Call) (call : Call) → replayed state (calls ++ call ∷ []) ≡ after_call (replayed state calls) call
+pub replayed_push : (state : DiskState) (calls : List Call) (call : Call) → disk_after_calls state (calls ++ call ∷ []) ≡ after_call (disk_after_calls state calls) call
 replayed_push state [] call = refl
 replayed_push state (c ∷ calls) call = replayed_push (after_call state c) calls call
 
@@ -28,20 +28,20 @@ changed_content state marks.Idle bytes = refl
 
 -- the content after one more call
 pub content_push : (first : List ℕ) (calls new : List Call) (mark : Mark) (bytes : List ℕ) → new ≡ calls ++ call_of mark bytes ∷ []
-    → (replayed (settled first) new).content ≡ changed_by mark bytes (replayed (settled first) calls).content
+    → (disk_after_calls (settled_disk first) new).content ≡ changed_by mark bytes (disk_after_calls (settled_disk first) calls).content
 content_push first calls new mark bytes is =
-    ap (λ (l : List Call). (replayed (settled first) l).content) is
-    ∙ ap (λ (s : DiskState). s.content) (replayed_push (settled first) calls (call_of mark bytes))
-    ∙ changed_content (replayed (settled first) calls) mark bytes
+    ap (λ (l : List Call). (disk_after_calls (settled_disk first) l).content) is
+    ∙ ap (λ (s : DiskState). s.content) (replayed_push (settled_disk first) calls (call_of mark bytes))
+    ∙ changed_content (disk_after_calls (settled_disk first) calls) mark bytes
 
--- bytes written past the end stand at the end
-pub overwritten_past : (at : ℕ) (bytes content : List ℕ) → overwritten (min at (length content)) bytes content ≡ overwritten at bytes content
+-- bytes disk_after_write past the end stand at the end
+pub overwritten_past : (at : ℕ) (bytes content : List ℕ) → bytes_over (min at (length content)) bytes content ≡ bytes_over at bytes content
 overwritten_past at bytes content = elim (cases_lt (length content) at) [
-  | inr within ↦ ap (λ (n : ℕ). overwritten n bytes content) (omega arith)
+  | inr within ↦ ap (λ (n : ℕ). bytes_over n bytes content) (omega arith)
   | inl past ↦ let end : min at (length content) ≡ length content = omega arith in rw (end, take_all at content (omega arith), take_all (length content) content (omega arith), drop_all (at + length bytes) content (omega arith), drop_all (length content + length bytes) content (omega arith)) refl
 ]
 
-overwritten_len : (at : ℕ) (bytes content : List ℕ) → length (overwritten at bytes content) ≤ length content + length bytes
+overwritten_len : (at : ℕ) (bytes content : List ℕ) → length (bytes_over at bytes content) ≤ length content + length bytes
 overwritten_len at bytes content = omega (arith, length-append (take at content ++ bytes) (drop (at + length bytes) content), length-append (take at content) bytes, length-take at content, length-drop (at + length bytes) content)
 
 pub changed_len : (mark : Mark) (bytes content : List ℕ) → length (changed_by mark bytes content) ≤ length content + length bytes
@@ -64,15 +64,15 @@ room_for_none m count fits =
 
 -- ---- the disk
 
-pub all_calls : (m : MachineState) → disk_of m (now_of m) ≡ Some (replayed (settled m.first) m.calls)
-all_calls m = ap (λ (l : List Call). Some (replayed (settled m.first) l)) (take_all (length m.calls) m.calls (omega arith))
+pub all_calls : (m : MachineState) → disk_of m (now_of m) ≡ Some (disk_after_calls (settled_disk m.first) m.calls)
+all_calls m = ap (λ (l : List Call). Some (disk_after_calls (settled_disk m.first) l)) (take_all (length m.calls) m.calls (omega arith))
 
 -- a call that took a number
 turns : (old new : MachineState) (call : Call) → new.first ≡ old.first → new.calls ≡ old.calls ++ call ∷ []
-    → Turns now_of disk_of old new (Some (after_call (replayed (settled old.first) old.calls) call))
+    → Turns now_of disk_of old new (Some (after_call (disk_after_calls (settled_disk old.first) old.calls) call))
 turns old new call first calls = record {
   later = omega (arith, longer);
-  past = λ t le. ap (λ (l : List ℕ). Some (replayed (settled l) (take t new.calls))) first ∙ ap (λ (l : List Call). Some (replayed (settled old.first) l)) (ap (take t) calls ∙ take-append-le t old.calls (call ∷ []) le);
+  past = λ t le. ap (λ (l : List ℕ). Some (disk_after_calls (settled_disk l) (take t new.calls))) first ∙ ap (λ (l : List Call). Some (disk_after_calls (settled_disk old.first) l)) (ap (take t) calls ∙ take-append-le t old.calls (call ∷ []) le);
   here = λ t lt le. at_end t (omega (arith, longer));
   last = at_end (length new.calls) (omega arith);
 }
@@ -80,11 +80,11 @@ turns old new call first calls = record {
     longer : length new.calls ≡ length old.calls + 1
     longer = ap (length {A = Call}) calls ∙ length-append old.calls (call ∷ [])
 
-    at_end : (t : ℕ) → length new.calls ≤ t → disk_of new t ≡ Some (after_call (replayed (settled old.first) old.calls) call)
+    at_end : (t : ℕ) → length new.calls ≤ t → disk_of new t ≡ Some (after_call (disk_after_calls (settled_disk old.first) old.calls) call)
     at_end t le =
-        ap (λ (l : List Call). Some (replayed (settled new.first) l)) (take_all t new.calls le ∙ calls)
-        ∙ ap (λ (l : List ℕ). Some (replayed (settled l) (old.calls ++ call ∷ []))) first
-        ∙ ap Some (replayed_push (settled old.first) old.calls call)
+        ap (λ (l : List Call). Some (disk_after_calls (settled_disk new.first) l)) (take_all t new.calls le ∙ calls)
+        ∙ ap (λ (l : List ℕ). Some (disk_after_calls (settled_disk l) (old.calls ++ call ∷ []))) first
+        ∙ ap Some (replayed_push (settled_disk old.first) old.calls call)
 
 -- a call that does not fit the room
 idle : (old new : MachineState) → new.first ≡ old.first → new.calls ≡ old.calls → Stays now_of disk_of old new
@@ -96,11 +96,11 @@ idle old new first calls = record {
 }
   where
     same : (t : ℕ) → disk_of new t ≡ disk_of old t
-    same t = ap (λ (l : List ℕ). Some (replayed (settled l) (take t new.calls))) first ∙ ap (λ (l : List Call). Some (replayed (settled old.first) (take t l))) calls
+    same t = ap (λ (l : List ℕ). Some (disk_after_calls (settled_disk l) (take t new.calls))) first ∙ ap (λ (l : List Call). Some (disk_after_calls (settled_disk old.first) (take t l))) calls
 
 -- a call that leaves the disk as it was
 stays : (old new : MachineState) (call : Call) → new.first ≡ old.first → new.calls ≡ old.calls ++ call ∷ [] → ((s : DiskState) → after_call s call ≡ s) → Stays now_of disk_of old new
-stays old new call first calls same = subst (Turns now_of disk_of old new) (ap Some (same (replayed (settled old.first) old.calls)) ∙ sym (all_calls old)) (turns old new call first calls)
+stays old new call first calls same = subst (Turns now_of disk_of old new) (ap Some (same (disk_after_calls (settled_disk old.first) old.calls)) ∙ sym (all_calls old)) (turns old new call first calls)
 
 -- a call of the disk that fails and is no write
 disk_fails : (old new : MachineState) (fits : Bool) (Fails : Type 0) → MatchBool fits (Fails × (new ≡ with_disk_fault (with_call Idle 0 old))) (new ≡ with_disk_fault old) → Stays now_of disk_of old new
@@ -112,25 +112,25 @@ read_stays old new (Ok x) makes = stays old new Idle (ap (λ (m : MachineState).
 read_stays old new (Err e) makes = disk_fails old new (has_room old 0) _ makes
 
 pub syncs : {T E : Type 0} (old new : MachineState) (result : Result T E) → MakesSync old new result → Syncs now_of disk_of old new result
-syncs old new (Ok x) makes = subst (Turns now_of disk_of old new) (ap (option_map (λ s. settled s.content)) (sym (all_calls old))) (turns old new Synced (ap (λ (m : MachineState). m.first) makes.2) (ap (λ (m : MachineState). m.calls) makes.2))
+syncs old new (Ok x) makes = subst (Turns now_of disk_of old new) (ap (option_map (λ s. settled_disk s.content)) (sym (all_calls old))) (turns old new Synced (ap (λ (m : MachineState). m.first) makes.2) (ap (λ (m : MachineState). m.calls) makes.2))
 syncs old new (Err e) makes = disk_fails old new (has_room old 0) _ makes
 
 -- a write that fails leaves the content, which is one that it may leave
 write_fails : (T : Type 0) {E : Type 0} (old new : MachineState) (at : ℕ) (bytes : List ℕ) (e : E) (fits : Bool) (Fails : Type 0)
     → MatchBool fits (Fails × (new ≡ with_disk_fault (with_call (FailedWrite at (length bytes)) 0 old))) (new ≡ with_disk_fault old) → Writes {T = T} now_of disk_of old new at bytes (Err e)
 write_fails T old new at bytes e true Fails (fails, is) =
-    let state : DiskState = replayed (settled old.first) old.calls in
+    let state : DiskState = disk_after_calls (settled_disk old.first) old.calls in
     inr (
       state.content,
       λ s told. let same : s ≡ state = cc (told, all_calls old) in
           subst (λ (t : DiskState). Torn at (length bytes) t.content state.content) (sym same) (record { before = refl; after = refl; no_shorter = omega arith; no_longer = omega arith }),
-      subst (Turns now_of disk_of old new) (ap (option_map (pended at (length bytes) state.content)) (sym (all_calls old)))
+      subst (Turns now_of disk_of old new) (ap (option_map (with_pending at (length bytes) state.content)) (sym (all_calls old)))
           (turns old new (FailedWrite at (length bytes)) (ap (λ (m : MachineState). m.first) is) (ap (λ (m : MachineState). m.calls) is)),
     )
 write_fails T old new at bytes e false Fails is = inl (idle old new (ap (λ (m : MachineState). m.first) is) (ap (λ (m : MachineState). m.calls) is))
 
 pub writes : (T : Type 0) {E : Type 0} (old new : MachineState) (at : ℕ) (bytes : List ℕ) (result : Result T E) → MakesWrite at bytes old new result → Writes now_of disk_of old new at bytes result
-writes T old new at bytes (Ok x) makes = subst (Turns now_of disk_of old new) (ap (option_map (written at bytes)) (sym (all_calls old))) (turns old new (Wrote at bytes) (ap (λ (m : MachineState). m.first) makes.2) (ap (λ (m : MachineState). m.calls) makes.2))
+writes T old new at bytes (Ok x) makes = subst (Turns now_of disk_of old new) (ap (option_map (disk_after_write at bytes)) (sym (all_calls old))) (turns old new (Wrote at bytes) (ap (λ (m : MachineState). m.first) makes.2) (ap (λ (m : MachineState). m.calls) makes.2))
 writes T old new at bytes (Err e) makes = write_fails T old new at bytes e (has_room old (length bytes)) _ makes
 
 tell_fails : (old new : MachineState) (fits : Bool) (Fails : Type 0) → MatchBool fits (Fails × (new ≡ with_wire_fault (with_call Idle 0 old))) (new ≡ with_wire_fault old) → Stays now_of disk_of old new
@@ -142,12 +142,12 @@ tell_stays old new bytes (Ok x) makes = stays old new (Told bytes) (ap (λ (m : 
 tell_stays old new bytes (Err e) makes = tell_fails old new (has_room old (length bytes)) _ makes
 
 -- the content at the present moment
-pub content_at_now : (m : MachineState) → (replayed (settled m.first) (take (now_of m) m.calls)).content ≡ content_now m
-content_at_now m = ap (λ (l : List Call). (replayed (settled m.first) l).content) (take_all (length m.calls) m.calls (omega arith))
+pub content_at_now : (m : MachineState) → (disk_after_calls (settled_disk m.first) (take (now_of m) m.calls)).content ≡ content_now m
+content_at_now m = ap (λ (l : List Call). (disk_after_calls (settled_disk m.first) l).content) (take_all (length m.calls) m.calls (omega arith))
 
 -- a read that is done leaves the content as it was
 pub read_content : (old new : MachineState) → new ≡ with_call Idle 0 old → content_now new ≡ content_now old
-read_content old new is = ap content_now is ∙ ap (λ (s : DiskState). s.content) (replayed_push (settled old.first) old.calls Idle)
+read_content old new is = ap content_now is ∙ ap (λ (s : DiskState). s.content) (replayed_push (settled_disk old.first) old.calls Idle)
 
 -- ---- the wire
 

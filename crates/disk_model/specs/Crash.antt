@@ -1,8 +1,8 @@
--- What a crash leaves of a disk, where it is told which of the pending bytes it keeps.
+-- What a crash leaves of a disk, where it is known which of the pending bytes it keeps.
 use Rattle.std.specs.Prelude.{ℕ, ◌+◌, ◌-◌, Bool, ◌&&◌, nat_eq, if◌then◌else◌, List, [], ◌∷◌, take}
 use Rattle.lc_io.specs.Disk.{DiskState}
-use Rattle.disk_model.specs.Disk.{is_pending, settled}
-use Rattle.disk_model.specs.Machine.{MachineState, made, replayed}
+use Rattle.disk_model.specs.Disk.{is_pending, settled_disk}
+use Rattle.disk_model.specs.Machine.{MachineState, new_machine, disk_after_calls}
 
 -- A byte, where so many pending ones are still to be kept: where it is pending and none is, `fill`
 -- stands in its place.
@@ -15,19 +15,19 @@ keep_after pending keep = if pending then keep - 1 else keep
 
 -- The bytes from an offset on. Of those where a write is pending the first `keep` stay, and `fill`
 -- stands in place of each later one.
-abbrev pub filled : List (ℕ × ℕ) → ℕ → ℕ → ℕ → List ℕ → List ℕ
-filled pending fill keep offset [] = []
-filled pending fill keep offset (byte ∷ bytes) =
-    kept_byte (is_pending pending offset) keep fill byte ∷ filled pending fill (keep_after (is_pending pending offset) keep) (offset + 1) bytes
+abbrev pub fill_pending : List (ℕ × ℕ) → ℕ → ℕ → ℕ → List ℕ → List ℕ
+fill_pending pending fill keep offset [] = []
+fill_pending pending fill keep offset (byte ∷ bytes) =
+    kept_byte (is_pending pending offset) keep fill byte ∷ fill_pending pending fill (keep_after (is_pending pending offset) keep) (offset + 1) bytes
 
 -- What a crash leaves that keeps the first `keep` of the pending bytes of the content, with `fill`
 -- in place of the others; one that is short leaves no more of it than was synced.
-abbrev pub crashed : ℕ → ℕ → Bool → DiskState → List ℕ
-crashed keep fill short state =
-    if short then take state.synced (filled state.pending fill keep 0 state.content) else filled state.pending fill keep 0 state.content
+abbrev pub crash_image : ℕ → ℕ → Bool → DiskState → List ℕ
+crash_image keep fill short state =
+    if short then take state.synced (fill_pending state.pending fill keep 0 state.content) else fill_pending state.pending fill keep 0 state.content
 
 -- The machine over what such a crash at a moment leaves. It has the room of the old one, and none of
 -- its calls is to fail.
 abbrev pub crashed_machine : ℕ → ℕ → ℕ → Bool → MachineState → MachineState
 crashed_machine moment keep fill short m =
-    made (crashed keep fill short (replayed (settled m.first) (take moment m.calls))) m.room_calls m.room_bytes []
+    new_machine (crash_image keep fill short (disk_after_calls (settled_disk m.first) (take moment m.calls))) m.room_calls m.room_bytes []

@@ -18,36 +18,36 @@ pub record IsImage (state : DiskState) (image : List ℕ) : Type 0 where
   pub same : (i : ℕ) → i < length image → is_pending state.pending i ≡ false → get_or image i 0 ≡ get_or state.content i 0
 
 -- A disk with this content, and nothing pending: the content is all that a crash may leave.
-abbrev pub settled : List ℕ → DiskState
-settled content = record { content = content; synced = length content; most = length content; pending = [] }
+abbrev pub settled_disk : List ℕ → DiskState
+settled_disk content = record { content = content; synced = length content; most = length content; pending = [] }
 
--- The content, where the disk is told.
+-- The content, where the disk is known.
 abbrev pub content_of : Option DiskState → Option (List ℕ)
 content_of state = option_map (λ s. s.content) state
 
--- Where the disk is told, nothing is pending.
+-- Where the disk is known, nothing is pending.
 abbrev pub IsSettled : Option DiskState → Type 0
 IsSettled None = Unit {0}
-IsSettled (Some state) = state ≡ settled state.content
+IsSettled (Some state) = state ≡ settled_disk state.content
 
--- Where the disk is told, nothing is pending, and the content is so.
+-- Where the disk is known, nothing is pending, and the content is so.
 abbrev pub Rests : Option DiskState → (List ℕ → Type 0) → Type 0
 Rests None P = Unit {0}
-Rests (Some state) P = (state ≡ settled state.content) × P state.content
+Rests (Some state) P = (state ≡ settled_disk state.content) × P state.content
 
 -- ---- what a write and a sync do
 
 -- The bytes with others in place of those from an offset on, and past their end.
-abbrev pub overwritten : ℕ → List ℕ → List ℕ → List ℕ
-overwritten at bytes content = take at content ++ bytes ++ drop (at + length bytes) content
+abbrev pub bytes_over : ℕ → List ℕ → List ℕ → List ℕ
+bytes_over at bytes content = take at content ++ bytes ++ drop (at + length bytes) content
 
 -- The disk with another content, and one more write pending, of this offset and length.
-abbrev pub pended : ℕ → ℕ → List ℕ → DiskState → DiskState
-pended at count content state = record { content = content; synced = state.synced; most = max state.most (at + count); pending = (at, count) ∷ state.pending }
+abbrev pub with_pending : ℕ → ℕ → List ℕ → DiskState → DiskState
+with_pending at count content state = record { content = content; synced = state.synced; most = max state.most (at + count); pending = (at, count) ∷ state.pending }
 
--- The disk with these bytes written.
-abbrev pub written : ℕ → List ℕ → DiskState → DiskState
-written at bytes state = pended at (length bytes) (overwritten at bytes state.content) state
+-- The disk with these bytes disk_after_write.
+abbrev pub disk_after_write : ℕ → List ℕ → DiskState → DiskState
+disk_after_write at bytes state = with_pending at (length bytes) (bytes_over at bytes state.content) state
 
 -- Bytes that are the old ones but for any bytes in this range, and that may be longer, up to its
 -- end.
@@ -60,14 +60,14 @@ pub record Torn (at count : ℕ) (old new : List ℕ) : Type 0 where
 -- A write that answers Ok leaves the bytes in place, pending. One that fails changes nothing, or
 -- leaves any bytes there, pending.
 abbrev pub Writes : {T E D : Type 0} → (D → ℕ) → (D → ℕ → Option DiskState) → D → D → ℕ → List ℕ → Result T E → Type 0
-Writes now disk old new at bytes (Ok x) = Turns now disk old new (option_map (written at bytes) (disk old (now old)))
+Writes now disk old new at bytes (Ok x) = Turns now disk old new (option_map (disk_after_write at bytes) (disk old (now old)))
 Writes now disk old new at bytes (Err e) = Stays now disk old new
     ⊎ ((content : List ℕ) × ((state : DiskState) → disk old (now old) ≡ Some state → Torn at (length bytes) state.content content)
-    × Turns now disk old new (option_map (pended at (length bytes) content) (disk old (now old))))
+    × Turns now disk old new (option_map (with_pending at (length bytes) content) (disk old (now old))))
 
 -- A sync that answers Ok leaves the content with nothing pending. One that fails changes nothing.
 abbrev pub Syncs : {T E D : Type 0} → (D → ℕ) → (D → ℕ → Option DiskState) → D → D → Result T E → Type 0
-Syncs now disk old new (Ok x) = Turns now disk old new (option_map (λ state. settled state.content) (disk old (now old)))
+Syncs now disk old new (Ok x) = Turns now disk old new (option_map (λ state. settled_disk state.content) (disk old (now old)))
 Syncs now disk old new (Err e) = Stays now disk old new
 
 -- ---- what crashes over some time may leave
@@ -78,7 +78,7 @@ LeftSince now disk machine since image =
     (t : ℕ) × (since ≤ t) × (t ≤ now machine) × (state : DiskState) × (disk machine t ≡ Some state) × IsImage state image
 
 -- Whatever a crash at a moment from the old state up to the new one may leave is so. The moments
--- before keep what they had, and the disk is told where it was.
+-- before keep what they had, and the disk is known where it was.
 pub record Keeps {D : Type 0} (now : D → ℕ) (disk : D → ℕ → Option DiskState) (old new : D) (P : List ℕ → Type 0) : Type 0 where
   pub later : now old ≤ now new
   pub past : (t : ℕ) → t ≤ now old → disk new t ≡ disk old t

@@ -3,11 +3,11 @@ use Rattle.std.specs.Prelude.{◌≡◌, ℕ, ◌+◌, Bool, true, false, ◌&&�
 use Rattle.lc_io.specs.Disk.{DiskState}
 use Rattle.lc_io.specs.Outside.{Tell}
 use Rattle.lc_io.specs.Fakes.{is_failing, one_more}
-use Rattle.disk_model.specs.Disk.{settled, written, pended}
+use Rattle.disk_model.specs.Disk.{settled_disk, disk_after_write, with_pending}
 
 -- ---- the calls, and what they leave
 
--- A call that took a number, by what it did: bytes written at an offset; a write that failed, of an
+-- A call that took a number, by what it did: bytes disk_after_write at an offset; a write that failed, of an
 -- offset and a length; a sync; bytes told; or nothing, as of a read, or of a call that failed and is
 -- no write.
 pub data Call : Type 0 where
@@ -19,16 +19,16 @@ pub data Call : Type 0 where
 
 -- The disk after a call. A write that fails leaves the content as it was, with its range pending.
 abbrev pub after_call : DiskState → Call → DiskState
-after_call state (Wrote at bytes) = written at bytes state
-after_call state (FailedWrite at count) = pended at count state.content state
-after_call state Synced = settled state.content
+after_call state (Wrote at bytes) = disk_after_write at bytes state
+after_call state (FailedWrite at count) = with_pending at count state.content state
+after_call state Synced = settled_disk state.content
 after_call state (Told bytes) = state
 after_call state Idle = state
 
 -- The disk after calls, one after the other.
-abbrev pub replayed : DiskState → List Call → DiskState
-replayed state [] = state
-replayed state (call ∷ calls) = replayed (after_call state call) calls
+abbrev pub disk_after_calls : DiskState → List Call → DiskState
+disk_after_calls state [] = state
+disk_after_calls state (call ∷ calls) = disk_after_calls (after_call state call) calls
 
 -- The pieces told by calls, each with its number, where the first call has this number.
 abbrev pub tells_from : ℕ → List Call → List Tell
@@ -39,7 +39,7 @@ tells_from number (call ∷ calls) = tells_from (number + 1) calls
 -- ---- the machine
 
 -- A machine in memory: what its disk held at first, with nothing pending, the calls that took a
--- number, the bytes told or written so far, the room for both, the numbers of the calls that fail,
+-- number, the bytes told or disk_after_write so far, the room for both, the numbers of the calls that fail,
 -- and how many calls of the disk and how many tells failed.
 pub record MachineState : Type 0 where
   pub first : List ℕ
@@ -51,10 +51,10 @@ pub record MachineState : Type 0 where
   pub disk_faults : ℕ
   pub wire_faults : ℕ
 
--- A machine over these bytes, with nothing pending, no call made, room for so many calls and bytes,
+-- A machine over these bytes, with nothing pending, no call new_machine, room for so many calls and bytes,
 -- and these calls to fail.
-abbrev pub made : List ℕ → ℕ → ℕ → List ℕ → MachineState
-made first room_calls room_bytes failing = record { first = first; calls = []; bytes = 0; room_calls = room_calls; room_bytes = room_bytes; failing = failing; disk_faults = 0; wire_faults = 0 }
+abbrev pub new_machine : List ℕ → ℕ → ℕ → List ℕ → MachineState
+new_machine first room_calls room_bytes failing = record { first = first; calls = []; bytes = 0; room_calls = room_calls; room_bytes = room_bytes; failing = failing; disk_faults = 0; wire_faults = 0 }
 
 -- The present moment is the one after all calls.
 abbrev pub now_of : MachineState → ℕ
@@ -62,11 +62,11 @@ now_of m = length m.calls
 
 -- The disk at a moment is what it was at first, and then the calls up to that moment.
 abbrev pub disk_of : MachineState → ℕ → Option DiskState
-disk_of m t = Some (replayed (settled m.first) (take t m.calls))
+disk_of m t = Some (disk_after_calls (settled_disk m.first) (take t m.calls))
 
 -- The content now.
 abbrev pub content_now : MachineState → List ℕ
-content_now m = (replayed (settled m.first) m.calls).content
+content_now m = (disk_after_calls (settled_disk m.first) m.calls).content
 
 -- What was told, each piece at the moment at which telling it began.
 abbrev pub tells_of : MachineState → List Tell
@@ -77,7 +77,7 @@ told_of m = Some (tells_of m)
 
 -- ---- what a call does
 
--- Whether a call of so many bytes, told or written, fits the room.
+-- Whether a call of so many bytes, told or disk_after_write, fits the room.
 abbrev pub has_room : MachineState → ℕ → Bool
 has_room m count = nat_lt (length m.calls) m.room_calls && nat_le (m.bytes + count) m.room_bytes
 
@@ -85,7 +85,7 @@ has_room m count = nat_lt (length m.calls) m.room_calls && nat_le (m.bytes + cou
 abbrev pub is_next_failing : MachineState → Bool
 is_next_failing m = is_failing m.failing (length m.calls)
 
--- One more call, of so many bytes told or written.
+-- One more call, of so many bytes told or disk_after_write.
 abbrev pub with_call : Call → ℕ → MachineState → MachineState
 with_call call count m = record m { calls = m.calls ++ call ∷ []; bytes = m.bytes + count }
 

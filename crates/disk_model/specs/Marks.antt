@@ -1,11 +1,11 @@
 -- How a machine in memory keeps its calls: a mark for each, and the bytes of all of them, one after
 -- the other.
 use Rattle.std.specs.Prelude.{◌≡◌, ℕ, ◌+◌, ◌≤◌, Bool, true, false, List, [], ◌∷◌, take, drop, vec_len, vec_capacity}
-use Rattle.disk_model.specs.Disk.{settled, overwritten}
+use Rattle.disk_model.specs.Disk.{settled_disk, bytes_over}
 use Rattle.disk_model.specs.declared.mem_machine.Mark.{Mark}
 use Rattle.disk_model.specs.declared.mem_machine.Mark.TheVariants as marks
 use Rattle.disk_model.specs.declared.mem_machine.MemMachine.TheInside.{Inside}
-use Rattle.disk_model.specs.Machine.{Call, Wrote, FailedWrite, Synced, Told, Idle, MachineState, replayed}
+use Rattle.disk_model.specs.Machine.{Call, Wrote, FailedWrite, Synced, Told, Idle, MachineState, disk_after_calls}
 
 -- How many of the bytes that are kept are those of a call.
 abbrev pub kept_len : Mark → ℕ
@@ -41,7 +41,7 @@ total_len (mark ∷ others) = kept_len mark + total_len others
 
 -- The content after a call.
 abbrev pub changed_by : Mark → List ℕ → List ℕ → List ℕ
-changed_by (marks.Wrote at len) bytes content = overwritten at bytes content
+changed_by (marks.Wrote at len) bytes content = bytes_over at bytes content
 changed_by (marks.FailedWrite at len) bytes content = content
 changed_by marks.Synced bytes content = content
 changed_by (marks.Told len) bytes content = content
@@ -62,8 +62,8 @@ machine_state m = record {
 
 -- The content is what the calls left, the bytes are those of the marks, and there is memory for as
 -- many calls and bytes as fit the room.
-pub record IsKept (m : Inside) : Type 0 where
-  pub content : m.content.items ≡ (replayed (settled m.first.items) (calls_of m.marks.items m.bytes.items)).content
+pub record IsSoundInside (m : Inside) : Type 0 where
+  pub content : m.content.items ≡ (disk_after_calls (settled_disk m.first.items) (calls_of m.marks.items m.bytes.items)).content
   pub whole : total_len m.marks.items ≡ vec_len m.bytes
   pub few : vec_len m.marks ≤ m.room.calls
   pub mark_room : m.room.calls ≤ vec_capacity m.marks

@@ -1,13 +1,17 @@
 //! What a crash leaves of a machine in memory.
 
-ghost use Rattle.std.specs.Prelude.{◌≡◌, ◌+◌, ◌≤◌, ◌&&◌, nat_le, nat_lt, ◌<◌, ◌^◌, reverse, length, IfOk};
-ghost use Rattle.std.specs.Vec.{vec_len, vec_capacity};
+ghost use Rattle.std.specs.{
+  Prelude.{◌≡◌, ◌+◌, ◌≤◌, ◌&&◌, nat_le, nat_lt, ◌<◌, ◌^◌, reverse, length, IfOk},
+  Vec.{vec_len, vec_capacity},
+};
 ghost use Rattle.lc_io.specs.Disk.{DiskState};
-ghost use Rattle.disk_model.specs.Crash.{crashed, filled, kept_byte, keep_after};
-ghost use Rattle.disk_model.specs.Disk.{is_pending, settled};
-ghost use Rattle.disk_model.specs.Machine.{after_call, replayed};
-ghost use Rattle.disk_model.specs.Marks.{call_of, calls_of, total_len};
-ghost use Rattle.disk_model.specs.Replays.{IsReplayed};
+ghost use Rattle.disk_model.specs.{
+  Crash.{crash_image, fill_pending, kept_byte, keep_after},
+  Disk.{is_pending, settled_disk},
+  Machine.{after_call, disk_after_calls},
+  Marks.{call_of, calls_of, total_len},
+  Replays.{IsReplayed},
+};
 
 use crate::mem_machine::{Mark, change, overwrite};
 use lc_base::Memory;
@@ -30,7 +34,7 @@ fn is_over(write: &(u64, usize), offset: u64) -> bool
     at <= offset && offset - at < len as u64
 }
 
-/// Whether any of these writes, the last one behind, went over the byte at this offset.
+/// Whether any of these writes, the last one after, went over the byte at this offset.
 fn is_pending(pending: &[(u64, usize)], offset: u64) -> bool
     ensures { result ≡ is_pending (reverse pending.now) offset }
 {
@@ -56,14 +60,14 @@ fn keep_after(pending: bool, keep: u64) -> u64
 }
 
 /// The content with `fill` in place of all pending bytes but the first `keep`.
-fn filled(
+fn fill_pending(
     alloc: Global,
     content: &[u8],
     pending: &[(u64, usize)],
     keep: u64,
     fill: u8,
 ) -> Result<Vec<u8>, Memory>
-    ensures { IfOk result (λ bytes. bytes.items ≡ filled (reverse pending.now) fill keep 0 content.now) }
+    ensures { IfOk result (λ bytes. bytes.items ≡ fill_pending (reverse pending.now) fill keep 0 content.now) }
 {
     let mut bytes = Vec::with_capacity(alloc, content.len())?;
     let mut left = keep;
@@ -79,7 +83,7 @@ impl Replayed {
     /// A disk of these bytes, with nothing pending, and memory for so many more.
     fn new(alloc: Global, first: &[u8], room: usize) -> Result<Replayed, Memory>
         requires { length first.now + room < 2 ^ 64 }
-        ensures disk { IfOk result (λ disk. IsReplayed disk (settled first.now)) }
+        ensures disk { IfOk result (λ disk. IsReplayed disk (settled_disk first.now)) }
         ensures room { IfOk result (λ disk. length first.now + room ≤ vec_capacity disk.content) }
     {
         let mut content = Vec::with_capacity(alloc, first.len() + room)?;
@@ -119,9 +123,9 @@ impl Replayed {
         fill: u8,
         short: bool,
     ) -> Result<Vec<u8>, Memory>
-        ensures { IfOk result (λ bytes. (state : DiskState) → IsReplayed self.now state → bytes.items ≡ crashed keep fill short state) }
+        ensures { IfOk result (λ bytes. (state : DiskState) → IsReplayed self.now state → bytes.items ≡ crash_image keep fill short state) }
     {
-        let mut bytes = filled(alloc, &self.content, &self.pending, keep, fill)?;
+        let mut bytes = fill_pending(alloc, &self.content, &self.pending, keep, fill)?;
         if short {
             bytes.truncate(self.synced);
         }
@@ -137,7 +141,7 @@ pub(crate) fn replay(
     bytes: &[u8],
 ) -> Result<Replayed, Memory>
     requires { total_len marks.now ≤ length bytes.now }
-    ensures { IfOk result (λ disk. IsReplayed disk (replayed (settled first.now) (calls_of marks.now bytes.now))) }
+    ensures { IfOk result (λ disk. IsReplayed disk (disk_after_calls (settled_disk first.now) (calls_of marks.now bytes.now))) }
 {
     let mut disk = Replayed::new(alloc, first, bytes.len())?;
     let mut rest = bytes;

@@ -49,6 +49,6 @@ pub trait Disk: Clock {
         ensures wire_faults { Self.wire_faults self.new ≡ Self.wire_faults self.old }
         ensures cause { HasCause (Self.disk_faults self.old) (Self.disk_faults self.new) (IsErr result) };
 
-    /// At each moment at which the disk is told, a crash may leave the content itself.
+    /// At each moment at which the disk is known, a crash may leave the content itself.
     ghost sound: { (machine : Self) (t : ℕ) (state : DiskState) → Self.Clock.disk machine t ≡ Some state → IsImage state state.content };
 }

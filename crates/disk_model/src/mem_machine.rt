@@ -1,16 +1,19 @@
 //! A machine in memory.
 
-ghost use Rattle.std.specs.Prelude.{◌≡◌, ◌+◌, ◌<◌, ◌≤◌, ◌^◌, ℕ, Some, true, [], ◌∷◌, ◌++◌, List, length, take, drop, filter, IfOk, IfSome, IsErr, MatchOption};
-ghost use Rattle.std.specs.Vec.{vec_len, vec_capacity};
-ghost use Rattle.std.specs.List.{slice_get};
+ghost use Rattle.std.specs.{
+  Prelude.{◌≡◌, ◌+◌, ◌<◌, ◌≤◌, ◌^◌, ℕ, Some, true, [], ◌∷◌, ◌++◌, List, length, take, drop, filter, IfOk, IfSome, IsErr, MatchOption},
+  Vec.{vec_len, vec_capacity},
+  List.{slice_get},
+};
 ghost use Rattle.lc_base.specs.Faults.{HasCause};
-ghost use Rattle.lc_io.specs.Disk.{Stays};
-ghost use Rattle.lc_io.specs.Outside.{Tells};
-ghost use Rattle.disk_model.specs.Disk.{IsImage, Writes, Syncs, content_of, overwritten};
-ghost use Rattle.disk_model.specs.Crash.{crashed_machine};
-ghost use Rattle.disk_model.specs.Machine.{MachineState, made, now_of, disk_of, told_of, tells_of, tells_from, content_now, has_room, is_next_failing, with_call, with_disk_fault, with_wire_fault, Attempts, Makes, MakesRead, MakesWrite, MakesSync, MakesTell, FillsBuffer};
-ghost use Rattle.disk_model.specs.Sound.{content_is_image};
-ghost use Rattle.disk_model.specs.Marks.{kept_len, is_told, call_of, calls_of, total_len, changed_by};
+ghost use Rattle.lc_io.specs.{Disk.{Stays}, Outside.{Tells}};
+ghost use Rattle.disk_model.specs.{
+  Disk.{IsImage, Writes, Syncs, content_of, bytes_over},
+  Crash.{crashed_machine},
+  Machine.{MachineState, new_machine, now_of, disk_of, told_of, tells_of, tells_from, content_now, has_room, is_next_failing, with_call, with_disk_fault, with_wire_fault, Attempts, Makes, MakesRead, MakesWrite, MakesSync, MakesTell, FillsBuffer},
+  Sound.{content_is_image},
+  Marks.{kept_len, is_told, call_of, calls_of, total_len, changed_by},
+};
 
 use crate::crash::replay;
 use crate::disk::Disk;
@@ -66,13 +69,13 @@ pub struct MemMachine {
 
 impl Model for MemMachine {
     ghost use Rattle.disk_model.specs.Machine.{MachineState};
-    ghost use Rattle.disk_model.specs.Marks.{machine_state, IsKept};
+    ghost use Rattle.disk_model.specs.Marks.{machine_state, IsSoundInside};
 
     ghost Value = { MachineState };
 
     ghost view = { machine_state };
 
-    ghost invariant = { IsKept };
+    ghost invariant = { IsSoundInside };
 }
 
 /// Keeps one more call, for which there is room.
@@ -103,7 +106,7 @@ fn keep(marks: &mut Vec<Mark>, kept: &mut Vec<u8>, mark: Mark, bytes: &[u8])
 pub(crate) fn overwrite(content: &mut Vec<u8>, at: usize, bytes: &[u8])
     requires within { at ≤ vec_len content.old }
     requires room { vec_len content.old + length bytes.now ≤ vec_capacity content.old }
-    ensures content { content.new.items ≡ overwritten at bytes.now content.old.items }
+    ensures content { content.new.items ≡ bytes_over at bytes.now content.old.items }
     ensures room_stays { vec_capacity content.old ≤ vec_capacity content.new }
 {
     let over = bytes.len().min(content.len() - at);
@@ -163,7 +166,7 @@ impl MemMachine {
         room: Room,
         failing: &[u64],
     ) -> Result<MemMachine, Memory>
-        ensures { IfOk result (λ machine. machine ≡ made image.now room.calls room.bytes failing.now) }
+        ensures { IfOk result (λ machine. machine ≡ new_machine image.now room.calls room.bytes failing.now) }
     {
         let mut content = Vec::with_capacity(alloc, image.len() + room.bytes as usize)?;
         overwrite(&mut content, 0, image);

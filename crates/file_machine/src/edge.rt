@@ -3,14 +3,18 @@
 //! Of a writer whose bytes std knows, such as a vector in memory, the clause `writer` says what
 //! becomes of them.
 
-ghost use Rattle.std.specs.Prelude.{◌≡◌, ◌+◌, ◌^◌, ◌<◌, ◌≤◌, ℕ, true, false, Option, Some, None, List, length, take, drop, IfOk, IfSome, IsErr, is_err};
-ghost use Rattle.std.proofs.Common.{rules};
+ghost use Rattle.std.{
+  specs.Prelude.{◌≡◌, ◌+◌, ◌^◌, ◌<◌, ◌≤◌, ℕ, true, false, Some, None, List, length, take, drop, IfOk, IfSome, IsErr, is_err},
+  proofs.Common.{rules},
+};
 ghost use Rattle.lc_base.specs.Faults.{HasCause};
-ghost use Rattle.lc_io.specs.Disk.{Stays};
-ghost use Rattle.lc_io.specs.Outside.{Tell, Tells};
-ghost use Rattle.lc_io.specs.Streams.{CountsFaults};
-ghost use Rattle.lc_io.specs.Streams.{Writes as WritesThrough};
+ghost use Rattle.lc_io.specs.{
+  Disk.{Stays},
+  Outside.{Tells},
+  Streams.{CountsFaults, Writes as WritesThrough},
+};
 ghost use Rattle.disk_model.specs.Disk.{Writes, Syncs, content_of};
+ghost use Rattle.file_machine.specs.Calls.{CallsDisk};
 
 use disk_model::Disk;
 use lc_io::{Clock, Failed, Wire, one_more, write_whole};
@@ -295,11 +299,7 @@ impl<'a, W> Disk for FileMachine<'a, W> {
     fn len(&mut self) -> Result<u64, Failed>
         ensures len { IfOk result (λ n. IfSome (content_of None) (λ content. n ≡ length content)) }
         ensures disk { Stays (λ _. 0) (λ _ _. None) self.old self.new }
-        ensures told { ◌≡◌ {A = Option (List Tell)} None None }
-        ensures wire_faults { self.new.wire_faults ≡ self.old.wire_faults }
-        ensures cause { HasCause self.old.disk_faults self.new.disk_faults (IsErr result) }
-        ensures faults { CountsFaults self.old.disk_faults self.new.disk_faults result }
-        ensures writer { self.new.writer ≡ self.old.writer }
+        ensures calls { CallsDisk self.old self.new result }
         ensures failed { self.new.file.has_failed ≡ self.old.file.has_failed }
     {
         match self.file.len() {
@@ -317,11 +317,7 @@ impl<'a, W> Disk for FileMachine<'a, W> {
         ensures size { length buffer.new ≡ length buffer.old }
         ensures bytes { IfOk result (λ n. IfSome (content_of None) (λ content. take n buffer.new ≡ take (length buffer.new) (drop at content))) }
         ensures disk { Stays (λ _. 0) (λ _ _. None) self.old self.new }
-        ensures told { ◌≡◌ {A = Option (List Tell)} None None }
-        ensures wire_faults { self.new.wire_faults ≡ self.old.wire_faults }
-        ensures cause { HasCause self.old.disk_faults self.new.disk_faults (IsErr result) }
-        ensures faults { CountsFaults self.old.disk_faults self.new.disk_faults result }
-        ensures writer { self.new.writer ≡ self.old.writer }
+        ensures calls { CallsDisk self.old self.new result }
         ensures failed { self.new.file.has_failed ≡ self.old.file.has_failed }
     {
         match self.file.read_at(at, buffer) {
@@ -339,11 +335,7 @@ impl<'a, W> Disk for FileMachine<'a, W> {
         requires within { (content : List ℕ) → content_of None ≡ Some content → at ≤ length content }
         requires fits { at + length bytes.now < 2 ^ 64 }
         ensures disk { Writes (λ _. 0) (λ _ _. None) self.old self.new at bytes.now result }
-        ensures told { ◌≡◌ {A = Option (List Tell)} None None }
-        ensures wire_faults { self.new.wire_faults ≡ self.old.wire_faults }
-        ensures cause { HasCause self.old.disk_faults self.new.disk_faults (IsErr result) }
-        ensures faults { CountsFaults self.old.disk_faults self.new.disk_faults result }
-        ensures writer { self.new.writer ≡ self.old.writer }
+        ensures calls { CallsDisk self.old self.new result }
         ensures stuck { self.old.file.has_failed ≡ true → IsErr result }
         ensures failed { self.new.file.has_failed ≡ is_err result }
     {
@@ -360,11 +352,7 @@ impl<'a, W> Disk for FileMachine<'a, W> {
     /// where there is no file.
     fn sync(&mut self) -> Result<(), Failed>
         ensures disk { Syncs (λ _. 0) (λ _ _. None) self.old self.new result }
-        ensures told { ◌≡◌ {A = Option (List Tell)} None None }
-        ensures wire_faults { self.new.wire_faults ≡ self.old.wire_faults }
-        ensures cause { HasCause self.old.disk_faults self.new.disk_faults (IsErr result) }
-        ensures faults { CountsFaults self.old.disk_faults self.new.disk_faults result }
-        ensures writer { self.new.writer ≡ self.old.writer }
+        ensures calls { CallsDisk self.old self.new result }
         ensures stuck { self.old.file.has_failed ≡ true → IsErr result }
         ensures failed { self.new.file.has_failed ≡ is_err result }
     {

@@ -1,7 +1,6 @@
 //! Dependencies of a version, none twice.
 
-ghost use Rattle.std.specs.Prelude.{◌≡◌, ◌≢◌, ◌≤◌, length, IfOk, OnOk};
-ghost use Rattle.std.specs.List.{All, AllPairs};
+ghost use Rattle.std.specs.{Prelude.{◌≡◌, ◌≢◌, ◌≤◌, length, IfOk, OnOk}, List.{All, AllPairs}};
 ghost use Rattle.lc_base.specs.Deps.{is_same_dep, without_repeats, is_among, with_once};
 
 use crate::list::DepList;

@@ -1,24 +1,18 @@
 //! What answers questions about the history while a contract runs.
 
 ghost use Rattle.std.specs.Prelude.{◌≡◌, ℕ, ◌^◌, ◌<◌, List, Option, IfSome, IfOk, IsErrOf};
-ghost use Rattle.lc_base.specs.Faults.{HasCause};
-ghost use Rattle.lc_base.specs.History.{scan};
-ghost use Rattle.lc_base.specs.Parts.{question, version_in, count_in, item_in};
-ghost use Rattle.lc_base.specs.declared.row.Row.{Row};
+ghost use Rattle.lc_base.specs.{
+  Faults.{HasCause},
+  History.{scan},
+  Parts.{question, version_in, count_in, item_in},
+  declared.row.Row.{Row},
+};
 
 use crate::answer::Kind;
+use crate::host_error::HostError;
 use crate::row::{Dep, Row, Version};
 use lc_names::Key;
 use std::alloc::Global;
-
-/// Why a host gave no answer.
-#[derive(Clone, Copy, Debug, PartialEq, Eq)]
-pub enum HostError {
-    /// It failed.
-    Fault,
-    /// Out of memory.
-    Memory,
-}
 
 /// A history that answers questions one part at a time. "The version" is the newest version of the
 /// key in the blocks up to `at`. A question leaves the host the same, also where it has no answer.
@@ -42,7 +36,7 @@ pub trait Host {
             (IsErrOf result HostError.Fault) };
 
     /// How many dependencies the version has; `None` exactly where there is no version.
-    fn back_count(&mut self, alloc: Global, key: &Key, at: u32) -> Result<Option<u32>, HostError>
+    fn back_count(&mut self, key: &Key, at: u32) -> Result<Option<u32>, HostError>
         requires { ready self.old }
         ensures same { same self.old self.new }
         ensures answer { IfSome (rows self.old) (λ rows. IfOk result
@@ -52,13 +46,7 @@ pub trait Host {
 
     /// The dependency of the version at an index, from 0; `None` exactly where there is no version,
     /// or none at that index.
-    fn back_at(
-        &mut self,
-        alloc: Global,
-        key: &Key,
-        at: u32,
-        index: u32,
-    ) -> Result<Option<Dep>, HostError>
+    fn back_at(&mut self, key: &Key, at: u32, index: u32) -> Result<Option<Dep>, HostError>
         requires { ready self.old }
         ensures same { same self.old self.new }
         ensures answer { IfSome (rows self.old) (λ rows. IfOk result
@@ -68,7 +56,7 @@ pub trait Host {
 
     /// How many versions were derived from the version, fewer than 2^63; `None` exactly where there
     /// is no version.
-    fn fwd_count(&mut self, alloc: Global, key: &Key, at: u32) -> Result<Option<u64>, HostError>
+    fn fwd_count(&mut self, key: &Key, at: u32) -> Result<Option<u64>, HostError>
         requires { ready self.old }
         ensures same { same self.old self.new }
         ensures answer { IfSome (rows self.old) (λ rows. IfOk result
@@ -79,13 +67,7 @@ pub trait Host {
 
     /// The version derived from the version at an index, from 0, in the order of their rows; `None`
     /// exactly where there is no version, or none at that index.
-    fn fwd_at(
-        &mut self,
-        alloc: Global,
-        key: &Key,
-        at: u32,
-        index: u64,
-    ) -> Result<Option<Dep>, HostError>
+    fn fwd_at(&mut self, key: &Key, at: u32, index: u64) -> Result<Option<Dep>, HostError>
         requires { ready self.old }
         ensures same { same self.old self.new }
         ensures answer { IfSome (rows self.old) (λ rows. IfOk result

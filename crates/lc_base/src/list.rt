@@ -1,7 +1,9 @@
 //! Lists, as every crate of the ledger keeps them.
 
-ghost use Rattle.std.specs.Prelude.{◌≡◌, ◌==◌, [], ◌∷◌, ◌++◌, length, slice_get, Ok, OnOk, OnErr, IfOk};
-ghost use Rattle.std.specs.Option.{option_copied};
+ghost use Rattle.std.specs.{
+  Prelude.{◌≡◌, ◌==◌, [], ◌∷◌, ◌++◌, length, slice_get, Ok, OnOk, OnErr, IfOk},
+  Option.{option_copied},
+};
 
 use crate::digest::Digest;
 use crate::memory::Memory;
@@ -126,13 +128,21 @@ impl<T: Drop> Seq<T> {
     }
 }
 
+impl<T: Copy> Duplicate for T {
+    fn copy(&self, _alloc: Global) -> Result<T, Memory>
+        ensures { result ≡ Ok self.now }
+    {
+        Ok(*self)
+    }
+}
+
 impl<T: Duplicate> Seq<T> {
     /// The same list again, on the allocator that this one keeps.
     pub fn copy(&self) -> Result<Self, Memory>
         ensures { IfOk result (λ copy. copy ≡ self.now) }
     {
         Ok(Seq {
-            items: copied(self.allocator(), self.items.as_slice())?,
+            items: copy_items(self.allocator(), self.items.as_slice())?,
         })
     }
 }
@@ -140,7 +150,7 @@ impl<T: Duplicate> Seq<T> {
 impl<T: Duplicate> Duplicate for Seq<T> {
     fn copy(&self, alloc: Global) -> Result<Seq<T>, Memory> {
         Ok(Seq {
-            items: copied(alloc, self.items.as_slice())?,
+            items: copy_items(alloc, self.items.as_slice())?,
         })
     }
 }
@@ -154,7 +164,7 @@ impl Bytes {
     }
 }
 
-fn copied<T: Duplicate>(alloc: Global, all: &[T]) -> Result<Vec<T>, Memory>
+fn copy_items<T: Duplicate>(alloc: Global, all: &[T]) -> Result<Vec<T>, Memory>
     ensures { IfOk result (λ copy. copy.items ≡ all.now) }
 {
     let mut copy = Vec::with_capacity(alloc, all.len())?;
@@ -162,20 +172,4 @@ fn copied<T: Duplicate>(alloc: Global, all: &[T]) -> Result<Vec<T>, Memory>
         copy.push(item.copy(alloc)?)?;
     }
     Ok(copy)
-}
-
-impl Duplicate for u8 {
-    fn copy(&self, _alloc: Global) -> Result<u8, Memory>
-        ensures { result ≡ Ok self.now }
-    {
-        Ok(*self)
-    }
-}
-
-impl Duplicate for Digest {
-    fn copy(&self, _alloc: Global) -> Result<Digest, Memory>
-        ensures { result ≡ Ok self.now }
-    {
-        Ok(*self)
-    }
 }

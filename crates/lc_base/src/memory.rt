@@ -1,4 +1,8 @@
-use std::alloc::{AllocError, AllocFailed};
+//! Running out of memory.
+
+ghost use Rattle.std.specs.Prelude.{◌≡◌, replicate, length, IfOk};
+
+use std::alloc::{AllocError, AllocFailed, Global};
 
 /// Out of memory.
 #[derive(Clone, Copy, Debug, PartialEq, Eq)]
@@ -14,4 +18,12 @@ impl<T: Drop> From<AllocFailed<T>> for Memory {
     fn from(_error: AllocFailed<T>) -> Memory {
         Memory
     }
+}
+
+/// So many zero bytes.
+pub fn zeros(alloc: Global, count: usize) -> Result<Vec<u8>, Memory>
+    ensures items { IfOk result (λ bytes. bytes.items ≡ replicate count 0) }
+    ensures len { IfOk result (λ bytes. length bytes.items ≡ count) }
+{
+    Ok(vec![in alloc; 0u8; count]?)
 }

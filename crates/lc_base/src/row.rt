@@ -37,22 +37,6 @@ pub struct Version {
     pub value: Value,
 }
 
-impl Duplicate for Key {
-    fn copy(&self, _alloc: Global) -> Result<Key, Memory>
-        ensures { result ≡ Ok self.now }
-    {
-        Ok(*self)
-    }
-}
-
-impl Duplicate for Dep {
-    fn copy(&self, _alloc: Global) -> Result<Dep, Memory>
-        ensures { result ≡ Ok self.now }
-    {
-        Ok(*self)
-    }
-}
-
 impl Duplicate for Row {
     fn copy(&self, alloc: Global) -> Result<Row, Memory> {
         let value = self.value.copy(alloc)?;

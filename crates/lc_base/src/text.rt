@@ -1,10 +1,11 @@
 //! Texts, one of the two kinds of value.
 
-ghost use Rattle.std.specs.Prelude.{◌≡◌, ◌++◌, IfOk};
-ghost use Rattle.lc_base.specs.TextBytes.{is_text_byte, bad_text_byte, IsText};
-ghost use Rattle.std.specs.Fmt.{signed_decimal};
-ghost use Rattle.lc_base.specs.Text.{IsTextOf, joined_text};
-ghost use Rattle.lc_base.specs.declared.text.TextError.TheVariants.{Memory};
+ghost use Rattle.std.specs.{Prelude.{◌≡◌, ◌++◌, IfOk}, Fmt.{signed_decimal}};
+ghost use Rattle.lc_base.specs.{
+  TextBytes.{is_text_byte, bad_text_byte, IsText},
+  Text.{IsTextOf, joined_text},
+  declared.text.TextError.TheVariants.{Memory},
+};
 
 use crate::limits::MAX_TEXT_BYTES;
 use crate::list::Duplicate;
@@ -113,12 +114,12 @@ impl Text {
         if first.len() + second.len() > MAX_TEXT_BYTES {
             return Ok(None);
         }
-        let bytes = joined(alloc, first, second)?;
+        let bytes = join_bytes(alloc, first, second)?;
         Ok(Some(Text { bytes }))
     }
 }
 
-fn joined(alloc: Global, a: &[u8], b: &[u8]) -> Result<Vec<u8>, crate::Memory>
+fn join_bytes(alloc: Global, a: &[u8], b: &[u8]) -> Result<Vec<u8>, crate::Memory>
     ensures { IfOk result (λ bytes. bytes.items ≡ a.now ++ b.now) }
 {
     let mut bytes = Vec::with_capacity(alloc, a.len() + b.len())?;

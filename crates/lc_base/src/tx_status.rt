@@ -7,45 +7,45 @@ ghost use Rattle.lc_base.specs.TxStatus.{tx_status_number};
 #[derive(Clone, Copy, Debug, PartialEq, Eq)]
 pub enum TxStatus {
     /// It did what it does.
-    Ok,
+    Ok = 0,
     /// It reads or writes a key that an earlier transaction of its block wrote.
-    Conflict,
+    Conflict = 1,
     /// A key has no version.
-    NoKey,
+    NoKey = 2,
     /// It writes a key that is not its to write.
-    Foreign,
+    Foreign = 3,
     /// No contract of that name can be called.
-    NoContract,
+    NoContract = 4,
     /// The contract has no function of that name.
-    NoFunction,
+    NoFunction = 5,
     /// The function takes other arguments, by number or kind.
-    BadArgs,
+    BadArgs = 6,
     /// Its budget is used up.
-    OutOfSteps,
+    OutOfSteps = 7,
     /// A number is out of the range of an `i64`.
-    Overflow,
+    Overflow = 8,
     /// A number is divided by 0.
-    DivZero,
+    DivZero = 9,
     /// A value is of the other kind.
-    WrongKind,
+    WrongKind = 10,
     /// A block is not before the transaction's own.
-    BadBlock,
+    BadBlock = 11,
     /// An index is not below the count.
-    BadIndex,
+    BadIndex = 12,
     /// A text is longer than `MAX_TEXT_BYTES`.
-    TextTooLong,
+    TextTooLong = 13,
     /// A text is no key.
-    BadKey,
+    BadKey = 14,
     /// A contract of that name was deployed before.
-    Taken,
+    Taken = 15,
     /// A source is no contract.
-    BadSource,
+    BadSource = 16,
     /// It reads or puts too many keys, or a version has too many dependencies.
-    TooMany,
+    TooMany = 17,
     /// A version is said to come from a key that was not read.
-    NotRead,
+    NotRead = 18,
     /// The contract gave up, by `fail`.
-    Failed,
+    Failed = 19,
 }
 
 impl TxStatus {
@@ -53,27 +53,6 @@ impl TxStatus {
     pub fn number(self) -> u8
         ensures { result ≡ tx_status_number self }
     {
-        match self {
-            TxStatus::Ok => 0,
-            TxStatus::Conflict => 1,
-            TxStatus::NoKey => 2,
-            TxStatus::Foreign => 3,
-            TxStatus::NoContract => 4,
-            TxStatus::NoFunction => 5,
-            TxStatus::BadArgs => 6,
-            TxStatus::OutOfSteps => 7,
-            TxStatus::Overflow => 8,
-            TxStatus::DivZero => 9,
-            TxStatus::WrongKind => 10,
-            TxStatus::BadBlock => 11,
-            TxStatus::BadIndex => 12,
-            TxStatus::TextTooLong => 13,
-            TxStatus::BadKey => 14,
-            TxStatus::Taken => 15,
-            TxStatus::BadSource => 16,
-            TxStatus::TooMany => 17,
-            TxStatus::NotRead => 18,
-            TxStatus::Failed => 19,
-        }
+        self as u8
     }
 }

@@ -3,7 +3,7 @@ use Rattle.std.proofs.Common.{◌≡◌, ℕ, ◌+◌, ◌<◌, List, [], ◌∷
 use Rattle.std.specs.List.{concat}
 use Rattle.std.proofs.lemmas.List.{append_assoc, append-nil, take-append-drop, drop_more, map_push}
 use Rattle.std.proofs.lemmas.List.Folds.{concat-append}
-use Rattle.lc_io.specs.Outside.{Tell, with_tells, joined, Tells, Told, ToldPrefix}
+use Rattle.lc_io.specs.Outside.{Tell, with_tells, bytes_told, Tells, Told, ToldPrefix}
 
 -- pieces after pieces
 with_tells-with_tells : (old : Option (List Tell)) (a b : List Tell) → with_tells (with_tells old a) b ≡ with_tells old (a ++ b)
@@ -54,7 +54,7 @@ told_less T first before now at pieces i e within so_far (inr cut) =
     ap concat (drop_more pieces i [] within)
     ∙ ap (λ (bytes : List ℕ). bytes ++ concat (drop (i + 1) pieces)) (sym (take-append-drop cut.0 piece))
     ∙ append_assoc (take cut.0 piece) (drop cut.0 piece) (concat (drop (i + 1) pieces)) in
-    let told_bytes : joined part.tells ≡ concat (take i pieces) ++ take cut.0 piece =
+    let told_bytes : bytes_told part.tells ≡ concat (take i pieces) ++ take cut.0 piece =
     ap concat part.whole ∙ concat-append (take i pieces) (take cut.0 piece ∷ []) ∙ ap (λ (bytes : List ℕ). concat (take i pieces) ++ bytes) (append-nil (take cut.0 piece)) in
     record {
       tells = part.tells;

@@ -2,6 +2,7 @@
 use Rattle.std.specs.Prelude.{◌≡◌, ℕ, ◌+◌, ◌-◌, ◌^◌, Bool, true, false, ◌&&◌, ◌==◌, nat_le, nat_lt, MatchBool, List, [], ◌∷◌, ◌++◌, length, take, drop, min, Result, Ok, Err}
 use Rattle.std.specs.List.{list_any}
 use Rattle.lc_io.specs.Outside.{Tell}
+use Rattle.lc_io.specs.declared.mem_wire.Room.{Room}
 
 -- One more, up to the last value of a u64.
 abbrev pub one_more : ℕ → ℕ
@@ -10,6 +11,37 @@ one_more n = min (n + 1) (2 ^ 64 - 1)
 -- Whether the call of this number is to fail.
 abbrev pub is_failing : List ℕ → ℕ → Bool
 is_failing failing number = list_any (λ n. n == number) failing
+
+-- The calls of a fake: the room for them, how many took a number, the numbers of those that fail, and
+-- how many failed.
+pub record CallsState : Type 0 where
+  pub room : Room
+  pub made : ℕ
+  pub failing : List ℕ
+  pub faults : ℕ
+
+-- None yet.
+abbrev pub no_calls : Room → List ℕ → CallsState
+no_calls room failing = record { room = room; made = 0; failing = failing; faults = 0 }
+
+-- One more that failed.
+abbrev pub one_failed : CallsState → CallsState
+one_failed calls = record calls { faults = one_more calls.faults }
+
+-- Whether the next call fits the room, after which so many bytes are kept.
+abbrev pub has_room : CallsState → ℕ → Bool
+has_room calls bytes = nat_lt calls.made calls.room.calls && nat_le bytes calls.room.bytes
+
+-- A call takes the next number exactly where it fits the room.
+abbrev pub Numbers : {E : Type 0} → ℕ → CallsState → CallsState → Result ℕ E → Type 0
+Numbers bytes old new (Ok number) =
+    (has_room old bytes ≡ true) × (number ≡ old.made) × (new ≡ record old { made = old.made + 1 })
+Numbers bytes old new (Err e) = (has_room old bytes ≡ false) × (new ≡ one_failed old)
+
+-- The call of a number fails exactly where it is to fail.
+abbrev pub Passes : {T E : Type 0} → ℕ → CallsState → CallsState → Result T E → Type 0
+Passes number old new (Ok x) = (is_failing old.failing number ≡ false) × (new ≡ old)
+Passes number old new (Err e) = (is_failing old.failing number ≡ true) × (new ≡ one_failed old)
 
 -- A source in memory: the bytes left, the greatest number of bytes per pull, the numbers of the
 -- calls that fail, the calls so far and those that failed.

@@ -2,14 +2,14 @@
 use Rattle.std.specs.Prelude.{◌≡◌, ℕ, List, [], ◌∷◌, ◌++◌, take, map, Option, Some, None, Result, Ok, Err, ◌⊎◌}
 use Rattle.std.specs.List.{concat}
 
--- ---- what a source has left, where that is told
+-- ---- what a source has left, where that is known
 
 -- These bytes, then what is told to be left.
 abbrev pub prepend : List ℕ → Option (List ℕ) → Option (List ℕ)
 prepend bytes None = None
 prepend bytes (Some left) = Some (bytes ++ left)
 
--- Where it is told what is left, that is nothing.
+-- Where it is known what is left, that is nothing.
 abbrev pub IsAtEnd : Option (List ℕ) → Type 0
 IsAtEnd None = Unit {0}
 IsAtEnd (Some left) = left ≡ []
@@ -20,7 +20,7 @@ abbrev pub Pulls : {E : Type 0} → Option (List ℕ) → Option (List ℕ) → 
 Pulls old new (Ok n) buffer = (old ≡ prepend (take n buffer) new) × (n ≡ 0 → IsAtEnd old)
 Pulls old new (Err e) buffer = new ≡ old
 
--- ---- what a wire was told, where that is told
+-- ---- what a wire was told, where that is known
 
 -- One piece that was told: the moment at which telling it began, and its bytes.
 pub record Tell : Type 0 where
@@ -33,8 +33,8 @@ with_tells None tells = None
 with_tells (Some told) tells = Some (told ++ tells)
 
 -- The bytes of pieces, one piece after another.
-abbrev pub joined : List Tell → List ℕ
-joined tells = concat (map (λ tell. tell.bytes) tells)
+abbrev pub bytes_told : List Tell → List ℕ
+bytes_told tells = concat (map (λ tell. tell.bytes) tells)
 
 -- A tell that answers Ok adds one pair, the moment of entry and the bytes. One that fails adds
 -- none, or the moment and some first bytes.
@@ -58,4 +58,4 @@ pub record Told (old new : Option (List Tell)) (pieces : List (List ℕ)) : Type
 pub record ToldPrefix (old new : Option (List Tell)) (pieces : List (List ℕ)) : Type 0 where
   pub tells : List Tell
   pub added : new ≡ with_tells old tells
-  pub prefix : IsPrefix (joined tells) (concat pieces)
+  pub prefix : IsPrefix (bytes_told tells) (concat pieces)

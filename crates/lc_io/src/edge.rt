@@ -3,34 +3,41 @@
 //! Of a stream whose bytes std knows, such as a slice or a vector in memory, the clauses `reader`
 //! and `writer` say what becomes of them.
 
-ghost use Rattle.std.specs.Prelude.{◌≡◌, ℕ, ◌<◌, ◌≤◌, length, take, None, IfOk, IsErr};
-ghost use Rattle.std.specs.Io.KnownBytes.{ReadConsumes, Appends};
-ghost use Rattle.lc_io.specs.Disk.{Stays};
+ghost use Rattle.std.specs.{
+  Prelude.{◌≡◌, ℕ, ◌<◌, ◌≤◌, length, take, None, IfOk, IsErr},
+  Io.KnownBytes.{ReadConsumes, Appends},
+};
+ghost use Rattle.lc_io.specs.{Disk.{Stays}, Outside.{Pulls, Tells}, Streams.{CountsFaults, Writes}};
 ghost use Rattle.lc_base.specs.Faults.{HasCause};
-ghost use Rattle.lc_io.specs.Outside.{Pulls, Tells};
-ghost use Rattle.lc_io.specs.Streams.{CountsFaults, Writes};
 
 use crate::outside::{Clock, Failed, Source, Wire};
 use std::io::{Read, Write};
 
-/// A source over a reader, such as standard input.
+/// A stream of the host, such as standard input or output: a source over a reader, and a wire over a
+/// writer.
 #[derive(Drop)]
-pub struct HostSource<R> {
-    reader: R,
+pub struct HostStream<S> {
+    stream: S,
     faults: u64,
 }
 
-impl<R> HostSource<R> {
-    /// A source of what the reader gives, of which no pull has failed.
-    pub fn new(reader: R) -> HostSource<R>
-        ensures reader { result.reader ≡ reader }
+/// A source over a reader of the host, such as standard input.
+pub type HostSource<R> = HostStream<R>;
+
+/// A wire over a writer of the host, such as standard output.
+pub type HostWire<W> = HostStream<W>;
+
+impl<S> HostStream<S> {
+    /// The stream, of which no call has failed.
+    pub fn new(stream: S) -> HostStream<S>
+        ensures stream { result.stream ≡ stream }
         ensures faults { result.faults ≡ 0 }
     {
-        HostSource { reader, faults: 0 }
+        HostStream { stream, faults: 0 }
     }
 }
 
-impl<R: Read> Source for HostSource<R> {
+impl<R: Read> Source for HostStream<R> {
     ghost left = { λ _. None };
 
     ghost source_faults = { λ s. s.faults };
@@ -41,10 +48,10 @@ impl<R: Read> Source for HostSource<R> {
         ensures bound { IfOk result (λ n. n ≤ length buffer.new) }
         ensures bytes { Pulls None None result buffer.new }
         ensures cause { HasCause self.old.faults self.new.faults (IsErr result) }
-        ensures reader { ReadConsumes (R.remaining self.old.reader) (R.remaining self.new.reader) result buffer.new }
+        ensures reader { ReadConsumes (R.remaining self.old.stream) (R.remaining self.new.stream) result buffer.new }
         ensures faults { CountsFaults self.old.faults self.new.faults result }
     {
-        match self.reader.read(buffer) {
+        match self.stream.read(buffer) {
             Ok(count) => Ok(count),
             Err(_) => {
                 self.faults = self.faults.saturating_add(1);
@@ -54,29 +61,12 @@ impl<R: Read> Source for HostSource<R> {
     }
 }
 
-/// A wire over a writer, such as standard output.
-#[derive(Drop)]
-pub struct HostWire<W> {
-    writer: W,
-    faults: u64,
-}
-
-impl<W> HostWire<W> {
-    /// A wire to the writer, of which no tell has failed.
-    pub fn new(writer: W) -> HostWire<W>
-        ensures writer { result.writer ≡ writer }
-        ensures faults { result.faults ≡ 0 }
-    {
-        HostWire { writer, faults: 0 }
-    }
-}
-
-impl<W> Clock for HostWire<W> {
+impl<W> Clock for HostStream<W> {
     ghost now = { λ _. 0 };
 
     ghost told = { λ _. None };
 
-    ghost wire_faults = { λ w. w.faults };
+    ghost wire_faults = { λ s. s.faults };
 
     ghost disk = { λ _ _. None };
 
@@ -84,7 +74,7 @@ impl<W> Clock for HostWire<W> {
 }
 
 /// Writes once, and answers how many bytes were taken; none where the write failed.
-fn written<W: Write>(writer: &mut W, bytes: &[u8]) -> usize
+fn write_once<W: Write>(writer: &mut W, bytes: &[u8]) -> usize
     ensures bound { result ≤ length bytes.now }
     ensures writer { Appends (W.contents writer.old) (W.contents writer.new) (take result bytes.now) }
 {
@@ -101,7 +91,7 @@ pub fn write_whole<W: Write>(writer: &mut W, bytes: &[u8]) -> Result<(), Failed>
 {
     let mut taken = 0;
     while taken < bytes.len() {
-        let count = written(writer, &bytes[taken..]);
+        let count = write_once(writer, &bytes[taken..]);
         if count == 0 {
             return Err(Failed);
         }
@@ -110,17 +100,17 @@ pub fn write_whole<W: Write>(writer: &mut W, bytes: &[u8]) -> Result<(), Failed>
     Ok(())
 }
 
-impl<W: Write> Wire for HostWire<W> {
+impl<W: Write> Wire for HostStream<W> {
     /// Writes until all bytes are taken. A write that takes nothing is a fault.
     fn tell(&mut self, bytes: &[u8]) -> Result<(), Failed>
         ensures disk { Stays (λ _. 0) (λ _ _. None) self.old self.new }
         ensures disk_faults { ◌≡◌ {A = ℕ} 0 0 }
         ensures told { Tells 0 bytes.now None None result }
         ensures cause { HasCause self.old.faults self.new.faults (IsErr result) }
-        ensures writer { Writes (W.contents self.old.writer) (W.contents self.new.writer) bytes.now result }
+        ensures writer { Writes (W.contents self.old.stream) (W.contents self.new.stream) bytes.now result }
         ensures faults { CountsFaults self.old.faults self.new.faults result }
     {
-        match write_whole(&mut self.writer, bytes) {
+        match write_whole(&mut self.stream, bytes) {
             Ok(()) => Ok(()),
             Err(Failed) => {
                 self.faults = self.faults.saturating_add(1);

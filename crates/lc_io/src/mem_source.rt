@@ -2,8 +2,7 @@
 
 ghost use Rattle.std.specs.Prelude.{◌≡◌, ◌++◌, ◌<◌, ◌≤◌, Some, length, take, drop, IfOk, IsErr};
 ghost use Rattle.lc_base.specs.Faults.{HasCause};
-ghost use Rattle.lc_io.specs.Outside.{Pulls};
-ghost use Rattle.lc_io.specs.Fakes.{SourceState, PullsPiece, pulled_count};
+ghost use Rattle.lc_io.specs.{Outside.{Pulls}, Fakes.{SourceState, PullsPiece, pulled_count}};
 
 use crate::fakes::{is_failing, one_more};
 use crate::outside::{Failed, Source};

@@ -1,14 +1,18 @@
 //! A wire in memory.
 
-ghost use Rattle.std.specs.Prelude.{◌≡◌, ℕ, ◌+◌, ◌^◌, ◌<◌, ◌≤◌, Some, None, [], ◌∷◌, ◌++◌, length, IfOk, IsErr, MatchOption};
-ghost use Rattle.std.specs.Vec.{vec_len, vec_capacity};
-ghost use Rattle.std.specs.List.{slice_get};
-ghost use Rattle.lc_io.specs.Disk.{Stays};
+ghost use Rattle.std.specs.{
+  Prelude.{◌≡◌, ℕ, ◌+◌, ◌^◌, ◌<◌, ◌≤◌, Some, None, [], ◌∷◌, ◌++◌, length, IfOk, IsErr, MatchOption},
+  Vec.{vec_len, vec_capacity},
+  List.{slice_get},
+};
+ghost use Rattle.lc_io.specs.{
+  Disk.{Stays},
+  Outside.{Tells},
+  Fakes.{WireState, TellsPiece},
+};
 ghost use Rattle.lc_base.specs.Faults.{HasCause};
-ghost use Rattle.lc_io.specs.Outside.{Tells};
-ghost use Rattle.lc_io.specs.Fakes.{WireState, TellsPiece, fits_room};
 
-use crate::fakes::{is_failing, one_more};
+use crate::fakes::Calls;
 use crate::outside::{Clock, Failed, Wire};
 use lc_base::Memory;
 use std::alloc::Global;
@@ -37,10 +41,7 @@ struct Mark {
 pub struct MemWire {
     marks: Vec<Mark>,
     bytes: Vec<u8>,
-    room: Room,
-    calls: u64,
-    failing: Vec<u64>,
-    faults: u64,
+    calls: Calls,
 }
 
 impl Model for MemWire {
@@ -50,9 +51,17 @@ impl Model for MemWire {
 
     ghost Value = { WireState };
 
-    ghost view = { λ w. record { told = pieces w.bytes.items w.marks.items; calls = w.calls; bytes = length w.bytes.items; room_calls = w.room.calls; room_bytes = w.room.bytes; failing = w.failing.items; faults = w.faults } };
+    ghost view = { λ w. record {
+      told = pieces w.bytes.items w.marks.items;
+      calls = w.calls.made;
+      bytes = length w.bytes.items;
+      room_calls = w.calls.room.calls;
+      room_bytes = w.calls.room.bytes;
+      failing = w.calls.failing;
+      faults = w.calls.faults;
+    } };
 
-    ghost invariant = { λ w. IsRecord w.room.calls w.room.bytes w.calls w.marks w.bytes };
+    ghost invariant = { λ w. IsRecord w.calls.room.calls w.calls.room.bytes w.calls.made w.marks w.bytes };
 }
 
 impl MemWire {
@@ -63,14 +72,11 @@ impl MemWire {
     {
         let marks = Vec::with_capacity(alloc, room.calls as usize)?;
         let bytes = Vec::with_capacity(alloc, room.bytes as usize)?;
-        let failing = Vec::from_slice(alloc, failing)?;
+        let calls = Calls::new(alloc, room, failing)?;
         Ok(MemWire {
             marks,
             bytes,
-            room,
-            calls: 0,
-            failing,
-            faults: 0,
+            calls,
         })
     }
 
@@ -88,15 +94,6 @@ impl MemWire {
     {
         let mark = self.marks.get(index)?;
         Some((mark.at, &self.bytes[mark.start..mark.end]))
-    }
-
-    /// Whether the record of a call with so many bytes fits the room.
-    fn fits_room(&self, count: usize) -> bool
-        requires { count < 2 ^ 63 }
-        ensures { result ≡ fits_room self.now count }
-    {
-        self.calls < u64::from(self.room.calls)
-            && self.bytes.len() + count <= self.room.bytes as usize
     }
 }
 
@@ -143,16 +140,8 @@ impl Wire for MemWire {
         ensures cause { HasCause self.old.faults self.new.faults (IsErr result) }
         ensures exact { TellsPiece bytes.now self.old self.new result }
     {
-        if !self.fits_room(bytes.len()) {
-            self.faults = one_more(self.faults);
-            return Err(Failed);
-        }
-        let number = self.calls;
-        self.calls += 1;
-        if is_failing(&self.failing, number) {
-            self.faults = one_more(self.faults);
-            return Err(Failed);
-        }
+        let number = self.calls.number(self.bytes.len(), bytes.len())?;
+        self.calls.pass(number)?;
         record(&mut self.marks, &mut self.bytes, number, bytes);
         Ok(())
     }

@@ -4,13 +4,24 @@
 //! only that it stays untold.
 
 ghost use Rattle.std.specs.Prelude.{◌≡◌, ℕ, ◌<◌, ◌≤◌, List, length, Option, IfOk, IsErr};
-ghost use Rattle.lc_io.specs.Disk.{DiskState, Stays};
+ghost use Rattle.lc_io.specs.{Disk.{DiskState, Stays}, Outside.{Pulls, Tell, Tells}};
 ghost use Rattle.lc_base.specs.Faults.{HasCause};
-ghost use Rattle.lc_io.specs.Outside.{Pulls, Tell, Tells};
+
+use lc_base::HostError;
 
 /// A call of the outside failed.
 #[derive(Clone, Copy, Debug, PartialEq, Eq)]
 pub struct Failed;
+
+impl From<Failed> for HostError {
+    ghost use Rattle.lc_base.specs.declared.host_error.HostError.TheVariants.{Fault};
+
+    ghost from_gives = { λ _ error. error ≡ Fault };
+
+    fn from(_failed: Failed) -> HostError {
+        HostError::Fault
+    }
+}
 
 /// The one clock of a machine, what the machine was told, and what its disk holds.
 pub trait Clock {

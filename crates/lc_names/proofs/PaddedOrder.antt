@@ -11,7 +11,7 @@ use Rattle.std.proofs.lemmas.Cmp.{nat_list_cmp_total}
 use Rattle.std.proofs.lemmas.List.Sums.{fails_before_first}
 use Rattle.lc_names.specs.KeyBytes.{IsKey, is_key_byte}
 use Rattle.lc_names.specs.NameBytes.{IsName, is_name_byte, starts_with_letter, foreign_byte}
-use Rattle.lc_names.specs.Padding.{padded}
+use Rattle.lc_names.specs.Padding.{zero_padded}
 use Rattle.lc_names.specs.declared.limits.TheConstants.{MAX_KEY_BYTES, MAX_NAME_BYTES}
 use Rattle.lc_names.proofs.WordOrder.{less, greater}
 
@@ -49,14 +49,14 @@ zeros_order (x ∷ xs) [] m (suc n) same left right = rw (greater x 0 (left 0 (o
 zeros_order (x ∷ xs) (y ∷ ys) m n same left right =
     ap (ordering_then (nat_cmp x y)) (zeros_order xs ys m n (omega arith) (λ i inside. left (suc i) (omega arith)) (λ i inside. right (suc i) (omega arith)))
 
-padded_order : (width : ℕ) (xs ys : List ℕ) → length xs ≤ width → length ys ≤ width → HasNoZero xs → HasNoZero ys → slice_cmp nat_cmp (padded width xs) (padded width ys) ≡ slice_cmp nat_cmp xs ys
+padded_order : (width : ℕ) (xs ys : List ℕ) → length xs ≤ width → length ys ≤ width → HasNoZero xs → HasNoZero ys → slice_cmp nat_cmp (zero_padded width xs) (zero_padded width ys) ≡ slice_cmp nat_cmp xs ys
 padded_order width xs ys short shorter left right = zeros_order xs ys (width - length xs) (width - length ys) (omega arith) left right
 
 key_has_no_zero : (key : List ℕ) → IsKey key → HasNoZero key
 key_has_no_zero key is = no_zero (λ byte. not (is_key_byte byte)) key refl is.good
 
 -- The arrays of keys are ordered as the keys.
-pub key_order : (xs ys : List ℕ) → IsKey xs → IsKey ys → slice_cmp nat_cmp (padded MAX_KEY_BYTES xs) (padded MAX_KEY_BYTES ys) ≡ slice_cmp nat_cmp xs ys
+pub key_order : (xs ys : List ℕ) → IsKey xs → IsKey ys → slice_cmp nat_cmp (zero_padded MAX_KEY_BYTES xs) (zero_padded MAX_KEY_BYTES ys) ≡ slice_cmp nat_cmp xs ys
 key_order xs ys left right = padded_order MAX_KEY_BYTES xs ys left.short right.short (key_has_no_zero xs left) (key_has_no_zero ys right)
 
 name_has_no_zero : (name : List ℕ) → IsName name → HasNoZero name
@@ -66,5 +66,5 @@ name_has_no_zero name is = elim (cases_Bool (starts_with_letter name)) [
 ]
 
 -- The arrays of names are ordered as the names.
-pub name_order : (xs ys : List ℕ) → IsName xs → IsName ys → slice_cmp nat_cmp (padded MAX_NAME_BYTES xs) (padded MAX_NAME_BYTES ys) ≡ slice_cmp nat_cmp xs ys
+pub name_order : (xs ys : List ℕ) → IsName xs → IsName ys → slice_cmp nat_cmp (zero_padded MAX_NAME_BYTES xs) (zero_padded MAX_NAME_BYTES ys) ≡ slice_cmp nat_cmp xs ys
 name_order xs ys left right = padded_order MAX_NAME_BYTES xs ys left.short right.short (name_has_no_zero xs left) (name_has_no_zero ys right)

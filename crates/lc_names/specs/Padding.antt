@@ -4,11 +4,11 @@ use Rattle.std.proofs.Common.{ap, arith}
 use Rattle.std.proofs.lemmas.List.{length-take, length-append, length-replicate}
 
 -- The bytes in an array of this width: zeros follow them.
-abbrev pub padded : ℕ → List ℕ → List ℕ
-padded width bytes = bytes ++ replicate (width - length bytes) 0
+abbrev pub zero_padded : ℕ → List ℕ → List ℕ
+zero_padded width bytes = bytes ++ replicate (width - length bytes) 0
 
 -- The first bytes of an array, which is these with zeros after them, are as many as were taken.
-pub length_of_prefix : (width len : ℕ) (bytes : List ℕ) → len ≤ width → bytes ≡ padded width (take len bytes) →
+pub length_of_prefix : (width len : ℕ) (bytes : List ℕ) → len ≤ width → bytes ≡ zero_padded width (take len bytes) →
     length (take len bytes) ≡ len
 length_of_prefix width len bytes short is_padded =
     omega (

@@ -1,16 +1,20 @@
 //! Keys, which name what the ledger keeps.
 
-ghost use Rattle.std.specs.Prelude.{◌≡◌, ◌==◌, ◌≤◌, length};
-ghost use Rattle.std.specs.Ordering.{nat_cmp, as_partial_cmp};
-ghost use Rattle.std.specs.Cmp.{partial_order_from_own_ties};
-ghost use Rattle.std.specs.Cmp.Lexicographic.{pointwise, slice_cmp};
-ghost use Rattle.std.specs.Cmp.Rules.{comparing, hashing};
+ghost use Rattle.std.{
+  specs.Prelude.{◌≡◌, ◌==◌, ◌≤◌, length},
+  specs.Ordering.{nat_cmp, as_partial_cmp},
+  specs.Cmp.{partial_order_from_own_ties},
+  specs.Cmp.Lexicographic.{pointwise, slice_cmp},
+  specs.Cmp.Rules.{comparing, hashing},
+  proofs.Common.{rules},
+};
 ghost use Rattle.std.specs.Hash as fed;
-ghost use Rattle.std.proofs.Common.{rules};
-ghost use Rattle.lc_names.specs.KeyBytes.{is_key_byte, bad_key_byte, IsKey};
-ghost use Rattle.lc_names.specs.Padding.{padded};
-ghost use Rattle.lc_names.specs.declared.limits.TheConstants.{MAX_KEY_BYTES};
-ghost use Rattle.lc_names.specs.Key.{key_of};
+ghost use Rattle.lc_names.specs.{
+  KeyBytes.{is_key_byte, bad_key_byte, IsKey},
+  Padding.{zero_padded},
+  declared.limits.TheConstants.{MAX_KEY_BYTES},
+  Key.{key_of},
+};
 
 use crate::limits::MAX_KEY_BYTES;
 use crate::words::cmp_words;
@@ -30,16 +34,16 @@ impl Model for Key {
     ghost use Rattle.std.specs.Prelude.{◌≡◌, ◌≤◌, ℕ, List, take, length};
     ghost use Rattle.std.proofs.Common.{refl};
     ghost use Rattle.lc_names.specs.KeyBytes.{IsKey};
-    ghost use Rattle.lc_names.specs.Padding.{padded, length_of_prefix};
+    ghost use Rattle.lc_names.specs.Padding.{zero_padded, length_of_prefix};
     ghost use Rattle.lc_names.specs.declared.limits.TheConstants.{MAX_KEY_BYTES};
 
     ghost Value = { List ℕ };
 
     ghost view = { λ k. take k.len k.bytes };
 
-    ghost invariant = { λ k. (k.len ≤ MAX_KEY_BYTES) × IsKey (take k.len k.bytes) × (k.bytes ≡ padded MAX_KEY_BYTES (take k.len k.bytes)) };
+    ghost invariant = { λ k. (k.len ≤ MAX_KEY_BYTES) × IsKey (take k.len k.bytes) × (k.bytes ≡ zero_padded MAX_KEY_BYTES (take k.len k.bytes)) };
 
-    ghost inverse = { λ bytes. record { len = length bytes; bytes = padded MAX_KEY_BYTES bytes } };
+    ghost inverse = { λ bytes. record { len = length bytes; bytes = zero_padded MAX_KEY_BYTES bytes } };
 
     ghost inverse_ok = { λ a h. let e = length_of_prefix MAX_KEY_BYTES a.len a.bytes h.0 h.2 in Prim.rw (← h.2, e) refl };
 }
@@ -71,9 +75,9 @@ fn bad_key_byte(bytes: &[u8]) -> Option<usize>
 }
 
 /// The array of a key: zeros follow its bytes.
-fn padded(key: &[u8]) -> [u8; MAX_KEY_BYTES]
+fn zero_padded(key: &[u8]) -> [u8; MAX_KEY_BYTES]
     requires { length key.now ≤ MAX_KEY_BYTES }
-    ensures { result ≡ padded MAX_KEY_BYTES key.now }
+    ensures { result ≡ zero_padded MAX_KEY_BYTES key.now }
 {
     let mut bytes = [0u8; MAX_KEY_BYTES];
     bytes[..key.len()].copy_from_slice(key);
@@ -104,7 +108,7 @@ impl Key {
     {
         Key {
             len: key.len(),
-            bytes: padded(key),
+            bytes: zero_padded(key),
         }
     }
 

@@ -1,16 +1,20 @@
 //! Names, of contracts and of what stands in them.
 
-ghost use Rattle.std.specs.Prelude.{◌≡◌, ◌==◌, ◌≤◌, length};
-ghost use Rattle.std.specs.Ordering.{nat_cmp, as_partial_cmp};
-ghost use Rattle.std.specs.Cmp.{partial_order_from_own_ties};
-ghost use Rattle.std.specs.Cmp.Lexicographic.{pointwise, slice_cmp};
-ghost use Rattle.std.specs.Cmp.Rules.{comparing, hashing};
+ghost use Rattle.std.{
+  specs.Prelude.{◌≡◌, ◌==◌, ◌≤◌, length},
+  specs.Ordering.{nat_cmp, as_partial_cmp},
+  specs.Cmp.{partial_order_from_own_ties},
+  specs.Cmp.Lexicographic.{pointwise, slice_cmp},
+  specs.Cmp.Rules.{comparing, hashing},
+  proofs.Common.{rules},
+};
 ghost use Rattle.std.specs.Hash as fed;
-ghost use Rattle.std.proofs.Common.{rules};
-ghost use Rattle.lc_names.specs.NameBytes.{is_name_byte, starts_with_letter, foreign_byte, bad_name_byte, IsName};
-ghost use Rattle.lc_names.specs.Padding.{padded};
-ghost use Rattle.lc_names.specs.declared.limits.TheConstants.{MAX_NAME_BYTES};
-ghost use Rattle.lc_names.specs.Name.{name_of};
+ghost use Rattle.lc_names.specs.{
+  NameBytes.{is_name_byte, starts_with_letter, foreign_byte, bad_name_byte, IsName},
+  Padding.{zero_padded},
+  declared.limits.TheConstants.{MAX_NAME_BYTES},
+  Name.{name_of},
+};
 
 use crate::key::KeyError;
 use crate::limits::MAX_NAME_BYTES;
@@ -30,16 +34,16 @@ impl Model for Name {
     ghost use Rattle.std.specs.Prelude.{◌≡◌, ◌≤◌, ℕ, List, take, length};
     ghost use Rattle.std.proofs.Common.{refl};
     ghost use Rattle.lc_names.specs.NameBytes.{IsName};
-    ghost use Rattle.lc_names.specs.Padding.{padded, length_of_prefix};
+    ghost use Rattle.lc_names.specs.Padding.{zero_padded, length_of_prefix};
     ghost use Rattle.lc_names.specs.declared.limits.TheConstants.{MAX_NAME_BYTES};
 
     ghost Value = { List ℕ };
 
     ghost view = { λ k. take k.len k.bytes };
 
-    ghost invariant = { λ k. (k.len ≤ MAX_NAME_BYTES) × IsName (take k.len k.bytes) × (k.bytes ≡ padded MAX_NAME_BYTES (take k.len k.bytes)) };
+    ghost invariant = { λ k. (k.len ≤ MAX_NAME_BYTES) × IsName (take k.len k.bytes) × (k.bytes ≡ zero_padded MAX_NAME_BYTES (take k.len k.bytes)) };
 
-    ghost inverse = { λ bytes. record { len = length bytes; bytes = padded MAX_NAME_BYTES bytes } };
+    ghost inverse = { λ bytes. record { len = length bytes; bytes = zero_padded MAX_NAME_BYTES bytes } };
 
     ghost inverse_ok = { λ a h. let e = length_of_prefix MAX_NAME_BYTES a.len a.bytes h.0 h.2 in Prim.rw (← h.2, e) refl };
 }
@@ -77,9 +81,9 @@ fn bad_name_byte(bytes: &[u8]) -> Option<usize>
 }
 
 /// The array of a name: zeros follow its bytes.
-fn padded(name: &[u8]) -> [u8; MAX_NAME_BYTES]
+fn zero_padded(name: &[u8]) -> [u8; MAX_NAME_BYTES]
     requires { length name.now ≤ MAX_NAME_BYTES }
-    ensures { result ≡ padded MAX_NAME_BYTES name.now }
+    ensures { result ≡ zero_padded MAX_NAME_BYTES name.now }
 {
     let mut bytes = [0u8; MAX_NAME_BYTES];
     bytes[..name.len()].copy_from_slice(name);
@@ -110,7 +114,7 @@ impl Name {
     {
         Name {
             len: name.len(),
-            bytes: padded(name),
+            bytes: zero_padded(name),
         }
     }
 

@@ -1,9 +1,11 @@
 //! Comparing bytes eight at a time.
 
-ghost use Rattle.std.specs.Prelude.{◌≡◌, ◌+◌, ◌*◌, ◌%◌, ◌≤◌, length, take, drop};
-ghost use Rattle.std.specs.Int.{w64, from_be_bytes};
-ghost use Rattle.std.specs.Ordering.{nat_cmp};
-ghost use Rattle.std.specs.Cmp.Lexicographic.{slice_cmp};
+ghost use Rattle.std.specs.{
+  Prelude.{◌≡◌, ◌+◌, ◌*◌, ◌%◌, ◌≤◌, length, take, drop},
+  Int.{w64, from_be_bytes},
+  Ordering.{nat_cmp},
+  Cmp.Lexicographic.{slice_cmp},
+};
 
 use std::cmp::Ordering;
 

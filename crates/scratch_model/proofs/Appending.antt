@@ -23,7 +23,7 @@ module _ (bytes more : List ℕ) where
         let within = leb-true (place + count) (length bytes) k in
         le-leb (place + count) (length (bytes ++ more))
         (omega (arith, within, length-append bytes more));
-    told = refl;
+    known = refl;
     held = λ place count told k. held_stays place count (leb-true (place + count) (length bytes) k);
   }
 

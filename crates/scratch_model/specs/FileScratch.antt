@@ -1,12 +1,17 @@
 -- The scratch device over a file.
 use Rattle.std.specs.Prelude.{◌≡◌, ℕ, ◌+◌, nat_le, None, Result, Ok, Err}
-use Rattle.scratch_model.specs.Scratch.{ScratchState}
+use Rattle.scratch_model.specs.Scratch.{ScratchState, Serves}
+use Rattle.scratch_model.specs.declared.edge.FileScratch.{FileScratch}
 
--- All bytes up to this end are kept, and it is not told which they are.
-abbrev pub untold_up_to : ℕ → ScratchState
-untold_up_to end = record { kept = λ place count. nat_le (place + count) end; held = None }
+-- All bytes up to this end are kept, and it is not known which they are.
+abbrev pub unknown_up_to : ℕ → ScratchState
+unknown_up_to end = record { kept = λ place count. nat_le (place + count) end; held = None }
 
 -- A put of so many bytes keeps them at the end, which is then past them. One that fails keeps none.
 abbrev pub PutsAtEnd : {E : Type 0} → ℕ → ℕ → ℕ → Result ℕ E → Type 0
 PutsAtEnd count old new (Ok place) = (place ≡ old) × (new ≡ old + count)
 PutsAtEnd count old new (Err e) = new ≡ old
+
+-- What every call does for the one that makes it.
+abbrev pub ServesUnknown : FileScratch → FileScratch → Type 0 → Type 0
+ServesUnknown = Serves (λ s. unknown_up_to s.len) (λ s. s.faults)

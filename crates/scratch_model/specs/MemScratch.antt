@@ -2,11 +2,11 @@
 use Rattle.std.specs.Prelude.{◌≡◌, ℕ, ◌+◌, Bool, true, false, ◌&&◌, nat_le, nat_lt, MatchBool}
 use Rattle.std.specs.Prelude.{List, ◌++◌, length, take, drop, Some, Result, Ok, Err}
 use Rattle.lc_io.specs.Fakes.{one_more, is_failing}
-use Rattle.scratch_model.specs.Scratch.{ScratchState}
+use Rattle.scratch_model.specs.Scratch.{ScratchState, Serves}
 
 -- The bytes that were put, one after another; the calls that took a number, and how many of them
 -- were gets; the room for calls and bytes; the numbers of the calls that fail, and how many
--- failed.
+-- with_fault.
 pub record MemScratchState : Type 0 where
   pub bytes : List ℕ
   pub calls : ℕ
@@ -28,16 +28,16 @@ abbrev pub fits_room : MemScratchState → ℕ → Bool
 fits_room s count = nat_lt s.calls s.room_calls && nat_le (length s.bytes + count) s.room_bytes
 
 -- A call that takes the next number.
-abbrev pub numbered : MemScratchState → MemScratchState
-numbered s = record s { calls = s.calls + 1 }
+abbrev pub with_call : MemScratchState → MemScratchState
+with_call s = record s { calls = s.calls + 1 }
 
 -- A get that takes the next number.
-abbrev pub numbered_get : MemScratchState → MemScratchState
-numbered_get s = record s { calls = s.calls + 1; gets = s.gets + 1 }
+abbrev pub with_get : MemScratchState → MemScratchState
+with_get s = record s { calls = s.calls + 1; gets = s.gets + 1 }
 
--- A call that failed.
-abbrev pub failed : MemScratchState → MemScratchState
-failed s = record s { faults = one_more s.faults }
+-- A call that with_fault.
+abbrev pub with_fault : MemScratchState → MemScratchState
+with_fault s = record s { faults = one_more s.faults }
 
 -- A call that keeps so many bytes is done: it fits the room, and its number is not among those that
 -- fail.
@@ -49,21 +49,25 @@ IsDone count s = (fits_room s count ≡ true) × (is_failing s.failing s.calls �
 abbrev pub Fails : ℕ → (MemScratchState → MemScratchState)
     → MemScratchState → MemScratchState → Type 0
 Fails count taken old new = MatchBool (fits_room old count)
-    ((is_failing old.failing old.calls ≡ true) × (new ≡ failed (taken old)))
-    (new ≡ failed old)
+    ((is_failing old.failing old.calls ≡ true) × (new ≡ with_fault (taken old)))
+    (new ≡ with_fault old)
 
 -- A put keeps its bytes after the others, and answers where they begin. One that fails keeps none.
 abbrev pub PutsBytes : {E : Type 0} → List ℕ
     → MemScratchState → MemScratchState → Result ℕ E → Type 0
 PutsBytes bytes old new (Ok place) =
     IsDone (length bytes) old × (place ≡ length old.bytes)
-    × (new ≡ record (numbered old) { bytes = old.bytes ++ bytes })
-PutsBytes bytes old new (Err e) = Fails (length bytes) numbered old new
+    × (new ≡ record (with_call old) { bytes = old.bytes ++ bytes })
+PutsBytes bytes old new (Err e) = Fails (length bytes) with_call old new
 
 -- A get fills the buffer with the bytes from a place on. One that fails leaves it as it was.
 abbrev pub GetsBytes : {T E : Type 0} → ℕ
     → MemScratchState → MemScratchState → Result T E → List ℕ → List ℕ → Type 0
 GetsBytes place old new (Ok x) before after =
     IsDone 0 old × (after ≡ take (length before) (drop place old.bytes))
-    × (new ≡ numbered_get old)
-GetsBytes place old new (Err e) before after = (after ≡ before) × Fails 0 numbered_get old new
+    × (new ≡ with_get old)
+GetsBytes place old new (Err e) before after = (after ≡ before) × Fails 0 with_get old new
+
+-- What every call does for the one that makes it.
+abbrev pub ServesOver : MemScratchState → MemScratchState → Type 0 → Type 0
+ServesOver = Serves (λ s. state_over s.bytes) (λ s. s.faults)

@@ -1,10 +1,11 @@
 //! The edge over a real file. What the file holds no contract can name, so it stays untold.
 
 ghost use Rattle.std.specs.Prelude.{◌≡◌, true, None, length, IfOk, OnOk, IsErr, IsOk};
-ghost use Rattle.lc_base.specs.Faults.{HasCause};
 ghost use Rattle.lc_io.specs.Streams.{CountsFaults};
-ghost use Rattle.scratch_model.specs.Scratch.{HoldsAt, IsKeptAt, Retains};
-ghost use Rattle.scratch_model.specs.FileScratch.{untold_up_to, PutsAtEnd};
+ghost use Rattle.scratch_model.specs.{
+  Scratch.{HoldsAt, IsKeptAt},
+  FileScratch.{unknown_up_to, PutsAtEnd, ServesUnknown},
+};
 
 use crate::scratch::Scratch;
 use lc_io::{Failed, one_more};
@@ -122,16 +123,15 @@ impl<'a> FileScratch<'a> {
 }
 
 impl<'a> Scratch for FileScratch<'a> {
-    ghost state = { λ s. untold_up_to s.len };
+    ghost state = { λ s. unknown_up_to s.len };
 
     ghost scratch_faults = { λ s. s.faults };
 
     /// Writes after all that was put before. A put that would end past the last value of a `u64`
     /// is a fault.
     fn put(&mut self, bytes: &[u8]) -> Result<u64, Failed>
-        ensures retains { Retains (untold_up_to self.old.len) (untold_up_to self.new.len) }
-        ensures put { IfOk result (λ place. IsKeptAt (untold_up_to self.new.len) place bytes.now) }
-        ensures cause { HasCause self.old.faults self.new.faults (IsErr result) }
+        ensures serves { ServesUnknown self.old self.new (IsErr result) }
+        ensures put { IfOk result (λ place. IsKeptAt (unknown_up_to self.new.len) place bytes.now) }
         ensures len { PutsAtEnd (length bytes.now) self.old.len self.new.len result }
         ensures faults { CountsFaults self.old.faults self.new.faults result }
     {
@@ -145,10 +145,9 @@ impl<'a> Scratch for FileScratch<'a> {
     }
 
     fn get(&mut self, place: u64, buffer: &mut [u8]) -> Result<(), Failed>
-        requires kept { (untold_up_to self.old.len).kept place (length buffer.old) ≡ true }
-        ensures retains { Retains (untold_up_to self.old.len) (untold_up_to self.new.len) }
-        ensures bytes { OnOk result (HoldsAt (untold_up_to self.old.len) place buffer.new) }
-        ensures cause { HasCause self.old.faults self.new.faults (IsErr result) }
+        requires kept { (unknown_up_to self.old.len).kept place (length buffer.old) ≡ true }
+        ensures serves { ServesUnknown self.old self.new (IsErr result) }
+        ensures bytes { OnOk result (HoldsAt (unknown_up_to self.old.len) place buffer.new) }
         ensures len { self.new.len ≡ self.old.len }
         ensures faults { CountsFaults self.old.faults self.new.faults result }
     {

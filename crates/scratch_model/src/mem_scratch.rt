@@ -1,15 +1,17 @@
 //! A scratch device in memory.
 
-ghost use Rattle.std.specs.Prelude.{◌≡◌, ◌+◌, ◌^◌, ◌<◌, ◌≤◌, true, [], ◌++◌, length, take, drop};
-ghost use Rattle.std.specs.Prelude.{IfOk, OnOk, IsErr};
-ghost use Rattle.std.specs.Vec.{vec_len, vec_capacity};
-ghost use Rattle.lc_base.specs.Faults.{HasCause};
-ghost use Rattle.scratch_model.specs.Scratch.{HoldsAt, IsKeptAt, Retains};
-ghost use Rattle.scratch_model.specs.MemScratch.{state_over, fits_room, PutsBytes, GetsBytes};
+ghost use Rattle.std.specs.{
+  Prelude.{◌≡◌, ◌+◌, ◌^◌, ◌<◌, ◌≤◌, true, [], ◌++◌, length, take, drop, IfOk, OnOk, IsErr},
+  Vec.{vec_len, vec_capacity},
+};
+ghost use Rattle.scratch_model.specs.{
+  Scratch.{HoldsAt, IsKeptAt},
+  MemScratch.{state_over, PutsBytes, GetsBytes, ServesOver},
+};
 
 use crate::scratch::Scratch;
 use lc_base::Memory;
-use lc_io::{Failed, Room, is_failing, one_more};
+use lc_io::{Calls, Failed, Room};
 use std::alloc::Global;
 use std::marker::Model;
 
@@ -18,11 +20,8 @@ use std::marker::Model;
 #[derive(Debug, Drop)]
 pub struct MemScratch {
     bytes: Vec<u8>,
-    room: Room,
-    failing: Vec<u64>,
-    calls: u64,
+    calls: Calls,
     gets: u64,
-    faults: u64,
 }
 
 impl Model for MemScratch {
@@ -34,15 +33,15 @@ impl Model for MemScratch {
 
     ghost view = { λ s. record {
       bytes = s.bytes.items;
-      calls = s.calls;
+      calls = s.calls.made;
       gets = s.gets;
-      room_calls = s.room.calls;
-      room_bytes = s.room.bytes;
-      failing = s.failing.items;
-      faults = s.faults;
+      room_calls = s.calls.room.calls;
+      room_bytes = s.calls.room.bytes;
+      failing = s.calls.failing;
+      faults = s.calls.faults;
     } };
 
-    ghost invariant = { λ s. (s.room.bytes ≤ vec_capacity s.bytes) × (s.gets ≤ s.calls) };
+    ghost invariant = { λ s. (s.calls.room.bytes ≤ vec_capacity s.bytes) × (s.gets ≤ s.calls.made) };
 }
 
 /// Appends bytes, for which there is room, and answers where they begin.
@@ -84,14 +83,11 @@ impl MemScratch {
         }) }
     {
         let bytes = Vec::with_capacity(alloc, room.bytes as usize)?;
-        let failing = Vec::from_slice(alloc, failing)?;
+        let calls = Calls::new(alloc, room, failing)?;
         Ok(MemScratch {
             bytes,
-            room,
-            failing,
-            calls: 0,
+            calls,
             gets: 0,
-            faults: 0,
         })
     }
 
@@ -100,15 +96,6 @@ impl MemScratch {
         ensures { result ≡ self.now.gets }
     {
         self.gets
-    }
-
-    /// Whether a call that keeps so many bytes fits the room.
-    fn fits_room(&self, count: usize) -> bool
-        requires { count < 2 ^ 63 }
-        ensures { result ≡ fits_room self.now count }
-    {
-        self.calls < u64::from(self.room.calls)
-            && self.bytes.len() + count <= self.room.bytes as usize
     }
 }
 
@@ -120,21 +107,12 @@ impl Scratch for MemScratch {
     /// Fails exactly at the calls whose numbers are among the failing ones, and at those that do
     /// not fit the room.
     fn put(&mut self, bytes: &[u8]) -> Result<u64, Failed>
-        ensures retains { Retains (state_over self.old.bytes) (state_over self.new.bytes) }
+        ensures serves { ServesOver self.old self.new (IsErr result) }
         ensures put { IfOk result (λ place. IsKeptAt (state_over self.new.bytes) place bytes.now) }
-        ensures cause { HasCause self.old.faults self.new.faults (IsErr result) }
         ensures exact { PutsBytes bytes.now self.old self.new result }
     {
-        if !self.fits_room(bytes.len()) {
-            self.faults = one_more(self.faults);
-            return Err(Failed);
-        }
-        let number = self.calls;
-        self.calls += 1;
-        if is_failing(&self.failing, number) {
-            self.faults = one_more(self.faults);
-            return Err(Failed);
-        }
+        let number = self.calls.number(self.bytes.len(), bytes.len())?;
+        self.calls.pass(number)?;
         Ok(append(&mut self.bytes, bytes))
     }
 
@@ -142,22 +120,13 @@ impl Scratch for MemScratch {
     /// not fit the room.
     fn get(&mut self, place: u64, buffer: &mut [u8]) -> Result<(), Failed>
         requires kept { (state_over self.old.bytes).kept place (length buffer.old) ≡ true }
-        ensures retains { Retains (state_over self.old.bytes) (state_over self.new.bytes) }
+        ensures serves { ServesOver self.old self.new (IsErr result) }
         ensures bytes { OnOk result (HoldsAt (state_over self.old.bytes) place buffer.new) }
-        ensures cause { HasCause self.old.faults self.new.faults (IsErr result) }
         ensures exact { GetsBytes place self.old self.new result buffer.old buffer.new }
     {
-        if !self.fits_room(0) {
-            self.faults = one_more(self.faults);
-            return Err(Failed);
-        }
-        let number = self.calls;
-        self.calls += 1;
+        let number = self.calls.number(self.bytes.len(), 0)?;
         self.gets += 1;
-        if is_failing(&self.failing, number) {
-            self.faults = one_more(self.faults);
-            return Err(Failed);
-        }
+        self.calls.pass(number)?;
         fill(&self.bytes, place as usize, buffer);
         Ok(())
     }

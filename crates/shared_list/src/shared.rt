@@ -1,8 +1,9 @@
 //! Lists whose items are shared.
 
-ghost use Rattle.std.specs.Prelude.{◌≡◌, ◌<◌, ◌≤◌, [], ◌∷◌, ◌++◌, length, map, take, get_or, IfOk};
-ghost use Rattle.std.specs.Prelude.{OnOk, OnErr};
-ghost use Rattle.std.specs.Rc.{rc_value};
+ghost use Rattle.std.specs.{
+  Prelude.{◌≡◌, ◌<◌, ◌≤◌, [], ◌∷◌, ◌++◌, length, map, take, get_or, IfOk, OnOk, OnErr},
+  Rc.{rc_value},
+};
 
 use lc_base::Memory;
 use std::alloc::{AllocError, Global};

@@ -40,7 +40,7 @@ returns-in-Some-clause-found g c stored read =
     let lawful : IsBlock q.block = subst (λ (s : Stored). IsBlock s.block) q.next_is (rw c.in-Some.is at c.in_ok-next.ensures.lawful) in
     let old = content_of (g.M.Clock.disk c.args.machine.now (g.M.Clock.now c.args.machine.now)) in
     let new = content_of (g.M.Clock.disk c.read_record.new.machine (g.M.Clock.now c.read_record.new.machine)) in
-    let behind = c.args.gate + (5 + c.in-Open.size) in
-    subst (λ (s : Stored). AreRead (log_at behind (c.args.count + 1) s.digest) new (stored ++ s ∷ [])) (sym q.next_is)
-    (read_more old new c.args.gate c.args.count c.in-Open.size behind c.args.last stored q.block bytes read c.requires.few refl q.found_is lawful (ap content_of c.read_record.ensures.disk.last)
+    let after = c.args.gate + (5 + c.in-Open.size) in
+    subst (λ (s : Stored). AreRead (log_at after (c.args.count + 1) s.digest) new (stored ++ s ∷ [])) (sym q.next_is)
+    (read_more old new c.args.gate c.args.count c.in-Open.size after c.args.last stored q.block bytes read c.requires.few refl q.found_is lawful (ap content_of c.read_record.ensures.disk.last)
     (λ image there. (sym (c.in_ok-read_record.ensures.found image there) ∙ c.in-Open.is, rw c.in-Open.is at c.in_ok-read_record.ensures.buffered image there)))

@@ -3,10 +3,10 @@ use Rattle.chain_gen.specs.Generator.{block_drawn}
 use Rattle.chain_gen.proofs.Small.{drawn_is_spelled}
 use Rattle.chain_gen.proofs.generator.block_drawn.Goals as goal
 
-pub spelled-requires : goal.spelled-requires
+pub spell-requires : goal.spell-requires
 unfolding block_drawn
-spelled-requires c = rw (c.in_ok-txs.ensures.txs, c.whole.ensures.same) (drawn_is_spelled c.args.number c.args.draws.now c.args.parent (omega (arith, c.ranges.number)) c.whole.ensures.whole)
+spell-requires c = rw (c.in_ok-txs.ensures.txs, c.whole.ensures.same) (drawn_is_spelled c.args.number c.args.draws.now c.args.parent (omega (arith, c.ranges.number)) c.whole.ensures.whole)
 
 pub returns-clause-lawful : goal.returns-clause-lawful
 unfolding block_drawn
-returns-clause-lawful c = rw (← c.in_ok-txs.ensures.txs, ← c.whole.ensures.same) c.spelled.ensures.lawful
+returns-clause-lawful c = rw (← c.in_ok-txs.ensures.txs, ← c.whole.ensures.same) c.spell.ensures.lawful

@@ -6,8 +6,8 @@ use Rattle.scratch_model.proofs.mem_scratch.MemScratchScratch.get.Goals as goal
 pub returns-clause-bytes : goal.returns-clause-bytes
 unfolding bytes_at
 returns-clause-bytes c told =
-    let kept : c.deref-2.result.now ≡ c.args.self.now.bytes =
-    c.deref-2.ensures.value ∙ ap (λ (s : MemScratchState). s.bytes) c.self.view_is in
+    let kept : c.deref.result.now ≡ c.args.self.now.bytes =
+    c.deref.ensures.value ∙ ap (λ (s : MemScratchState). s.bytes) c.self.view_is in
     let room : ℕ = length c.args.buffer.now in
     let len : length c.fill.new.buffer ≡ room = omega (arith, c.fill.auto.buffer) in
     ap (λ (count : ℕ). take count (drop c.args.place c.args.self.now.bytes)) len

@@ -1,4 +1,4 @@
-use Rattle.std.proofs.Common.{◌≡◌, ℕ, List, ◌++◌, length, sym, ap, subst, ◌∙◌}
+use Rattle.std.proofs.Common.{◌≡◌, ℕ, List, ◌++◌, length, sym, ap, subst, ◌∙◌, rules}
 use Rattle.scratch_model.specs.Scratch.{IsKeptAt, Retains}
 use Rattle.scratch_model.specs.MemScratch.{MemScratchState, state_over}
 use Rattle.scratch_model.proofs.Appending.{more_retains, more_kept}
@@ -10,11 +10,15 @@ bytes_are c =
     c.append.ensures.bytes
     ∙ ap (λ (s : MemScratchState). s.bytes ++ c.args.bytes.now) c.self.view_is
 
-pub returns-clause-retains : goal.returns-clause-retains
-returns-clause-retains c =
+pub returns-clause-serves : goal.returns-clause-serves
+returns-clause-serves c =
     let bytes : List ℕ = c.args.self.now.bytes in
-    subst (λ (longer : List ℕ). Retains (state_over bytes) (state_over longer))
-    (sym (bytes_are c)) (more_retains bytes c.args.bytes.now)
+    record {
+      retains =
+          subst (λ (longer : List ℕ). Retains (state_over bytes) (state_over longer))
+          (sym (bytes_are c)) (more_retains bytes c.args.bytes.now);
+      cause = search rules;
+    }
 
 pub returns-clause-put : goal.returns-clause-put
 returns-clause-put c =

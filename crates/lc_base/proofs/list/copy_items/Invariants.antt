@@ -1,5 +1,5 @@
 use Rattle.std.proofs.Common.{◌≡◌, take}
-use Rattle.lc_base.proofs.list.copied.Given as goal
+use Rattle.lc_base.proofs.list.copy_items.Given as goal
 
 abbrev pub invariant-loop-item : goal.invariant-loop-item
 invariant-loop-item g l = l.copy.items ≡ take l.item-index l.all

@@ -1,0 +1,13 @@
+-- What writing a block, or a part of one, answers.
+use Rattle.std.specs.Prelude.{◌≡◌, ℕ, List, ◌++◌, Result, OnOk, IsErrOf}
+use Rattle.std.specs.List.{concat}
+use Rattle.block_codec.specs.declared.error.EncodeError.{EncodeError}
+use Rattle.block_codec.specs.declared.error.EncodeError.TheVariants.{Limit}
+
+-- The fields of a lawful value are written after what stood there; only one that is not lawful is
+-- refused for its limits.
+pub record Encodes {T : Type 0} (fields : List (List ℕ)) (Is : Type 0) (old new : List ℕ)
+    (result : Result T EncodeError) : Type 0 where
+  pub written : OnOk result (new ≡ old ++ concat fields)
+  pub lawful : OnOk result Is
+  pub limit : IsErrOf result Limit → Is → ⊥

@@ -1,0 +1,63 @@
+//! Why a block was not written, and why no frame was taken.
+
+ghost use Rattle.std.specs.Prelude.{◌≡◌};
+
+use lc_base::Memory;
+use lc_io::Failed;
+
+/// Why a block was not written.
+#[derive(Clone, Copy, Debug, PartialEq, Eq)]
+pub enum EncodeError {
+    /// It has no spelling: it has more than `MAX_TXS` transactions, or one of them has more than
+    /// `MAX_DEPS` dependency keys, a source of more than `MAX_SOURCE_BYTES` bytes, more than
+    /// `MAX_ARGS` arguments or a budget above `MAX_CALL_BUDGET`, or it has more than
+    /// `MAX_BLOCK_BYTES` bytes.
+    Limit,
+    /// Out of memory.
+    Memory,
+}
+
+/// Why no further frame could be taken.
+#[derive(Clone, Copy, Debug, PartialEq, Eq)]
+pub enum FrameError {
+    /// The input ends within the frame.
+    Truncated,
+    /// A frame has 1 to `MAX_BLOCK_BYTES` bytes, and this says that it has so many.
+    Length(u32),
+    /// An input has at most `MAX_FRAMES` frames.
+    Many,
+    /// The source failed.
+    Fault,
+    /// Out of memory.
+    Memory,
+}
+
+impl From<Memory> for EncodeError {
+    ghost use Rattle.block_codec.specs.declared.error.EncodeError.TheVariants.{Memory};
+
+    ghost from_gives = { λ _ error. error ≡ Memory };
+
+    fn from(_memory: Memory) -> EncodeError {
+        EncodeError::Memory
+    }
+}
+
+impl From<Memory> for FrameError {
+    ghost use Rattle.block_codec.specs.declared.error.FrameError.TheVariants.{Memory};
+
+    ghost from_gives = { λ _ error. error ≡ Memory };
+
+    fn from(_memory: Memory) -> FrameError {
+        FrameError::Memory
+    }
+}
+
+impl From<Failed> for FrameError {
+    ghost use Rattle.block_codec.specs.declared.error.FrameError.TheVariants.{Fault};
+
+    ghost from_gives = { λ _ error. error ≡ Fault };
+
+    fn from(_failed: Failed) -> FrameError {
+        FrameError::Fault
+    }
+}
