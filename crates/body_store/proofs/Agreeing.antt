@@ -6,7 +6,7 @@ use Rattle.std.specs.Option.{option_map}
 use Rattle.std.proofs.lemmas.List.Elements.{All-weaker, All-contains, All-contains_itself, All-push}
 use Rattle.std.proofs.lemmas.List.Elements.{All-take, All-nil}
 use Rattle.std.proofs.lemmas.Option.{slice_get-get_or}
-use Rattle.scratch_model.specs.Scratch.{ScratchState, is_told, bytes_at, HoldsAt, IsKeptAt, Retains}
+use Rattle.scratch_model.specs.Scratch.{ScratchState, is_known, bytes_at, HoldsAt, IsKeptAt, Retains}
 use Rattle.scratch_model.proofs.Retaining.{kept_stays}
 use Rattle.body_store.specs.Bodies.{KeptBody, BodiesState, body_at}
 use Rattle.body_store.specs.Agreement.{HasBody, IsBodyOf, Agrees}
@@ -17,7 +17,7 @@ pub agrees_on : (store : BodiesState) (s t : ScratchState) → Retains s t → A
 agrees_on store s t stays a = record {
   bodies = All-weaker (HasBody s) (HasBody t) (λ one. kept_stays s t one.place one.body stays)
       store.kept a.bodies;
-  cached = λ told. a.cached (sym stays.told ∙ told);
+  cached = λ told. a.cached (sym stays.known ∙ told);
 }
 
 -- the bodies at hand after a call are among those before it
@@ -36,7 +36,7 @@ agrees_fewer kept old new s from a = record {
 pub agrees_more : (kept : List KeptBody) (old new : List (ℕ × List ℕ)) (one : ℕ × List ℕ)
     (s : ScratchState)
     → ((pair : ℕ × List ℕ) → Contains new pair → Contains old pair ⊎ (pair ≡ one))
-    → (is_told s ≡ true → IsBodyOf kept one)
+    → (is_known s ≡ true → IsBodyOf kept one)
     → Agrees (record { kept = kept; cached = old }) s
     → Agrees (record { kept = kept; cached = new }) s
 agrees_more kept old new one s from is a = record {
@@ -77,7 +77,7 @@ is_last kept one = get_last kept one
 
 -- what the device gave is what it keeps
 got_is : (s : ScratchState) (place : ℕ) (body got : List ℕ) → IsKeptAt s place body
-    → HoldsAt s place got → length got ≡ length body → is_told s ≡ true → body ≡ got
+    → HoldsAt s place got → length got ≡ length body → is_known s ≡ true → body ≡ got
 got_is s place body got kept holds same told = sym (kept.held told)
     ∙ sym (ap (bytes_at s place) same) ∙ holds told
 
@@ -88,7 +88,7 @@ one_kept store s index one a within is = subst (HasBody s) (sym is) (a.bodies in
 -- so it is the body at the index
 pub body_read : (store : BodiesState) (s : ScratchState) (index : ℕ) (one : KeptBody) (got : List ℕ)
     → Agrees store s → index < length store.kept → one ≡ get_or store.kept index one
-    → HoldsAt s one.place got → length got ≡ length one.body → is_told s ≡ true
+    → HoldsAt s one.place got → length got ≡ length one.body → is_known s ≡ true
     → body_at store.kept index ≡ Some got
 body_read store s index one got a within is holds same told =
     let here : slice_get store.kept index ≡ Some one = slice_get-get_or store.kept index one within
@@ -99,7 +99,7 @@ body_read store s index one got a within is holds same told =
 
 -- and so is one at hand
 pub body_at_hand : (store : BodiesState) (s : ScratchState) (index : ℕ) (body : List ℕ)
-    → Agrees store s → Contains store.cached (index, body) → is_told s ≡ true
+    → Agrees store s → Contains store.cached (index, body) → is_known s ≡ true
     → body_at store.kept index ≡ Some body
 body_at_hand store s index body a at_hand told = All-contains (IsBodyOf store.kept) store.cached
     (index, body) (a.cached told) at_hand

@@ -1,7 +1,9 @@
 //! The bodies at hand.
 
-ghost use Rattle.std.specs.Prelude.{◌≡◌, ◌⊎◌, ℕ, List, Contains, IfOk, IfSome};
-ghost use Rattle.std.specs.Rc.{rc_slice_items};
+ghost use Rattle.std.specs.{
+  Prelude.{◌≡◌, ◌⊎◌, ℕ, List, Contains, IfOk, IfSome},
+  Rc.{rc_slice_items},
+};
 ghost use Rattle.body_store.specs.Cached.{pairs_of};
 
 use crate::kept::BodyIndex;
@@ -40,7 +42,7 @@ pub(crate) fn keep_shared(
 }
 
 /// A body, where it is at hand.
-pub(crate) fn cached(
+pub(crate) fn body_at_hand(
     cache: &mut LruCache<BodyIndex, RcSlice<u8>>,
     index: BodyIndex,
 ) -> Result<Option<RcSlice<u8>>, Memory>

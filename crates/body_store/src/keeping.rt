@@ -1,19 +1,24 @@
 //! Keeping bodies on a scratch device, and reading them back.
 
-ghost use Rattle.std.specs.Prelude.{◌≡◌, ◌<◌, true, [], ◌∷◌, ◌++◌, length, map, Some, IfOk, OnErr};
-ghost use Rattle.std.specs.Prelude.{OnOk, IsErrOf};
-ghost use Rattle.std.specs.Rc.{rc_slice_items};
-ghost use Rattle.lc_base.specs.Faults.{HasCause};
-ghost use Rattle.lc_base.specs.declared.limits.TheConstants.{MAX_ROWS};
-ghost use Rattle.scratch_model.specs.Scratch.{is_told, HoldsAt, Retains};
-ghost use Rattle.body_store.specs.Bodies.{bodies_of, body_at};
-ghost use Rattle.body_store.specs.Agreement.{Agrees};
-ghost use Rattle.body_store.specs.Cached.{pairs_of};
-ghost use Rattle.body_store.specs.declared.error.StoreError.TheVariants.{Fault};
+ghost use Rattle.std.specs.{
+  Prelude.{◌≡◌, ◌<◌, true, [], ◌∷◌, ◌++◌, length, map, Some, IfOk, OnErr, OnOk, IsErrOf},
+  Rc.{rc_slice_items},
+};
+ghost use Rattle.lc_base.specs.{
+  Faults.{HasCause},
+  declared.limits.TheConstants.{MAX_ROWS},
+  declared.host_error.HostError.TheVariants.{Fault},
+};
+ghost use Rattle.scratch_model.specs.Scratch.{is_known, HoldsAt, Retains};
+ghost use Rattle.body_store.specs.{
+  Bodies.{bodies_of, body_at},
+  Agreement.{Agrees},
+  Cached.{pairs_of},
+};
 
-use crate::cache::{cached, keep, keep_shared};
-use crate::error::StoreError;
+use crate::cache::{body_at_hand, keep, keep_shared};
 use crate::kept::{BodyIndex, Kept};
+use lc_base::{HostError, zeros};
 use lru::LruCache;
 use scratch_model::Scratch;
 use shared_list::Shared;
@@ -26,7 +31,7 @@ fn read<S: Scratch>(
     scratch: &mut S,
     place: u64,
     len: usize,
-) -> Result<RcSlice<u8>, StoreError>
+) -> Result<RcSlice<u8>, HostError>
     requires kept { (S.state scratch.old).kept place len ≡ true }
     ensures len { IfOk result (λ body. length (rc_slice_items body) ≡ len) }
     ensures bytes { IfOk result (λ body. HoldsAt (S.state scratch.old) place (rc_slice_items body)) }
@@ -34,7 +39,7 @@ fn read<S: Scratch>(
     ensures cause { HasCause (S.scratch_faults scratch.old) (S.scratch_faults scratch.new)
         (IsErrOf result Fault) }
 {
-    let mut bytes = vec![in alloc; 0u8; len]?;
+    let mut bytes = zeros(alloc, len)?;
     scratch.get(place, &mut bytes)?;
     Ok(RcSlice::from_vec(bytes)?)
 }
@@ -46,12 +51,12 @@ pub(crate) fn body_from<S: Scratch>(
     cache: &mut LruCache<BodyIndex, RcSlice<u8>>,
     scratch: &mut S,
     index: BodyIndex,
-) -> Result<RcSlice<u8>, StoreError>
+) -> Result<RcSlice<u8>, HostError>
     requires within { index.0 < length kept.now }
     requires agrees { Agrees (record { kept = kept.now; cached = pairs_of cache.old.entries })
         (S.state scratch.old) }
     ensures body { IfOk result
-        (λ body. is_told (S.state scratch.old) ≡ true
+        (λ body. is_known (S.state scratch.old) ≡ true
         → body_at kept.now index.0 ≡ Some (rc_slice_items body)) }
     ensures agrees { Agrees (record { kept = kept.now; cached = pairs_of cache.new.entries })
         (S.state scratch.new) }
@@ -59,7 +64,7 @@ pub(crate) fn body_from<S: Scratch>(
     ensures cause { HasCause (S.scratch_faults scratch.old) (S.scratch_faults scratch.new)
         (IsErrOf result Fault) }
 {
-    if let Some(body) = cached(cache, index)? {
+    if let Some(body) = body_at_hand(cache, index)? {
         return Ok(body);
     }
     let one = kept.at(index.0 as usize);
@@ -74,7 +79,7 @@ pub(crate) fn push_to<S: Scratch>(
     cache: &mut LruCache<BodyIndex, RcSlice<u8>>,
     scratch: &mut S,
     body: RcSlice<u8>,
-) -> Result<(), StoreError>
+) -> Result<(), HostError>
     requires room { length kept.old < MAX_ROWS }
     requires agrees { Agrees (record { kept = kept.old; cached = pairs_of cache.old.entries })
         (S.state scratch.old) }

@@ -1,7 +1,6 @@
 //! Where bodies are kept.
 
-ghost use Rattle.std.specs.Prelude.{◌≡◌, length};
-ghost use Rattle.std.specs.Rc.{rc_slice_items};
+ghost use Rattle.std.specs.{Prelude.{◌≡◌, length}, Rc.{rc_slice_items}};
 
 use std::marker::Model;
 use std::rc::RcSlice;

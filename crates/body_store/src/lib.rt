@@ -3,12 +3,10 @@
 #![tactic(auto)]
 
 mod cache;
-mod error;
 mod keeping;
 mod kept;
 mod limits;
 mod store;
 
-pub use error::StoreError;
 pub use limits::CACHED_BODIES;
 pub use store::Bodies;

@@ -1,19 +1,17 @@
 //! The bodies that are kept, and those at hand.
 
-ghost use Rattle.std.specs.Prelude.{◌≡◌, ◌<◌, ◌≤◌, true, [], ◌∷◌, ◌++◌, length, take, Some, IfOk};
-ghost use Rattle.std.specs.Prelude.{OnOk, OnErr, IsErrOf};
-ghost use Rattle.std.specs.Rc.{rc_slice_items};
-ghost use Rattle.lc_base.specs.Faults.{HasCause};
-ghost use Rattle.lc_base.specs.declared.limits.TheConstants.{MAX_ROWS};
-ghost use Rattle.scratch_model.specs.Scratch.{ScratchState, is_told, Retains};
-ghost use Rattle.body_store.specs.Bodies.{bodies_in, body_at_index};
-ghost use Rattle.body_store.specs.Agreement.{Agrees};
+ghost use Rattle.std.specs.{
+  Prelude.{◌≡◌, ◌<◌, ◌≤◌, true, [], ◌∷◌, ◌++◌, length, take, Some, IfOk, OnOk, OnErr, IsErrOf},
+  Rc.{rc_slice_items},
+};
+ghost use Rattle.lc_base.specs.{Faults.{HasCause}, declared.limits.TheConstants.{MAX_ROWS}};
+ghost use Rattle.scratch_model.specs.Scratch.{ScratchState, is_known, Retains};
+ghost use Rattle.body_store.specs.{Bodies.{bodies_in, body_at_index}, Agreement.{Agrees}};
 
-use crate::error::StoreError;
 use crate::keeping::{body_from, push_to};
 use crate::kept::{BodyIndex, Kept};
 use crate::limits::CACHED_BODIES;
-use lc_base::Memory;
+use lc_base::{HostError, Memory};
 use lru::LruCache;
 use scratch_model::Scratch;
 use shared_list::Shared;
@@ -64,7 +62,7 @@ impl Bodies {
 
     /// Appends a body, which the device is to keep. Where the device fails, and out of memory, the
     /// bodies stay as they were.
-    pub fn push<S: Scratch>(&mut self, scratch: &mut S, body: RcSlice<u8>) -> Result<(), StoreError>
+    pub fn push<S: Scratch>(&mut self, scratch: &mut S, body: RcSlice<u8>) -> Result<(), HostError>
         requires room { length self.old.kept < MAX_ROWS }
         requires agrees { Agrees self.old (S.state scratch.old) }
         ensures pushed { OnOk result
@@ -73,7 +71,7 @@ impl Bodies {
         ensures agrees { Agrees self.new (S.state scratch.new) }
         ensures retains { Retains (S.state scratch.old) (S.state scratch.new) }
         ensures cause { HasCause (S.scratch_faults scratch.old) (S.scratch_faults scratch.new)
-            (IsErrOf result StoreError.Fault) }
+            (IsErrOf result HostError.Fault) }
     {
         push_to(&mut self.kept, &mut self.cache, scratch, body)
     }
@@ -83,17 +81,17 @@ impl Bodies {
         &mut self,
         scratch: &mut S,
         index: u32,
-    ) -> Result<RcSlice<u8>, StoreError>
+    ) -> Result<RcSlice<u8>, HostError>
         requires within { index < length self.old.kept }
         requires agrees { Agrees self.old (S.state scratch.old) }
         ensures body { IfOk result
-            (λ body. is_told (S.state scratch.old) ≡ true
+            (λ body. is_known (S.state scratch.old) ≡ true
             → body_at_index self.old index ≡ Some (rc_slice_items body)) }
         ensures kept { self.new.kept ≡ self.old.kept }
         ensures agrees { Agrees self.new (S.state scratch.new) }
         ensures retains { Retains (S.state scratch.old) (S.state scratch.new) }
         ensures cause { HasCause (S.scratch_faults scratch.old) (S.scratch_faults scratch.new)
-            (IsErrOf result StoreError.Fault) }
+            (IsErrOf result HostError.Fault) }
     {
         body_from(&self.kept, &mut self.cache, scratch, BodyIndex(index))
     }

@@ -1,12 +1,13 @@
 //! The facts of a new entry: its header is digested with the digests of the headers that its hops
 //! lead to.
 
-ghost use Rattle.std.specs.Prelude.{◌≡◌, ◌≤◌, ◌<◌, ◌∷◌, length, map, slice_get, IfOk};
-ghost use Rattle.std.specs.List.{All};
+ghost use Rattle.std.specs.{Prelude.{◌≡◌, ◌≤◌, ◌<◌, ◌∷◌, length, map, slice_get, IfOk}, List.{All}};
 ghost use Rattle.sha2.specs.Sha256.{sha256};
 ghost use Rattle.prov_entry.specs.declared.limits.TheConstants.{BODY, MAX_LINKS};
-ghost use Rattle.entry_store.specs.declared.entry.Hop.{Hop};
-ghost use Rattle.entry_store.specs.Entries.{entry_digest, named_link, facts_of};
+ghost use Rattle.entry_store.specs.{
+  declared.entry.Hop.{Hop},
+  Entries.{entry_digest, named_link, facts_of},
+};
 
 use crate::entry::{Facts, Hop};
 use crate::kept::Kept;

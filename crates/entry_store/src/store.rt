@@ -1,13 +1,17 @@
 //! The arena of entries.
 
-ghost use Rattle.std.specs.Prelude.{◌≡◌, ◌<◌, ◌≤◌, [], ◌∷◌, ◌++◌, length, map, take, slice_get, Some, MatchOption, IfOk, OnOk, OnErr};
-ghost use Rattle.std.specs.List.{All};
-ghost use Rattle.std.specs.Option.{option_map};
+ghost use Rattle.std.specs.{
+  Prelude.{◌≡◌, ◌<◌, ◌≤◌, [], ◌∷◌, ◌++◌, length, map, take, slice_get, Some, MatchOption, IfOk, OnOk, OnErr},
+  List.{All},
+  Option.{option_map},
+};
 ghost use Rattle.lc_base.specs.declared.limits.TheConstants.{MAX_ROWS};
 ghost use Rattle.prov_entry.specs.declared.limits.TheConstants.{MAX_LINKS};
-ghost use Rattle.entry_store.specs.declared.entry.Hop.{Hop};
-ghost use Rattle.entry_store.specs.Steps.{raised};
-ghost use Rattle.entry_store.specs.Entries.{Entry, LeadsBack, AreEntries, named_link, new_entry};
+ghost use Rattle.entry_store.specs.{
+  declared.entry.Hop.{Hop},
+  Steps.{raised_count},
+  Entries.{Entry, LeadsBack, AreEntries, named_link, new_entry},
+};
 
 use crate::entry::{EntryId, Facts, Hop, HopList, Links};
 use crate::facts::{body_digest, facts_of, links_of};
@@ -90,7 +94,7 @@ impl Store {
         ensures links { option_map (λ (entry : Entry). entry.links) (slice_get self.now id.0) ≡ Some result.now }
         ensures back { All (λ (hop : Hop). hop.id.0 < id.0) result.now.hops }
         ensures few { length result.now.hops ≤ MAX_LINKS }
-        ensures step { steps.new ≡ raised steps.old 1 }
+        ensures step { steps.new ≡ raised_count steps.old 1 }
         ensures never_less { steps.old ≤ steps.new }
     {
         steps.raise();

@@ -1,8 +1,5 @@
 pub mod Items
-pub mod Headers
 pub mod Links
-pub mod Bodies
-pub mod Leaves
 pub mod Placing
 pub mod Determined
 pub mod First

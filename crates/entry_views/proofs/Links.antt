@@ -12,7 +12,7 @@ use Rattle.prov_entry.specs.declared.entry.Link.{Link}
 use Rattle.prov_entry.specs.Spelling.{link_fields}
 use Rattle.entry_views.specs.Items.{items_read, AreRead}
 use Rattle.entry_views.specs.Reading.{link_at}
-use Rattle.entry_views.proofs.Headers.{link_field}
+use Rattle.entry_views.specs.Headers.{link_field}
 use Rattle.entry_views.proofs.Items.{split, none_read, nth, this_item}
 
 -- a link has 36 bytes

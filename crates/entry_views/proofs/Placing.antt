@@ -12,7 +12,7 @@ use Rattle.byte_fields.proofs.LongestPrefixes.{longest_prefix, left_within}
 use Rattle.byte_fields.proofs.Pieces.{IsBytes-drop}
 use Rattle.entry_views.specs.declared.fault.FieldError.{FieldError}
 use Rattle.entry_views.specs.Placed.{Placed, IsSpelled}
-use Rattle.entry_views.specs.Standing.{StandsAt, IsInvalidAt, placed, read_from}
+use Rattle.entry_views.specs.Standing.{StandsAt, IsInvalidAt, placed_value, read_from}
 
 abbrev done : {A : Type 0} → Placed A → Result (Placed A) FieldError
 done view = Ok view
@@ -25,7 +25,7 @@ module _ {A : Type 0} {read : List ℕ → Field A} {fields : A → List (List �
   abbrev rest : List ℕ
   rest = drop offset bytes
 
-  found_by : IsBytes bytes → (r : Field A) → read rest ≡ r → IfOk (placed offset (length rest) r) (λ view. StandsAt fields Is bytes offset view.value view.end)
+  found_by : IsBytes bytes → (r : Field A) → read rest ≡ r → IfOk (placed_value offset (length rest) r) (λ view. StandsAt fields Is bytes offset view.value view.end)
   found_by fits (Ok x) e =
       let t = field.takes rest x.0 x.1 (IsBytes-drop offset bytes fits) e in
       let spelled : List ℕ = concat (fields x.0) in
@@ -46,9 +46,9 @@ module _ {A : Type 0} {read : List ℕ → Field A} {fields : A → List (List �
       let parts : rest ≡ spelled ++ after = sym (take-append-drop (length spelled) rest) ∙ ap (λ (t : List ℕ). t ++ after) is.stands in
       let got : read rest ≡ Ok (x, after) = ap read parts ∙ field.again x after is.lawful in
       let ends : offset + (length rest - length after) ≡ end = omega (arith, ap length parts, length-append spelled after, is.end_is) in
-      e ∙ ap (placed offset (length rest)) got ∙ ap (λ (n : ℕ). done (record { value = x; end = n })) ends
+      e ∙ ap (placed_value offset (length rest)) got ∙ ap (λ (n : ℕ). done (record { value = x; end = n })) ends
 
-  fault_by : IsBytes bytes → (r : Field A) → read rest ≡ r → IfErr (placed offset (length rest) r) (λ error. IsInvalidAt fields Is bytes offset error.at)
+  fault_by : IsBytes bytes → (r : Field A) → read rest ≡ r → IfErr (placed_value offset (length rest) r) (λ error. IsInvalidAt fields Is bytes offset error.at)
   fault_by fits (Ok x) e = tt
   fault_by fits (Err left) e = record {
     reach = length rest - left_of (read rest);

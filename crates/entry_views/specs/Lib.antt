@@ -1,4 +1,9 @@
 pub mod Reading
 pub mod Items
+pub mod Codecs
+pub mod ShortLists
+pub mod Headers
+pub mod Bodies
+pub mod Leaves
 pub mod Standing
 pub mod Placed

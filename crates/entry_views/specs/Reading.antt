@@ -2,6 +2,8 @@
 use Rattle.std.specs.Prelude.{ℕ, zero, suc, nat_le, nat_lt, List, Option, Some, None}
 use Rattle.std.specs.Int.{w16, w32, w64}
 use Rattle.lc_base.specs.declared.limits.TheConstants.{MAX_DEPS}
+use Rattle.lc_base.specs.declared.digest.Digest.{Digest}
+use Rattle.lc_base.specs.declared.row.Dep.{Dep}
 use Rattle.lc_base.specs.declared.value.Value.{Value}
 use Rattle.byte_fields.specs.Reading.{Field, ret_at, bind_at, then_at, made_at, ruled_at, items_at, number_at, byte_at, bytes_at, key_at, key_or_empty_at, value_at}
 use Rattle.prov_entry.specs.declared.limits.TheConstants.{MAX_LINKS}
@@ -10,6 +12,28 @@ use Rattle.prov_entry.specs.declared.entry.Header.{Header}
 use Rattle.prov_entry.specs.declared.entry.BodyDep.{BodyDep}
 use Rattle.prov_entry.specs.declared.entry.Body.{Body}
 use Rattle.prov_entry.specs.declared.entry.Leaf.{Leaf}
+
+-- ---- items of lists
+
+-- A digest of its bytes.
+abbrev pub digest_of_bytes : List ℕ → Digest
+digest_of_bytes bytes = record { 0 = bytes }
+
+-- A digest.
+unfoldable pub digest_at : List ℕ → Field Digest
+digest_at = made_at digest_of_bytes (bytes_at 32)
+
+-- A use of its parts.
+abbrev pub use_of : List ℕ × ℕ → Dep
+use_of parts = record { key = parts.0; block = parts.1 }
+
+-- A use.
+unfoldable pub use_at : List ℕ → Field Dep
+use_at = made_at use_of (then_at key_at (number_at w32))
+
+-- At most so many items, after their number.
+unfoldable pub short_list_at : {A : Type 0} → ℕ → (List ℕ → Field A) → List ℕ → Field (List A)
+short_list_at most item = bind_at (ruled_at (λ n. nat_le n most) byte_at) (items_at item)
 
 -- ---- headers
 
@@ -22,8 +46,8 @@ unfoldable pub link_at : List ℕ → Field Link
 link_at = made_at link_of (then_at (number_at w32) (bytes_at 32))
 
 -- At most `MAX_LINKS` links, after their number.
-unfoldable pub links_at : List ℕ → Field (List Link)
-links_at = bind_at (ruled_at (λ n. nat_le n MAX_LINKS) byte_at) (items_at link_at)
+abbrev pub links_at : List ℕ → Field (List Link)
+links_at = short_list_at MAX_LINKS link_at
 
 -- A header of its parts.
 abbrev pub header_of : List ℕ × (ℕ × (ℕ × (List ℕ × (ℕ × (List ℕ × List Link))))) → Header
@@ -52,8 +76,8 @@ unfoldable pub body_dep_at : List ℕ → Field BodyDep
 body_dep_at = made_at body_dep_of (then_at key_at (then_at (number_at w32) (bytes_at 32)))
 
 -- At most `MAX_DEPS` dependencies, after their number.
-unfoldable pub body_deps_at : List ℕ → Field (List BodyDep)
-body_deps_at = bind_at (ruled_at (λ n. nat_le n MAX_DEPS) byte_at) (items_at body_dep_at)
+abbrev pub body_deps_at : List ℕ → Field (List BodyDep)
+body_deps_at = short_list_at MAX_DEPS body_dep_at
 
 -- A body of its parts.
 abbrev pub body_of : Value × List BodyDep → Body

@@ -1,25 +1,29 @@
 //! Entries as they stand in bytes.
 
-ghost use Rattle.std.specs.Prelude.{◌≡◌, ◌≤◌, ℕ, List, length, drop, IfOk};
+ghost use Rattle.std.specs.Prelude.{◌≡◌, ◌≤◌, ℕ, Ok, length, drop, IfOk, IfErr};
 ghost use Rattle.lc_base.specs.Answers.{Answers};
 ghost use Rattle.byte_fields.specs.Reader.{fault_left, Reads, ReadsAs};
-ghost use Rattle.byte_fields.specs.Reading.{Field};
-ghost use Rattle.byte_fields.proofs.Laws.{IsField};
-ghost use Rattle.entry_views.specs.Placed.{IsSpelled};
-ghost use Rattle.entry_views.specs.Standing.{read_from};
+ghost use Rattle.entry_views.specs.{
+  Codecs.{Codec},
+  Placed.{IsSpelled},
+  Standing.{StandsAt, IsInvalidAt, read_from},
+};
 
 use crate::fault::{FieldError, tail};
 use byte_fields::{Fault, Reader};
 use std::marker::Model;
 
-/// The fields of an entry, as they were read.
+/// The fields of an entry.
 pub trait EntryFields: Drop {
-    /// What they are spelled as.
-    ghost spelling: { Self → List (List ℕ) };
-    /// The lawful ones.
-    ghost lawful: { Self → Type 0 };
-    /// What reading bytes as these fields gives.
-    ghost fields_at: { List ℕ → Field Self };
+    /// How they are spelled and read.
+    ghost codec: { Codec Self };
+}
+
+/// Fields that are read where they stand.
+pub trait ReadFields<'p>: EntryFields {
+    /// Reads them, the first one first.
+    fn read(reader: &mut Reader<'p>) -> Result<Self, Fault>
+        ensures { Reads fault_left result (Self.codec.read reader.old) reader.new };
 }
 
 /// An entry that stands in bytes.
@@ -37,13 +41,13 @@ impl<'p, F: EntryFields> Model for EntryView<'p, F> {
 
     ghost view = { λ entry. record { value = entry.fields; end = entry.end } };
 
-    ghost invariant = { λ entry. IsSpelled F.spelling F.lawful entry.fields entry.bytes.now };
+    ghost invariant = { λ entry. IsSpelled F.codec.fields F.codec.lawful entry.fields entry.bytes.now };
 }
 
 impl<'p, F: EntryFields> EntryView<'p, F> {
     /// The bytes that it was read from, which are its fields.
     pub fn bytes(&self) -> &'p [u8]
-        ensures spelled { IsSpelled F.spelling F.lawful self.now.value result.now }
+        ensures spelled { IsSpelled F.codec.fields F.codec.lawful self.now.value result.now }
     {
         self.bytes
     }
@@ -56,16 +60,44 @@ impl<'p, F: EntryFields> EntryView<'p, F> {
     }
 }
 
+impl<'p, F: ReadFields<'p>> EntryView<'p, F> {
+    /// The entry that stands in the bytes from the offset `at` on, without the byte before it where
+    /// it is hashed. An error exactly where none stands there.
+    pub(crate) fn read_at(bytes: &'p [u8], at: usize) -> Result<EntryView<'p, F>, FieldError>
+        // What is read stands there.
+        ensures found { IfOk result (λ entry. StandsAt F.codec.fields F.codec.lawful bytes.now at entry.value entry.end) }
+        // What stands there is read.
+        ensures only { (value : F) (end : ℕ) → StandsAt F.codec.fields F.codec.lawful bytes.now at value end → result ≡ Ok (record { value = value; end = end }) }
+        // A fault is told at its offset.
+        ensures fault { IfErr result (λ error. IsInvalidAt F.codec.fields F.codec.lawful bytes.now at error.at) }
+        // What stands there is said by a function, and that is the answer.
+        ensures exact { result ≡ read_from F.codec.read bytes.now at }
+    {
+        let mut reader = Reader::new(tail(bytes, at));
+        let fields = F::read(&mut reader);
+        placed(bytes, at, fields, &reader)
+    }
+
+    /// The entry where a reader stands, and the reader after it.
+    pub fn read(reader: &mut Reader<'p>) -> Result<EntryView<'p, F>, Fault>
+        ensures { ReadsAs (λ entry. entry.value) fault_left result (F.codec.read reader.old) reader.new }
+    {
+        let rest = reader.rest();
+        let entry = at_start(rest, EntryView::read_at(rest, 0))?;
+        *reader = Reader::new(&rest[entry.end()..]);
+        Ok(entry)
+    }
+}
+
 /// The entry whose fields a reader read from an offset on.
-pub(crate) fn placed<'p, F: EntryFields>(
+fn placed<'p, F: EntryFields>(
     bytes: &'p [u8],
     at: usize,
     fields: Result<F, Fault>,
     reader: &Reader,
 ) -> Result<EntryView<'p, F>, FieldError>
-    requires field { IsField F.fields_at F.spelling F.lawful }
-    requires read { Reads fault_left fields (F.fields_at (drop at bytes.now)) reader.now }
-    ensures { result ≡ read_from F.fields_at bytes.now at }
+    requires { Reads fault_left fields (F.codec.read (drop at bytes.now)) reader.now }
+    ensures { result ≡ read_from F.codec.read bytes.now at }
 {
     let rest = tail(bytes, at);
     match fields {
@@ -87,9 +119,8 @@ fn at_start<'p, F: EntryFields>(
     bytes: &'p [u8],
     read: Result<EntryView<'p, F>, FieldError>,
 ) -> Result<EntryView<'p, F>, Fault>
-    requires field { IsField F.fields_at F.spelling F.lawful }
-    requires exact { read ≡ read_from F.fields_at bytes.now 0 }
-    ensures read { Answers (λ entry. (entry.value, drop entry.end bytes.now)) fault_left result (F.fields_at bytes.now) }
+    requires { read ≡ read_from F.codec.read bytes.now 0 }
+    ensures read { Answers (λ entry. (entry.value, drop entry.end bytes.now)) fault_left result (F.codec.read bytes.now) }
     ensures within { IfOk result (λ entry. entry.end ≤ length bytes.now) }
 {
     match read {
@@ -98,19 +129,4 @@ fn at_start<'p, F: EntryFields>(
             left: bytes.len() - error.at,
         }),
     }
-}
-
-/// The entry that was read where a reader stands, and the reader behind it.
-pub(crate) fn taken<'p, F: EntryFields>(
-    reader: &mut Reader<'p>,
-    read: Result<EntryView<'p, F>, FieldError>,
-) -> Result<EntryView<'p, F>, Fault>
-    requires field { IsField F.fields_at F.spelling F.lawful }
-    requires exact { read ≡ read_from F.fields_at reader.old 0 }
-    ensures { ReadsAs (λ entry. entry.value) fault_left result (F.fields_at reader.old) reader.new }
-{
-    let rest = reader.rest();
-    let entry = at_start(rest, read)?;
-    *reader = Reader::new(&rest[entry.end()..]);
-    Ok(entry)
 }

@@ -1,25 +1,12 @@
 //! Leaves as they stand in bytes.
 
-ghost use Rattle.std.specs.Prelude.{◌≡◌, ℕ, Ok, IfOk, IfErr};
-ghost use Rattle.byte_fields.specs.Reader.{fault_left, Reads, ReadsAs};
-ghost use Rattle.prov_entry.specs.Spelling.{IsLeaf, leaf_fields};
-ghost use Rattle.prov_entry.specs.declared.entry.Leaf.{Leaf as LeafValue};
-ghost use Rattle.entry_views.specs.Reading.{next_at, leaf_at};
-ghost use Rattle.entry_views.specs.Standing.{StandsAt, IsInvalidAt, read_from};
+ghost use Rattle.std.specs.Prelude.{◌≡◌};
+ghost use Rattle.entry_views.specs.{Leaves.{leaf_codec}, Standing.{IsReadAt}};
 
-use crate::entry_view::{EntryFields, EntryView, placed, taken};
-use crate::fault::{FieldError, tail};
-use byte_fields::{Fault, Reader};
+use crate::entry_view::EntryView;
+use crate::fault::FieldError;
 use lc_base::{Digest, Key};
 use prov_entry::Leaf;
-
-impl EntryFields for Leaf {
-    ghost spelling = { leaf_fields };
-
-    ghost lawful = { IsLeaf };
-
-    ghost fields_at = { leaf_at };
-}
 
 /// A leaf that stands in bytes.
 pub type LeafView<'p> = EntryView<'p, Leaf>;
@@ -68,59 +55,10 @@ impl<'p> EntryView<'p, Leaf> {
     }
 }
 
-#[tactic(auto, unfolding(crate::specs::Reading::next_at))]
-fn next(reader: &mut Reader) -> Result<Option<Key>, Fault>
-    ensures { Reads fault_left result (next_at reader.old) reader.new }
-{
-    match reader.byte_at_most(1)? {
-        0 => Ok(None),
-        _ => Ok(Some(reader.key()?)),
-    }
-}
-
-#[tactic(auto, unfolding(crate::specs::Reading::leaf_at))]
-fn leaf(reader: &mut Reader) -> Result<Leaf, Fault>
-    ensures { Reads fault_left result (leaf_at reader.old) reader.new }
-{
-    let key = reader.key_or_empty()?;
-    let next = next(reader)?;
-    let newest_block = reader.u32()?;
-    let newest = Digest(reader.digest_bytes()?);
-    let open_count = reader.u64()?;
-    let open_digest = Digest(reader.digest_bytes()?);
-    Ok(Leaf {
-        key,
-        next,
-        newest_block,
-        newest,
-        open_count,
-        open_digest,
-    })
-}
-
 /// The leaf that stands in the bytes from the offset `at` on, without the byte before it where it is
 /// hashed. An error exactly where none stands there.
-#[tactic(auto, using(crate::proofs::Leaves::leaf_field))]
 pub fn read_leaf<'p>(bytes: &'p [u8], at: usize) -> Result<LeafView<'p>, FieldError>
-    // What is read stands there.
-    ensures found { IfOk result (λ leaf. StandsAt leaf_fields IsLeaf bytes.now at leaf.value leaf.end) }
-    // What stands there is read.
-    ensures only { (leaf : LeafValue) (end : ℕ) → StandsAt leaf_fields IsLeaf bytes.now at leaf end → result ≡ Ok (record { value = leaf; end = end }) }
-    // A fault is told at its offset.
-    ensures fault { IfErr result (λ error. IsInvalidAt leaf_fields IsLeaf bytes.now at error.at) }
-    // What stands there is said by a function, and that is the answer.
-    ensures exact { result ≡ read_from leaf_at bytes.now at }
+    ensures { IsReadAt leaf_codec bytes.now at result }
 {
-    let mut reader = Reader::new(tail(bytes, at));
-    let fields = leaf(&mut reader);
-    placed(bytes, at, fields, &reader)
-}
-
-/// The leaf where a reader stands.
-#[tactic(auto, using(crate::proofs::Leaves::leaf_field))]
-pub fn next_leaf<'p>(reader: &mut Reader<'p>) -> Result<LeafView<'p>, Fault>
-    ensures { ReadsAs (λ leaf. leaf.value) fault_left result (leaf_at reader.old) reader.new }
-{
-    let leaf = read_leaf(reader.rest(), 0);
-    taken(reader, leaf)
+    EntryView::read_at(bytes, at)
 }

@@ -3,6 +3,7 @@
 
 mod body_dep_view;
 mod body_view;
+mod entry_fields;
 mod entry_view;
 mod fault;
 mod header_view;
@@ -10,15 +11,16 @@ mod laws;
 mod leaf_view;
 mod limits;
 mod link_view;
+mod list_items;
 mod list_view;
 
-pub use body_dep_view::{BodyDepReader, BodyDepView};
-pub use body_view::{BodyFields, BodyView, next_body, read_body};
+pub use body_dep_view::BodyDepView;
+pub use body_view::{BodyFields, BodyView, read_body};
 pub use byte_fields::ValueView;
-pub use entry_view::{EntryFields, EntryView};
+pub use entry_view::{EntryFields, EntryView, ReadFields};
 pub use fault::FieldError;
-pub use header_view::{HeaderFields, HeaderView, next_header, read_header};
+pub use header_view::{HeaderFields, HeaderView, read_header};
 pub use laws::{fields_determine_a_body, fields_determine_a_header, fields_determine_a_leaf};
-pub use leaf_view::{LeafView, next_leaf, read_leaf};
-pub use link_view::{LinkReader, LinkView};
-pub use list_view::{ItemReader, ListView, read_list};
+pub use leaf_view::{LeafView, read_leaf};
+pub use link_view::LinkView;
+pub use list_view::{ListItem, ListView, read_list};

@@ -1,47 +1,43 @@
 //! Lists of items as they stand in bytes.
 
 ghost use Rattle.std.specs.Prelude.{◌≡◌, ◌==◌, ◌∷◌, [], ℕ, List, length, MatchOption};
-ghost use Rattle.byte_fields.specs.Reader.{fault_left, Reads};
-ghost use Rattle.byte_fields.specs.Reading.{Field, items_at};
-ghost use Rattle.entry_views.specs.Items.{Skips};
+ghost use Rattle.byte_fields.specs.{Reader.{fault_left, Reads}, Reading.{Field, items_at}};
+ghost use Rattle.entry_views.specs.{Items.{Skips}, Reading.{short_list_at}};
 
 use byte_fields::{Fault, Reader};
 use std::marker::{Model, PhantomData};
 
-/// How the items of a list are read.
-pub trait ItemReader {
-    /// An item.
-    type Item: Drop;
-
+/// An item of a list.
+pub trait ListItem: Drop {
     /// What reading bytes as an item gives.
-    ghost item_at: { List ℕ → Field Self.Item };
+    ghost item_at: { List ℕ → Field Self };
 
     /// Reads an item.
-    fn read(reader: &mut Reader) -> Result<Self::Item, Fault>
+    fn read(reader: &mut Reader) -> Result<Self, Fault>
         ensures { Reads fault_left result (item_at reader.old) reader.new };
 }
 
 /// Items, the first one first.
 #[derive(Drop)]
-pub struct ListView<'p, R: ItemReader> {
+pub struct ListView<'p, T: ListItem> {
     pub(crate) count: u32,
     pub(crate) bytes: &'p [u8],
-    of: PhantomData<R>,
+    of: PhantomData<T>,
 }
 
-impl<'p, R: ItemReader> Model for ListView<'p, R> {
+impl<'p, T: ListItem> Model for ListView<'p, T> {
     ghost use Rattle.std.specs.Prelude.{List as Items};
     ghost use Rattle.byte_fields.specs.Reading.{items_at};
     ghost use Rattle.entry_views.specs.Items.{items_read, AreRead};
 
-    ghost Value = { Items R.Item };
+    ghost Value = { Items T };
 
-    ghost view = { λ list. items_read (items_at R.item_at list.count list.bytes.now) };
+    ghost view = { λ list. items_read (items_at T.item_at list.count list.bytes.now) };
 
-    ghost invariant = { λ list. AreRead (items_at R.item_at list.count list.bytes.now) };
+    ghost invariant = { λ list. AreRead (items_at T.item_at list.count list.bytes.now) };
 }
 
-impl<'p, R: ItemReader> ListView<'p, R> {
+impl<'p, T: ListItem> ListView<'p, T> {
     /// Their number.
     #[tactic(auto, using(crate::proofs::Items::items_counted))]
     pub fn len(&self) -> usize
@@ -59,7 +55,7 @@ impl<'p, R: ItemReader> ListView<'p, R> {
     }
 
     /// The same items again.
-    pub fn again(&self) -> ListView<'p, R>
+    pub fn again(&self) -> ListView<'p, T>
         ensures { result ≡ self.now }
     {
         ListView {
@@ -70,14 +66,14 @@ impl<'p, R: ItemReader> ListView<'p, R> {
     }
 
     /// Takes the first item away; `None` exactly where there is none.
-    pub fn next(&mut self) -> Option<R::Item>
+    pub fn next(&mut self) -> Option<T>
         ensures { MatchOption result (self.old ≡ []) (λ item. self.old ≡ item ∷ self.new) }
     {
         if self.count == 0 {
             return None;
         }
         let mut reader = Reader::new(self.bytes);
-        match R::read(&mut reader) {
+        match T::read(&mut reader) {
             Ok(item) => {
                 self.count -= 1;
                 self.bytes = reader.rest();
@@ -88,27 +84,39 @@ impl<'p, R: ItemReader> ListView<'p, R> {
     }
 }
 
-fn skip_items<R: ItemReader>(reader: &mut Reader, count: u32) -> Result<(), Fault>
-    ensures { Skips result (items_at R.item_at count reader.old) reader.new }
+fn skip_items<T: ListItem>(reader: &mut Reader, count: u32) -> Result<(), Fault>
+    ensures { Skips result (items_at T.item_at count reader.old) reader.new }
 {
     for _ in 0..count {
-        R::read(reader)?;
+        T::read(reader)?;
     }
     Ok(())
 }
 
 /// So many items.
-pub fn read_list<'p, R: ItemReader>(
+pub fn read_list<'p, T: ListItem>(
     reader: &mut Reader<'p>,
     count: u32,
-) -> Result<ListView<'p, R>, Fault>
-    ensures { Reads fault_left result (items_at R.item_at count reader.old) reader.new }
+) -> Result<ListView<'p, T>, Fault>
+    ensures { Reads fault_left result (items_at T.item_at count reader.old) reader.new }
 {
     let bytes = reader.rest();
-    skip_items::<R>(reader, count)?;
+    skip_items::<T>(reader, count)?;
     Ok(ListView {
         count,
         bytes,
         of: PhantomData,
     })
+}
+
+/// At most so many items, after their number.
+#[tactic(auto, unfolding(crate::specs::Reading::short_list_at))]
+pub(crate) fn read_short_list<'p, T: ListItem>(
+    reader: &mut Reader<'p>,
+    most: u8,
+) -> Result<ListView<'p, T>, Fault>
+    ensures { Reads fault_left result (short_list_at most T.item_at reader.old) reader.new }
+{
+    let count = reader.byte_at_most(most)?;
+    read_list(reader, count as u32)
 }

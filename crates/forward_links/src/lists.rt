@@ -2,8 +2,10 @@
 
 ghost use Rattle.std.specs.Prelude.{◌≡◌, ◌<◌, [], ◌∷◌, ◌++◌, List, length, map, OnErr, OnOk, IfOk};
 ghost use Rattle.lc_base.specs.declared.row.Dep.{Dep};
-ghost use Rattle.forward_links.specs.Lists.{open_of, kept_at, with_one_at, with_use_at, emptied_at};
-ghost use Rattle.forward_links.specs.declared.limits.TheConstants.{MAX_LISTS, MAX_USES};
+ghost use Rattle.forward_links.specs.{
+  Lists.{open_of, kept_at, with_one_at, with_use_at, emptied_at},
+  declared.limits.TheConstants.{MAX_LISTS, MAX_USES},
+};
 
 use crate::open_list::OpenList;
 use lc_base::{Dep, Memory};

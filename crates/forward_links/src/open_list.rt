@@ -2,8 +2,10 @@
 
 ghost use Rattle.std.specs.Prelude.{◌≡◌, ◌<◌, [], ◌∷◌, ◌++◌, List};
 ghost use Rattle.lc_base.specs.declared.row.Dep.{Dep};
-ghost use Rattle.forward_links.specs.Lists.{open_of, with_one};
-ghost use Rattle.forward_links.specs.declared.limits.TheConstants.{MAX_USES};
+ghost use Rattle.forward_links.specs.{
+  Lists.{open_of, with_one},
+  declared.limits.TheConstants.{MAX_USES},
+};
 
 use lc_base::{Dep, Digest};
 use prov_entry::{no_uses, with_use};

@@ -1,12 +1,15 @@
 //! The body of a row. What the row was derived from stands at the indexes that are given of it.
 
-ghost use Rattle.std.specs.Prelude.{◌≡◌, ◌<◌, ◌≤◌, ℕ, List, Some, length, map, slice_get, Contains};
-ghost use Rattle.std.specs.Prelude.{IfOk};
-ghost use Rattle.std.specs.List.{concat};
-ghost use Rattle.std.specs.Rc.{rc_slice_items};
-ghost use Rattle.lc_base.specs.declared.limits.TheConstants.{MAX_DEPS};
-ghost use Rattle.lc_base.specs.declared.row.Row.{Row};
-ghost use Rattle.lc_base.specs.declared.row.Dep.{Dep};
+ghost use Rattle.std.specs.{
+  Prelude.{◌≡◌, ◌<◌, ◌≤◌, ℕ, List, Some, length, map, slice_get, Contains, IfOk},
+  List.{concat},
+  Rc.{rc_slice_items},
+};
+ghost use Rattle.lc_base.specs.{
+  declared.limits.TheConstants.{MAX_DEPS},
+  declared.row.Row.{Row},
+  declared.row.Dep.{Dep},
+};
 ghost use Rattle.rows_index.specs.Users.{AreVersionsAt};
 ghost use Rattle.prov_entry.specs.Spelling.{body_fields};
 ghost use Rattle.root_laws.specs.Naming.{named_before, with_digest, body_of};

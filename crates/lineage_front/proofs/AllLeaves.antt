@@ -14,7 +14,7 @@ use Rattle.root_laws.specs.Root.{is_among, keys_of}
 use Rattle.root_laws.proofs.Keys.{key_is_key}
 use Rattle.root_laws.proofs.Lists.{all_weaker}
 use Rattle.state_tree.specs.Leaves.{with_states}
-use Rattle.lineage_index.specs.Growth.{Entry, entry_of, renewed}
+use Rattle.lineage_index.specs.Growth.{Entry, entry_of, entry_after}
 use Rattle.lineage_index.specs.Heads.{leaves_with}
 use Rattle.lineage_index.specs.Leaves.{IsLeafIndex, key_at, state_of}
 use Rattle.lineage_index.proofs.KeyLeaves.{leaves_on}
@@ -44,7 +44,7 @@ all_there keys j d l =
 
 pub leaves_made : (rows : List Row) (entry : List ℕ → Entry) (tree : List Leaf)
     → AllPairs ◌≢◌ (keys_of rows)
-    → tree ≡ leaves_with (keys_of rows) (renewed entry (entry_of rows) [])
+    → tree ≡ leaves_with (keys_of rows) (entry_after entry (entry_of rows) [])
     → with_states tree (map (state_of rows) (range_with_len 1 (length (keys_of rows)))) ≡
     leaves_with (keys_of rows) (entry_of rows)
 leaves_made rows entry tree apart is =
@@ -57,14 +57,14 @@ leaves_made rows entry tree apart is =
     ap (λ (leaves : List Leaf). with_states leaves (map (state_of rows) indexes)) is
     ∙ leaves_told keys entry (entry_of rows) [] indexes apart
     (recursion_from_All (IsLeafIndex keys) indexes (all_within keys))
-    ∙ leaves_on keys (renewed entry (entry_of rows) (map (key_at keys) indexes)) (entry_of rows)
+    ∙ leaves_on keys (entry_after entry (entry_of rows) (map (key_at keys) indexes)) (entry_of rows)
     (all_weaker (λ (key : List ℕ). is_among (map (key_at keys) indexes) key ≡ true)
-    (λ (key : List ℕ). renewed entry (entry_of rows) (map (key_at keys) indexes) key ≡ entry_of
+    (λ (key : List ℕ). entry_after entry (entry_of rows) (map (key_at keys) indexes) key ≡ entry_of
     rows key) (λ key t. new key t) keys all)
   where
     new : (key : List ℕ) → is_among
         (map (key_at (keys_of rows)) (range_with_len 1 (length (keys_of rows)))) key ≡ true
-        → renewed entry (entry_of rows)
+        → entry_after entry (entry_of rows)
         (map (key_at (keys_of rows)) (range_with_len 1 (length (keys_of rows)))) key ≡ entry_of rows
         key
     new key t = rw t refl

@@ -10,7 +10,7 @@ use Rattle.rows_index.specs.Index.{IsIndexOf as AreUsesOf}
 use Rattle.entry_store.specs.Entries.{Entry}
 use Rattle.forward_links.specs.declared.open_list.OpenList.{OpenList}
 use Rattle.forward_links.specs.Lists.{open_of}
-use Rattle.lineage_index.specs.Growth.{settled, is_of_key}
+use Rattle.lineage_index.specs.Growth.{list_after_rows, is_of_key}
 use Rattle.lineage_index.specs.Heads.{AreHeads, open_list}
 use Rattle.lineage_index.specs.Settling.{IsStoreOf, AreRenewing, settling, entry_or_fresh}
 use Rattle.lineage_index.proofs.ByKey.{same_everywhere}
@@ -22,7 +22,7 @@ pub heads_begun : (tree : List Leaf) (lists : List OpenList) (newest : List ℕ)
 heads_begun tree lists newest tree_is lists_are newest_are = record
     { apart = search rules; leaves_are = tree_is; lists_are = lists_are; newest_are = newest_are }
 
-settled_empty : (rows : List Row) (key : List ℕ) → settled no_list rows key ≡ no_list key
+settled_empty : (rows : List Row) (key : List ℕ) → list_after_rows no_list rows key ≡ no_list key
 settled_empty rows key = elim (cases_Bool (list_any (is_of_key key) rows)) [
   | inl t ↦ rw t refl
   | inr f ↦ rw f refl
@@ -37,7 +37,7 @@ lists_empty rows tree lists newest kept entries index store uses a same = record
   store = store;
   uses_are = uses;
   lists_are = a.lists_are ∙ ap (map open_of)
-      (same_everywhere (settled no_list rows) no_list (keys_of rows) (settled_empty rows));
+      (same_everywhere (list_after_rows no_list rows) no_list (keys_of rows) (settled_empty rows));
   newest_are = same ∙ a.newest_are;
 }
 

@@ -1,4 +1,4 @@
--- Lists that are filled one after another.
+-- Lists that are first_lists one after another.
 use Rattle.std.proofs.Common.{◌≡◌, ◌∙◌, ℕ, zero, suc, ◌+◌, ◌<◌, ◌≤◌, List, [], ◌∷◌, ◌++◌, length}
 use Rattle.std.proofs.Common.{get_or, take, map, Some, refl, sym, ap, subst, arith}
 use Rattle.std.specs.Prelude.{slice_get, slice_set}
@@ -18,7 +18,7 @@ use Rattle.entry_store.specs.Entries.{Entry}
 use Rattle.forward_links.specs.declared.open_list.OpenList.{OpenList}
 use Rattle.forward_links.specs.Lists.{open_of, kept_at, with_use_at}
 use Rattle.lineage_index.specs.Heads.{newest_at, open_list}
-use Rattle.lineage_front.specs.Front.{filled, CanFill, AreEmpty}
+use Rattle.lineage_front.specs.Front.{first_lists, CanFill, AreEmpty}
 use Rattle.lineage_front.proofs.Reading.{newest_there}
 
 -- ---- one list of several
@@ -63,14 +63,14 @@ lists_within all list x lists within is = omega
 -- ---- the lists of keys
 
 pub filled_next : (list : List ℕ → List Dep) (n : ℕ) (keys : List (List ℕ)) → n < length keys
-    → slice_get (filled list n keys) n ≡ Some []
+    → slice_get (first_lists list n keys) n ≡ Some []
 filled_next list zero [] l = absurd (omega (arith, l))
 filled_next list zero (key ∷ keys) l = refl
 filled_next list (suc n) [] l = absurd (omega (arith, l))
 filled_next list (suc n) (key ∷ keys) l = filled_next list n keys (omega (arith, l))
 
 filled_more : (list : List ℕ → List Dep) (n : ℕ) (keys : List (List ℕ)) → n < length keys
-    → slice_set (filled list n keys) n (list (get_or keys n [])) ≡ filled list (suc n) keys
+    → slice_set (first_lists list n keys) n (list (get_or keys n [])) ≡ first_lists list (suc n) keys
 filled_more list zero [] l = absurd (omega (arith, l))
 filled_more list zero (key ∷ keys) l = refl
 filled_more list (suc n) [] l = absurd (omega (arith, l))
@@ -78,12 +78,12 @@ filled_more list (suc n) (key ∷ keys) l = ap (λ (ls : List (List Dep)). list 
     (filled_more list n keys (omega (arith, l)))
 
 pub one_more_filled : (list : List ℕ → List Dep) (n : ℕ) (keys : List (List ℕ)) → n < length keys
-    → slice_set (filled list n keys) n (list (get_or keys n [])) ≡ filled list (n + 1) keys
+    → slice_set (first_lists list n keys) n (list (get_or keys n [])) ≡ first_lists list (n + 1) keys
 one_more_filled list n keys l = let next : suc n ≡ n + 1 = omega arith in filled_more list n keys l
-    ∙ ap (λ (m : ℕ). filled list m keys) next
+    ∙ ap (λ (m : ℕ). first_lists list m keys) next
 
 pub filled_all : (list : List ℕ → List Dep) (n : ℕ) (keys : List (List ℕ)) → length keys ≤ n
-    → filled list n keys ≡ map list keys
+    → first_lists list n keys ≡ map list keys
 filled_all list zero [] l = refl
 filled_all list zero (key ∷ keys) l = absurd (omega (arith, l))
 filled_all list (suc n) [] l = refl
@@ -104,11 +104,11 @@ key_within rows newest_rows are =
 pub can_fill : (rows : List Row) (before lists : List OpenList) (newest_rows : List ℕ)
     (entries : List Entry) (index : RowsIndex) (i : ℕ) (users : List ℕ)
     → AreEmpty rows before newest_rows entries index → i < length newest_rows
-    → lists ≡ map open_of (filled (open_list rows) i (keys_of rows))
+    → lists ≡ map open_of (first_lists (open_list rows) i (keys_of rows))
     → ((row : Row) → slice_get rows (get_or newest_rows i 0) ≡ Some row
     → AreVersionsAt rows users (uses rows row.key row.block))
     → CanFill rows (open_list rows (get_or (keys_of rows) i []))
-    (filled (open_list rows) i (keys_of rows)) i lists entries users
+    (first_lists (open_list rows) i (keys_of rows)) i lists entries users
 can_fill rows before lists newest_rows entries index i users a within is given =
     let key = get_or (keys_of rows) i [] in
     let row = newest_there rows newest_rows i a.newest_are within in

@@ -27,10 +27,10 @@ no_list key = []
 
 -- The lists of some keys, where so many first ones are those of this function, and the others
 -- empty.
-abbrev pub filled : (List ℕ → List Dep) → ℕ → List (List ℕ) → List (List Dep)
-filled list zero keys = map no_list keys
-filled list (suc n) [] = []
-filled list (suc n) (key ∷ keys) = list key ∷ filled list n keys
+abbrev pub first_lists : (List ℕ → List Dep) → ℕ → List (List ℕ) → List (List Dep)
+first_lists list zero keys = map no_list keys
+first_lists list (suc n) [] = []
+first_lists list (suc n) (key ∷ keys) = list key ∷ first_lists list n keys
 
 -- The versions at the indexes of these users are these, so that they can be added to the list at an
 -- index, which is empty.

@@ -1,12 +1,9 @@
 //! The index over the rows of the first blocks.
 
-ghost use Rattle.std.specs.Prelude.{◌+◌, ◌<◌, ℕ, List, IfOk};
-ghost use Rattle.std.specs.List.{All};
-ghost use Rattle.lc_base.specs.declared.row.Row.{Row};
-ghost use Rattle.lc_base.specs.History.{up_to};
+ghost use Rattle.std.specs.{Prelude.{◌+◌, ◌<◌, ℕ, List, IfOk}, List.{All}};
+ghost use Rattle.lc_base.specs.{declared.row.Row.{Row}, History.{up_to}};
 ghost use Rattle.rows_index.specs.Index.{IsIndexOf as AreUsesOf};
-ghost use Rattle.lineage_index.specs.Settling.{IsStoreOf};
-ghost use Rattle.lineage_index.specs.Index.{IsIndexOf};
+ghost use Rattle.lineage_index.specs.{Settling.{IsStoreOf}, Index.{IsIndexOf}};
 
 use crate::cutting::count_up_to;
 use crate::leaves::renew_all;

@@ -1,13 +1,17 @@
 //! The leaves of all keys, made anew.
 
-ghost use Rattle.std.specs.Prelude.{◌≡◌, [], ℕ, List, length, map, OnOk, IfOk};
-ghost use Rattle.std.specs.List.{range_with_len};
+ghost use Rattle.std.specs.{
+  Prelude.{◌≡◌, [], ℕ, List, length, map, OnOk, IfOk},
+  List.{range_with_len},
+};
 ghost use Rattle.lc_base.specs.declared.row.Row.{Row};
 ghost use Rattle.root_laws.specs.Root.{keys_of};
-ghost use Rattle.lineage_index.specs.Growth.{Entry};
-ghost use Rattle.lineage_index.specs.Heads.{AreHeads, states_of};
-ghost use Rattle.lineage_index.specs.Settling.{AreRenewing};
-ghost use Rattle.lineage_index.specs.Leaves.{AreBesideLeaves, state_of};
+ghost use Rattle.lineage_index.specs.{
+  Growth.{Entry},
+  Heads.{AreHeads, states_of},
+  Settling.{AreRenewing},
+  Leaves.{AreBesideLeaves, state_of},
+};
 
 use entry_store::Store;
 use forward_links::OpenLists;

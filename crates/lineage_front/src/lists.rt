@@ -1,13 +1,11 @@
 //! The open lists, made of the lists of users.
 
 ghost use Rattle.std.specs.Prelude.{◌≡◌, ℕ, List, map, Some, slice_set};
-ghost use Rattle.lc_base.specs.declared.row.Dep.{Dep};
-ghost use Rattle.lc_base.specs.declared.row.Row.{Row};
+ghost use Rattle.lc_base.specs.{declared.row.Dep.{Dep}, declared.row.Row.{Row}};
 ghost use Rattle.root_laws.specs.Root.{keys_of};
 ghost use Rattle.rows_index.specs.Users.{version_at};
 ghost use Rattle.forward_links.specs.Lists.{open_of};
-ghost use Rattle.lineage_index.specs.Heads.{open_list};
-ghost use Rattle.lineage_index.specs.Settling.{IsStoreOf};
+ghost use Rattle.lineage_index.specs.{Heads.{open_list}, Settling.{IsStoreOf}};
 ghost use Rattle.lineage_front.specs.Front.{CanFill, AreEmpty};
 
 use entry_store::{EntryId, Store};

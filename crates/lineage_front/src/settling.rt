@@ -2,8 +2,7 @@
 
 ghost use Rattle.std.specs.Prelude.{[], List, OnOk};
 ghost use Rattle.lc_base.specs.declared.row.Row.{Row};
-ghost use Rattle.lineage_index.specs.Heads.{AreHeads};
-ghost use Rattle.lineage_index.specs.Settling.{IsStoreOf, settling};
+ghost use Rattle.lineage_index.specs.{Heads.{AreHeads}, Settling.{IsStoreOf, settling}};
 ghost use Rattle.lineage_front.specs.Front.{no_list};
 
 use entry_store::{EntryId, Store};

@@ -19,11 +19,11 @@ use Rattle.forward_links.specs.declared.open_list.OpenList.{OpenList}
 use Rattle.entry_store.specs.Entries.{Entry as StoreEntry}
 use Rattle.lineage_store.specs.Entries.{entries_of}
 use Rattle.lineage_store.proofs.Entries.{as_many}
-use Rattle.lineage_index.specs.Growth.{Grows, Entry, entry_of, held, used_by, HaveDistinctKeys, renewed, keys_touched, keys_of_row, is_of_key}
+use Rattle.lineage_index.specs.Growth.{Grows, Entry, entry_of, open_uses, used_by, HaveDistinctKeys, entry_after, keys_touched, keys_of_row, is_of_key}
 use Rattle.lineage_index.specs.Heads.{AreHeads, AreLists, states_of, newest_at, open_list}
 use Rattle.lineage_index.specs.NewEntries.{AreUsing}
 use Rattle.lineage_index.specs.Settling.{entry_or_fresh, settling, renewing, AreRenewing}
-use Rattle.lineage_index.specs.Blocks.{IsKept}
+use Rattle.lineage_index.specs.Blocks.{IsKeptIndex}
 use Rattle.lineage_index.proofs.Blocks.{IsOnNewest, new_deps, rows_before, rows_now, deps_on_newest}
 use Rattle.lineage_index.proofs.Using.{distinct_keys, all_uses, used_same, held_first}
 use Rattle.lineage_index.proofs.KeyLeaves.{leaves_on}
@@ -49,16 +49,16 @@ distinct_deps rows new n g = All-from_recursion (λ (row : Row). HaveDistinctKey
     go [] on deps = tt
     go (row ∷ rs) on deps = (distinct_keys rows row.deps deps.0.once (All-from_recursion (IsOnNewest rows) row.deps on.0), go rs on.1 deps.1)
 
-pub kept_lists : (rows : List Row) (block : ℕ) (tree : List Leaf) (lists : List OpenList) (newest_rows : List ℕ) (entries : List StoreEntry) → IsKept rows block tree lists newest_rows entries → AreLists tree lists (keys_of rows) (open_list rows)
+pub kept_lists : (rows : List Row) (block : ℕ) (tree : List Leaf) (lists : List OpenList) (newest_rows : List ℕ) (entries : List StoreEntry) → IsKeptIndex rows block tree lists newest_rows entries → AreLists tree lists (keys_of rows) (open_list rows)
 kept_lists rows block tree lists newest_rows entries k = lists_of_heads tree lists newest_rows (states_of rows) k.heads
 
-pub uses_added : (rows new : List Row) (n : ℕ) (tree : List Leaf) (lists more : List OpenList) (newest_rows : List ℕ) (entries : List StoreEntry) → Grows rows new n → IsKept rows n tree lists newest_rows entries
+pub uses_added : (rows new : List Row) (n : ℕ) (tree : List Leaf) (lists more : List OpenList) (newest_rows : List ℕ) (entries : List StoreEntry) → Grows rows new n → IsKeptIndex rows n tree lists newest_rows entries
     → AreLists tree more (keys_of rows) (used_by (open_list rows) new) → AreUsing rows new n tree more newest_rows
 uses_added rows new n tree lists more newest_rows entries g k a = record {
   grows = g;
-  heads = heads_with_lists tree lists more newest_rows (states_of rows) (held rows new) k.heads
-      (lists_same tree more (keys_of rows) (used_by (open_list rows) new) (held rows new) a
-      (λ key. used_same (open_list rows) (held rows []) new key (λ x. sym (held_first rows x)) ∙ all_uses rows [] new key (each_on_newest rows new n g)));
+  heads = heads_with_lists tree lists more newest_rows (states_of rows) (open_uses rows new) k.heads
+      (lists_same tree more (keys_of rows) (used_by (open_list rows) new) (open_uses rows new) a
+      (λ key. used_same (open_list rows) (open_uses rows []) new key (λ x. sym (held_first rows x)) ∙ all_uses rows [] new key (each_on_newest rows new n g)));
 }
 
 -- ---- the newest versions
@@ -69,26 +69,26 @@ entries_there rows = all_weaker (λ (key : List ℕ). is_among (keys_of rows) ke
     there : (key : List ℕ) → is_among (keys_of rows) key ≡ true → entry_of rows key ≡ entry_or_fresh rows key
     there key t = rw t refl
 
-pub settling_begins : (rows new : List Row) (n : ℕ) (tree : List Leaf) (lists : List OpenList) (newest_rows : List ℕ) → AreUsing rows new n tree lists newest_rows → AreHeads tree lists newest_rows (settling rows (held rows new) [])
+pub settling_begins : (rows new : List Row) (n : ℕ) (tree : List Leaf) (lists : List OpenList) (newest_rows : List ℕ) → AreUsing rows new n tree lists newest_rows → AreHeads tree lists newest_rows (settling rows (open_uses rows new) [])
 settling_begins rows new n tree lists newest_rows a =
     let none : rows ≡ rows ++ [] = sym (append-nil rows) in
-    let fresh : AreHeads tree lists newest_rows (record { keys = keys_of rows; entry = entry_or_fresh rows; list = held rows new; index = newest_at rows }) = record {
+    let fresh : AreHeads tree lists newest_rows (record { keys = keys_of rows; entry = entry_or_fresh rows; list = open_uses rows new; index = newest_at rows }) = record {
       apart = a.heads.apart;
       leaves_are = a.heads.leaves_are ∙ leaves_on (keys_of rows) (entry_of rows) (entry_or_fresh rows) (entries_there rows);
       lists_are = a.heads.lists_are;
       newest_are = a.heads.newest_are;
     } in
-    heads_same tree lists newest_rows (record { keys = keys_of rows; entry = entry_or_fresh rows; list = held rows new; index = newest_at rows }) (settling rows (held rows new) []) fresh
+    heads_same tree lists newest_rows (record { keys = keys_of rows; entry = entry_or_fresh rows; list = open_uses rows new; index = newest_at rows }) (settling rows (open_uses rows new) []) fresh
     (ap keys_of none) (λ key. refl) (λ key. refl) (λ key. ap (λ (rs : List Row). newest_at rs key) none)
 
 -- ---- the leaves
 
 pub renewing_begins : (rows new : List Row) (n : ℕ) (tree : List Leaf) (lists : List OpenList) (newest_rows : List ℕ) (entries : List StoreEntry) → Grows rows new n
-    → AreHeads tree lists newest_rows (settling rows (held rows new) new) → entries ≡ entries_of (rows ++ new) (rows ++ new)
+    → AreHeads tree lists newest_rows (settling rows (open_uses rows new) new) → entries ≡ entries_of (rows ++ new) (rows ++ new)
     → AreRenewing (rows ++ new) (entry_or_fresh rows) [] tree lists newest_rows entries
 renewing_begins rows new n tree lists newest_rows entries g s are = record {
   store = record { lawful = g.lawful; entries_are = are };
-  heads = heads_same tree lists newest_rows (settling rows (held rows new) new) (renewing (rows ++ new) (entry_or_fresh rows) []) s refl (λ key. refl) (λ key. settled_all rows new n key g) (λ key. refl);
+  heads = heads_same tree lists newest_rows (settling rows (open_uses rows new) new) (renewing (rows ++ new) (entry_or_fresh rows) []) s refl (λ key. refl) (λ key. settled_all rows new n key g) (λ key. refl);
 }
 
 touched_if_new : (new : List Row) (key : List ℕ) → list_any (is_of_key key) new ≡ true → is_among (keys_touched new) key ≡ true
@@ -119,7 +119,7 @@ within_next rows new n g = All-from_recursion (λ (row : Row). row.block < n + 1
     (all_weaker (λ (row : Row). row.block ≡ n) (λ (row : Row). row.block < n + 1) (λ row h. omega (arith, h)) new (rows_now rows new n g)))
 
 pub block_kept : (rows new : List Row) (n : ℕ) (tree : List Leaf) (lists : List OpenList) (newest_rows : List ℕ) (entries : List StoreEntry) → Grows rows new n
-    → AreRenewing (rows ++ new) (entry_or_fresh rows) (keys_touched new) tree lists newest_rows entries → IsKept (rows ++ new) (n + 1) tree lists newest_rows entries
+    → AreRenewing (rows ++ new) (entry_or_fresh rows) (keys_touched new) tree lists newest_rows entries → IsKeptIndex (rows ++ new) (n + 1) tree lists newest_rows entries
 block_kept rows new n tree lists newest_rows entries g r =
     let a = r.heads in
     record {
@@ -127,8 +127,8 @@ block_kept rows new n tree lists newest_rows entries g r =
       within = within_next rows new n g;
       heads = record {
         apart = a.apart;
-        leaves_are = a.leaves_are ∙ leaves_on (keys_of (rows ++ new)) (renewed (entry_or_fresh rows) (entry_of (rows ++ new)) (keys_touched new)) (entry_of (rows ++ new))
-            (all_weaker (λ (key : List ℕ). is_among (keys_of (rows ++ new)) key ≡ true) (λ (key : List ℕ). renewed (entry_or_fresh rows) (entry_of (rows ++ new)) (keys_touched new) key ≡ entry_of (rows ++ new) key)
+        leaves_are = a.leaves_are ∙ leaves_on (keys_of (rows ++ new)) (entry_after (entry_or_fresh rows) (entry_of (rows ++ new)) (keys_touched new)) (entry_of (rows ++ new))
+            (all_weaker (λ (key : List ℕ). is_among (keys_of (rows ++ new)) key ≡ true) (λ (key : List ℕ). entry_after (entry_or_fresh rows) (entry_of (rows ++ new)) (keys_touched new) key ≡ entry_of (rows ++ new) key)
             (λ key t. renewed_all rows new n key (entry_or_fresh rows) g (known_entry rows key) (touched_if_unknown rows new key t)) (keys_of (rows ++ new)) (all_among (keys_of (rows ++ new))));
         lists_are = a.lists_are;
         newest_are = a.newest_are;

@@ -8,11 +8,11 @@ use Rattle.std.proofs.lemmas.Bool.{and_right, ne_eqb}
 use Rattle.lc_base.specs.declared.row.Row.{Row}
 use Rattle.lc_base.specs.declared.row.Dep.{Dep}
 use Rattle.lc_base.specs.History.{HasLawfulDeps, IsRecordedFrom, below, newest, uses, depends_on, version_of}
-use Rattle.root_laws.specs.Naming.{closed, uses_of}
+use Rattle.root_laws.specs.Naming.{closed_uses, uses_of}
 use Rattle.root_laws.proofs.Lists.{all_weaker, all_back, keep_none}
 use Rattle.root_laws.proofs.Growing.{below_now}
 use Rattle.root_laws.proofs.Headers.{recorded_is_older}
-use Rattle.lineage_index.specs.Growth.{Grows, held}
+use Rattle.lineage_index.specs.Growth.{Grows, open_uses}
 
 pub rows_before : (rows new : List Row) (n : ℕ) → Grows rows new n → AllByRecursion (λ (row : Row). row.block < n) rows
 rows_before rows new n g = recursion_from_All (λ (row : Row). row.block < n) rows g.before
@@ -23,8 +23,8 @@ rows_now rows new n g = recursion_from_All (λ (row : Row). row.block ≡ n) new
 pub before_are : (rows new : List Row) (n : ℕ) → Grows rows new n → below (rows ++ new) n ≡ rows
 before_are rows new n g = below_now rows new n (rows_before rows new n g) (rows_now rows new n g)
 
--- the list that a version of the block closes is what is held of its key after all uses
-pub closed_is_held : (rows new : List Row) (n : ℕ) (key : List ℕ) → Grows rows new n → closed (rows ++ new) key n ≡ held rows new key
+-- the list that a version of the block closes is what is open_uses of its key after all uses
+pub closed_is_held : (rows new : List Row) (n : ℕ) (key : List ℕ) → Grows rows new n → closed_uses (rows ++ new) key n ≡ open_uses rows new key
 closed_is_held rows new n key g = ap (λ (rs : List Row). uses_of (rows ++ new) key (newest rs key)) (before_are rows new n g)
 
 lawful_deps : (rows new : List Row) (n : ℕ) → Grows rows new n → AllByRecursion (HasLawfulDeps (rows ++ new)) (rows ++ new)

@@ -8,7 +8,7 @@ use Rattle.std.proofs.lemmas.Bool.{cases_Bool}
 use Rattle.root_laws.specs.Root.{is_among}
 use Rattle.root_laws.proofs.Lists.{all_weaker, map_on, not_both}
 use Rattle.root_laws.proofs.Keys.{same_key, key_is_key}
-use Rattle.lineage_index.specs.Growth.{changed}
+use Rattle.lineage_index.specs.Growth.{changed_at}
 
 apart_of : (key : List ℕ) (keys : List (List ℕ)) → AllPairs ◌≢◌ (key ∷ keys) → AllByRecursion (λ (other : List ℕ). key ≢ other) keys
 apart_of key keys distinct = recursion_from_All (λ (other : List ℕ). key ≢ other) keys (λ j d l. distinct 0 (suc j) d (omega arith) (omega (arith, l)))
@@ -22,19 +22,19 @@ differ a b apart = elim (cases_Bool (pointwise ◌==◌ a b)) [
   | inr t ↦ t
 ]
 
-pub changed_here : {A : Type 0} (f : List ℕ → A) (key other : List ℕ) (x : A) → pointwise ◌==◌ key other ≡ true → changed f key x other ≡ x
+pub changed_here : {A : Type 0} (f : List ℕ → A) (key other : List ℕ) (x : A) → pointwise ◌==◌ key other ≡ true → changed_at f key x other ≡ x
 changed_here f key other x t = rw t refl
 
-pub changed_there : {A : Type 0} (f : List ℕ → A) (key other : List ℕ) (x : A) → pointwise ◌==◌ key other ≡ false → changed f key x other ≡ f other
+pub changed_there : {A : Type 0} (f : List ℕ → A) (key other : List ℕ) (x : A) → pointwise ◌==◌ key other ≡ false → changed_at f key x other ≡ f other
 changed_there f key other x t = rw t refl
 
--- a function that is changed at another key alone
-unchanged : {A : Type 0} (f : List ℕ → A) (key : List ℕ) (x : A) (keys : List (List ℕ)) → AllByRecursion (λ (other : List ℕ). key ≢ other) keys → map (changed f key x) keys ≡ map f keys
-unchanged f key x keys apart = map_on (changed f key x) f keys (all_weaker (λ (other : List ℕ). key ≢ other) (λ (other : List ℕ). changed f key x other ≡ f other) (λ other a. rw (differ key other a) refl) keys apart)
+-- a function that is changed_at at another key alone
+unchanged : {A : Type 0} (f : List ℕ → A) (key : List ℕ) (x : A) (keys : List (List ℕ)) → AllByRecursion (λ (other : List ℕ). key ≢ other) keys → map (changed_at f key x) keys ≡ map f keys
+unchanged f key x keys apart = map_on (changed_at f key x) f keys (all_weaker (λ (other : List ℕ). key ≢ other) (λ (other : List ℕ). changed_at f key x other ≡ f other) (λ other a. rw (differ key other a) refl) keys apart)
 
 -- the value of one key is set
 pub set_at_key : {A : Type 0} (f : List ℕ → A) (keys : List (List ℕ)) (key : List ℕ) (i : ℕ) (x : A) (d : List ℕ) → AllPairs ◌≢◌ keys → i < length keys → get_or keys i d ≡ key
-    → set (map f keys) i x ≡ map (changed f key x) keys
+    → set (map f keys) i x ≡ map (changed_at f key x) keys
 set_at_key f [] key i x d distinct l at = absurd (omega (arith, l))
 set_at_key {A = A} f (first ∷ keys) key zero x d distinct l at =
     let apart : AllByRecursion (λ (other : List ℕ). key ≢ other) keys = all_weaker (λ (other : List ℕ). first ≢ other) (λ (other : List ℕ). key ≢ other) (λ other a e. a (at ∙ e)) keys (apart_of first keys distinct) in
@@ -46,12 +46,12 @@ set_at_key {A = A} f (first ∷ keys) key (suc i) x d distinct l at =
     rw not_here (ap (λ (xs : List A). f first ∷ xs) (set_at_key f keys key i x d (rest_of first keys distinct) (omega (arith, l)) at))
 
 -- one key more
-pub push_key : {A : Type 0} (f : List ℕ → A) (keys : List (List ℕ)) (key : List ℕ) (x : A) → is_among keys key ≡ false → map f keys ++ x ∷ [] ≡ map (changed f key x) (keys ++ key ∷ [])
+pub push_key : {A : Type 0} (f : List ℕ → A) (keys : List (List ℕ)) (key : List ℕ) (x : A) → is_among keys key ≡ false → map f keys ++ x ∷ [] ≡ map (changed_at f key x) (keys ++ key ∷ [])
 push_key {A = A} f keys key x none =
     let here : pointwise ◌==◌ key key ≡ true = key_is_key key in
-    map_append_one ∙ sym (map-append (changed f key x) keys (key ∷ []))
+    map_append_one ∙ sym (map-append (changed_at f key x) keys (key ∷ []))
   where
-    each : (ks : List (List ℕ)) → is_among ks key ≡ false → AllByRecursion (λ (other : List ℕ). f other ≡ changed f key x other) ks
+    each : (ks : List (List ℕ)) → is_among ks key ≡ false → AllByRecursion (λ (other : List ℕ). f other ≡ changed_at f key x other) ks
     each [] e = tt
     each (k ∷ ks) e =
         let off : pointwise ◌==◌ k key ≡ false = first_false (pointwise ◌==◌ k key) (is_among ks key) e in
@@ -66,15 +66,15 @@ push_key {A = A} f keys key x none =
         rest_false true b e = cc
         rest_false false b e = e
 
-    map_append_one : map f keys ++ x ∷ [] ≡ map (changed f key x) keys ++ map (changed f key x) (key ∷ [])
-    map_append_one = rw (key_is_key key) (ap (λ (xs : List A). xs ++ x ∷ []) (map_on f (changed f key x) keys (each keys none)))
+    map_append_one : map f keys ++ x ∷ [] ≡ map (changed_at f key x) keys ++ map (changed_at f key x) (key ∷ [])
+    map_append_one = rw (key_is_key key) (ap (λ (xs : List A). xs ++ x ∷ []) (map_on f (changed_at f key x) keys (each keys none)))
 
 -- two functions that agree on the keys
 pub same_by_key : {A : Type 0} (f g : List ℕ → A) (keys : List (List ℕ)) → AllByRecursion (λ (key : List ℕ). f key ≡ g key) keys → map f keys ≡ map g keys
 same_by_key f g keys same = map_on f g keys same
 
--- a function that is changed at a key that is not among them
-pub changed_nowhere : {A : Type 0} (f : List ℕ → A) (key : List ℕ) (x : A) (keys : List (List ℕ)) → is_among keys key ≡ false → map (changed f key x) keys ≡ map f keys
+-- a function that is changed_at at a key that is not among them
+pub changed_nowhere : {A : Type 0} (f : List ℕ → A) (key : List ℕ) (x : A) (keys : List (List ℕ)) → is_among keys key ≡ false → map (changed_at f key x) keys ≡ map f keys
 changed_nowhere f key x [] none = refl
 changed_nowhere {A = A} f key x (k ∷ keys) none =
     let off : pointwise ◌==◌ key k ≡ false = differ key k (λ e. not_both (pointwise ◌==◌ k key) (rw e (key_is_key k)) (first_off (pointwise ◌==◌ k key) (is_among keys key) none)) in

@@ -11,11 +11,11 @@ use Rattle.root_laws.specs.Naming.{uses_of}
 use Rattle.root_laws.proofs.Lists.{option_cases, or_false, some_last}
 use Rattle.root_laws.proofs.Growing.{newest_append}
 use Rattle.root_laws.proofs.Headers.{newest_has}
-use Rattle.lineage_index.specs.Growth.{Grows, held, settled, is_of_key, changed}
+use Rattle.lineage_index.specs.Growth.{Grows, open_uses, list_after_rows, is_of_key, changed_at}
 use Rattle.lineage_index.proofs.Blocks.{rows_now, no_uses_yet}
 
 -- one row more
-pub one_key_more : (list : List ℕ → List Dep) (done : List Row) (row : Row) (key : List ℕ) → changed (settled list done) row.key [] key ≡ settled list (done ++ row ∷ []) key
+pub one_key_more : (list : List ℕ → List Dep) (done : List Row) (row : Row) (key : List ℕ) → changed_at (list_after_rows list done) row.key [] key ≡ list_after_rows list (done ++ row ∷ []) key
 one_key_more list done row key =
     let any : list_any (is_of_key key) (done ++ row ∷ []) ≡ (list_any (is_of_key key) done || pointwise ◌==◌ row.key key) =
     list_any-append (is_of_key key) done (row ∷ []) ∙ ap (λ (b : Bool). list_any (is_of_key key) done || b) (or_false (pointwise ◌==◌ row.key key)) in
@@ -35,8 +35,8 @@ newest_after rows new key row e = newest_append rows new key ∙ rw e refl
 pub newest_kept : (rows new : List Row) (key : List ℕ) → newest new key ≡ None → newest (rows ++ new) key ≡ newest rows key
 newest_kept rows new key e = newest_append rows new key ∙ rw e refl
 
--- all rows settled: the open lists of the longer history
-pub settled_all : (rows new : List Row) (n : ℕ) (key : List ℕ) → Grows rows new n → settled (held rows new) new key ≡ uses_of (rows ++ new) key (newest (rows ++ new) key)
+-- all rows list_after_rows: the open lists of the longer history
+pub settled_all : (rows new : List Row) (n : ℕ) (key : List ℕ) → Grows rows new n → list_after_rows (open_uses rows new) new key ≡ uses_of (rows ++ new) key (newest (rows ++ new) key)
 settled_all rows new n key g = elim (option_cases (newest new key)) [
   | inl none ↦
       let off : list_any (is_of_key key) new ≡ false = sym (some_last (is_of_key key) new) ∙ rw none refl in

@@ -16,12 +16,12 @@ use Rattle.root_laws.proofs.Lists.{all_weaker, option_cases, not_both, or_false,
 use Rattle.root_laws.proofs.Keys.{same_key, among_is_some}
 use Rattle.root_laws.proofs.Growing.{earlier_versions_stay, uses_append}
 use Rattle.root_laws.proofs.Headers.{newest_has}
-use Rattle.lineage_index.specs.Growth.{Grows, Entry, entry_of, renewed, keys_of_row, keys_touched, is_of_key, changed}
+use Rattle.lineage_index.specs.Growth.{Grows, Entry, entry_of, entry_after, keys_of_row, keys_touched, is_of_key, changed_at}
 use Rattle.lineage_index.proofs.Blocks.{rows_before, rows_now}
 use Rattle.lineage_index.proofs.ClosedLists.{newest_kept}
 
 -- one key more was made new
-pub one_more_renewed : (old new : List ℕ → Entry) (done : List (List ℕ)) (last key : List ℕ) → changed (renewed old new done) last (new last) key ≡ renewed old new (done ++ last ∷ []) key
+pub one_more_renewed : (old new : List ℕ → Entry) (done : List (List ℕ)) (last key : List ℕ) → changed_at (entry_after old new done) last (new last) key ≡ entry_after old new (done ++ last ∷ []) key
 one_more_renewed old new done last key =
     let any : is_among (done ++ last ∷ []) key ≡ (is_among done key || pointwise ◌==◌ last key) =
     list_any-append (λ (other : List ℕ). pointwise ◌==◌ other key) done (last ∷ []) ∙ ap (λ (b : Bool). is_among done key || b) (or_false (pointwise ◌==◌ last key)) in
@@ -90,7 +90,7 @@ untouched rows new n key g known off = elim (option_cases (newest rows key)) [
 -- all keys that the block touches were made new: the entries of the longer history
 pub renewed_all : (rows new : List Row) (n : ℕ) (key : List ℕ) (old : List ℕ → Entry) → Grows rows new n
     → (is_among (keys_of rows) key ≡ true → old key ≡ entry_of rows key) → (is_among (keys_of rows) key ≡ false → is_among (keys_touched new) key ≡ true)
-    → renewed old (entry_of (rows ++ new)) (keys_touched new) key ≡ entry_of (rows ++ new) key
+    → entry_after old (entry_of (rows ++ new)) (keys_touched new) key ≡ entry_of (rows ++ new) key
 renewed_all rows new n key old g is known = elim (cases_Bool (is_among (keys_touched new) key)) [
   | inl t ↦ rw t refl
   | inr off ↦ elim (cases_Bool (is_among (keys_of rows) key)) [

@@ -2,9 +2,9 @@
 use Rattle.std.proofs.Common.{[], ◌∷◌, refl, rules, arith}
 use Rattle.root_laws.specs.Root.{sentinel}
 use Rattle.lineage_store.specs.Entries.{entries_after}
-use Rattle.lineage_index.specs.Blocks.{IsKept}
+use Rattle.lineage_index.specs.Blocks.{IsKeptIndex}
 
-pub kept_at_first : IsKept [] 0 (sentinel [] ∷ []) [] [] []
+pub kept_at_first : IsKeptIndex [] 0 (sentinel [] ∷ []) [] [] []
 unfolding entries_after
 kept_at_first = record {
   store = record { lawful = record { few = omega arith; ordered = search rules; lawful_deps = search rules }; entries_are = refl };

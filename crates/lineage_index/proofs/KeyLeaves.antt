@@ -13,7 +13,7 @@ use Rattle.root_laws.specs.Root.{is_among, sentinel, next_key, is_below}
 use Rattle.root_laws.proofs.Lists.{map_map, map_on, not_both}
 use Rattle.root_laws.proofs.Keys.{same_key, key_is_key}
 use Rattle.state_tree.specs.Leaves.{index_of, is_this, leaf_key, leaf_keys, with_next, fresh_leaf, with_leaf_of}
-use Rattle.lineage_index.specs.Growth.{Entry, leaf_with, changed}
+use Rattle.lineage_index.specs.Growth.{Entry, leaf_with, changed_at}
 use Rattle.lineage_index.specs.Heads.{leaves_with, fresh_entry, IsKeyIndex}
 use Rattle.lineage_index.proofs.ByKey.{set_at_key, push_key, differ, changed_here, changed_there}
 
@@ -56,13 +56,13 @@ leaf_at keys entry j d l =
     rw e (slice_get-get_or (map f keys) j (f d) (omega (arith, l, length-map keys f)) ∙ ap (λ (leaf : Leaf). Some leaf) (get_or-map f keys j d (f d) l))
 
 pub leaf_set : (keys : List (List ℕ)) (entry : List ℕ → Entry) (key : List ℕ) (j : ℕ) (x : Entry) (d : List ℕ) → AllPairs ◌≢◌ keys → j < length keys → get_or keys j d ≡ key
-    → slice_set (leaves_with keys entry) (1 + j) (leaf_with keys key x) ≡ leaves_with keys (changed entry key x)
+    → slice_set (leaves_with keys entry) (1 + j) (leaf_with keys key x) ≡ leaves_with keys (changed_at entry key x)
 leaf_set keys entry key j x d apart l at =
     let f : List ℕ → Leaf = λ (k : List ℕ). leaf_with keys k (entry k) in
     let e : 1 + j ≡ suc j = omega arith in
-    rw e (ap (λ (leaves : List Leaf). sentinel keys ∷ leaves) (set_at_key f keys key j (leaf_with keys key x) d apart l at ∙ map_on (changed f key (leaf_with keys key x)) (λ (k : List ℕ). leaf_with keys k (changed entry key x k)) keys (each keys)))
+    rw e (ap (λ (leaves : List Leaf). sentinel keys ∷ leaves) (set_at_key f keys key j (leaf_with keys key x) d apart l at ∙ map_on (changed_at f key (leaf_with keys key x)) (λ (k : List ℕ). leaf_with keys k (changed_at entry key x k)) keys (each keys)))
   where
-    each : (ks : List (List ℕ)) → AllByRecursion (λ (k : List ℕ). changed (λ (k : List ℕ). leaf_with keys k (entry k)) key (leaf_with keys key x) k ≡ leaf_with keys k (changed entry key x k)) ks
+    each : (ks : List (List ℕ)) → AllByRecursion (λ (k : List ℕ). changed_at (λ (k : List ℕ). leaf_with keys k (entry k)) key (leaf_with keys key x) k ≡ leaf_with keys k (changed_at entry key x k)) ks
     each [] = tt
     each (k ∷ ks) = (
       elim (cases_Bool (pointwise ◌==◌ key k)) [
@@ -88,23 +88,23 @@ next_fresh : (more : List (List ℕ)) (key : List ℕ) → with_next ([] ∷ mor
 next_fresh more key = ap (λ (next : Option (List ℕ)). record (leaf_with more key fresh_entry) { next = next }) (next_past_empty more key)
 
 pub leaf_added : (keys : List (List ℕ)) (entry : List ℕ → Entry) (key : List ℕ) → is_among keys key ≡ false
-    → with_leaf_of (leaves_with keys entry) key ≡ leaves_with (keys ++ key ∷ []) (changed entry key fresh_entry)
+    → with_leaf_of (leaves_with keys entry) key ≡ leaves_with (keys ++ key ∷ []) (changed_at entry key fresh_entry)
 leaf_added keys entry key none =
     let f : List ℕ → Leaf = λ (k : List ℕ). leaf_with keys k (entry k) in
     let more : List (List ℕ) = keys ++ key ∷ [] in
-    let g : List ℕ → Leaf = λ (k : List ℕ). leaf_with more k (changed entry key fresh_entry k) in
+    let g : List ℕ → Leaf = λ (k : List ℕ). leaf_with more k (changed_at entry key fresh_entry k) in
     let own : leaf_keys (leaves_with keys entry ++ fresh_leaf key ∷ []) ≡ [] ∷ more =
     ap (λ (ks : List (List ℕ)). [] ∷ ks) (map-append leaf_key (map f keys) (fresh_leaf key ∷ []) ∙ ap (λ (ks : List (List ℕ)). ks ++ key ∷ []) (map_map leaf_key f keys ∙ map_same keys)) in
-    let pushed : map f keys ++ fresh_leaf key ∷ [] ≡ map (changed f key (fresh_leaf key)) more = push_key f keys key (fresh_leaf key) none in
+    let pushed : map f keys ++ fresh_leaf key ∷ [] ≡ map (changed_at f key (fresh_leaf key)) more = push_key f keys key (fresh_leaf key) none in
     ap (λ (ks : List (List ℕ)). map (with_next ks) (leaves_with keys entry ++ fresh_leaf key ∷ [])) own
     ∙ ap (λ (rest : List Leaf). map (with_next ([] ∷ more)) (sentinel keys ∷ rest)) pushed
-    ∙ threads (map_map (with_next ([] ∷ more)) (changed f key (fresh_leaf key)) more ∙ map_on (λ (k : List ℕ). with_next ([] ∷ more) (changed f key (fresh_leaf key) k)) g more (each more))
+    ∙ threads (map_map (with_next ([] ∷ more)) (changed_at f key (fresh_leaf key)) more ∙ map_on (λ (k : List ℕ). with_next ([] ∷ more) (changed_at f key (fresh_leaf key) k)) g more (each more))
   where
     map_same : (ks : List (List ℕ)) → map (λ (k : List ℕ). k) ks ≡ ks
     map_same [] = refl
     map_same (k ∷ ks) = ap (λ (rest : List (List ℕ)). k ∷ rest) (map_same ks)
 
-    each : (ks : List (List ℕ)) → AllByRecursion (λ (k : List ℕ). with_next ([] ∷ keys ++ key ∷ []) (changed (λ (k : List ℕ). leaf_with keys k (entry k)) key (fresh_leaf key) k) ≡ leaf_with (keys ++ key ∷ []) k (changed entry key fresh_entry k)) ks
+    each : (ks : List (List ℕ)) → AllByRecursion (λ (k : List ℕ). with_next ([] ∷ keys ++ key ∷ []) (changed_at (λ (k : List ℕ). leaf_with keys k (entry k)) key (fresh_leaf key) k) ≡ leaf_with (keys ++ key ∷ []) k (changed_at entry key fresh_entry k)) ks
     each [] = tt
     each (k ∷ ks) = (
       elim (cases_Bool (pointwise ◌==◌ key k)) [
@@ -118,10 +118,10 @@ leaf_added keys entry key none =
       each ks,
     )
 
-    threads : map (with_next ([] ∷ keys ++ key ∷ [])) (map (changed (λ (k : List ℕ). leaf_with keys k (entry k)) key (fresh_leaf key)) (keys ++ key ∷ [])) ≡ map (λ (k : List ℕ). leaf_with (keys ++ key ∷ []) k (changed entry key fresh_entry k)) (keys ++ key ∷ [])
-        → map (with_next ([] ∷ keys ++ key ∷ [])) (sentinel keys ∷ map (changed (λ (k : List ℕ). leaf_with keys k (entry k)) key (fresh_leaf key)) (keys ++ key ∷ [])) ≡ leaves_with (keys ++ key ∷ []) (changed entry key fresh_entry)
+    threads : map (with_next ([] ∷ keys ++ key ∷ [])) (map (changed_at (λ (k : List ℕ). leaf_with keys k (entry k)) key (fresh_leaf key)) (keys ++ key ∷ [])) ≡ map (λ (k : List ℕ). leaf_with (keys ++ key ∷ []) k (changed_at entry key fresh_entry k)) (keys ++ key ∷ [])
+        → map (with_next ([] ∷ keys ++ key ∷ [])) (sentinel keys ∷ map (changed_at (λ (k : List ℕ). leaf_with keys k (entry k)) key (fresh_leaf key)) (keys ++ key ∷ [])) ≡ leaves_with (keys ++ key ∷ []) (changed_at entry key fresh_entry)
     threads e =
-        ap (λ (next : Option (List ℕ)). record (sentinel keys) { next = next } ∷ map (with_next ([] ∷ keys ++ key ∷ [])) (map (changed (λ (k : List ℕ). leaf_with keys k (entry k)) key (fresh_leaf key)) (keys ++ key ∷ []))) (next_past_empty (keys ++ key ∷ []) [])
+        ap (λ (next : Option (List ℕ)). record (sentinel keys) { next = next } ∷ map (with_next ([] ∷ keys ++ key ∷ [])) (map (changed_at (λ (k : List ℕ). leaf_with keys k (entry k)) key (fresh_leaf key)) (keys ++ key ∷ []))) (next_past_empty (keys ++ key ∷ []) [])
         ∙ ap (λ (leaves : List Leaf). sentinel (keys ++ key ∷ []) ∷ leaves) e
 
 -- ---- the index of a key

@@ -9,7 +9,7 @@ use Rattle.prov_entry.specs.declared.entry.Leaf.{Leaf}
 use Rattle.root_laws.specs.Root.{is_among}
 use Rattle.forward_links.specs.declared.open_list.OpenList.{OpenList}
 use Rattle.forward_links.specs.Lists.{open_of, kept_at, with_use_at}
-use Rattle.lineage_index.specs.Growth.{changed}
+use Rattle.lineage_index.specs.Growth.{changed_at}
 use Rattle.lineage_index.specs.Heads.{AreLists}
 use Rattle.lineage_index.proofs.ByKey.{set_at_key, changed_nowhere, same_everywhere}
 
@@ -20,7 +20,7 @@ value_at f keys key i d at =
     (omega (arith, within, length-map keys f), get_or-map f keys i key d within ∙ ap f (get_or_from_slice_get keys i key key at))
 
 -- the value of a key is set
-pub value_set : {A : Type 0} (f : List ℕ → A) (keys : List (List ℕ)) (key : List ℕ) (i : ℕ) (x : A) → AllPairs ◌≢◌ keys → slice_get keys i ≡ Some key → slice_set (map f keys) i x ≡ map (changed f key x) keys
+pub value_set : {A : Type 0} (f : List ℕ → A) (keys : List (List ℕ)) (key : List ℕ) (i : ℕ) (x : A) → AllPairs ◌≢◌ keys → slice_get keys i ≡ Some key → slice_set (map f keys) i x ≡ map (changed_at f key x) keys
 value_set f keys key i x apart at = set_at_key f keys key i x key apart (slice_get_within keys i key at) (get_or_from_slice_get keys i key key at)
 
 pub lists_within : (tree : List Leaf) (lists : List OpenList) (keys : List (List ℕ)) (list : List ℕ → List Dep) (key : List ℕ) (i : ℕ) → AreLists tree lists keys list → slice_get keys i ≡ Some key → i < length lists
@@ -33,7 +33,7 @@ kept_of_key tree lists keys list key i a at =
     ap (λ (kept : List OpenList). kept_at kept i) a.lists_are ∙ get_or-map open_of (map list keys) i [] (open_of []) there.0 ∙ ap open_of there.1
 
 pub use_added : (tree : List Leaf) (lists more : List OpenList) (keys : List (List ℕ)) (list : List ℕ → List Dep) (key : List ℕ) (i : ℕ) (user : Dep) → AreLists tree lists keys list → slice_get keys i ≡ Some key
-    → more ≡ map open_of (with_use_at (map list keys) i user) → AreLists tree more keys (changed list key (list key ++ user ∷ []))
+    → more ≡ map open_of (with_use_at (map list keys) i user) → AreLists tree more keys (changed_at list key (list key ++ user ∷ []))
 use_added tree lists more keys list key i user a at is = record {
   apart = a.apart;
   entry = a.entry;
@@ -45,7 +45,7 @@ use_added tree lists more keys list key i user a at is = record {
 }
 
 pub use_nowhere : (tree : List Leaf) (lists : List OpenList) (keys : List (List ℕ)) (list : List ℕ → List Dep) (key : List ℕ) (x : List Dep) → AreLists tree lists keys list → is_among keys key ≡ false
-    → AreLists tree lists keys (changed list key x)
+    → AreLists tree lists keys (changed_at list key x)
 use_nowhere tree lists keys list key x a none = record {
   apart = a.apart;
   entry = a.entry;

@@ -1,4 +1,4 @@
--- Leaves that are told the entries of their keys, in any order.
+-- Leaves that are state_of_entry the entries of their keys, in any order.
 use Rattle.std.proofs.Common.{◌≡◌, ◌≢◌, ◌∙◌, ℕ, suc, ◌+◌, ◌-◌, ◌<◌, Bool, true, false, ◌==◌, ◌||◌, if◌then◌else◌, List, [], ◌∷◌, ◌++◌, length, get_or, map, Some, None, refl, sym, ap, subst, arith, inl, inr}
 use Rattle.std.specs.Prelude.{slice_set}
 use Rattle.std.specs.List.{All, AllPairs, AllByRecursion, Contains, list_any}
@@ -17,10 +17,10 @@ use Rattle.state_tree.specs.declared.states.LeafState.{LeafState}
 use Rattle.state_tree.specs.Leaves.{index_of, with_state, with_states}
 use Rattle.forward_links.specs.declared.open_list.OpenList.{OpenList}
 use Rattle.entry_store.specs.Entries.{Entry as StoreEntry}
-use Rattle.lineage_index.specs.Growth.{Entry, entry_of, leaf_with, changed, renewed}
+use Rattle.lineage_index.specs.Growth.{Entry, entry_of, leaf_with, changed_at, entry_after}
 use Rattle.lineage_index.specs.Heads.{leaves_with}
 use Rattle.lineage_index.specs.Settling.{renewing, AreRenewing}
-use Rattle.lineage_index.specs.Leaves.{leaf_indexes, HaveSameItems, IsLeafIndex, key_at, told, state_of, AreBesideLeaves}
+use Rattle.lineage_index.specs.Leaves.{leaf_indexes, HaveSameItems, IsLeafIndex, key_at, state_of_entry, state_of, AreBesideLeaves}
 use Rattle.lineage_index.proofs.ByKey.{differ}
 use Rattle.lineage_index.proofs.KeyLeaves.{IsPlace, leaf_place, leaf_at, leaf_set, leaves_same, leaves_on}
 use Rattle.lineage_index.proofs.KeptStates.{as_many}
@@ -82,41 +82,41 @@ all_alike P one other same all i d below = All-contains P one (get_or other i d)
 
 -- Neither the order of the indexes matters, nor how often one is there.
 entries_alike : (keys : List (List ℕ)) (entry old new : List ℕ → Entry) (touched : List (List ℕ)) (indexes : List ℕ) → HaveSameItems (leaf_indexes (leaves_with keys entry) touched) indexes
-    → leaves_with keys (renewed old new (map (key_at keys) indexes)) ≡ leaves_with keys (renewed old new touched)
-entries_alike keys entry old new touched indexes same = leaves_on keys (renewed old new (map (key_at keys) indexes)) (renewed old new touched)
-    (all_weaker (λ (key : List ℕ). is_among keys key ≡ true) (λ (key : List ℕ). renewed old new (map (key_at keys) indexes) key ≡ renewed old new touched key) (λ key there. alike key there) keys (all_among keys))
+    → leaves_with keys (entry_after old new (map (key_at keys) indexes)) ≡ leaves_with keys (entry_after old new touched)
+entries_alike keys entry old new touched indexes same = leaves_on keys (entry_after old new (map (key_at keys) indexes)) (entry_after old new touched)
+    (all_weaker (λ (key : List ℕ). is_among keys key ≡ true) (λ (key : List ℕ). entry_after old new (map (key_at keys) indexes) key ≡ entry_after old new touched key) (λ key there. alike key there) keys (all_among keys))
   where
     among : (key : List ℕ) → is_among keys key ≡ true → is_among (map (key_at keys) indexes) key ≡ is_among touched key
     among key there =
         sym (any_alike (λ (other : List ℕ). pointwise ◌==◌ other key) (key_at keys) (leaf_indexes (leaves_with keys entry) touched) indexes same)
         ∙ touched_there keys entry touched key there
 
-    alike : (key : List ℕ) → is_among keys key ≡ true → renewed old new (map (key_at keys) indexes) key ≡ renewed old new touched key
+    alike : (key : List ℕ) → is_among keys key ≡ true → entry_after old new (map (key_at keys) indexes) key ≡ entry_after old new touched key
     alike key there = ap (λ (b : Bool). if b then new key else old key) (among key there)
 
--- ---- leaves that are told entries
+-- ---- leaves that are state_of_entry entries
 
 leaf_told : (keys : List (List ℕ)) (entry : List ℕ → Entry) (index : ℕ) (new : Entry) → AllPairs ◌≢◌ keys → IsLeafIndex keys index
-    → with_state (leaves_with keys entry) (told index new) ≡ leaves_with keys (changed entry (key_at keys index) new)
+    → with_state (leaves_with keys entry) (state_of_entry keys index new) ≡ leaves_with keys (changed_at entry (key_at keys index) new)
 leaf_told keys entry index new apart within =
     let j = index - 1 in
     let l : j < length keys = omega (arith, within) in
     let next : index ≡ 1 + j = omega (arith, within) in
     let at = get_or_from_slice_get (leaves_with keys entry) (1 + j) (leaf_with keys (key_at keys index) (entry (key_at keys index))) (sentinel []) (leaf_at keys entry j [] l) in
-    ap (λ (i : ℕ). with_state (leaves_with keys entry) (told i new)) next
+    ap (λ (i : ℕ). with_state (leaves_with keys entry) (state_of_entry keys i new)) next
     ∙ ap (λ (leaf : Leaf). slice_set (leaves_with keys entry) (1 + j) (record leaf { newest_block = new.newest_block; newest = new.newest; open_count = new.open_count; open_digest = new.open_digest })) at
     ∙ leaf_set keys entry (key_at keys index) j new [] apart l refl
 
 pub leaves_told : (keys : List (List ℕ)) (old new : List ℕ → Entry) (done : List (List ℕ)) (indexes : List ℕ) → AllPairs ◌≢◌ keys → AllByRecursion (IsLeafIndex keys) indexes
-    → with_states (leaves_with keys (renewed old new done)) (map (λ (index : ℕ). told index (new (key_at keys index))) indexes) ≡ leaves_with keys (renewed old new (done ++ map (key_at keys) indexes))
-leaves_told keys old new done [] apart within = ap (λ (ks : List (List ℕ)). leaves_with keys (renewed old new ks)) (sym (append-nil done))
+    → with_states (leaves_with keys (entry_after old new done)) (map (λ (index : ℕ). state_of_entry keys index (new (key_at keys index))) indexes) ≡ leaves_with keys (entry_after old new (done ++ map (key_at keys) indexes))
+leaves_told keys old new done [] apart within = ap (λ (ks : List (List ℕ)). leaves_with keys (entry_after old new ks)) (sym (append-nil done))
 leaves_told keys old new done (index ∷ indexes) apart within =
     let key = key_at keys index in
-    ap (λ (leaves : List Leaf). with_states leaves (map (λ (index : ℕ). told index (new (key_at keys index))) indexes))
-    (leaf_told keys (renewed old new done) index (new key) apart within.0
-    ∙ leaves_same keys (changed (renewed old new done) key (new key)) (renewed old new (done ++ key ∷ [])) (λ k. one_more_renewed old new done key k))
+    ap (λ (leaves : List Leaf). with_states leaves (map (λ (index : ℕ). state_of_entry keys index (new (key_at keys index))) indexes))
+    (leaf_told keys (entry_after old new done) index (new key) apart within.0
+    ∙ leaves_same keys (changed_at (entry_after old new done) key (new key)) (entry_after old new (done ++ key ∷ [])) (λ k. one_more_renewed old new done key k))
     ∙ leaves_told keys old new (done ++ key ∷ []) indexes apart within.1
-    ∙ ap (λ (ks : List (List ℕ)). leaves_with keys (renewed old new ks)) (append_assoc done (key ∷ []) (map (key_at keys) indexes))
+    ∙ ap (λ (ks : List (List ℕ)). leaves_with keys (entry_after old new ks)) (append_assoc done (key ∷ []) (map (key_at keys) indexes))
 
 -- ---- the keys that a block touches
 
@@ -128,9 +128,9 @@ pub touched_within : (rows : List Row) (entry : List ℕ → Entry) (tree : List
     → AreRenewing rows entry [] tree lists newest entries → HaveSameItems (leaf_indexes tree touched) indexes → All (IsLeafIndex (keys_of rows)) indexes
 touched_within rows entry tree lists newest entries touched indexes a same =
     let there = subst (λ (leaves : List Leaf). HaveSameItems (leaf_indexes leaves touched) indexes) a.heads.leaves_are same in
-    all_alike (IsLeafIndex (keys_of rows)) (leaf_indexes (leaves_with (keys_of rows) (renewed entry (entry_of rows) [])) touched) indexes there (indexes_within (keys_of rows) (renewed entry (entry_of rows) []) touched)
+    all_alike (IsLeafIndex (keys_of rows)) (leaf_indexes (leaves_with (keys_of rows) (entry_after entry (entry_of rows) [])) touched) indexes there (indexes_within (keys_of rows) (entry_after entry (entry_of rows) []) touched)
 
--- What is told is for leaves of the tree.
+-- What is state_of_entry is for leaves of the tree.
 pub states_within : (rows : List Row) (entry : List ℕ → Entry) (tree : List Leaf) (lists : List OpenList) (newest : List ℕ) (entries : List StoreEntry) (indexes : List ℕ) (states : List LeafState)
     → AreRenewing rows entry [] tree lists newest entries → All (IsLeafIndex (keys_of rows)) indexes → states ≡ map (state_of rows) indexes
     → All (λ (state : LeafState). 0 < state.index) states × All (λ (state : LeafState). state.index < length tree) states
@@ -160,7 +160,7 @@ leaves_renewed rows entry tree after lists newest entries touched indexes a same
         leaves_are =
             is ∙ ap (λ (leaves : List Leaf). with_states leaves (map (state_of rows) indexes)) a.heads.leaves_are
             ∙ leaves_told keys entry (entry_of rows) [] indexes a.heads.apart within
-            ∙ entries_alike keys (renewed entry (entry_of rows) []) entry (entry_of rows) touched indexes there;
+            ∙ entries_alike keys (entry_after entry (entry_of rows) []) entry (entry_of rows) touched indexes there;
         lists_are = a.heads.lists_are;
         newest_are = a.heads.newest_are;
       };

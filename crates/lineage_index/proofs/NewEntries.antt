@@ -15,7 +15,7 @@ use Rattle.prov_entry.specs.declared.entry.Leaf.{Leaf}
 use Rattle.prov_entry.specs.declared.entry.Body.{Body}
 use Rattle.prov_entry.specs.declared.entry.BodyDep.{BodyDep}
 use Rattle.prov_entry.specs.Spelling.{body_fields}
-use Rattle.root_laws.specs.Naming.{closed, uses_of, digest_of_uses, named_before, body_among, body_of, with_digest}
+use Rattle.root_laws.specs.Naming.{closed_uses, uses_of, digest_of_uses, named_before, body_among, body_of, with_digest}
 use Rattle.root_laws.specs.Root.{is_among, keys_of, sentinel}
 use Rattle.root_laws.specs.GrowthLaws.{AreFrom}
 use Rattle.root_laws.proofs.Lists.{all_weaker, all_front, all_back, all_both, contained, map_on, option_cases, not_both}
@@ -34,7 +34,7 @@ use Rattle.lineage_store.proofs.Entries.{entries_stay}
 use Rattle.lineage_store.specs.Growing.{IsNextVersion}
 use Rattle.lineage_store.proofs.Versions.{split_pairs}
 use Rattle.lineage_store.proofs.OtherKeys.{versions_stay}
-use Rattle.lineage_index.specs.Growth.{Grows, Entry, entry_of, leaf_with, held}
+use Rattle.lineage_index.specs.Growth.{Grows, Entry, entry_of, leaf_with, open_uses}
 use Rattle.lineage_index.specs.Heads.{AreLists, leaves_with}
 use Rattle.lineage_index.specs.NewEntries.{AreUsing, IsNextRow, IsVersionOf, dep_with, list_if_among, body_with, newest_of_leaf, newest_in, dep_in, body_in}
 use Rattle.lineage_index.proofs.Blocks.{IsOnNewest, closed_is_held, new_deps, rows_before, rows_now, deps_on_newest}
@@ -72,7 +72,7 @@ body_is rows new n row named g has is = ap (λ (deps : List BodyDep). let b : Bo
     (map_on (dep_with (entry_of rows)) (with_digest named) row.deps
     (all_weaker (IsOnNewest rows) (λ (dep : Dep). dep_with (entry_of rows) dep ≡ with_digest named dep) (λ dep on. dep_is_named rows new n dep named g on is) row.deps (new_on_newest rows new n row g has)))
 
-closed_is : (rows new : List Row) (n : ℕ) (key : List ℕ) → Grows rows new n → list_if_among (keys_of rows) (held rows new) key ≡ closed (rows ++ new) key n
+closed_is : (rows new : List Row) (n : ℕ) (key : List ℕ) → Grows rows new n → list_if_among (keys_of rows) (open_uses rows new) key ≡ closed_uses (rows ++ new) key n
 closed_is rows new n key g = elim (cases_Bool (is_among (keys_of rows) key)) [
   | inl t ↦ rw t (sym (closed_is_held rows new n key g))
   | inr f ↦ elim (option_cases (newest rows key)) [
@@ -138,14 +138,14 @@ from_now rows new n g = All-from_recursion (λ (row : Row). n ≤ row.block) new
     (all_weaker (λ (row : Row). row.block ≡ n) (λ (row : Row). n ≤ row.block) (λ row at. omega (arith, at)) new (rows_now rows new n g))
 
 pub next_version : (rows new done : List Row) (n : ℕ) (tree : List Leaf) (lists : List OpenList) (newest_rows : List ℕ) (row : Row) (entries : List StoreEntry) (previous : Option EntryId) (version : NewVersion)
-    → AreUsing rows new n tree lists newest_rows → IsNextRow rows new done row entries → IsVersionOf tree (list_if_among (keys_of rows) (held rows new) row.key) row version → previous ≡ newest_entry rows row.key
+    → AreUsing rows new n tree lists newest_rows → IsNextRow rows new done row entries → IsVersionOf tree (list_if_among (keys_of rows) (open_uses rows new) row.key) row version → previous ≡ newest_entry rows row.key
     → IsNextVersion (rows ++ new) (rows ++ done) row previous entries version
 next_version rows new done n tree lists newest_rows row entries previous version a next is previous_is =
     let has = row_has rows new done row entries next in
     let at : row.block ≡ n = row_now rows new n row a.grows has in
     let whole : up_to (rows ++ new) row.block ≡ rows ++ new = ap (up_to (rows ++ new)) at ∙ up_to_now rows new n (rows_before rows new n a.grows) (rows_now rows new n a.grows) in
-    let list : list_if_among (keys_of rows) (held rows new) row.key ≡ closed (up_to (rows ++ new) row.block) row.key row.block =
-    closed_is rows new n row.key a.grows ∙ ap (closed (rows ++ new) row.key) (sym at) ∙ ap (λ (all : List Row). closed all row.key row.block) (sym whole) in
+    let list : list_if_among (keys_of rows) (open_uses rows new) row.key ≡ closed_uses (up_to (rows ++ new) row.block) row.key row.block =
+    closed_is rows new n row.key a.grows ∙ ap (closed_uses (rows ++ new) row.key) (sym at) ∙ ap (λ (all : List Row). closed_uses all row.key row.block) (sym whole) in
     let named : named_before rows n ≡ named_before (rows ++ new) row.block = sym (earlier_versions_stay rows new n (from_now rows new n a.grows)) ∙ ap (named_before (rows ++ new)) (sym at) in
     let body : body_in tree row ≡ body_of (rows ++ new) row =
     body_read rows new n tree lists newest_rows row a has ∙ body_is rows new n row (named_before (rows ++ new) row.block) a.grows has named in

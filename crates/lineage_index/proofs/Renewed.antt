@@ -22,7 +22,7 @@ use Rattle.lineage_store.proofs.Entries.{row_facts, as_many}
 use Rattle.lineage_index.specs.Growth.{Entry, entry_of}
 use Rattle.lineage_index.specs.Heads.{newest_at, open_list}
 use Rattle.lineage_index.specs.Settling.{IsStoreOf}
-use Rattle.lineage_index.specs.Leaves.{IsLeafIndex, key_at, told, state_of, AreBesideLeaves}
+use Rattle.lineage_index.specs.Leaves.{IsLeafIndex, key_at, state_of_entry, state_of, AreBesideLeaves}
 use Rattle.lineage_index.proofs.KeyLists.{value_at}
 use Rattle.lineage_index.proofs.KeptStates.{index_among}
 use Rattle.lineage_index.proofs.Settled.{row_there, index_there}
@@ -64,7 +64,7 @@ entry_is rows key row block digest list count list_digest newest_is block_is dig
 pub key_there : (keys : List (List ℕ)) (index : ℕ) → IsLeafIndex keys index → slice_get keys (index - 1) ≡ Some (key_at keys index)
 key_there keys index at = slice_get-get_or keys (index - 1) [] (omega (arith, at))
 
--- It is told the entry of its key.
+-- It is state_of_entry the entry of its key.
 pub state_told : (rows : List Row) (lists : List OpenList) (newest_rows : List ℕ) (entries : List StoreEntry) (index at : ℕ) (facts : Facts) (kept : OpenList)
     → AreBesideLeaves rows lists newest_rows entries → IsLeafIndex (keys_of rows) index → slice_get newest_rows (index - 1) ≡ Some at
     → option_map (λ (entry : StoreEntry). entry.facts) (slice_get entries at) ≡ Some facts → kept ≡ kept_at lists (index - 1)
@@ -79,7 +79,7 @@ state_told rows lists newest_rows entries index at facts kept a within read fact
     let is : kept ≡ open_of (open_list rows key) =
     kept_is ∙ ap (λ (all : List OpenList). kept_at all i) a.lists_are ∙ get_or-map open_of (map (open_list rows) keys) i [] (open_of []) there.0 ∙ ap open_of there.1 in
     let says : facts ≡ facts_of (header_of rows row.0) = row_facts entries rows at row.0 facts a.store.entries_are row.2 facts_read in
-    ap (told index) (entry_is rows key row.0 facts.block facts.digest (open_list rows key) kept.count kept.digest row.1
+    ap (state_of_entry (keys_of rows) index) (entry_is rows key row.0 facts.block facts.digest (open_list rows key) kept.count kept.digest row.1
     (ap (λ (f : Facts). f.block) says) (ap (λ (f : Facts). f.digest) says ∙ digest_read rows entries key row.0 a.store row.1) refl (ap (λ (one : OpenList). one.count) is) (ap (λ (one : OpenList). one.digest.0) is))
 
 -- What is read for it is there.

@@ -7,11 +7,11 @@ use Rattle.lc_base.specs.declared.row.Row.{Row}
 use Rattle.lc_base.specs.declared.row.Dep.{Dep}
 use Rattle.lc_base.specs.History.{newest, depends_on, version_of}
 use Rattle.root_laws.specs.Naming.{uses_of}
-use Rattle.lineage_index.specs.Growth.{Grows, used, used_by, used_by_row, is_on_key}
+use Rattle.lineage_index.specs.Growth.{Grows, list_with_uses, used_by, used_by_row, is_on_key}
 use Rattle.lineage_index.specs.Heads.{HaveRoom, open_list}
 
 -- A dependency is on a key once, so its list takes one use.
-pub room_used : (list : List ℕ → List Dep) (user : Dep) (deps : List Dep) (more : ℕ) → HaveRoom list (more + 1) → HaveRoom (used list user deps) more
+pub room_used : (list : List ℕ → List Dep) (user : Dep) (deps : List Dep) (more : ℕ) → HaveRoom list (more + 1) → HaveRoom (list_with_uses list user deps) more
 room_used list user deps more room key = elim (cases_Bool (list_any (is_on_key key) deps)) [
   | inl t ↦ rw t (omega (arith, room key, length-append (list key) (user ∷ [])))
   | inr t ↦ rw t (omega (arith, room key))

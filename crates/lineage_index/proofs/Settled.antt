@@ -17,7 +17,7 @@ use Rattle.root_laws.proofs.Keys.{same_key, among_is_some, keys_append, keys_sho
 use Rattle.root_laws.proofs.Growing.{newest_append}
 use Rattle.forward_links.specs.declared.open_list.OpenList.{OpenList}
 use Rattle.forward_links.specs.Lists.{open_of}
-use Rattle.lineage_index.specs.Growth.{changed}
+use Rattle.lineage_index.specs.Growth.{changed_at}
 use Rattle.lineage_index.specs.Heads.{KeyStates, AreHeads, leaves_with, with_version, with_key_more, with_version_more, fresh_entry, newest_at, index_or_zero}
 use Rattle.lineage_index.specs.Settling.{entry_or_fresh, settling}
 use Rattle.lineage_index.proofs.ByKey.{same_everywhere}
@@ -83,7 +83,7 @@ not_before rows done key none = among_is_some rows key ∙ go (newest done key) 
     go None b e = e
     go (Some row) b e = cc
 
-fresh_stays : (rows done : List Row) (new key : List ℕ) → is_among (keys_of (rows ++ done)) new ≡ false → changed (entry_or_fresh rows) new fresh_entry key ≡ entry_or_fresh rows key
+fresh_stays : (rows done : List Row) (new key : List ℕ) → is_among (keys_of (rows ++ done)) new ≡ false → changed_at (entry_or_fresh rows) new fresh_entry key ≡ entry_or_fresh rows key
 fresh_stays rows done new key none = elim (cases_Bool (pointwise ◌==◌ new key)) [
   | inl t ↦
       let same : new ≡ key = same_key new key t in
@@ -92,7 +92,7 @@ fresh_stays rows done new key none = elim (cases_Bool (pointwise ◌==◌ new ke
   | inr f ↦ rw f refl
 ]
 
-index_more : (rows done : List Row) (row : Row) (key : List ℕ) → changed (newest_at (rows ++ done)) row.key (length (rows ++ done)) key ≡ newest_at (rows ++ (done ++ row ∷ [])) key
+index_more : (rows done : List Row) (row : Row) (key : List ℕ) → changed_at (newest_at (rows ++ done)) row.key (length (rows ++ done)) key ≡ newest_at (rows ++ (done ++ row ∷ [])) key
 index_more rows done row key =
     let more : newest_index (rows ++ (done ++ row ∷ [])) key ≡ (if pointwise ◌==◌ row.key key then Some (length (rows ++ done)) else newest_index (rows ++ done) key) =
     ap (λ (rs : List Row). newest_index rs key) (sym (append_assoc rows done (row ∷ []))) ∙ newest_more (rows ++ done) row key in

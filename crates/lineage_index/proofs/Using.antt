@@ -14,7 +14,7 @@ use Rattle.root_laws.specs.Naming.{uses_of}
 use Rattle.root_laws.proofs.Lists.{option_cases, or_false}
 use Rattle.root_laws.proofs.Keys.{same_key}
 use Rattle.root_laws.proofs.Growing.{uses_append}
-use Rattle.lineage_index.specs.Growth.{held, used, used_by_row, used_by, HaveDistinctKeys, is_on_key, changed}
+use Rattle.lineage_index.specs.Growth.{open_uses, list_with_uses, used_by_row, used_by, HaveDistinctKeys, is_on_key, changed_at}
 use Rattle.lineage_index.proofs.Blocks.{IsOnNewest}
 use Rattle.lineage_index.proofs.ByKey.{differ}
 
@@ -44,7 +44,7 @@ none_before (dep ∷ deps) (suc i) d distinct l =
     rw off (none_before deps i d (λ a b e x y. distinct (suc a) (suc b) e (omega (arith, x)) (omega (arith, y))) (omega (arith, l)))
 
 pub one_use_more : (list : List ℕ → List Dep) (user : Dep) (deps : List Dep) (i : ℕ) (d : Dep) (key : List ℕ) → HaveDistinctKeys deps → i < length deps
-    → changed (used list user (take i deps)) (get_or deps i d).key (used list user (take i deps) (get_or deps i d).key ++ user ∷ []) key ≡ used list user (take (i + 1) deps) key
+    → changed_at (list_with_uses list user (take i deps)) (get_or deps i d).key (list_with_uses list user (take i deps) (get_or deps i d).key ++ user ∷ []) key ≡ list_with_uses list user (take (i + 1) deps) key
 one_use_more list user deps i d key distinct l =
     let dep : Dep = get_or deps i d in
     let longer : take (i + 1) deps ≡ take i deps ++ dep ∷ [] = take_more deps i d l in
@@ -86,7 +86,7 @@ uses_with rows more row key block =
     ap (λ (rs : List Row). uses rs key block) (sym (append_assoc rows more (row ∷ [])))
     ∙ uses_append (rows ++ more) (row ∷ []) key block ∙ ap (λ (us : List Dep). uses (rows ++ more) key block ++ us) (one_row_uses row key block)
 
-pub one_row_more : (rows more : List Row) (row : Row) (key : List ℕ) → AllByRecursion (IsOnNewest rows) row.deps → used_by_row (held rows more) row key ≡ held rows (more ++ row ∷ []) key
+pub one_row_more : (rows more : List Row) (row : Row) (key : List ℕ) → AllByRecursion (IsOnNewest rows) row.deps → used_by_row (open_uses rows more) row key ≡ open_uses rows (more ++ row ∷ []) key
 one_row_more rows more row key on = elim (option_cases (newest rows key)) [
   | inl none ↦
       let off : list_any (is_on_key key) row.deps ≡ false = none_on row.deps on none in
@@ -107,7 +107,7 @@ one_row_more rows more row key on = elim (option_cases (newest rows key)) [
     ]
 
 -- before the first row of the block
-pub held_first : (rows : List Row) (key : List ℕ) → held rows [] key ≡ uses_of rows key (newest rows key)
+pub held_first : (rows : List Row) (key : List ℕ) → open_uses rows [] key ≡ uses_of rows key (newest rows key)
 held_first rows key = ap (λ (rs : List Row). uses_of rs key (newest rows key)) (append-nil rows)
 
 -- ---- all rows of the block
@@ -116,12 +116,12 @@ pub used_same : (f g : List ℕ → List Dep) (rows : List Row) (key : List ℕ)
 used_same f g [] key same = same key
 used_same f g (row ∷ rows) key same = used_same (used_by_row f row) (used_by_row g row) rows key (λ k. ap (λ (list : List Dep). if list_any (is_on_key k) row.deps then list ++ version_of row ∷ [] else list) (same k))
 
-pub all_uses : (rows more new : List Row) (key : List ℕ) → AllByRecursion (λ (row : Row). AllByRecursion (IsOnNewest rows) row.deps) new → used_by (held rows more) new key ≡ held rows (more ++ new) key
-all_uses rows more [] key on = ap (λ (rs : List Row). held rows rs key) (sym (append-nil more))
+pub all_uses : (rows more new : List Row) (key : List ℕ) → AllByRecursion (λ (row : Row). AllByRecursion (IsOnNewest rows) row.deps) new → used_by (open_uses rows more) new key ≡ open_uses rows (more ++ new) key
+all_uses rows more [] key on = ap (λ (rs : List Row). open_uses rows rs key) (sym (append-nil more))
 all_uses rows more (row ∷ new) key on =
-    used_same (used_by_row (held rows more) row) (held rows (more ++ row ∷ [])) new key (λ k. one_row_more rows more row k on.0)
+    used_same (used_by_row (open_uses rows more) row) (open_uses rows (more ++ row ∷ [])) new key (λ k. one_row_more rows more row k on.0)
     ∙ all_uses rows (more ++ row ∷ []) new key on.1
-    ∙ ap (λ (rs : List Row). held rows rs key) (append_assoc more (row ∷ []) new)
+    ∙ ap (λ (rs : List Row). open_uses rows rs key) (append_assoc more (row ∷ []) new)
 
 pub one_row_used : (list : List ℕ → List Dep) (rows : List Row) (i : ℕ) (d : Row) → i < length rows → used_by_row (used_by list (take i rows)) (get_or rows i d) ≡ used_by list (take (i + 1) rows)
 one_row_used list rows i d l = sym (ap (used_by list) (take_more rows i d l) ∙ fold-append used_by_row list (take i rows) (get_or rows i d ∷ []))

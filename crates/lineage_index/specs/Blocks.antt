@@ -9,7 +9,7 @@ use Rattle.lineage_index.specs.Heads.{AreHeads, states_of}
 use Rattle.lineage_index.specs.Settling.{IsStoreOf}
 
 -- The leaves, lists, indexes and entries are those of the rows of the blocks before this one.
-pub record IsKept (rows : List Row) (block : ℕ) (tree : List Leaf) (lists : List OpenList) (newest : List ℕ) (entries : List StoreEntry) : Type 0 where
+pub record IsKeptIndex (rows : List Row) (block : ℕ) (tree : List Leaf) (lists : List OpenList) (newest : List ℕ) (entries : List StoreEntry) : Type 0 where
   pub store : IsStoreOf rows entries
   pub within : All (λ (row : Row). row.block < block) rows
   pub heads : AreHeads tree lists newest (states_of rows)

@@ -13,7 +13,7 @@ use Rattle.root_laws.specs.Root.{block_of, is_among, next_key}
 
 -- ---- what holds of a block
 
--- Lawful rows of blocks before n, and rows of block n behind them, lawful together.
+-- Lawful rows of blocks before n, and rows of block n after them, lawful together.
 pub record Grows (rows new : List Row) (n : ℕ) : Type 0 where
   pub lawful_before : IsLawful rows
   pub before : All (λ (row : Row). row.block < n) rows
@@ -22,16 +22,16 @@ pub record Grows (rows new : List Row) (n : ℕ) : Type 0 where
 
 -- ---- one value for each key
 
--- A function of keys, changed at one key.
-abbrev pub changed : {A : Type 0} → (List ℕ → A) → List ℕ → A → List ℕ → A
-changed f key x other = if pointwise ◌==◌ key other then x else f other
+-- A function of keys, changed_at at one key.
+abbrev pub changed_at : {A : Type 0} → (List ℕ → A) → List ℕ → A → List ℕ → A
+changed_at f key x other = if pointwise ◌==◌ key other then x else f other
 
 -- ---- forward lists
 
 -- The uses, among these rows and more, of the newest version of a key among these rows; none where
 -- there is none.
-abbrev pub held : List Row → List Row → List ℕ → List Dep
-held rows more key = uses_of (rows ++ more) key (newest rows key)
+abbrev pub open_uses : List Row → List Row → List ℕ → List Dep
+open_uses rows more key = uses_of (rows ++ more) key (newest rows key)
 
 -- Whether a dependency is on a version of the key.
 abbrev pub is_on_key : List ℕ → Dep → Bool
@@ -39,12 +39,12 @@ is_on_key key dep = pointwise ◌==◌ dep.key key
 
 -- The list of a key after these dependencies were added to the lists of their keys, with this version
 -- as what was derived from them.
-abbrev pub used : (List ℕ → List Dep) → Dep → List Dep → List ℕ → List Dep
-used list user deps key = if list_any (is_on_key key) deps then list key ++ user ∷ [] else list key
+abbrev pub list_with_uses : (List ℕ → List Dep) → Dep → List Dep → List ℕ → List Dep
+list_with_uses list user deps key = if list_any (is_on_key key) deps then list key ++ user ∷ [] else list key
 
 -- The list of a key after the dependencies of a row were added.
 abbrev pub used_by_row : (List ℕ → List Dep) → Row → List ℕ → List Dep
-used_by_row list row = used list (version_of row) row.deps
+used_by_row list row = list_with_uses list (version_of row) row.deps
 
 -- The list of a key after the dependencies of these rows were added.
 abbrev pub used_by : (List ℕ → List Dep) → List Row → List ℕ → List Dep
@@ -59,8 +59,8 @@ abbrev pub is_of_key : List ℕ → Row → Bool
 is_of_key key row = pointwise ◌==◌ row.key key
 
 -- The list of a key after these rows closed the lists of their keys.
-abbrev pub settled : (List ℕ → List Dep) → List Row → List ℕ → List Dep
-settled list done key = if list_any (is_of_key key) done then [] else list key
+abbrev pub list_after_rows : (List ℕ → List Dep) → List Row → List ℕ → List Dep
+list_after_rows list done key = if list_any (is_of_key key) done then [] else list key
 
 -- ---- leaves
 
@@ -100,5 +100,5 @@ abbrev pub keys_touched : List Row → List (List ℕ)
 keys_touched new = flat_map keys_of_row new
 
 -- The entry of a key after those of some keys were made new.
-abbrev pub renewed : (List ℕ → Entry) → (List ℕ → Entry) → List (List ℕ) → List ℕ → Entry
-renewed old new done key = if is_among done key then new key else old key
+abbrev pub entry_after : (List ℕ → Entry) → (List ℕ → Entry) → List (List ℕ) → List ℕ → Entry
+entry_after old new done key = if is_among done key then new key else old key

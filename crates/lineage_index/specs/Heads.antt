@@ -11,7 +11,7 @@ use Rattle.root_laws.specs.Root.{sentinel, is_among, keys_of}
 use Rattle.forward_links.specs.declared.open_list.OpenList.{OpenList}
 use Rattle.forward_links.specs.Lists.{open_of}
 use Rattle.forward_links.specs.declared.limits.TheConstants.{MAX_USES}
-use Rattle.lineage_index.specs.Growth.{Entry, leaf_with, entry_of, changed}
+use Rattle.lineage_index.specs.Growth.{Entry, leaf_with, entry_of, changed_at}
 
 -- The leaves of some keys, with an entry for each, and the sentinel before them.
 abbrev pub leaves_with : List (List ℕ) → (List ℕ → Entry) → List Leaf
@@ -70,9 +70,9 @@ pub record AreHeads (tree : List Leaf) (lists : List OpenList) (newest : List �
 abbrev pub with_key_more : KeyStates → List ℕ → ℕ → KeyStates
 with_key_more states key row = record {
   keys = states.keys ++ key ∷ [];
-  entry = changed states.entry key fresh_entry;
-  list = changed states.list key [];
-  index = changed states.index key row;
+  entry = changed_at states.entry key fresh_entry;
+  list = changed_at states.list key [];
+  index = changed_at states.index key row;
 }
 
 -- The same of a key that was there before; its leaf stays.
@@ -80,8 +80,8 @@ abbrev pub with_version_more : KeyStates → List ℕ → ℕ → KeyStates
 with_version_more states key row = record {
   keys = states.keys;
   entry = states.entry;
-  list = changed states.list key [];
-  index = changed states.index key row;
+  list = changed_at states.list key [];
+  index = changed_at states.index key row;
 }
 
 -- After a new version of a key, whose row is the one at this index.

@@ -6,10 +6,10 @@ use Rattle.prov_entry.specs.declared.entry.Leaf.{Leaf}
 use Rattle.entry_store.specs.Entries.{Entry as StoreEntry}
 use Rattle.root_laws.specs.Root.{keys_of}
 use Rattle.state_tree.specs.declared.states.LeafState.{LeafState}
-use Rattle.state_tree.specs.Leaves.{index_of}
+use Rattle.state_tree.specs.Leaves.{index_of, state_of_leaf}
 use Rattle.forward_links.specs.declared.open_list.OpenList.{OpenList}
 use Rattle.forward_links.specs.Lists.{open_of}
-use Rattle.lineage_index.specs.Growth.{Entry, entry_of}
+use Rattle.lineage_index.specs.Growth.{Entry, leaf_with, entry_of}
 use Rattle.lineage_index.specs.Heads.{newest_at, open_list}
 use Rattle.lineage_index.specs.Settling.{IsStoreOf}
 
@@ -30,19 +30,13 @@ IsLeafIndex keys index = (0 < index) × (index ≤ length keys)
 abbrev pub key_at : List (List ℕ) → ℕ → List ℕ
 key_at keys index = slice_index_or keys (index - 1) []
 
--- The entry of a key, as it is told to the leaf at an index.
-abbrev pub told : ℕ → Entry → LeafState
-told index entry = record {
-  index = index;
-  newest_block = entry.newest_block;
-  newest = entry.newest;
-  open_count = entry.open_count;
-  open_digest = entry.open_digest;
-}
+-- What the leaf at an index is to say of its key, which has this entry.
+abbrev pub state_of_entry : List (List ℕ) → ℕ → Entry → LeafState
+state_of_entry keys index entry = state_of_leaf (leaf_with keys (key_at keys index) entry) index
 
 -- What the leaf at an index is to say, by the history.
 abbrev pub state_of : List Row → ℕ → LeafState
-state_of rows index = told index (entry_of rows (key_at (keys_of rows) index))
+state_of rows index = state_of_entry (keys_of rows) index (entry_of rows (key_at (keys_of rows) index))
 
 -- What is kept of the rows of a history, and beside the leaves of its keys.
 pub record AreBesideLeaves (rows : List Row) (lists : List OpenList) (newest : List ℕ) (entries : List StoreEntry) : Type 0 where

@@ -16,12 +16,12 @@ use Rattle.forward_links.specs.declared.open_list.OpenList.{OpenList}
 use Rattle.entry_store.specs.Entries.{Entry as StoreEntry}
 use Rattle.lineage_store.specs.Entries.{entries_of}
 use Rattle.lineage_store.specs.declared.growing.NewVersion.{NewVersion}
-use Rattle.lineage_index.specs.Growth.{Grows, Entry, entry_of, held}
+use Rattle.lineage_index.specs.Growth.{Grows, Entry, entry_of, open_uses}
 use Rattle.lineage_index.specs.Heads.{KeyStates, AreHeads, newest_at}
 
--- The states of the keys of a history, with the uses of these rows behind it.
+-- The states of the keys of a history, with the uses of these rows after it.
 abbrev pub using : List Row → List Row → KeyStates
-using rows new = record { keys = keys_of rows; entry = entry_of rows; list = held rows new; index = newest_at rows }
+using rows new = record { keys = keys_of rows; entry = entry_of rows; list = open_uses rows new; index = newest_at rows }
 
 pub record AreUsing (rows new : List Row) (n : ℕ) (tree : List Leaf) (lists : List OpenList) (newest : List ℕ) : Type 0 where
   pub grows : Grows rows new n

@@ -9,20 +9,20 @@ use Rattle.entry_store.specs.Entries.{Entry as StoreEntry}
 use Rattle.lineage_store.specs.Entries.{entries_of}
 use Rattle.root_laws.specs.Root.{is_among, keys_of}
 use Rattle.forward_links.specs.declared.open_list.OpenList.{OpenList}
-use Rattle.lineage_index.specs.Growth.{Entry, entry_of, settled, renewed}
+use Rattle.lineage_index.specs.Growth.{Entry, entry_of, list_after_rows, entry_after}
 use Rattle.lineage_index.specs.Heads.{KeyStates, AreHeads, fresh_entry, newest_at, open_list}
 
 -- The entry of a key of a history, or that of a key without versions.
 abbrev pub entry_or_fresh : List Row → List ℕ → Entry
 entry_or_fresh rows key = if is_among (keys_of rows) key then entry_of rows key else fresh_entry
 
--- The states of the keys after these rows, behind others, became the newest versions of their keys.
+-- The states of the keys after these rows, after others, became the newest versions of their keys.
 -- The leaves are as before.
 abbrev pub settling : List Row → (List ℕ → List Dep) → List Row → KeyStates
 settling rows list done = record {
   keys = keys_of (rows ++ done);
   entry = entry_or_fresh rows;
-  list = settled list done;
+  list = list_after_rows list done;
   index = newest_at (rows ++ done);
 }
 
@@ -30,7 +30,7 @@ settling rows list done = record {
 abbrev pub renewing : List Row → (List ℕ → Entry) → List (List ℕ) → KeyStates
 renewing rows entry done = record {
   keys = keys_of rows;
-  entry = renewed entry (entry_of rows) done;
+  entry = entry_after entry (entry_of rows) done;
   list = open_list rows;
   index = newest_at rows;
 }

@@ -2,8 +2,7 @@
 
 ghost use Rattle.std.specs.Prelude.{ℕ, List, ◌+◌, ◌++◌, OnOk};
 ghost use Rattle.lc_base.specs.declared.row.Row.{Row};
-ghost use Rattle.lineage_index.specs.Growth.{Grows};
-ghost use Rattle.lineage_index.specs.Blocks.{IsKept};
+ghost use Rattle.lineage_index.specs.{Growth.{Grows}, Blocks.{IsKeptIndex}};
 
 use crate::leaves::renew_leaves;
 use crate::new_entries::add_entries;
@@ -25,9 +24,9 @@ pub(crate) fn advance(
     store: &mut Store,
     new: &[Row],
 ) -> Result<(), Memory>
-    requires { (rows : List Row) × (n : ℕ) × Grows rows new.now n × IsKept rows n tree.old lists.old newest.old.items store.old }
-    ensures { (rows : List Row) (n : ℕ) → Grows rows new.now n → IsKept rows n tree.old lists.old newest.old.items store.old
-        → OnOk result (IsKept (rows ++ new.now) (n + 1) tree.new lists.new newest.new.items store.new) }
+    requires { (rows : List Row) × (n : ℕ) × Grows rows new.now n × IsKeptIndex rows n tree.old lists.old newest.old.items store.old }
+    ensures { (rows : List Row) (n : ℕ) → Grows rows new.now n → IsKeptIndex rows n tree.old lists.old newest.old.items store.old
+        → OnOk result (IsKeptIndex (rows ++ new.now) (n + 1) tree.new lists.new newest.new.items store.new) }
 {
     let first = store.count();
     add_uses(tree, lists, new);

@@ -1,11 +1,12 @@
 //! What is kept of the newest version of each key, by the index of the key among all keys.
 
-ghost use Rattle.std.specs.Prelude.{◌≡◌, ◌<◌, ◌+◌, ◌^◌, false, ℕ, List, length, slice_set, OnOk, IfSome};
+ghost use Rattle.std.specs.Prelude.{◌≡◌, ◌<◌, ◌+◌, ◌^◌, ℕ, List, length, slice_set, OnOk, IfSome};
 ghost use Rattle.lc_base.specs.declared.limits.TheConstants.{MAX_ROWS};
-ghost use Rattle.root_laws.specs.Root.{is_among};
 ghost use Rattle.forward_links.specs.Lists.{emptied_at};
-ghost use Rattle.lineage_index.specs.Growth.{Entry};
-ghost use Rattle.lineage_index.specs.Heads.{leaves_with, IsKeyIndex, KeyStates, AreHeads, with_key_more, with_version};
+ghost use Rattle.lineage_index.specs.{
+  Growth.{Entry},
+  Heads.{leaves_with, IsKeyIndex, KeyStates, AreHeads, with_version},
+};
 
 use forward_links::OpenLists;
 use lc_base::{Key, Memory};
@@ -21,25 +22,6 @@ pub(crate) fn index_of(tree: &Tree, key: &Key) -> Option<u32>
         None => None,
         Some(index) => Some(index - 1),
     }
-}
-
-/// Adds a key, whose newest version is the row at an index.
-fn add_key(
-    tree: &mut Tree,
-    lists: &mut OpenLists,
-    newest: &mut Vec<u32>,
-    key: &Key,
-    row: u32,
-) -> Result<(), Memory>
-    requires room { length newest.old.items < MAX_ROWS }
-    requires heads { (states : KeyStates) × AreHeads tree.old lists.old newest.old.items states × (is_among states.keys key.now ≡ false) }
-    ensures { (states : KeyStates) → AreHeads tree.old lists.old newest.old.items states → is_among states.keys key.now ≡ false
-        → OnOk result (AreHeads tree.new lists.new newest.new.items (with_key_more states key.now row)) }
-{
-    tree.add_key(*key)?;
-    lists.add_key()?;
-    newest.push(row)?;
-    Ok(())
 }
 
 /// Puts the row at an index in the place of the newest version of a key, whose list is closed.
@@ -68,10 +50,12 @@ pub fn set_newest(
         → OnOk result (AreHeads tree.new lists.new newest.new.items (with_version states key.now row)) }
 {
     match index_of(tree, key) {
-        None => add_key(tree, lists, newest, key, row),
-        Some(index) => {
-            replace_newest(lists, newest, index, row);
-            Ok(())
+        None => {
+            tree.add_key(*key)?;
+            lists.add_key()?;
+            newest.push(row)?;
         }
+        Some(index) => replace_newest(lists, newest, index, row),
     }
+    Ok(())
 }

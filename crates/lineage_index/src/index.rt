@@ -1,25 +1,21 @@
 //! The index over the rows of a lineage.
 
 ghost use Rattle.std.specs.Prelude.{◌≡◌, ℕ, ◌<◌, List, [], ◌+◌, ◌++◌, length, slice_get, Some, IfOk, OnOk};
-ghost use Rattle.lc_base.specs.declared.row.Row.{Row};
-ghost use Rattle.lc_base.specs.History.{latest};
+ghost use Rattle.lc_base.specs.{declared.row.Row.{Row}, History.{latest}};
 ghost use Rattle.skip_links.specs.Versions.{newest_index};
 ghost use Rattle.skip_path.specs.Paths.{path};
 ghost use Rattle.rows_index.specs.Places.{IsRowAt};
-ghost use Rattle.root_laws.specs.NamingLaws.{digest_of_row};
-ghost use Rattle.root_laws.specs.Root.{leaves};
-ghost use Rattle.entry_store.specs.Steps.{raised};
-ghost use Rattle.lineage_store.specs.Entries.{entries_of};
-ghost use Rattle.lineage_store.specs.OnPath.{AreEntriesIn};
-ghost use Rattle.lineage_index.specs.Growth.{Grows};
-ghost use Rattle.lineage_index.specs.Blocks.{IsKept};
-ghost use Rattle.lineage_index.specs.Index.{IsIndexOf};
+ghost use Rattle.root_laws.specs.{NamingLaws.{digest_of_row}, Root.{leaves}};
+ghost use Rattle.entry_store.specs.Steps.{raised_count};
+ghost use Rattle.lineage_store.specs.{Entries.{entries_of, IsNewestOf}, OnPath.{AreEntriesIn}};
+ghost use Rattle.lineage_index.specs.{Growth.{Grows}, Blocks.{IsKeptIndex}, Index.{IsIndexOf}};
 
 use crate::advancing::advance;
-use crate::newest_row::{latest_row_of, newest_row_of, path_of};
+use crate::newest_row::{newest_entry_of, newest_row_of};
 use entry_store::{EntryId, EntryList, Steps, Store};
 use forward_links::OpenLists;
 use lc_base::{Digest, Key, Memory, Row};
+use lineage_store::{entries_on_path, latest_entry};
 use state_tree::Tree;
 use std::alloc::Global;
 
@@ -50,7 +46,7 @@ impl LineageIndex {
 
     /// The index of these parts.
     pub fn of_parts(tree: Tree, lists: OpenLists, newest: Vec<u32>, store: Store) -> LineageIndex
-        ensures { (rows : List Row) (n : ℕ) → IsKept rows n tree lists newest.items store → IsIndexOf rows n result }
+        ensures { (rows : List Row) (n : ℕ) → IsKeptIndex rows n tree lists newest.items store → IsIndexOf rows n result }
     {
         LineageIndex {
             tree,
@@ -100,21 +96,25 @@ impl LineageIndex {
         newest_row_of(&self.tree, self.newest.as_slice(), key)
     }
 
+    /// The entry of the newest row of a key.
+    fn newest_entry(&self, key: &Key) -> Option<EntryId>
+        requires { (rows : List Row) × (n : ℕ) × IsIndexOf rows n self.now }
+        ensures { (rows : List Row) (n : ℕ) → IsIndexOf rows n self.now → IsNewestOf rows key.now result self.now.store }
+    {
+        newest_entry_of(&self.tree, self.newest.as_slice(), key)
+    }
+
     /// The index of the last row of a key in a block up to `at`; `None` exactly where there is none. The
     /// count rises by the length of the path, and by 0 for a key without rows.
     pub fn latest_row(&self, key: &Key, at: u32, steps: &mut Steps) -> Option<u32>
         requires { (rows : List Row) × (n : ℕ) × IsIndexOf rows n self.now }
         ensures latest { (rows : List Row) (n : ℕ) → IsIndexOf rows n self.now → IsRowAt rows result (latest rows key.now at) }
-        ensures count { (rows : List Row) (n : ℕ) → IsIndexOf rows n self.now → steps.new ≡ raised steps.old (length (path rows key.now at)) }
+        ensures count { (rows : List Row) (n : ℕ) → IsIndexOf rows n self.now → steps.new ≡ raised_count steps.old (length (path rows key.now at)) }
     {
-        latest_row_of(
-            &self.tree,
-            self.newest.as_slice(),
-            &self.store,
-            key,
-            at,
-            steps,
-        )
+        match latest_entry(&self.store, self.newest_entry(key), at, steps) {
+            None => None,
+            Some(id) => Some(id.0),
+        }
     }
 
     /// The entries of the rows of a key that such a lookup looks at, in this order. The count rises by their
@@ -122,17 +122,10 @@ impl LineageIndex {
     pub fn path(&self, key: &Key, at: u32, steps: &mut Steps) -> Result<EntryList, Memory>
         requires { (rows : List Row) × (n : ℕ) × IsIndexOf rows n self.now }
         ensures path { (rows : List Row) (n : ℕ) → IsIndexOf rows n self.now → IfOk result (AreEntriesIn rows key.now (path rows key.now at)) }
-        ensures count { IfOk result (λ ids. steps.new ≡ raised steps.old (length ids)) }
+        ensures count { IfOk result (λ ids. steps.new ≡ raised_count steps.old (length ids)) }
     {
-        path_of(
-            *self.newest.allocator(),
-            &self.tree,
-            self.newest.as_slice(),
-            &self.store,
-            key,
-            at,
-            steps,
-        )
+        let alloc = *self.newest.allocator();
+        entries_on_path(alloc, &self.store, self.newest_entry(key), at, steps)
     }
 
     /// The digest of the header of the row at an index.

@@ -1,10 +1,14 @@
 //! The indexes of the leaves of the keys that a block touches.
 
-ghost use Rattle.std.specs.Prelude.{◌≡◌, ◌++◌, ◌∷◌, [], map, OnOk, IfOk};
-ghost use Rattle.std.specs.List.Sorted.{IsStrictlyIncreasing};
+ghost use Rattle.std.specs.{
+  Prelude.{◌≡◌, ◌++◌, ◌∷◌, [], map, OnOk, IfOk},
+  List.Sorted.{IsStrictlyIncreasing},
+};
 ghost use Rattle.lc_base.specs.declared.row.Dep.{Dep};
-ghost use Rattle.lineage_index.specs.Growth.{keys_of_row, keys_touched};
-ghost use Rattle.lineage_index.specs.Leaves.{leaf_indexes, HaveSameItems};
+ghost use Rattle.lineage_index.specs.{
+  Growth.{keys_of_row, keys_touched},
+  Leaves.{leaf_indexes, HaveSameItems},
+};
 
 use lc_base::{Dep, Key, Memory, Row};
 use state_tree::Tree;

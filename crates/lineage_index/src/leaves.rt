@@ -1,12 +1,16 @@
 //! The leaves of the keys that a block touches, made anew.
 
-ghost use Rattle.std.specs.Prelude.{◌≡◌, ◌<◌, [], ℕ, List, length, map, slice_get, Some, OnOk, IfOk};
-ghost use Rattle.std.specs.List.{All};
+ghost use Rattle.std.specs.{
+  Prelude.{◌≡◌, ◌<◌, [], ℕ, List, length, map, slice_get, Some, OnOk, IfOk},
+  List.{All},
+};
 ghost use Rattle.lc_base.specs.declared.row.Row.{Row};
 ghost use Rattle.root_laws.specs.Root.{keys_of};
-ghost use Rattle.lineage_index.specs.Growth.{Entry, keys_touched};
-ghost use Rattle.lineage_index.specs.Leaves.{AreBesideLeaves, IsLeafIndex, state_of};
-ghost use Rattle.lineage_index.specs.Settling.{AreRenewing};
+ghost use Rattle.lineage_index.specs.{
+  Growth.{Entry, keys_touched},
+  Leaves.{AreBesideLeaves, IsLeafIndex, state_of},
+  Settling.{AreRenewing},
+};
 
 use crate::indexes::touched_indexes;
 use entry_store::{EntryId, Store};

@@ -1,15 +1,21 @@
 //! The entries of a block's rows.
 
-ghost use Rattle.std.specs.Prelude.{◌≡◌, ◌≤◌, ◌++◌, ◌∷◌, [], ℕ, List, length, map, IfOk, OnOk};
-ghost use Rattle.std.specs.List.{concat};
-ghost use Rattle.lc_base.specs.declared.limits.TheConstants.{MAX_DEPS};
-ghost use Rattle.lc_base.specs.declared.row.Row.{Row};
-ghost use Rattle.lc_base.specs.declared.row.Dep.{Dep};
+ghost use Rattle.std.specs.{
+  Prelude.{◌≡◌, ◌≤◌, ◌++◌, ◌∷◌, [], ℕ, List, length, map, IfOk, OnOk},
+  List.{concat},
+};
+ghost use Rattle.lc_base.specs.{
+  declared.limits.TheConstants.{MAX_DEPS},
+  declared.row.Row.{Row},
+  declared.row.Dep.{Dep},
+};
 ghost use Rattle.prov_entry.specs.Spelling.{body_fields};
 ghost use Rattle.forward_links.specs.Lists.{open_of};
 ghost use Rattle.lineage_store.specs.Entries.{entries_of};
-ghost use Rattle.lineage_index.specs.Heads.{AreLists};
-ghost use Rattle.lineage_index.specs.NewEntries.{AreUsing, IsNextRow, IsVersionOf, newest_in, dep_in, body_in, list_if_among};
+ghost use Rattle.lineage_index.specs.{
+  Heads.{AreLists},
+  NewEntries.{AreUsing, IsNextRow, IsVersionOf, newest_in, dep_in, body_in, list_if_among},
+};
 
 use crate::heads::index_of;
 use crate::newest_row::newest_entry_of;

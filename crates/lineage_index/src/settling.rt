@@ -1,34 +1,17 @@
 //! The rows of a block become the newest versions of their keys.
 
-ghost use Rattle.std.specs.Prelude.{◌≡◌, ◌<◌, ◌≤◌, ◌+◌, ◌++◌, ◌∷◌, [], ℕ, List, length, OnOk};
-ghost use Rattle.lc_base.specs.declared.limits.TheConstants.{MAX_ROWS};
-ghost use Rattle.lc_base.specs.declared.row.Row.{Row};
-ghost use Rattle.lc_base.specs.declared.row.Dep.{Dep};
-ghost use Rattle.lineage_index.specs.Heads.{AreHeads};
-ghost use Rattle.lineage_index.specs.Settling.{settling};
+ghost use Rattle.std.specs.Prelude.{◌≡◌, ◌≤◌, ◌+◌, [], ℕ, List, length, OnOk};
+ghost use Rattle.lc_base.specs.{
+  declared.limits.TheConstants.{MAX_ROWS},
+  declared.row.Row.{Row},
+  declared.row.Dep.{Dep},
+};
+ghost use Rattle.lineage_index.specs.{Heads.{AreHeads}, Settling.{settling}};
 
 use crate::heads::set_newest;
 use forward_links::OpenLists;
 use lc_base::{Memory, Row};
 use state_tree::Tree;
-
-/// Makes the row at an index, behind all rows that were settled, the newest version of its key.
-fn settle_row(
-    tree: &mut Tree,
-    lists: &mut OpenLists,
-    newest: &mut Vec<u32>,
-    row: &Row,
-    index: u32,
-) -> Result<(), Memory>
-    requires room { index < MAX_ROWS }
-    requires settled { (rows : List Row) × (done : List Row) × (list : List ℕ → List Dep)
-        × AreHeads tree.old lists.old newest.old.items (settling rows list done) × (index ≡ length (rows ++ done)) }
-    ensures { (rows done : List Row) (list : List ℕ → List Dep) → AreHeads tree.old lists.old newest.old.items (settling rows list done) → index ≡ length (rows ++ done)
-        → OnOk result (AreHeads tree.new lists.new newest.new.items (settling rows list (done ++ row.now ∷ []))) }
-{
-    set_newest(tree, lists, newest, &row.key, index)?;
-    Ok(())
-}
 
 /// Makes these rows, the first of which has this index, one after another the newest versions of their
 /// keys, and closes the lists of the versions before.
@@ -46,7 +29,7 @@ pub(crate) fn settle_rows(
 {
     let mut index = first;
     for row in new {
-        settle_row(tree, lists, newest, row, index)?;
+        set_newest(tree, lists, newest, &row.key, index)?;
         index += 1;
     }
     Ok(())

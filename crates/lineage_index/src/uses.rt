@@ -1,11 +1,11 @@
 //! The uses of a block's rows, added to the open lists of the keys that they depend on.
 
-ghost use Rattle.std.specs.Prelude.{◌≡◌, ◌++◌, ◌∷◌, [], ℕ, List, length};
-ghost use Rattle.std.specs.List.{All};
-ghost use Rattle.lc_base.specs.declared.row.Dep.{Dep};
-ghost use Rattle.lc_base.specs.declared.row.Row.{Row};
-ghost use Rattle.lineage_index.specs.Growth.{changed, used, used_by_row, used_by, HaveDistinctKeys};
-ghost use Rattle.lineage_index.specs.Heads.{AreLists, HaveRoom};
+ghost use Rattle.std.specs.{Prelude.{◌≡◌, ◌++◌, ◌∷◌, [], ℕ, List, length}, List.{All}};
+ghost use Rattle.lc_base.specs.{declared.row.Dep.{Dep}, declared.row.Row.{Row}};
+ghost use Rattle.lineage_index.specs.{
+  Growth.{changed_at, list_with_uses, used_by_row, used_by, HaveDistinctKeys},
+  Heads.{AreLists, HaveRoom},
+};
 
 use crate::heads::index_of;
 use forward_links::OpenLists;
@@ -16,7 +16,7 @@ use state_tree::Tree;
 fn add_use(tree: &Tree, lists: &mut OpenLists, dep: &Dep, user: &Dep)
     requires { (keys : List (List ℕ)) × (list : List ℕ → List Dep) × AreLists tree.now lists.old keys list × HaveRoom list 0 }
     ensures { (keys : List (List ℕ)) (list : List ℕ → List Dep) → AreLists tree.now lists.old keys list
-        → AreLists tree.now lists.new keys (changed list dep.now.key (list dep.now.key ++ user.now ∷ [])) }
+        → AreLists tree.now lists.new keys (changed_at list dep.now.key (list dep.now.key ++ user.now ∷ [])) }
 {
     match index_of(tree, &dep.key) {
         None => {}
@@ -29,7 +29,7 @@ fn add_use_to_each(tree: &Tree, lists: &mut OpenLists, deps: &[Dep], user: &Dep)
     requires distinct { HaveDistinctKeys deps.now }
     requires lists { (keys : List (List ℕ)) × (list : List ℕ → List Dep) × AreLists tree.now lists.old keys list × HaveRoom list 1 }
     ensures { (keys : List (List ℕ)) (list : List ℕ → List Dep) → AreLists tree.now lists.old keys list
-        → AreLists tree.now lists.new keys (used list user.now deps.now) }
+        → AreLists tree.now lists.new keys (list_with_uses list user.now deps.now) }
 {
     for dep in deps {
         add_use(tree, lists, dep, user);

@@ -1,18 +1,16 @@
 //! The answer to a question over all rows of a lineage.
 
 ghost use Rattle.std.specs.Prelude.{◌≡◌, ◌<◌, true, length, slice_get, Some, IfOk, IsErrOf};
-ghost use Rattle.lc_base.specs.Faults.{HasCause};
-ghost use Rattle.lc_base.specs.History.{answer_about, scan};
-ghost use Rattle.lc_base.specs.declared.row.Row.{Row};
+ghost use Rattle.lc_base.specs.{History.{answer_about, scan}, declared.row.Row.{Row}};
 ghost use Rattle.skip_path.specs.Paths.{path};
-ghost use Rattle.entry_store.specs.Steps.{raised};
-ghost use Rattle.scratch_model.specs.Scratch.{is_told};
-ghost use Rattle.merkle_dag.specs.Lineage.{AgreesWith, StaysSame};
+ghost use Rattle.entry_store.specs.Steps.{raised_count};
+ghost use Rattle.scratch_model.specs.Scratch.{is_known};
+ghost use Rattle.merkle_dag.specs.Lineage.{AgreesWith, LeavesLineage};
 
 use crate::found::Found;
 use entry_store::Steps;
-use lc_base::{Answer, Kind, Query};
-use merkle_dag::{DagError, Lineage};
+use lc_base::{Answer, HostError, Kind, Query};
+use merkle_dag::Lineage;
 use row_bodies::{deps_of_bytes, value_of_bytes};
 use scratch_model::Scratch;
 use std::alloc::Global;
@@ -24,15 +22,14 @@ fn about<S: Scratch>(
     scratch: &mut S,
     index: u32,
     kind: Kind,
-) -> Result<Answer, DagError>
+) -> Result<Answer, HostError>
     requires within { index < length lineage.old.rows }
     requires agrees { AgreesWith lineage.old (S.state scratch.old) }
     ensures answer { (row : Row) → slice_get lineage.old.rows index ≡ Some row
-        → is_told (S.state scratch.old) ≡ true
+        → is_known (S.state scratch.old) ≡ true
         → IfOk result (λ answer. answer ≡ answer_about lineage.old.rows kind row.key row) }
-    ensures same { StaysSame lineage.old (S.state scratch.old) lineage.new (S.state scratch.new) }
-    ensures cause { HasCause (S.scratch_faults scratch.old) (S.scratch_faults scratch.new)
-        (IsErrOf result DagError.Fault) }
+    ensures leaves { LeavesLineage S.state S.scratch_faults lineage.old scratch.old lineage.new
+        scratch.new (IsErrOf result HostError.Fault) }
 {
     match kind {
         Kind::Hist => {
@@ -53,7 +50,7 @@ fn about<S: Scratch>(
     }
 }
 
-/// The answer to a question over all rows of a lineage, by one lookup, where it is told which bytes
+/// The answer to a question over all rows of a lineage, by one lookup, where it is known which bytes
 /// the device holds. The count rises by the number of the versions of the key that are looked at,
 /// also where there is no answer.
 pub fn answer<S: Scratch>(
@@ -62,15 +59,14 @@ pub fn answer<S: Scratch>(
     scratch: &mut S,
     query: &Query,
     steps: &mut Steps,
-) -> Result<Answer, DagError>
+) -> Result<Answer, HostError>
     requires agrees { AgreesWith lineage.old (S.state scratch.old) }
-    ensures answer { is_told (S.state scratch.old) ≡ true
+    ensures answer { is_known (S.state scratch.old) ≡ true
         → IfOk result (λ answer. answer ≡ scan lineage.old.rows query.now) }
-    ensures same { StaysSame lineage.old (S.state scratch.old) lineage.new (S.state scratch.new) }
-    ensures count { steps.new ≡ raised steps.old
+    ensures count { steps.new ≡ raised_count steps.old
         (length (path lineage.old.rows query.now.key query.now.at)) }
-    ensures cause { HasCause (S.scratch_faults scratch.old) (S.scratch_faults scratch.new)
-        (IsErrOf result DagError.Fault) }
+    ensures leaves { LeavesLineage S.state S.scratch_faults lineage.old scratch.old lineage.new
+        scratch.new (IsErrOf result HostError.Fault) }
 {
     match lineage.latest_row(&query.key, query.at, steps) {
         None => Ok(Answer::Nothing),

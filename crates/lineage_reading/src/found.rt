@@ -1,15 +1,13 @@
 //! A version of a key, with its body.
 
 ghost use Rattle.std.specs.Prelude.{◌≡◌, ◌<◌, true, length, slice_get, Some, IfOk, IsErrOf};
-ghost use Rattle.lc_base.specs.Faults.{HasCause};
-ghost use Rattle.lc_base.specs.History.{latest};
-ghost use Rattle.lc_base.specs.declared.row.Row.{Row};
-ghost use Rattle.scratch_model.specs.Scratch.{is_told};
-ghost use Rattle.merkle_dag.specs.Lineage.{AgreesWith, StaysSame};
+ghost use Rattle.lc_base.specs.{History.{latest}, declared.row.Row.{Row}};
+ghost use Rattle.scratch_model.specs.Scratch.{is_known};
+ghost use Rattle.merkle_dag.specs.Lineage.{AgreesWith, LeavesLineage};
 
 use entry_store::{EntryId, Steps};
 use lc_base::{HostError, Key};
-use merkle_dag::{DagError, Lineage};
+use merkle_dag::Lineage;
 use scratch_model::Scratch;
 use std::rc::RcSlice;
 
@@ -30,14 +28,13 @@ impl Found {
         lineage: &mut Lineage,
         scratch: &mut S,
         index: u32,
-    ) -> Result<Found, DagError>
+    ) -> Result<Found, HostError>
         requires within { index < length lineage.old.rows }
         requires agrees { AgreesWith lineage.old (S.state scratch.old) }
         ensures found { (row : Row) → slice_get lineage.old.rows index ≡ Some row
-            → is_told (S.state scratch.old) ≡ true → IfOk result (IsRow row) }
-        ensures same { StaysSame lineage.old (S.state scratch.old) lineage.new (S.state scratch.new) }
-        ensures cause { HasCause (S.scratch_faults scratch.old) (S.scratch_faults scratch.new)
-            (IsErrOf result DagError.Fault) }
+            → is_known (S.state scratch.old) ≡ true → IfOk result (IsRow row) }
+        ensures leaves { LeavesLineage S.state S.scratch_faults lineage.old scratch.old lineage.new
+            scratch.new (IsErrOf result HostError.Fault) }
     {
         // So that the rows are known to be within their types: their bodies can be spelled.
         let _count = lineage.row_count();
@@ -57,19 +54,17 @@ impl Found {
         at: u32,
     ) -> Result<Option<Found>, HostError>
         requires agrees { AgreesWith lineage.old (S.state scratch.old) }
-        ensures found { is_told (S.state scratch.old) ≡ true
+        ensures found { is_known (S.state scratch.old) ≡ true
             → IfOk result (IsFound (latest lineage.old.rows key.now at)) }
-        ensures same { StaysSame lineage.old (S.state scratch.old) lineage.new (S.state scratch.new) }
-        ensures cause { HasCause (S.scratch_faults scratch.old) (S.scratch_faults scratch.new)
-            (IsErrOf result HostError.Fault) }
+        ensures leaves { LeavesLineage S.state S.scratch_faults lineage.old scratch.old lineage.new
+            scratch.new (IsErrOf result HostError.Fault) }
     {
         let mut steps = Steps::new();
         match lineage.latest_row(key, at, &mut steps) {
             None => Ok(None),
             Some(index) => match Found::at(lineage, scratch, index) {
                 Ok(found) => Ok(Some(found)),
-                Err(DagError::Fault) => Err(HostError::Fault),
-                Err(DagError::Memory) => Err(HostError::Memory),
+                Err(error) => Err(error),
             },
         }
     }

@@ -1,15 +1,18 @@
 //! A lineage and the device that keeps its bodies, as the host of contracts that run.
 
-ghost use Rattle.std.specs.Prelude.{◌≡◌, refl};
-ghost use Rattle.std.proofs.Common.{◌∙◌};
-ghost use Rattle.scratch_model.specs.Scratch.{is_told};
-ghost use Rattle.merkle_dag.specs.Lineage.{AgreesWith, StaysSame};
-ghost use Rattle.merkle_dag.specs.Staying.{stays_refl, stays_trans};
-ghost use Rattle.lineage_reading.specs.Telling.{told_rows, stays_told};
+ghost use Rattle.std.{specs.Prelude.{◌≡◌, refl}, proofs.Common.{◌∙◌}};
+ghost use Rattle.scratch_model.specs.Scratch.{is_known};
+ghost use Rattle.merkle_dag.specs.{
+  Lineage.{AgreesWith, StaysSame},
+  Staying.{stays_refl, stays_trans},
+};
+ghost use Rattle.lineage_reading.specs.Telling.{known_rows, stays_known};
 
-use crate::parts::{back_at, back_count, fwd_at, fwd_count, version};
-use lc_base::{Dep, Host, HostError, Key, Version};
+use crate::found::Found;
+use crate::parts::{fwd_at, fwd_count};
+use lc_base::{Dep, Host, HostError, Key, Memory, Version};
 use merkle_dag::Lineage;
+use row_bodies::{dep_count_of_bytes, dep_of_bytes, value_of_bytes};
 use scratch_model::Scratch;
 use std::alloc::Global;
 
@@ -21,7 +24,7 @@ pub struct Reading<'a, S: Scratch> {
 }
 
 impl<'a, S: Scratch> Host for Reading<'a, S> {
-    ghost rows = { λ s. told_rows (is_told (S.state s.scratch.now)) s.lineage.now.rows };
+    ghost rows = { λ s. known_rows (is_known (S.state s.scratch.now)) s.lineage.now.rows };
 
     ghost host_faults = { λ s. S.scratch_faults s.scratch.now };
 
@@ -33,34 +36,37 @@ impl<'a, S: Scratch> Host for Reading<'a, S> {
         × StaysSame s.lineage.now (S.state s.scratch.now) t.lineage.now (S.state t.scratch.now) };
 
     fn hist(&mut self, alloc: Global, key: &Key, at: u32) -> Result<Option<Version>, HostError> {
-        version(alloc, self.lineage, self.scratch, key, at)
+        match Found::latest(self.lineage, self.scratch, key, at) {
+            Ok(None) => Ok(None),
+            Ok(Some(Found { block, tx, body })) => match value_of_bytes(alloc, &body) {
+                Ok(value) => Ok(Some(Version { block, tx, value })),
+                Err(Memory) => Err(HostError::Memory),
+            },
+            Err(error) => Err(error),
+        }
     }
 
-    fn back_count(&mut self, _alloc: Global, key: &Key, at: u32) -> Result<Option<u32>, HostError> {
-        back_count(self.lineage, self.scratch, key, at)
+    fn back_count(&mut self, key: &Key, at: u32) -> Result<Option<u32>, HostError> {
+        match Found::latest(self.lineage, self.scratch, key, at) {
+            Ok(None) => Ok(None),
+            Ok(Some(found)) => Ok(Some(dep_count_of_bytes(&found.body))),
+            Err(error) => Err(error),
+        }
     }
 
-    fn back_at(
-        &mut self,
-        _alloc: Global,
-        key: &Key,
-        at: u32,
-        index: u32,
-    ) -> Result<Option<Dep>, HostError> {
-        back_at(self.lineage, self.scratch, key, at, index)
+    fn back_at(&mut self, key: &Key, at: u32, index: u32) -> Result<Option<Dep>, HostError> {
+        match Found::latest(self.lineage, self.scratch, key, at) {
+            Ok(None) => Ok(None),
+            Ok(Some(found)) => Ok(dep_of_bytes(&found.body, index)),
+            Err(error) => Err(error),
+        }
     }
 
-    fn fwd_count(&mut self, _alloc: Global, key: &Key, at: u32) -> Result<Option<u64>, HostError> {
+    fn fwd_count(&mut self, key: &Key, at: u32) -> Result<Option<u64>, HostError> {
         Ok(fwd_count(self.lineage, key, at))
     }
 
-    fn fwd_at(
-        &mut self,
-        _alloc: Global,
-        key: &Key,
-        at: u32,
-        index: u64,
-    ) -> Result<Option<Dep>, HostError> {
+    fn fwd_at(&mut self, key: &Key, at: u32, index: u64) -> Result<Option<Dep>, HostError> {
         Ok(fwd_at(self.lineage, key, at, index))
     }
 
@@ -75,6 +81,6 @@ impl<'a, S: Scratch> Host for Reading<'a, S> {
 
     ghost same_ready = { λ s t p r. p.2.agrees r };
 
-    ghost same_rows = { λ s t p. stays_told s.lineage.now (S.state s.scratch.now) t.lineage.now
+    ghost same_rows = { λ s t p. stays_known s.lineage.now (S.state s.scratch.now) t.lineage.now
         (S.state t.scratch.now) p.2 };
 }

@@ -8,7 +8,7 @@ use Rattle.skip_path.proofs.Walks.{over_none}
 use Rattle.entry_store.specs.declared.entry.EntryId.{EntryId}
 use Rattle.entry_store.specs.declared.entry.Hop.{Hop}
 use Rattle.entry_store.specs.Entries.{Entry}
-use Rattle.entry_store.specs.Steps.{raised}
+use Rattle.entry_store.specs.Steps.{raised_count}
 use Rattle.skip_list.specs.Towered.{blocks_of, IsTowered, AreVersions}
 use Rattle.skip_list.specs.Lookups.{latest_version}
 use Rattle.skip_list.proofs.Turns.{within}
@@ -49,7 +49,7 @@ none_found rows key at newest entries is none =
     found_latest rows key at None (sym (ap (latest_version at) empty))
 
 pub no_steps : (rows : List Row) (key : List ℕ) (at count : ℕ) (newest : Option EntryId) (entries : List Entry) → IsNewestOf rows key newest entries → newest ≡ None → count < 2 ^ 64
-    → count ≡ raised count (length (path rows key at))
+    → count ≡ raised_count count (length (path rows key at))
 no_steps rows key at count newest entries is none few =
     let empty : versions_of_key rows key ≡ [] = rw none at (versions_are rows key newest entries is) in
     let length_is : length (path rows key at) ≡ 0 =

@@ -14,7 +14,7 @@ use Rattle.skip_path.proofs.Towers.{tower_holds}
 use Rattle.prov_entry.specs.declared.entry.Header.{Header}
 use Rattle.prov_entry.specs.declared.entry.Link.{Link}
 use Rattle.prov_entry.specs.Spelling.{body_fields}
-use Rattle.root_laws.specs.Naming.{closed, digest_of_uses, digest_among, link_among, named_before, header_of, body_of}
+use Rattle.root_laws.specs.Naming.{closed_uses, digest_of_uses, digest_among, link_among, named_before, header_of, body_of}
 use Rattle.root_laws.specs.NamingLaws.{digest_of_row}
 use Rattle.root_laws.proofs.Headers.{row_is_named}
 use Rattle.root_laws.proofs.Lists.{all_contained, all_front, all_both}
@@ -140,14 +140,14 @@ next_back all rows row newest entries version hops next are =
     (links_lead_back rows row (entries_of all rows) (ordered_with all rows row next.after next.lawful next.first) (have_links all rows))
 
 header_is : (all rows : List Row) (row : Row) (after : List Row) → IsLawful all → all ≡ rows ++ row ∷ after
-    → new_header (entries_of all rows) row.key row.block row.tx (links_over row.block (versions_of_key rows row.key)) (length (closed (up_to all row.block) row.key row.block))
-    (digest_of_uses (closed (up_to all row.block) row.key row.block)) (concat (body_fields (body_of all row)))
+    → new_header (entries_of all rows) row.key row.block row.tx (links_over row.block (versions_of_key rows row.key)) (length (closed_uses (up_to all row.block) row.key row.block))
+    (digest_of_uses (closed_uses (up_to all row.block) row.key row.block)) (concat (body_fields (body_of all row)))
     ≡ header_of all row
 header_is all rows row after lawful first = rw (header_links all rows row after rows lawful first (λ index older at. at)) refl
 
 entry_is : (all rows : List Row) (row : Row) (after : List Row) → IsLawful all → all ≡ rows ++ row ∷ after
-    → new_entry (entries_of all rows) row.key row.block row.tx (links_over row.block (versions_of_key rows row.key)) (length (closed (up_to all row.block) row.key row.block))
-    (digest_of_uses (closed (up_to all row.block) row.key row.block)) (concat (body_fields (body_of all row)))
+    → new_entry (entries_of all rows) row.key row.block row.tx (links_over row.block (versions_of_key rows row.key)) (length (closed_uses (up_to all row.block) row.key row.block))
+    (digest_of_uses (closed_uses (up_to all row.block) row.key row.block)) (concat (body_fields (body_of all row)))
     ≡ entry_for all rows row
 entry_is all rows row after lawful first =
     ap (λ (header : Header).
@@ -166,7 +166,7 @@ new_is all rows row newest entries version hops next are =
     let before = entries_of all rows in
     let body = version.body in
     let versions = versions_of_key rows row.key in
-    let uses = closed (up_to all row.block) row.key row.block in
+    let uses = closed_uses (up_to all row.block) row.key row.block in
     ap (λ (es : List Entry). new_entry es version.key version.block version.tx hops version.closed version.closed_digest body) next.entries_are
     ∙ ap (λ (key : List ℕ). new_entry before key version.block version.tx hops version.closed version.closed_digest body) next.key_is
     ∙ ap (λ (block : ℕ). new_entry before row.key block version.tx hops version.closed version.closed_digest body) next.block_is

@@ -92,13 +92,13 @@ lookup_latest rows key at = moved (reverse (reverse rows) ++ []) rows (append-ni
 
 -- ---- the versions before a row are those of the rows before it
 
--- All rows before a row stand before it, and it stands before all behind it.
+-- All rows before a row stand before it, and it stands before all after it.
 pub split_pairs : (before : List Row) (row : Row) (after : List Row) → AllPairs StandsBefore (before ++ row ∷ after)
     → AllByRecursion (λ (other : Row). StandsBefore other row) before × AllByRecursion (λ (other : Row). StandsBefore row other) after
-split_pairs [] row after pairs = (tt, behind after (λ j d l. pairs 0 (suc j) d (omega arith) (omega (arith, l))))
+split_pairs [] row after pairs = (tt, later after (λ j d l. pairs 0 (suc j) d (omega arith) (omega (arith, l))))
   where
-    behind : (others : List Row) → All (λ (other : Row). StandsBefore row other) others → AllByRecursion (λ (other : Row). StandsBefore row other) others
-    behind others all = recursion_from_All (λ (other : Row). StandsBefore row other) others all
+    later : (others : List Row) → All (λ (other : Row). StandsBefore row other) others → AllByRecursion (λ (other : Row). StandsBefore row other) others
+    later others all = recursion_from_All (λ (other : Row). StandsBefore row other) others all
 split_pairs (first ∷ before) row after pairs =
     let deep = split_pairs before row after (λ i j d l k. pairs (suc i) (suc j) d (omega (arith, l)) (omega (arith, k))) in
     let one : StandsBefore first row =
@@ -119,10 +119,10 @@ older_before key row (other ∷ rows) same all =
     lower (inl less) is = less
     lower (inr level) is = absurd (level.2 (is ∙ sym same))
 
-none_behind : (key : List ℕ) (row : Row) (rows : List Row) → AllByRecursion (λ (other : Row). StandsBefore row other) rows → filter (is_older key row.block) rows ≡ []
-none_behind key row [] all = refl
-none_behind key row (other ∷ rows) all =
-    let rest = none_behind key row rows all.1 in
+none_after : (key : List ℕ) (row : Row) (rows : List Row) → AllByRecursion (λ (other : Row). StandsBefore row other) rows → filter (is_older key row.block) rows ≡ []
+none_after key row [] all = refl
+none_after key row (other ∷ rows) all =
+    let rest = none_after key row rows all.1 in
     elim (cases_Bool (pointwise ◌==◌ other.key key)) [
       | inr e ↦ rw e rest
       | inl e ↦ rw (e, le-ltb other.block row.block (above all.0)) rest
@@ -148,7 +148,7 @@ older_are_before before row after ordered =
     ap (map (λ (r : Row). r.block)) (
     ap (filter test) (reverse-append before (row ∷ after) ∙ ap (λ (rs : List Row). rs ++ reverse before) (reverse-append (row ∷ []) after))
     ∙ filter-append test (reverse after ++ row ∷ []) (reverse before)
-    ∙ ap (λ (rs : List Row). rs ++ filter test (reverse before)) (filter-append test (reverse after) (row ∷ []) ∙ ap (λ (rs : List Row). rs ++ filter test (row ∷ [])) (none_behind row.key row (reverse after) (all_reversed (λ (other : Row). StandsBefore row other) after pairs.1)) ∙ itself)
+    ∙ ap (λ (rs : List Row). rs ++ filter test (reverse before)) (filter-append test (reverse after) (row ∷ []) ∙ ap (λ (rs : List Row). rs ++ filter test (row ∷ [])) (none_after row.key row (reverse after) (all_reversed (λ (other : Row). StandsBefore row other) after pairs.1)) ∙ itself)
     ∙ older_before row.key row (reverse before) refl (all_reversed (λ (other : Row). StandsBefore other row) before pairs.0))
   where
     itself : filter (is_older row.key row.block) (row ∷ []) ≡ []

@@ -4,7 +4,7 @@ use Rattle.std.specs.List.{concat}
 use Rattle.lc_base.specs.declared.row.Row.{Row}
 use Rattle.lc_base.specs.History.{IsLawful, up_to}
 use Rattle.prov_entry.specs.Spelling.{body_fields}
-use Rattle.root_laws.specs.Naming.{closed, digest_of_uses, body_of}
+use Rattle.root_laws.specs.Naming.{closed_uses, digest_of_uses, body_of}
 use Rattle.entry_store.specs.declared.entry.EntryId.{EntryId}
 use Rattle.entry_store.specs.Entries.{Entry}
 use Rattle.lineage_store.specs.declared.growing.NewVersion.{NewVersion}
@@ -12,7 +12,7 @@ use Rattle.lineage_store.specs.Versions.{newest_entry}
 use Rattle.lineage_store.specs.Entries.{entries_of}
 
 -- The entries are those of the first rows of a lawful history, which has all rows of the block at work;
--- the next of its rows comes behind them, this is its version, and `newest` is the entry of the newest
+-- the next of its rows comes after them, this is its version, and `newest` is the entry of the newest
 -- version of its key.
 pub record IsNextVersion (all rows : List Row) (row : Row) (newest : Option EntryId) (entries : List Entry) (version : NewVersion) : Type 0 where
   pub lawful : IsLawful all
@@ -23,6 +23,6 @@ pub record IsNextVersion (all rows : List Row) (row : Row) (newest : Option Entr
   pub key_is : version.key ≡ row.key
   pub block_is : version.block ≡ row.block
   pub tx_is : version.tx ≡ row.tx
-  pub closed_is : version.closed ≡ length (closed (up_to all row.block) row.key row.block)
-  pub closed_digest_is : version.closed_digest ≡ digest_of_uses (closed (up_to all row.block) row.key row.block)
+  pub closed_is : version.closed ≡ length (closed_uses (up_to all row.block) row.key row.block)
+  pub closed_digest_is : version.closed_digest ≡ digest_of_uses (closed_uses (up_to all row.block) row.key row.block)
   pub body_is : version.body ≡ concat (body_fields (body_of all row))

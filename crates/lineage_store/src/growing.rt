@@ -4,8 +4,7 @@ ghost use Rattle.std.specs.Prelude.{◌≡◌, ◌≤◌, ◌+◌, ◌++◌, ◌
 ghost use Rattle.lc_base.specs.declared.row.Row.{Row};
 ghost use Rattle.skip_path.specs.Paths.{binary_digits};
 ghost use Rattle.entry_store.specs.declared.entry.EntryId.{EntryId};
-ghost use Rattle.lineage_store.specs.Entries.{entries_of};
-ghost use Rattle.lineage_store.specs.Growing.{IsNextVersion};
+ghost use Rattle.lineage_store.specs.{Entries.{entries_of}, Growing.{IsNextVersion}};
 
 use entry_store::{EntryId, Steps, Store};
 use lc_base::{Bytes, Digest, Key, Memory};

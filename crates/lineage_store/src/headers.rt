@@ -1,13 +1,13 @@
 //! The headers of entries, made again.
 
-ghost use Rattle.std.specs.Prelude.{◌≡◌, ◌<◌, List, length, Some, slice_get, IfOk};
-ghost use Rattle.std.specs.Option.{option_map};
-ghost use Rattle.lc_base.specs.declared.row.Row.{Row};
-ghost use Rattle.lc_base.specs.History.{IsLawful};
+ghost use Rattle.std.specs.{
+  Prelude.{◌≡◌, ◌<◌, List, length, Some, slice_get, IfOk},
+  Option.{option_map},
+};
+ghost use Rattle.lc_base.specs.{declared.row.Row.{Row}, History.{IsLawful}};
 ghost use Rattle.root_laws.specs.Naming.{header_of};
-ghost use Rattle.entry_store.specs.Steps.{raised};
-ghost use Rattle.lineage_store.specs.Entries.{entries_of};
-ghost use Rattle.lineage_store.specs.Headers.{header_made};
+ghost use Rattle.entry_store.specs.Steps.{raised_count};
+ghost use Rattle.lineage_store.specs.{Entries.{entries_of}, Headers.{header_made}};
 
 use entry_store::{EntryId, Steps, Store};
 use lc_base::Memory;
@@ -25,7 +25,7 @@ pub fn entry_header(
     requires { id.0 < length store.now }
     ensures made { IfOk result (λ header. option_map (header_made store.now) (slice_get store.now id.0) ≡ Some header) }
     ensures row { (rows : List Row) (row : Row) → IsLawful rows → store.now ≡ entries_of rows rows → slice_get rows id.0 ≡ Some row → IfOk result (λ header. header ≡ header_of rows row) }
-    ensures step { steps.new ≡ raised steps.old 1 }
+    ensures step { steps.new ≡ raised_count steps.old 1 }
 {
     let facts = store.facts(id);
     let hops = store.entry(id, steps).hops.as_slice();

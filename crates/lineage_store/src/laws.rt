@@ -1,24 +1,29 @@
 //! Laws of the entries of a history, each the contract of a function that does nothing.
 
-ghost use Rattle.std.specs.Prelude.{◌≡◌, ◌≢◌, ◌<◌, ◌≤◌, ℕ, List, ◌∷◌, ◌++◌, length, map, take, None, slice_get, MatchOption};
-ghost use Rattle.std.specs.List.{All};
-ghost use Rattle.std.specs.Option.{option_map};
-ghost use Rattle.lc_base.specs.declared.row.Row.{Row};
-ghost use Rattle.lc_base.specs.History.{IsLawful, latest};
-ghost use Rattle.skip_links.specs.Links.{links};
-ghost use Rattle.skip_links.specs.Versions.{newest_index};
+ghost use Rattle.std.specs.{
+  Prelude.{◌≡◌, ◌≢◌, ◌<◌, ◌≤◌, ℕ, List, ◌∷◌, ◌++◌, length, map, take, None, slice_get, MatchOption},
+  List.{All},
+  Option.{option_map},
+};
+ghost use Rattle.lc_base.specs.{declared.row.Row.{Row}, History.{IsLawful, latest}};
+ghost use Rattle.skip_links.specs.{Links.{links}, Versions.{newest_index}};
 ghost use Rattle.skip_path.specs.Paths.{path, path_over};
 ghost use Rattle.prov_entry.specs.Spelling.{IsBody};
-ghost use Rattle.root_laws.specs.Naming.{header_of, body_of};
-ghost use Rattle.root_laws.specs.NamingLaws.{digest_of_row};
-ghost use Rattle.root_laws.specs.GrowthLaws.{AreFrom};
-ghost use Rattle.entry_store.specs.declared.entry.EntryId.{EntryId};
-ghost use Rattle.entry_store.specs.Entries.{Entry, named_link};
-ghost use Rattle.skip_list.specs.Towered.{blocks_of, links_over, AreVersions};
-ghost use Rattle.skip_list.specs.Lookups.{latest_version};
-ghost use Rattle.lineage_store.specs.Versions.{versions_of_key, newest_entry};
-ghost use Rattle.lineage_store.specs.Entries.{entries_of};
-ghost use Rattle.lineage_store.specs.ReadBack.{rows_read};
+ghost use Rattle.root_laws.specs.{
+  Naming.{header_of, body_of},
+  NamingLaws.{digest_of_row},
+  GrowthLaws.{AreFrom},
+};
+ghost use Rattle.entry_store.specs.{declared.entry.EntryId.{EntryId}, Entries.{Entry, named_link}};
+ghost use Rattle.skip_list.specs.{
+  Towered.{blocks_of, links_over, AreVersions},
+  Lookups.{latest_version},
+};
+ghost use Rattle.lineage_store.specs.{
+  Versions.{versions_of_key, newest_entry},
+  Entries.{entries_of},
+  ReadBack.{rows_read},
+};
 
 // ---- lookups
 
@@ -86,7 +91,7 @@ pub fn rows_are_read_back()
 
 // ---- histories that grow
 
-/// With rows of other keys behind them the versions of a key stay.
+/// With rows of other keys after them the versions of a key stay.
 pub fn versions_stay_where_other_keys_are_added()
     ensures { (rows more : List Row) (key : List ℕ) → All (λ (row : Row). row.key ≢ key) more → versions_of_key (rows ++ more) key ≡ versions_of_key rows key }
 {}

@@ -1,13 +1,10 @@
 //! Lookups over the entries of a history.
 
 ghost use Rattle.std.specs.Prelude.{◌≡◌, ◌<◌, ℕ, List, length, None, slice_get, IfOk, MatchOption};
-ghost use Rattle.lc_base.specs.declared.row.Row.{Row};
-ghost use Rattle.lc_base.specs.History.{latest};
+ghost use Rattle.lc_base.specs.{declared.row.Row.{Row}, History.{latest}};
 ghost use Rattle.skip_path.specs.Paths.{path};
-ghost use Rattle.entry_store.specs.declared.entry.EntryId.{EntryId};
-ghost use Rattle.entry_store.specs.Steps.{raised};
-ghost use Rattle.lineage_store.specs.Entries.{IsNewestOf};
-ghost use Rattle.lineage_store.specs.OnPath.{AreEntriesIn};
+ghost use Rattle.entry_store.specs.{declared.entry.EntryId.{EntryId}, Steps.{raised_count}};
+ghost use Rattle.lineage_store.specs.{Entries.{IsNewestOf}, OnPath.{AreEntriesIn}};
 
 use entry_store::{EntryId, EntryList, Steps, Store};
 use lc_base::Memory;
@@ -26,7 +23,7 @@ pub fn latest_entry(
     requires { (rows : List Row) × (key : List ℕ) × IsNewestOf rows key newest store.now }
     ensures latest { (rows : List Row) (key : List ℕ) → IsNewestOf rows key newest store.now
         → MatchOption result (latest rows key at ≡ None) (λ (id : EntryId). (id.0 < length rows) × (slice_get rows id.0 ≡ latest rows key at)) }
-    ensures count { (rows : List Row) (key : List ℕ) → IsNewestOf rows key newest store.now → steps.new ≡ raised steps.old (length (path rows key at)) }
+    ensures count { (rows : List Row) (key : List ℕ) → IsNewestOf rows key newest store.now → steps.new ≡ raised_count steps.old (length (path rows key at)) }
 {
     // So that the count is known to be one that a u64 has.
     let _count = steps.count();
@@ -47,7 +44,7 @@ pub fn entries_on_path(
 ) -> Result<EntryList, Memory>
     requires { (rows : List Row) × (key : List ℕ) × IsNewestOf rows key newest store.now }
     ensures path { (rows : List Row) (key : List ℕ) → IsNewestOf rows key newest store.now → IfOk result (AreEntriesIn rows key (path rows key at)) }
-    ensures count { IfOk result (λ ids. steps.new ≡ raised steps.old (length ids)) }
+    ensures count { IfOk result (λ ids. steps.new ≡ raised_count steps.old (length ids)) }
 {
     // So that the count is known to be one that a u64 has.
     let _count = steps.count();

@@ -24,13 +24,13 @@ use Rattle.lineage_store.specs.Entries.{entries_of}
 use Rattle.lineage_store.proofs.Entries.{as_many, earlier_entries}
 use Rattle.lineage_index.specs.Index.{IsIndexOf}
 use Rattle.lineage_index.specs.declared.index.LineageIndex.{LineageIndex}
-use Rattle.merkle_dag.specs.Kept.{Keeps}
+use Rattle.merkle_dag.specs.Kept.{KeepsLineage}
 use Rattle.merkle_dag.specs.Ledger.{roots_of}
 use Rattle.merkle_dag.proofs.LedgerSteps.{map_on_range}
 
 -- ---- rows
 
--- the rows behind those of the blocks up to one are of later blocks
+-- the rows after those of the blocks up to one are of later blocks
 record AreParted (rows : List Row) (at : ℕ) : Type 0 where
   more : List Row
   parted : rows ≡ up_to rows at ++ more
@@ -123,7 +123,7 @@ as_many_roots rows digests roots are =
 
 module _ (rows : List Row) (index first : LineageIndex) (uses first_uses : RowsIndex)
     (bodies first_bodies : BodiesState) (digests roots : List Digest) (at count : ℕ)
-    (keeps : Keeps rows index uses bodies digests roots) (within : at < length digests)
+    (keeps : KeepsLineage rows index uses bodies digests roots) (within : at < length digests)
     (is : IsIndexOf (up_to rows at) (at + 1) first)
     (count_is : count ≡ length (entries_of (up_to rows at) (up_to rows at))) where
   pub count_within : count ≤ length bodies.kept
@@ -147,7 +147,7 @@ module _ (rows : List Row) (index first : LineageIndex) (uses first_uses : RowsI
 
   pub first_keeps : IsUsesIndexOf (up_to rows at) first_uses
       → first_bodies.kept ≡ take count bodies.kept
-      → Keeps (up_to rows at) first first_uses first_bodies (take (at + 1) digests)
+      → KeepsLineage (up_to rows at) first first_uses first_bodies (take (at + 1) digests)
       (take (at + 1) roots)
   first_keeps users front =
       let long : length (take (at + 1) digests) ≡ at + 1 = length-take-le (at + 1) digests

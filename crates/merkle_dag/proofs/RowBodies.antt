@@ -24,7 +24,7 @@ use Rattle.lineage_index.specs.Growth.{Grows}
 use Rattle.typed_ledger.specs.TypedLedger.{IsTypedRow}
 use Rattle.typed_ledger.proofs.Spellings.{bodies_spelled}
 use Rattle.merkle_dag.specs.Adding.{bytes_of}
-use Rattle.merkle_dag.specs.Kept.{rows_kept, Keeps}
+use Rattle.merkle_dag.specs.Kept.{rows_kept, KeepsLineage}
 use Rattle.merkle_dag.proofs.Keeping.{ledger_none, roots_none}
 
 -- ---- no rows
@@ -40,7 +40,7 @@ rows_none index is = ap rows_read (is.store.entries_are ∙ no_entries)
 pub keeps_none : (index : LineageIndex) (uses : RowsIndex) (bodies : BodiesState)
     (digests roots : List Digest) → IsIndexOf [] 0 index → IsUsesIndexOf [] uses
     → bodies.kept ≡ [] → digests ≡ [] → roots ≡ []
-    → Keeps (rows_kept index) index uses bodies digests roots
+    → KeepsLineage (rows_kept index) index uses bodies digests roots
 keeps_none index uses bodies digests roots is users none no_digests no_roots = rw
     (rows_none index is, no_digests, no_roots) (record {
       ledger = ledger_none;
@@ -58,8 +58,8 @@ keeps_none index uses bodies digests roots is users none no_digests no_roots = r
 pub keeps_at : (rows others : List Row) (index : LineageIndex) (uses : RowsIndex)
     (bodies : BodiesState) (digests digests_after roots roots_after : List Digest)
     → others ≡ rows → digests_after ≡ digests → roots_after ≡ roots
-    → Keeps rows index uses bodies digests roots
-    → Keeps others index uses bodies digests_after roots_after
+    → KeepsLineage rows index uses bodies digests roots
+    → KeepsLineage others index uses bodies digests_after roots_after
 keeps_at rows others index uses bodies digests digests_after roots roots_after same same_digests
     same_roots keeps = rw (same, same_digests, same_roots) keeps
 

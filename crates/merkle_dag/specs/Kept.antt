@@ -20,7 +20,7 @@ rows_kept index = rows_read index.store
 
 -- Rows and digests of a ledger, within their types; the index over the rows, which rows were
 -- derived from which, the bodies of the entries, one after another, and the roots of all blocks.
-pub record Keeps (rows : List Row) (index : LineageIndex) (uses : RowsIndex) (bodies : BodiesState)
+pub record KeepsLineage (rows : List Row) (index : LineageIndex) (uses : RowsIndex) (bodies : BodiesState)
     (digests roots : List Digest) : Type 0 where
   pub ledger : IsLedger rows digests
   pub typed : All IsTypedRow rows
@@ -32,5 +32,5 @@ pub record Keeps (rows : List Row) (index : LineageIndex) (uses : RowsIndex) (bo
 
 -- All parts belong together.
 abbrev pub IsWhole : Kept → Type 0
-IsWhole kept = Keeps (rows_kept kept.index) kept.index kept.uses kept.bodies kept.digests.items
+IsWhole kept = KeepsLineage (rows_kept kept.index) kept.index kept.uses kept.bodies kept.digests.items
     kept.roots.items

@@ -1,5 +1,6 @@
 -- A lineage, as contracts see it, and the scratch device that keeps its bodies.
-use Rattle.std.specs.Prelude.{◌≡◌, List}
+use Rattle.std.specs.Prelude.{◌≡◌, ℕ, List}
+use Rattle.lc_base.specs.Faults.{HasCause}
 use Rattle.lc_base.specs.declared.digest.Digest.{Digest}
 use Rattle.lc_base.specs.declared.row.Row.{Row}
 use Rattle.scratch_model.specs.Scratch.{ScratchState, Retains}
@@ -18,7 +19,7 @@ pub record LineageState : Type 0 where
 abbrev pub ledger_in : LineageState → Ledger
 ledger_in lineage = record { rows = lineage.rows; digests = lineage.digests }
 
--- The device keeps the bodies; where it is told which bytes it holds, those at hand are the same.
+-- The device keeps the bodies; where it is known which bytes it holds, those at hand are the same.
 abbrev pub AgreesWith : LineageState → ScratchState → Type 0
 AgreesWith lineage scratch = Agrees lineage.bodies scratch
 
@@ -30,6 +31,14 @@ pub record StaysSame (old : LineageState) (before : ScratchState) (new : Lineage
   pub digests : new.digests ≡ old.digests
   pub agrees : AgreesWith old before → AgreesWith new after
   pub retains : Retains before after
+
+-- A lineage that a call was lent together with its device: it stays the same, and the device is
+-- blamed exactly where its count of faults rose.
+pub record LeavesLineage {S : Type 0} (state : S → ScratchState) (faults : S → ℕ)
+    (old : LineageState) (before : S) (new : LineageState) (after : S) (Blames : Type 0) :
+    Type 0 where
+  pub same : StaysSame old (state before) new (state after)
+  pub cause : HasCause (faults before) (faults after) Blames
 
 -- These say where a row stands: its key, its block and its transaction.
 pub record AreFactsOf (row : Row) (facts : Facts) : Type 0 where

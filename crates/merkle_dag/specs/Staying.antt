@@ -1,11 +1,21 @@
--- What stays of a lineage over several calls.
+-- What stays of a lineage over calls.
 use Rattle.std.proofs.Common.{refl, ◌∙◌}
-use Rattle.scratch_model.specs.Scratch.{ScratchState}
+use Rattle.scratch_model.specs.Scratch.{ScratchState, Retains}
 use Rattle.scratch_model.proofs.Retaining.{retains_refl, retains_trans}
+use Rattle.body_store.proofs.Agreeing.{agrees_on}
 use Rattle.merkle_dag.specs.Lineage.{LineageState, StaysSame}
 
 pub stays_refl : (l : LineageState) (s : ScratchState) → StaysSame l s l s
 stays_refl l s = record { rows = refl; digests = refl; agrees = λ a. a; retains = retains_refl s }
+
+-- A call that is lent the device alone leaves each lineage the same.
+pub stays_beside : (l : LineageState) (s t : ScratchState) → Retains s t → StaysSame l s l t
+stays_beside l s t retains = record {
+  rows = refl;
+  digests = refl;
+  agrees = agrees_on l.bodies s t retains;
+  retains = retains;
+}
 
 pub stays_trans : (k : LineageState) (r : ScratchState) (l : LineageState) (s : ScratchState)
     (m : LineageState) (t : ScratchState)

@@ -1,30 +1,30 @@
 //! The rows of a block are added one after another: what each was derived from, and its body.
 
-ghost use Rattle.std.specs.Prelude.{◌≡◌, ◌+◌, ◌≤◌, ◌<◌, ◌++◌, ◌∷◌, [], ℕ, List, length, map, OnOk};
-ghost use Rattle.std.specs.Prelude.{IsErrOf};
-ghost use Rattle.std.specs.List.{All};
-ghost use Rattle.lc_base.specs.Faults.{HasCause};
-ghost use Rattle.lc_base.specs.declared.limits.TheConstants.{MAX_ROWS};
-ghost use Rattle.lc_base.specs.declared.row.Row.{Row};
+ghost use Rattle.std.specs.{
+  Prelude.{◌≡◌, ◌+◌, ◌≤◌, ◌<◌, ◌++◌, ◌∷◌, [], ℕ, List, length, map, OnOk, IsErrOf},
+  List.{All},
+};
+ghost use Rattle.lc_base.specs.{
+  Faults.{HasCause},
+  declared.limits.TheConstants.{MAX_ROWS},
+  declared.row.Row.{Row},
+  declared.host_error.HostError.TheVariants.{Fault},
+};
 ghost use Rattle.scratch_model.specs.Scratch.{Retains};
-ghost use Rattle.body_store.specs.Bodies.{bodies_in};
-ghost use Rattle.body_store.specs.Agreement.{Agrees};
+ghost use Rattle.body_store.specs.{Bodies.{bodies_in}, Agreement.{Agrees}};
 ghost use Rattle.rows_index.specs.Index.{IsIndexOf as IsUsesIndexOf};
 ghost use Rattle.typed_ledger.specs.TypedLedger.{IsTypedRow};
 ghost use Rattle.lineage_index.specs.Index.{IsIndexOf};
 ghost use Rattle.merkle_dag.specs.Adding.{IsNextRow, bytes_of};
-ghost use Rattle.merkle_dag.specs.declared.error.DagError.TheVariants.{Fault};
 
-use crate::bodies::push_body;
-use crate::error::DagError;
-use crate::typed::check_row;
 use body_store::Bodies;
-use lc_base::Row;
+use lc_base::{HostError, Row};
 use lineage_entries::body_bytes;
 use lineage_index::LineageIndex;
 use rows_index::RowsIndex;
 use scratch_model::Scratch;
 use std::alloc::Global;
+use typed_ledger::check_row;
 
 /// Adds the next row of a history, over which the index is.
 fn add_row<S: Scratch>(
@@ -34,7 +34,7 @@ fn add_row<S: Scratch>(
     bodies: &mut Bodies,
     scratch: &mut S,
     row: &Row,
-) -> Result<(), DagError>
+) -> Result<(), HostError>
     requires next { (all : List Row) × (before : List Row)
         × IsNextRow all before row.now index.now uses.old }
     requires room { length bodies.old.kept < MAX_ROWS }
@@ -52,7 +52,10 @@ fn add_row<S: Scratch>(
     check_row(row);
     let deps = uses.add(row)?;
     let body = body_bytes(alloc, index, row, deps.as_slice())?;
-    push_body(bodies, scratch, body)
+    match bodies.push(scratch, body) {
+        Ok(()) => Ok(()),
+        Err(error) => Err(error),
+    }
 }
 
 /// Adds the rows of the last block of a history, over which the index is. On an error only some of
@@ -64,7 +67,7 @@ pub(crate) fn add_rows<S: Scratch>(
     bodies: &mut Bodies,
     scratch: &mut S,
     new: &[Row],
-) -> Result<(), DagError>
+) -> Result<(), HostError>
     requires rows { (rows : List Row) × (blocks : ℕ) × IsIndexOf (rows ++ new.now) blocks index.now
         × IsUsesIndexOf rows uses.old }
     requires room { length bodies.old.kept + length new.now ≤ MAX_ROWS }

@@ -1,17 +1,18 @@
-//! The bodies of rows.
+//! The body of a row.
 
-ghost use Rattle.std.specs.Prelude.{◌≡◌, ◌<◌, ◌++◌, ◌∷◌, [], true, length, Some, IfOk, OnOk};
-ghost use Rattle.std.specs.Prelude.{IsErrOf};
-ghost use Rattle.std.specs.Rc.{rc_slice_items};
-ghost use Rattle.lc_base.specs.Faults.{HasCause};
-ghost use Rattle.lc_base.specs.declared.limits.TheConstants.{MAX_ROWS};
-ghost use Rattle.scratch_model.specs.Scratch.{is_told, Retains};
-ghost use Rattle.body_store.specs.Bodies.{bodies_in, body_at_index};
-ghost use Rattle.body_store.specs.Agreement.{Agrees};
-ghost use Rattle.merkle_dag.specs.declared.error.DagError.TheVariants.{Fault};
+ghost use Rattle.std.specs.{
+  Prelude.{◌≡◌, ◌<◌, true, length, Some, IfOk, IsErrOf},
+  Rc.{rc_slice_items},
+};
+ghost use Rattle.lc_base.specs.{
+  Faults.{HasCause},
+  declared.host_error.HostError.TheVariants.{Fault},
+};
+ghost use Rattle.scratch_model.specs.Scratch.{is_known, Retains};
+ghost use Rattle.body_store.specs.{Bodies.{body_at_index}, Agreement.{Agrees}};
 
-use crate::error::DagError;
-use body_store::{Bodies, StoreError};
+use body_store::Bodies;
+use lc_base::HostError;
 use scratch_model::Scratch;
 use std::rc::RcSlice;
 
@@ -20,11 +21,11 @@ pub(crate) fn body_at<S: Scratch>(
     bodies: &mut Bodies,
     scratch: &mut S,
     index: u32,
-) -> Result<RcSlice<u8>, DagError>
+) -> Result<RcSlice<u8>, HostError>
     requires within { index < length bodies.old.kept }
     requires agrees { Agrees bodies.old (S.state scratch.old) }
     ensures body { IfOk result
-        (λ body. is_told (S.state scratch.old) ≡ true
+        (λ body. is_known (S.state scratch.old) ≡ true
         → body_at_index bodies.old index ≡ Some (rc_slice_items body)) }
     ensures kept { bodies.new.kept ≡ bodies.old.kept }
     ensures agrees { Agrees bodies.new (S.state scratch.new) }
@@ -34,29 +35,6 @@ pub(crate) fn body_at<S: Scratch>(
 {
     match bodies.body(scratch, index) {
         Ok(body) => Ok(body),
-        Err(StoreError::Fault) => Err(DagError::Fault),
-        Err(StoreError::Memory) => Err(DagError::Memory),
-    }
-}
-
-/// Appends a body, which the device is to keep.
-pub(crate) fn push_body<S: Scratch>(
-    bodies: &mut Bodies,
-    scratch: &mut S,
-    body: RcSlice<u8>,
-) -> Result<(), DagError>
-    requires room { length bodies.old.kept < MAX_ROWS }
-    requires agrees { Agrees bodies.old (S.state scratch.old) }
-    ensures pushed { OnOk result
-        (bodies_in bodies.new ≡ bodies_in bodies.old ++ rc_slice_items body ∷ []) }
-    ensures agrees { Agrees bodies.new (S.state scratch.new) }
-    ensures retains { Retains (S.state scratch.old) (S.state scratch.new) }
-    ensures cause { HasCause (S.scratch_faults scratch.old) (S.scratch_faults scratch.new)
-        (IsErrOf result Fault) }
-{
-    match bodies.push(scratch, body) {
-        Ok(()) => Ok(()),
-        Err(StoreError::Fault) => Err(DagError::Fault),
-        Err(StoreError::Memory) => Err(DagError::Memory),
+        Err(error) => Err(error),
     }
 }

@@ -1,22 +1,27 @@
 //! All that a lineage keeps, and how a block is added to it.
 
-ghost use Rattle.std.specs.Prelude.{◌≡◌, ◌<◌, ◌++◌, ◌∷◌, [], length, IfOk, OnOk, IsErrOf};
-ghost use Rattle.std.specs.List.{All};
-ghost use Rattle.lc_base.specs.Faults.{HasCause};
-ghost use Rattle.lc_base.specs.History.{IsLawful};
-ghost use Rattle.lc_base.specs.declared.row.Row.{Row};
+ghost use Rattle.std.specs.{
+  Prelude.{◌≡◌, ◌<◌, ◌++◌, ◌∷◌, [], length, IfOk, OnOk, IsErrOf},
+  List.{All},
+};
+ghost use Rattle.lc_base.specs.{
+  Faults.{HasCause},
+  History.{IsLawful},
+  declared.row.Row.{Row},
+  declared.host_error.HostError.TheVariants.{Fault},
+};
 ghost use Rattle.scratch_model.specs.Scratch.{Retains};
 ghost use Rattle.body_store.specs.Agreement.{Agrees};
 ghost use Rattle.root_laws.specs.Root.{root_of};
-ghost use Rattle.merkle_dag.specs.declared.error.DagError.TheVariants.{Fault};
-ghost use Rattle.merkle_dag.specs.declared.limits.TheConstants.{MAX_LINEAGE_BLOCKS};
-ghost use Rattle.merkle_dag.specs.Kept.{IsWhole, rows_kept};
+ghost use Rattle.merkle_dag.specs.{
+  declared.limits.TheConstants.{MAX_LINEAGE_BLOCKS},
+  Kept.{IsWhole, rows_kept},
+};
 
 use crate::adding::add_rows;
-use crate::error::DagError;
 use crate::root::root_of_tree;
 use body_store::Bodies;
-use lc_base::{Digest, RowList};
+use lc_base::{Digest, HostError, RowList};
 use lineage_index::LineageIndex;
 use rows_index::RowsIndex;
 use scratch_model::Scratch;
@@ -47,7 +52,7 @@ pub(crate) fn grow<S: Scratch>(
     number: u32,
     digest: Digest,
     new: &RowList,
-) -> Result<Digest, DagError>
+) -> Result<Digest, HostError>
     requires whole { IsWhole kept.old }
     requires next { number ≡ length kept.old.digests.items }
     requires low { number < MAX_LINEAGE_BLOCKS }

@@ -4,15 +4,12 @@
 
 mod adding;
 mod bodies;
-mod error;
 mod kept;
 mod limits;
 mod lineage;
 mod rewinding;
 mod root;
-mod typed;
 mod uses;
 
-pub use error::DagError;
 pub use limits::MAX_LINEAGE_BLOCKS;
 pub use lineage::Lineage;

@@ -1,35 +1,40 @@
 //! The lineage of a ledger.
 
-ghost use Rattle.std.specs.Prelude.{◌≡◌, ◌≤◌, ◌<◌, ◌+◌, ◌^◌, ◌++◌, ◌∷◌, true, [], Some, length};
-ghost use Rattle.std.specs.Prelude.{slice_get, take, IfOk, IsErrOf, MatchOption};
-ghost use Rattle.std.specs.List.{All, concat};
-ghost use Rattle.std.specs.Rc.{rc_slice_items};
-ghost use Rattle.lc_base.specs.Faults.{HasCause};
-ghost use Rattle.lc_base.specs.History.{IsLawful, latest, up_to, uses};
-ghost use Rattle.lc_base.specs.declared.row.Row.{Row};
-ghost use Rattle.scratch_model.specs.Scratch.{ScratchState, is_told, Retains};
+ghost use Rattle.std.specs.{
+  Prelude.{◌≡◌, ◌≤◌, ◌<◌, ◌+◌, ◌^◌, ◌++◌, ◌∷◌, true, [], Some, length, slice_get, take, IfOk, IsErrOf, MatchOption},
+  List.{All},
+  Rc.{rc_slice_items},
+};
+ghost use Rattle.lc_base.specs.{
+  Faults.{HasCause},
+  History.{IsLawful, latest, up_to, uses},
+  declared.row.Row.{Row},
+};
+ghost use Rattle.scratch_model.specs.Scratch.{ScratchState, is_known, Retains};
 ghost use Rattle.skip_path.specs.Paths.{path};
 ghost use Rattle.rows_index.specs.Places.{IsRowAt};
-ghost use Rattle.entry_store.specs.Steps.{raised};
-ghost use Rattle.prov_entry.specs.Spelling.{body_fields};
-ghost use Rattle.lineage_store.specs.Versions.{newest_entry};
-ghost use Rattle.lineage_store.specs.Entries.{entries_of};
-ghost use Rattle.lineage_store.specs.OnPath.{AreEntriesIn};
-ghost use Rattle.root_laws.specs.Naming.{header_of, body_of};
-ghost use Rattle.root_laws.specs.Root.{root_of, leaves};
+ghost use Rattle.entry_store.specs.Steps.{raised_count};
+ghost use Rattle.lineage_store.specs.{
+  Versions.{newest_entry},
+  Entries.{entries_of},
+  OnPath.{AreEntriesIn},
+};
+ghost use Rattle.root_laws.specs.{Naming.{header_of}, Root.{root_of, leaves}};
 ghost use Rattle.typed_ledger.specs.TypedLedger.{IsTypedLedger};
-ghost use Rattle.merkle_dag.specs.declared.limits.TheConstants.{MAX_LINEAGE_BLOCKS};
-ghost use Rattle.merkle_dag.specs.Ledger.{IsLedger, IsHead};
-ghost use Rattle.merkle_dag.specs.Lineage.{AgreesWith, AreFactsOf, StaysSame, ledger_in};
+ghost use Rattle.merkle_dag.specs.{
+  Adding.{bytes_of},
+  declared.limits.TheConstants.{MAX_LINEAGE_BLOCKS},
+  Ledger.{IsLedger, IsHead},
+  Lineage.{AgreesWith, AreFactsOf, LeavesLineage, ledger_in},
+};
 
 use crate::bodies::body_at;
-use crate::error::DagError;
 use crate::kept::{Kept, discard, grow};
 use crate::rewinding::first_blocks;
 use crate::uses::{nth_version, users_of, versions_at};
 use body_store::Bodies;
 use entry_store::{EntryId, EntryList, Facts, Steps, Store};
-use lc_base::{Dep, DepList, Digest, Key, Memory, RowList};
+use lc_base::{Dep, DepList, Digest, HostError, Key, Memory, RowList};
 use lineage_index::LineageIndex;
 use prov_entry::Header;
 use rows_index::RowsIndex;
@@ -91,7 +96,7 @@ impl Lineage {
         number: u32,
         digest: Digest,
         rows: &RowList,
-    ) -> Result<(Lineage, Digest), DagError>
+    ) -> Result<(Lineage, Digest), HostError>
         requires next { number ≡ length self.digests }
         requires low { number < MAX_LINEAGE_BLOCKS }
         requires block { All (λ (row : Row). row.block ≡ number) rows.now }
@@ -106,7 +111,7 @@ impl Lineage {
         ensures agrees { IfOk result (λ pair. AgreesWith pair.0 (S.state scratch.new)) }
         ensures retains { Retains (S.state scratch.old) (S.state scratch.new) }
         ensures cause { HasCause (S.scratch_faults scratch.old) (S.scratch_faults scratch.new)
-            (IsErrOf result DagError.Fault) }
+            (IsErrOf result HostError.Fault) }
     {
         let Lineage { mut kept } = self;
         match grow(&mut kept, scratch, number, digest, rows) {
@@ -182,7 +187,7 @@ impl Lineage {
     /// where there is none.
     pub fn latest_row(&self, key: &Key, at: u32, steps: &mut Steps) -> Option<u32>
         ensures latest { IsRowAt self.now.rows result (latest self.now.rows key.now at) }
-        ensures count { steps.new ≡ raised steps.old (length (path self.now.rows key.now at)) }
+        ensures count { steps.new ≡ raised_count steps.old (length (path self.now.rows key.now at)) }
     {
         self.kept.index.latest_row(key, at, steps)
     }
@@ -249,16 +254,14 @@ impl Lineage {
         &mut self,
         scratch: &mut S,
         id: EntryId,
-    ) -> Result<RcSlice<u8>, DagError>
+    ) -> Result<RcSlice<u8>, HostError>
         requires within { id.0 < length self.old.rows }
         requires agrees { AgreesWith self.old (S.state scratch.old) }
         ensures body { (row : Row) → slice_get self.old.rows id.0 ≡ Some row
-            → is_told (S.state scratch.old) ≡ true
-            → IfOk result (λ bytes. rc_slice_items bytes ≡ concat
-            (body_fields (body_of self.old.rows row))) }
-        ensures same { StaysSame self.old (S.state scratch.old) self.new (S.state scratch.new) }
-        ensures cause { HasCause (S.scratch_faults scratch.old) (S.scratch_faults scratch.new)
-            (IsErrOf result DagError.Fault) }
+            → is_known (S.state scratch.old) ≡ true
+            → IfOk result (λ bytes. rc_slice_items bytes ≡ bytes_of self.old.rows row) }
+        ensures leaves { LeavesLineage S.state S.scratch_faults self.old scratch.old self.new
+            scratch.new (IsErrOf result HostError.Fault) }
     {
         body_at(&mut self.kept.bodies, scratch, id.0)
     }

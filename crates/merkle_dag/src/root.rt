@@ -1,7 +1,6 @@
 //! The root of a block. It takes no memory.
 
-ghost use Rattle.std.specs.Prelude.{◌≡◌, ◌∷◌, ◌++◌};
-ghost use Rattle.std.specs.Int.{w32, to_be_bytes};
+ghost use Rattle.std.specs.{Prelude.{◌≡◌, ◌∷◌, ◌++◌}, Int.{w32, to_be_bytes}};
 ghost use Rattle.sha2.specs.Sha256.{sha256};
 ghost use Rattle.prov_entry.specs.declared.limits.TheConstants.{ROOT};
 ghost use Rattle.root_laws.specs.Root.{root_text};

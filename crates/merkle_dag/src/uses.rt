@@ -1,9 +1,11 @@
 //! The versions that were derived from a row.
 
 ghost use Rattle.std.specs.Prelude.{◌≡◌, ◌<◌, ℕ, List, Some, length, slice_get, IfOk};
-ghost use Rattle.lc_base.specs.History.{uses, version_of};
-ghost use Rattle.lc_base.specs.declared.row.Row.{Row};
-ghost use Rattle.lc_base.specs.declared.row.Dep.{Dep};
+ghost use Rattle.lc_base.specs.{
+  History.{uses, version_of},
+  declared.row.Row.{Row},
+  declared.row.Dep.{Dep},
+};
 ghost use Rattle.rows_index.specs.Users.{AreVersionsAt};
 ghost use Rattle.lineage_store.specs.Entries.{entries_of};
 ghost use Rattle.merkle_dag.specs.Kept.{IsWhole, rows_kept};

@@ -143,7 +143,7 @@ are_over new hs e few =
     let lowest : leaf_level new ≡ hs = ap leaf_level e ∙ leaf_level-over MAX_HEIGHT hs in
     (record { pairs = e ∙ ap (levels_over MAX_HEIGHT) (sym lowest); few = rw lowest few }, lowest)
 
--- All levels, after a hash was put behind the others.
+-- All levels, after a hash was put after the others.
 pub are_put : (old new : List (List Digest)) (v : Digest) → AreLevels old → length (leaf_level old) < MAX_LEAVES → new ≡ put_through (length (leaf_level old)) v old → AreLevels new × (leaf_level new ≡ leaf_level old ++ v ∷ [])
 are_put old new v is room e =
     let more : length (leaf_level old ++ v ∷ []) ≡ length (leaf_level old) + 1 = length-append (leaf_level old) (v ∷ []) in

@@ -10,7 +10,7 @@ use Rattle.lc_base.specs.declared.digest.Digest.{Digest}
 use Rattle.merkle_tree.specs.declared.setting_all.HashAt.{HashAt}
 use Rattle.merkle_tree.specs.declared.setting_all.TheConstants.{NO_HASH}
 use Rattle.merkle_tree.specs.declared.limits.TheConstants.{MAX_HEIGHT, MAX_LEAVES}
-use Rattle.merkle_tree.specs.Levels.{join, pair_up, levels_over, hashes_in, leaf_level, AreLevels, set_each, over_one, over_each, is_set, IsOwn, Renews, count_above, lengthened, renew_through, HaveRoom}
+use Rattle.merkle_tree.specs.Levels.{join, pair_up, levels_over, hashes_in, leaf_level, AreLevels, set_each, over_one, over_each, is_set, IsOwn, Renews, count_above, level_of_length, renew_through, HaveRoom}
 use Rattle.merkle_tree.proofs.Raising.{length-pair_up, pair_at, last_at, are_over}
 
 -- ---- one level
@@ -52,9 +52,9 @@ set_all_is (one ∷ hashes) base level long own rest =
         ]
 
 -- The hashes with those that are given set.
-set_renewed : (before after : List Digest) (hashes : List HashAt) (count : ℕ) → length after ≡ count → Renews before after hashes → set_each (lengthened before count) hashes ≡ after
+set_renewed : (before after : List Digest) (hashes : List HashAt) (count : ℕ) → length after ≡ count → Renews before after hashes → set_each (level_of_length before count) hashes ≡ after
 set_renewed before after hashes count long is =
-    set_all_is hashes (lengthened before count) after
+    set_all_is hashes (level_of_length before count) after
     (length-append before (replicate (count - length before) NO_HASH) ∙ omega (arith, length-replicate {A = Digest} (count - length before) NO_HASH, is.fewer, long))
     is.own
     (λ i below off. let other = is.others i below off in get_or_append_left before (replicate (count - length before) NO_HASH) NO_HASH i other.0 ∙ other.1)
@@ -124,7 +124,7 @@ are_renewed old new count after hashes is long few renews e =
 -- ---- the loop over the levels
 
 renew-more : (count : ℕ) (hashes : List HashAt) (l : List Digest) (ls : List (List Digest))
-    → renew_through count hashes (l ∷ ls) ≡ set_each (lengthened l count) hashes ∷ renew_through (count_above count) (over_each (set_each (lengthened l count) hashes) hashes) ls
+    → renew_through count hashes (l ∷ ls) ≡ set_each (level_of_length l count) hashes ∷ renew_through (count_above count) (over_each (set_each (level_of_length l count) hashes) hashes) ls
 unfolding renew_through
 renew-more count hashes l ls = refl
 
@@ -132,11 +132,11 @@ renew-none : (count : ℕ) (hashes : List HashAt) → renew_through count hashes
 unfolding renew_through
 renew-none count hashes = refl
 
-pub one_renewed : (vs : List (Vec Digest Global)) (i count : ℕ) (hashes over : List HashAt) (w d : Vec Digest Global) → i < length vs → w.items ≡ set_each (lengthened (get_or vs i d).items count) hashes
-    → over ≡ over_each (set_each (lengthened (get_or vs i d).items count) hashes) hashes
+pub one_renewed : (vs : List (Vec Digest Global)) (i count : ℕ) (hashes over : List HashAt) (w d : Vec Digest Global) → i < length vs → w.items ≡ set_each (level_of_length (get_or vs i d).items count) hashes
+    → over ≡ over_each (set_each (level_of_length (get_or vs i d).items count) hashes) hashes
     → hashes_in (take (i + 1) (set vs i w)) ++ renew_through (count_above count) over (hashes_in (drop (i + 1) (set vs i w))) ≡ hashes_in (take i vs) ++ renew_through count hashes (hashes_in (drop i vs))
 one_renewed vs i count hashes over w d below is over_is =
-    let now = set_each (lengthened (get_or vs i d).items count) hashes in
+    let now = set_each (level_of_length (get_or vs i d).items count) hashes in
     let front : hashes_in (take (i + 1) (set vs i w)) ≡ hashes_in (take i vs) ++ w.items ∷ [] = ap hashes_in (take_more_set vs i w below) ∙ map-append (λ (level : Vec Digest Global). level.items) (take i vs) (w ∷ []) in
     let back : drop (i + 1) (set vs i w) ≡ drop (i + 1) vs = drop-set-lt (i + 1) vs i w (omega arith) in
     let whole : drop i vs ≡ get_or vs i d ∷ drop (i + 1) vs = drop_more vs i d below in
@@ -160,13 +160,13 @@ room_taken vs i count wanted w below wide so rest more =
 
 -- ---- one level made longer
 
-pub one_longer : (level : List Digest) (count : ℕ) → length level < count → lengthened (level ++ NO_HASH ∷ []) count ≡ lengthened level count
+pub one_longer : (level : List Digest) (count : ℕ) → length level < count → level_of_length (level ++ NO_HASH ∷ []) count ≡ level_of_length level count
 one_longer level count below =
     let more : List Digest = NO_HASH ∷ [] in
     let left : count - length level ≡ suc (count - length (level ++ more)) = omega (arith, below, length-append level more) in
     append_assoc level more (replicate (count - length (level ++ more)) NO_HASH) ∙ ap (λ (n : ℕ). level ++ replicate n NO_HASH) (sym left)
 
-pub long_enough : (level : List Digest) (count : ℕ) → count ≤ length level → lengthened level count ≡ level
+pub long_enough : (level : List Digest) (count : ℕ) → count ≤ length level → level_of_length level count ≡ level
 long_enough level count h =
     let none : count - length level ≡ 0 = omega (arith, h) in
     ap (λ (n : ℕ). level ++ replicate n NO_HASH) none ∙ append-nil level

@@ -5,7 +5,7 @@ use Rattle.std.proofs.lemmas.Bool.{cases_lt, lt-ltb, le-ltb}
 use Rattle.std.proofs.lemmas.List.{length-take, length-drop, length-append, get_or-take, get_or-drop, append_cancel_left, append_assoc}
 use Rattle.sha2.specs.Sha256.{sha256}
 use Rattle.sha2.proofs.Facts256.{length-sha256}
-use Rattle.merkle_tree.specs.Tree.{node_text, node_hash, first_text, hash_to, node_texts_to, climb_to, climb_texts_to, Climb, text_on_left, text_on_right, climbed, audit_to}
+use Rattle.merkle_tree.specs.Tree.{node_text, node_hash, first_text, hash_to, node_texts_to, climb_to, climb_texts_to, Climb, text_on_left, text_on_right, one_higher, audit_to}
 use Rattle.merkle_tree.specs.Clash.{Agree}
 use Rattle.merkle_tree.proofs.Agreeing.{agree_fronts, agree_of_left, agree_of_right, agree_last}
 
@@ -44,11 +44,11 @@ pub texts-low : (j : ℕ) (xs : List (List ℕ)) → length xs ≤ 2 ^ j → nod
 unfolding node_texts_to
 texts-low j xs h = rw (le-ltb (2 ^ j) (length xs) h) refl
 
-pub climb-left : (j m n : ℕ) (s : Climb) → 2 ^ j < n → m < 2 ^ j → climb_to (suc j) m n s ≡ (let t = climb_to j m (2 ^ j) s in climbed t (text_on_left t))
+pub climb-left : (j m n : ℕ) (s : Climb) → 2 ^ j < n → m < 2 ^ j → climb_to (suc j) m n s ≡ (let t = climb_to j m (2 ^ j) s in one_higher t (text_on_left t))
 unfolding climb_to
 climb-left j m n s h k = rw (lt-ltb (2 ^ j) n h, lt-ltb m (2 ^ j) k) refl
 
-pub climb-right : (j m n : ℕ) (s : Climb) → 2 ^ j < n → 2 ^ j ≤ m → climb_to (suc j) m n s ≡ (let t = climb_to j (m - 2 ^ j) (n - 2 ^ j) s in climbed t (text_on_right t))
+pub climb-right : (j m n : ℕ) (s : Climb) → 2 ^ j < n → 2 ^ j ≤ m → climb_to (suc j) m n s ≡ (let t = climb_to j (m - 2 ^ j) (n - 2 ^ j) s in one_higher t (text_on_right t))
 unfolding climb_to
 climb-right j m n s h k = rw (lt-ltb (2 ^ j) n h, le-ltb m (2 ^ j) k) refl
 
@@ -141,7 +141,7 @@ pub audit-low : (j m : ℕ) (xs : List (List ℕ)) → length xs ≤ 2 ^ j → a
 unfolding audit_to
 audit-low j m xs h = rw (le-ltb (2 ^ j) (length xs) h) refl
 
--- The audit path leads to the tree hash, and what is behind it is left.
+-- The audit path leads to the tree hash, and what is after it is left.
 pub climb_audit : (j m n : ℕ) (xs more : List (List ℕ)) → n ≡ length xs → m < n → n ≤ 2 ^ j
     → climb_to j m n (record { hash = sha256 (get_or xs m []); left = audit_to j m xs ++ more }) ≡ record { hash = hash_to j xs; left = more }
 unfolding climb_to hash_to audit_to

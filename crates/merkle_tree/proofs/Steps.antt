@@ -4,7 +4,7 @@ use Rattle.std.proofs.Math.Nat.{two-pow-succ}
 use Rattle.std.proofs.lemmas.List.{take-map, length-map}
 use Rattle.sha2.specs.Sha256.{sha256}
 use Rattle.std.proofs.lemmas.Bool.{lt-ltb, le-ltb}
-use Rattle.merkle_tree.specs.Tree.{node_hash, hash_to, climb_to, audit_length_to, Climb, climbed, text_on_left, text_on_right}
+use Rattle.merkle_tree.specs.Tree.{node_hash, hash_to, climb_to, audit_length_to, Climb, one_higher, text_on_left, text_on_right}
 use Rattle.merkle_tree.proofs.Sound.{tree-split, tree-low, climb-left, climb-right, climb-low}
 
 drop-map : {A : Type 0} (f : A → List ℕ) (n : ℕ) (xs : List A) → drop n (map f xs) ≡ map f (drop n xs)
@@ -55,14 +55,14 @@ pub len_none : (j m n : ℕ) → j ≡ 0 → audit_length_to j m n ≡ 0
 unfolding audit_length_to
 len_none j m n z = rw z refl
 
-pub climb_to_left : (j half m n : ℕ) (s : Climb) → 0 < j → half ≡ 2 ^ (j - 1) → half < n → m < half → climb_to j m n s ≡ (let t = climb_to (j - 1) m half s in climbed t (text_on_left t))
+pub climb_to_left : (j half m n : ℕ) (s : Climb) → 0 < j → half ≡ 2 ^ (j - 1) → half < n → m < half → climb_to j m n s ≡ (let t = climb_to (j - 1) m half s in one_higher t (text_on_left t))
 climb_to_left zero half m n s pos e big l = absurd (omega arith)
 climb_to_left (suc j) half m n s pos e big l =
     let down : suc j - 1 ≡ j = omega arith in
     let is : half ≡ 2 ^ j = e ∙ ap (λ (k : ℕ). 2 ^ k) down in
     rw (down, is) (climb-left j m n s (omega arith) (omega arith))
 
-pub climb_to_right : (j half m n : ℕ) (s : Climb) → 0 < j → half ≡ 2 ^ (j - 1) → half < n → half ≤ m → climb_to j m n s ≡ (let t = climb_to (j - 1) (m - half) (n - half) s in climbed t (text_on_right t))
+pub climb_to_right : (j half m n : ℕ) (s : Climb) → 0 < j → half ≡ 2 ^ (j - 1) → half < n → half ≤ m → climb_to j m n s ≡ (let t = climb_to (j - 1) (m - half) (n - half) s in one_higher t (text_on_right t))
 climb_to_right zero half m n s pos e big l = absurd (omega arith)
 climb_to_right (suc j) half m n s pos e big l =
     let down : suc j - 1 ≡ j = omega arith in

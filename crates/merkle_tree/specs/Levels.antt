@@ -87,14 +87,14 @@ abbrev pub count_above : ℕ → ℕ
 count_above count = count - count / 2
 
 -- A level with so many places. Nothing is known of the hashes in those that are new.
-abbrev pub lengthened : List Digest → ℕ → List Digest
-lengthened level count = level ++ replicate (count - length level) NO_HASH
+abbrev pub level_of_length : List Digest → ℕ → List Digest
+level_of_length level count = level ++ replicate (count - length level) NO_HASH
 
 -- Levels with so many places in the lowest, after some hashes were set in it, one after another.
 unfoldable pub renew_through : ℕ → List HashAt → List (List Digest) → List (List Digest)
 renew_through count hashes [] = []
 renew_through count hashes (level ∷ above) =
-    set_each (lengthened level count) hashes ∷ renew_through (count_above count) (over_each (set_each (lengthened level count) hashes) hashes) above
+    set_each (level_of_length level count) hashes ∷ renew_through (count_above count) (over_each (set_each (level_of_length level count) hashes) hashes) above
 
 -- Room for so many hashes in the lowest of these levels, and for those over them in the others.
 abbrev pub HaveRoom : ℕ → List (Vec Digest Global) → Type 0

@@ -88,8 +88,8 @@ abbrev pub text_on_right : Climb → List ℕ
 text_on_right climb = node_text (first_text climb.left) climb.hash
 
 -- One node higher.
-abbrev pub climbed : Climb → List ℕ → Climb
-climbed climb text = record { hash = sha256 text; left = drop 1 climb.left }
+abbrev pub one_higher : Climb → List ℕ → Climb
+one_higher climb text = record { hash = sha256 text; left = drop 1 climb.left }
 
 -- At the top, from leaf m of n, where n is at most 2 ^ j.
 unfoldable pub climb_to : ℕ → ℕ → ℕ → Climb → Climb
@@ -97,8 +97,8 @@ climb_to zero m n climb = climb
 climb_to (suc j) m n climb =
     if nat_lt (2 ^ j) n
     then (if nat_lt m (2 ^ j)
-    then (let part = climb_to j m (2 ^ j) climb in climbed part (text_on_left part))
-    else (let part = climb_to j (m - 2 ^ j) (n - 2 ^ j) climb in climbed part (text_on_right part)))
+    then (let part = climb_to j m (2 ^ j) climb in one_higher part (text_on_left part))
+    else (let part = climb_to j (m - 2 ^ j) (n - 2 ^ j) climb in one_higher part (text_on_right part)))
     else climb_to j m n climb
 
 -- The texts of the nodes on the way, from the leaf upward.

@@ -1,9 +1,11 @@
 //! The way from a leaf to the root, by an audit path (RFC 6962, section 2.1.1). It takes no memory.
 
 ghost use Rattle.std.specs.Prelude.{◌≡◌, ◌+◌, ◌<◌, ◌≤◌, ◌^◌, length};
-ghost use Rattle.merkle_tree.specs.Tree.{climb_to, audit_length_to, audit_length, climbed, text_on_left, text_on_right};
-ghost use Rattle.merkle_tree.specs.Climbing.{start_at, top_of};
-ghost use Rattle.merkle_tree.specs.declared.limits.TheConstants.{MAX_HEIGHT};
+ghost use Rattle.merkle_tree.specs.{
+  Tree.{climb_to, audit_length_to, audit_length, one_higher, text_on_left, text_on_right},
+  Climbing.{start_at, top_of},
+  declared.limits.TheConstants.{MAX_HEIGHT},
+};
 
 use crate::hash::node_hash;
 use crate::limits::MAX_HEIGHT;
@@ -43,7 +45,7 @@ pub fn audit_length(index: u32, count: u32) -> u32
 /// One node higher, where the next hash of the path is that of the right part.
 fn climb_on_left(hash: Digest, path: &[Digest]) -> (Digest, &[Digest])
     requires { 0 < length path.now }
-    ensures climbed { start_at result.0 result.1.now ≡ climbed (start_at hash path.now) (text_on_left (start_at hash path.now)) }
+    ensures climbed { start_at result.0 result.1.now ≡ one_higher (start_at hash path.now) (text_on_left (start_at hash path.now)) }
     ensures left { length result.1.now + 1 ≡ length path.now }
 {
     (node_hash(&hash, &path[0]), &path[1..])
@@ -52,7 +54,7 @@ fn climb_on_left(hash: Digest, path: &[Digest]) -> (Digest, &[Digest])
 /// One node higher, where the next hash of the path is that of the left part.
 fn climb_on_right(hash: Digest, path: &[Digest]) -> (Digest, &[Digest])
     requires { 0 < length path.now }
-    ensures climbed { start_at result.0 result.1.now ≡ climbed (start_at hash path.now) (text_on_right (start_at hash path.now)) }
+    ensures climbed { start_at result.0 result.1.now ≡ one_higher (start_at hash path.now) (text_on_right (start_at hash path.now)) }
     ensures left { length result.1.now + 1 ≡ length path.now }
 {
     (node_hash(&path[0], &hash), &path[1..])
@@ -90,7 +92,7 @@ fn climb_to(
 }
 
 /// The hash of the tree in which a leaf has this hash, index and audit path. Indexes are from 0;
-/// `count` is the number of leaves. Hashes behind the audit length are not used.
+/// `count` is the number of leaves. Hashes after the audit length are not used.
 pub fn root_from_leaf(index: u32, count: u32, leaf: &Digest, path: &[Digest]) -> Digest
     requires { audit_length index count ≤ length path.now }
     ensures { result.0 ≡ top_of index count (start_at leaf.now path.now) }

@@ -1,9 +1,11 @@
 //! Laws of the definitions, each the contract of a function that does nothing.
 
-ghost use Rattle.merkle_tree.specs.Laws.{TreesAreSplit, PathsInTheFirstPart, PathsInTheRest, LengthsInTheFirstPart, LengthsInTheRest, PathsHaveTheirLength, PathsAreComplete, PathsAreSound, PathsAreSoundOrClash, TextsAgreeOrClash, NeverBoth, ListsAreSound, WalksAreSound};
+ghost use Rattle.merkle_tree.specs.{
+  Laws.{TreesAreSplit, PathsInTheFirstPart, PathsInTheRest, LengthsInTheFirstPart, LengthsInTheRest, PathsHaveTheirLength, PathsAreComplete, PathsAreSound, PathsAreSoundOrClash, TextsAgreeOrClash, NeverBoth, ListsAreSound, WalksAreSound},
+  Tree.{tree_hash, audit_path, audit_length},
+};
 ghost use Rattle.std.specs.Prelude.{◌≡◌, [], ◌∷◌, List, ℕ};
 ghost use Rattle.sha2.specs.Sha256.{sha256};
-ghost use Rattle.merkle_tree.specs.Tree.{tree_hash, audit_path, audit_length};
 
 /// The tree hash is that of RFC 6962, section 2.1: of no leaf, of one, and of more.
 pub fn trees_follow_the_rule()

@@ -1,10 +1,12 @@
 //! A tree that is changed leaf by leaf.
 
 ghost use Rattle.std.specs.Prelude.{◌≡◌, ◌<◌, ◌≤◌, [], ◌∷◌, ◌++◌, ℕ, List, length, map, OnOk, OnErr, IfOk};
-ghost use Rattle.merkle_tree.specs.Tree.{tree_hash, audit_path};
-ghost use Rattle.merkle_tree.specs.Climbing.{bytes_of};
-ghost use Rattle.merkle_tree.specs.Levels.{digest_of, Renews};
-ghost use Rattle.merkle_tree.specs.declared.limits.TheConstants.{MAX_LEAVES};
+ghost use Rattle.merkle_tree.specs.{
+  Tree.{tree_hash, audit_path},
+  Climbing.{bytes_of},
+  Levels.{digest_of, Renews},
+  declared.limits.TheConstants.{MAX_LEAVES},
+};
 
 use crate::growth::{make_room, put_through};
 use crate::hash::empty_hash;

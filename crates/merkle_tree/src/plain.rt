@@ -1,12 +1,34 @@
 //! The tree hash as it is defined, by recursion. It takes no memory.
 
-ghost use Rattle.std.specs.Prelude.{◌≡◌, ◌<◌, ◌≤◌, ◌^◌, ◌-◌, map, length};
-ghost use Rattle.merkle_tree.specs.Tree.{hash_to, tree_hash, leaf_text};
-ghost use Rattle.merkle_tree.specs.declared.limits.TheConstants.{MAX_HEIGHT};
+ghost use Rattle.std.specs.Prelude.{◌≡◌, ◌<◌, ◌≤◌, ◌^◌, ◌-◌, ℕ, List, map, length};
+ghost use Rattle.sha2.specs.Sha256.{sha256};
+ghost use Rattle.merkle_tree.specs.{
+  Tree.{hash_to, tree_hash, leaf_text},
+  declared.limits.TheConstants.{MAX_HEIGHT},
+};
 
 use crate::hash::{empty_hash, leaf_hash, node_hash};
 use crate::limits::MAX_HEIGHT;
 use lc_base::{Bytes, Digest};
+
+/// What a leaf of a tree is hashed of.
+pub trait TreeLeaf {
+    /// The text of the leaf.
+    ghost text: { Self → List ℕ };
+
+    /// The hash of the leaf. It takes no memory.
+    fn hash(&self) -> Digest
+        ensures { result.0 ≡ sha256 (text self.now) };
+}
+
+/// A leaf that is given by its bytes (RFC 6962, section 2.1).
+impl TreeLeaf for Bytes {
+    ghost text = { leaf_text };
+
+    fn hash(&self) -> Digest {
+        leaf_hash(self.as_bytes())
+    }
+}
 
 /// Half of 2 to the power `height`.
 pub(crate) fn half_of(height: u32) -> usize
@@ -17,21 +39,21 @@ pub(crate) fn half_of(height: u32) -> usize
     1usize << (height - 1)
 }
 
-fn lowest_hash(leaves: &[Bytes]) -> Digest
+fn lowest_hash<L: TreeLeaf>(leaves: &[L]) -> Digest
     requires { length leaves.now ≤ 1 }
-    ensures { result.0 ≡ hash_to 0 (map leaf_text leaves.now) }
+    ensures { result.0 ≡ hash_to 0 (map L.text leaves.now) }
 {
     match leaves {
         [] => empty_hash(),
-        [leaf, ..] => leaf_hash(leaf.as_bytes()),
+        [leaf, ..] => leaf.hash(),
     }
 }
 
 #[tactic(auto, using(crate::proofs::Steps::plain))]
-fn hash_to(height: u32, leaves: &[Bytes]) -> Digest
+fn hash_to<L: TreeLeaf>(height: u32, leaves: &[L]) -> Digest
     requires few { length leaves.now ≤ 2 ^ height }
     requires low { height ≤ MAX_HEIGHT }
-    ensures { result.0 ≡ hash_to height (map leaf_text leaves.now) }
+    ensures { result.0 ≡ hash_to height (map L.text leaves.now) }
 {
     if height == 0 {
         return lowest_hash(leaves);
@@ -47,10 +69,10 @@ fn hash_to(height: u32, leaves: &[Bytes]) -> Digest
     }
 }
 
-/// The hash of a tree (RFC 6962, section 2.1), from the bytes of its leaves.
-pub fn tree_hash(leaves: &[Bytes]) -> Digest
+/// The hash of a tree (RFC 6962, section 2.1).
+pub fn tree_hash<L: TreeLeaf>(leaves: &[L]) -> Digest
     requires { length leaves.now ≤ 2 ^ MAX_HEIGHT }
-    ensures { result.0 ≡ tree_hash (map leaf_text leaves.now) }
+    ensures { result.0 ≡ tree_hash (map L.text leaves.now) }
 {
     hash_to(MAX_HEIGHT, leaves)
 }

@@ -1,7 +1,7 @@
 //! The levels after some leaves were added and the hashes of some were set, together.
 
 ghost use Rattle.std.specs.Prelude.{◌≡◌, ◌≤◌, OnOk, vec_capacity};
-ghost use Rattle.merkle_tree.specs.Levels.{count_above, lengthened, set_each, renew_through, hashes_in, HaveRoom};
+ghost use Rattle.merkle_tree.specs.Levels.{count_above, level_of_length, set_each, renew_through, hashes_in, HaveRoom};
 
 use crate::setting_all::{HashAt, NO_HASH, raise_each, set_each};
 use lc_base::{Digest, Memory};
@@ -29,7 +29,7 @@ pub(crate) fn take_room(levels: &mut [Vec<Digest>], count: usize) -> Result<(), 
 /// Gives a level so many places.
 fn lengthen(level: &mut Vec<Digest>, count: usize)
     requires { count ≤ vec_capacity level.old }
-    ensures { level.new.items ≡ lengthened level.old.items count }
+    ensures { level.new.items ≡ level_of_length level.old.items count }
 {
     while level.len() < count {
         match level.push(NO_HASH) {
@@ -42,7 +42,7 @@ fn lengthen(level: &mut Vec<Digest>, count: usize)
 /// Gives a level so many places, and sets some hashes, one after another.
 fn renew_level(level: &mut Vec<Digest>, count: usize, hashes: &[HashAt])
     requires { count ≤ vec_capacity level.old }
-    ensures { level.new.items ≡ set_each (lengthened level.old.items count) hashes.now }
+    ensures { level.new.items ≡ set_each (level_of_length level.old.items count) hashes.now }
 {
     lengthen(level, count);
     set_each(level.as_mut_slice(), hashes);

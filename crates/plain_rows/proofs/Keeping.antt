@@ -13,7 +13,7 @@ use Rattle.rows_index.proofs.Marked.{get_here}
 use Rattle.rows_index.proofs.UsedEnd.{at_front, get_front}
 use Rattle.typed_ledger.specs.TypedLedger.{IsTypedRow}
 use Rattle.plain_rows.specs.declared.kept.KeptRow.{KeptRow}
-use Rattle.plain_rows.specs.Kept.{row_of, rows_with, rows_of, IsKeptAs, AreKept, Keeps}
+use Rattle.plain_rows.specs.Kept.{row_of, rows_with, rows_of, IsKeptAs, AreKept, KeepsRows}
 use Rattle.plain_rows.proofs.Lists.{found_all, versions_stay}
 
 -- ---- no rows
@@ -25,8 +25,8 @@ none_kept = refl
 lawful_none : IsLawful []
 lawful_none = record { few = omega arith; ordered = search rules; lawful_deps = search rules }
 
-pub keeps_none : (index : RowsIndex) → IsIndexOf [] index → Keeps (rows_of []) [] (Some index)
-keeps_none index is = subst (λ (rows : List Row). Keeps rows [] (Some index)) (sym none_kept) (record {
+pub keeps_none : (index : RowsIndex) → IsIndexOf [] index → KeepsRows (rows_of []) [] (Some index)
+keeps_none index is = subst (λ (rows : List Row). KeepsRows rows [] (Some index)) (sym none_kept) (record {
   lawful = lawful_none;
   typed = search rules;
   kept_are = record { long = refl; each = λ i row at. search rules };
@@ -83,22 +83,26 @@ kept_more rows kept item row are so = record {
 
 -- ---- the row that is kept at an index
 
+pub kept_there : (rows : List Row) (kept : List KeptRow) (i : ℕ) (item : KeptRow) (row : Row) → AreKept rows kept → slice_get rows i ≡ Some row → item ≡ get_or kept i item → IsKeptAs rows item row
+kept_there rows kept i item row are at is =
+    let h = are.each i row at in
+    let same : h.0 ≡ item = sym (get_or_from_slice_get kept i h.0 item h.1) ∙ sym is in
+    subst (λ (k : KeptRow). IsKeptAs rows k row) same h.2
+
 pub kept_at : (rows : List Row) (kept : List KeptRow) (i : ℕ) (item : KeptRow) → AreKept rows kept → i < length kept → item ≡ get_or kept i item → (row : Row) × (slice_get rows i ≡ Some row) × IsKeptAs rows item row
 kept_at rows kept i item are m is =
     let d = row_of [] item in
     let row = get_or rows i d in
     let at : slice_get rows i ≡ Some row = slice_get-get_or rows i d (omega (arith, m, are.long)) in
-    let h = are.each i row at in
-    let same : h.0 ≡ item = sym (get_or_from_slice_get kept i h.0 item h.1) ∙ sym is in
-    (row, at, subst (λ (k : KeptRow). IsKeptAs rows k row) same h.2)
+    (row, at, kept_there rows kept i item row are at is)
 
--- ---- rows behind those that are kept
+-- ---- rows after those that are kept
 
 pub keeps_more : (rows new : List Row) (kept more all : List KeptRow) (index : RowsIndex) → rows ≡ rows_of kept → all ≡ kept ++ more → rows_with rows more ≡ rows ++ new → IsLawful (rows ++ new) → All IsTypedRow rows → All IsTypedRow new → AreKept (rows ++ new) (kept ++ more) → IsIndexOf (rows ++ new) index →
-    Keeps (rows_of all) all (Some index)
+    KeepsRows (rows_of all) all (Some index)
 keeps_more rows new kept more all index is joined added lawful before now are over =
     let same : rows ++ new ≡ rows_of all = sym added ∙ ap (λ (l : List Row). rows_with l more) is ∙ sym (rows_of_more kept more) ∙ ap rows_of (sym joined) in
-    subst (λ (l : List Row). Keeps l all (Some index)) same (record {
+    subst (λ (l : List Row). KeepsRows l all (Some index)) same (record {
       lawful = lawful;
       typed = All-append IsTypedRow rows new before now;
       kept_are = subst (AreKept (rows ++ new)) (sym joined) are;

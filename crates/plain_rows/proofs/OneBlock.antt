@@ -1,5 +1,5 @@
 -- The rows of one block stand together in a lawful history.
-use Rattle.std.proofs.Common.{◌≡◌, ◌∙◌, ℕ, zero, suc, ◌<◌, ◌≤◌, Bool, true, false, nat_lt, nat_le, ◌==◌, List, [], ◌∷◌, ◌++◌, length, get_or, take, filter, refl, sym, ap, arith, inl, inr}
+use Rattle.std.proofs.Common.{◌≡◌, ◌∙◌, ℕ, zero, suc, ◌+◌, ◌<◌, ◌≤◌, ◌⊎◌, Bool, true, false, nat_lt, nat_le, ◌==◌, List, [], ◌∷◌, ◌++◌, length, get_or, take, filter, refl, sym, ap, arith, inl, inr}
 use Rattle.std.specs.List.{AllPairs, AllByRecursion}
 use Rattle.std.specs.List.Sorted.{IsNonDecreasingBy, IsPartitionPoint}
 use Rattle.std.proofs.lemmas.Bool.{cases_order, lt-ltb, le-leb, lt-leb, le-ltb, ne_eqb, eq-eqb}
@@ -48,6 +48,15 @@ up_to_is (row ∷ rows) block ordered =
           let other : (row.block == block) ≡ false = ne_eqb row.block block (λ e. omega (arith, e, more)) in
           rw (up, low, other) rest
     ]
+
+-- those up to a block are those below the next one
+pub below_next : (rows : List Row) (block : ℕ) → up_to rows block ≡ below rows (block + 1)
+below_next rows block = ap (λ (passes : Row → Bool). filter passes rows) (λ i row. same row.block (cases_order row.block block) i)
+  where
+    same : (other : ℕ) → ((other ≡ block) ⊎ ((other < block) ⊎ (block < other))) → nat_le other block ≡ nat_lt other (block + 1)
+    same other (inl e) = le-leb other block (omega (arith, e)) ∙ sym (lt-ltb other (block + 1) (omega (arith, e)))
+    same other (inr (inl l)) = le-leb other block (omega (arith, l)) ∙ sym (lt-ltb other (block + 1) (omega (arith, l)))
+    same other (inr (inr l)) = lt-leb other block l ∙ sym (le-ltb other (block + 1) (omega (arith, l)))
 
 -- so the block's rows are those between
 pub rows_between : (rows list : List Row) (block start end : ℕ) → IsLawful rows → below rows block ≡ take start rows → up_to rows block ≡ take end rows → take start rows ++ list ≡ take end rows → list ≡ filter (is_of_block block) rows

@@ -10,11 +10,11 @@ use Rattle.rows_index.specs.Users.{AreVersionsAt, version_at}
 use Rattle.typed_ledger.specs.TypedLedger.{IsTypedRow}
 use Rattle.plain_rows.specs.declared.kept.KeptRow.{KeptRow}
 
--- The row that is kept, behind these rows: its dependencies are the versions at their indexes.
+-- The row that is kept, after these rows: its dependencies are the versions at their indexes.
 abbrev pub row_of : List Row → KeptRow → Row
 row_of rows kept = record { key = kept.key; block = kept.block; tx = kept.tx; value = kept.value; deps = filter_map (version_at rows) kept.deps }
 
--- These rows, and behind them those that are kept, one after another.
+-- These rows, and after them those that are kept, one after another.
 abbrev pub rows_with : List Row → List KeptRow → List Row
 rows_with rows [] = rows
 rows_with rows (kept ∷ more) = rows_with (rows ++ row_of rows kept ∷ []) more
@@ -48,7 +48,7 @@ IsIndexOrNone rows None = Unit {0}
 IsIndexOrNone rows (Some index) = IsIndexOf rows index
 
 -- A lawful history is kept, with the index over it or none. Its rows are within their types.
-pub record Keeps (rows : List Row) (kept : List KeptRow) (index : Option RowsIndex) : Type 0 where
+pub record KeepsRows (rows : List Row) (kept : List KeptRow) (index : Option RowsIndex) : Type 0 where
   pub lawful : IsLawful rows
   pub typed : All IsTypedRow rows
   pub kept_are : AreKept rows kept

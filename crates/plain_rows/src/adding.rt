@@ -1,14 +1,17 @@
 //! How rows are added to those that are kept.
 
-ghost use Rattle.std.specs.Prelude.{◌≡◌, true, List, ◌++◌, IfOk, OnOk, OnErr};
-ghost use Rattle.std.specs.List.{All};
-ghost use Rattle.std.specs.Option.{is_some};
-ghost use Rattle.lc_base.specs.declared.row.Row.{Row};
-ghost use Rattle.lc_base.specs.History.{IsLawful};
+ghost use Rattle.std.specs.{
+  Prelude.{◌≡◌, true, List, ◌++◌, IfOk, OnOk, OnErr},
+  List.{All},
+  Option.{is_some},
+};
+ghost use Rattle.lc_base.specs.{declared.row.Row.{Row}, History.{IsLawful}};
 ghost use Rattle.rows_index.specs.Index.{IsIndexOf};
 ghost use Rattle.typed_ledger.specs.TypedLedger.{IsTypedRow};
-ghost use Rattle.plain_rows.specs.declared.kept.KeptRow.{KeptRow as Kept};
-ghost use Rattle.plain_rows.specs.Kept.{AreKept, Keeps, rows_of, rows_with};
+ghost use Rattle.plain_rows.specs.{
+  declared.kept.KeptRow.{KeptRow as Kept},
+  Kept.{AreKept, KeepsRows, rows_of, rows_with},
+};
 
 use crate::kept::{KeptRow, kept_row, row_of};
 use lc_base::{Memory, Row};
@@ -52,8 +55,8 @@ fn index_or_made(
     rows: &[KeptRow],
     index: Option<RowsIndex>,
 ) -> Result<RowsIndex, Memory>
-    requires { (all : List Row) × Keeps all rows.now index }
-    ensures { (all : List Row) → Keeps all rows.now index → IfOk result (IsIndexOf all) }
+    requires { (all : List Row) × KeepsRows all rows.now index }
+    ensures { (all : List Row) → KeepsRows all rows.now index → IfOk result (IsIndexOf all) }
 {
     match index {
         Some(index) => Ok(index),
@@ -67,11 +70,11 @@ pub(crate) fn append(
     index: &mut Option<RowsIndex>,
     new: &[Row],
 ) -> Result<(), Memory>
-    requires keeps { Keeps (rows_of kept.old.items) kept.old.items index.old }
+    requires keeps { KeepsRows (rows_of kept.old.items) kept.old.items index.old }
     requires lawful { IsLawful (rows_of kept.old.items ++ new.now) }
     ensures ok { OnOk result (rows_of kept.new.items ≡ rows_of kept.old.items ++ new.now) }
     ensures err { OnErr result (kept.new.items ≡ kept.old.items) }
-    ensures keeps { Keeps (rows_of kept.new.items) kept.new.items index.new }
+    ensures keeps { KeepsRows (rows_of kept.new.items) kept.new.items index.new }
     ensures index { OnOk result (is_some index.new ≡ true) }
 {
     let alloc = *kept.allocator();

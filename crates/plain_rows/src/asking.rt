@@ -1,10 +1,15 @@
 //! What is kept of a version, found by the index.
 
-ghost use Rattle.std.specs.Prelude.{◌≡◌, ◌≤◌, ◌<◌, ◌^◌, Some, length, IfOk, IfSome};
-ghost use Rattle.std.specs.Option.{option_copied};
-ghost use Rattle.lc_base.specs.History.{latest, scan};
-ghost use Rattle.lc_base.specs.Parts.{count_in, item_in, list_in, question, version_in};
-ghost use Rattle.lc_base.specs.declared.limits.TheConstants.{MAX_DEPS};
+ghost use Rattle.std.specs.{
+  Prelude.{◌≡◌, ◌≤◌, ◌<◌, ◌^◌, Some, IfOk, IfSome},
+  Option.{option_copied},
+};
+ghost use Rattle.lc_base.specs.{
+  History.{latest, scan},
+  Parts.{count_in, item_in, list_in, question, version_in},
+  declared.limits.TheConstants.{MAX_DEPS},
+};
+ghost use Rattle.rows_index.specs.Places.{IsRowAt};
 ghost use Rattle.plain_rows.specs.Kept.{Holds, IsFound, IsListAt, rows_of};
 
 use crate::kept::{KeptRow, nth_version, versions_at};
@@ -44,90 +49,57 @@ pub(crate) fn version(
     }
 }
 
-/// The rows that the version of the key in the blocks up to `at` was derived from.
-fn sources<'a>(rows: &'a [KeptRow], index: &RowsIndex, key: &Key, at: u32) -> Option<&'a [u32]>
-    requires { Holds (rows_of rows.now) rows.now index.now }
-    ensures { IsListAt (rows_of rows.now) (option_copied result) (list_in (scan (rows_of rows.now) (question Kind.Back key.now at))) }
-{
-    match latest(rows, index, key, at) {
-        None => None,
-        Some(row) => Some(row.deps.as_slice()),
-    }
-}
-
-/// The rows that were derived from the version of the key in the blocks up to `at`.
-fn uses<'a>(rows: &[KeptRow], index: &'a RowsIndex, key: &Key, at: u32) -> Option<&'a [u32]>
-    requires { Holds (rows_of rows.now) rows.now index.now }
-    ensures { IsListAt (rows_of rows.now) (option_copied result) (list_in (scan (rows_of rows.now) (question Kind.Fwd key.now at))) }
-{
-    match index.latest(key, at) {
-        None => None,
-        Some(row) => Some(index.uses(row)),
-    }
-}
-
-/// How many rows these are.
-fn few_len(list: &[u32]) -> u32
-    requires { length list.now ≤ MAX_DEPS }
-    ensures { result ≡ length list.now }
-{
-    list.len() as u32
-}
-
-/// How many versions the version of the key in the blocks up to `at` was derived from.
-pub(crate) fn source_count(rows: &[KeptRow], index: &RowsIndex, key: &Key, at: u32) -> Option<u32>
-    requires { Holds (rows_of rows.now) rows.now index.now }
-    ensures { result ≡ count_in (scan (rows_of rows.now) (question Kind.Back key.now at)) }
-{
-    match sources(rows, index, key, at) {
-        None => None,
-        Some(list) => Some(few_len(list)),
-    }
-}
-
-/// The version at a place among those.
-pub(crate) fn source_at(
-    rows: &[KeptRow],
-    index: &RowsIndex,
-    key: &Key,
-    at: u32,
+/// The indexes that the answer about the row at a place has: those of the rows that it was derived
+/// from, or that were derived from it.
+fn listed_about<'a>(
+    rows: &'a [KeptRow],
+    index: &'a RowsIndex,
+    query: &Query,
     place: u32,
-) -> Option<Dep>
-    requires { Holds (rows_of rows.now) rows.now index.now }
-    ensures { result ≡ item_in place (scan (rows_of rows.now) (question Kind.Back key.now at)) }
+) -> Option<&'a [u32]>
+    requires holds { Holds (rows_of rows.now) rows.now index.now }
+    requires found { IsRowAt (rows_of rows.now) (Some place) (latest (rows_of rows.now) query.now.key query.now.at) }
+    ensures { IsListAt (rows_of rows.now) (option_copied result) (list_in (scan (rows_of rows.now) query.now)) }
 {
-    match sources(rows, index, key, at) {
-        None => None,
-        Some(list) => nth_version(rows, list, place as usize),
+    match query.kind {
+        Kind::Hist => None,
+        Kind::Back => Some(rows[place as usize].deps.as_slice()),
+        Kind::Fwd => Some(index.uses(place)),
     }
 }
 
-/// How many versions were derived from the version of the key in the blocks up to `at`.
-pub(crate) fn use_count(rows: &[KeptRow], index: &RowsIndex, key: &Key, at: u32) -> Option<u64>
+/// The indexes of the rows that the answer to a question lists.
+fn listed<'a>(rows: &'a [KeptRow], index: &'a RowsIndex, query: &Query) -> Option<&'a [u32]>
     requires { Holds (rows_of rows.now) rows.now index.now }
-    ensures count { result ≡ count_in (scan (rows_of rows.now) (question Kind.Fwd key.now at)) }
-    ensures bound { IfSome result (λ count. count < 2 ^ 63) }
+    ensures { IsListAt (rows_of rows.now) (option_copied result) (list_in (scan (rows_of rows.now) query.now)) }
 {
-    match uses(rows, index, key, at) {
+    match index.latest(&query.key, query.at) {
+        None => None,
+        Some(place) => listed_about(rows, index, query, place),
+    }
+}
+
+/// How many versions the answer to a question lists.
+pub(crate) fn count(rows: &[KeptRow], index: &RowsIndex, query: &Query) -> Option<u64>
+    requires { Holds (rows_of rows.now) rows.now index.now }
+    ensures count { result ≡ count_in (scan (rows_of rows.now) query.now) }
+    ensures bound { IfSome result (λ count. count < 2 ^ 63) }
+    ensures few { query.now.kind ≡ Kind.Back → IfSome result (λ count. count ≤ MAX_DEPS) }
+{
+    match listed(rows, index, query) {
         None => None,
         Some(list) => Some(list.len() as u64),
     }
 }
 
-/// The version at a place among those.
-pub(crate) fn use_at(
-    rows: &[KeptRow],
-    index: &RowsIndex,
-    key: &Key,
-    at: u32,
-    place: u64,
-) -> Option<Dep>
+/// The version at an index, from 0, among those that the answer to a question lists.
+pub(crate) fn item(rows: &[KeptRow], index: &RowsIndex, query: &Query, place: usize) -> Option<Dep>
     requires { Holds (rows_of rows.now) rows.now index.now }
-    ensures { result ≡ item_in place (scan (rows_of rows.now) (question Kind.Fwd key.now at)) }
+    ensures { result ≡ item_in place (scan (rows_of rows.now) query.now) }
 {
-    match uses(rows, index, key, at) {
+    match listed(rows, index, query) {
         None => None,
-        Some(list) => nth_version(rows, list, place as usize),
+        Some(list) => nth_version(rows, list, place),
     }
 }
 
@@ -141,41 +113,39 @@ pub(crate) fn answer(
     requires { Holds (rows_of rows.now) rows.now index.now }
     ensures { IfOk result (λ answer. answer ≡ scan (rows_of rows.now) query.now) }
 {
-    match latest(rows, index, &query.key, query.at) {
+    match index.latest(&query.key, query.at) {
         None => Ok(Answer::Nothing),
-        Some(row) => answer_about(alloc, rows, index, query, row),
+        Some(place) => answer_about(alloc, rows, index, query, place),
     }
 }
 
-/// The answer about the row that a question asks of.
+/// The answer about the row at a place.
 fn answer_about(
     alloc: Global,
     rows: &[KeptRow],
     index: &RowsIndex,
     query: &Query,
-    row: &KeptRow,
+    place: u32,
 ) -> Result<Answer, Memory>
     requires holds { Holds (rows_of rows.now) rows.now index.now }
-    requires found { IsFound (rows_of rows.now) (Some row.now) (latest (rows_of rows.now) query.now.key query.now.at) }
+    requires found { IsRowAt (rows_of rows.now) (Some place) (latest (rows_of rows.now) query.now.key query.now.at) }
     ensures { IfOk result (λ answer. answer ≡ scan (rows_of rows.now) query.now) }
 {
+    let row = &rows[place as usize];
     let block = row.block;
+    let tx = row.tx;
     match query.kind {
-        Kind::Hist => Ok(Answer::Hist {
-            block,
-            tx: row.tx,
-            value: row.value.copy(alloc)?,
-        }),
-        Kind::Back => Ok(Answer::Back {
-            block,
-            deps: versions_at(alloc, rows, row.deps.as_slice())?,
-        }),
-        Kind::Fwd => match uses(rows, index, &query.key, query.at) {
-            None => Ok(Answer::Nothing),
-            Some(list) => Ok(Answer::Fwd {
-                block,
-                uses: versions_at(alloc, rows, list)?,
-            }),
-        },
+        Kind::Hist => {
+            let value = row.value.copy(alloc)?;
+            Ok(Answer::Hist { block, tx, value })
+        }
+        Kind::Back => {
+            let deps = versions_at(alloc, rows, row.deps.as_slice())?;
+            Ok(Answer::Back { block, deps })
+        }
+        Kind::Fwd => {
+            let uses = versions_at(alloc, rows, index.uses(place))?;
+            Ok(Answer::Fwd { block, uses })
+        }
     }
 }

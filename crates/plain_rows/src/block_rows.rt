@@ -1,8 +1,7 @@
 //! The rows of one block, found by bisection: the blocks of the rows rise.
 
-ghost use Rattle.std.specs.Prelude.{◌≡◌, ◌≤◌, ◌++◌, List, length, take, filter, nat_lt, nat_le, IfOk};
-ghost use Rattle.lc_base.specs.declared.row.Row.{Row};
-ghost use Rattle.lc_base.specs.History.{IsLawful, below, up_to};
+ghost use Rattle.std.specs.Prelude.{◌≡◌, ◌≤◌, ◌++◌, List, length, take, filter, nat_lt, IfOk};
+ghost use Rattle.lc_base.specs.{declared.row.Row.{Row}, History.{IsLawful, below}};
 ghost use Rattle.root_laws.specs.Naming.{is_of_block};
 ghost use Rattle.plain_rows.specs.Kept.{AreKept};
 
@@ -11,7 +10,7 @@ use lc_base::{Memory, RowList};
 use std::alloc::Global;
 
 /// How many rows are of blocks before this one.
-fn count_below(rows: &[KeptRow], block: u32) -> usize
+fn count_below(rows: &[KeptRow], block: u64) -> usize
     requires { (all : List Row) × IsLawful all × AreKept all rows.now }
     ensures most { result ≤ length rows.now }
     ensures first { (all : List Row) → IsLawful all → AreKept all rows.now → below all block ≡ take result all }
@@ -19,20 +18,7 @@ fn count_below(rows: &[KeptRow], block: u32) -> usize
     rows.partition_point(
         |row: &KeptRow| -> bool
             ensures { result ≡ nat_lt row.now.block block }
-        { row.block < block },
-    )
-}
-
-/// How many rows are of blocks up to this one.
-fn count_up_to(rows: &[KeptRow], block: u32) -> usize
-    requires { (all : List Row) × IsLawful all × AreKept all rows.now }
-    ensures most { result ≤ length rows.now }
-    ensures first { (all : List Row) → IsLawful all → AreKept all rows.now → up_to all block ≡ take result all }
-{
-    rows.partition_point(
-        |row: &KeptRow| -> bool
-            ensures { result ≡ nat_le row.now.block block }
-        { row.block <= block },
+        { u64::from(row.block) < block },
     )
 }
 
@@ -61,7 +47,8 @@ pub(crate) fn rows_of_block(alloc: Global, rows: &[KeptRow], block: u32) -> Resu
     requires { (all : List Row) × IsLawful all × AreKept all rows.now }
     ensures { (all : List Row) → IsLawful all → AreKept all rows.now → IfOk result (λ list. list ≡ filter (is_of_block block) all) }
 {
+    let block = u64::from(block);
     let start = count_below(rows, block);
-    let end = count_up_to(rows, block);
+    let end = count_below(rows, block + 1);
     rows_between(alloc, rows, start, end)
 }

@@ -1,15 +1,21 @@
 //! The parts of answers, each looked up. No list is made for a count or an item.
 
-ghost use Rattle.std.specs.Prelude.{◌≡◌, refl, ◌^◌, ◌<◌, Some, IfSome, IfOk};
-ghost use Rattle.std.proofs.Common.{◌∙◌, ap};
-ghost use Rattle.lc_base.specs.History.{scan};
-ghost use Rattle.lc_base.specs.Parts.{question, count_in, item_in, version_in};
-ghost use Rattle.plain_rows.specs.Kept.{Keeps, rows_of};
+ghost use Rattle.std.{
+  specs.Prelude.{◌≡◌, refl, ◌^◌, ◌<◌, ◌≤◌, Some, IfSome, IfOk, IsErrOf},
+  proofs.Common.{◌∙◌, ap},
+};
+ghost use Rattle.lc_base.specs.{
+  Faults.{HasCause},
+  History.{scan},
+  Parts.{question, count_in, item_in, version_in},
+  declared.limits.TheConstants.{MAX_DEPS},
+};
+ghost use Rattle.plain_rows.specs.Kept.{KeepsRows, rows_of};
 
-use crate::asking::{source_at, source_count, use_at, use_count, version};
+use crate::asking::{count, item, version};
 use crate::kept::KeptRow;
 use crate::rows::PlainRows;
-use lc_base::{Dep, Host, HostError, Key, Kind, Memory, Version};
+use lc_base::{Dep, Host, HostError, Key, Kind, Memory, Query, Version};
 use rows_index::RowsIndex;
 use std::alloc::Global;
 
@@ -17,78 +23,69 @@ fn hist(
     alloc: Global,
     rows: &[KeptRow],
     index: &Option<RowsIndex>,
-    key: &Key,
-    at: u32,
+    query: &Query,
 ) -> Result<Option<Version>, Memory>
-    requires { Keeps (rows_of rows.now) rows.now index.now }
-    ensures { IfOk result (λ version. version ≡ version_in (scan (rows_of rows.now) (question Kind.Hist key.now at))) }
+    requires { KeepsRows (rows_of rows.now) rows.now index.now }
+    ensures { IfOk result (λ version. version ≡ version_in (scan (rows_of rows.now) (question Kind.Hist query.now.key query.now.at))) }
 {
     match index {
         None => Err(Memory),
-        Some(index) => version(alloc, rows, index, key, at),
+        Some(index) => version(alloc, rows, index, &query.key, query.at),
     }
 }
 
-fn back_count(
+fn count_asked(
     rows: &[KeptRow],
     index: &Option<RowsIndex>,
-    key: &Key,
-    at: u32,
-) -> Result<Option<u32>, Memory>
-    requires { Keeps (rows_of rows.now) rows.now index.now }
-    ensures { IfOk result (λ count. count ≡ count_in (scan (rows_of rows.now) (question Kind.Back key.now at))) }
-{
-    match index {
-        None => Err(Memory),
-        Some(index) => Ok(source_count(rows, index, key, at)),
-    }
-}
-
-fn back_at(
-    rows: &[KeptRow],
-    index: &Option<RowsIndex>,
-    key: &Key,
-    at: u32,
-    place: u32,
-) -> Result<Option<Dep>, Memory>
-    requires { Keeps (rows_of rows.now) rows.now index.now }
-    ensures { IfOk result (λ dep. dep ≡ item_in place (scan (rows_of rows.now) (question Kind.Back key.now at))) }
-{
-    match index {
-        None => Err(Memory),
-        Some(index) => Ok(source_at(rows, index, key, at, place)),
-    }
-}
-
-fn fwd_count(
-    rows: &[KeptRow],
-    index: &Option<RowsIndex>,
-    key: &Key,
-    at: u32,
-) -> Result<Option<u64>, Memory>
-    requires { Keeps (rows_of rows.now) rows.now index.now }
-    ensures count { IfOk result (λ count. count ≡ count_in (scan (rows_of rows.now) (question Kind.Fwd key.now at))) }
+    query: &Query,
+) -> Result<Option<u64>, HostError>
+    requires { KeepsRows (rows_of rows.now) rows.now index.now }
+    ensures count { IfOk result (λ count. count ≡ count_in (scan (rows_of rows.now) query.now)) }
     ensures bound { IfOk result (λ count. IfSome count (λ n. n < 2 ^ 63)) }
+    ensures few { query.now.kind ≡ Kind.Back → IfOk result (λ count. IfSome count (λ n. n ≤ MAX_DEPS)) }
+    ensures cause { HasCause 0 0 (IsErrOf result HostError.Fault) }
 {
     match index {
-        None => Err(Memory),
-        Some(index) => Ok(use_count(rows, index, key, at)),
+        None => Err(HostError::Memory),
+        Some(index) => Ok(count(rows, index, query)),
     }
 }
 
-fn fwd_at(
+fn item_asked(
     rows: &[KeptRow],
     index: &Option<RowsIndex>,
-    key: &Key,
-    at: u32,
-    place: u64,
-) -> Result<Option<Dep>, Memory>
-    requires { Keeps (rows_of rows.now) rows.now index.now }
-    ensures { IfOk result (λ dep. dep ≡ item_in place (scan (rows_of rows.now) (question Kind.Fwd key.now at))) }
+    query: &Query,
+    place: usize,
+) -> Result<Option<Dep>, HostError>
+    requires { KeepsRows (rows_of rows.now) rows.now index.now }
+    ensures item { IfOk result (λ dep. dep ≡ item_in place (scan (rows_of rows.now) query.now)) }
+    ensures cause { HasCause 0 0 (IsErrOf result HostError.Fault) }
 {
     match index {
-        None => Err(Memory),
-        Some(index) => Ok(use_at(rows, index, key, at, place)),
+        None => Err(HostError::Memory),
+        Some(index) => Ok(item(rows, index, query, place)),
+    }
+}
+
+/// How many dependencies there are, of which a version has few.
+fn few(count: Option<u64>) -> Option<u32>
+    requires { IfSome count (λ n. n ≤ MAX_DEPS) }
+    ensures { result ≡ count }
+{
+    match count {
+        None => None,
+        Some(count) => Some(count as u32),
+    }
+}
+
+/// The question of this kind about a key up to a block.
+fn question(kind: Kind, key: &Key, at: u32) -> Query
+    ensures { result ≡ question kind key.now at }
+{
+    Query {
+        kind,
+        key: *key,
+        at,
     }
 }
 
@@ -102,50 +99,31 @@ impl Host for PlainRows {
     ghost same = { λ s t. t ≡ s };
 
     fn hist(&mut self, alloc: Global, key: &Key, at: u32) -> Result<Option<Version>, HostError> {
-        match hist(alloc, self.rows.as_slice(), &self.index, key, at) {
+        let query = question(Kind::Hist, key, at);
+        match hist(alloc, self.rows.as_slice(), &self.index, &query) {
             Ok(version) => Ok(version),
             Err(Memory) => Err(HostError::Memory),
         }
     }
 
-    fn back_count(&mut self, _alloc: Global, key: &Key, at: u32) -> Result<Option<u32>, HostError> {
-        match back_count(self.rows.as_slice(), &self.index, key, at) {
-            Ok(count) => Ok(count),
-            Err(Memory) => Err(HostError::Memory),
-        }
+    fn back_count(&mut self, key: &Key, at: u32) -> Result<Option<u32>, HostError> {
+        let query = question(Kind::Back, key, at);
+        Ok(few(count_asked(self.rows.as_slice(), &self.index, &query)?))
     }
 
-    fn back_at(
-        &mut self,
-        _alloc: Global,
-        key: &Key,
-        at: u32,
-        index: u32,
-    ) -> Result<Option<Dep>, HostError> {
-        match back_at(self.rows.as_slice(), &self.index, key, at, index) {
-            Ok(dep) => Ok(dep),
-            Err(Memory) => Err(HostError::Memory),
-        }
+    fn back_at(&mut self, key: &Key, at: u32, index: u32) -> Result<Option<Dep>, HostError> {
+        let query = question(Kind::Back, key, at);
+        item_asked(self.rows.as_slice(), &self.index, &query, index as usize)
     }
 
-    fn fwd_count(&mut self, _alloc: Global, key: &Key, at: u32) -> Result<Option<u64>, HostError> {
-        match fwd_count(self.rows.as_slice(), &self.index, key, at) {
-            Ok(count) => Ok(count),
-            Err(Memory) => Err(HostError::Memory),
-        }
+    fn fwd_count(&mut self, key: &Key, at: u32) -> Result<Option<u64>, HostError> {
+        let query = question(Kind::Fwd, key, at);
+        count_asked(self.rows.as_slice(), &self.index, &query)
     }
 
-    fn fwd_at(
-        &mut self,
-        _alloc: Global,
-        key: &Key,
-        at: u32,
-        index: u64,
-    ) -> Result<Option<Dep>, HostError> {
-        match fwd_at(self.rows.as_slice(), &self.index, key, at, index) {
-            Ok(dep) => Ok(dep),
-            Err(Memory) => Err(HostError::Memory),
-        }
+    fn fwd_at(&mut self, key: &Key, at: u32, index: u64) -> Result<Option<Dep>, HostError> {
+        let query = question(Kind::Fwd, key, at);
+        item_asked(self.rows.as_slice(), &self.index, &query, index as usize)
     }
 
     ghost same_refl = { λ s. refl };

@@ -1,16 +1,15 @@
 //! Rows as they are kept: a dependency is the index of its row.
 
 ghost use Rattle.std.specs.Prelude.{◌≡◌, ◌<◌, List, Some, length, slice_get, IfOk};
-ghost use Rattle.lc_base.specs.declared.row.Row.{Row};
-ghost use Rattle.lc_base.specs.declared.row.Dep.{Dep};
+ghost use Rattle.lc_base.specs.{declared.row.Row.{Row}, declared.row.Dep.{Dep}};
 ghost use Rattle.rows_index.specs.Users.{AreVersionsAt, version_at};
 ghost use Rattle.typed_ledger.specs.TypedLedger.{IsTypedRow};
 ghost use Rattle.plain_rows.specs.Kept.{AreKept, IsKeptAs};
 
-use crate::typed::check_row;
 use lc_base::{Dep, DepList, Duplicate, Key, Memory, Row, Value};
 use rows_index::IndexList;
 use std::alloc::Global;
+use typed_ledger::check_row;
 
 /// A row, whose dependencies are the indexes of their rows.
 #[derive(Debug, Drop)]
@@ -53,7 +52,7 @@ fn version_at(rows: &[KeptRow], index: u32) -> Dep
 }
 
 /// The versions at these indexes.
-fn collected(alloc: Global, rows: &[KeptRow], indexes: &[u32]) -> Result<Vec<Dep>, Memory>
+fn collect_versions(alloc: Global, rows: &[KeptRow], indexes: &[u32]) -> Result<Vec<Dep>, Memory>
     requires { (all : List Row) × (deps : List Dep) × AreKept all rows.now × AreVersionsAt all indexes.now deps }
     ensures { (all : List Row) → AreKept all rows.now → IfOk result (λ list. AreVersionsAt all indexes.now list.items) }
 {
@@ -74,7 +73,7 @@ pub(crate) fn versions_at(
     requires { (all : List Row) × (deps : List Dep) × AreKept all rows.now × AreVersionsAt all indexes.now deps }
     ensures { (all : List Row) (deps : List Dep) → AreKept all rows.now → AreVersionsAt all indexes.now deps → IfOk result (λ list. list ≡ deps) }
 {
-    Ok(DepList::from_vec(collected(alloc, rows, indexes)?))
+    Ok(DepList::from_vec(collect_versions(alloc, rows, indexes)?))
 }
 
 /// The version at a place in a list of indexes.

@@ -8,7 +8,6 @@ mod host;
 mod kept;
 mod places;
 mod rows;
-mod typed;
 
 pub use kept::KeptRow;
 pub use rows::PlainRows;

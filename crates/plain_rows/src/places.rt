@@ -1,12 +1,13 @@
 //! Where the row of a key in a block stands, and which rows were derived from the row at an index.
 
-ghost use Rattle.std.specs.Prelude.{◌≡◌, ◌<◌, List, Some, length, reverse, slice_get, IfOk};
-ghost use Rattle.std.specs.List.{find};
-ghost use Rattle.lc_base.specs.declared.row.Row.{Row};
-ghost use Rattle.lc_base.specs.History.{IsLawful, uses};
+ghost use Rattle.std.specs.{
+  Prelude.{◌≡◌, ◌<◌, List, Some, length, reverse, slice_get, IfOk},
+  List.{find},
+};
+ghost use Rattle.lc_base.specs.{declared.row.Row.{Row}, History.{IsLawful, uses}};
 ghost use Rattle.rows_index.specs.Places.{IsRowAt};
 ghost use Rattle.root_laws.specs.WalkLaws.{is_version_in};
-ghost use Rattle.plain_rows.specs.Kept.{AreKept, Holds, IsKeptAs, Keeps, rows_of};
+ghost use Rattle.plain_rows.specs.Kept.{AreKept, Holds, IsKeptAs, KeepsRows, rows_of};
 
 use crate::kept::{KeptRow, versions_at};
 use lc_base::{DepList, Key, Memory};
@@ -21,7 +22,7 @@ fn is_version_in(row: &KeptRow, key: &Key, block: u32) -> bool
 }
 
 /// The index of the row of the key in a block, by the index over the rows.
-fn place_by_index(rows: &[KeptRow], index: &RowsIndex, key: &Key, block: u32) -> Option<u32>
+fn row_by_index(rows: &[KeptRow], index: &RowsIndex, key: &Key, block: u32) -> Option<u32>
     requires { Holds (rows_of rows.now) rows.now index.now }
     ensures { IsRowAt (rows_of rows.now) result (find (is_version_in key.now block) (reverse (rows_of rows.now))) }
 {
@@ -38,7 +39,7 @@ fn place_by_index(rows: &[KeptRow], index: &RowsIndex, key: &Key, block: u32) ->
 }
 
 /// The same by going over the rows.
-fn place_by_scan(rows: &[KeptRow], key: &Key, block: u32) -> Option<u32>
+fn row_by_scan(rows: &[KeptRow], key: &Key, block: u32) -> Option<u32>
     requires { (all : List Row) × IsLawful all × AreKept all rows.now }
     ensures { (all : List Row) → IsLawful all → AreKept all rows.now → IsRowAt all result (find (is_version_in key.now block) (reverse all)) }
 {
@@ -57,12 +58,12 @@ pub(crate) fn place(
     key: &Key,
     block: u32,
 ) -> Option<u32>
-    requires { Keeps (rows_of rows.now) rows.now index.now }
+    requires { KeepsRows (rows_of rows.now) rows.now index.now }
     ensures { IsRowAt (rows_of rows.now) result (find (is_version_in key.now block) (reverse (rows_of rows.now))) }
 {
     match index {
-        Some(index) => place_by_index(rows, index, key, block),
-        None => place_by_scan(rows, key, block),
+        Some(index) => row_by_index(rows, index, key, block),
+        None => row_by_scan(rows, key, block),
     }
 }
 
@@ -73,7 +74,7 @@ pub(crate) fn uses_of_row(
     index: &Option<RowsIndex>,
     place: u32,
 ) -> Result<DepList, Memory>
-    requires keeps { Keeps (rows_of rows.now) rows.now index.now }
+    requires keeps { KeepsRows (rows_of rows.now) rows.now index.now }
     requires within { place < length (rows_of rows.now) }
     ensures { (row : Row) → slice_get (rows_of rows.now) place ≡ Some row → IfOk result (λ list. list ≡ uses (rows_of rows.now) row.key row.block) }
 {

@@ -1,10 +1,10 @@
-ghost use Rattle.std.specs.Prelude.{◌≡◌, ◌<◌, [], ◌++◌, length, filter, reverse, slice_get, Some, IfOk, OnOk, OnErr};
-ghost use Rattle.std.specs.List.{find, All};
-ghost use Rattle.lc_base.specs.History.{IsLawful, scan, uses};
-ghost use Rattle.lc_base.specs.declared.row.Row.{Row};
+ghost use Rattle.std.specs.{
+  Prelude.{◌≡◌, ◌<◌, [], ◌++◌, length, filter, reverse, slice_get, Some, IfOk, OnOk, OnErr},
+  List.{find, All},
+};
+ghost use Rattle.lc_base.specs.{History.{IsLawful, scan, uses}, declared.row.Row.{Row}};
 ghost use Rattle.rows_index.specs.Places.{IsRowAt};
-ghost use Rattle.root_laws.specs.Naming.{is_of_block};
-ghost use Rattle.root_laws.specs.WalkLaws.{is_version_in};
+ghost use Rattle.root_laws.specs.{Naming.{is_of_block}, WalkLaws.{is_version_in}};
 ghost use Rattle.typed_ledger.specs.TypedLedger.{IsTypedRow};
 ghost use Rattle.plain_rows.specs.Kept.{IsKeptAs};
 
@@ -30,13 +30,13 @@ pub struct PlainRows {
 impl Model for PlainRows {
     ghost use Rattle.std.specs.Prelude.{List};
     ghost use Rattle.lc_base.specs.declared.row.Row.{Row};
-    ghost use Rattle.plain_rows.specs.Kept.{Keeps, rows_of};
+    ghost use Rattle.plain_rows.specs.Kept.{KeepsRows, rows_of};
 
     ghost Value = { List Row };
 
     ghost view = { λ kept. rows_of kept.rows.items };
 
-    ghost invariant = { λ kept. Keeps (rows_of kept.rows.items) kept.rows.items kept.index };
+    ghost invariant = { λ kept. KeepsRows (rows_of kept.rows.items) kept.rows.items kept.index };
 }
 
 impl PlainRows {
@@ -70,7 +70,7 @@ impl PlainRows {
     }
 
     /// The index, from 0, of the row of the key in a block; `None` exactly where there is none.
-    pub fn row_place(&self, key: &Key, block: u32) -> Option<u32>
+    pub fn row_index(&self, key: &Key, block: u32) -> Option<u32>
         ensures { IsRowAt self.now result (find (is_version_in key.now block) (reverse self.now)) }
     {
         place(self.rows.as_slice(), &self.index, key, block)

@@ -1,20 +1,24 @@
 //! Digests of headers and leaves, hashed piece by piece. None of these calls takes memory.
 
-ghost use Rattle.std.specs.Prelude.{◌≡◌, ◌^◌, ◌<◌, ◌≤◌, length};
-ghost use Rattle.std.specs.List.{concat, flat_map, AllByRecursion};
+ghost use Rattle.std.specs.{
+  Prelude.{◌≡◌, ◌^◌, ◌<◌, ◌≤◌, length},
+  List.{concat, flat_map, AllByRecursion},
+};
 ghost use Rattle.sha2.specs.Sha256.{sha256};
 ghost use Rattle.lc_names.specs.KeyBytes.{IsKey};
 ghost use Rattle.byte_fields.specs.Spelling.{string_fields};
 ghost use Rattle.merkle_tree.specs.Tree.{leaf_text};
-ghost use Rattle.prov_entry.specs.declared.limits.TheConstants.{MAX_LINKS};
-ghost use Rattle.prov_entry.specs.Digests.{Adds};
-ghost use Rattle.prov_entry.specs.Spelling.{IsLink, IsHeader, IsKeyIfAny, IsLeaf, link_fields, key_or_empty, next_fields, header_text, leaf_bytes};
+ghost use Rattle.prov_entry.specs.{
+  declared.limits.TheConstants.{MAX_LINKS},
+  Digests.{Adds},
+  Spelling.{IsLink, IsHeader, IsKeyIfAny, IsLeaf, link_fields, key_or_empty, next_fields, header_text, leaf_bytes},
+};
 
 use crate::entry::{Header, Leaf, Link};
 use crate::limits::HEADER;
 use digest_kit::TagHasher;
 use lc_base::{Digest, Key};
-use merkle_tree::LEAF;
+use merkle_tree::{LEAF, TreeLeaf};
 
 fn add_string(hasher: &mut TagHasher, bytes: &[u8])
     requires { length bytes.now < 2 ^ 16 }
@@ -102,4 +106,12 @@ pub fn leaf_digest(leaf: &Leaf) -> Digest
     hasher.add(&leaf.open_count.to_be_bytes());
     hasher.add(&leaf.open_digest.0);
     hasher.finish()
+}
+
+impl TreeLeaf for Leaf {
+    ghost text = { λ leaf. leaf_text (leaf_bytes leaf) };
+
+    fn hash(&self) -> Digest {
+        leaf_digest(self)
+    }
 }

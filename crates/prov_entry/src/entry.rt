@@ -1,7 +1,6 @@
 //! Headers, bodies and leaves.
 
-use lc_base::{Digest, Duplicate, Key, Memory, Seq, Value};
-use std::alloc::Global;
+use lc_base::{Digest, Key, Seq, Value};
 
 /// A link from a version to an older one of its key.
 #[derive(Clone, Copy, Debug, PartialEq, Eq)]
@@ -10,16 +9,6 @@ pub struct Link {
     pub block: u32,
     /// The digest of its header.
     pub digest: Digest,
-}
-
-impl Duplicate for Link {
-    ghost use Rattle.std.specs.Prelude.{◌≡◌, Ok};
-
-    fn copy(&self, _alloc: Global) -> Result<Link, Memory>
-        ensures { result ≡ Ok self.now }
-    {
-        Ok(*self)
-    }
 }
 
 /// Links, one for each level from 0.
@@ -52,16 +41,6 @@ pub struct BodyDep {
     pub block: u32,
     /// The digest of its header.
     pub digest: Digest,
-}
-
-impl Duplicate for BodyDep {
-    ghost use Rattle.std.specs.Prelude.{◌≡◌, Ok};
-
-    fn copy(&self, _alloc: Global) -> Result<BodyDep, Memory>
-        ensures { result ≡ Ok self.now }
-    {
-        Ok(*self)
-    }
 }
 
 /// The dependencies of a body.

@@ -1,11 +1,15 @@
 //! Writing headers, bodies and leaves as their fields, without the byte that stands before them
 //! where they are hashed.
 
-ghost use Rattle.std.specs.Prelude.{◌≡◌, ◌≤◌, ◌++◌, ℕ, List, length, IfOk, OnOk};
-ghost use Rattle.std.specs.List.{concat, flat_map, AllByRecursion};
+ghost use Rattle.std.specs.{
+  Prelude.{◌≡◌, ◌≤◌, ◌++◌, ℕ, List, length, IfOk, OnOk},
+  List.{concat, flat_map, AllByRecursion},
+};
 ghost use Rattle.lc_base.specs.declared.limits.TheConstants.{MAX_DEPS};
-ghost use Rattle.prov_entry.specs.declared.limits.TheConstants.{MAX_LINKS};
-ghost use Rattle.prov_entry.specs.Spelling.{IsLink, IsHeader, IsBodyDep, IsBody, IsKeyIfAny, IsLeaf, link_fields, header_fields, body_dep_fields, body_fields, key_or_empty, next_fields, leaf_bytes};
+ghost use Rattle.prov_entry.specs.{
+  declared.limits.TheConstants.{MAX_LINKS},
+  Spelling.{IsLink, IsHeader, IsBodyDep, IsBody, IsKeyIfAny, IsLeaf, link_fields, header_fields, body_dep_fields, body_fields, key_or_empty, next_fields, leaf_bytes},
+};
 ghost use Rattle.byte_fields.specs.Spelling.{string_fields};
 
 use crate::entry::{Body, BodyDep, Header, Leaf, Link};

@@ -4,7 +4,7 @@ use Rattle.lc_base.specs.History.{scan}
 use Rattle.lc_base.specs.declared.answer.Answer.{Answer}
 use Rattle.lc_base.specs.declared.answer.Query.{Query}
 use Rattle.skip_path.specs.Paths.{path}
-use Rattle.entry_store.specs.Steps.{raised}
+use Rattle.entry_store.specs.Steps.{raised_count}
 use Rattle.merkle_dag.specs.Ledger.{Ledger, IsHead}
 use Rattle.prov_query.specs.declared.questions.AskError.{AskError}
 use Rattle.prov_query.specs.declared.questions.AskError.TheVariants as errors
@@ -35,9 +35,9 @@ IsRefusedBeyond ledger query (Err errors.Memory) = query.at < length ledger.dige
 -- where the question is past the last block.
 abbrev pub IsCounted : Ledger → Query → Result Answer AskError → ℕ → ℕ → Type 0
 IsCounted ledger query (Err (errors.Beyond head)) before after = after ≡ before
-IsCounted ledger query (Ok answer) before after = after ≡ raised before
+IsCounted ledger query (Ok answer) before after = after ≡ raised_count before
     (length (path ledger.rows query.key query.at))
-IsCounted ledger query (Err errors.Fault) before after = after ≡ raised before
+IsCounted ledger query (Err errors.Fault) before after = after ≡ raised_count before
     (length (path ledger.rows query.key query.at))
-IsCounted ledger query (Err errors.Memory) before after = after ≡ raised before
+IsCounted ledger query (Err errors.Memory) before after = after ≡ raised_count before
     (length (path ledger.rows query.key query.at))

@@ -1,15 +1,14 @@
 //! The answer to a question about the rows of a lineage.
 
 ghost use Rattle.std.specs.Prelude.{◌≡◌, true, IsErrOf};
-ghost use Rattle.lc_base.specs.Faults.{HasCause};
-ghost use Rattle.scratch_model.specs.Scratch.{is_told};
-ghost use Rattle.merkle_dag.specs.Lineage.{ledger_in, AgreesWith, StaysSame};
+ghost use Rattle.scratch_model.specs.Scratch.{is_known};
+ghost use Rattle.merkle_dag.specs.Lineage.{ledger_in, AgreesWith, LeavesLineage};
 ghost use Rattle.prov_query.specs.Asking.{IsAnswered, IsRefusedBeyond, IsCounted};
 
 use entry_store::Steps;
-use lc_base::{Answer, Query};
+use lc_base::{Answer, HostError, Query};
 use lineage_reading::answer;
-use merkle_dag::{DagError, Lineage};
+use merkle_dag::Lineage;
 use scratch_model::Scratch;
 use std::alloc::Global;
 
@@ -27,13 +26,10 @@ pub enum AskError {
     Memory,
 }
 
-/// The answer to a question about the blocks up to the one that it names, where it is told which
-/// bytes
-/// the device holds. The lineage stays as it was, but for the bodies at hand, also where there is
-/// no
-/// answer. The count rises by the number of the versions of the key that are looked at: those of
-/// the
-/// path, also where the device fails or out of memory, and none past the last block.
+/// The answer to a question about the blocks up to the one that it names, where it is known which
+/// bytes the device holds. The lineage stays as it was, but for the bodies at hand, also where there
+/// is no answer. The count rises by the number of the versions of the key that are looked at: those
+/// of the path, also where the device fails or out of memory, and none past the last block.
 pub fn ask<S: Scratch>(
     alloc: Global,
     lineage: &mut Lineage,
@@ -42,13 +38,12 @@ pub fn ask<S: Scratch>(
     steps: &mut Steps,
 ) -> Result<Answer, AskError>
     requires agrees { AgreesWith lineage.old (S.state scratch.old) }
-    ensures answered { is_told (S.state scratch.old) ≡ true
+    ensures answered { is_known (S.state scratch.old) ≡ true
         → IsAnswered (ledger_in lineage.old) query.now result }
     ensures beyond { IsRefusedBeyond (ledger_in lineage.old) query.now result }
-    ensures same { StaysSame lineage.old (S.state scratch.old) lineage.new (S.state scratch.new) }
     ensures counted { IsCounted (ledger_in lineage.old) query.now result steps.old steps.new }
-    ensures cause { HasCause (S.scratch_faults scratch.old) (S.scratch_faults scratch.new)
-        (IsErrOf result AskError.Fault) }
+    ensures leaves { LeavesLineage S.state S.scratch_faults lineage.old scratch.old lineage.new
+        scratch.new (IsErrOf result AskError.Fault) }
 {
     if lineage.digest(query.at).is_none() {
         return Err(AskError::Beyond {
@@ -57,7 +52,7 @@ pub fn ask<S: Scratch>(
     }
     match answer(alloc, lineage, scratch, query, steps) {
         Ok(answer) => Ok(answer),
-        Err(DagError::Fault) => Err(AskError::Fault),
-        Err(DagError::Memory) => Err(AskError::Memory),
+        Err(HostError::Fault) => Err(AskError::Fault),
+        Err(HostError::Memory) => Err(AskError::Memory),
     }
 }

@@ -12,7 +12,7 @@ use Rattle.std.proofs.lemmas.Option.{none-some, same_Some}
 use Rattle.lc_base.specs.declared.row.Row.{Row}
 use Rattle.lc_base.specs.declared.row.Dep.{Dep}
 use Rattle.lc_base.specs.History.{IsLawful, HasLawfulDeps, IsRecordedFrom, StandsBefore, below, up_to, newest, depends_on, version_of}
-use Rattle.root_laws.specs.Naming.{closed, uses_of}
+use Rattle.root_laws.specs.Naming.{closed_uses, uses_of}
 use Rattle.root_laws.proofs.Lists.{all_weaker, all_reverse, contained, found_has, not_both, option_cases}
 use Rattle.root_laws.proofs.Keys.{same_key, key_is_key}
 use Rattle.root_laws.proofs.Headers.{newest_has, below_are_before}
@@ -117,7 +117,7 @@ below_up_to rows block = filter_twice (λ (row : Row). nat_lt row.block block) (
     each [] = tt
     each (row ∷ rs) = ((λ t. let low = ltb-true row.block block t in le-leb row.block block (omega (arith, low))), each rs)
 
-pub closed_up_to : (rows : List Row) (row : Row) → IsLawful rows → Contains rows row → closed (up_to rows row.block) row.key row.block ≡ closed rows row.key row.block
+pub closed_up_to : (rows : List Row) (row : Row) → IsLawful rows → Contains rows row → closed_uses (up_to rows row.block) row.key row.block ≡ closed_uses rows row.key row.block
 closed_up_to rows row lawful has =
     ap (λ (rs : List Row). uses_of (up_to rows row.block) row.key (newest rs row.key)) (below_up_to rows row.block)
     ∙ go (newest (below rows row.block) row.key) refl

@@ -5,7 +5,7 @@ use Rattle.lc_base.specs.declared.digest.Digest.{Digest}
 use Rattle.lc_base.specs.declared.row.Row.{Row}
 use Rattle.lc_base.specs.History.{IsLawful, up_to}
 use Rattle.skip_links.specs.Links.{links}
-use Rattle.root_laws.specs.Naming.{closed, named_by, named_before, header_of, body_of}
+use Rattle.root_laws.specs.Naming.{closed_uses, named_by, named_before, header_of, body_of}
 use Rattle.root_laws.specs.Root.{with_key, keys_of, root_of}
 
 -- All rows are of this block or of later ones.
@@ -24,14 +24,14 @@ EarlierHeadersStay =
     (rows more : List Row) (row : Row) → AreFrom (suc row.block) more
     → (header_of (rows ++ more) row ≡ header_of rows row) × (body_of (rows ++ more) row ≡ body_of rows row)
 
--- Where rows of one block are appended to rows of earlier ones, they are named behind the versions
+-- Where rows of one block are appended to rows of earlier ones, they are named after the versions
 -- before, over the history with them.
 abbrev pub VersionsOfABlockAreNamed : Type 0
 VersionsOfABlockAreNamed =
     (rows new : List Row) (block : ℕ) → All (λ (row : Row). row.block < block) rows → All (λ (row : Row). row.block ≡ block) new
     → named_before (rows ++ new) (suc block) ≡ named_before rows block ++ map (named_by (rows ++ new) (named_before rows block)) new
 
--- Keys stay in their places where rows are appended; new keys are put behind them.
+-- Keys stay in their places where rows are appended; new keys are put after them.
 abbrev pub EarlierKeysStandFirst : Type 0
 EarlierKeysStandFirst = (rows more : List Row) → keys_of (rows ++ more) ≡ fold with_key (keys_of rows) more
 
@@ -52,4 +52,4 @@ LinksAreOfTheHistory = (rows : List Row) (key : List ℕ) (block : ℕ) → link
 abbrev pub ClosedListsAreOfTheHistory : Type 0
 ClosedListsAreOfTheHistory =
     (rows : List Row) (row : Row) → IsLawful rows → Contains rows row
-    → closed (up_to rows row.block) row.key row.block ≡ closed rows row.key row.block
+    → closed_uses (up_to rows row.block) row.key row.block ≡ closed_uses rows row.key row.block

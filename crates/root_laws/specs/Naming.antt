@@ -20,7 +20,7 @@ use Rattle.prov_entry.specs.ForwardLists.{uses_digest}
 abbrev pub digest_of_uses : List Dep → Digest
 digest_of_uses uses = record { 0 = uses_digest uses }
 
--- ---- closed forward lists
+-- ---- closed_uses forward lists
 
 -- The uses of a version among these rows; none where there is no version.
 abbrev pub uses_of : List Row → List ℕ → Option Row → List Dep
@@ -29,8 +29,8 @@ uses_of rows key (Some version) = uses rows key version.block
 
 -- The forward list that a version of the key in this block closes: the uses, among these rows, of
 -- the key's version before it; none for a first version.
-abbrev pub closed : List Row → List ℕ → ℕ → List Dep
-closed rows key block = uses_of rows key (newest (below rows block) key)
+abbrev pub closed_uses : List Row → List ℕ → ℕ → List Dep
+closed_uses rows key block = uses_of rows key (newest (below rows block) key)
 
 -- ---- headers and bodies, where the header digests of older versions are given
 
@@ -66,8 +66,8 @@ header_among rows named row = record {
   block = row.block;
   tx = row.tx;
   body = digest_of (body_text (body_among named row));
-  closed = length (closed rows row.key row.block);
-  closed_digest = digest_of_uses (closed rows row.key row.block);
+  closed = length (closed_uses rows row.key row.block);
+  closed_digest = digest_of_uses (closed_uses rows row.key row.block);
   links = map (link_among named row.key) (links rows row.key row.block);
 }
 

@@ -20,7 +20,7 @@ use Rattle.root_laws.specs.Naming.{digest_of_uses, header_digest}
 abbrev pub is_among : List (List ℕ) → List ℕ → Bool
 is_among keys key = list_any (λ other. pointwise ◌==◌ other key) keys
 
--- The keys, and behind them this row's where it is not among them.
+-- The keys, and after them this row's where it is not among them.
 abbrev pub with_key : List (List ℕ) → Row → List (List ℕ)
 with_key keys row = if is_among keys row.key then keys else keys ++ row.key ∷ []
 

@@ -1,9 +1,11 @@
 //! Laws of headers, of keys and of roots.
 
-ghost use Rattle.root_laws.specs.GrowthLaws.{EarlierVersionsStayNamed, EarlierHeadersStay, EarlierKeysStandFirst, EarlierRootsStay, VersionsOfABlockAreNamed, LinksAreOfTheHistory, ClosedListsAreOfTheHistory};
-ghost use Rattle.root_laws.specs.NamingLaws.{RowsAreNamed, LinksNameHeaders, DependenciesNameHeaders, LeavesNameHeaders};
-ghost use Rattle.root_laws.specs.WalkLaws.{HeaderWalksAreSound};
-ghost use Rattle.root_laws.specs.KeyLaws.{KeysAreThoseOfTheRows, KeysAreDistinct, NextKeyIsTheLeastGreater, NextKeyIsUnique, NewKeyIsThreaded};
+ghost use Rattle.root_laws.specs.{
+  GrowthLaws.{EarlierVersionsStayNamed, EarlierHeadersStay, EarlierKeysStandFirst, EarlierRootsStay, VersionsOfABlockAreNamed, LinksAreOfTheHistory, ClosedListsAreOfTheHistory},
+  NamingLaws.{RowsAreNamed, LinksNameHeaders, DependenciesNameHeaders, LeavesNameHeaders},
+  WalkLaws.{HeaderWalksAreSound},
+  KeyLaws.{KeysAreThoseOfTheRows, KeysAreDistinct, NextKeyIsTheLeastGreater, NextKeyIsUnique, NewKeyIsThreaded},
+};
 
 // ---- histories that grow
 
@@ -18,12 +20,12 @@ pub fn earlier_headers_stay()
     ensures { EarlierHeadersStay }
 {}
 
-/// A block's rows are named behind the versions before, each over the history up to this block.
+/// A block's rows are named after the versions before, each over the history up to this block.
 pub fn versions_of_a_block_are_named()
     ensures { VersionsOfABlockAreNamed }
 {}
 
-/// Keys stay in their places where rows are appended; new keys are put behind them.
+/// Keys stay in their places where rows are appended; new keys are put after them.
 pub fn earlier_keys_stand_first()
     ensures { EarlierKeysStandFirst }
 {}

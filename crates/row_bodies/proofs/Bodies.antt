@@ -13,8 +13,8 @@ use Rattle.prov_entry.specs.Spelling.{IsBody, body_fields}
 use Rattle.entry_views.specs.declared.fault.FieldError.{FieldError}
 use Rattle.entry_views.specs.Placed.{Placed}
 use Rattle.entry_views.specs.Reading.{body_at}
-use Rattle.entry_views.specs.Standing.{placed, read_from}
-use Rattle.entry_views.proofs.Bodies.{body_field}
+use Rattle.entry_views.specs.Standing.{placed_value, read_from}
+use Rattle.entry_views.specs.Bodies.{body_field}
 use Rattle.row_bodies.specs.Bodies.{no_body, body_read, dep_without_digest}
 
 -- the fields of a body are read as the body
@@ -29,7 +29,7 @@ body_given (Ok body) = body.value
 body_given (Err error) = no_body
 
 given_is : (offset total : ℕ) (read : Field Body)
-    → body_given (placed offset total read) ≡ body_read read
+    → body_given (placed_value offset total read) ≡ body_read read
 given_is offset total (Ok read) = refl
 given_is offset total (Err left) = refl
 

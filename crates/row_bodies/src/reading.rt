@@ -3,8 +3,7 @@
 
 ghost use Rattle.std.specs.Prelude.{◌≡◌, length, map, slice_get, IfOk};
 ghost use Rattle.lc_base.specs.declared.limits.TheConstants.{MAX_DEPS};
-ghost use Rattle.byte_fields.specs.Reader.{value_seen};
-ghost use Rattle.byte_fields.specs.Spelling.{IsValue};
+ghost use Rattle.byte_fields.specs.{Reader.{value_seen}, Spelling.{IsValue}};
 ghost use Rattle.prov_entry.specs.Spelling.{IsBody};
 ghost use Rattle.entry_views.specs.Reading.{body_at};
 ghost use Rattle.row_bodies.specs.Bodies.{body_read, body_standing, dep_without_digest};
@@ -23,7 +22,7 @@ fn body_view(bytes: &[u8]) -> Option<BodyView<'_>>
 }
 
 /// A value, with a text of its own.
-fn owned(alloc: Global, view: &ValueView) -> Result<Value, Memory>
+fn owned_value(alloc: Global, view: &ValueView) -> Result<Value, Memory>
     requires { IsValue (value_seen view.now) }
     ensures { IfOk result (λ value. value ≡ value_seen view.now) }
 {
@@ -87,7 +86,7 @@ pub fn body_of_bytes(alloc: Global, bytes: &[u8]) -> Result<Body, Memory>
         Some(body) => {
             // So that it is known to be one that can be spelled.
             let _spelled = body.bytes();
-            let value = owned(alloc, &body.value())?;
+            let value = owned_value(alloc, &body.value())?;
             let deps = owned_deps(alloc, &body.deps())?;
             Ok(Body { value, deps })
         }
@@ -103,7 +102,7 @@ pub fn value_of_bytes(alloc: Global, bytes: &[u8]) -> Result<Value, Memory>
         Some(body) => {
             // So that its value is known to be one.
             let _spelled = body.bytes();
-            owned(alloc, &body.value())
+            owned_value(alloc, &body.value())
         }
     }
 }

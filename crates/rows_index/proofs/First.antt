@@ -18,7 +18,7 @@ use Rattle.std.proofs.lemmas.Slice.Eq.{bytes_eq-Decides}
 use Rattle.lc_base.specs.declared.row.Row.{Row}
 use Rattle.lc_base.specs.History.{depends_on}
 use Rattle.rows_index.specs.declared.places.Place.{Place}
-use Rattle.rows_index.specs.Places.{marked, places_in, listed, is_of, place_of, ArePlaces}
+use Rattle.rows_index.specs.Places.{marks_of, places_in, list_or_empty, is_of, place_of, ArePlaces}
 use Rattle.rows_index.specs.Users.{AreUsers, number_of}
 use Rattle.rows_index.specs.First.{is_below, stands_below, numbers_below, places_below}
 
@@ -26,7 +26,7 @@ use Rattle.rows_index.specs.First.{is_below, stands_below, numbers_below, places
 
 module _ {X A : Type 0} (keep : ℕ → X → A) (passes : X → Bool) (test : A → Bool) (end : ℕ)
     (tests : (m : ℕ) (x : X) → test (keep m x) ≡ nat_lt m end) where
-  none_low : (m : ℕ) (xs : List X) → end ≤ m → filter test (marked keep passes m xs) ≡ []
+  none_low : (m : ℕ) (xs : List X) → end ≤ m → filter test (marks_of keep passes m xs) ≡ []
   none_low m [] high = refl
   none_low m (x ∷ xs) high =
       let rest = none_low (suc m) xs (omega (arith, high)) in
@@ -37,7 +37,7 @@ module _ {X A : Type 0} (keep : ℕ → X → A) (passes : X → Bool) (test : A
       ]
 
   pub marked_first : (n k : ℕ) (xs : List X) → n + k ≡ end
-      → filter test (marked keep passes n xs) ≡ marked keep passes n (take k xs)
+      → filter test (marks_of keep passes n xs) ≡ marks_of keep passes n (take k xs)
   marked_first n zero xs at = none_low n xs (omega (arith, at))
   marked_first n (suc k) [] at = refl
   marked_first n (suc k) (x ∷ xs) at =
@@ -96,7 +96,7 @@ below_more end kept below after done left e all found are more key = elim
           ∙ ap (λ b. cond b (places_below end e.1) (places_in below key)) t
           ∙ ap (places_below end) (sym
           (ap (λ (k : List ℕ). places_in kept k) (sym ((bytes_eq-Decides e.0 key).0 t))
-          ∙ ap listed here))
+          ∙ ap list_or_empty here))
           ∙ ap (λ b. cond b (places_below end (places_in kept key)) [])
           (sym (done_more done e key true t ∙ or_true (is_done done key)))
       | inr f ↦
@@ -132,7 +132,7 @@ below_all end kept below are key = elim (cases_Bool (is_done kept.entries key)) 
   | inr f ↦
       are key
       ∙ ap (λ b. cond b (places_below end (places_in kept key)) []) f
-      ∙ ap (λ o. places_below end (listed o)) (sym (none_kept kept.entries key f))
+      ∙ ap (λ o. places_below end (list_or_empty o)) (sym (none_kept kept.entries key f))
 ]
 
 -- ---- the index over the first rows

@@ -7,7 +7,7 @@ use Rattle.std.proofs.lemmas.Bool.{cases_Bool}
 use Rattle.std.proofs.lemmas.Map.Text.{is_eq-slice_cmp}
 use Rattle.std.proofs.lemmas.Slice.Eq.{bytes_eq-Decides}
 use Rattle.rows_index.specs.declared.places.Place.{Place}
-use Rattle.rows_index.specs.Places.{listed, places_in}
+use Rattle.rows_index.specs.Places.{list_or_empty, places_in}
 
 pub kept_more : (before after : BTreeMap (List ℕ) (List Place)) (key other : List ℕ) (place : Place)
     (list : List Place)
@@ -18,16 +18,16 @@ pub kept_more : (before after : BTreeMap (List ℕ) (List Place)) (key other : L
     (places_in before other)
 kept_more before after key other place list own updates = elim
     (cases_Bool (pointwise ◌==◌ key other)) [
-      | inl t ↦ rw t (ap listed updates ∙ chosen t ∙ own
+      | inl t ↦ rw t (ap list_or_empty updates ∙ chosen t ∙ own
           ∙ ap (λ (k : List ℕ). places_in before k ++ place ∷ []) ((bytes_eq-Decides key other).0 t))
-      | inr f ↦ rw f (ap listed updates ∙ chosen f)
+      | inr f ↦ rw f (ap list_or_empty updates ∙ chosen f)
     ]
   where
     chosen : {b : _} → pointwise ◌==◌ key other ≡ b
-        → listed (cond (is_eq (slice_cmp nat_cmp key other)) (Some list)
-        (get (slice_cmp nat_cmp) before other)) ≡ listed
+        → list_or_empty (cond (is_eq (slice_cmp nat_cmp key other)) (Some list)
+        (get (slice_cmp nat_cmp) before other)) ≡ list_or_empty
         (cond b (Some list) (get (slice_cmp nat_cmp) before other))
-    chosen e = ap (λ b. listed (cond b (Some list) (get (slice_cmp nat_cmp) before other)))
+    chosen e = ap (λ b. list_or_empty (cond b (Some list) (get (slice_cmp nat_cmp) before other)))
         (is_eq-slice_cmp key other ∙ e)
 
 pub kept_new : (before after : BTreeMap (List ℕ) (List Place)) (key other : List ℕ)
@@ -36,13 +36,13 @@ pub kept_new : (before after : BTreeMap (List ℕ) (List Place)) (key other : Li
     (get (slice_cmp nat_cmp) before other)
     → places_in after other ≡ cond (pointwise ◌==◌ key other) list (places_in before other)
 kept_new before after key other list updates = elim (cases_Bool (pointwise ◌==◌ key other)) [
-  | inl t ↦ rw t (ap listed updates ∙ chosen t)
-  | inr f ↦ rw f (ap listed updates ∙ chosen f)
+  | inl t ↦ rw t (ap list_or_empty updates ∙ chosen t)
+  | inr f ↦ rw f (ap list_or_empty updates ∙ chosen f)
 ]
   where
     chosen : {b : _} → pointwise ◌==◌ key other ≡ b
-        → listed (cond (is_eq (slice_cmp nat_cmp key other)) (Some list)
-        (get (slice_cmp nat_cmp) before other)) ≡ listed
+        → list_or_empty (cond (is_eq (slice_cmp nat_cmp key other)) (Some list)
+        (get (slice_cmp nat_cmp) before other)) ≡ list_or_empty
         (cond b (Some list) (get (slice_cmp nat_cmp) before other))
-    chosen e = ap (λ b. listed (cond b (Some list) (get (slice_cmp nat_cmp) before other)))
+    chosen e = ap (λ b. list_or_empty (cond b (Some list) (get (slice_cmp nat_cmp) before other)))
         (is_eq-slice_cmp key other ∙ e)

@@ -12,7 +12,7 @@ use Rattle.std.proofs.lemmas.Option.{none-some, same_Some}
 use Rattle.lc_base.specs.declared.row.Row.{Row}
 use Rattle.lc_base.specs.History.{is_version, latest}
 use Rattle.rows_index.specs.declared.places.Place.{Place}
-use Rattle.rows_index.specs.Places.{marked, is_of, place_of, block_of, row_index, places, places_in}
+use Rattle.rows_index.specs.Places.{marks_of, is_of, place_of, block_of, row_index, places, places_in}
 use Rattle.rows_index.specs.Places.{ArePlaces, last_up_to, index_up_to, IsRowAt}
 
 -- ---- one item more
@@ -27,14 +27,14 @@ one_more false false y z ms = refl
 
 pub marked_more : {X A : Type 0} (keep : ℕ → X → A) (passes : X → Bool) (n : ℕ) (xs : List X)
     (x : X) →
-    marked keep passes n (xs ++ x ∷ []) ≡ cond (passes x)
-    (marked keep passes n xs ++ keep (n + length xs) x ∷ []) (marked keep passes n xs)
+    marks_of keep passes n (xs ++ x ∷ []) ≡ cond (passes x)
+    (marks_of keep passes n xs ++ keep (n + length xs) x ∷ []) (marks_of keep passes n xs)
 marked_more keep passes n [] x =
     let e : n ≡ n + 0 = omega arith in
     ap (λ k. cond (passes x) (keep k x ∷ []) []) e
 marked_more {X} {A} keep passes n (y ∷ ys) x =
     let e : suc n + length ys ≡ n + suc (length ys) = omega arith in
-    let ms = marked keep passes (suc n) ys in
+    let ms = marks_of keep passes (suc n) ys in
     ap (λ (l : List A). cond (passes y) (keep n y ∷ l) l) (marked_more keep passes (suc n) ys x)
     ∙ one_more (passes y) (passes x) (keep n y) (keep (suc n + length ys) x) ms
     ∙ ap (λ k. cond (passes x) (cond (passes y) (keep n y ∷ ms) ms ++ keep k x ∷ [])
@@ -67,7 +67,7 @@ abbrev row_block : Row → ℕ
 row_block row = row.block
 
 places_low : (passes : Row → Bool) (low n : ℕ) (rows : List Row) → AtLeast row_block low rows
-    → AtLeast block_of low (marked place_of passes n rows)
+    → AtLeast block_of low (marks_of place_of passes n rows)
 places_low passes low n [] all = λ j d m. absurd (omega (arith, m))
 places_low passes low n (row ∷ rows) all =
     let rest = places_low passes low (suc n) rows (λ j d m. all (suc j) d (omega (arith, m))) in
@@ -75,7 +75,7 @@ places_low passes low n (row ∷ rows) all =
     (at_least_cons block_of low (place_of n row) _ (all 0 row (omega arith)) rest) rest
 
 pub places_rise : (passes : Row → Bool) (n : ℕ) (rows : List Row) → IsNonDecreasingBy row_block rows
-    → IsNonDecreasingBy block_of (marked place_of passes n rows)
+    → IsNonDecreasingBy block_of (marks_of place_of passes n rows)
 places_rise passes n [] rise = λ i j d l m. absurd (omega (arith, m))
 places_rise passes n (row ∷ rows) rise =
     let rest = places_rise passes (suc n) rows
@@ -139,7 +139,7 @@ get_here (y ∷ ys) x xs = get_here ys x xs
 found_by_place : (key : List ℕ) (at n : ℕ) (before rows : List Row) → length before ≡ n →
     option_map (λ (r : Row). Some r) (latest rows key at) ≡ option_map
     (λ (p : Place). slice_get (before ++ rows) p.row)
-    (last_up_to at (marked place_of (is_of key) n rows))
+    (last_up_to at (marks_of place_of (is_of key) n rows))
 found_by_place key at n before [] len = refl
 found_by_place key at n before (row ∷ rows) len =
     let all = before ++ row ∷ rows in
@@ -150,11 +150,11 @@ found_by_place key at n before (row ∷ rows) len =
     ∙ omega (arith, len) in
     let rest = found_by_place key at (suc n) (before ++ row ∷ []) rows longer
     ∙ ap (λ (l : List Row). option_map (λ (p : Place). slice_get l p.row)
-    (last_up_to at (marked place_of (is_of key) (suc n) rows)))
+    (last_up_to at (marks_of place_of (is_of key) (suc n) rows)))
     (append_assoc before (row ∷ []) rows) in
     ap (option_map (λ (r : Row). Some r)) (find_first (is_version key at) row rows)
     ∙ version_step at (is_of key row) row (place_of n row)
-    (marked place_of (is_of key) (suc n) rows) (latest rows key at) g here rest
+    (marks_of place_of (is_of key) (suc n) rows) (latest rows key at) g here rest
 
 found_row : (rows : List Row) (place : Option Place) (found : Option Row)
     → option_map (λ (r : Row). Some r) found ≡ option_map (λ (p : Place). slice_get rows p.row)

@@ -5,13 +5,13 @@ use Rattle.std.proofs.lemmas.List.{length-append}
 use Rattle.std.proofs.lemmas.Option.{same_Some, none-some}
 use Rattle.lc_base.specs.declared.row.Row.{Row}
 use Rattle.lc_base.specs.History.{depends_on}
-use Rattle.rows_index.specs.Places.{marked}
+use Rattle.rows_index.specs.Places.{marks_of}
 use Rattle.rows_index.specs.Users.{number_of, users, is_among, AreUsersWith, AreUsers}
 use Rattle.rows_index.proofs.Marked.{marked_more, get_here}
 
 none_marked : (passes : Row → Bool) (n : ℕ) (rows : List Row)
     → ((i : ℕ) (r : Row) → slice_get rows i ≡ Some r → passes r ≡ false)
-    → marked number_of passes n rows ≡ []
+    → marks_of number_of passes n rows ≡ []
 none_marked passes n [] none = refl
 none_marked passes n (r ∷ rows) none =
     rw (none 0 r refl) (none_marked passes (suc n) rows (λ i s at. none (suc i) s at))

@@ -6,7 +6,7 @@ use Rattle.std.proofs.lemmas.List.{append_assoc, length-append, map-append}
 use Rattle.lc_base.specs.declared.row.Row.{Row}
 use Rattle.lc_base.specs.declared.row.Dep.{Dep}
 use Rattle.lc_base.specs.History.{depends_on, uses, version_of}
-use Rattle.rows_index.specs.Places.{marked, StandsAt}
+use Rattle.rows_index.specs.Places.{marks_of, StandsAt}
 use Rattle.rows_index.specs.Users.{number_of, users, version_at, there, AreVersionsAt}
 use Rattle.rows_index.proofs.Marked.{get_here}
 
@@ -18,7 +18,7 @@ version_step true row n ms found g is rest = λ i. is i ∷ rest i
 version_step false row n ms found g is rest = rest
 
 versions_by_number : (passes : Row → Bool) (n : ℕ) (before rows : List Row) → length before ≡ n →
-    map (version_at (before ++ rows)) (marked number_of passes n rows) ≡ map there
+    map (version_at (before ++ rows)) (marks_of number_of passes n rows) ≡ map there
     (map version_of (filter passes rows))
 versions_by_number passes n before [] len = refl
 versions_by_number passes n before (row ∷ rows) len =
@@ -27,9 +27,9 @@ versions_by_number passes n before (row ∷ rows) len =
     (ap (slice_get all) (sym len) ∙ get_here before row rows) in
     let longer : length (before ++ row ∷ []) ≡ suc n = length-append before (row ∷ [])
     ∙ omega (arith, len) in
-    version_step (passes row) row n (marked number_of passes (suc n) rows) (filter passes rows)
+    version_step (passes row) row n (marks_of number_of passes (suc n) rows) (filter passes rows)
     (version_at all) here
-    (ap (λ (l : List Row). map (version_at l) (marked number_of passes (suc n) rows))
+    (ap (λ (l : List Row). map (version_at l) (marks_of number_of passes (suc n) rows))
     (sym (append_assoc before (row ∷ []) rows))
     ∙ versions_by_number passes (suc n) (before ++ row ∷ []) rows longer)
 

@@ -12,10 +12,10 @@ use Rattle.rows_index.specs.declared.places.Place.{Place}
 
 -- What is kept of each item that passes a test, and of its index, in order; the first item has the
 -- index n.
-abbrev pub marked : {X A : Type 0} → (ℕ → X → A) → (X → Bool) → ℕ → List X → List A
-marked keep passes n [] = []
-marked keep passes n (x ∷ xs) =
-    if passes x then keep n x ∷ marked keep passes (suc n) xs else marked keep passes (suc n) xs
+abbrev pub marks_of : {X A : Type 0} → (ℕ → X → A) → (X → Bool) → ℕ → List X → List A
+marks_of keep passes n [] = []
+marks_of keep passes n (x ∷ xs) =
+    if passes x then keep n x ∷ marks_of keep passes (suc n) xs else marks_of keep passes (suc n) xs
 
 -- Whether a row is a version of the key.
 abbrev pub is_of : List ℕ → Row → Bool
@@ -32,15 +32,15 @@ row_index place = place.row
 
 -- Where the versions of the key stand, in order.
 abbrev pub places : List Row → List ℕ → List Place
-places rows key = marked place_of (is_of key) 0 rows
+places rows key = marks_of place_of (is_of key) 0 rows
 
-abbrev pub listed : {A : Type 0} → Option (List A) → List A
-listed None = []
-listed (Some list) = list
+abbrev pub list_or_empty : {A : Type 0} → Option (List A) → List A
+list_or_empty None = []
+list_or_empty (Some list) = list
 
 -- The places that are kept of a key.
 abbrev pub places_in : BTreeMap (List ℕ) (List Place) → List ℕ → List Place
-places_in kept key = listed (get (slice_cmp nat_cmp) kept key)
+places_in kept key = list_or_empty (get (slice_cmp nat_cmp) kept key)
 
 -- Of each key the places of its versions are kept.
 abbrev pub ArePlaces : List Row → BTreeMap (List ℕ) (List Place) → Type 0

@@ -9,14 +9,14 @@ use Rattle.lc_base.specs.declared.row.Row.{Row}
 use Rattle.lc_base.specs.declared.row.Dep.{Dep}
 use Rattle.lc_base.specs.History.{StandsBefore, depends_on, version_of}
 use Rattle.rows_index.specs.declared.places.Place.{Place}
-use Rattle.rows_index.specs.Places.{marked, ArePlaces, StandsAt}
+use Rattle.rows_index.specs.Places.{marks_of, ArePlaces, StandsAt}
 
 abbrev pub number_of : ℕ → Row → ℕ
 number_of n row = n
 
 -- The indexes of the rows that were derived from a row, in order.
 abbrev pub users : List Row → Row → List ℕ
-users rows row = marked number_of (depends_on row.key row.block) 0 rows
+users rows row = marks_of number_of (depends_on row.key row.block) 0 rows
 
 -- Whether a row is one of these versions.
 abbrev pub is_among : List Dep → Row → Bool

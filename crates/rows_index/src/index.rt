@@ -1,13 +1,15 @@
 //! The index over the rows of a history.
 
-ghost use Rattle.std.specs.Prelude.{◌≡◌, ◌<◌, ◌≤◌, ℕ, List, [], ◌∷◌, ◌++◌, length, take, slice_get};
-ghost use Rattle.std.specs.Prelude.{Some, OnOk, IfOk};
-ghost use Rattle.std.specs.List.{AllPairs};
-ghost use Rattle.lc_base.specs.declared.row.Row.{Row};
-ghost use Rattle.lc_base.specs.History.{StandsBefore, latest, uses};
-ghost use Rattle.rows_index.specs.Places.{ArePlaces, IsRowAt};
-ghost use Rattle.rows_index.specs.Users.{AreUsers, AreVersionsAt};
-ghost use Rattle.rows_index.specs.Index.{IsIndexOf, IsNext};
+ghost use Rattle.std.specs.{
+  Prelude.{◌≡◌, ◌<◌, ◌≤◌, ℕ, List, [], ◌∷◌, ◌++◌, length, take, slice_get, Some, OnOk, IfOk},
+  List.{AllPairs},
+};
+ghost use Rattle.lc_base.specs.{declared.row.Row.{Row}, History.{StandsBefore, latest, uses}};
+ghost use Rattle.rows_index.specs.{
+  Places.{ArePlaces, IsRowAt},
+  Users.{AreUsers, AreVersionsAt},
+  Index.{IsIndexOf, IsNext},
+};
 
 use crate::places::{Place, PlaceList, map_below, push_place, row_up_to};
 use crate::users::{IndexList, add_users, users_below};
@@ -23,7 +25,7 @@ pub struct RowsIndex {
     users: Vec<IndexList>,
 }
 
-/// Adds a row behind those so far, and gives the indexes of its dependencies.
+/// Adds a row after those so far, and gives the indexes of its dependencies.
 fn add_row(
     alloc: Global,
     places: &mut BTreeMap<Key, PlaceList>,

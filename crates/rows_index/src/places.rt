@@ -1,14 +1,16 @@
 //! Of each key the places of its versions.
 
-ghost use Rattle.std.specs.Prelude.{◌≡◌, ◌==◌, ℕ, List, [], ◌∷◌, ◌++◌, reverse, filter, nat_le};
-ghost use Rattle.std.specs.Prelude.{if◌then◌else◌, OnOk, IfOk};
-ghost use Rattle.std.specs.List.{AllPairs};
-ghost use Rattle.std.specs.List.Sorted.{IsNonDecreasingBy};
-ghost use Rattle.std.specs.Cmp.Lexicographic.{pointwise};
-ghost use Rattle.lc_base.specs.declared.row.Row.{Row};
-ghost use Rattle.lc_base.specs.History.{StandsBefore};
-ghost use Rattle.rows_index.specs.Places.{ArePlaces, block_of, index_up_to, last_up_to, places_in};
-ghost use Rattle.rows_index.specs.First.{stands_below, places_below};
+ghost use Rattle.std.specs.{
+  Prelude.{◌≡◌, ◌==◌, ℕ, List, [], ◌∷◌, ◌++◌, reverse, filter, nat_le, if◌then◌else◌, OnOk, IfOk},
+  List.{AllPairs},
+  List.Sorted.{IsNonDecreasingBy},
+  Cmp.Lexicographic.{pointwise},
+};
+ghost use Rattle.lc_base.specs.{declared.row.Row.{Row}, History.{StandsBefore}};
+ghost use Rattle.rows_index.specs.{
+  Places.{ArePlaces, block_of, index_up_to, last_up_to, places_in},
+  First.{stands_below, places_below},
+};
 
 use lc_base::{Key, Memory, Seq};
 use std::alloc::Global;

@@ -1,13 +1,15 @@
 //! Of each row the indexes of the rows that were derived from it.
 
-ghost use Rattle.std.specs.Prelude.{◌≡◌, ◌<◌, ℕ, List, [], ◌∷◌, ◌++◌, length, map, filter};
-ghost use Rattle.std.specs.Prelude.{slice_index_or, slice_set, OnOk, IfOk};
-ghost use Rattle.std.specs.List.{AllPairs};
-ghost use Rattle.lc_base.specs.declared.row.Row.{Row};
-ghost use Rattle.lc_base.specs.History.{StandsBefore};
-ghost use Rattle.rows_index.specs.Places.{ArePlaces, StandsAt};
-ghost use Rattle.rows_index.specs.Users.{AreUsers, AreUsersWith, AreVersionsAt, CanUse, IsUnused};
-ghost use Rattle.rows_index.specs.First.{is_below, numbers_below};
+ghost use Rattle.std.specs.{
+  Prelude.{◌≡◌, ◌<◌, ℕ, List, [], ◌∷◌, ◌++◌, length, map, filter, slice_index_or, slice_set, OnOk, IfOk},
+  List.{AllPairs},
+};
+ghost use Rattle.lc_base.specs.{declared.row.Row.{Row}, History.{StandsBefore}};
+ghost use Rattle.rows_index.specs.{
+  Places.{ArePlaces, StandsAt},
+  Users.{AreUsers, AreUsersWith, AreVersionsAt, CanUse, IsUnused},
+  First.{is_below, numbers_below},
+};
 
 use crate::places::{PlaceList, row_up_to};
 use lc_base::{Dep, Key, Memory, Row, Seq};
@@ -63,7 +65,7 @@ fn add_to_versions(
     Ok(IndexList::from_vec(indexes))
 }
 
-/// Adds a row behind those so far: to the rows that were derived from its dependencies, and as one
+/// Adds a row after those so far: to the rows that were derived from its dependencies, and as one
 /// from which none was derived. It gives the indexes of its dependencies.
 pub(crate) fn add_users(
     alloc: Global,

@@ -1,15 +1,18 @@
 //! Laws of levels, links and newest rows, each the contract of a function that does nothing.
 
-ghost use Rattle.std.specs.Prelude.{◌≡◌, ℕ, true, false, ◌==◌, ◌+◌, ◌*◌, ◌^◌, ◌<◌, ◌≤◌, not, if◌then◌else◌, List, [], ◌∷◌, ◌++◌, length, map, Option, Some, None, slice_get, MatchOption, bit_xor};
-ghost use Rattle.std.specs.List.{range_with_len, AllByRecursion};
-ghost use Rattle.std.specs.Option.{option_map};
-ghost use Rattle.std.specs.Cmp.Lexicographic.{pointwise};
-ghost use Rattle.lc_base.specs.declared.row.Row.{Row};
-ghost use Rattle.lc_base.specs.History.{IsLawful, below, up_to, newest};
-ghost use Rattle.skip_links.specs.Links.{is_at_level, height, link, links};
-ghost use Rattle.skip_links.specs.Falling.{IsFalling, older_blocks, last_at_level};
-ghost use Rattle.skip_links.specs.Versions.{newest_index};
-ghost use Rattle.skip_links.specs.Laws.{has_older, has_older_in};
+ghost use Rattle.std.specs.{
+  Prelude.{◌≡◌, ℕ, true, false, ◌==◌, ◌+◌, ◌*◌, ◌^◌, ◌<◌, ◌≤◌, not, if◌then◌else◌, List, [], ◌∷◌, ◌++◌, length, map, Option, Some, None, slice_get, MatchOption, bit_xor},
+  List.{range_with_len, AllByRecursion},
+  Option.{option_map},
+  Cmp.Lexicographic.{pointwise},
+};
+ghost use Rattle.lc_base.specs.{declared.row.Row.{Row}, History.{IsLawful, below, up_to, newest}};
+ghost use Rattle.skip_links.specs.{
+  Links.{is_at_level, height, link, links},
+  Falling.{IsFalling, older_blocks, last_at_level},
+  Versions.{newest_index},
+  Laws.{has_older, has_older_in},
+};
 
 /// The rows up to a block give the links of its versions.
 #[tactic(auto, using(crate::proofs::Towers::links_up_to))]

@@ -1,10 +1,14 @@
 //! Links by scanning the rows of a history, as they are defined.
 
-ghost use Rattle.std.specs.Prelude.{◌≡◌, ◌≤◌, ◌&&◌, ◌==◌, ◌+◌, ◌++◌, length, reverse, IfOk, OnOk};
-ghost use Rattle.std.specs.Option.{option_copied, option_to_list};
-ghost use Rattle.std.specs.List.{find, list_any};
-ghost use Rattle.skip_links.specs.Links.{is_older, are_close, is_at_level, height_to, is_linked, link, links};
-ghost use Rattle.skip_links.specs.declared.limits.TheConstants.{MAX_HEIGHT};
+ghost use Rattle.std.specs.{
+  Prelude.{◌≡◌, ◌≤◌, ◌&&◌, ◌==◌, ◌+◌, ◌++◌, length, reverse, IfOk, OnOk},
+  Option.{option_copied, option_to_list},
+  List.{find, list_any},
+};
+ghost use Rattle.skip_links.specs.{
+  Links.{is_older, are_close, is_at_level, height_to, is_linked, link, links},
+  declared.limits.TheConstants.{MAX_HEIGHT},
+};
 
 use crate::limits::MAX_HEIGHT;
 use crate::versions::BlockList;
@@ -69,7 +73,7 @@ fn is_linked(rows: &[Row], key: &Key, block: u32, level: u32, row: &Row) -> bool
     is_older(row, key, block) && is_at_level(rows, key, row.block, level)
 }
 
-fn linked<'a>(rows: &'a [Row], key: &Key, block: u32, level: u32) -> Option<&'a Row>
+fn linked_row<'a>(rows: &'a [Row], key: &Key, block: u32, level: u32) -> Option<&'a Row>
     requires { level ≤ MAX_HEIGHT }
     ensures { option_copied result ≡ find (is_linked rows.now key.now block level) (reverse rows.now) }
 {
@@ -83,7 +87,7 @@ fn link(rows: &[Row], key: &Key, block: u32, level: u32) -> Option<u32>
     requires { level ≤ MAX_HEIGHT }
     ensures { result ≡ link rows.now key.now block level }
 {
-    linked(rows, key, block, level).map(|row| row.block)
+    linked_row(rows, key, block, level).map(|row| row.block)
 }
 
 fn push_some(blocks: &mut BlockList, block: Option<u32>) -> Result<(), Memory>

@@ -14,7 +14,7 @@ use Rattle.skip_path.proofs.Walks.{over_ends, over_on, over_none, path_over_shor
 use Rattle.entry_store.specs.declared.entry.EntryId.{EntryId}
 use Rattle.entry_store.specs.declared.entry.Hop.{Hop}
 use Rattle.entry_store.specs.Entries.{Entry}
-use Rattle.entry_store.specs.Steps.{raised}
+use Rattle.entry_store.specs.Steps.{raised_count}
 use Rattle.skip_list.specs.declared.lookup.Turn.TheVariants as turns
 use Rattle.skip_list.specs.Towered.{block_of, blocks_of, links_over, IsTowered}
 use Rattle.skip_list.specs.Lookups.{turn_at, turn_by, latest_version, most_steps}
@@ -87,7 +87,7 @@ IsSmall (version ∷ older) = version.block < 2 ^ 32
 
 -- A lookup has looked at so many versions.
 abbrev HasTaken : ℕ → ℕ → ℕ → List Hop → List Hop → Type 0
-HasTaken taken start now versions here = ((taken ≡ 0) × (now ≡ start) × (here ≡ versions)) ⊎ ((now ≡ raised start taken) × IsSmall versions)
+HasTaken taken start now versions here = ((taken ≡ 0) × (now ≡ start) × (here ≡ versions)) ⊎ ((now ≡ raised_count start taken) × IsSmall versions)
 
 -- A lookup over these versions has come to an entry.
 pub record HasCome (entries : List Entry) (versions : List Hop) (at : ℕ) (id : EntryId) (start now : ℕ) : Type 0 where
@@ -109,7 +109,7 @@ begins entries versions at id start towered = record {
 }
 
 -- One version more was looked at.
-one_more : (taken start now more : ℕ) (versions here : List Hop) → HasTaken taken start now versions here → more ≡ raised now 1 → IsSmall here → (more ≡ raised start (taken + 1)) × IsSmall versions
+one_more : (taken start now more : ℕ) (versions here : List Hop) → HasTaken taken start now versions here → more ≡ raised_count now 1 → IsSmall here → (more ≡ raised_count start (taken + 1)) × IsSmall versions
 one_more taken start now more versions here (inl none) is small = (omega (arith, none.0, none.1, is), rw none.2 at small)
 one_more taken start now more versions here (inr some) is small = (omega (arith, some.0, is), some.1)
 
@@ -119,7 +119,7 @@ passes at version older above = rw (late version.block at above) refl
 pub goes_on : (entries : List Entry) (versions : List Hop) (at : ℕ) (id next : EntryId) (start now more : ℕ) → HasCome entries versions at id start now
     → ((here : List Hop) → IsTowered entries id here → turns.Hop next ≡ turn_at at here)
     → ((version : Hop) (older : List Hop) → IsTowered entries id (version ∷ older) → version.block < 2 ^ 32)
-    → more ≡ raised now 1 → HasCome entries versions at next start more
+    → more ≡ raised_count now 1 → HasCome entries versions at next start more
 goes_on entries versions at id next start now more come turn small is = on come.here come.towered come.answer come.count come.long
   where
     on : (here : List Hop) → IsTowered entries id here → latest_version at here ≡ latest_version at versions → HasTaken come.taken start now versions here
@@ -144,13 +144,13 @@ goes_on entries versions at id next start now more come turn small is = on come.
 -- What a lookup that ends gives.
 pub record Ends (versions : List Hop) (at : ℕ) (result : Option EntryId) (start now : ℕ) : Type 0 where
   pub found : result ≡ latest_version at versions
-  pub count : now ≡ raised start (steps_of at versions)
+  pub count : now ≡ raised_count start (steps_of at versions)
   pub small : IsSmall versions
 
 pub ends_at_answer : (entries : List Entry) (versions : List Hop) (at : ℕ) (id : EntryId) (start now more : ℕ) → HasCome entries versions at id start now
     → ((here : List Hop) → IsTowered entries id here → turns.Answer ≡ turn_at at here)
     → ((version : Hop) (older : List Hop) → IsTowered entries id (version ∷ older) → version.block < 2 ^ 32)
-    → more ≡ raised now 1 → Ends versions at (Some id) start more
+    → more ≡ raised_count now 1 → Ends versions at (Some id) start more
 ends_at_answer entries versions at id start now more come turn small is = on come.here come.towered come.answer come.count come.long
   where
     on : (here : List Hop) → IsTowered entries id here → latest_version at here ≡ latest_version at versions → HasTaken come.taken start now versions here
@@ -164,14 +164,14 @@ ends_at_answer entries versions at id start now more come turn small is = on com
         let all : come.taken + 1 ≡ steps_of at versions = omega (arith, long, step) in
         record {
           found = sym towered.newest ∙ sym found ∙ answer;
-          count = taken.0 ∙ ap (raised start) all;
+          count = taken.0 ∙ ap (raised_count start) all;
           small = taken.1;
         }
 
 pub ends_at_none : (entries : List Entry) (versions : List Hop) (at : ℕ) (id : EntryId) (start now more : ℕ) → HasCome entries versions at id start now
     → ((here : List Hop) → IsTowered entries id here → turns.Nothing ≡ turn_at at here)
     → ((version : Hop) (older : List Hop) → IsTowered entries id (version ∷ older) → version.block < 2 ^ 32)
-    → more ≡ raised now 1 → Ends versions at None start more
+    → more ≡ raised_count now 1 → Ends versions at None start more
 ends_at_none entries versions at id start now more come turn small is = on come.here come.towered come.answer come.count come.long
   where
     on : (here : List Hop) → IsTowered entries id here → latest_version at here ≡ latest_version at versions → HasTaken come.taken start now versions here
@@ -185,7 +185,7 @@ ends_at_none entries versions at id start now more come turn small is = on come.
         let all : come.taken + 1 ≡ steps_of at versions = omega (arith, long, step) in
         record {
           found = sym found ∙ answer;
-          count = taken.0 ∙ ap (raised start) all;
+          count = taken.0 ∙ ap (raised_count start) all;
           small = taken.1;
         }
 

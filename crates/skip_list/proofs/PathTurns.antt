@@ -15,7 +15,7 @@ use Rattle.entry_store.specs.declared.entry.EntryId.{EntryId}
 use Rattle.entry_store.specs.declared.entry.Hop.{Hop}
 use Rattle.entry_store.specs.declared.entry.Links.{Links}
 use Rattle.entry_store.specs.Entries.{Entry}
-use Rattle.entry_store.specs.Steps.{raised}
+use Rattle.entry_store.specs.Steps.{raised_count}
 use Rattle.skip_list.specs.declared.lookup.Turn.{Turn}
 use Rattle.skip_list.specs.declared.lookup.Turn.TheVariants as turns
 use Rattle.skip_list.specs.Towered.{block_of, blocks_of, links_over, HaveTowers, IsTowered, AreVersions}
@@ -155,8 +155,8 @@ fewer_left id (turns.Hop next) back = omega (arith, back)
 
 -- ---- how many were read
 
-pub none_read : (count : ℕ) → count < 2 ^ 64 → count ≡ raised count 0
+pub none_read : (count : ℕ) → count < 2 ^ 64 → count ≡ raised_count count 0
 none_read count few = omega (arith, few)
 
-pub one_read : (start count next : ℕ) (ids : List EntryId) (id : EntryId) → count ≡ raised start (length ids) → next ≡ raised count 1 → next ≡ raised start (length (ids ++ id ∷ []))
+pub one_read : (start count next : ℕ) (ids : List EntryId) (id : EntryId) → count ≡ raised_count start (length ids) → next ≡ raised_count count 1 → next ≡ raised_count start (length (ids ++ id ∷ []))
 one_read start count next ids id before step = omega (arith, before, step, length_push ids id)

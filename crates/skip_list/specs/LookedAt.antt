@@ -1,7 +1,9 @@
 -- The entries that a lookup looks at.
-use Rattle.std.specs.Prelude.{ℕ, suc, List, Option, Some, None, slice_get}
+use Rattle.std.specs.Prelude.{◌≡◌, ℕ, suc, Bool, true, List, Option, Some, None, slice_get}
+use Rattle.std.specs.List.{AllByRecursion}
 use Rattle.std.specs.Option.{option_map}
 use Rattle.entry_store.specs.declared.entry.EntryId.{EntryId}
+use Rattle.entry_store.specs.declared.entry.Hop.{Hop}
 use Rattle.entry_store.specs.Entries.{Entry}
 use Rattle.skip_list.specs.declared.lookup.Turn.{Turn}
 use Rattle.skip_list.specs.declared.lookup.Turn.TheVariants as turns
@@ -15,6 +17,11 @@ next_entry (turns.Hop id) = Some id
 -- The block of an entry.
 abbrev pub entry_block : List Entry → EntryId → Option ℕ
 entry_block entries id = option_map (λ (entry : Entry). entry.links.block) (slice_get entries id.0)
+
+-- What is said of the entry of each of these versions is said of each of these entries.
+abbrev pub AreAmong : List Hop → List EntryId → Type 0
+AreAmong versions ids =
+    (says : EntryId → Bool) → AllByRecursion (λ (version : Hop). says version.id ≡ true) versions → AllByRecursion (λ (id : EntryId). says id ≡ true) ids
 
 -- How many entries there may be from one on.
 abbrev pub entries_left : Option EntryId → ℕ

@@ -1,11 +1,13 @@
 //! The links of a new version, by climbing the links of older ones.
 
-ghost use Rattle.std.specs.Prelude.{◌≡◌, ◌+◌, ◌*◌, ◌^◌, ◌<◌, ◌≤◌, List, length, IfOk, bit_xor};
-ghost use Rattle.std.specs.List.{All};
+ghost use Rattle.std.specs.{
+  Prelude.{◌≡◌, ◌+◌, ◌*◌, ◌^◌, ◌<◌, ◌≤◌, List, length, IfOk, bit_xor},
+  List.{All},
+};
 ghost use Rattle.skip_links.specs.declared.limits.TheConstants.{MAX_HEIGHT};
 ghost use Rattle.skip_path.specs.Paths.{binary_digits};
 ghost use Rattle.entry_store.specs.declared.entry.Hop.{Hop};
-ghost use Rattle.skip_list.specs.Towered.{links_over, IsTowered, AreVersions, AreOlder, LeadsToTowered};
+ghost use Rattle.skip_list.specs.Towered.{links_over, AreVersions, AreOlder, LeadsToTowered};
 
 use crate::rung::{read, rung_at};
 use entry_store::{EntryId, HopList, Steps, Store};
@@ -19,31 +21,6 @@ fn height_over(previous: u32, block: u32) -> u32
     ensures highest { (2 ^ result ≤ bit_xor previous block) × (bit_xor previous block < 2 * 2 ^ result) }
 {
     (previous ^ block).ilog2()
-}
-
-/// The last version at each level from 0 to the height of a new version in this block.
-fn climb(
-    alloc: Global,
-    store: &Store,
-    newest: EntryId,
-    block: u32,
-    steps: &mut Steps,
-) -> Result<HopList, Memory>
-    requires { (versions : List Hop) × IsTowered store.now newest versions × AreOlder block versions }
-    ensures links { (versions : List Hop) → IsTowered store.now newest versions → AreOlder block versions → IfOk result (λ hops. hops ≡ links_over block versions) }
-    ensures never_less { steps.old ≤ steps.new }
-    ensures count { steps.new ≤ steps.old + binary_digits block }
-    ensures towered { IfOk result (λ hops. All (LeadsToTowered store.now) hops) }
-    ensures few { IfOk result (λ hops. length hops ≤ MAX_HEIGHT + 1) }
-{
-    let mut rung = read(store, newest, steps);
-    let height = height_over(rung.version.block, block);
-    let mut hops = HopList::new(alloc);
-    for level in 0..height + 1 {
-        rung = rung_at(store, rung, level, steps);
-        hops.push(rung.version)?;
-    }
-    Ok(hops)
 }
 
 /// The links of a new version of a key in this block, one for each level from 0 to its height; none
@@ -63,8 +40,16 @@ pub fn links_for(
     ensures towered { IfOk result (λ hops. All (LeadsToTowered store.now) hops) }
     ensures few { IfOk result (λ hops. length hops ≤ MAX_HEIGHT + 1) }
 {
-    match newest {
-        None => Ok(HopList::new(alloc)),
-        Some(newest) => climb(alloc, store, newest, block, steps),
+    let Some(newest) = newest else {
+        return Ok(HopList::new(alloc));
+    };
+    let mut rung = read(store, newest, steps);
+    let height = height_over(rung.version.block, block);
+    let mut hops = HopList::new(alloc);
+    // The last version at each level from 0 to the height.
+    for level in 0..height + 1 {
+        rung = rung_at(store, rung, level, steps);
+        hops.push(rung.version)?;
     }
+    Ok(hops)
 }

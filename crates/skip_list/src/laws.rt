@@ -1,9 +1,11 @@
 //! Laws of towered stores, each the contract of a function that does nothing.
 
 ghost use Rattle.std.specs.Prelude.{◌≡◌, List, [], ◌∷◌, ◌++◌, length};
-ghost use Rattle.entry_store.specs.declared.entry.EntryId.{EntryId};
-ghost use Rattle.entry_store.specs.declared.entry.Hop.{Hop};
-ghost use Rattle.entry_store.specs.Entries.{Entry};
+ghost use Rattle.entry_store.specs.{
+  declared.entry.EntryId.{EntryId},
+  declared.entry.Hop.{Hop},
+  Entries.{Entry},
+};
 ghost use Rattle.skip_list.specs.Towered.{IsTowered, HaveTowers, links_over, AreOlder};
 
 /// With more entries a store stays towered where it was.

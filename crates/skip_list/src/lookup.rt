@@ -1,14 +1,20 @@
 //! Lookups of the last version of a key up to a block.
 
-ghost use Rattle.std.specs.Prelude.{◌≡◌, ◌^◌, ◌<◌, ◌≤◌, List, ◌∷◌, length, nat_lt, reverse, IfSome};
-ghost use Rattle.std.specs.List.{find};
-ghost use Rattle.std.specs.Option.{option_copied};
+ghost use Rattle.std.specs.{
+  Prelude.{◌≡◌, ◌^◌, ◌<◌, ◌≤◌, List, ◌∷◌, length, nat_lt, reverse, IfSome},
+  List.{find},
+  Option.{option_copied},
+};
 ghost use Rattle.skip_path.specs.Paths.{onward, path_over};
-ghost use Rattle.entry_store.specs.declared.entry.Hop.{Hop};
-ghost use Rattle.entry_store.specs.declared.entry.EntryId.{EntryId};
-ghost use Rattle.entry_store.specs.Steps.{raised};
-ghost use Rattle.skip_list.specs.Towered.{block_of, blocks_of, IsTowered};
-ghost use Rattle.skip_list.specs.Lookups.{turn_at, IsTurnTowered, IsBack, latest_version, most_steps};
+ghost use Rattle.entry_store.specs.{
+  declared.entry.Hop.{Hop},
+  declared.entry.EntryId.{EntryId},
+  Steps.{raised_count},
+};
+ghost use Rattle.skip_list.specs.{
+  Towered.{block_of, blocks_of, IsTowered},
+  Lookups.{turn_at, IsTurnTowered, IsBack, latest_version, most_steps},
+};
 
 use entry_store::{EntryId, Hop, Steps, Store};
 
@@ -47,7 +53,7 @@ pub fn path_next(store: &Store, id: EntryId, at: u32, steps: &mut Steps) -> Turn
     ensures towered { IsTurnTowered store.now result }
     ensures back { IsBack id result }
     ensures small { (version : Hop) (older : List Hop) → IsTowered store.now id (version ∷ older) → version.block < 2 ^ 32 }
-    ensures step { steps.new ≡ raised steps.old 1 }
+    ensures step { steps.new ≡ raised_count steps.old 1 }
 {
     let links = store.entry(id, steps);
     if links.block <= at {
@@ -64,7 +70,7 @@ pub fn path_next(store: &Store, id: EntryId, at: u32, steps: &mut Steps) -> Turn
 pub fn find(store: &Store, newest: EntryId, at: u32, steps: &mut Steps) -> Option<EntryId>
     requires towered { (versions : List Hop) × IsTowered store.now newest versions }
     ensures found { (versions : List Hop) → IsTowered store.now newest versions → result ≡ latest_version at versions }
-    ensures count { (versions : List Hop) → IsTowered store.now newest versions → steps.new ≡ raised steps.old (length (path_over (blocks_of versions) at)) }
+    ensures count { (versions : List Hop) → IsTowered store.now newest versions → steps.new ≡ raised_count steps.old (length (path_over (blocks_of versions) at)) }
     ensures few { (versions : List Hop) → IsTowered store.now newest versions → length (path_over (blocks_of versions) at) ≤ most_steps versions }
     ensures towered { IfSome result (λ (id : EntryId). (versions : List Hop) × IsTowered store.now id versions) }
 {

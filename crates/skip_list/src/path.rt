@@ -1,13 +1,12 @@
 //! The versions that a lookup looks at.
 
-ghost use Rattle.std.specs.Prelude.{◌≡◌, Bool, true, List, length, map, Some, IfOk};
-ghost use Rattle.std.specs.List.{AllByRecursion};
+ghost use Rattle.std.specs.Prelude.{◌≡◌, List, length, map, Some, IfOk};
 ghost use Rattle.skip_path.specs.Paths.{path_over};
-ghost use Rattle.entry_store.specs.declared.entry.EntryId.{EntryId};
-ghost use Rattle.entry_store.specs.declared.entry.Hop.{Hop};
-ghost use Rattle.entry_store.specs.Steps.{raised};
-ghost use Rattle.skip_list.specs.Towered.{blocks_of, IsTowered};
-ghost use Rattle.skip_list.specs.LookedAt.{next_entry, entry_block};
+ghost use Rattle.entry_store.specs.{declared.entry.Hop.{Hop}, Steps.{raised_count}};
+ghost use Rattle.skip_list.specs.{
+  Towered.{blocks_of, IsTowered},
+  LookedAt.{next_entry, entry_block, AreAmong},
+};
 
 use crate::lookup::{Turn, path_next};
 use entry_store::{EntryId, EntryList, Steps, Store};
@@ -36,9 +35,8 @@ pub fn path_entries(
     requires towered { (versions : List Hop) × IsTowered store.now newest versions }
     ensures path { (versions : List Hop) → IsTowered store.now newest versions
         → IfOk result (λ ids. map (entry_block store.now) ids ≡ map Some (path_over (blocks_of versions) at)) }
-    ensures among { (says : EntryId → Bool) (versions : List Hop) → IsTowered store.now newest versions → AllByRecursion (λ (version : Hop). says version.id ≡ true) versions
-        → IfOk result (λ ids. AllByRecursion (λ (id : EntryId). says id ≡ true) ids) }
-    ensures count { IfOk result (λ ids. steps.new ≡ raised steps.old (length ids)) }
+    ensures among { (versions : List Hop) → IsTowered store.now newest versions → IfOk result (AreAmong versions) }
+    ensures count { IfOk result (λ ids. steps.new ≡ raised_count steps.old (length ids)) }
 {
     // So that the count is known to be one that a u64 has.
     let _count = steps.count();

@@ -1,8 +1,10 @@
 //! Worked paths, each the contract of a function that does nothing.
 
 ghost use Rattle.std.specs.Prelude.{◌≡◌, ◌∷◌, []};
-ghost use Rattle.skip_path.specs.Paths.{path_over, links_among, binary_digits};
-ghost use Rattle.skip_path.specs.Examples.{far_blocks};
+ghost use Rattle.skip_path.specs.{
+  Paths.{path_over, links_among, binary_digits},
+  Examples.{far_blocks},
+};
 
 /// Versions in the blocks 2, 9 and 10: the second has four links, the third two, and no version is in
 /// a block up to 1.

@@ -1,14 +1,16 @@
 //! Laws of paths, each the contract of a function that does nothing.
 
-ghost use Rattle.std.specs.Prelude.{◌≡◌, ℕ, ◌+◌, ◌*◌, ◌^◌, ◌<◌, ◌≤◌, nat_le, List, [], ◌∷◌, length, Some, None, slice_get};
-ghost use Rattle.std.specs.List.{find};
-ghost use Rattle.std.specs.Option.{option_map};
-ghost use Rattle.lc_base.specs.declared.row.Row.{Row};
-ghost use Rattle.lc_base.specs.History.{IsLawful, newest, latest};
-ghost use Rattle.skip_links.specs.Links.{links};
-ghost use Rattle.skip_links.specs.Falling.{IsFalling, older_blocks};
-ghost use Rattle.skip_path.specs.Towers.{tower};
-ghost use Rattle.skip_path.specs.Paths.{next_block, path, path_over, blocks_of_key, binary_digits};
+ghost use Rattle.std.specs.{
+  Prelude.{◌≡◌, ℕ, ◌+◌, ◌*◌, ◌^◌, ◌<◌, ◌≤◌, nat_le, List, [], ◌∷◌, length, Some, None, slice_get},
+  List.{find},
+  Option.{option_map},
+};
+ghost use Rattle.lc_base.specs.{declared.row.Row.{Row}, History.{IsLawful, newest, latest}};
+ghost use Rattle.skip_links.specs.{Links.{links}, Falling.{IsFalling, older_blocks}};
+ghost use Rattle.skip_path.specs.{
+  Towers.{tower},
+  Paths.{next_block, path, path_over, blocks_of_key, binary_digits},
+};
 
 /// The links of a version of a lawful history are over the blocks of the key's versions before it.
 #[tactic(auto, using(crate::proofs::OverRows::links_tower))]

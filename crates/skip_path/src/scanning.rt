@@ -1,10 +1,11 @@
 //! Paths by the definition, over the rows of a history.
 
-ghost use Rattle.std.specs.Prelude.{◌≡◌, ◌==◌, ℕ, nat_lt, reverse, IfOk};
-ghost use Rattle.std.specs.List.{find};
-ghost use Rattle.std.specs.Option.{option_copied, option_map};
-ghost use Rattle.lc_base.specs.declared.row.Row.{Row};
-ghost use Rattle.lc_base.specs.History.{newest};
+ghost use Rattle.std.specs.{
+  Prelude.{◌≡◌, ◌==◌, ℕ, nat_lt, reverse, IfOk},
+  List.{find},
+  Option.{option_copied, option_map},
+};
+ghost use Rattle.lc_base.specs.{declared.row.Row.{Row}, History.{newest}};
 ghost use Rattle.skip_links.specs.Links.{links};
 ghost use Rattle.skip_path.specs.Paths.{onward, next_block, path};
 

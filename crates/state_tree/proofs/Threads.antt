@@ -1,4 +1,4 @@
--- One more leaf, threaded between the others, and a leaf that is set.
+-- One more leaf, thread_leaves between the others, and a leaf that is set.
 use Rattle.std.proofs.Common.{◌≡◌, ◌≢◌, ℕ, suc, ◌+◌, ◌<◌, ◌≤◌, true, List, [], ◌∷◌, ◌++◌, length, get_or, map, Option, Some, None, refl, sym, ap, ap₂, subst, ◌∙◌, arith, inl, inr, ◌⊎◌}
 use Rattle.std.proofs.Math.ListN.{set}
 use Rattle.std.proofs.Math.Seq.{get_or-append_seam, map-set_same}
@@ -11,7 +11,7 @@ use Rattle.std.proofs.lemmas.Option.{slice_get-get_or}
 use Rattle.prov_entry.specs.declared.entry.Leaf.{Leaf}
 use Rattle.prov_entry.specs.Spelling.{key_or_empty}
 use Rattle.root_laws.specs.Root.{is_below, next_key, sentinel}
-use Rattle.state_tree.specs.Leaves.{leaf_key, leaf_keys, is_this, index_of, with_next, threaded, fresh_leaf, with_leaf_of, AreApart}
+use Rattle.state_tree.specs.Leaves.{leaf_key, leaf_keys, is_this, index_of, with_next, thread_leaves, fresh_leaf, with_leaf_of, AreApart}
 use Rattle.state_tree.specs.Covering.{Covers}
 use Rattle.state_tree.specs.Order.{kept_for, AreInOrder}
 use Rattle.merkle_tree.specs.declared.limits.TheConstants.{MAX_LEAVES}
@@ -59,13 +59,13 @@ owns_threaded keys leaves = map_map (λ (leaf : Leaf). leaf.key) (with_next keys
 same_next : (keys other : List (List ℕ)) (leaf : Leaf) → next_key keys (leaf_key leaf) ≡ next_key other (leaf_key leaf) → with_next keys leaf ≡ with_next other leaf
 same_next keys other leaf e = ap (λ (next : Option (List ℕ)). record leaf { next = next }) e
 
--- Leaves that are threaded stay so.
-threads_again : (leaves : List Leaf) → threaded leaves ≡ threaded (threaded leaves)
+-- Leaves that are thread_leaves stay so.
+threads_again : (leaves : List Leaf) → thread_leaves leaves ≡ thread_leaves (thread_leaves leaves)
 threads_again leaves =
     sym (map_map (with_next (leaf_keys leaves)) (with_next (leaf_keys leaves)) leaves)
-    ∙ ap (λ (keys : List (List ℕ)). map (with_next keys) (threaded leaves)) (sym (keys_threaded (leaf_keys leaves) leaves))
+    ∙ ap (λ (keys : List (List ℕ)). map (with_next keys) (thread_leaves leaves)) (sym (keys_threaded (leaf_keys leaves) leaves))
 
-threads_at : (leaves : List Leaf) (i : ℕ) (d : Leaf) → leaves ≡ threaded leaves → i < length leaves → get_or leaves i d ≡ with_next (leaf_keys leaves) (get_or leaves i d)
+threads_at : (leaves : List Leaf) (i : ℕ) (d : Leaf) → leaves ≡ thread_leaves leaves → i < length leaves → get_or leaves i d ≡ with_next (leaf_keys leaves) (get_or leaves i d)
 threads_at leaves i d threads below = ap (λ (ls : List Leaf). get_or ls i d) threads ∙ get_or-map (with_next (leaf_keys leaves)) leaves i d d below
 
 key_at : (leaves : List Leaf) (i : ℕ) (d : Leaf) → i < length leaves → get_or (leaf_keys leaves) i [] ≡ leaf_key (get_or leaves i d)
@@ -112,7 +112,7 @@ grown leaves key cover before = set (leaves ++ record (fresh_leaf key) { next = 
 keys_with : (leaves : List Leaf) (key : List ℕ) → leaf_keys (leaves ++ fresh_leaf key ∷ []) ≡ leaf_keys leaves ++ key ∷ []
 keys_with leaves key = map-append leaf_key leaves (fresh_leaf key ∷ [])
 
-pub grown_is : (leaves : List Leaf) (key : List ℕ) (cover : ℕ) (c : Covers leaves key cover) → leaves ≡ threaded leaves → AreApart (leaf_keys leaves) → IsNew leaves key
+pub grown_is : (leaves : List Leaf) (key : List ℕ) (cover : ℕ) (c : Covers leaves key cover) → leaves ≡ thread_leaves leaves → AreApart (leaf_keys leaves) → IsNew leaves key
     → grown leaves key cover c.leaf ≡ with_leaf_of leaves key
 unfolding grown
 grown_is leaves key cover c threads apart new =
@@ -246,7 +246,7 @@ order_grown leaves order order' key cover tree c new room kept others = record {
   first = ap (λ (ls : List Leaf). slice_get ls 0) is ∙ slice_get-get_or (with_leaf_of leaves key) 0 tree.sentinel (omega (arith, grown_length)) ∙ ap (λ (leaf : Leaf). Some leaf) (get_or-map (with_next (leaf_keys wide)) wide 0 tree.sentinel tree.sentinel (omega (arith, wide_length)));
   keyless = ap (λ (leaf : Leaf). leaf.key) (get_or_append_left leaves (fresh_leaf key ∷ []) tree.sentinel 0 at_first.0 ∙ at_first.1) ∙ tree.keyless;
   apart = subst AreApart (sym (ap leaf_keys is ∙ keys_threaded (leaf_keys wide) wide ∙ keys_with leaves key)) (apart_more (leaf_keys leaves) key tree.apart not_among);
-  threads = is ∙ threads_again wide ∙ ap threaded (sym is);
+  threads = is ∙ threads_again wide ∙ ap thread_leaves (sym is);
   indexes = λ q. kept_more leaves key order order' tree.indexes new.absent kept others q
       ∙ ap (λ (keys : List (Option (List ℕ))). position (is_this q) keys) (sym (ap (map (λ (leaf : Leaf). leaf.key)) is ∙ owns_threaded (leaf_keys wide) wide));
   few = ap_few (ap length is ∙ grown_length);

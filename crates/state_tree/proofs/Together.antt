@@ -17,7 +17,7 @@ use Rattle.prov_entry.specs.declared.entry.Leaf.{Leaf}
 use Rattle.prov_entry.specs.Spelling.{leaf_bytes}
 use Rattle.root_laws.specs.Root.{sentinel}
 use Rattle.state_tree.specs.declared.states.LeafState.{LeafState}
-use Rattle.state_tree.specs.Leaves.{said, saying, with_state, with_states, indexes_of, leaf_texts, leaf_hashes}
+use Rattle.state_tree.specs.Leaves.{state_of_leaf, saying, with_state, with_states, indexes_of, leaf_texts, leaf_hashes}
 use Rattle.state_tree.specs.Order.{AreInOrder, AreHashedBut, IsTree, no_hash, hash_at}
 use Rattle.state_tree.proofs.Threads.{same_items, map_map, order_set}
 
@@ -152,18 +152,18 @@ order_states leaves order (state ∷ states) tree own below =
     let rest : All (λ (one : LeafState). one.index < length (set leaves state.index after)) states = rw (length-set leaves state.index after) (All-tail (λ (one : LeafState). one.index < length leaves) state states below) in
     order_states (set leaves state.index after) order states one (All-tail (λ (one : LeafState). 0 < one.index) state states own) rest
 
--- Told what it said before, a leaf is as it was.
-pub said_again : (leaves : List Leaf) (state : LeafState) (before : Leaf) → state.index < length leaves → before ≡ get_or leaves state.index (sentinel []) → with_state (with_state leaves state) (said before state.index) ≡ leaves
+-- Told what it state_of_leaf before, a leaf is as it was.
+pub said_again : (leaves : List Leaf) (state : LeafState) (before : Leaf) → state.index < length leaves → before ≡ get_or leaves state.index (sentinel []) → with_state (with_state leaves state) (state_of_leaf before state.index) ≡ leaves
 said_again leaves state before below is =
     let i = state.index in
     let after = saying (get_or leaves i (sentinel [])) state in
-    ap (λ (leaf : Leaf). set (set leaves i after) i (saying leaf (said before i))) (get_or-set_same leaves i after (sentinel []) below)
-    ∙ set-set leaves i after (saying after (said before i)) ∙ ap (λ (leaf : Leaf). set leaves i leaf) same ∙ set-get_or leaves i (sentinel [])
+    ap (λ (leaf : Leaf). set (set leaves i after) i (saying leaf (state_of_leaf before i))) (get_or-set_same leaves i after (sentinel []) below)
+    ∙ set-set leaves i after (saying after (state_of_leaf before i)) ∙ ap (λ (leaf : Leaf). set leaves i leaf) same ∙ set-get_or leaves i (sentinel [])
   where
-    same : saying (saying (get_or leaves state.index (sentinel [])) state) (said before state.index) ≡ get_or leaves state.index (sentinel [])
-    same = ap (λ (leaf : Leaf). saying (saying (get_or leaves state.index (sentinel [])) state) (said leaf state.index)) is
+    same : saying (saying (get_or leaves state.index (sentinel [])) state) (state_of_leaf before state.index) ≡ get_or leaves state.index (sentinel [])
+    same = ap (λ (leaf : Leaf). saying (saying (get_or leaves state.index (sentinel [])) state) (state_of_leaf leaf state.index)) is
 
--- One more is told what it said before, first of all.
+-- One more is told what it state_of_leaf before, first of all.
 pub back_more : (leaves last first : List Leaf) (before : List LeafState) (one : LeafState) → with_state last one ≡ leaves → with_states leaves (reverse before) ≡ first → with_states last (reverse (before ++ one ∷ [])) ≡ first
 back_more leaves last first before one is so =
     ap (with_states last) (reverse-append before (one ∷ [])) ∙ ap (λ (ls : List Leaf). with_states ls (reverse before)) is ∙ so
@@ -172,10 +172,10 @@ pub stale_same : (leaves leaves' : List Leaf) (hashes : List Digest) (stale stal
 stale_same leaves leaves' hashes stale stale' but same same' = rw (same, same') but
 
 pub said_back : (leaves : List Leaf) (state : LeafState) (before after : Leaf) (old : LeafState) → state.index < length leaves → before ≡ get_or leaves state.index (sentinel [])
-    → after ≡ saying before state → old ≡ said before state.index → with_state (set leaves state.index after) old ≡ leaves
+    → after ≡ saying before state → old ≡ state_of_leaf before state.index → with_state (set leaves state.index after) old ≡ leaves
 said_back leaves state before after old below is after_is old_is =
     ap (λ (one : LeafState). with_state (set leaves state.index after) one) old_is
-    ∙ ap (λ (leaf : Leaf). with_state (set leaves state.index leaf) (said before state.index)) (after_is ∙ ap (λ (leaf : Leaf). saying leaf state) is)
+    ∙ ap (λ (leaf : Leaf). with_state (set leaves state.index leaf) (state_of_leaf before state.index)) (after_is ∙ ap (λ (leaf : Leaf). saying leaf state) is)
     ∙ said_again leaves state before below is
 
 -- Where none is stale, a path by the hashes is one by the leaves.

@@ -1,4 +1,4 @@
--- Leaves that are threaded: each names the next greater key.
+-- Leaves that are thread_leaves: each names the next greater key.
 use Rattle.std.specs.Prelude.{◌≡◌, ◌==◌, ◌<◌, ℕ, Bool, false, List, [], ◌∷◌, ◌++◌, length, map, replicate, position, slice_index_or, slice_set, Option, Some, None}
 use Rattle.std.specs.List.{fold}
 use Rattle.std.specs.Cmp.Lexicographic.{pointwise}
@@ -33,8 +33,8 @@ abbrev pub with_next : List (List ℕ) → Leaf → Leaf
 with_next keys leaf = record leaf { next = next_key keys (leaf_key leaf) }
 
 -- Leaves, each with the next greater key among theirs.
-abbrev pub threaded : List Leaf → List Leaf
-threaded leaves = map (with_next (leaf_keys leaves)) leaves
+abbrev pub thread_leaves : List Leaf → List Leaf
+thread_leaves leaves = map (with_next (leaf_keys leaves)) leaves
 
 -- The leaf of a key that has no version yet.
 abbrev pub fresh_leaf : List ℕ → Leaf
@@ -49,7 +49,7 @@ fresh_leaf key = record {
 
 -- Leaves with one more for a key, at the end.
 abbrev pub with_leaf_of : List Leaf → List ℕ → List Leaf
-with_leaf_of leaves key = threaded (leaves ++ fresh_leaf key ∷ [])
+with_leaf_of leaves key = thread_leaves (leaves ++ fresh_leaf key ∷ [])
 
 -- A leaf that says this of the versions of its key.
 abbrev pub saying : Leaf → LeafState → Leaf
@@ -61,8 +61,8 @@ saying leaf state = record leaf {
 }
 
 -- What a leaf says of the versions of its key, with the index of the leaf.
-abbrev pub said : Leaf → ℕ → LeafState
-said leaf index = record {
+abbrev pub state_of_leaf : Leaf → ℕ → LeafState
+state_of_leaf leaf index = record {
   index = index;
   newest_block = leaf.newest_block;
   newest = leaf.newest;

@@ -9,7 +9,7 @@ use Rattle.merkle_tree.specs.declared.setting_all.HashAt.{HashAt}
 use Rattle.merkle_tree.specs.Levels.{digest_of}
 use Rattle.prov_entry.specs.declared.entry.Leaf.{Leaf}
 use Rattle.root_laws.specs.Root.{is_below}
-use Rattle.state_tree.specs.Leaves.{index_of, threaded, leaf_keys, leaf_hashes, AreApart}
+use Rattle.state_tree.specs.Leaves.{index_of, thread_leaves, leaf_keys, leaf_hashes, AreApart}
 use Rattle.merkle_tree.specs.declared.limits.TheConstants.{MAX_LEAVES}
 
 -- The index that is kept for a key.
@@ -27,14 +27,14 @@ pub record IsLastUpTo (order : BTreeMap (List ℕ) ℕ) (key : List ℕ) (index 
   pub not_above : is_below key last ≡ false
   pub greatest : (other : List ℕ) → is_below key other ≡ false → IsSome (kept_for order other) → is_below last other ≡ false
 
--- The leaves begin with the sentinel, are threaded, and have no key twice; the indexes that are kept
+-- The leaves begin with the sentinel, are thread_leaves, and have no key twice; the indexes that are kept
 -- are theirs.
 pub record AreInOrder (leaves : List Leaf) (order : BTreeMap (List ℕ) ℕ) : Type 0 where
   pub sentinel : Leaf
   pub first : slice_get leaves 0 ≡ Some sentinel
   pub keyless : sentinel.key ≡ None
   pub apart : AreApart (leaf_keys leaves)
-  pub threads : leaves ≡ threaded leaves
+  pub threads : leaves ≡ thread_leaves leaves
   pub indexes : (key : List ℕ) → kept_for order key ≡ index_of leaves key
   pub few : length leaves ≤ MAX_LEAVES
 

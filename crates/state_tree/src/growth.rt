@@ -4,8 +4,7 @@ ghost use Rattle.std.specs.Prelude.{◌≡◌, ◌≢◌, ◌<◌, ◌∷◌, []
 ghost use Rattle.lc_names.specs.KeyBytes.{IsKey};
 ghost use Rattle.merkle_tree.specs.declared.limits.TheConstants.{MAX_LEAVES};
 ghost use Rattle.root_laws.specs.Root.{sentinel};
-ghost use Rattle.state_tree.specs.Leaves.{fresh_leaf};
-ghost use Rattle.state_tree.specs.Order.{kept_for};
+ghost use Rattle.state_tree.specs.{Leaves.{fresh_leaf}, Order.{kept_for}};
 
 use lc_base::{Digest, Key, Memory};
 use prov_entry::{Leaf, no_uses};

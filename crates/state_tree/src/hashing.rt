@@ -1,13 +1,13 @@
 //! The hashes of leaves.
 
-ghost use Rattle.std.specs.Prelude.{◌≡◌, ◌<◌, ◌≤◌, ℕ, length, map, OnOk, OnErr, IfOk};
-ghost use Rattle.std.specs.List.{All};
+ghost use Rattle.std.specs.{Prelude.{◌≡◌, ◌<◌, ◌≤◌, ℕ, length, map, OnOk, OnErr, IfOk}, List.{All}};
 ghost use Rattle.prov_entry.specs.Spelling.{leaf_bytes, IsKeyIfAny};
-ghost use Rattle.merkle_tree.specs.Tree.{leaf_text};
-ghost use Rattle.merkle_tree.specs.Levels.{digest_of};
-ghost use Rattle.merkle_tree.specs.declared.limits.TheConstants.{MAX_LEAVES};
-ghost use Rattle.state_tree.specs.Leaves.{leaf_hashes};
-ghost use Rattle.state_tree.specs.Order.{AreHashedBut, hash_at};
+ghost use Rattle.merkle_tree.specs.{
+  Tree.{leaf_text},
+  Levels.{digest_of},
+  declared.limits.TheConstants.{MAX_LEAVES},
+};
+ghost use Rattle.state_tree.specs.{Leaves.{leaf_hashes}, Order.{AreHashedBut, hash_at}};
 
 use lc_base::{Digest, Memory};
 use merkle_tree::{HashAt, Levels};

@@ -1,12 +1,16 @@
 //! What some leaves say, set together.
 
-ghost use Rattle.std.specs.Prelude.{◌≡◌, ◌<◌, ◌≤◌, ◌++◌, ℕ, List, length, map, reverse, vec_len, vec_capacity, OnOk, OnErr, IfOk};
-ghost use Rattle.std.specs.List.{All, Contains};
+ghost use Rattle.std.specs.{
+  Prelude.{◌≡◌, ◌<◌, ◌≤◌, ◌++◌, ℕ, List, length, map, reverse, vec_len, vec_capacity, OnOk, OnErr, IfOk},
+  List.{All, Contains},
+};
 ghost use Rattle.prov_entry.specs.declared.entry.Leaf.{Leaf};
 ghost use Rattle.merkle_tree.specs.declared.limits.TheConstants.{MAX_LEAVES};
-ghost use Rattle.state_tree.specs.declared.states.LeafState.{LeafState};
-ghost use Rattle.state_tree.specs.Leaves.{saying, said, with_state, with_states, indexes_of, leaf_hashes};
-ghost use Rattle.state_tree.specs.Order.{AreHashedBut};
+ghost use Rattle.state_tree.specs.{
+  declared.states.LeafState.{LeafState},
+  Leaves.{saying, state_of_leaf, with_state, with_states, indexes_of, leaf_hashes},
+  Order.{AreHashedBut},
+};
 
 use crate::hashing::hash_leaves;
 use crate::states::LeafState;
@@ -29,8 +33,8 @@ fn saying(leaf: &Leaf, state: &LeafState) -> Leaf
 }
 
 /// What the leaf at an index says of the versions of its key.
-fn said(leaf: &Leaf, index: u32) -> LeafState
-    ensures { result ≡ said leaf.now index }
+fn state_of_leaf(leaf: &Leaf, index: u32) -> LeafState
+    ensures { result ≡ state_of_leaf leaf.now index }
 {
     LeafState {
         index,
@@ -51,7 +55,7 @@ fn set_state(leaves: &mut [Leaf], state: &LeafState) -> LeafState
     let index = state.index as usize;
     let before = leaves[index];
     leaves[index] = saying(&before, state);
-    said(&before, state.index)
+    state_of_leaf(&before, state.index)
 }
 
 /// Sets what some leaves say, one after another, and gives what they said before. Out of memory,

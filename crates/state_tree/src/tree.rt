@@ -1,24 +1,30 @@
 //! The leaves of the newest versions of all keys.
 
-ghost use Rattle.std.specs.Prelude.{◌≡◌, ◌<◌, ◌+◌, ℕ, List, [], ◌∷◌, length, slice_get, Some, None, OnOk, OnErr, IfOk};
-ghost use Rattle.std.specs.List.{All};
-ghost use Rattle.merkle_tree.specs.Tree.{audit_path};
-ghost use Rattle.merkle_tree.specs.Climbing.{bytes_of};
+ghost use Rattle.std.specs.{
+  Prelude.{◌≡◌, ◌<◌, ◌+◌, ℕ, List, [], ◌∷◌, length, slice_get, Some, None, OnOk, OnErr, IfOk},
+  List.{All},
+};
+ghost use Rattle.merkle_tree.specs.{
+  Tree.{audit_path},
+  Climbing.{bytes_of},
+  declared.limits.TheConstants.{MAX_LEAVES},
+};
 ghost use Rattle.prov_entry.specs.declared.entry.Leaf.{Leaf};
 ghost use Rattle.root_laws.specs.Root.{sentinel, leaves_hash};
-ghost use Rattle.state_tree.specs.declared.states.LeafState.{LeafState};
-ghost use Rattle.state_tree.specs.Leaves.{index_of, with_leaf_of, with_states, threaded, leaf_keys, leaf_texts, AreApart};
-ghost use Rattle.state_tree.specs.Covering.{Covers};
-ghost use Rattle.merkle_tree.specs.declared.limits.TheConstants.{MAX_LEAVES};
+ghost use Rattle.state_tree.specs.{
+  declared.states.LeafState.{LeafState},
+  Leaves.{index_of, with_leaf_of, with_states, thread_leaves, leaf_keys, leaf_texts, AreApart},
+  Covering.{Covers},
+};
 
 use crate::growth::{add_leaf, fresh_leaf, sentinel, with_next};
 use crate::hashing::hash_of;
 use crate::order::last_up_to;
 use crate::setting::{indexes_with, renew};
 use crate::states::LeafState;
-use crate::whole::{whole_audit, whole_hash};
+use crate::whole::whole_audit;
 use lc_base::{Digest, DigestList, Key, Memory};
-use merkle_tree::Levels;
+use merkle_tree::{Levels, tree_hash};
 use prov_entry::Leaf;
 use std::alloc::Global;
 use std::collections::BTreeMap;
@@ -84,7 +90,7 @@ impl Tree {
     /// The index of the leaf of this key, else of the leaf with the greatest smaller key, else 0.
     pub fn covering(&self, key: &Key) -> u32
         ensures covers { Covers self.now key.now result }
-        ensures threads { self.now ≡ threaded self.now }
+        ensures threads { self.now ≡ thread_leaves self.now }
         ensures apart { AreApart (leaf_keys self.now) }
     {
         last_up_to(&self.order, key).unwrap_or(0)
@@ -154,7 +160,7 @@ impl Tree {
         if self.stale.is_empty() {
             self.levels.root()
         } else {
-            whole_hash(self.leaves.as_slice())
+            tree_hash(self.leaves.as_slice())
         }
     }
 

@@ -47,13 +47,13 @@ entry_of table digest = get (slice_cmp nat_cmp) table digest
 abbrev pub IsTable : List (List ℕ) → BTreeMap (List ℕ) Places → Type 0
 IsTable texts table = (digest : List ℕ) → IsEntry digest texts (entry_of table digest)
 
--- Where texts of one digest stand, with one more text of it behind these.
+-- Where texts of one digest stand, with one more text of it after these.
 abbrev pub places_with : List (List ℕ) → List ℕ → Places → Places
 places_with texts text places =
     if is_none places.other && not (pointwise ◌==◌ (text_at texts places.first) text)
     then record { first = places.first; other = Some (length texts) } else places
 
--- Where texts of the digest of this one stand, with this one behind these.
+-- Where texts of the digest of this one stand, with this one after these.
 abbrev pub entry_with : List (List ℕ) → List ℕ → Option Places → Places
 entry_with texts text None = record { first = length texts; other = None }
 entry_with texts text (Some places) = places_with texts text places

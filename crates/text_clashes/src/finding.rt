@@ -1,8 +1,7 @@
 //! The first clash.
 
 ghost use Rattle.std.specs.Prelude.{IfOk};
-ghost use Rattle.text_clashes.specs.FirstClash.{IsFirstClash};
-ghost use Rattle.text_clashes.specs.Places.{IsTable};
+ghost use Rattle.text_clashes.specs.{FirstClash.{IsFirstClash}, Places.{IsTable}};
 
 use crate::table::{Table, first_other, table_of};
 use lc_base::{Bytes, Memory, TextList};

@@ -1,7 +1,9 @@
 //! Of each digest where the texts of a list stand that have it.
 
-ghost use Rattle.std.specs.Prelude.{◌≡◌, ◌==◌, ◌<◌, [], ◌∷◌, ◌++◌, length, IfSome, OnOk, IfOk};
-ghost use Rattle.std.specs.Cmp.Lexicographic.{pointwise};
+ghost use Rattle.std.specs.{
+  Prelude.{◌≡◌, ◌==◌, ◌<◌, [], ◌∷◌, ◌++◌, length, IfSome, OnOk, IfOk},
+  Cmp.Lexicographic.{pointwise},
+};
 ghost use Rattle.sha2.specs.Sha256.{sha256};
 ghost use Rattle.text_clashes.specs.Places.{IsTable, IsFirstOther, places_with, entry_with, other_in};
 
@@ -38,7 +40,7 @@ fn is_same(text: &[u8], other: &[u8]) -> bool
     text == other
 }
 
-/// Where texts of one digest stand, with one more text of it behind these.
+/// Where texts of one digest stand, with one more text of it after these.
 fn with_text(places: Places, texts: &[Bytes], text: &[u8]) -> Places
     requires { places.first < length texts.now }
     ensures { result ≡ places_with texts.now text.now places }
@@ -52,7 +54,7 @@ fn with_text(places: Places, texts: &[Bytes], text: &[u8]) -> Places
     places
 }
 
-/// Where texts of the digest of this one stand, with this one behind these.
+/// Where texts of the digest of this one stand, with this one after these.
 fn places_after(found: Option<Places>, texts: &[Bytes], text: &[u8]) -> Places
     requires { IfSome found (λ places. places.first < length texts.now) }
     ensures { result ≡ entry_with texts.now text.now found }

@@ -17,7 +17,7 @@ use Rattle.skip_links.specs.declared.limits.TheConstants.{MAX_HEIGHT}
 use Rattle.prov_entry.specs.declared.entry.Leaf.{Leaf}
 use Rattle.prov_entry.specs.Spelling.{IsLink, IsHeader, IsBodyDep, IsBody, IsKeyIfAny, IsLeaf, body_text}
 use Rattle.prov_entry.specs.ForwardLists.{start_text, no_uses, use_text, with_use, uses_digest}
-use Rattle.root_laws.specs.Naming.{uses_of, closed, header_of, body_of, body_among, named_before, with_digest, link_among}
+use Rattle.root_laws.specs.Naming.{uses_of, closed_uses, header_of, body_of, body_among, named_before, with_digest, link_among}
 use Rattle.root_laws.specs.NamingLaws.{IsToOlder, IsOnOlder, NamesHeader}
 use Rattle.root_laws.specs.WalkLaws.{text_of_row}
 use Rattle.root_laws.specs.KeyLaws.{IsNext}
@@ -76,7 +76,7 @@ module _ (rows : List Row) (lawful : IsLawful rows) (are : All IsTypedRow rows) 
   pub few_uses : (key : List ℕ) (block : ℕ) → length (uses rows key block) < 2 ^ 32
   few_uses key block = let short = filter_short (depends_on key block) rows in omega (arith, short, lawful.few, length-map (filter (depends_on key block) rows) version_of)
 
-  few_closed : (row : Row) → length (closed (up_to rows row.block) row.key row.block) < 2 ^ 64
+  few_closed : (row : Row) → length (closed_uses (up_to rows row.block) row.key row.block) < 2 ^ 64
   few_closed row = go (newest (below (up_to rows row.block) row.block) row.key)
     where
       go : (o : Option Row) → length (uses_of (up_to rows row.block) row.key o) < 2 ^ 64
@@ -107,7 +107,7 @@ module _ (rows : List Row) (lawful : IsLawful rows) (are : All IsTypedRow rows) 
         tx_fits = is.tx_fits;
         body_fits = length-sha256 (body_text (body_among (named_before rows row.block) row));
         closed_fits = few_closed row;
-        closed_digest_fits = length_uses_digest (closed (up_to rows row.block) row.key row.block);
+        closed_digest_fits = length_uses_digest (closed_uses (up_to rows row.block) row.key row.block);
         few_links = omega (arith, few, length-map (links (up_to rows row.block) row.key row.block) (link_among (named_before rows row.block) row.key));
         links_are_links = all_weaker (IsToOlder rows row) IsLink
             (λ link older. record { block_fits = named_fits row.key link.block link.digest older.1; digest_fits = digest_is_long row.key link.block link.digest older.1 })

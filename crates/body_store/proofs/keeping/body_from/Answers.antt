@@ -1,6 +1,6 @@
 use Rattle.std.proofs.Common.{◌≡◌, ℕ, List, true, Some, subst, ◌∙◌, sym}
 use Rattle.std.specs.Rc.{rc_slice_items}
-use Rattle.scratch_model.specs.Scratch.{ScratchState, is_told, HoldsAt}
+use Rattle.scratch_model.specs.Scratch.{ScratchState, is_known, HoldsAt}
 use Rattle.body_store.specs.Bodies.{KeptBody, body_at}
 use Rattle.body_store.specs.Cached.{pairs_of}
 use Rattle.body_store.proofs.Agreeing.{agrees_on, agrees_fewer, agrees_more, body_read}
@@ -8,14 +8,14 @@ use Rattle.body_store.proofs.keeping.body_from.Given.{Over}
 use Rattle.body_store.proofs.keeping.body_from.Goals as goal
 
 pub returns-in_err-body-clause-agrees : goal.returns-in_err-body-clause-agrees
-returns-in_err-body-clause-agrees g c = agrees_fewer _ _ _ _ c.cached.ensures.kept c.requires.agrees
+returns-in_err-body-clause-agrees g c = agrees_fewer _ _ _ _ c.body_at_hand.ensures.kept c.requires.agrees
 
 pub returns-in-Some-clause-agrees : goal.returns-in-Some-clause-agrees
-returns-in-Some-clause-agrees g c = agrees_fewer _ _ _ _ c.cached.ensures.kept c.requires.agrees
+returns-in-Some-clause-agrees g c = agrees_fewer _ _ _ _ c.body_at_hand.ensures.kept c.requires.agrees
 
 pub returns-in_err-body-2-clause-agrees : goal.returns-in_err-body-2-clause-agrees
 returns-in_err-body-2-clause-agrees g c = agrees_on _ _ _ c.read.ensures.retains
-    (agrees_fewer _ _ _ _ c.cached.ensures.kept c.requires.agrees)
+    (agrees_fewer _ _ _ _ c.body_at_hand.ensures.kept c.requires.agrees)
 
 module _ (g : Over) (c : goal.After-keep_shared g) where
   abbrev kept : List KeptBody
@@ -24,7 +24,7 @@ module _ (g : Over) (c : goal.After-keep_shared g) where
   abbrev before : ScratchState
   before = g.S.Scratch.state c.args.scratch.now
 
-  body_is : is_told before ≡ true
+  body_is : is_known before ≡ true
       → body_at kept c.args.index.0 ≡ Some (rc_slice_items c.in_ok-body-2.body)
   body_is told =
       body_read (record { kept = kept; cached = pairs_of c.args.cache.now.entries }) before
@@ -40,6 +40,6 @@ returns-clause-body g c = body_is g c
 pub returns-clause-agrees : goal.returns-clause-agrees
 returns-clause-agrees g c =
     agrees_more (kept g c) _ _ _ _ c.keep_shared.ensures
-    (λ told. body_is g c (sym c.read.ensures.retains.told ∙ told))
+    (λ told. body_is g c (sym c.read.ensures.retains.known ∙ told))
     (agrees_on _ (before g c) _ c.read.ensures.retains
-    (agrees_fewer (kept g c) _ _ _ c.cached.ensures.kept c.requires.agrees))
+    (agrees_fewer (kept g c) _ _ _ c.body_at_hand.ensures.kept c.requires.agrees))

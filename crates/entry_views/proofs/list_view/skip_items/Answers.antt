@@ -7,18 +7,18 @@ use Rattle.entry_views.proofs.list_view.skip_items.Goals as goal
 
 pub returns-in_err-read : goal.returns-in_err-read
 returns-in_err-read g c =
-    let item = g.R.ItemReader.item_at in
+    let item = g.T.ListItem.item_at in
     let p = err_from_is_err_and c.from_residual.result c.from_residual.ensures.1 in
     let t = ends item c.loop.invariant.0 c.args.count c.loop.counter c.loop.reader c.in_err-read.field-0.0.left (items_at item c.args.count c.args.reader.now) c.loop-test.true c.in_err-read.ensures c.loop.invariant.1 in
     rw (p.1, p.2) t
 
 pub loop-preserved : goal.loop-preserved
 loop-preserved g c =
-    let item = g.R.ItemReader.item_at in
+    let item = g.T.ListItem.item_at in
     (c.loop.invariant.0 ++ c.in_ok-read.field-0 ∷ [], goes_on item c.loop.invariant.0 c.args.count c.loop.counter c.loop.reader c.in_ok-read.field-0 c.read.new.reader (items_at item c.args.count c.args.reader.now) c.loop-test.true c.in_ok-read.ensures c.loop.invariant.1)
 
 pub returns : goal.returns
 returns g c =
-    let item = g.R.ItemReader.item_at in
+    let item = g.T.ListItem.item_at in
     let all = items_at item c.args.count c.args.reader.now in
     all_skipped item all c.loop.invariant.0 c.loop.reader (is_done item c.loop.invariant.0 c.args.count c.loop.counter c.loop.reader all c.loop-test.false c.loop.invariant.1)

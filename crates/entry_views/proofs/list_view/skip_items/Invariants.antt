@@ -8,4 +8,4 @@ abbrev pub Passed : {A : Type 0} → (List ℕ → Field A) → ℕ → ℕ → 
 Passed {A = A} item count i rest bytes = (read : List A) × (with_prefix read (items_at item (count - i) rest) ≡ items_at item count bytes)
 
 abbrev pub invariant-loop : goal.invariant-loop
-invariant-loop g l = Passed g.R.ItemReader.item_at l.count l.counter l.reader l.initial.reader
+invariant-loop g l = Passed g.T.ListItem.item_at l.count l.counter l.reader l.initial.reader

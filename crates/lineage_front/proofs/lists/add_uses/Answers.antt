@@ -3,7 +3,7 @@ use Rattle.std.proofs.lemmas.Option.{slice_get_within}
 use Rattle.root_laws.specs.Root.{keys_of}
 use Rattle.forward_links.specs.Lists.{open_of}
 use Rattle.lineage_index.specs.Heads.{open_list}
-use Rattle.lineage_front.specs.Front.{filled}
+use Rattle.lineage_front.specs.Front.{first_lists}
 use Rattle.lineage_front.proofs.Reading.{newest_there}
 use Rattle.lineage_front.proofs.Filled.{key_within, can_fill, one_more_filled, filled_all}
 use Rattle.lineage_front.proofs.lists.add_uses.Goals as goal
@@ -32,7 +32,7 @@ add_users-requires c =
     let i = c.loop-key.key in (
       rows,
       open_list rows (get_or (keys_of rows) i []),
-      filled (open_list rows) i (keys_of rows),
+      first_lists (open_list rows) i (keys_of rows),
       can_fill rows c.args.lists.now c.loop-key.lists c.args.newest.now c.args.store.now
           c.args.uses.now i c.uses-users.result.now given.1 c.loop-key-test.true
           (c.loop-key.invariant rows given.1)
@@ -44,7 +44,7 @@ loop-key-preserved c rows a =
     let i = c.loop-key.key in
     let keys = keys_of rows in
     let few = key_within rows c.args.newest.now a.newest_are in
-    c.add_users.ensures rows (open_list rows (get_or keys i [])) (filled (open_list rows) i keys)
+    c.add_users.ensures rows (open_list rows (get_or keys i [])) (first_lists (open_list rows) i keys)
     (can_fill rows c.args.lists.now c.loop-key.lists c.args.newest.now c.args.store.now
     c.args.uses.now i c.uses-users.result.now a c.loop-key-test.true
     (c.loop-key.invariant rows a)

@@ -3,10 +3,10 @@ use Rattle.lc_base.specs.declared.row.Row.{Row}
 use Rattle.root_laws.specs.Root.{keys_of}
 use Rattle.forward_links.specs.Lists.{open_of}
 use Rattle.lineage_index.specs.Heads.{open_list}
-use Rattle.lineage_front.specs.Front.{AreEmpty, filled}
+use Rattle.lineage_front.specs.Front.{AreEmpty, first_lists}
 use Rattle.lineage_front.proofs.lists.add_uses.Given as goal
 
 abbrev pub invariant-loop-key : goal.invariant-loop-key
 invariant-loop-key l =
     (rows : List Row) → AreEmpty rows l.initial.lists l.newest l.store l.uses
-    → l.lists ≡ map open_of (filled (open_list rows) l.key (keys_of rows))
+    → l.lists ≡ map open_of (first_lists (open_list rows) l.key (keys_of rows))

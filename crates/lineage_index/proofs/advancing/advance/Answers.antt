@@ -1,6 +1,6 @@
 use Rattle.std.proofs.Common.{◌++◌, ◌∙◌, [], sym, arith}
 use Rattle.root_laws.specs.Root.{keys_of}
-use Rattle.lineage_index.specs.Growth.{held, keys_touched}
+use Rattle.lineage_index.specs.Growth.{open_uses, keys_touched}
 use Rattle.lineage_index.specs.Heads.{open_list}
 use Rattle.lineage_index.specs.Settling.{entry_or_fresh}
 use Rattle.lineage_index.proofs.BlockSteps.{distinct_deps, kept_lists, uses_added, settling_begins, renewing_begins, block_kept, as_many_entries, room_for, using_at, renewing_at}
@@ -36,7 +36,7 @@ settle_rows-requires-clause-settled c =
     let given = c.requires in
     let using = (uses_added given.0 c.args.new.now given.1 c.args.tree.now c.args.lists.now c.add_uses.new.lists c.args.newest.now.items c.args.store.now given.2 given.3
     (c.add_uses.ensures (keys_of given.0) (open_list given.0) (kept_lists given.0 given.1 c.args.tree.now c.args.lists.now c.args.newest.now.items c.args.store.now given.3))) in
-    (given.0, held given.0 c.args.new.now, settling_begins given.0 c.args.new.now given.1 c.args.tree.now c.add_uses.new.lists c.args.newest.now.items using, c.count-first.ensures.count ∙ as_many_entries given.0 c.args.store.now given.3.store.entries_are)
+    (given.0, open_uses given.0 c.args.new.now, settling_begins given.0 c.args.new.now given.1 c.args.tree.now c.add_uses.new.lists c.args.newest.now.items using, c.count-first.ensures.count ∙ as_many_entries given.0 c.args.store.now given.3.store.entries_are)
 
 pub renew_leaves-requires : goal.renew_leaves-requires
 renew_leaves-requires c =
@@ -44,7 +44,7 @@ renew_leaves-requires c =
     let using = (uses_added given.0 c.args.new.now given.1 c.args.tree.now c.args.lists.now c.add_uses.new.lists c.args.newest.now.items c.args.store.now given.2 given.3
     (c.add_uses.ensures (keys_of given.0) (open_list given.0) (kept_lists given.0 given.1 c.args.tree.now c.args.lists.now c.args.newest.now.items c.args.store.now given.3))) in
     let entries = c.in_ok-add_entries.ensures given.0 given.1 (using_at given.0 c.args.new.now given.1 c.args.tree.now c.add_uses.new.lists c.deref.result.now c.args.newest.now.items using c.deref.ensures.value) given.3.store.entries_are in
-    let settled = c.in_ok-settle_rows.ensures given.0 (held given.0 c.args.new.now) (settling_begins given.0 c.args.new.now given.1 c.args.tree.now c.add_uses.new.lists c.args.newest.now.items using)
+    let settled = c.in_ok-settle_rows.ensures given.0 (open_uses given.0 c.args.new.now) (settling_begins given.0 c.args.new.now given.1 c.args.tree.now c.add_uses.new.lists c.args.newest.now.items using)
     (c.count-first.ensures.count ∙ as_many_entries given.0 c.args.store.now given.3.store.entries_are) in
     let begun = renewing_begins given.0 c.args.new.now given.1 c.settle_rows.new.tree c.settle_rows.new.lists c.settle_rows.new.newest.items c.add_entries.new.store given.2 settled entries in
     (given.0 ++ c.args.new.now, entry_or_fresh given.0, renewing_at (given.0 ++ c.args.new.now) (entry_or_fresh given.0) [] c.settle_rows.new.tree c.settle_rows.new.lists c.deref-2.result.now c.settle_rows.new.newest.items c.add_entries.new.store begun c.deref-2.ensures.value)
@@ -54,7 +54,7 @@ returns c rows n g k =
     let using = (uses_added rows c.args.new.now n c.args.tree.now c.args.lists.now c.add_uses.new.lists c.args.newest.now.items c.args.store.now g k
     (c.add_uses.ensures (keys_of rows) (open_list rows) (kept_lists rows n c.args.tree.now c.args.lists.now c.args.newest.now.items c.args.store.now k))) in
     let entries = c.in_ok-add_entries.ensures rows n (using_at rows c.args.new.now n c.args.tree.now c.add_uses.new.lists c.deref.result.now c.args.newest.now.items using c.deref.ensures.value) k.store.entries_are in
-    let settled = c.in_ok-settle_rows.ensures rows (held rows c.args.new.now) (settling_begins rows c.args.new.now n c.args.tree.now c.add_uses.new.lists c.args.newest.now.items using)
+    let settled = c.in_ok-settle_rows.ensures rows (open_uses rows c.args.new.now) (settling_begins rows c.args.new.now n c.args.tree.now c.add_uses.new.lists c.args.newest.now.items using)
     (c.count-first.ensures.count ∙ as_many_entries rows c.args.store.now k.store.entries_are) in
     let begun = renewing_begins rows c.args.new.now n c.settle_rows.new.tree c.settle_rows.new.lists c.settle_rows.new.newest.items c.add_entries.new.store g settled entries in
     let renewed = c.in_ok-renew_leaves.ensures (rows ++ c.args.new.now) (entry_or_fresh rows)

@@ -2,7 +2,7 @@ use Rattle.std.proofs.Common.{◌++◌, ◌∷◌, [], ◌∙◌, ap}
 use Rattle.std.proofs.lemmas.List.{append_assoc}
 use Rattle.root_laws.specs.Root.{keys_of}
 use Rattle.lineage_store.specs.Entries.{entries_of}
-use Rattle.lineage_index.specs.Growth.{entry_of, held}
+use Rattle.lineage_index.specs.Growth.{entry_of, open_uses}
 use Rattle.lineage_index.specs.NewEntries.{using}
 use Rattle.lineage_index.proofs.KeptStates.{lists_of_heads}
 use Rattle.lineage_index.proofs.NewEntries.{deps_of_new, row_has, next_version}
@@ -16,7 +16,7 @@ new_version-requires-clause-few c =
 pub new_version-requires-clause-lists : goal.new_version-requires-clause-lists
 new_version-requires-clause-lists c =
     let given = c.requires in
-    (keys_of given.0, held given.0 given.1, lists_of_heads c.args.tree.now c.args.lists.now c.args.newest.now (using given.0 given.1) given.4.heads)
+    (keys_of given.0, open_uses given.0 given.1, lists_of_heads c.args.tree.now c.args.lists.now c.args.newest.now (using given.0 given.1) given.4.heads)
 
 pub newest_entry_of-previous-requires : goal.newest_entry_of-previous-requires
 newest_entry_of-previous-requires c =
@@ -33,7 +33,7 @@ push_version-requires c =
       rows ++ given.2,
       c.args.row.now,
       next_version rows new given.2 given.3 c.args.tree.now c.args.lists.now c.args.newest.now c.args.row.now c.args.store.now c.newest_entry_of-previous.result c.in_ok-version.version given.4 given.5
-          (c.in_ok-version.ensures (keys_of rows) (held rows new) lists)
+          (c.in_ok-version.ensures (keys_of rows) (open_uses rows new) lists)
           (c.newest_entry_of-previous.ensures rows (record { entry = entry_of rows; leaves_are = given.4.heads.leaves_are; newest_are = given.4.heads.newest_are })),
     )
 
@@ -43,6 +43,6 @@ returns c rows new done n a next =
     let lists = lists_of_heads c.args.tree.now c.args.lists.now c.args.newest.now (using rows new) a.heads in
     c.in_ok-push_version.ensures.ok (rows ++ new) (rows ++ done) row
     (next_version rows new done n c.args.tree.now c.args.lists.now c.args.newest.now row c.args.store.now c.newest_entry_of-previous.result c.in_ok-version.version a next
-    (c.in_ok-version.ensures (keys_of rows) (held rows new) lists)
+    (c.in_ok-version.ensures (keys_of rows) (open_uses rows new) lists)
     (c.newest_entry_of-previous.ensures rows (record { entry = entry_of rows; leaves_are = a.heads.leaves_are; newest_are = a.heads.newest_are })))
     ∙ ap (entries_of (rows ++ new)) (append_assoc rows done (row ∷ []))

@@ -1,3 +1,8 @@
+use Rattle.std.proofs.Common.{◌≡◌, true}
+use Rattle.std.specs.List.{AllByRecursion}
+use Rattle.std.proofs.lemmas.Result.{IfOk-weaker}
+use Rattle.entry_store.specs.declared.entry.EntryId.{EntryId}
+use Rattle.skip_list.specs.LookedAt.{AreAmong}
 use Rattle.lineage_store.specs.Versions.{versions_of_key}
 use Rattle.lineage_store.proofs.Hops.{have_rows}
 use Rattle.lineage_store.proofs.Looking.{newest_towered}
@@ -16,5 +21,6 @@ pub returns-in-Some-clause-path : goal.returns-in-Some-clause-path
 returns-in-Some-clause-path c rows key is =
     let versions = versions_of_key rows key in
     let towered = newest_towered rows key c.args.newest c.in-Some.newest c.args.store.now is c.in-Some.is in
-    all_on_path rows key c.args.at c.args.newest c.args.store.now c.path_entries.result is (c.path_entries.ensures.path versions towered)
-    (c.path_entries.ensures.among (is_of_key rows key) versions towered (versions_of rows key versions (have_rows rows key)))
+    let among = IfOk-weaker c.path_entries.result (AreAmong versions) (AllByRecursion (λ (id : EntryId). is_of_key rows key id ≡ true))
+    (λ ids are. are (is_of_key rows key) (versions_of rows key versions (have_rows rows key))) (c.path_entries.ensures.among versions towered) in
+    all_on_path rows key c.args.at c.args.newest c.args.store.now c.path_entries.result is (c.path_entries.ensures.path versions towered) among

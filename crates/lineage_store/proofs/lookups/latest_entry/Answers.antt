@@ -1,5 +1,5 @@
 use Rattle.std.proofs.Common.{◌∙◌, ap, arith}
-use Rattle.entry_store.specs.Steps.{raised}
+use Rattle.entry_store.specs.Steps.{raised_count}
 use Rattle.lineage_store.specs.Versions.{versions_of_key}
 use Rattle.lineage_store.proofs.Looking.{newest_towered, found_latest, found_within, path_steps, none_found, no_steps}
 use Rattle.lineage_store.proofs.lookups.latest_entry.Goals as goal
@@ -23,4 +23,4 @@ returns-in-Some-clause-latest c rows key is =
 pub returns-in-Some-clause-count : goal.returns-in-Some-clause-count
 returns-in-Some-clause-count c rows key is =
     c.find.ensures.count (versions_of_key rows key) (newest_towered rows key c.args.newest c.in-Some.newest c.args.store.now is c.in-Some.is)
-    ∙ ap (raised c.args.steps.now) (path_steps rows key c.args.at c.args.newest c.args.store.now is)
+    ∙ ap (raised_count c.args.steps.now) (path_steps rows key c.args.at c.args.newest c.args.store.now is)

@@ -1,6 +1,4 @@
 use Rattle.std.proofs.Common.{◌≡◌, ◌∙◌, [], ◌∷◌, ◌++◌, ℕ, List, ap, sym, subst}
-use Rattle.std.specs.Rc.{rc_slice_items}
-use Rattle.std.proofs.lemmas.Result.{on_ok_weaker}
 use Rattle.body_store.specs.Bodies.{bodies_in}
 use Rattle.rows_index.specs.Users.{AreVersionsAt}
 use Rattle.merkle_dag.proofs.NextRows.{deps_there, few_deps, is_next, is_there}
@@ -27,17 +25,12 @@ body_bytes-requires-clause-row g c =
       is_there all before row c.args.index.now c.args.uses.now next,
     )
 
-pub returns-clause-uses : goal.returns-clause-uses
-returns-clause-uses g c all before next =
-    let row = c.args.row.now in
-    on_ok_weaker c.push_body.result
-    (λ (pushed : bodies_in c.push_body.new.bodies ≡ bodies_in c.args.bodies.now ++ rc_slice_items
-    c.in_ok-body.body ∷ []). c.in_ok-deps.ensures.index before
-    (is_next all before row c.args.index.now c.args.uses.now next) next.uses_are)
-    c.push_body.ensures.pushed
+pub returns-in-Ok-clause-uses : goal.returns-in-Ok-clause-uses
+returns-in-Ok-clause-uses g c all before next = c.in_ok-deps.ensures.index before
+    (is_next all before c.args.row.now c.args.index.now c.args.uses.now next) next.uses_are
 
-pub returns-clause-bodies : goal.returns-clause-bodies
-returns-clause-bodies g c all before next =
+pub returns-in-Ok-clause-bodies : goal.returns-in-Ok-clause-bodies
+returns-in-Ok-clause-bodies g c all before next =
     let row = c.args.row.now in
     let at = c.in_ok-deps.ensures.deps before
     (is_next all before row c.args.index.now c.args.uses.now next) next.uses_are in
@@ -46,8 +39,5 @@ returns-clause-bodies g c all before next =
     (sym c.as_slice.ensures) at) in
     let bytes = c.in_ok-body.ensures all next.blocks next.index_is there
     (is_there all before row c.args.index.now c.args.uses.now next) in
-    on_ok_weaker c.push_body.result
-    (λ (pushed : bodies_in c.push_body.new.bodies ≡ bodies_in c.args.bodies.now ++ rc_slice_items
-    c.in_ok-body.body ∷ []). pushed
-    ∙ ap (λ (body : List ℕ). bodies_in c.args.bodies.now ++ body ∷ []) bytes)
-    c.push_body.ensures.pushed
+    c.in-Ok.ensures.pushed
+    ∙ ap (λ (body : List ℕ). bodies_in c.args.bodies.now ++ body ∷ []) bytes

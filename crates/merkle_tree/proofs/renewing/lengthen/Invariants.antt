@@ -1,11 +1,11 @@
 use Rattle.std.proofs.Common.{◌≡◌, ◌≤◌, ◌-◌, length}
 use Rattle.std.specs.Prelude.{vec_capacity}
-use Rattle.merkle_tree.specs.Levels.{lengthened}
+use Rattle.merkle_tree.specs.Levels.{level_of_length}
 use Rattle.merkle_tree.proofs.renewing.lengthen.Given as goal
 
 abbrev pub invariant-loop-level : goal.invariant-loop-level
 invariant-loop-level l = record {
-  longer : lengthened l.level.items l.count ≡ lengthened l.fn.level.items l.count;
+  longer : level_of_length l.level.items l.count ≡ level_of_length l.fn.level.items l.count;
   room : l.count ≤ vec_capacity l.level;
 }
 

@@ -2,7 +2,7 @@ use Rattle.std.proofs.Common.{◌≡◌, ◌∙◌, ◌<◌, sym, ap, arith, len
 use Rattle.std.specs.Vec.{with_items}
 use Rattle.std.proofs.lemmas.List.{with_items_is}
 use Rattle.lc_base.specs.declared.digest.Digest.{Digest}
-use Rattle.merkle_tree.specs.Levels.{lengthened, set_each, over_each}
+use Rattle.merkle_tree.specs.Levels.{level_of_length, set_each, over_each}
 use Rattle.merkle_tree.proofs.Renewed.{one_renewed, none_renewed, room_there, room_after}
 use Rattle.merkle_tree.proofs.renewing.renew_through.Goals as goal
 
@@ -17,9 +17,9 @@ loop-level-preserved c =
     let hashes = c.loop-level.over.items in
     let old = get_or levels i c.level-item.result in
     let below : i < length levels = omega arith in
-    let written : c.renew_level.new.level.items ≡ set_each (lengthened old.items wanted) hashes =
-    c.renew_level.ensures ∙ ap (set_each (lengthened old.items wanted)) c.as_slice.ensures.value in
-    let over : (with_items c.loop-level.over c.raise_each.new.hashes).items ≡ over_each (set_each (lengthened old.items wanted) hashes) hashes =
+    let written : c.renew_level.new.level.items ≡ set_each (level_of_length old.items wanted) hashes =
+    c.renew_level.ensures ∙ ap (set_each (level_of_length old.items wanted)) c.as_slice.ensures.value in
+    let over : (with_items c.loop-level.over c.raise_each.new.hashes).items ≡ over_each (set_each (level_of_length old.items wanted) hashes) hashes =
     with_items_is c.loop-level.over c.raise_each.new.hashes (omega arith) ∙ c.raise_each.ensures ∙ ap (over_each c.as_slice-in-loop-level.result.now) c.as_mut_slice.ensures.value
     ∙ ap (λ (l : List Digest). over_each l hashes) (c.as_slice-in-loop-level.ensures.value ∙ written) in
     record {

@@ -3,7 +3,7 @@ use Rattle.std.specs.BTreeMap.{BTreeMap, get}
 use Rattle.std.specs.Ordering.{nat_cmp, is_eq}
 use Rattle.std.specs.Cmp.Lexicographic.{slice_cmp}
 use Rattle.rows_index.specs.declared.places.Place.{Place}
-use Rattle.rows_index.specs.Places.{listed}
+use Rattle.rows_index.specs.Places.{list_or_empty}
 use Rattle.rows_index.proofs.Kept.{kept_more}
 use Rattle.rows_index.proofs.places.push_place.Goals as goal
 
@@ -13,7 +13,7 @@ returns-in_ok-push-in-Some c = λ other.
     let value = c.in-Some.ensures.value in
     kept_more c.args.places.now (c.get_mut.follows.lender list) c.args.key.now other c.args.place
     list
-    (c.in_ok-push-in-Some.ensures.ok ∙ ap (λ kept. listed kept ++ c.args.place ∷ []) value)
+    (c.in_ok-push-in-Some.ensures.ok ∙ ap (λ kept. list_or_empty kept ++ c.args.place ∷ []) value)
     (((c.get_mut.follows.holds list).3 (ap is_some (sym value))).0 other)
 
 pub returns-in_ok-insert-in-None : goal.returns-in_ok-insert-in-None
@@ -22,7 +22,7 @@ returns-in_ok-insert-in-None c = λ other.
     c.push-in-None.new.self
     (c.in_ok-push-in-None.ensures.ok
     ∙ ap (λ (list : List Place). list ++ c.args.place ∷ [])
-    (c.new-list.ensures ∙ ap listed c.in-None.ensures.value))
+    (c.new-list.ensures ∙ ap list_or_empty c.in-None.ensures.value))
     (c.in_ok-insert-in-None.ensures.updates.0 other
     ∙ ap (λ (kept : BTreeMap (List ℕ) (List Place)). cond
     (is_eq (slice_cmp nat_cmp c.args.key.now other)) (Some c.push-in-None.new.self)

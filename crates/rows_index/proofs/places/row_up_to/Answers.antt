@@ -1,6 +1,6 @@
 use Rattle.std.proofs.Common.{◌≡◌, ◌∙◌, ap, sym, subst}
 use Rattle.std.specs.List.Sorted.{IsNonDecreasingBy}
-use Rattle.rows_index.specs.Places.{is_of, block_of, listed, places}
+use Rattle.rows_index.specs.Places.{is_of, block_of, list_or_empty, places}
 use Rattle.rows_index.proofs.Marked.{places_rise}
 use Rattle.rows_index.proofs.LastPlace.{blocks_rise}
 use Rattle.rows_index.proofs.places.row_up_to.Goals as goal
@@ -10,6 +10,6 @@ last_place-requires c =
     let rows = c.requires.0 in
     let key = c.args.key.now in
     let same : c.as_slice.result.now ≡ places rows key = c.as_slice.ensures
-    ∙ ap listed c.in-Some.ensures.value ∙ c.requires.2 key in
+    ∙ ap list_or_empty c.in-Some.ensures.value ∙ c.requires.2 key in
     subst (IsNonDecreasingBy block_of) (sym same)
     (places_rise (is_of key) 0 rows (blocks_rise rows c.requires.1))

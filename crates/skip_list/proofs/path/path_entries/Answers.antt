@@ -25,4 +25,4 @@ pub returns-clause-path : goal.returns-clause-path
 returns-clause-path c versions towered = all_looked c.args.store.now versions c.args.at c.loop-next.ids c.loop-next.next (c.loop-next.invariant.looked versions towered) c.in_default.is
 
 pub returns-clause-among : goal.returns-clause-among
-returns-clause-among c says versions towered all = all_told c.args.store.now versions c.args.at c.loop-next.ids c.loop-next.next says (c.loop-next.invariant.looked versions towered) all
+returns-clause-among c versions towered = λ says all. all_told c.args.store.now versions c.args.at c.loop-next.ids c.loop-next.next says (c.loop-next.invariant.looked versions towered) all

@@ -2,7 +2,7 @@ use Rattle.std.proofs.Common.{◌≡◌, true, Some, arith}
 use Rattle.std.specs.List.{concat}
 use Rattle.std.specs.Rc.{rc_slice_items}
 use Rattle.std.proofs.lemmas.Result.{IfOk-weaker}
-use Rattle.scratch_model.specs.Scratch.{is_told}
+use Rattle.scratch_model.specs.Scratch.{is_known}
 use Rattle.body_store.specs.Bodies.{body_at_index}
 use Rattle.prov_entry.specs.Spelling.{body_fields}
 use Rattle.root_laws.specs.Naming.{body_of}
@@ -26,7 +26,7 @@ returns-clause-body g c = rw (← c.self.view_is) (λ row at told.
     let kept = c.self.inside.kept in
     let rows = rows_kept kept.index in
     IfOk-weaker c.body_at.result
-    (λ bytes. is_told (g.S.Scratch.state c.args.scratch.now) ≡ true
+    (λ bytes. is_known (g.S.Scratch.state c.args.scratch.now) ≡ true
     → body_at_index kept.bodies c.args.id.0 ≡ Some (rc_slice_items bytes))
     (λ bytes. rc_slice_items bytes ≡ concat (body_fields (body_of rows row)))
     (λ bytes read. body_is rows kept.index.store kept.bodies c.args.id.0 row (rc_slice_items bytes)
