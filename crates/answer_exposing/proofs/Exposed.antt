@@ -13,7 +13,7 @@ use Rattle.root_laws.specs.Root.{digest_at, root_of}
 use Rattle.root_laws.proofs.Lists.{all_weaker, keep_all}
 use Rattle.typed_ledger.specs.TypedLedger.{IsTypedLedger}
 use Rattle.proof_codec.specs.declared.proof.Proof.{Proof}
-use Rattle.proof_checks.specs.ProofTexts.{joined, proof_texts}
+use Rattle.proof_checks.specs.ProofTexts.{joined_texts, proof_texts}
 use Rattle.proof_checks.specs.LedgerTexts.{history_parts, ledger_texts}
 use Rattle.proof_checks.proofs.Sound.{accepted_is_sound}
 use Rattle.merkle_dag.specs.Ledger.{Ledger, IsHead}
@@ -23,14 +23,14 @@ use Rattle.answer_exposing.specs.Exposing.{IsFound, Clears}
 -- Where the rows up to a block are these, they have the texts of the ledger at it.
 pub texts_of_part : (rows part : List Row) (digests : List Digest) (block : ℕ) (digest : Digest)
     → up_to rows block ≡ part → slice_get digests block ≡ Some digest
-    → joined (history_parts part block digest.0) ≡ ledger_texts rows digests block
+    → joined_texts (history_parts part block digest.0) ≡ ledger_texts rows digests block
 unfolding ledger_texts
 texts_of_part rows part digests block digest is at =
     let none : Digest = record { 0 = [] } in
     let same : digest_at digests block ≡ digest.0 = ap (λ (d : Digest). d.0)
     (get_or_from_slice_get digests block digest none at) in
-    ap (λ (d : List ℕ). joined (history_parts part block d)) (sym same)
-    ∙ ap (λ (r : List Row). joined (history_parts r block (digest_at digests block))) (sym is)
+    ap (λ (d : List ℕ). joined_texts (history_parts part block d)) (sym same)
+    ∙ ap (λ (r : List Row). joined_texts (history_parts r block (digest_at digests block))) (sym is)
 
 -- Up to the last block the rows are all.
 pub all_up_to_head : (rows : List Row) (digests : List Digest) (head : Option ℕ) (block : ℕ)

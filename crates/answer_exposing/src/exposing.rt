@@ -1,20 +1,20 @@
 //! The first clash of a proof's texts with those of a ledger.
 
 ghost use Rattle.std.specs.Prelude.{◌≡◌, ◌<◌, true, Some, length, slice_get, IfOk, IsErrOf};
-ghost use Rattle.lc_base.specs.Faults.{HasCause};
-ghost use Rattle.scratch_model.specs.Scratch.{is_told};
+ghost use Rattle.scratch_model.specs.Scratch.{is_known};
 ghost use Rattle.merkle_tree.specs.Tree.{audit_length};
-ghost use Rattle.merkle_dag.specs.Lineage.{ledger_in, AgreesWith, StaysSame};
-ghost use Rattle.proof_checks.specs.ProofTexts.{joined, proof_texts};
-ghost use Rattle.proof_checks.specs.LedgerTexts.{history_parts, ledger_texts};
+ghost use Rattle.merkle_dag.specs.Lineage.{ledger_in, AgreesWith, LeavesLineage};
+ghost use Rattle.proof_checks.specs.{
+  ProofTexts.{joined_texts, proof_texts},
+  LedgerTexts.{history_parts, ledger_texts},
+};
 ghost use Rattle.text_clashes.specs.FirstClash.{ClashAt, text_at};
-ghost use Rattle.answer_exposing.specs.Exposing.{AreTextsAt, IsFound, IsExposed, Clears};
-ghost use Rattle.answer_exposing.specs.Exposing.{TellsBeyond};
+ghost use Rattle.answer_exposing.specs.Exposing.{AreTextsAt, IsFound, IsExposed, Clears, TellsBeyond};
 
 use crate::ledger::ledger_texts;
 use hashed_texts::proof_texts;
-use lc_base::{Bytes, Digest, Memory, TextList};
-use merkle_dag::{DagError, Lineage};
+use lc_base::{Bytes, Digest, HostError, Memory, TextList};
+use merkle_dag::Lineage;
 use proof_views::ProofView;
 use scratch_model::Scratch;
 use std::alloc::Global;
@@ -95,30 +95,28 @@ fn exposed_by_rows<S: Scratch>(
     root_at: u32,
     block_digest: &Digest,
     view: &ProofView,
-) -> Result<Option<Clash>, DagError>
+) -> Result<Option<Clash>, HostError>
     requires long { length view.now.audit ≡ audit_length view.now.leaf_index view.now.leaf_count }
     requires agrees { AgreesWith lineage.old (S.state scratch.old) }
-    // Where it is told which bytes the scratch device holds:
-    ensures found { is_told (S.state scratch.old) ≡ true
+    // Where it is known which bytes the scratch device holds:
+    ensures found { is_known (S.state scratch.old) ≡ true
         → IfOk result (IsFound (proof_texts view.now)
-        (joined (history_parts lineage.old.rows root_at block_digest.now.0))) }
-    // Whether that is told or not:
-    ensures same { StaysSame lineage.old (S.state scratch.old) lineage.new (S.state scratch.new) }
-    ensures cause { HasCause (S.scratch_faults scratch.old) (S.scratch_faults scratch.new)
-        (IsErrOf result DagError.Fault) }
+        (joined_texts (history_parts lineage.old.rows root_at block_digest.now.0))) }
+    // Whether that is known or not:
+    ensures leaves { LeavesLineage S.state S.scratch_faults lineage.old scratch.old lineage.new
+        scratch.new (IsErrOf result HostError.Fault) }
 {
     match ledger_texts(alloc, lineage, scratch, root_at, block_digest) {
         Ok(own) => match clash_with(alloc, view, &own) {
             Ok(found) => Ok(found),
-            Err(Memory) => Err(DagError::Memory),
+            Err(Memory) => Err(HostError::Memory),
         },
         Err(error) => Err(error),
     }
 }
 
 /// The first clash with the ledger at a block, which has this digest. Where that is the last block,
-/// the
-/// lineage is used as it is; else one of the blocks up to it is made.
+/// the lineage is used as it is; else one of the blocks up to it is made.
 fn exposed_at<S: Scratch>(
     alloc: Global,
     lineage: &mut Lineage,
@@ -126,18 +124,17 @@ fn exposed_at<S: Scratch>(
     root_at: u32,
     block_digest: &Digest,
     view: &ProofView,
-) -> Result<Option<Clash>, DagError>
+) -> Result<Option<Clash>, HostError>
     requires within { slice_get lineage.old.digests root_at ≡ Some block_digest.now }
     requires long { length view.now.audit ≡ audit_length view.now.leaf_index view.now.leaf_count }
     requires agrees { AgreesWith lineage.old (S.state scratch.old) }
-    // Where it is told which bytes the scratch device holds:
-    ensures found { is_told (S.state scratch.old) ≡ true
+    // Where it is known which bytes the scratch device holds:
+    ensures found { is_known (S.state scratch.old) ≡ true
         → IfOk result (IsFound (proof_texts view.now)
         (ledger_texts lineage.old.rows lineage.old.digests root_at)) }
-    // Whether that is told or not:
-    ensures same { StaysSame lineage.old (S.state scratch.old) lineage.new (S.state scratch.new) }
-    ensures cause { HasCause (S.scratch_faults scratch.old) (S.scratch_faults scratch.new)
-        (IsErrOf result DagError.Fault) }
+    // Whether that is known or not:
+    ensures leaves { LeavesLineage S.state S.scratch_faults lineage.old scratch.old lineage.new
+        scratch.new (IsErrOf result HostError.Fault) }
 {
     // The rows are of blocks up to the last one.
     let _ledger = lineage.row_count();
@@ -150,17 +147,14 @@ fn exposed_at<S: Scratch>(
             rewound.give_up();
             found
         }
-        Err(Memory) => Err(DagError::Memory),
+        Err(Memory) => Err(HostError::Memory),
     }
 }
 
 /// The first clash of the texts that a proof tells of with those of the ledger at a block: two
-/// texts that
-/// differ and have one digest; `None` exactly where there is no clash. The proof has as many hashes
-/// in its
-/// audit path as its leaf wants, as each one has that stands in bytes. The bytes of bodies are read
-/// from
-/// the scratch device. Only the bodies at hand may be others after it.
+/// texts that differ and have one digest; `None` exactly where there is no clash. The proof has as
+/// many hashes in its audit path as its leaf wants, as each one has that stands in bytes. The bytes
+/// of bodies are read from the scratch device. Only the bodies at hand may be others after it.
 pub fn expose<S: Scratch>(
     alloc: Global,
     lineage: &mut Lineage,
@@ -170,19 +164,18 @@ pub fn expose<S: Scratch>(
 ) -> Result<Option<Clash>, ExposeError>
     requires long { length view.now.audit ≡ audit_length view.now.leaf_index view.now.leaf_count }
     requires agrees { AgreesWith lineage.old (S.state scratch.old) }
-    // Where it is told which bytes the scratch device holds:
-    ensures exposed { is_told (S.state scratch.old) ≡ true
+    // Where it is known which bytes the scratch device holds:
+    ensures exposed { is_known (S.state scratch.old) ≡ true
         → IsExposed (ledger_in lineage.old) root_at view.now result }
     // Where there is none, each answer with which the proof is accepted by one who has the root at
     // the block
     // is that of the rows up to it.
-    ensures clears { is_told (S.state scratch.old) ≡ true
+    ensures clears { is_known (S.state scratch.old) ≡ true
         → IfOk result (Clears (ledger_in lineage.old) root_at view.now) }
-    // Whether that is told or not:
+    // Whether that is known or not:
     ensures beyond { TellsBeyond (ledger_in lineage.old) root_at result }
-    ensures same { StaysSame lineage.old (S.state scratch.old) lineage.new (S.state scratch.new) }
-    ensures cause { HasCause (S.scratch_faults scratch.old) (S.scratch_faults scratch.new)
-        (IsErrOf result ExposeError.Fault) }
+    ensures leaves { LeavesLineage S.state S.scratch_faults lineage.old scratch.old lineage.new
+        scratch.new (IsErrOf result ExposeError.Fault) }
 {
     // The rows are within their types.
     let _typed = lineage.row_count();
@@ -193,7 +186,7 @@ pub fn expose<S: Scratch>(
     };
     match exposed_at(alloc, lineage, scratch, root_at, &block_digest, view) {
         Ok(found) => Ok(found),
-        Err(DagError::Fault) => Err(ExposeError::Fault),
-        Err(DagError::Memory) => Err(ExposeError::Memory),
+        Err(HostError::Fault) => Err(ExposeError::Fault),
+        Err(HostError::Memory) => Err(ExposeError::Memory),
     }
 }

@@ -1,22 +1,25 @@
 //! The texts of a ledger.
 
-ghost use Rattle.std.specs.Prelude.{◌≡◌, true, [], ◌∷◌, ◌++◌, IfOk, OnOk, IsErrOf};
-ghost use Rattle.std.specs.List.{flat_map};
-ghost use Rattle.lc_base.specs.Faults.{HasCause};
-ghost use Rattle.scratch_model.specs.Scratch.{is_told};
+ghost use Rattle.std.specs.{
+  Prelude.{◌≡◌, true, [], ◌∷◌, ◌++◌, IfOk, OnOk, IsErrOf},
+  List.{flat_map},
+};
+ghost use Rattle.scratch_model.specs.Scratch.{is_known};
 ghost use Rattle.root_laws.specs.Root.{root_text};
 ghost use Rattle.merkle_tree.specs.Tree.{node_texts};
-ghost use Rattle.merkle_dag.specs.Lineage.{AgreesWith, StaysSame};
+ghost use Rattle.merkle_dag.specs.Lineage.{AgreesWith, LeavesLineage};
 ghost use Rattle.prov_entry.specs.ForwardLists.{start_text};
-ghost use Rattle.proof_checks.specs.ProofTexts.{joined};
-ghost use Rattle.proof_checks.specs.LedgerTexts.{history_parts, texts_of_leaves, texts_of_row_uses};
+ghost use Rattle.proof_checks.specs.{
+  ProofTexts.{joined_texts},
+  LedgerTexts.{history_parts, texts_of_leaves, texts_of_row_uses},
+};
 
 use crate::leaves::{bytes_of_leaves, push_leaves};
 use crate::nodes::push_nodes;
 use crate::rows::{push_all_uses, push_rows};
 use hashed_texts::{push_root, push_tagged};
-use lc_base::{Digest, Memory, TextList};
-use merkle_dag::{DagError, Lineage};
+use lc_base::{Digest, HostError, Memory, TextList};
+use merkle_dag::Lineage;
 use merkle_tree::MAX_HEIGHT;
 use prov_entry::FORWARD_START;
 use scratch_model::Scratch;
@@ -66,28 +69,19 @@ pub fn ledger_texts<S: Scratch>(
     scratch: &mut S,
     block: u32,
     block_digest: &Digest,
-) -> Result<TextList, DagError>
+) -> Result<TextList, HostError>
     requires agrees { AgreesWith lineage.old (S.state scratch.old) }
-    // Where it is told which bytes the scratch device holds:
-    ensures texts { is_told (S.state scratch.old) ≡ true
-        → IfOk result (λ texts. texts ≡ joined
+    // Where it is known which bytes the scratch device holds:
+    ensures texts { is_known (S.state scratch.old) ≡ true
+        → IfOk result (λ texts. texts ≡ joined_texts
         (history_parts lineage.old.rows block block_digest.now.0)) }
-    // Whether that is told or not:
-    ensures same { StaysSame lineage.old (S.state scratch.old) lineage.new (S.state scratch.new) }
-    ensures cause { HasCause (S.scratch_faults scratch.old) (S.scratch_faults scratch.new)
-        (IsErrOf result DagError.Fault) }
+    // Whether that is known or not:
+    ensures leaves { LeavesLineage S.state S.scratch_faults lineage.old scratch.old lineage.new
+        scratch.new (IsErrOf result HostError.Fault) }
 {
     let mut texts = TextList::new(alloc);
-    match push_tree(&mut texts, lineage.tree(), block, block_digest) {
-        Ok(()) => {}
-        Err(Memory) => return Err(DagError::Memory),
-    }
-    match push_rows(&mut texts, lineage, scratch) {
-        Ok(()) => {}
-        Err(error) => return Err(error),
-    }
-    match push_lists(&mut texts, lineage) {
-        Ok(()) => Ok(texts),
-        Err(Memory) => Err(DagError::Memory),
-    }
+    push_tree(&mut texts, lineage.tree(), block, block_digest)?;
+    push_rows(&mut texts, lineage, scratch)?;
+    push_lists(&mut texts, lineage)?;
+    Ok(texts)
 }

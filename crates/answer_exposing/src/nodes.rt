@@ -1,8 +1,10 @@
 //! The texts of the nodes of a tree.
 
 ghost use Rattle.std.specs.Prelude.{◌≡◌, ◌<◌, ◌≤◌, [], ◌∷◌, ◌++◌, length, map, OnOk, IfOk};
-ghost use Rattle.merkle_tree.specs.Tree.{leaf_text, node_text, node_hash, hash_to, node_texts_to};
-ghost use Rattle.merkle_tree.specs.declared.limits.TheConstants.{MAX_HEIGHT};
+ghost use Rattle.merkle_tree.specs.{
+  Tree.{leaf_text, node_text, node_hash, hash_to, node_texts_to},
+  declared.limits.TheConstants.{MAX_HEIGHT},
+};
 
 use hashed_texts::{half_of, push_node};
 use lc_base::{Bytes, Digest, Memory, TextList};

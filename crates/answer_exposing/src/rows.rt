@@ -1,22 +1,26 @@
 //! The texts of the rows of a lineage: their headers, their bodies and their uses.
 
-ghost use Rattle.std.specs.Prelude.{◌≡◌, ◌<◌, ◌≤◌, true, [], ◌∷◌, ◌++◌, Some, length, slice_get};
-ghost use Rattle.std.specs.Prelude.{OnOk, IsErrOf};
-ghost use Rattle.std.specs.List.{flat_map};
-ghost use Rattle.lc_base.specs.Faults.{HasCause};
+ghost use Rattle.std.specs.{
+  Prelude.{◌≡◌, ◌<◌, ◌≤◌, true, [], ◌∷◌, ◌++◌, Some, length, slice_get, OnOk, IsErrOf},
+  List.{flat_map},
+};
 ghost use Rattle.lc_base.specs.declared.row.Row.{Row};
-ghost use Rattle.scratch_model.specs.Scratch.{is_told};
-ghost use Rattle.prov_entry.specs.declared.limits.TheConstants.{MAX_LINKS};
-ghost use Rattle.prov_entry.specs.Spelling.{header_text, body_text};
-ghost use Rattle.root_laws.specs.Naming.{header_of, body_of};
-ghost use Rattle.merkle_dag.specs.Lineage.{AgreesWith, StaysSame};
-ghost use Rattle.proof_checks.specs.ProofTexts.{texts_of_uses};
-ghost use Rattle.proof_checks.specs.LedgerTexts.{texts_of_row, texts_of_row_uses};
+ghost use Rattle.scratch_model.specs.Scratch.{is_known};
+ghost use Rattle.prov_entry.specs.{
+  declared.limits.TheConstants.{MAX_LINKS},
+  Spelling.{header_text},
+};
+ghost use Rattle.root_laws.specs.Naming.{header_of};
+ghost use Rattle.merkle_dag.specs.Lineage.{AgreesWith, LeavesLineage};
+ghost use Rattle.proof_checks.specs.{
+  ProofTexts.{texts_of_uses},
+  LedgerTexts.{texts_of_row, texts_of_row_uses},
+};
 
 use entry_store::EntryId;
 use hashed_texts::{push_tagged, push_use};
-use lc_base::{Dep, Memory, TextList};
-use merkle_dag::{DagError, Lineage};
+use lc_base::{Dep, HostError, Memory, TextList};
+use merkle_dag::Lineage;
 use prov_entry::{BODY, HEADER, Header, no_uses, with_use, write_header};
 use scratch_model::Scratch;
 
@@ -41,56 +45,28 @@ fn push_row_header(texts: &mut TextList, lineage: &Lineage, index: u32) -> Resul
     push_header(texts, &header)
 }
 
-/// Adds the text of the body of the row at an index: its bytes are those that the scratch device
-/// gives.
-fn push_row_body<S: Scratch>(
-    texts: &mut TextList,
-    lineage: &mut Lineage,
-    scratch: &mut S,
-    index: u32,
-) -> Result<(), DagError>
-    requires within { index < length lineage.old.rows }
-    requires agrees { AgreesWith lineage.old (S.state scratch.old) }
-    // Where it is told which bytes the scratch device holds:
-    ensures text { is_told (S.state scratch.old) ≡ true → (row : Row)
-        → slice_get lineage.old.rows index ≡ Some row
-        → OnOk result (texts.new ≡ texts.old ++ body_text (body_of lineage.old.rows row) ∷ []) }
-    // Whether that is told or not:
-    ensures same { StaysSame lineage.old (S.state scratch.old) lineage.new (S.state scratch.new) }
-    ensures cause { HasCause (S.scratch_faults scratch.old) (S.scratch_faults scratch.new)
-        (IsErrOf result DagError.Fault) }
-{
-    match lineage.body_of(scratch, EntryId(index)) {
-        Ok(bytes) => match push_tagged(texts, BODY, &bytes) {
-            Ok(()) => Ok(()),
-            Err(Memory) => Err(DagError::Memory),
-        },
-        Err(error) => Err(error),
-    }
-}
-
-/// Adds the texts of the header and of the body of the row at an index.
+/// Adds the texts of the header and of the body of the row at an index: the bytes of the body are
+/// those that the scratch device gives.
 fn push_row<S: Scratch>(
     texts: &mut TextList,
     lineage: &mut Lineage,
     scratch: &mut S,
     index: u32,
-) -> Result<(), DagError>
+) -> Result<(), HostError>
     requires within { index < length lineage.old.rows }
     requires agrees { AgreesWith lineage.old (S.state scratch.old) }
-    // Where it is told which bytes the scratch device holds:
-    ensures texts { is_told (S.state scratch.old) ≡ true → (row : Row)
+    // Where it is known which bytes the scratch device holds:
+    ensures texts { is_known (S.state scratch.old) ≡ true → (row : Row)
         → slice_get lineage.old.rows index ≡ Some row
         → OnOk result (texts.new ≡ texts.old ++ texts_of_row lineage.old.rows row) }
-    // Whether that is told or not:
-    ensures same { StaysSame lineage.old (S.state scratch.old) lineage.new (S.state scratch.new) }
-    ensures cause { HasCause (S.scratch_faults scratch.old) (S.scratch_faults scratch.new)
-        (IsErrOf result DagError.Fault) }
+    // Whether that is known or not:
+    ensures leaves { LeavesLineage S.state S.scratch_faults lineage.old scratch.old lineage.new
+        scratch.new (IsErrOf result HostError.Fault) }
 {
-    match push_row_header(texts, lineage, index) {
-        Ok(()) => push_row_body(texts, lineage, scratch, index),
-        Err(Memory) => Err(DagError::Memory),
-    }
+    push_row_header(texts, lineage, index)?;
+    let bytes = lineage.body_of(scratch, EntryId(index))?;
+    push_tagged(texts, BODY, &bytes)?;
+    Ok(())
 }
 
 /// Adds the texts of the header and of the body of each row, in order.
@@ -98,16 +74,15 @@ pub(crate) fn push_rows<S: Scratch>(
     texts: &mut TextList,
     lineage: &mut Lineage,
     scratch: &mut S,
-) -> Result<(), DagError>
+) -> Result<(), HostError>
     requires agrees { AgreesWith lineage.old (S.state scratch.old) }
-    // Where it is told which bytes the scratch device holds:
-    ensures texts { is_told (S.state scratch.old) ≡ true
+    // Where it is known which bytes the scratch device holds:
+    ensures texts { is_known (S.state scratch.old) ≡ true
         → OnOk result (texts.new ≡ texts.old ++ flat_map (texts_of_row lineage.old.rows)
         lineage.old.rows) }
-    // Whether that is told or not:
-    ensures same { StaysSame lineage.old (S.state scratch.old) lineage.new (S.state scratch.new) }
-    ensures cause { HasCause (S.scratch_faults scratch.old) (S.scratch_faults scratch.new)
-        (IsErrOf result DagError.Fault) }
+    // Whether that is known or not:
+    ensures leaves { LeavesLineage S.state S.scratch_faults lineage.old scratch.old lineage.new
+        scratch.new (IsErrOf result HostError.Fault) }
 {
     for index in 0..lineage.row_count() as u32 {
         match push_row(texts, lineage, scratch, index) {

@@ -2,6 +2,7 @@
 #![tactic(auto)]
 
 mod answering;
+mod asked;
 mod gathering;
 mod proving;
 mod typed;

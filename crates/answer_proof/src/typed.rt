@@ -1,19 +1,33 @@
-//! What is given is within its types. The call does nothing: contracts learn it by this.
+//! What is given is within its types. The calls do nothing: contracts learn it by these.
 
-ghost use Rattle.std.specs.Prelude.{◌≡◌, length};
+ghost use Rattle.std.specs.Prelude.{◌≡◌, ◌<◌, ◌^◌, length};
 ghost use Rattle.lc_names.specs.KeyBytes.{IsKey};
 ghost use Rattle.typed_ledger.specs.TypedLedger.{IsTypedLedger};
 
-use lc_base::{Digest, Query};
+use crate::asked::Asked;
+use lc_base::Digest;
 use merkle_dag::Lineage;
 
-/// A lineage is a typed ledger, a query is of a key, and a digest has 32 bytes.
-pub(crate) fn check_types(lineage: &Lineage, query: &Query, digest: &Digest)
+fn check_block(block: u32)
+    ensures { block < 2 ^ 32 }
+{}
+
+fn check_digest(digest: &Digest)
+    ensures { length digest.now.0 ≡ 32 }
+{
+    let _digest = digest.0;
+}
+
+/// A lineage is a typed ledger, a query is of a key, a block fits its number, and a digest has 32
+/// bytes.
+pub(crate) fn check_types(lineage: &Lineage, asked: &Asked)
     ensures ledger { IsTypedLedger lineage.now.rows lineage.now.digests }
-    ensures key { IsKey query.now.key }
-    ensures digest { length digest.now.0 ≡ 32 }
+    ensures key { IsKey asked.now.query.key }
+    ensures block { asked.now.root_at < 2 ^ 32 }
+    ensures digest { length asked.now.block_digest.0 ≡ 32 }
 {
     let _rows = lineage.row_count();
-    let _key = query.key.as_bytes();
-    let _digest = digest.0;
+    let _key = asked.query.key.as_bytes();
+    check_block(asked.root_at);
+    check_digest(&asked.block_digest);
 }

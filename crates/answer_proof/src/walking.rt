@@ -1,7 +1,6 @@
 //! The headers on the path of a lookup, from the newest version's on.
 
-ghost use Rattle.std.specs.Prelude.{◌≡◌, ℕ, List, IfOk};
-ghost use Rattle.std.specs.List.{filter_map};
+ghost use Rattle.std.specs.{Prelude.{◌≡◌, ℕ, List, IfOk}, List.{filter_map}};
 ghost use Rattle.lineage_store.specs.OnPath.{AreEntriesIn};
 ghost use Rattle.proof_checks.specs.Making.{header_in, path_headers};
 

@@ -1,10 +1,8 @@
 //! The texts of the lists of a proof.
 
-ghost use Rattle.std.specs.Prelude.{◌≡◌, [], ◌∷◌, ◌++◌, map, OnOk};
-ghost use Rattle.std.specs.Option.{option_map};
+ghost use Rattle.std.specs.{Prelude.{◌≡◌, [], ◌∷◌, ◌++◌, map, OnOk}, Option.{option_map}};
 ghost use Rattle.merkle_tree.specs.Chains.{chain_texts};
-ghost use Rattle.prov_entry.specs.Spelling.{header_text, body_text};
-ghost use Rattle.prov_entry.specs.ForwardLists.{use_text};
+ghost use Rattle.prov_entry.specs.{Spelling.{header_text, body_text}, ForwardLists.{use_text}};
 ghost use Rattle.proof_checks.specs.ProofTexts.{body_texts, uses_texts};
 
 use crate::text::{push_tagged, push_use};

@@ -1,12 +1,12 @@
 //! The texts of a proof.
 
 ghost use Rattle.std.specs.Prelude.{◌≡◌, [], ◌∷◌, ◌++◌, length, OnOk, IfOk};
-ghost use Rattle.merkle_tree.specs.Tree.{audit_length, leaf_text, climb_texts_to};
-ghost use Rattle.merkle_tree.specs.declared.limits.TheConstants.{MAX_HEIGHT};
-ghost use Rattle.prov_entry.specs.Spelling.{leaf_bytes};
-ghost use Rattle.prov_entry.specs.ForwardLists.{start_text};
-ghost use Rattle.proof_checks.specs.Checks.{climb_of, root_text_of};
-ghost use Rattle.proof_checks.specs.ProofTexts.{proof_texts};
+ghost use Rattle.merkle_tree.specs.{
+  Tree.{audit_length, leaf_text, climb_texts_to},
+  declared.limits.TheConstants.{MAX_HEIGHT},
+};
+ghost use Rattle.prov_entry.specs.{Spelling.{leaf_bytes}, ForwardLists.{start_text}};
+ghost use Rattle.proof_checks.specs.{Checks.{climb_of, root_text_of}, ProofTexts.{proof_texts}};
 
 use crate::lists::{push_body, push_headers, push_uses};
 use crate::text::{push_root, push_tagged};

@@ -1,9 +1,12 @@
 //! The texts of the nodes on the way up from a leaf.
 
 ghost use Rattle.std.specs.Prelude.{◌≡◌, ◌+◌, ◌-◌, ◌<◌, ◌≤◌, ◌^◌, [], ◌∷◌, ◌++◌, length, OnOk, IfOk};
-ghost use Rattle.merkle_tree.specs.Tree.{climb_to, climb_texts_to, audit_length_to, audit_length, climbed, text_on_left, text_on_right};
-ghost use Rattle.merkle_tree.specs.Climbing.{start_at, top_of};
-ghost use Rattle.merkle_tree.specs.declared.limits.TheConstants.{MAX_HEIGHT};
+ghost use Rattle.merkle_tree.specs.{
+  Tree.{climb_to, climb_texts_to, audit_length_to, audit_length, one_higher},
+  Climbing.{start_at, top_of},
+  declared.limits.TheConstants.{MAX_HEIGHT},
+};
+ghost use Rattle.hashed_texts.specs.Ways.{text_above};
 
 use crate::text::push_node;
 use lc_base::{Digest, DigestList, Memory, TextList};
@@ -20,37 +23,23 @@ pub fn half_of(height: u32) -> usize
     1usize << (height - 1)
 }
 
-/// Adds the text of the node whose left part has this hash, and whose right part the next one of the
+/// Adds the text of the node of which one part has this hash, and the other is the next one of the
 /// path, and goes up to it.
-fn push_on_left<'a>(
+fn push_above<'a>(
     texts: &mut TextList,
+    is_left: bool,
     hash: Digest,
     path: &'a [Digest],
 ) -> Result<(Digest, &'a [Digest]), Memory>
     requires { 0 < length path.now }
-    ensures climbed { IfOk result (λ top. start_at top.0 top.1.now ≡ climbed (start_at hash path.now) (text_on_left (start_at hash path.now))) }
+    ensures climbed { IfOk result (λ top. start_at top.0 top.1.now ≡ one_higher (start_at hash path.now) (text_above is_left (start_at hash path.now))) }
     ensures left { IfOk result (λ top. length top.1.now + 1 ≡ length path.now) }
-    ensures texts { OnOk result (texts.new ≡ texts.old ++ text_on_left (start_at hash path.now) ∷ []) }
+    ensures texts { OnOk result (texts.new ≡ texts.old ++ text_above is_left (start_at hash path.now) ∷ []) }
 {
-    match push_node(texts, &hash, &path[0]) {
-        Ok(()) => Ok((node_hash(&hash, &path[0]), &path[1..])),
-        Err(Memory) => Err(Memory),
-    }
-}
-
-/// The same of the node whose right part has this hash, and whose left part the next one of the path.
-fn push_on_right<'a>(
-    texts: &mut TextList,
-    hash: Digest,
-    path: &'a [Digest],
-) -> Result<(Digest, &'a [Digest]), Memory>
-    requires { 0 < length path.now }
-    ensures climbed { IfOk result (λ top. start_at top.0 top.1.now ≡ climbed (start_at hash path.now) (text_on_right (start_at hash path.now))) }
-    ensures left { IfOk result (λ top. length top.1.now + 1 ≡ length path.now) }
-    ensures texts { OnOk result (texts.new ≡ texts.old ++ text_on_right (start_at hash path.now) ∷ []) }
-{
-    match push_node(texts, &path[0], &hash) {
-        Ok(()) => Ok((node_hash(&path[0], &hash), &path[1..])),
+    let next = path[0];
+    let (left, right) = if is_left { (hash, next) } else { (next, hash) };
+    match push_node(texts, &left, &right) {
+        Ok(()) => Ok((node_hash(&left, &right), &path[1..])),
         Err(Memory) => Err(Memory),
     }
 }
@@ -79,12 +68,12 @@ fn push_nodes<'a>(
     if half < count {
         if index < half {
             match push_nodes(texts, height - 1, index, half, leaf, path) {
-                Ok((hash, rest)) => push_on_left(texts, hash, rest),
+                Ok((hash, rest)) => push_above(texts, true, hash, rest),
                 Err(Memory) => Err(Memory),
             }
         } else {
             match push_nodes(texts, height - 1, index - half, count - half, leaf, path) {
-                Ok((hash, rest)) => push_on_right(texts, hash, rest),
+                Ok((hash, rest)) => push_above(texts, false, hash, rest),
                 Err(Memory) => Err(Memory),
             }
         }

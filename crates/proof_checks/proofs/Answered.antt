@@ -21,7 +21,7 @@ use Rattle.prov_entry.specs.declared.entry.BodyDep.{BodyDep}
 use Rattle.prov_entry.specs.declared.entry.Body.{Body}
 use Rattle.prov_entry.specs.Spelling.{IsBody, body_text}
 use Rattle.prov_entry.specs.ForwardLists.{start_text, no_uses, use_text, use_fields, uses_digest}
-use Rattle.entry_views.proofs.Bodies.{body_field}
+use Rattle.entry_views.specs.Bodies.{body_field}
 use Rattle.entry_views.proofs.Determined.{determined}
 use Rattle.root_laws.specs.Naming.{header_of, body_of, named_before, with_digest}
 use Rattle.root_laws.proofs.Lists.{contained}
@@ -69,7 +69,7 @@ same_uses xs ys all all' agree e =
 -- ---- the answer
 
 -- What is known of a proof whose last header is that of a version that answers.
-pub record IsTold (rows : List Row) (key : List ℕ) (kind : Kind) (row : Row) (last : Header) (claim : Claim) (body : Option Body) (list : Option (List Dep)) : Type 0 where
+pub record IsKnown (rows : List Row) (key : List ℕ) (kind : Kind) (row : Row) (last : Header) (claim : Claim) (body : Option Body) (list : Option (List Dep)) : Type 0 where
   pub there : Contains rows row
   pub last_is : last ≡ header_of rows row
   pub claim_is : claim ≡ claim_of_uses (uses rows key row.block)
@@ -90,7 +90,7 @@ answer_is rows key Fwd row last body None last_is body_is there uses_are = absur
 answer_is rows key Fwd row last body (Some own) last_is body_is there uses_are = rw last_is (ap (answers.Fwd row.block) (uses_are own refl))
 
 pub answered : (rows : List Row) (key : List ℕ) (kind : Kind) (row : Row) (last : Header) (claim : Claim) (body : Option Body) (list : Option (List Dep)) → IsLawful rows → All IsTypedRow rows
-    → IsTold rows key kind row last claim body list → answer_from kind (Some last) body list ≡ answer_about rows kind key row
+    → IsKnown rows key kind row last claim body list → answer_from kind (Some last) body list ≡ answer_about rows kind key row
 answered rows key kind row last claim None list lawful are told = absurd (let no = told.body_there in cc)
 answered rows key kind row last claim (Some body) list lawful are told =
     let digests : sha256 (body_text body) ≡ last.body.0 = same_key (sha256 (body_text body)) last.body.0 (passed _ _ told.body_passes) in

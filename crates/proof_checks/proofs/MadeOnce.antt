@@ -27,7 +27,7 @@ use Rattle.typed_ledger.specs.TypedLedger.{IsTypedRow}
 use Rattle.typed_ledger.proofs.Parts.{lawful_up_to, rows_up_to}
 use Rattle.typed_ledger.proofs.Spellings.{IsOneOf, leaf_cases, one_lawful, is_among_keys}
 use Rattle.proof_codec.specs.declared.proof.Proof.{Proof}
-use Rattle.proof_codec.specs.Reading.{digest_of_bytes}
+use Rattle.entry_views.specs.Reading.{digest_of_bytes}
 use Rattle.proof_checks.specs.Checks.{is_of_key, is_before_next, covers}
 use Rattle.proof_checks.specs.LedgerTexts.{texts_of_leaves}
 use Rattle.proof_checks.specs.Making.{header_in, uses_if, IsMade, MadeProofsAreUnique}
@@ -60,14 +60,14 @@ up_to_key key leaf (inl own) = inl own
 up_to_key key leaf (inr between) = inr between.0
 
 -- Behind a leaf that covers a key there is no other key up to it.
-none_behind : (keys : List (List ℕ)) (key low other : List ℕ) (next : Option (List ℕ)) → IsNext keys low next
+none_after : (keys : List (List ℕ)) (key low other : List ℕ) (next : Option (List ℕ)) → IsNext keys low next
     → (low ≡ key) ⊎ ((is_below low key ≡ true) × (is_before_next key next ≡ true))
     → is_below low other ≡ true → is_among keys other ≡ true → IsUpTo key other → ⊥
-none_behind keys key low other next is (inl own) below among (inl same) = not_both (is_below low other) below (ap (is_below low) (same ∙ sym own) ∙ not_itself low)
-none_behind keys key low other next is (inl own) below among (inr less) = not_both (is_below low low) (below_trans low other low below (ap (is_below other) own ∙ less)) (not_itself low)
-none_behind keys key low other None is (inr between) below among up =
+none_after keys key low other next is (inl own) below among (inl same) = not_both (is_below low other) below (ap (is_below low) (same ∙ sym own) ∙ not_itself low)
+none_after keys key low other next is (inl own) below among (inr less) = not_both (is_below low low) (below_trans low other low below (ap (is_below other) own ∙ less)) (not_itself low)
+none_after keys key low other None is (inr between) below among up =
     not_both (is_below low other) below (of_one (λ (k : List ℕ). is_below low k ≡ false) keys other (recursion_from_All (λ (k : List ℕ). is_below low k ≡ false) keys is) among)
-none_behind keys key low other (Some next) is (inr between) below among up =
+none_after keys key low other (Some next) is (inr between) below among up =
     let P : List ℕ → Type 0 = λ (k : List ℕ). is_below low k ≡ true → is_below k next ≡ false in
     let not_less : is_below other next ≡ false = of_one P keys other (recursion_from_All P keys is.2) among below in
     go up not_less
@@ -92,7 +92,7 @@ module _ (rows : List Row) (lawful : IsLawful rows) (are : All IsTypedRow rows) 
 
   not_greater : (key : List ℕ) (leaf other : Leaf) → IsOneOf rows lawful are leaf → IsOneOf rows lawful are other → CoversBy key leaf → CoversBy key other → is_below (key_or_empty leaf.key) (key_or_empty other.key) ≡ true → ⊥
   not_greater key leaf other one two by by' below =
-      none_behind (keys_of rows) key (key_or_empty leaf.key) (key_or_empty other.key) leaf.next (next_of leaf one) by below (greater_among (key_or_empty leaf.key) other two below) (up_to_key key other by')
+      none_after (keys_of rows) key (key_or_empty leaf.key) (key_or_empty other.key) leaf.next (next_of leaf one) by below (greater_among (key_or_empty leaf.key) other two below) (up_to_key key other by')
 
   same_own_key : (key : List ℕ) (leaf other : Leaf) → IsOneOf rows lawful are leaf → IsOneOf rows lawful are other → CoversBy key leaf → CoversBy key other → key_or_empty leaf.key ≡ key_or_empty other.key
   same_own_key key leaf other one two by by' = elim (order (key_or_empty leaf.key) (key_or_empty other.key)) [

@@ -18,7 +18,7 @@ use Rattle.root_laws.proofs.Lists.{all_weaker, contained, not_both, or_true}
 use Rattle.root_laws.proofs.Keys.{key_is_key}
 use Rattle.root_laws.proofs.NextKeys.{next_is, order, below_trans, not_itself}
 use Rattle.proof_codec.specs.declared.proof.Proof.{Proof}
-use Rattle.proof_codec.specs.Reading.{digest_of_bytes}
+use Rattle.entry_views.specs.Reading.{digest_of_bytes}
 use Rattle.proof_checks.specs.Checks.{is_of_key, is_before_next, covers, verdict}
 use Rattle.proof_checks.specs.LedgerTexts.{texts_of_leaves}
 use Rattle.proof_checks.specs.Making.{covering_index, made_of, made_proof, IsMade, MadeProofIsMade, MadeProofIsAccepted}
@@ -37,9 +37,9 @@ record IsGreatest (keys : List (List ℕ)) (key low : List ℕ) : Type 0 where
   not_above : is_below key low ≡ false
   greatest : AllByRecursion (λ (other : List ℕ). is_below low other ≡ true → is_below key other ≡ true) keys
 
-behind_first : (first : List ℕ) (keys : List (List ℕ)) (low : List ℕ) → (low ≡ []) ⊎ Contains keys low → (low ≡ []) ⊎ Contains (first ∷ keys) low
-behind_first first keys low (inl none) = inl none
-behind_first first keys low (inr has) = inr (suc has.0, omega (arith, has.1), has.2)
+after_first : (first : List ℕ) (keys : List (List ℕ)) (low : List ℕ) → (low ≡ []) ⊎ Contains keys low → (low ≡ []) ⊎ Contains (first ∷ keys) low
+after_first first keys low (inl none) = inl none
+after_first first keys low (inr has) = inr (suc has.0, omega (arith, has.1), has.2)
 
 greatest_is : (keys : List (List ℕ)) (key : List ℕ) → (low : List ℕ) × IsGreatest keys key low
 greatest_is [] key = ([], record { there = inl refl; not_above = none_below key; greatest = tt })
@@ -47,9 +47,9 @@ greatest_is (first ∷ keys) key = with_first (greatest_is keys key)
   where
     with_first : ((low : List ℕ) × IsGreatest keys key low) → (low : List ℕ) × IsGreatest (first ∷ keys) key low
     with_first (low, is) = elim (cases_Bool (is_below key first)) [
-      | inl above ↦ (low, record { there = behind_first first keys low is.there; not_above = is.not_above; greatest = ((λ less. above), is.greatest) })
+      | inl above ↦ (low, record { there = after_first first keys low is.there; not_above = is.not_above; greatest = ((λ less. above), is.greatest) })
       | inr up_to ↦ elim (cases_Bool (is_below low first)) [
-        | inr f ↦ (low, record { there = behind_first first keys low is.there; not_above = is.not_above; greatest = ((λ less. absurd (not_both (is_below low first) less f)), is.greatest) })
+        | inr f ↦ (low, record { there = after_first first keys low is.there; not_above = is.not_above; greatest = ((λ less. absurd (not_both (is_below low first) less f)), is.greatest) })
         | inl greater ↦ (
           first,
           record {
@@ -101,7 +101,7 @@ leaf_of_low : (rows : List Row) (low : List ℕ) → (low ≡ []) ⊎ Contains (
 leaf_of_low rows low (inl none) = (sentinel (keys_of rows), (0, omega arith, refl), sym none, ap (next_key (keys_of rows)) (sym none))
 leaf_of_low rows low (inr has) = (leaf_of rows low, leaf_of_key rows low has, refl, refl)
 
--- What passes a test stands at or behind the first that does.
+-- What passes a test stands at or after the first that does.
 first_within : {X : Type 0} (test : X → Bool) (xs : List X) (x : X) → Contains xs x → test x ≡ true → position_or_len test xs < length xs
 first_within test xs x has passes = elim (cases_lt (position_or_len test xs) (length xs)) [
   | inl within ↦ within

@@ -23,7 +23,7 @@ use Rattle.prov_entry.specs.declared.entry.Header.{Header}
 use Rattle.prov_entry.specs.declared.entry.Body.{Body}
 use Rattle.prov_entry.specs.declared.entry.Leaf.{Leaf}
 use Rattle.prov_entry.specs.Spelling.{leaf_bytes, header_text, body_text}
-use Rattle.entry_views.proofs.Leaves.{leaf_field}
+use Rattle.entry_views.specs.Leaves.{leaf_field}
 use Rattle.entry_views.proofs.Determined.{determined}
 use Rattle.root_laws.specs.Naming.{header_of, body_of}
 use Rattle.root_laws.specs.WalkLaws.{header_texts}
@@ -33,7 +33,7 @@ use Rattle.proof_codec.specs.declared.proof.Proof.{Proof}
 use Rattle.proof_codec.specs.Spelling.{IsProof, is_answer, last_of}
 use Rattle.proof_checks.specs.declared.reject.Reject.TheVariants as rejects
 use Rattle.proof_checks.specs.Checks.{fault_in, answer_in, answer_from, query_fault, root_fault, leaf_fault, path_fault, body_fault, uses_fault, fault_of_body, climb_of, root_text_of, covers, is_of_key, expected_first, claim_of_leaf, claim_before}
-use Rattle.proof_checks.specs.ProofTexts.{joined, proof_parts, proof_texts, body_texts, uses_texts, texts_of_uses}
+use Rattle.proof_checks.specs.ProofTexts.{joined_texts, proof_parts, proof_texts, body_texts, uses_texts, texts_of_uses}
 use Rattle.proof_checks.specs.LedgerTexts.{texts_of_leaves, texts_of_row, texts_of_row_uses, history_parts, ledger_texts}
 use Rattle.typed_ledger.specs.TypedLedger.{IsTypedRow}
 use Rattle.proof_checks.specs.Soundness.{AcceptedProofsAreSound}
@@ -71,7 +71,7 @@ passes root query proof e =
 -- ---- for a history and a proof of the query
 
 module _ (root : List ℕ) (proof : Proof) (rows : List Row) (block : ℕ) (digest : List ℕ) (is : IsProof proof) (pass : Passes root proof.query proof) (lawful : IsLawful rows) (are : All IsTypedRow rows) (block_fits : block < 2 ^ 32)
-    (root_is : sha256 (root_text block digest (leaves rows)) ≡ root) (agree : Agree (joined (proof_parts proof)) (joined (history_parts rows block digest))) where
+    (root_is : sha256 (root_text block digest (leaves rows)) ≡ root) (agree : Agree (joined_texts (proof_parts proof)) (joined_texts (history_parts rows block digest))) where
   abbrev key : List ℕ
   key = proof.query.key
 
@@ -106,7 +106,7 @@ module _ (root : List ℕ) (proof : Proof) (rows : List Row) (block : ℕ) (dige
   same_hash : sha256 (leaf_text (leaf_bytes proof.leaf)) ≡ sha256 (get_or texts proof.leaf_index [])
   same_hash = paths_are_sound proof.leaf_index (climb_of proof) texts (omega (arith, texts_counted, few_leaves)) (omega (arith, counted, is.leaf_within)) (length-sha256 (leaf_text (leaf_bytes proof.leaf)))
       (subst (λ (n : ℕ). Agree (climb_texts_to MAX_HEIGHT proof.leaf_index n (climb_of proof)) (node_texts texts)) (sym counted)
-      (agree_parts (joined (proof_parts proof)) (joined (history_parts rows block digest)) (climb_texts_to MAX_HEIGHT proof.leaf_index proof.leaf_count (climb_of proof)) (node_texts texts) agree
+      (agree_parts (joined_texts (proof_parts proof)) (joined_texts (history_parts rows block digest)) (climb_texts_to MAX_HEIGHT proof.leaf_index proof.leaf_count (climb_of proof)) (node_texts texts) agree
       (λ text has. in_part (proof_parts proof) 1 (climb_texts_to MAX_HEIGHT proof.leaf_index proof.leaf_count (climb_of proof)) text refl has)
       (λ text has. in_part (history_parts rows block digest) 1 (node_texts texts) text refl has)))
       (ap (λ (n : ℕ). top_of proof.leaf_index n (climb_of proof)) counted ∙ root_parts.2)
@@ -157,7 +157,7 @@ module _ (root : List ℕ) (proof : Proof) (rows : List Row) (block : ℕ) (dige
   -- ---- where it is
 
   own_headers : Agree (map header_text proof.headers) (header_texts rows)
-  own_headers = agree_parts (joined (proof_parts proof)) (joined (history_parts rows block digest)) (map header_text proof.headers) (header_texts rows) agree
+  own_headers = agree_parts (joined_texts (proof_parts proof)) (joined_texts (history_parts rows block digest)) (map header_text proof.headers) (header_texts rows) agree
       (λ text has. in_part (proof_parts proof) 3 (map header_text proof.headers) text refl has)
       (λ text has. in_part (history_parts rows block digest) 3 (flat_map (texts_of_row rows) rows) text refl (in_rows rows text has))
     where
@@ -167,7 +167,7 @@ module _ (root : List ℕ) (proof : Proof) (rows : List Row) (block : ℕ) (dige
       in_rows (row ∷ rs) text (suc k, below, t) = let deep = in_rows rs text (k, omega (arith, below), t) in (suc (suc deep.0), omega (arith, deep.1), deep.2)
 
   own_body : (row : Row) → Contains rows row → Agree (body_texts proof.body) (body_text (body_of rows row) ∷ [])
-  own_body row has = agree_parts (joined (proof_parts proof)) (joined (history_parts rows block digest)) (body_texts proof.body) (body_text (body_of rows row) ∷ []) agree
+  own_body row has = agree_parts (joined_texts (proof_parts proof)) (joined_texts (history_parts rows block digest)) (body_texts proof.body) (body_text (body_of rows row) ∷ []) agree
       (λ text there. in_part (proof_parts proof) 4 (body_texts proof.body) text refl there)
       (λ text there. in_part (history_parts rows block digest) 3 (flat_map (texts_of_row rows) rows) text refl (in_flat (texts_of_row rows) rows row text has (second text there)))
     where
@@ -175,7 +175,7 @@ module _ (root : List ℕ) (proof : Proof) (rows : List Row) (block : ℕ) (dige
       second text (k, below, t) = (suc k, omega (arith, below), t)
 
   own_uses : (row : Row) → Contains rows row → row.key ≡ key → Agree (uses_texts proof.uses) (texts_of_uses (uses rows key row.block))
-  own_uses row has k = agree_parts (joined (proof_parts proof)) (joined (history_parts rows block digest)) (uses_texts proof.uses) (texts_of_uses (uses rows key row.block)) agree
+  own_uses row has k = agree_parts (joined_texts (proof_parts proof)) (joined_texts (history_parts rows block digest)) (uses_texts proof.uses) (texts_of_uses (uses rows key row.block)) agree
       (λ text there. in_part (proof_parts proof) 6 (uses_texts proof.uses) text refl there)
       (λ text there. in_part (history_parts rows block digest) 5 (flat_map (texts_of_row_uses rows) rows) text refl
       (in_flat (texts_of_row_uses rows) rows row text has (subst (λ (x : List ℕ). Contains (texts_of_uses (uses rows x row.block)) text) (sym k) there)))

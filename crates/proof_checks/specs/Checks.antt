@@ -125,7 +125,7 @@ fault_of_step key step (Some expected) (Some header) = header_fault key step exp
 abbrev pub step_fault : Query → Leaf → List Header → ℕ → Option Reject
 step_fault query leaf headers step = fault_of_step query.key step (expected_at query leaf headers step) (slice_get headers step)
 
--- The first fault of the steps, of which the last is that behind the headers.
+-- The first fault of the steps, of which the last is that after the headers.
 abbrev pub path_fault : Query → Proof → Option Reject
 path_fault query proof = first_fault (map (step_fault query proof.leaf proof.headers) (range_with_len 0 (length proof.headers + 1)))
 

@@ -10,7 +10,7 @@ use Rattle.prov_entry.specs.Spelling.{leaf_bytes, header_text, body_text}
 use Rattle.prov_entry.specs.ForwardLists.{start_text}
 use Rattle.root_laws.specs.Naming.{header_of, body_of}
 use Rattle.root_laws.specs.Root.{leaves, root_text, digest_at}
-use Rattle.proof_checks.specs.ProofTexts.{joined, texts_of_uses}
+use Rattle.proof_checks.specs.ProofTexts.{joined_texts, texts_of_uses}
 
 -- The texts of some leaves.
 abbrev pub texts_of_leaves : List Leaf → List (List ℕ)
@@ -34,4 +34,4 @@ history_parts rows block digest =
 
 -- The texts of a ledger at a block, over the rows up to that block.
 unfoldable pub ledger_texts : List Row → List Digest → ℕ → List (List ℕ)
-ledger_texts rows digests block = joined (history_parts (up_to rows block) block (digest_at digests block))
+ledger_texts rows digests block = joined_texts (history_parts (up_to rows block) block (digest_at digests block))

@@ -12,8 +12,8 @@ use Rattle.proof_codec.specs.declared.proof.Proof.{Proof}
 use Rattle.proof_checks.specs.Checks.{climb_of, root_text_of}
 
 -- Lists of texts, one after another.
-abbrev pub joined : List (List (List ℕ)) → List (List ℕ)
-joined parts = flat_map (λ (texts : List (List ℕ)). texts) parts
+abbrev pub joined_texts : List (List (List ℕ)) → List (List ℕ)
+joined_texts parts = flat_map (λ (texts : List (List ℕ)). texts) parts
 
 -- The texts that are hashed for the digest of a forward list, without the one of the empty list.
 abbrev pub texts_of_uses : List Dep → List (List ℕ)
@@ -38,4 +38,4 @@ proof_parts proof =
 
 -- The texts of a proof.
 unfoldable pub proof_texts : Proof → List (List ℕ)
-proof_texts proof = joined (proof_parts proof)
+proof_texts proof = joined_texts (proof_parts proof)

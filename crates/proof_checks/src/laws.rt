@@ -1,7 +1,9 @@
 //! Laws of what is accepted, each the contract of a function that does nothing.
 
-ghost use Rattle.proof_checks.specs.Soundness.{AcceptedProofsAreSound};
-ghost use Rattle.proof_checks.specs.Making.{MadeProofIsMade, MadeProofIsAccepted, MadeProofsAreUnique, MadeProofsAreAccepted, MadeProofsAreProofs};
+ghost use Rattle.proof_checks.specs.{
+  Soundness.{AcceptedProofsAreSound},
+  Making.{MadeProofIsMade, MadeProofIsAccepted, MadeProofsAreUnique, MadeProofsAreAccepted, MadeProofsAreProofs},
+};
 
 /// What an accepted proof answers is the answer of every typed history that has the root at some block,
 /// up to that block; or a text of the proof and one of the history differ and have one digest.

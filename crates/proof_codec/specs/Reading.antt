@@ -12,7 +12,7 @@ use Rattle.merkle_tree.specs.Tree.{audit_length}
 use Rattle.prov_entry.specs.declared.entry.Leaf.{Leaf}
 use Rattle.prov_entry.specs.declared.entry.Header.{Header}
 use Rattle.prov_entry.specs.declared.entry.Body.{Body}
-use Rattle.entry_views.specs.Reading.{next_at, leaf_of, header_at, body_at}
+use Rattle.entry_views.specs.Reading.{digest_at, use_at, next_at, leaf_of, header_at, body_at}
 use Rattle.proof_codec.specs.declared.limits.TheConstants.{MAGIC}
 use Rattle.proof_codec.specs.declared.proof.Proof.{Proof}
 use Rattle.proof_codec.specs.Spelling.{Front, last_of, is_answer, asks_uses}
@@ -79,14 +79,6 @@ leaf_key_at (suc index) = made_at Some key_at
 unfoldable pub leaf_at_index : ℕ → List ℕ → Field Leaf
 leaf_at_index index = made_at leaf_of (then_at (leaf_key_at index) (then_at next_at (then_at (number_at w32) (then_at (bytes_at 32) (then_at (number_at w64) (bytes_at 32))))))
 
--- A digest of its bytes.
-abbrev pub digest_of_bytes : List ℕ → Digest
-digest_of_bytes bytes = record { 0 = bytes }
-
--- A digest.
-unfoldable pub digest_at : List ℕ → Field Digest
-digest_at = made_at digest_of_bytes (bytes_at 32)
-
 -- So many digests, after their number.
 unfoldable pub audit_at : ℕ → List ℕ → Field (List Digest)
 audit_at count = bind_at (ruled_at (λ n. n == count) byte_at) (items_at digest_at)
@@ -96,14 +88,6 @@ audit_at count = bind_at (ruled_at (λ n. n == count) byte_at) (items_at digest_
 -- Headers, after their number.
 unfoldable pub headers_at : List ℕ → Field (List Header)
 headers_at = bind_at byte_at (items_at header_at)
-
--- A use of its parts.
-abbrev pub use_of : List ℕ × ℕ → Dep
-use_of parts = record { key = parts.0; block = parts.1 }
-
--- A use.
-unfoldable pub use_at : List ℕ → Field Dep
-use_at = made_at use_of (then_at key_at (number_at w32))
 
 -- Uses, after their number.
 unfoldable pub uses_at : List ℕ → Field (List Dep)

@@ -16,7 +16,7 @@ use Rattle.proof_views.specs.Viewing.{Spells, proof_in}
 use Rattle.proof_views.specs.declared.proof_view.ViewError.{ViewError}
 use Rattle.proof_views.specs.declared.proof_view.ViewError.TheVariants as views
 use Rattle.proof_views.proofs.Viewed.{is_read, found_this, fault_this}
-use Rattle.proof_verifier.specs.Answering.{judged, verdict_on}
+use Rattle.proof_verifier.specs.Answering.{answer_of_proof, verdict_on}
 use Rattle.proof_commands.specs.declared.verification.Verification.{Verification}
 use Rattle.proof_commands.specs.declared.verification.Verification.TheVariants.{BadHex}
 use Rattle.proof_commands.specs.Verifying.{hex_text, of_verdict, hex_fault, bytes_or_fault, of_decoded, verification, IsFirstNoDigit, IsVerification, OddDigits, NoDigit, NoProof, Judged}
@@ -86,7 +86,7 @@ first_decoded text at is (Err error) decoded =
 module _ (root : List ℕ) (query : Query) (input : List ℕ) where
   -- ---- what the functions give is answered
 
-  by_reading : (bytes : List ℕ) → decode_of (hex_text input) ≡ Ok bytes → IsBytes bytes → (r : Result Proof ℕ) → proof_in bytes ≡ r → IsVerification root query input (of_verdict (judged root query r))
+  by_reading : (bytes : List ℕ) → decode_of (hex_text input) ≡ Ok bytes → IsBytes bytes → (r : Result Proof ℕ) → proof_in bytes ≡ r → IsVerification root query input (of_verdict (answer_of_proof root query r))
   by_reading bytes decoded fits (Ok proof) read = Judged bytes decoded proof (spelled bytes proof fits read)
   by_reading bytes decoded fits (Err at) read = NoProof bytes decoded (λ proof is. let other = is_read bytes proof is in absurd cc) at (invalid bytes at fits read)
 
@@ -122,8 +122,8 @@ module _ (root : List ℕ) (query : Query) (input : List ℕ) where
   only_answer _ (OddDigits odd) = sym (ap after (decode_of-odd (hex_text input) odd))
   only_answer _ (NoDigit at is) = sym (ap after (first_decoded (hex_text input) at is (decode_of (hex_text input)) refl))
   only_answer _ (NoProof bytes decoded none at longest) =
-      sym (ap after decoded ∙ ap (λ (r : Result Proof ℕ). of_verdict (judged root query r)) (unread bytes (decode_of-ok (hex_text input) bytes decoded).3 none at longest (proof_in bytes) refl))
-  only_answer _ (Judged bytes decoded proof is) = sym (ap after decoded ∙ ap (λ (r : Result Proof ℕ). of_verdict (judged root query r)) (is_read bytes proof is))
+      sym (ap after decoded ∙ ap (λ (r : Result Proof ℕ). of_verdict (answer_of_proof root query r)) (unread bytes (decode_of-ok (hex_text input) bytes decoded).3 none at longest (proof_in bytes) refl))
+  only_answer _ (Judged bytes decoded proof is) = sym (ap after decoded ∙ ap (λ (r : Result Proof ℕ). of_verdict (answer_of_proof root query r)) (is_read bytes proof is))
 
   pub one_answer : (a b : Verification) → IsVerification root query input a → IsVerification root query input b → a ≡ b
   one_answer a b is_a is_b = only_answer a is_a ∙ sym (only_answer b is_b)

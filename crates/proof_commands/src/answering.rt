@@ -2,8 +2,7 @@
 
 ghost use Rattle.std.specs.Prelude.{◌≡◌, map, IfOk, OnOk};
 ghost use Rattle.lc_base.specs.TextBytes.{IsText};
-ghost use Rattle.byte_fields.specs.Reader.{value_seen};
-ghost use Rattle.byte_fields.specs.Spelling.{IsValue};
+ghost use Rattle.byte_fields.specs.{Reader.{value_seen}, Spelling.{IsValue}};
 ghost use Rattle.proof_checks.specs.Checks.{dep_of};
 ghost use Rattle.proof_verifier.specs.Answering.{answer_seen, HasValue};
 ghost use Rattle.proof_commands.specs.Copying.{with_dep};

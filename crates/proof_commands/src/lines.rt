@@ -12,10 +12,9 @@ use std::alloc::{AllocError, Global};
 fn digest_text(alloc: Global, word: &str, digest: &Digest) -> Result<String, AllocError>
     ensures { IfOk result (λ text. string_bytes text ≡ word.now ++ encode_lower digest.now.0) }
 {
-    let mut text = String::from_str(alloc, word)?;
     let hex = hex::encode(alloc, digest.0.as_slice())?;
-    text.push_str(hex.as_str())?;
-    Ok(text)
+    let hex = hex.as_str();
+    format!(in alloc; "{word}{hex}")
 }
 
 fn link_text(alloc: Global, step: u8, computed: &Digest) -> Result<String, AllocError>

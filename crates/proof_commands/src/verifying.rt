@@ -50,7 +50,7 @@ pub fn decode_hex(alloc: Global, input: &[u8]) -> Result<Result<Bytes, HexFault>
     }
 }
 
-fn verified(
+fn verify_input(
     alloc: Global,
     root: &Digest,
     query: &Query,
@@ -74,5 +74,5 @@ pub fn verify_hex(
 ) -> Result<Verification, Memory>
     ensures { IfOk result (IsVerification root.now.0 query.now input.now) }
 {
-    verified(alloc, root, query, input)
+    verify_input(alloc, root, query, input)
 }

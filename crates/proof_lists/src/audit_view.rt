@@ -1,28 +1,14 @@
 //! Audit paths as they stand in bytes.
 
 ghost use Rattle.byte_fields.specs.Reader.{fault_left, Reads};
-ghost use Rattle.proof_codec.specs.Reading.{digest_at, audit_at};
+ghost use Rattle.proof_codec.specs.Reading.{audit_at};
 
 use byte_fields::{Fault, Reader};
-use entry_views::{ItemReader, ListView, read_list};
+use entry_views::{ListView, read_list};
 use lc_base::Digest;
 
 /// The digests of an audit path, from the leaf upward.
-pub type AuditView<'p> = ListView<'p, DigestReader>;
-
-/// How a digest is read.
-pub struct DigestReader;
-
-impl ItemReader for DigestReader {
-    type Item = Digest;
-
-    ghost item_at = { digest_at };
-
-    #[tactic(auto, unfolding(proof_codec::specs::Reading::digest_at))]
-    fn read(reader: &mut Reader) -> Result<Digest, Fault> {
-        Ok(Digest(reader.digest_bytes()?))
-    }
-}
+pub type AuditView<'p> = ListView<'p, Digest>;
 
 /// So many digests, after their number.
 #[tactic(auto, unfolding(proof_codec::specs::Reading::audit_at))]

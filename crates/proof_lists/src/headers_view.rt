@@ -1,21 +1,19 @@
 //! Lists of headers as they stand in bytes.
 
 ghost use Rattle.std.specs.Prelude.{◌≡◌, ◌∷◌, [], length, MatchOption};
-ghost use Rattle.byte_fields.specs.Reader.{fault_left, Reads};
-ghost use Rattle.byte_fields.specs.Reading.{items_at};
-ghost use Rattle.entry_views.specs.Items.{Skips};
-ghost use Rattle.entry_views.specs.Reading.{header_at};
+ghost use Rattle.byte_fields.specs.{Reader.{fault_left, Reads}, Reading.{items_at}};
+ghost use Rattle.entry_views.specs.{Items.{Skips}, Reading.{header_at}};
 ghost use Rattle.proof_codec.specs.Reading.{headers_at};
 
 use byte_fields::{Fault, Reader};
-use entry_views::{HeaderView, next_header};
+use entry_views::HeaderView;
 use std::marker::Model;
 
 /// Headers, the newest first.
 #[derive(Drop)]
 pub struct HeadersView<'p> {
     count: u8,
-    bytes: &'p [u8],
+    reader: Reader<'p>,
 }
 
 impl<'p> Model for HeadersView<'p> {
@@ -27,9 +25,9 @@ impl<'p> Model for HeadersView<'p> {
 
     ghost Value = { List Item };
 
-    ghost view = { λ headers. items_read (items_at header_at headers.count headers.bytes.now) };
+    ghost view = { λ headers. items_read (items_at header_at headers.count headers.reader) };
 
-    ghost invariant = { λ headers. AreRead (items_at header_at headers.count headers.bytes.now) };
+    ghost invariant = { λ headers. AreRead (items_at header_at headers.count headers.reader) };
 }
 
 impl<'p> HeadersView<'p> {
@@ -47,7 +45,7 @@ impl<'p> HeadersView<'p> {
     {
         HeadersView {
             count: self.count,
-            bytes: self.bytes,
+            reader: Reader::new(self.reader.rest()),
         }
     }
 
@@ -58,11 +56,9 @@ impl<'p> HeadersView<'p> {
         if self.count == 0 {
             return None;
         }
-        let mut reader = Reader::new(self.bytes);
-        match next_header(&mut reader) {
+        match HeaderView::read(&mut self.reader) {
             Ok(header) => {
                 self.count -= 1;
-                self.bytes = reader.rest();
                 Some(header)
             }
             Err(_) => None,
@@ -74,7 +70,7 @@ fn skip_headers(reader: &mut Reader, count: u8) -> Result<(), Fault>
     ensures { Skips result (items_at header_at count reader.old) reader.new }
 {
     for _ in 0..count {
-        next_header(reader)?;
+        HeaderView::read(reader)?;
     }
     Ok(())
 }
@@ -85,7 +81,10 @@ pub fn read_headers<'p>(reader: &mut Reader<'p>) -> Result<HeadersView<'p>, Faul
     ensures { Reads fault_left result (headers_at reader.old) reader.new }
 {
     let count = reader.byte()?;
-    let bytes = reader.rest();
+    let headers = Reader::new(reader.rest());
     skip_headers(reader, count)?;
-    Ok(HeadersView { count, bytes })
+    Ok(HeadersView {
+        count,
+        reader: headers,
+    })
 }

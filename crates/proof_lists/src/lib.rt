@@ -5,6 +5,6 @@ mod audit_view;
 mod headers_view;
 mod use_view;
 
-pub use audit_view::{AuditView, DigestReader, read_audit};
+pub use audit_view::{AuditView, read_audit};
 pub use headers_view::{HeadersView, read_headers};
-pub use use_view::{UseReader, UseView, read_uses};
+pub use use_view::{UseView, read_uses};

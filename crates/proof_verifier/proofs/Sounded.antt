@@ -25,15 +25,15 @@ use Rattle.proof_checks.specs.Soundness.{AnswersOrClashes}
 use Rattle.proof_checks.proofs.Tests.{accepted}
 use Rattle.proof_checks.proofs.Sound.{accepted_is_sound}
 use Rattle.proof_verifier.specs.declared.found.Found.{Found}
-use Rattle.proof_verifier.specs.Answering.{answer_seen, is_told, HasValue, malformed_at, fault_of_view, judged, verdict_on}
+use Rattle.proof_verifier.specs.Answering.{answer_seen, fault_told, HasValue, malformed_at, fault_of_view, answer_of_proof, verdict_on}
 
-pub read_exact : (root : List ℕ) (query : Query) (bytes : List ℕ) (proof : Proof) (result : Result Found Reject) → proof_in bytes ≡ Ok proof → Answers answer_seen is_told result (verdict root query proof) → Answers answer_seen is_told result (verdict_on root query bytes)
+pub read_exact : (root : List ℕ) (query : Query) (bytes : List ℕ) (proof : Proof) (result : Result Found Reject) → proof_in bytes ≡ Ok proof → Answers answer_seen fault_told result (verdict root query proof) → Answers answer_seen fault_told result (verdict_on root query bytes)
 unfolding verdict_on
-read_exact root query bytes proof result read told = subst (λ (r : Result Proof ℕ). Answers answer_seen is_told result (judged root query r)) (sym read) told
+read_exact root query bytes proof result read told = subst (λ (r : Result Proof ℕ). Answers answer_seen fault_told result (answer_of_proof root query r)) (sym read) told
 
 pub refused_exact : (root : List ℕ) (query : Query) (bytes : List ℕ) (proof : Proof) (fault : Reject) → proof_in bytes ≡ Ok proof → verdict root query proof ≡ Err fault → verdict_on root query bytes ≡ Err fault
 unfolding verdict_on
-refused_exact root query bytes proof fault is told = ap (judged root query) is ∙ told
+refused_exact root query bytes proof fault is told = ap (answer_of_proof root query) is ∙ told
 
 abbrev read : Proof → Result Proof ViewError
 read proof = Ok proof
@@ -43,13 +43,13 @@ refused fault = Err fault
 
 pub unread_exact : (root : List ℕ) (query : Query) (bytes : List ℕ) (error : ViewError) (fault : Reject) → fault ≡ fault_of_view error → IfSome (told_at error) (λ at. proof_in bytes ≡ Err at) → verdict_on root query bytes ≡ Err fault
 unfolding verdict_on
-unread_exact root query bytes (views.Malformed at) fault same is = ap (judged root query) is ∙ ap refused (sym same)
+unread_exact root query bytes (views.Malformed at) fault same is = ap (answer_of_proof root query) is ∙ ap refused (sym same)
 
 -- Of the bytes of a proof, what is answered is the verdict on it.
-pub read_spelled : (root : List ℕ) (query : Query) (view given : Proof) (result : Result Found Reject) → Ok view ≡ read given → Answers answer_seen is_told result (verdict root query view) → Answers answer_seen is_told result (verdict root query given)
-read_spelled root query view given result same told = let e : view ≡ given = cc in subst (λ (p : Proof). Answers answer_seen is_told result (verdict root query p)) e told
+pub read_spelled : (root : List ℕ) (query : Query) (view given : Proof) (result : Result Found Reject) → Ok view ≡ read given → Answers answer_seen fault_told result (verdict root query view) → Answers answer_seen fault_told result (verdict root query given)
+read_spelled root query view given result same told = let e : view ≡ given = cc in subst (λ (p : Proof). Answers answer_seen fault_told result (verdict root query p)) e told
 
-pub read_sound : (root : List ℕ) (query : Query) (given : Proof) (result : Result Found Reject) → IsProof given → Answers answer_seen is_told result (verdict root query given)
+pub read_sound : (root : List ℕ) (query : Query) (given : Proof) (result : Result Found Reject) → IsProof given → Answers answer_seen fault_told result (verdict root query given)
     → (rows : List Row) (digests : List Digest) (block : ℕ) → IsTypedHistory rows → block < 2 ^ 32 → root_of rows digests block ≡ root → IfOk result (λ found. AnswersOrClashes rows digests block query (proof_texts given) (answer_seen found))
 read_sound root query given (Ok found) is told rows digests block history fits root_is = accepted_is_sound root query given (answer_seen found) is told rows digests block history fits root_is
 read_sound root query given (Err fault) is told rows digests block history fits root_is = tt
@@ -71,7 +71,7 @@ value_in proof is = go (last_of proof.headers) proof.body is.body_is_body
     go (Some last) None is = tt
     go (Some last) (Some body) is = value_by proof.query.kind last body proof.uses is
 
-pub read_value : (root : List ℕ) (query : Query) (proof : Proof) (result : Result Found Reject) → IsProof proof → Answers answer_seen is_told result (verdict root query proof) → IfOk result (λ found. HasValue (answer_seen found))
+pub read_value : (root : List ℕ) (query : Query) (proof : Proof) (result : Result Found Reject) → IsProof proof → Answers answer_seen fault_told result (verdict root query proof) → IfOk result (λ found. HasValue (answer_seen found))
 read_value root query proof (Ok found) is told = let accept = accepted (fault_in root query proof) (answer_in proof) (answer_seen found) told in subst HasValue accept.1 (value_in proof is)
 read_value root query proof (Err fault) is told = tt
 

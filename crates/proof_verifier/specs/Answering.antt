@@ -1,4 +1,4 @@
--- What is answered to one who has a root.
+-- What is version_answer to one who has a root.
 use Rattle.std.specs.Prelude.{ℕ, List, map, Option, Some, None, Result, Ok, Err}
 use Rattle.lc_base.specs.declared.answer.Kind.{Kind}
 use Rattle.lc_base.specs.declared.answer.Query.{Query}
@@ -32,8 +32,8 @@ HasValue (answers.Hist block tx value) = IsValue value
 HasValue answer = Unit {0}
 
 -- A fault is told as it is.
-abbrev pub is_told : Reject → Option Reject
-is_told fault = Some fault
+abbrev pub fault_told : Reject → Option Reject
+fault_told fault = Some fault
 
 -- The offset that a fault tells; none where the bytes are a proof.
 abbrev pub malformed_at : Reject → Option ℕ
@@ -41,18 +41,18 @@ malformed_at (Malformed at) = Some at
 malformed_at fault = None
 
 -- What a version answers, or what is wrong with its body or its uses.
-abbrev pub answered : Kind → Told → Body → Option (List Dep) → Result Answer Reject
-answered kind told body uses = after (fault_of_body (Some told.header) (Some body)) (after (fault_of_uses told.claim uses) (Ok (answer_by kind told.header body uses)))
+abbrev pub version_answer : Kind → Told → Body → Option (List Dep) → Result Answer Reject
+version_answer kind told body uses = after (fault_of_body (Some told.header) (Some body)) (after (fault_of_uses told.claim uses) (Ok (answer_by kind told.header body uses)))
 
 -- The fault of bytes that are no proof.
 abbrev pub fault_of_view : ViewError → Reject
 fault_of_view (views.Malformed at) = Malformed at
 
 -- What a proof that is read answers.
-abbrev pub judged : List ℕ → Query → Result Proof ℕ → Result Answer Reject
-judged root query (Err at) = Err (Malformed at)
-judged root query (Ok proof) = verdict root query proof
+abbrev pub answer_of_proof : List ℕ → Query → Result Proof ℕ → Result Answer Reject
+answer_of_proof root query (Err at) = Err (Malformed at)
+answer_of_proof root query (Ok proof) = verdict root query proof
 
 -- What bytes answer, or their fault.
 unfoldable pub verdict_on : List ℕ → Query → List ℕ → Result Answer Reject
-verdict_on root query bytes = judged root query (proof_in bytes)
+verdict_on root query bytes = answer_of_proof root query (proof_in bytes)

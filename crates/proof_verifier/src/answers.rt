@@ -4,7 +4,7 @@ ghost use Rattle.std.specs.Prelude.{◌≡◌, Some};
 ghost use Rattle.lc_base.specs.Answers.{Answers};
 ghost use Rattle.prov_entry.specs.ForwardLists.{uses_digest};
 ghost use Rattle.proof_checks.specs.Checks.{fault_of_body, fault_of_uses, answer_by};
-ghost use Rattle.proof_verifier.specs.Answering.{answer_seen, is_told, answered};
+ghost use Rattle.proof_verifier.specs.Answering.{answer_seen, fault_told, version_answer};
 
 use crate::found::Found;
 use crate::hashing::body_digest;
@@ -98,7 +98,7 @@ pub(crate) fn answer<'p>(
     body: &BodyView<'p>,
     uses: Option<UseView<'p>>,
 ) -> Result<Found<'p>, Reject>
-    ensures { Answers answer_seen is_told result (answered kind told.now body.now.value uses.entry) }
+    ensures { Answers answer_seen fault_told result (version_answer kind told.now body.now.value uses.entry) }
 {
     if let Some(fault) = fault_of_body(&told.header, body) {
         return Err(fault);

@@ -2,7 +2,7 @@
 
 ghost use Rattle.std.specs.Prelude.{◌≡◌, ◌≤◌, ◌+◌, None, length, Option};
 ghost use Rattle.proof_checks.specs.Checks.{chosen, expected_after, claim_of_header, header_fault};
-ghost use Rattle.proof_verifier.specs.Walking.{higher, walked, Told};
+ghost use Rattle.proof_verifier.specs.Walking.{higher, walk_end, Told};
 
 use crate::hashing::header_digest;
 use entry_views::{HeaderView, LinkView};
@@ -94,7 +94,7 @@ pub(crate) fn walk<'p>(
     headers: HeadersView<'p>,
 ) -> Result<Option<ToldHeader<'p>>, Reject>
     requires { length headers ≤ 255 }
-    ensures { result ≡ walked at key.now 0 expected claim None headers.entry }
+    ensures { result ≡ walk_end at key.now 0 expected claim None headers.entry }
 {
     let mut headers = headers;
     let mut expected = expected;

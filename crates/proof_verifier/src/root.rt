@@ -2,8 +2,7 @@
 
 ghost use Rattle.std.specs.Prelude.{◌≡◌, length};
 ghost use Rattle.sha2.specs.Sha256.{sha256};
-ghost use Rattle.merkle_tree.specs.Tree.{audit_length};
-ghost use Rattle.merkle_tree.specs.Climbing.{start_at, top_of};
+ghost use Rattle.merkle_tree.specs.{Tree.{audit_length}, Climbing.{start_at, top_of}};
 ghost use Rattle.proof_checks.specs.Checks.{text_of_root, root_text_of};
 
 use crate::hashing::leaf_digest;

@@ -1,19 +1,25 @@
 //! Checking proofs.
 
 ghost use Rattle.std.specs.Prelude.{◌≡◌, ◌<◌, ◌^◌, ℕ, List, Err, true, is_ok, IfOk, IfErr, IsErrAnd, IsSomeAnd};
-ghost use Rattle.lc_base.specs.Answers.{Answers};
-ghost use Rattle.lc_base.specs.declared.digest.Digest.{Digest as DigestValue};
-ghost use Rattle.lc_base.specs.declared.row.Row.{Row};
+ghost use Rattle.lc_base.specs.{
+  Answers.{Answers},
+  declared.digest.Digest.{Digest as DigestValue},
+  declared.row.Row.{Row},
+};
 ghost use Rattle.root_laws.specs.Root.{root_of};
 ghost use Rattle.typed_ledger.specs.TypedLedger.{IsTypedHistory};
 ghost use Rattle.byte_fields.specs.Prefixes.{IsLongestPrefix};
-ghost use Rattle.proof_codec.specs.Spelling.{IsProof, proof_fields};
-ghost use Rattle.proof_codec.specs.declared.proof.Proof.{Proof as ProofValue};
+ghost use Rattle.proof_codec.specs.{
+  Spelling.{IsProof, proof_fields},
+  declared.proof.Proof.{Proof as ProofValue},
+};
 ghost use Rattle.proof_views.specs.Viewing.{Spells};
-ghost use Rattle.proof_checks.specs.Checks.{same_query, verdict};
-ghost use Rattle.proof_checks.specs.ProofTexts.{proof_texts};
-ghost use Rattle.proof_checks.specs.Soundness.{AnswersOrClashes};
-ghost use Rattle.proof_verifier.specs.Answering.{answer_seen, is_told, HasValue, malformed_at, fault_of_view, verdict_on};
+ghost use Rattle.proof_checks.specs.{
+  Checks.{same_query, verdict},
+  ProofTexts.{proof_texts},
+  Soundness.{AnswersOrClashes},
+};
+ghost use Rattle.proof_verifier.specs.Answering.{answer_seen, fault_told, HasValue, malformed_at, fault_of_view, verdict_on};
 
 use crate::answers::answer;
 use crate::found::Found;
@@ -50,7 +56,7 @@ fn fault_of_view(error: ViewError) -> Reject
 /// What a proof answers, or the first check that fails.
 fn judge<'p>(root: &Digest, query: &Query, proof: &ProofView<'p>) -> Result<Found<'p>, Reject>
     requires { IsProof proof.now }
-    ensures { Answers answer_seen is_told result (verdict root.now.0 query.now proof.now) }
+    ensures { Answers answer_seen fault_told result (verdict root.now.0 query.now proof.now) }
 {
     if !same_query(query, &proof.query()) {
         return Err(Reject::OtherQuery);
@@ -79,7 +85,7 @@ fn judge<'p>(root: &Digest, query: &Query, proof: &ProofView<'p>) -> Result<Foun
 pub fn verify<'p>(root: &Digest, query: &Query, proof: &'p [u8]) -> Result<Found<'p>, Reject>
     // Where the bytes are a proof, its answer is found exactly where no check of it fails; else the first
     // that fails is told.
-    ensures spelled { (given : ProofValue) → Spells proof.now given → Answers answer_seen is_told result (verdict root.now.0 query.now given) }
+    ensures spelled { (given : ProofValue) → Spells proof.now given → Answers answer_seen fault_told result (verdict root.now.0 query.now given) }
     // Where they are none, the offset is told at which the first field begins that is invalid.
     ensures malformed { ((given : ProofValue) → Spells proof.now given → ⊥)
         → IsErrAnd result (λ fault. IsSomeAnd (malformed_at fault) (IsLongestPrefix proof_fields IsProof proof.now)) }
@@ -91,7 +97,7 @@ pub fn verify<'p>(root: &Digest, query: &Query, proof: &'p [u8]) -> Result<Found
     // A value that is found is one.
     ensures value { IfOk result (λ found. HasValue (answer_seen found)) }
     // What bytes answer is said by a function, and that is the answer.
-    ensures exact { Answers answer_seen is_told result (verdict_on root.now.0 query.now proof.now) }
+    ensures exact { Answers answer_seen fault_told result (verdict_on root.now.0 query.now proof.now) }
 {
     match view(proof) {
         Ok(view) => judge(root, query, &view),

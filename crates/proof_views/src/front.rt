@@ -1,9 +1,10 @@
 //! What stands before the leaf of a proof.
 
-ghost use Rattle.std.specs.Prelude.{nat_le, nat_lt};
-ghost use Rattle.byte_fields.specs.Reader.{fault_left, Reads, ReadsAs};
-ghost use Rattle.byte_fields.specs.Reading.{made_at, ruled_at, number_at, byte_at};
-ghost use Rattle.std.specs.Int.{w32};
+ghost use Rattle.std.specs.{Prelude.{nat_le, nat_lt}, Int.{w32}};
+ghost use Rattle.byte_fields.specs.{
+  Reader.{fault_left, Reads, ReadsAs},
+  Reading.{made_at, ruled_at, number_at, byte_at},
+};
 ghost use Rattle.proof_codec.specs.Reading.{kind_of, magic_at, query_at, front_at};
 
 use byte_fields::{Fault, Reader};

@@ -1,20 +1,23 @@
 //! Proofs as they stand in bytes.
 
-ghost use Rattle.std.specs.Prelude.{◌≡◌, Ok, IfOk, IfErr, IfSome};
-ghost use Rattle.std.specs.Option.{option_map};
+ghost use Rattle.std.specs.{Prelude.{◌≡◌, Ok, IfOk, IfErr, IfSome}, Option.{option_map}};
 ghost use Rattle.lc_base.specs.Answers.{Answers};
-ghost use Rattle.byte_fields.specs.Prefixes.{IsLongestPrefix};
-ghost use Rattle.byte_fields.specs.Reader.{fault_left, Reads, ReadsAs};
+ghost use Rattle.byte_fields.specs.{
+  Prefixes.{IsLongestPrefix},
+  Reader.{fault_left, Reads, ReadsAs},
+};
 ghost use Rattle.entry_views.specs.Reading.{body_at};
-ghost use Rattle.proof_codec.specs.Spelling.{IsProof, proof_fields, last_of, is_answer, asks_uses};
-ghost use Rattle.proof_codec.specs.Reading.{if_any_at, uses_at, way_at, proof_at};
-ghost use Rattle.proof_codec.specs.declared.proof.Proof.{Proof as ProofValue};
+ghost use Rattle.proof_codec.specs.{
+  Spelling.{IsProof, proof_fields, last_of, is_answer, asks_uses},
+  Reading.{if_any_at, uses_at, way_at, proof_at},
+  declared.proof.Proof.{Proof as ProofValue},
+};
 ghost use Rattle.proof_views.specs.Viewing.{Spells, proof_in, told_at};
 
 use crate::front::{FrontView, front};
 use crate::leaf::leaf;
 use byte_fields::{Fault, Reader};
-use entry_views::{BodyView, HeaderView, LeafView, next_body};
+use entry_views::{BodyView, LeafView};
 use lc_base::{Digest, Kind, Query};
 use merkle_tree::audit_length;
 use proof_lists::{AuditView, HeadersView, UseView, read_audit, read_headers, read_uses};
@@ -150,7 +153,7 @@ fn body_if<'p>(reader: &mut Reader<'p>, there: bool) -> Result<Option<BodyView<'
     if !there {
         return Ok(None);
     }
-    Ok(Some(next_body(reader)?))
+    Ok(Some(BodyView::read(reader)?))
 }
 
 fn uses_if<'p>(reader: &mut Reader<'p>, there: bool) -> Result<Option<UseView<'p>>, Fault>

@@ -1,8 +1,8 @@
-use Rattle.std.proofs.Common.{◌∙◌, refl, ℕ, List, sym, ap, subst}
+use Rattle.std.proofs.Common.{◌∙◌, ℕ, List, sym, ap, subst}
 use Rattle.std.specs.Prelude.{IfOk}
 use Rattle.std.proofs.lemmas.Option.{slice_get_within}
-use Rattle.body_store.proofs.Agreeing.{agrees_on}
 use Rattle.merkle_dag.specs.Ledger.{Ledger}
+use Rattle.merkle_dag.specs.Staying.{stays_beside}
 use Rattle.proof_checks.specs.ProofTexts.{proof_texts}
 use Rattle.answer_exposing.specs.Exposing.{IsFound}
 use Rattle.answer_exposing.proofs.Exposed.{texts_of_part, all_up_to_head}
@@ -36,13 +36,11 @@ returns-in-Ok-clause-found g c told =
     (sym (ap (λ (l : Ledger). l.rows) c.in-Ok.ensures.rewound)) c.requires.within)
     (c.exposed_by_rows-found.ensures.found told)
 
-pub returns-in-Ok-clause-same : goal.returns-in-Ok-clause-same
-returns-in-Ok-clause-same g c =
-    let retains = c.exposed_by_rows-found.ensures.same.retains in
+pub returns-in-Ok-clause-leaves : goal.returns-in-Ok-clause-leaves
+returns-in-Ok-clause-leaves g c =
+    let leaves = c.exposed_by_rows-found.ensures.leaves in
     record {
-      rows = refl;
-      digests = refl;
-      agrees = agrees_on c.args.lineage.now.bodies (g.S.Scratch.state c.args.scratch.now)
-          (g.S.Scratch.state c.exposed_by_rows-found.new.scratch) retains;
-      retains = retains;
+      same = stays_beside c.args.lineage.now (g.S.Scratch.state c.args.scratch.now)
+          (g.S.Scratch.state c.exposed_by_rows-found.new.scratch) leaves.same.retains;
+      cause = leaves.cause;
     }

@@ -16,16 +16,16 @@ loop-index-preserved g c =
     (omega (arith, c.loop-index-test.true, c.row_count-index-end.ensures.count)) in
     let unblamed : g.S.Scratch.scratch_faults c.push_row.new.scratch ≡ g.S.Scratch.scratch_faults
     c.loop-index.scratch =
-    grind (arith, c.in-Ok.ensures.cause.told, c.in-Ok.ensures.cause.later) in
+    grind (arith, c.in-Ok.ensures.leaves.cause.told, c.in-Ok.ensures.leaves.cause.later) in
     record {
       same =
           stays_trans c.args.lineage.now (g.S.Scratch.state c.args.scratch.now) c.loop-index.lineage
           (g.S.Scratch.state c.loop-index.scratch) c.push_row.new.lineage
-          (g.S.Scratch.state c.push_row.new.scratch) so_far.same c.push_row.ensures.same;
+          (g.S.Scratch.state c.push_row.new.scratch) so_far.same c.push_row.ensures.leaves.same;
       texts = λ told.
           texts_go_on (texts_of_row rows) rows i row.0 old c.push_row.new.texts
           (c.args.texts.now ++ flat_map (texts_of_row rows) rows) row.1
-          (c.in-Ok.ensures.texts (so_far.same.retains.told ∙ told) row.0
+          (c.in-Ok.ensures.texts (so_far.same.retains.known ∙ told) row.0
           (ap (λ (rs : List Row). slice_get rs i) so_far.same.rows ∙ row.1)
           ∙ ap (λ (rs : List Row). old ++ texts_of_row rs row.0) so_far.same.rows)
           (so_far.texts told);

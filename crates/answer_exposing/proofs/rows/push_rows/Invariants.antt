@@ -1,6 +1,6 @@
 use Rattle.std.proofs.Common.{◌≡◌, true, ◌++◌, drop}
 use Rattle.std.specs.List.{flat_map}
-use Rattle.scratch_model.specs.Scratch.{is_told}
+use Rattle.scratch_model.specs.Scratch.{is_known}
 use Rattle.merkle_dag.specs.Lineage.{StaysSame}
 use Rattle.proof_checks.specs.LedgerTexts.{texts_of_row}
 use Rattle.answer_exposing.proofs.rows.push_rows.Given as goal
@@ -9,7 +9,7 @@ abbrev pub invariant-loop-index : goal.invariant-loop-index
 invariant-loop-index g l = record {
   same : StaysSame l.fn.lineage (g.S.Scratch.state l.fn.scratch) l.lineage
       (g.S.Scratch.state l.scratch);
-  texts : is_told (g.S.Scratch.state l.fn.scratch) ≡ true
+  texts : is_known (g.S.Scratch.state l.fn.scratch) ≡ true
       → l.texts ++ flat_map (texts_of_row l.fn.lineage.rows) (drop l.index l.fn.lineage.rows) ≡
       l.fn.texts ++ flat_map (texts_of_row l.fn.lineage.rows) l.fn.lineage.rows;
   no_fault : g.S.Scratch.scratch_faults l.scratch ≡ g.S.Scratch.scratch_faults l.fn.scratch;

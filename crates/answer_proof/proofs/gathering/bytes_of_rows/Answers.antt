@@ -1,8 +1,22 @@
-use Rattle.std.proofs.Common.{◌∙◌, ap}
+use Rattle.std.proofs.Common.{◌∙◌, List, ap, sym}
 use Rattle.std.specs.List.{concat}
+use Rattle.std.specs.Option.{option_map}
+use Rattle.lc_base.specs.History.{latest}
+use Rattle.lc_base.specs.declared.row.Row.{Row}
 use Rattle.proof_codec.specs.declared.proof.Proof.{Proof}
 use Rattle.proof_codec.specs.Spelling.{proof_fields}
+use Rattle.proof_checks.specs.Making.{made_of}
+use Rattle.root_laws.specs.Naming.{body_of}
 use Rattle.answer_proof.proofs.gathering.bytes_of_rows.Goals as goal
 
-pub returns-in-Ok-write-clause-bytes : goal.returns-in-Ok-write-clause-bytes
-returns-in-Ok-write-clause-bytes g c told = c.in-Ok-write.ensures ∙ ap (λ (p : Proof). concat (proof_fields p)) (c.in-Ok.ensures.made told)
+pub returns-clause-bytes : goal.returns-clause-bytes
+returns-clause-bytes g c told =
+    let query = c.args.asked.now.query in
+    let same = c.in_ok-body.ensures.leaves.same.rows in
+    let own = c.in_ok-body.ensures.body told (latest c.args.lineage.now.rows query.key query.at)
+    c.latest_row-answer.ensures.latest in
+    let made = c.in_ok-proof.ensures.made (own ∙ ap (λ (rows : List Row).
+    option_map (body_of rows) (latest rows query.key query.at)) (sym same)) in
+    c.in_ok-bytes.ensures ∙ ap (λ (p : Proof). concat (proof_fields p))
+    (made ∙ ap (λ (rows : List Row). made_of rows c.args.asked.now.root_at c.args.asked.now.block_digest.0 query)
+    same)

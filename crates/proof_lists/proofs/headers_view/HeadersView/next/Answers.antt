@@ -1,22 +1,19 @@
-use Rattle.std.proofs.Common.{ℕ, ◌-◌, List, ◌∷◌, sym, ap, subst, ◌∙◌, arith}
-use Rattle.byte_fields.specs.Reading.{items_at}
-use Rattle.entry_views.specs.Items.{items_read, AreRead}
+use Rattle.std.proofs.Common.{sym, ◌∙◌, arith}
 use Rattle.entry_views.specs.Reading.{header_at}
 use Rattle.entry_views.proofs.First.{is_first, not_first, no_items}
 use Rattle.proof_lists.proofs.headers_view.HeadersView.next.Goals as goal
 
 pub returns-then-self-eq0 : goal.returns-then-self-eq0
-returns-then-self-eq0 c = sym c.self.view_is ∙ no_items header_at c.self.inside.count c.self.inside.bytes.now c.if-self-eq0.true c.self.invariant
+returns-then-self-eq0 c = sym c.self.view_is ∙ no_items header_at c.self.inside.count c.self.inside.reader c.if-self-eq0.true c.self.invariant
 
 pub invariant_of-self : goal.invariant_of-self
-invariant_of-self c =
-    let f = is_first header_at c.self.inside.count c.self.inside.bytes.now c.in-Ok.header.value c.next_header.new.reader (omega (arith, c.if-self-eq0.false)) c.self.invariant (sym (ap header_at c.new-reader.ensures) ∙ c.in-Ok.ensures) in
-    subst (λ (rest : List ℕ). AreRead (items_at header_at (c.self.inside.count - 1) rest)) (sym c.rest-self-inside.ensures) f.0
+invariant_of-self c = (is_first header_at c.self.inside.count c.self.inside.reader c.in-Ok.header.value c.read.new.reader (omega (arith, c.if-self-eq0.false)) c.self.invariant c.in-Ok.ensures).0
 
 pub returns-in-Ok : goal.returns-in-Ok
-returns-in-Ok c =
-    let f = is_first header_at c.self.inside.count c.self.inside.bytes.now c.in-Ok.header.value c.next_header.new.reader (omega (arith, c.if-self-eq0.false)) c.self.invariant (sym (ap header_at c.new-reader.ensures) ∙ c.in-Ok.ensures) in
-    sym c.self.view_is ∙ f.1 ∙ ap (λ (rest : List ℕ). c.in-Ok.header.value ∷ items_read (items_at header_at (c.self.inside.count - 1) rest)) (sym c.rest-self-inside.ensures)
+returns-in-Ok c = sym c.self.view_is ∙ (is_first header_at c.self.inside.count c.self.inside.reader c.in-Ok.header.value c.read.new.reader (omega (arith, c.if-self-eq0.false)) c.self.invariant c.in-Ok.ensures).1
 
 pub returns-in-Err : goal.returns-in-Err
-returns-in-Err c = absurd (not_first header_at c.self.inside.count c.self.inside.bytes.now c.in-Err.field-0.left (omega (arith, c.if-self-eq0.false)) c.self.invariant (sym (ap header_at c.new-reader.ensures) ∙ c.in-Err.ensures))
+returns-in-Err c = absurd (not_first header_at c.self.inside.count c.self.inside.reader c.in-Err.field-0.left (omega (arith, c.if-self-eq0.false)) c.self.invariant c.in-Err.ensures)
+
+pub invariant_of-self-in-Err : goal.invariant_of-self-in-Err
+invariant_of-self-in-Err c = absurd (not_first header_at c.self.inside.count c.self.inside.reader c.in-Err.field-0.left (omega (arith, c.if-self-eq0.false)) c.self.invariant c.in-Err.ensures)
