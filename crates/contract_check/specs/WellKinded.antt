@@ -25,18 +25,7 @@ abbrev pub operands_of : Sign → Operands
 operands_of signs.Equal = Alike
 operands_of signs.NotEqual = Alike
 operands_of signs.Concat = Texts
-operands_of signs.Or = Numbers
-operands_of signs.And = Numbers
-operands_of signs.Less = Numbers
-operands_of signs.LessEqual = Numbers
-operands_of signs.Greater = Numbers
-operands_of signs.GreaterEqual = Numbers
-operands_of signs.Plus = Numbers
-operands_of signs.Minus = Numbers
-operands_of signs.Star = Numbers
-operands_of signs.Slash = Numbers
-operands_of signs.Percent = Numbers
-operands_of signs.Not = Numbers
+operands_of _ = Numbers
 
 -- The expression is of this kind, where these names are visible.
 mutual

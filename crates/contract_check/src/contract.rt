@@ -1,12 +1,16 @@
 //! A whole contract.
 
-ghost use Rattle.std.specs.Prelude.{◌≡◌, ◌++◌, ◌∷◌, [], ℕ, List, None, Some, map, find, IfSome, OnOk, IfErr};
-ghost use Rattle.std.specs.Option.{option_copied};
+ghost use Rattle.std.specs.{
+  Prelude.{◌≡◌, ◌++◌, ◌∷◌, [], ℕ, List, None, Some, map, find, IfSome, OnOk, IfErr},
+  Option.{option_copied},
+};
 ghost use Rattle.lc_base.specs.Answers.{Answers};
-ghost use Rattle.contract_check.specs.Functions.{is_called};
+ghost use Rattle.contract_check.specs.{
+  Functions.{is_called},
+  Faults.{fault_of, fault_in, unless_fault, names_after_params, names_after_function, used_after_name, used_after_functions, check_fault},
+  WellKinded.{IsGoodFunction, WellKinded, IsKindedAnywhere},
+};
 ghost use Rattle.contract_tree.specs.Tree.{function_of, contract_of};
-ghost use Rattle.contract_check.specs.Faults.{fault_of, fault_in, unless_fault, names_after_params, names_after_function, used_after_name, used_after_functions, check_fault};
-ghost use Rattle.contract_check.specs.WellKinded.{IsGoodFunction, WellKinded, IsKindedAnywhere};
 
 use crate::fault::{CheckError, CheckKind};
 use crate::scope::Scope;

@@ -1,11 +1,12 @@
 //! The kind of an expression.
 
 ghost use Rattle.std.specs.Prelude.{◌≡◌, ℕ, length, slice_get, map};
-ghost use Rattle.contract_tree.specs.Tree.{tree_of, trees};
-ghost use Rattle.contract_tree.specs.Builtins.{builtin_of, params_of};
-ghost use Rattle.contract_check.specs.Faults.{and_then, expression_kind, expression_kinds, require_kind, name_kind, parameter_kinds, call_kind_by, call_kind, prefix_kind, wrong_argument, unless_wrong_argument, operation_kind, equality_kind, binary_kind};
-ghost use Rattle.contract_check.specs.Names.{kind_in};
-ghost use Rattle.contract_check.specs.WellKinded.{operands_of};
+ghost use Rattle.contract_tree.specs.{Tree.{tree_of, trees}, Builtins.{builtin_of, params_of}};
+ghost use Rattle.contract_check.specs.{
+  Faults.{and_then, expression_kind, expression_kinds, require_kind, name_kind, parameter_kinds, call_kind_by, call_kind, prefix_kind, wrong_argument, unless_wrong_argument, operation_kind, equality_kind, binary_kind},
+  Names.{kind_in},
+  WellKinded.{operands_of},
+};
 
 use crate::fault::{CheckKind, Fault};
 use crate::scope::Scope;
@@ -76,8 +77,8 @@ fn prefix_kind(at: u32, operand: KindAt) -> Result<KindAt, Fault>
 fn name_kind(scope: &Scope, at: u32, name: &Name) -> Result<KindAt, Fault>
     ensures { result ≡ name_kind at (kind_in scope.now name.now) }
 {
-    match scope.kind_of(name) {
-        Some(kind) => Ok(KindAt { at, kind }),
+    match scope.get(name) {
+        Some(kind) => Ok(KindAt { at, kind: *kind }),
         None => Err(Fault {
             at,
             kind: CheckKind::Unknown,

@@ -4,7 +4,6 @@ ghost use Rattle.std.specs.Prelude.{◌≡◌};
 ghost use Rattle.contract_check.specs.declared.fault.CheckError.TheVariants as CheckErrors;
 
 use lc_base::Memory;
-use std::alloc::AllocFailed;
 
 /// What is wrong with a contract.
 #[derive(Clone, Copy, Debug, PartialEq, Eq)]
@@ -58,14 +57,6 @@ impl From<Memory> for CheckError {
     ghost from_gives = { λ _ error. error ≡ CheckErrors.Memory };
 
     fn from(_error: Memory) -> CheckError {
-        CheckError::Memory
-    }
-}
-
-impl<T: Drop> From<AllocFailed<T>> for CheckError {
-    ghost from_gives = { λ _ error. error ≡ CheckErrors.Memory };
-
-    fn from(_error: AllocFailed<T>) -> CheckError {
         CheckError::Memory
     }
 }

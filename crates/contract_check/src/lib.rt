@@ -12,4 +12,3 @@ mod used;
 pub use contract::{Checked, check};
 pub use contract_tree::Builtin;
 pub use fault::{CheckError, CheckKind};
-pub use scope::Scope;

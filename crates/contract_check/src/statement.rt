@@ -3,8 +3,10 @@
 ghost use Rattle.std.specs.Prelude.{◌≡◌, ℕ, Ok, map};
 ghost use Rattle.lc_base.specs.Answers.{Answers};
 ghost use Rattle.contract_tree.specs.Tree.{tree_of, trees, parts_of, statement_of, statement_list};
-ghost use Rattle.contract_check.specs.Faults.{fault_of, expression_of_kind, text_expressions, names_after_put, names_after_declaration, names_after_assignment, names_after_block, names_after_statement, names_after_statements};
-ghost use Rattle.contract_check.specs.Names.{kind_in};
+ghost use Rattle.contract_check.specs.{
+  Faults.{fault_of, expression_of_kind, text_expressions, names_after_put, names_after_declaration, names_after_assignment, names_after_block, names_after_statement, names_after_statements},
+  Names.{kind_in},
+};
 
 use crate::expression::{KindAt, expression_kind, require_kind};
 use crate::fault::{CheckError, CheckKind, Fault};
@@ -22,26 +24,26 @@ fn expression_of_kind(kind: ValueKind, scope: &Scope, x: &Expr) -> Result<KindAt
 pub fn declare(scope: &mut Scope, at: u32, name: &Name, kind: ValueKind) -> Result<(), CheckError>
     ensures { Answers (λ _. scope.new) fault_of result (names_after_declaration scope.old at name.now kind) }
 {
-    if scope.kind_of(name).is_some() {
+    if scope.get(name).is_some() {
         return Err(CheckError::Refused {
             at,
             kind: CheckKind::Again,
         });
     }
-    scope.declare(name, kind)?;
+    scope.push(name, kind)?;
     Ok(())
 }
 
 fn assign(scope: &Scope, at: u32, name: &Name, value: KindAt) -> Result<(), CheckError>
     ensures { Answers (λ _. scope.now) fault_of result (names_after_assignment (kind_in scope.now name.now) scope.now at value) }
 {
-    let Some(kind) = scope.kind_of(name) else {
+    let Some(kind) = scope.get(name) else {
         return Err(CheckError::Refused {
             at,
             kind: CheckKind::Unknown,
         });
     };
-    require_kind(kind, value)?;
+    require_kind(*kind, value)?;
     Ok(())
 }
 

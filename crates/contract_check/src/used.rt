@@ -1,8 +1,10 @@
 //! The names of functions that are used.
 
-ghost use Rattle.std.specs.Prelude.{◌≡◌, [], ◌==◌, ◌∷◌, ◌++◌, not, if◌then◌else◌, IfOk, OnOk};
-ghost use Rattle.std.specs.List.{list_any};
-ghost use Rattle.std.specs.Cmp.Lexicographic.{pointwise};
+ghost use Rattle.std.specs.{
+  Prelude.{◌≡◌, [], ◌==◌, ◌∷◌, ◌++◌, not, if◌then◌else◌, IfOk, OnOk},
+  List.{list_any},
+  Cmp.Lexicographic.{pointwise},
+};
 
 use lc_base::{Memory, Name};
 use name_table::NameTable;

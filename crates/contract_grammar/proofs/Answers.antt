@@ -6,7 +6,7 @@ use Rattle.contract_tokens.specs.declared.token.Mark.TheVariants as m
 use Rattle.contract_tree.specs.Tree.{FunctionTree}
 use Rattle.contract_grammar.specs.declared.Obstacle.{Obstacle}
 use Rattle.contract_grammar.specs.declared.Obstacle.TheVariants.{Unfit, Surplus, Pending, Nesting, Height}
-use Rattle.contract_grammar.specs.Faults.{Fits, Allows, Allows_by, IsTooHigh, IsFault, pending_only, nesting_only, parameters_only, IsObstacle, Keeps, KeepsLimits, AreWritable}
+use Rattle.contract_grammar.specs.Faults.{Fits, Allows, Allows_by, IsTooHigh, IsFault, pending_only, nesting_only, parameters_only, IsObstacle, KeepsLimit, KeepsLimits, AreWritable}
 use Rattle.contract_grammar.specs.Grammar.{Within, limit_if, limits_of, limits, no_limits, IsContract, Limits}
 use Rattle.contract_grammar.specs.Marks.{is, has, is_end, is_no_end, name_of, opens, builtin_of}
 use Rattle.contract_grammar.specs.Reading.{function, contract}
@@ -151,7 +151,7 @@ about_parameters = record {
 }
 
 module _ (u y : List Token) (t : Token) (why : Obstacle) (e : contract (u ++ t ∷ y) ≡ (Err why, t ∷ y)) where
-  keeps : {l : Limits} {test : Token → Bool} {E : Obstacle → Type 0} {U : Type 0} → IsRule E U contract (IsContract l) is_end → IsAbout l test → ((s : Token) → test s ≡ true → is_end s ≡ false) → Keeps l test u
+  keeps : {l : Limits} {test : Token → Bool} {E : Obstacle → Type 0} {U : Type 0} → IsRule E U contract (IsContract l) is_end → IsAbout l test → ((s : Token) → test s ≡ true → is_end s ≡ false) → KeepsLimit l test u
   keeps {l = l} limited about plain b a s path passes =
       let full = contract_full about (fair_of false false false false) (refl, refl, refl, refl) in
       let stopped : contract ((b ++ s ∷ a) ++ t ∷ y) ≡ (Err why, t ∷ y) = ap (λ v. contract (v ++ t ∷ y)) (sym path) ∙ e in

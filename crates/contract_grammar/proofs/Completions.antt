@@ -8,7 +8,7 @@ use Rattle.contract_tokens.specs.declared.token.Word.TheVariants as w
 use Rattle.contract_grammar.specs.declared.Obstacle.{Obstacle}
 use Rattle.contract_grammar.specs.Faults.{IsWritable, is_height}
 use Rattle.contract_grammar.specs.Marks.{the}
-use Rattle.contract_grammar.specs.Reading.{preceded, terminated}
+use Rattle.contract_grammar.specs.Reading.{after_mark, before_mark}
 use Rattle.contract_grammar.specs.Rules.{Read, Rule, head_is, ret, guard, one, refuse, next, seq, either_by, either, turns_below, turns, each}
 use Rattle.contract_grammar.proofs.Laws.{IsRet, Ret, IsGuarded, Guarded, IsOne, One, ok_is, err_is, no_ok, no_err, as_err, no_false, one_takes_all, one_stops, Takes, Begins, ret_takes, IsRule}
 use Rattle.contract_grammar.proofs.Sequence.{IsSeq, Seq, seq_takes, seq_begins}
@@ -166,13 +166,13 @@ module _ {test : Token → Bool} {Free : Type 0} where
       let first = one_completes f sample made is written in
       seq_completes (with_room first (λ (here : More). first.some tt)) hq (room_after_one f room) (λ here. here) more
 
-  pub preceded_completes : {Room : Type 0} {A : Type 0} {p : Rule A} {P : List Token → A → Type 0} (mark : Mark) → Completes test Free Room p P → ((t : Token) (at : ℕ) → the mark t ≡ Some at → test t ≡ true → Room) → (Free → Room) → Completes test Free Room (preceded mark p) (IsSeq (IsOne (the mark)) (λ at. P))
+  pub preceded_completes : {Room : Type 0} {A : Type 0} {p : Rule A} {P : List Token → A → Type 0} (mark : Mark) → Completes test Free Room p P → ((t : Token) (at : ℕ) → the mark t ≡ Some at → test t ≡ true → Room) → (Free → Room) → Completes test Free Room (after_mark mark p) (IsSeq (IsOne (the mark)) (λ at. P))
   preceded_completes mark h room more = one_then_completes (the mark) (token (w.Mark mark)) 0 (the_token mark) (mark_writable mark) (λ at. h) room more
 
-  pub preceded_full : {A : Type 0} {p : Rule A} {P : List Token → A → Type 0} (mark : Mark) → IsFull test Free p P → IsFull test Free (preceded mark p) (IsSeq (IsOne (the mark)) (λ at. P))
+  pub preceded_full : {A : Type 0} {p : Rule A} {P : List Token → A → Type 0} (mark : Mark) → IsFull test Free p P → IsFull test Free (after_mark mark p) (IsSeq (IsOne (the mark)) (λ at. P))
   preceded_full mark h = preceded_completes mark h (λ t at e i. tt) (λ free. tt)
 
-  pub terminated_full : {A : Type 0} (mark : Mark) (a : A) → IsFull test Free (terminated mark a) (IsSeq (IsOne (the mark)) (λ at. IsRet a))
+  pub terminated_full : {A : Type 0} (mark : Mark) (a : A) → IsFull test Free (before_mark mark a) (IsSeq (IsOne (the mark)) (λ at. IsRet a))
   terminated_full mark a = seq_full (mark_completes mark) (λ at. ret_completes a)
 
   -- ---- one or the other

@@ -10,7 +10,7 @@ use Rattle.contract_tree.specs.declared.tree.Sign.TheVariants as s
 use Rattle.contract_grammar.specs.declared.Obstacle.TheVariants.{Pending, Height}
 use Rattle.contract_grammar.specs.Grammar.{Limits, Within, is_chained, IsExpr, Tighter, IsArgs, NoArgs, IsExpression}
 use Rattle.contract_grammar.specs.Marks.{is, has, int_of, text_of, name_of, builtin_of, prefix_of, sign_of}
-use Rattle.contract_grammar.specs.Reading.{node, preceded, terminated, more_of, args, literal, name_or_call, builtin_call, operand_of, call_of, prefix_node, binary, rest_of_level, level_of, operand, expression}
+use Rattle.contract_grammar.specs.Reading.{node, after_mark, before_mark, more_of, args, literal, name_or_call, builtin_call, operand_of, call_of, prefix_node, binary, rest_of_level, level_of, operand, expression}
 use Rattle.contract_grammar.specs.Rules.{Rule, one, seq}
 use Rattle.contract_grammar.proofs.Laws.{IsGuarded, Begins}
 use Rattle.contract_grammar.proofs.Choice.{IsEither}
@@ -56,10 +56,10 @@ module _ {test : Token → Bool} {Free : Type 0} where
       let ints = seq_full (one_completes int_of (token (w.Int (pos 0))) (0, pos 0) refl zero_fits) (λ n. ret_completes (tree.Int n.0 n.1)) in
       either_first texts ints (has text_of)
 
-  pub args_full : {l : Limits} (d : ℕ) {expression : Rule Tree} → IsFull test Free expression (IsExpr l d WHOLE) → IsFull test Free (preceded m.ParenOpen (args expression)) (IsArgs l d)
+  pub args_full : {l : Limits} (d : ℕ) {expression : Rule Tree} → IsFull test Free expression (IsExpr l d WHOLE) → IsFull test Free (after_mark m.ParenOpen (args expression)) (IsArgs l d)
   args_full d h = completes_as (preceded_full m.ParenOpen (either_first (terminated_full m.ParenClose []) (seq_full h (more_full m.ParenClose h)) (is m.ParenClose))) (args_to d)
 
-  pub grouped_full : {l : Limits} (d : ℕ) {inner : Rule Tree} → IsFull test Free inner (IsExpr l (suc d) WHOLE) → IsFull test Free (preceded m.ParenOpen (seq inner (terminated m.ParenClose))) (IsGroupedBy l d)
+  pub grouped_full : {l : Limits} (d : ℕ) {inner : Rule Tree} → IsFull test Free inner (IsExpr l (suc d) WHOLE) → IsFull test Free (after_mark m.ParenOpen (seq inner (before_mark m.ParenClose))) (IsGroupedBy l d)
   grouped_full d h = preceded_full m.ParenOpen (seq_full h (λ x. terminated_full m.ParenClose x))
 
 module _ {l : Limits} {test : Token → Bool} (about : IsAbout l test) where

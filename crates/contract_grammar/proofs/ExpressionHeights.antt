@@ -11,7 +11,7 @@ use Rattle.contract_grammar.specs.declared.Obstacle.{Obstacle}
 use Rattle.contract_grammar.specs.declared.Obstacle.TheVariants.{Unfit, Pending, Height}
 use Rattle.contract_grammar.specs.Grammar.{no_limits, is_chained, IsExpr, Number, Literal, Named, Called, Prefixed, Grouped, Tighter, Chained, Compared, IsArgs, NoArgs, Args, IsMore, Last, More}
 use Rattle.contract_grammar.specs.Marks.{is, has, stops, name_of, builtin_of, prefix_of, sign_of}
-use Rattle.contract_grammar.specs.Reading.{preceded, args, literal, name_or_call, builtin_call, operand_of, call_of, prefix_node, binary, rest_of_level, level_of, operand}
+use Rattle.contract_grammar.specs.Reading.{after_mark, args, literal, name_or_call, builtin_call, operand_of, call_of, prefix_node, binary, rest_of_level, level_of, operand}
 use Rattle.contract_grammar.specs.Rules.{Read, Rule, head_is, ret, one, refuse, next, seq, either_by, turns_below, turns}
 use Rattle.contract_grammar.proofs.Laws.{IsRule, Ret, Guarded, err_is, no_ok, no_err, as_err, Begins, IsRet}
 use Rattle.contract_grammar.specs.Faults.{heights_only}
@@ -169,7 +169,7 @@ module _ {E F : Obstacle → Type 0} {U V : Type 0} (free : IsFair no_limits E U
       let hl = operand_rule tall n (suc d) deeper in
       let inner = seen_by u ho (operand_high n (suc d) deeper) in
       let whole = level_seen free u tall (suc d) ho hl (inner.high tt) WHOLE (omega arith) in
-      let low = λ (ts rest : List Token) (xs : List Tree) (h : preceded m.ParenOpen (args (level_of (operand n) WHOLE)) ts ≡ (Ok xs, rest)). (let f = (args_rule tall (suc d) (level_rule tall (suc d) hl WHOLE (omega arith))).takes ts rest xs h in args_low (suc d) f.0 xs f.2) in
+      let low = λ (ts rest : List Token) (xs : List Tree) (h : after_mark m.ParenOpen (args (level_of (operand n) WHOLE)) ts ≡ (Ok xs, rest)). (let f = (args_rule tall (suc d) (level_rule tall (suc d) hl WHOLE (omega arith))).takes ts rest xs h in args_low (suc d) f.0 xs f.2) in
       let prefixed = λ (ts rest : List Token) (at : ℕ) (h : seq (one prefix_of) (λ s. seq (operand n) (prefix_node s)) ts ≡ (Err (Height at), rest)). or_as {Q = IsPrefixed no_limits d} (λ f x i. (tt, i)) (prefixed_or d inner (level_low free u tall (suc d) ho hl (inner.high tt) 0 (omega arith)) ts rest at h) in
       let grouped = completes_as {Q = IsGrouped no_limits d} (grouped_full d whole) (λ f x i. (tt, i)) in
       let arguments = completes_as {Q = IsAllowed (Unit {0}) (IsArgs no_limits (suc d))} (args_full (suc d) whole) (λ f xs i. (tt, i)) in

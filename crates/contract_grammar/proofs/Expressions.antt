@@ -11,7 +11,7 @@ use Rattle.contract_grammar.specs.declared.Obstacle.{Obstacle}
 use Rattle.contract_grammar.specs.declared.Obstacle.TheVariants.{Pending}
 use Rattle.contract_grammar.specs.Grammar.{Limits, Within, IsExpr, Number, Tighter, IsArgs, NoArgs}
 use Rattle.contract_grammar.specs.Marks.{the, is, has, any, stops, int_of, text_of, name_of, builtin_of, prefix_of}
-use Rattle.contract_grammar.specs.Reading.{preceded, terminated, args, literal, name_or_call, builtin_call, operand_of, operand, call_of, prefix_node}
+use Rattle.contract_grammar.specs.Reading.{after_mark, before_mark, args, literal, name_or_call, builtin_call, operand_of, operand, call_of, prefix_node}
 use Rattle.contract_grammar.specs.Rules.{Rule, one, refuse, seq}
 use Rattle.contract_grammar.proofs.Laws.{IsRule, IsRet, Ret, IsGuarded, Guarded, IsOne, One, ret_rule, one_rule}
 use Rattle.contract_grammar.proofs.MarkFacts.{begins, begins_no_close, comma_stops, close_stops, close_no_comma, stops_no_paren, builtin_no_name, prefix_no_name, paren_no_name, text_no_name, int_no_name, prefix_no_builtin, paren_no_builtin, text_no_builtin, int_no_builtin, paren_no_prefix, text_no_prefix, int_no_prefix, text_no_paren, int_no_paren, int_no_text, name_no_end, builtin_no_end, prefix_no_end, text_no_end, int_no_end, paren_opens, prefix_opens, has_the, has_some}
@@ -57,7 +57,7 @@ unfolding number_token
 group_written = more_words (token (w.Int (pos 0))) (close_token ∷ []) zero_fits close_written
 
 module _ {l : Limits} {E : Obstacle → Type 0} {U : Type 0} (fair : IsFair l E U) (d : ℕ) where
-  pub args_rule : {expression : Rule Tree} → IsRule E U expression (IsExpr l d WHOLE) (stops WHOLE) → IsRule E U (preceded m.ParenOpen (args expression)) (IsArgs l d) (stops 0)
+  pub args_rule : {expression : Rule Tree} → IsRule E U expression (IsExpr l d WHOLE) (stops WHOLE) → IsRule E U (after_mark m.ParenOpen (args expression)) (IsArgs l d) (stops 0)
   args_rule h =
       let more = more_rule fair {T = stops 0} m.ParenClose h comma_stops close_stops close_no_comma in
       let more_leads = leads_start (stops WHOLE) (stops WHOLE) (stops 0) (IsMoreOfThem (IsExpr l d WHOLE) m.ParenClose) (more_stops (stops WHOLE) m.ParenClose comma_stops close_stops) (λ t e. e) in
@@ -156,7 +156,7 @@ module _ {l : Limits} {E : Obstacle → Type 0} {U : Type 0} (fair : IsFair l E 
       let made = λ (s : ℕ × Sign). seq_rule h (λ x. node_rule fair {S = stops 0} s.0 (tree.Prefix s.0 s.1 x)) (leads_guarded (stops 0) (stops 0) (λ x. Within l.height (height (tree.Prefix s.0 s.1 x))) (λ x. tree.Prefix s.0 s.1 x) (λ t e. e)) in
       seq_rule (one_rule {S = any} prefix_of (token (w.Mark m.Minus)) (0, s.Minus) refl (mark_writable m.Minus) prefix_no_end) made (leads_any (λ s. IsSeq (IsExpr l (suc d) 0) (λ x. IsGuarded (Within l.height (height (tree.Prefix s.0 s.1 x))) (tree.Prefix s.0 s.1 x))) (stops 0))
 
-  grouped_rule : (d : ℕ) {inner : Rule Tree} → IsRule E U inner (IsExpr l (suc d) WHOLE) (stops WHOLE) → IsRule E U (preceded m.ParenOpen (seq inner (terminated m.ParenClose))) (IsGroupedBy l d) (stops 0)
+  grouped_rule : (d : ℕ) {inner : Rule Tree} → IsRule E U inner (IsExpr l (suc d) WHOLE) (stops WHOLE) → IsRule E U (after_mark m.ParenOpen (seq inner (before_mark m.ParenClose))) (IsGroupedBy l d) (stops 0)
   grouped_rule d h = preceded_rule m.ParenOpen (seq_rule h (λ x. terminated_rule m.ParenClose x) (leads_start (stops WHOLE) (is m.ParenClose) (stops 0) (λ (x : Tree). IsSeq (IsOne (the m.ParenClose)) (λ end. IsRet x)) (λ x. seq_starts (is m.ParenClose) (is_one m.ParenClose)) close_stops))
 
   pub operand_rule : (n d : ℕ) → n + d ≡ MAX_PENDING → IsRule E U (operand n) (IsExpr l d 0) (stops 0)

@@ -5,7 +5,7 @@ use Rattle.contract_tokens.specs.declared.token.Mark.{Mark}
 use Rattle.contract_grammar.specs.declared.stop.Stop.{Stop}
 use Rattle.contract_grammar.specs.declared.stop.Stop.TheVariants.{At, Memory}
 use Rattle.contract_grammar.specs.Marks.{the}
-use Rattle.contract_grammar.specs.Reading.{preceded}
+use Rattle.contract_grammar.specs.Reading.{after_mark}
 use Rattle.contract_grammar.specs.Reads.{Gives}
 use Rattle.contract_grammar.specs.Rules.{Read, Rule, head_is, one, next, turns}
 use Rattle.contract_grammar.proofs.Choice.{IsStrict}
@@ -27,5 +27,5 @@ module _ {B : Type 0} (test : Token → Bool) (step : B → Rule B) (strict : Is
   loop_err A e view Memory rest s = tt
 
 -- a keyword or sign that was taken, and what follows
-pub preceded_taken : {B : Type 0} (mark : Mark) (p : Rule B) (ts rest : List Token) (at : ℕ) → one (the mark) ts ≡ (Ok at, rest) → preceded mark p ts ≡ p rest
+pub preceded_taken : {B : Type 0} (mark : Mark) (p : Rule B) (ts rest : List Token) (at : ℕ) → one (the mark) ts ≡ (Ok at, rest) → after_mark mark p ts ≡ p rest
 preceded_taken mark p ts rest at e = ap (λ r. next (λ at. p) r) e

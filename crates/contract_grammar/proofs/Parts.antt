@@ -11,7 +11,7 @@ use Rattle.contract_grammar.specs.declared.Obstacle.{Obstacle}
 use Rattle.contract_grammar.specs.declared.Obstacle.TheVariants.{Surplus, Pending, Nesting, Height}
 use Rattle.contract_grammar.specs.Grammar.{Limits, Within}
 use Rattle.contract_grammar.specs.Marks.{the, is, has, any, is_end}
-use Rattle.contract_grammar.specs.Reading.{node, preceded, terminated, more_of}
+use Rattle.contract_grammar.specs.Reading.{node, after_mark, before_mark, more_of}
 use Rattle.contract_grammar.specs.Rules.{Rule, head_is, one}
 use Rattle.contract_grammar.proofs.Laws.{no_false, IsRule, IsRet, Ret, IsGuarded, Guarded, IsOne, One, ret_rule, guard_rule, one_rule}
 use Rattle.contract_grammar.proofs.Sequence.{IsSeq, Leads, seq_rule}
@@ -89,10 +89,10 @@ module _ {E : Obstacle → Type 0} {U : Type 0} where
   pub mark_rule : {S : Token → Bool} (mark : Mark) → IsRule E U (one (the mark)) (IsOne (the mark)) S
   mark_rule mark = one_rule (the mark) (token (w.Mark mark)) 0 (the_token mark) (mark_writable mark) (the_no_end mark)
 
-  pub preceded_rule : {A : Type 0} {p : Rule A} {P : List Token → A → Type 0} {S : Token → Bool} (mark : Mark) → IsRule E U p P S → IsRule E U (preceded mark p) (IsSeq (IsOne (the mark)) (λ at. P)) S
+  pub preceded_rule : {A : Type 0} {p : Rule A} {P : List Token → A → Type 0} {S : Token → Bool} (mark : Mark) → IsRule E U p P S → IsRule E U (after_mark mark p) (IsSeq (IsOne (the mark)) (λ at. P)) S
   preceded_rule {P = P} {S = S} mark h = seq_rule (mark_rule {S = any} mark) (λ at. h) (leads_any (λ at. P) S)
 
-  pub terminated_rule : {A : Type 0} {S : Token → Bool} (mark : Mark) (a : A) → IsRule E U (terminated mark a) (IsSeq (IsOne (the mark)) (λ at. IsRet a)) S
+  pub terminated_rule : {A : Type 0} {S : Token → Bool} (mark : Mark) (a : A) → IsRule E U (before_mark mark a) (IsSeq (IsOne (the mark)) (λ at. IsRet a)) S
   terminated_rule {S = S} mark a = seq_rule (mark_rule {S = any} mark) (λ at. ret_rule a) (leads_any (λ (at : ℕ). IsRet a) S)
 
 -- what commas part, after the first, and the sign that closes it

@@ -11,7 +11,7 @@ use Rattle.contract_grammar.specs.declared.limits.TheConstants.{MAX_PARAMETERS, 
 use Rattle.contract_tree.specs.declared.tree.Param.{Param}
 use Rattle.contract_grammar.specs.Grammar.{is_chained}
 use Rattle.contract_grammar.specs.Marks.{the, is, is_not, has, int_of, text_of, name_of, builtin_of, prefix_of, sign_of, declared_of, kind_of}
-use Rattle.contract_grammar.specs.Reading.{preceded, terminated, comma_then, more_of, args, operand_of, binary, rest_of_level, level_of, operand, expression, value_of, else_part, from_part, statement, block, param, params, function}
+use Rattle.contract_grammar.specs.Reading.{after_mark, before_mark, comma_then, more_of, args, operand_of, binary, rest_of_level, level_of, operand, expression, value_of, else_part, from_part, statement, block, param, params, function}
 use Rattle.contract_grammar.specs.Rules.{Read, Rule, head_is, ret, guard, one_by, one, refuse, next, seq, either_by, either, turns_below, turns, put, each}
 use Rattle.contract_grammar.proofs.Laws.{ok_is, no_ok}
 use Rattle.contract_grammar.proofs.Choice.{IsStrict, turns_are}
@@ -86,10 +86,10 @@ module _ {A : Type 0} (test : Token → Bool) (step : A → Rule A) (hs : (a : A
   turns_adds : (a : A) → AddsNone (turns test step a)
   turns_adds a ts rest b e = below_adds (suc (length ts)) a ts rest b (sym (turns_are test step a ts) ∙ e)
 
-preceded_takes : {A : Type 0} {p : Rule A} (mark : Mark) → AddsNone p → TakesOne (preceded mark p)
+preceded_takes : {A : Type 0} {p : Rule A} (mark : Mark) → AddsNone p → TakesOne (after_mark mark p)
 preceded_takes mark h = seq_takes (λ at. h) (one_takes (the mark))
 
-terminated_takes : {A : Type 0} (mark : Mark) (a : A) → TakesOne (terminated mark a)
+terminated_takes : {A : Type 0} (mark : Mark) (a : A) → TakesOne (before_mark mark a)
 terminated_takes mark a = seq_takes (λ at. ret_adds a) (one_takes (the mark))
 
 put_takes : {A : Type 0} (item : ℕ → Rule A) → ((n : ℕ) → TakesOne (item n)) → IsStrict (put item)
@@ -185,16 +185,16 @@ param_takes n =
     let names = either_by_takes (nat_lt n MAX_PARAMETERS) (one_takes declared_of) (closed_takes Surplus (has declared_of)) in
     seq_takes (λ name. adds_none (preceded_takes m.Colon (seq_adds (λ kind. ret_adds _) (adds_none (one_takes kind_of))))) names
 
-next_param_takes : (n : ℕ) → TakesOne (preceded m.Comma (param n))
+next_param_takes : (n : ℕ) → TakesOne (after_mark m.Comma (param n))
 next_param_takes n = preceded_takes m.Comma (adds_none (param_takes n))
 
 -- one more parameter
-pub params_strict : IsStrict (put (λ n. preceded m.Comma (param n)))
-params_strict = put_takes (λ n. preceded m.Comma (param n)) next_param_takes
+pub params_strict : IsStrict (put (λ n. after_mark m.Comma (param n)))
+params_strict = put_takes (λ n. after_mark m.Comma (param n)) next_param_takes
 
 params_adds : AddsNone params
 params_adds =
-    let more = λ (p : Param). seq_adds (λ all. adds_none (terminated_takes m.ParenClose all)) (each_adds (is m.Comma) (λ n. preceded m.Comma (param n)) (p ∷ []) next_param_takes) in
+    let more = λ (p : Param). seq_adds (λ all. adds_none (terminated_takes m.ParenClose all)) (each_adds (is m.Comma) (λ n. after_mark m.Comma (param n)) (p ∷ []) next_param_takes) in
     adds_none (preceded_takes m.ParenOpen (either_adds (is m.ParenClose) (adds_none (terminated_takes m.ParenClose [])) (seq_adds more (adds_none (param_takes 0)))))
 
 function_takes : TakesOne function

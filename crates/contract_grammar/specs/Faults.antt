@@ -83,25 +83,22 @@ IsObstacle Nesting before t =
 IsObstacle (Height at) before t = IsTooHigh before at × (Allows heights_only before t → ⊥)
 
 -- Of these tokens each that passes the test was allowed where it stands.
-abbrev pub Keeps : Limits → (Token → Bool) → List Token → Type 0
-Keeps l test tokens =
+abbrev pub KeepsLimit : Limits → (Token → Bool) → List Token → Type 0
+KeepsLimit l test tokens =
     (before after : List Token) (t : Token)
     → tokens ≡ before ++ t ∷ after → test t ≡ true → Allows l before t
 
 -- The tokens keep the limits of parameters, of what is pending and of nested blocks: no name,
 -- parenthesis, prefix or brace of them was one too many.
 pub record KeepsLimits (tokens : List Token) : Type 0 where
-  pub pending : Keeps pending_only opens tokens
-  pub nesting : Keeps nesting_only (is BraceOpen) tokens
-  pub parameters : Keeps parameters_only (has name_of) tokens
+  pub pending : KeepsLimit pending_only opens tokens
+  pub nesting : KeepsLimit nesting_only (is BraceOpen) tokens
+  pub parameters : KeepsLimit parameters_only (has name_of) tokens
 
 -- Whether the obstacle is the height of an expression.
 abbrev pub is_height : Obstacle → Bool
-is_height Unfit = false
-is_height Surplus = false
-is_height Pending = false
-is_height Nesting = false
 is_height (Height at) = true
+is_height _ = false
 
 -- What is wrong at the first token that a contract does not go on with, or that a limit refuses:
 -- the tokens before it keep the limits.

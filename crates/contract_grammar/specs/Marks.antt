@@ -15,6 +15,8 @@ use Rattle.contract_tree.specs.declared.tree.ValueKind.TheVariants as k
 use Rattle.contract_tree.specs.declared.builtin.Builtin.TheVariants as b
 use Rattle.contract_tree.specs.Builtins.{builtin_name, is_builtin}
 use Rattle.contract_grammar.specs.declared.limits.TheConstants.{COMPARISONS, WHOLE}
+use Rattle.contract_grammar.specs.declared.word.NameKind.{NameKind}
+use Rattle.contract_grammar.specs.declared.word.NameKind.TheVariants as n
 
 -- Whether two keywords or signs are the same, as `==` of the program says.
 abbrev pub is_same : MarkType → MarkType → Bool
@@ -23,10 +25,7 @@ is_same = sameb the_type
 -- Whether the word is this keyword or sign.
 abbrev pub is_word : MarkType → Word → Bool
 is_word mark (w.Mark other) = is_same other mark
-is_word mark (w.Int value) = false
-is_word mark (w.Text text) = false
-is_word mark (w.Name name) = false
-is_word mark w.End = false
+is_word mark _ = false
 
 -- Whether the token is this keyword or sign.
 abbrev pub is : MarkType → Token → Bool
@@ -39,34 +38,22 @@ the mark t = if is mark t then Some t.at else None
 -- The value of a number.
 abbrev pub int_in : Word → Option ℤ
 int_in (w.Int value) = Some value
-int_in (w.Text text) = None
-int_in (w.Name name) = None
-int_in (w.Mark mark) = None
-int_in w.End = None
+int_in _ = None
 
 -- The bytes that a text literal means.
 abbrev pub text_in : Word → Option (List ℕ)
 text_in (w.Text text) = Some text
-text_in (w.Int value) = None
-text_in (w.Name name) = None
-text_in (w.Mark mark) = None
-text_in w.End = None
+text_in _ = None
 
 -- The bytes of a name.
 abbrev pub name_in : Word → Option (List ℕ)
 name_in (w.Name name) = Some name
-name_in (w.Int value) = None
-name_in (w.Text text) = None
-name_in (w.Mark mark) = None
-name_in w.End = None
+name_in _ = None
 
 -- Whether the word is the end of the source.
 abbrev pub end_in : Word → Bool
 end_in w.End = true
-end_in (w.Int value) = false
-end_in (w.Text text) = false
-end_in (w.Name name) = false
-end_in (w.Mark mark) = false
+end_in _ = false
 
 -- Whether the token is the end of the source, which closes each list of tokens.
 abbrev pub is_end : Token → Bool
@@ -125,6 +112,16 @@ declared_in word = declarable (name_in word)
 -- Such a name with its offset.
 abbrev pub declared_of : Token → Option (ℕ × List ℕ)
 declared_of t = with_offset t.at (declared_in t.word)
+
+-- The name that a word is, where names of this kind are read.
+abbrev pub name_as : NameKind → Word → Option (List ℕ)
+name_as n.Plain word = name_in word
+name_as n.Declared word = declared_in word
+name_as n.Builtin word = builtin_in word
+
+-- Such a name with its offset.
+abbrev pub named : NameKind → Token → Option (ℕ × List ℕ)
+named kind t = with_offset t.at (name_as kind t.word)
 
 -- What a parameter's values are.
 abbrev pub kind_in : Word → Option ValueKind

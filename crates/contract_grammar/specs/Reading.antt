@@ -31,27 +31,27 @@ abbrev pub binary_node : ℕ × Sign → Tree → Tree → Rule Tree
 binary_node s x w = node s.0 (tree.Binary s.0 s.1 x w)
 
 -- A keyword or sign, and then what follows.
-abbrev pub preceded : {A : Type 0} → Mark → Rule A → Rule A
-preceded mark p = seq (one (the mark)) (λ at. p)
+abbrev pub after_mark : {A : Type 0} → Mark → Rule A → Rule A
+after_mark mark p = seq (one (the mark)) (λ at. p)
 
 -- What was read, and then a keyword or sign.
-abbrev pub terminated : {A : Type 0} → Mark → A → Rule A
-terminated mark a = seq (one (the mark)) (λ at. ret a)
+abbrev pub before_mark : {A : Type 0} → Mark → A → Rule A
+before_mark mark a = seq (one (the mark)) (λ at. ret a)
 
 -- A comma, and then the next part, whatever the number of those before.
 abbrev pub comma_then : {A : Type 0} → Rule A → ℕ → Rule A
-comma_then p n = preceded m.Comma p
+comma_then p n = after_mark m.Comma p
 
 -- The parts after the first that commas divide, and then the closing sign.
 abbrev pub more_of : Rule Tree → Mark → Tree → Rule (List Tree)
 more_of expression mark x =
-    seq (each (is m.Comma) (comma_then expression) (x ∷ [])) (terminated mark)
+    seq (each (is m.Comma) (comma_then expression) (x ∷ [])) (before_mark mark)
 
 -- Arguments after the parenthesis that opens.
 abbrev pub args : Rule Tree → Rule (List Tree)
 args expression =
     either (is m.ParenClose)
-    (terminated m.ParenClose [])
+    (before_mark m.ParenClose [])
     (seq expression (more_of expression m.ParenClose))
 
 -- A number.
@@ -108,7 +108,7 @@ level_of operand (suc level) =
 -- Arguments, by the operands that may stand in them, if any may.
 abbrev pub arguments_in : Option (Rule Tree) → Rule (List Tree)
 arguments_in None = refuse Pending (is m.ParenOpen)
-arguments_in (Some operand) = preceded m.ParenOpen (args (level_of operand WHOLE))
+arguments_in (Some operand) = after_mark m.ParenOpen (args (level_of operand WHOLE))
 
 -- A prefix with its operand, if any may stand after it.
 abbrev pub prefix_operand_in : Option (Rule Tree) → Rule Tree
@@ -119,7 +119,7 @@ prefix_operand_in (Some operand) = seq (one prefix_of) (λ s. seq operand (prefi
 abbrev pub group_in : Option (Rule Tree) → Rule Tree
 group_in None = refuse Pending (is m.ParenOpen)
 group_in (Some operand) =
-    preceded m.ParenOpen (seq (level_of operand WHOLE) (terminated m.ParenClose))
+    after_mark m.ParenOpen (seq (level_of operand WHOLE) (before_mark m.ParenClose))
 
 -- An operand, by those that may stand after one more parenthesis or prefix, if any may.
 abbrev pub operand_in : Option (Rule Tree) → Rule Tree
@@ -141,7 +141,7 @@ expression = level_of (operand MAX_PENDING) WHOLE
 
 -- The end of a statement that gives a value.
 abbrev pub value_of : (Tree → StatementTree) → Rule StatementTree
-value_of f = preceded m.Assign (seq expression (λ x. terminated m.Semicolon (f x)))
+value_of f = after_mark m.Assign (seq expression (λ x. before_mark m.Semicolon (f x)))
 
 -- A `let`.
 abbrev pub let_statement : Rule StatementTree
@@ -156,7 +156,7 @@ assign_statement = seq (one name_of) (λ n. value_of (tree.Assign n.0 n.1))
 abbrev pub else_part : Rule StatementTrees → ℕ → Tree → StatementTrees → Rule StatementTree
 else_part block at x first =
     either (is m.Else)
-    (preceded m.Else (seq block (λ second. ret (tree.IfElse at x first second))))
+    (after_mark m.Else (seq block (λ second. ret (tree.IfElse at x first second))))
     (ret (tree.If at x first))
 
 -- An `if`.
@@ -173,24 +173,24 @@ while_statement block =
 -- A `from` with its parts, and the semicolon.
 abbrev pub from_parts : Rule (Option Trees)
 from_parts =
-    preceded m.From
+    after_mark m.From
     (seq expression (λ x. seq (more_of expression m.Semicolon x) (λ xs. ret (Some (trees xs)))))
 
 -- The end of a `put`: a `from` or none, and the semicolon.
 abbrev pub from_part : Rule (Option Trees)
-from_part = either (is m.Semicolon) (terminated m.Semicolon None) from_parts
+from_part = either (is m.Semicolon) (before_mark m.Semicolon None) from_parts
 
 -- A `put`.
 abbrev pub put_statement : Rule StatementTree
 put_statement =
     seq (one (the m.Put))
     (λ at. seq expression
-    (λ key. preceded m.Assign
+    (λ key. after_mark m.Assign
     (seq expression (λ value. seq from_part (λ parts. ret (tree.Put at key value parts))))))
 
 -- A statement of one keyword.
 abbrev pub short_statement : Mark → (ℕ → StatementTree) → Rule StatementTree
-short_statement mark f = seq (one (the mark)) (λ at. terminated m.Semicolon (f at))
+short_statement mark f = seq (one (the mark)) (λ at. before_mark m.Semicolon (f at))
 
 -- A statement, by the blocks that may stand in it.
 abbrev pub statement : Rule StatementTrees → Rule StatementTree
@@ -205,9 +205,9 @@ statement block =
 -- A block, by the blocks that may stand in it.
 abbrev pub block_of : Rule StatementTrees → Rule StatementTrees
 block_of inner =
-    preceded m.BraceOpen
+    after_mark m.BraceOpen
     (seq (each (is_not m.BraceClose) (λ n. statement inner) [])
-    (λ ss. terminated m.BraceClose (statement_list ss)))
+    (λ ss. before_mark m.BraceClose (statement_list ss)))
 
 -- A block, where so many more may be nested, itself counted.
 unfoldable pub block : ℕ → Rule StatementTrees
@@ -227,18 +227,18 @@ a_param name kind = record { at = name.0; name = name.1; kind = kind }
 abbrev pub param : ℕ → Rule Param
 param n =
     seq (param_name n)
-    (λ name. preceded m.Colon (seq (one kind_of) (λ kind. ret (a_param name kind))))
+    (λ name. after_mark m.Colon (seq (one kind_of) (λ kind. ret (a_param name kind))))
 
 -- The parameters after the first, and the parenthesis that closes them.
 abbrev pub more_params : Param → Rule (List Param)
 more_params p =
-    seq (each (is m.Comma) (λ n. preceded m.Comma (param n)) (p ∷ [])) (terminated m.ParenClose)
+    seq (each (is m.Comma) (λ n. after_mark m.Comma (param n)) (p ∷ [])) (before_mark m.ParenClose)
 
 -- Parameters with their parentheses.
 abbrev pub params : Rule (List Param)
 params =
-    preceded m.ParenOpen
-    (either (is m.ParenClose) (terminated m.ParenClose []) (seq (param 0) more_params))
+    after_mark m.ParenOpen
+    (either (is m.ParenClose) (before_mark m.ParenClose []) (seq (param 0) more_params))
 
 -- A function of this name, with its offset, these parameters and these statements.
 abbrev pub a_function : ℕ × List ℕ → List Param → StatementTrees → FunctionTree
@@ -248,7 +248,7 @@ a_function name params body =
 -- A function.
 unfoldable pub function : Rule FunctionTree
 function =
-    preceded m.Fn
+    after_mark m.Fn
     (seq (one declared_of)
     (λ name. seq params
     (λ ps. seq (block MAX_NESTING) (λ body. ret (a_function name ps body)))))

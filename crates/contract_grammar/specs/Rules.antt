@@ -85,11 +85,10 @@ each test item = turns test (put item)
 
 -- Whether a limit keeps the reader from taking the next token.
 abbrev pub is_limit : Obstacle → Bool
-is_limit Unfit = false
 is_limit Surplus = true
 is_limit Pending = true
 is_limit Nesting = true
-is_limit (Height at) = false
+is_limit _ = false
 
 -- The token is one that the limit is about.
 abbrev pub Told : Obstacle → Token → Type 0

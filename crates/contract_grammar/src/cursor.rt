@@ -1,18 +1,19 @@
 //! The tokens of a source, read one by one.
 
-ghost use Rattle.std.specs.Prelude.{◌≡◌, slice_get, drop, IfOk, OnErr, IsErrOf};
-ghost use Rattle.std.specs.Option.{option_copied};
-ghost use Rattle.contract_grammar.specs.Marks.{the, is, is_not, has, is_no_end, int_of, text_of, name_of, declared_of, builtin_of, kind_of, sign_of, prefix_of, with_offset};
-ghost use Rattle.contract_grammar.specs.Rules.{head_is, one, refusal};
+ghost use Rattle.std.specs.{
+  Prelude.{◌≡◌, slice_get, drop, IfOk, OnErr, IsErrOf},
+  Option.{option_copied},
+};
+ghost use Rattle.contract_grammar.specs.{
+  Marks.{the, is, is_not, has, is_no_end, int_of, text_of, named, kind_of, sign_of, prefix_of, with_offset},
+  Rules.{head_is, one, refusal},
+  Reads.{Reads},
+};
 ghost use Rattle.contract_grammar.specs.declared.stop.Stop.TheVariants as stops;
-ghost use Rattle.contract_grammar.specs.Reads.{Reads};
 
 use crate::Obstacle;
 use crate::stop::Stop;
-use crate::word::{
-    builtin_in, declared_in, int_in, is_end, is_mark, kind_in, level_in, name_in, prefix_in,
-    sign_at, text_in,
-};
+use crate::word::{NameKind, int_in, is_end, is_mark, kind_in, prefix_in, sign_at, text_in};
 use contract_tokens::{Mark, Token, Tokens};
 use contract_tree::{Sign, ValueKind};
 use lc_base::{Duplicate, Memory, Name, Text};
@@ -48,6 +49,11 @@ impl<'a> Cursor<'a> {
         let mut after = tokens;
         let next = after.next()?;
         Ok(Cursor { next, after })
+    }
+
+    /// The allocator of what is read.
+    pub fn alloc(&self) -> Global {
+        self.after.alloc()
     }
 
     /// The next token, unless there is none.
@@ -106,13 +112,13 @@ impl<'a> Cursor<'a> {
         self.next.as_ref().is_some_and(|token| !is_end(&token.word))
     }
 
-    /// Whether the next token is a name.
-    pub fn next_is_name(&self) -> bool
-        ensures { result ≡ head_is (has name_of) self.now }
+    /// Whether the next token is a name of this kind.
+    pub fn next_is_name(&self, kind: NameKind) -> bool
+        ensures { result ≡ head_is (has (named kind)) self.now }
     {
         self.next
             .as_ref()
-            .is_some_and(|token| name_in(&token.word).is_some())
+            .is_some_and(|token| kind.name(&token.word).is_some())
     }
 
     /// Whether the next token is a text literal.
@@ -131,24 +137,6 @@ impl<'a> Cursor<'a> {
         self.next
             .as_ref()
             .is_some_and(|token| prefix_in(&token.word).is_some())
-    }
-
-    /// Whether the next token is a keyword that is the name of a builtin too.
-    pub fn next_is_builtin(&self) -> bool
-        ensures { result ≡ head_is (has builtin_of) self.now }
-    {
-        self.next
-            .as_ref()
-            .is_some_and(|token| builtin_in(&token.word).is_some())
-    }
-
-    /// Whether the next token is a name that may be declared.
-    pub fn next_is_declared(&self) -> bool
-        ensures { result ≡ head_is (has declared_of) self.now }
-    {
-        self.next
-            .as_ref()
-            .is_some_and(|token| declared_in(&token.word).is_some())
     }
 
     /// Whether the next token is an operator of this level, from 1, the tightest, to `WHOLE`.
@@ -196,44 +184,23 @@ impl<'a> Cursor<'a> {
     }
 
     /// Takes a text literal, and gives what it means with its offset.
-    pub fn text(&mut self, alloc: Global) -> Result<(u32, Text), Stop>
+    pub fn text(&mut self) -> Result<(u32, Text), Stop>
         ensures read { Reads result (one text_of self.old) self.new }
         ensures kept { IsErrOf result stops.Memory → self.new ≡ self.old }
     {
         let found = match self.next.as_ref().and_then(|token| text_in(&token.word)) {
-            Some(text) => Some(text.copy(alloc)?),
+            Some(text) => Some(text.copy(self.alloc())?),
             None => None,
         };
         self.take_found(found)
     }
 
-    /// Takes a name, and gives it with its offset.
-    pub fn name(&mut self) -> Result<(u32, Name), Stop>
-        ensures read { Reads result (one name_of self.old) self.new }
+    /// Takes a name of this kind, and gives it with its offset.
+    pub fn name(&mut self, kind: NameKind) -> Result<(u32, Name), Stop>
+        ensures read { Reads result (one (named kind) self.old) self.new }
         ensures kept { IsErrOf result stops.Memory → self.new ≡ self.old }
     {
-        let found = self.next.as_ref().and_then(|token| name_in(&token.word));
-        self.take_found(found)
-    }
-
-    /// Takes a name that may be declared, that of no builtin, and gives it with its offset.
-    pub fn declared(&mut self) -> Result<(u32, Name), Stop>
-        ensures read { Reads result (one declared_of self.old) self.new }
-        ensures kept { IsErrOf result stops.Memory → self.new ≡ self.old }
-    {
-        let found = self
-            .next
-            .as_ref()
-            .and_then(|token| declared_in(&token.word));
-        self.take_found(found)
-    }
-
-    /// Takes a keyword that is the name of a builtin too, and gives that name with its offset.
-    pub fn builtin(&mut self) -> Result<(u32, Name), Stop>
-        ensures read { Reads result (one builtin_of self.old) self.new }
-        ensures kept { IsErrOf result stops.Memory → self.new ≡ self.old }
-    {
-        let found = self.next.as_ref().and_then(|token| builtin_in(&token.word));
+        let found = self.next.as_ref().and_then(|token| kind.name(&token.word));
         self.take_found(found)
     }
 

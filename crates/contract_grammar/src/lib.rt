@@ -9,7 +9,7 @@ mod word;
 pub use cursor::Cursor;
 pub use limits::{COMPARISONS, MAX_HEIGHT, MAX_NESTING, MAX_PARAMETERS, MAX_PENDING, WHOLE};
 pub use stop::Stop;
-pub use word::is_end;
+pub use word::{NameKind, is_end};
 
 /// What keeps a reader from going on.
 #[derive(Clone, Copy, Debug)]

@@ -1,11 +1,10 @@
 //! What a word is to the grammar.
 
-ghost use Rattle.std.specs.Prelude.{◌≡◌, ◌==◌, Some, None, if◌then◌else◌};
-ghost use Rattle.std.specs.Option.{option_copied};
+ghost use Rattle.std.specs.{Prelude.{◌≡◌, ◌==◌, Some, None, if◌then◌else◌}, Option.{option_copied}};
 ghost use Rattle.contract_tokens.specs.declared.token.Word.TheVariants as words;
-ghost use Rattle.contract_grammar.specs.Marks.{is_word, int_in, text_in, name_in, end_in, kind_in, level_in, sign_in, prefix_in, builtin_in, declared_in};
+ghost use Rattle.contract_grammar.specs.Marks.{is_word, int_in, text_in, end_in, kind_in, level_in, sign_in, prefix_in, unless_builtin, name_as};
 ghost use Rattle.contract_tree.specs.declared.builtin.Builtin.TheVariants as builtins;
-ghost use Rattle.contract_tree.specs.Builtins.{builtin_name};
+ghost use Rattle.contract_tree.specs.Builtins.{builtin_name, is_builtin};
 
 use crate::limits::{COMPARISONS, WHOLE};
 use contract_tokens::{Mark, Word};
@@ -35,15 +34,6 @@ pub fn text_in(word: &Word) -> Option<&Text>
 {
     match word {
         Word::Text(text) => Some(text),
-        _ => None,
-    }
-}
-
-pub fn name_in(word: &Word) -> Option<Name>
-    ensures { result ≡ name_in word.now }
-{
-    match word {
-        Word::Name(name) => Some(*name),
         _ => None,
     }
 }
@@ -146,31 +136,42 @@ pub fn sign_at(word: &Word, level: u8) -> Option<Sign>
     }
 }
 
+/// Which names are read.
+#[derive(Clone, Copy, Debug)]
+pub enum NameKind {
+    /// A name that is no keyword.
+    Plain,
+    /// A name that may be declared: that of no function that each contract may call.
+    Declared,
+    /// The name that a keyword has as that of a function.
+    Builtin,
+}
+
+impl NameKind {
+    /// The name of this kind that a word is.
+    pub fn name(self, word: &Word) -> Option<Name>
+        ensures { result ≡ name_as self word.now }
+    {
+        match (self, word) {
+            (NameKind::Plain, Word::Name(name)) => Some(*name),
+            (NameKind::Declared, Word::Name(name)) => unless_builtin(name),
+            (NameKind::Builtin, Word::Mark(Mark::Text)) => Some(text_name()),
+            _ => None,
+        }
+    }
+}
+
+fn unless_builtin(name: &Name) -> Option<Name>
+    ensures { result ≡ unless_builtin (is_builtin name.now) name.now }
+{
+    Builtin::of_name(name).is_none().then_some(*name)
+}
+
 fn text_name() -> Name
     ensures { result ≡ builtin_name builtins.Text }
 {
     match Name::new(Builtin::Text.name()) {
         Ok(name) => name,
         Err(_) => unreachable!(),
-    }
-}
-
-/// The name that a keyword has as that of a function.
-pub fn builtin_in(word: &Word) -> Option<Name>
-    ensures { result ≡ builtin_in word.now }
-{
-    match word {
-        Word::Mark(Mark::Text) => Some(text_name()),
-        _ => None,
-    }
-}
-
-/// A name that may be declared: that of no function that each contract may call.
-pub fn declared_in(word: &Word) -> Option<Name>
-    ensures { result ≡ declared_in word.now }
-{
-    match name_in(word) {
-        Some(name) if Builtin::of_name(&name).is_none() => Some(name),
-        _ => None,
     }
 }

@@ -23,8 +23,8 @@ use Rattle.contract_semantics.specs.Charges.{charge_of}
 use Rattle.contract_semantics.specs.Scenes.{Scene}
 use Rattle.contract_semantics.specs.Steps.{and_so}
 use Rattle.contract_semantics.specs.Reading.{key_of_text, int_in, text_in, of_kind, getting, having}
-use Rattle.contract_semantics.specs.Asking.{block_before, asked, version_asked, list_asked, item_asked, item_part_of, list_told, value_told, count_told}
-use Rattle.contract_semantics.specs.Builtins.{one_text, one_int, text_and_int, text_and_ints, with_args, version_value, item_value, version_part, count_part, item_part, built, called, applied}
+use Rattle.contract_semantics.specs.Asking.{block_before, answer_up_to, version_asked, list_asked, item_asked, item_part_of, list_told, value_told, count_told}
+use Rattle.contract_semantics.specs.Builtins.{one_text, one_int, text_and_int, text_and_ints, with_args, version_value, item_value, version_part, count_part, item_part, builtin_result, builtin_call, call_by_name}
 use Rattle.contract_laws.specs.Lookups.{Lookups, no_lookups, question_of, question_lookup, version_lookup, item_lookup, builtin_lookups, called_lookups, applied_lookups}
 use Rattle.contract_laws.proofs.Failures.{so_fails, args_fails, int_fails, text_fails, value_fails, block_fails, tx_fails, version_part_fails, count_part_fails, item_part_fails}
 use Rattle.contract_laws.proofs.Tame.{AsksBefore, no_questions, IsBad, Agree, Tame, tame_failed, tame_charged, moves_same, no_keys}
@@ -51,8 +51,8 @@ scanned s t kind (Ok key) (Err status) h = refl
 scanned s t kind (Err status) q h = refl
 
 -- the answer to a question is the same where the scenes agree on it
-asked_same : (s t : Scene) (reads : List Read) (kind : Kind) (text : List ℕ) (at : ℤ) → Agree s t (question_lookup (question_of s.site.number kind text at)) reads → asked t.rows t.site.number kind text at ≡ asked s.rows s.site.number kind text at
-asked_same s t reads kind text at a = ap (λ n. asked t.rows n kind text at) a.number ∙ scanned s t kind (key_of_text text) (block_before s.site.number at) a.history
+asked_same : (s t : Scene) (reads : List Read) (kind : Kind) (text : List ℕ) (at : ℤ) → Agree s t (question_lookup (question_of s.site.number kind text at)) reads → answer_up_to t.rows t.site.number kind text at ≡ answer_up_to s.rows s.site.number kind text at
+asked_same s t reads kind text at a = ap (λ n. answer_up_to t.rows n kind text at) a.number ∙ scanned s t kind (key_of_text text) (block_before s.site.number at) a.history
 
 question_meets : (r : Result Query TxStatus) → (question_lookup r).met ≡ []
 question_meets (Ok query) = refl
@@ -118,7 +118,7 @@ taken_item kind builtin bad args = taken_seen (λ s. item_part s.rows s.site.num
 
 -- ---- all builtins
 
-taken_built : (builtin : Builtin) (args : List Value) → TameTaken (λ s c. built s builtin args c) (λ s c. builtin_lookups s.site.number builtin args c)
+taken_built : (builtin : Builtin) (args : List Value) → TameTaken (λ s c. builtin_result s builtin args c) (λ s c. builtin_lookups s.site.number builtin args c)
 taken_built b.GetInt args = taken_args (one_text args) (λ text s c. of_kind int_in (getting s.place text c)) (taken_of_kind int_in int_fails)
 taken_built b.GetText args = taken_args (one_text args) (λ text s c. of_kind text_in (getting s.place text c)) (taken_of_kind text_in text_fails)
 taken_built b.Has args = taken_args (one_text args) (λ text s c. having s.place text c) taken_having
@@ -138,10 +138,10 @@ taken_built b.FwdKey args = taken_item Fwd b.FwdKey (λ dep. tt) args
 taken_built b.BackBlock args = taken_item Back b.BackBlock (λ dep. tt) args
 taken_built b.FwdBlock args = taken_item Fwd b.FwdBlock (λ dep. tt) args
 
-tame_called : (o : Option Builtin) (args : List Value) → Tame (λ s m. called s o args m) (λ s m. called_lookups s o args m)
+tame_called : (o : Option Builtin) (args : List Value) → Tame (λ s m. builtin_call s o args m) (λ s m. called_lookups s o args m)
 tame_called None args = tame_failed Value WrongKind refl
 tame_called (Some builtin) args = tame_charged (charge_of builtin) (tame_taken (taken_built builtin args))
 
-pub tame_applied : (name : List ℕ) (args : List Value) → Tame (λ s m. applied s name args m) (λ s m. applied_lookups s name args m)
-unfolding applied applied_lookups
+pub tame_applied : (name : List ℕ) (args : List Value) → Tame (λ s m. call_by_name s name args m) (λ s m. applied_lookups s name args m)
+unfolding call_by_name applied_lookups
 tame_applied name args = tame_called (builtin_of name) args

@@ -11,7 +11,7 @@ use Rattle.std.proofs.lemmas.List.Quantifiers.{position-Some}
 use Rattle.lc_base.specs.Deps.{is_same_dep, without_repeats}
 use Rattle.lc_base.specs.declared.row.Dep.{Dep}
 use Rattle.dep_capture.specs.Captured.{WasBacked}
-use Rattle.dep_capture.specs.Capture.{was_put, place_of, read_of, dep_of_read, dep_named, deps_of, with_put_at, with_put}
+use Rattle.dep_capture.specs.Capture.{was_put, index_of, read_of, dep_of_read, dep_named, deps_of, with_put_at, with_put}
 use Rattle.dep_capture.specs.declared.access.Read.{Read}
 use Rattle.dep_capture.specs.declared.access.Put.{Put}
 
@@ -62,7 +62,7 @@ put_at_all P puts None put h k = All-push P puts put k h
 put_at_all P puts (Some i) put h k = All-set P puts i put h k
 
 pub with_put_all : (P : Put → Type 0) (puts : List Put) (put : Put) → P put → All P puts → All P (with_put puts put)
-with_put_all P puts put h k = put_at_all P puts (place_of puts put.key) put h k
+with_put_all P puts put h k = put_at_all P puts (index_of puts put.key) put h k
 
 any-set : {X : Type 0} (q : X → Bool) (xs : List X) (i : ℕ) (y d : X) → q y ≡ q (get_or xs i d) → list_any q (set xs i y) ≡ list_any q xs
 any-set q [] i y d e = refl
@@ -73,18 +73,18 @@ abbrev has_key : List ℕ → Put → Bool
 has_key key put = pointwise ◌==◌ put.key key
 
 -- the put at the place of a key has that key
-at_place : (puts : List Put) (put : Put) (i : ℕ) → place_of puts put.key ≡ Some i → put.key ≡ (get_or puts i put).key
+at_place : (puts : List Put) (put : Put) (i : ℕ) → index_of puts put.key ≡ Some i → put.key ≡ (get_or puts i put).key
 at_place puts put i e = sym ((bytes_decides (get_or puts i put).key put.key).0 (position-Some (has_key put.key) puts i put e).1)
 
-put_at_keeps : (puts : List Put) (put : Put) (key : List ℕ) (o : Option ℕ) → place_of puts put.key ≡ o → was_put puts key ≡ true → was_put (with_put_at puts o put) key ≡ true
+put_at_keeps : (puts : List Put) (put : Put) (key : List ℕ) (o : Option ℕ) → index_of puts put.key ≡ o → was_put puts key ≡ true → was_put (with_put_at puts o put) key ≡ true
 put_at_keeps puts put key None e h = list_any-append (has_key key) puts (put ∷ []) ∙ or_left _ _ h
 put_at_keeps puts put key (Some i) e h = any-set (has_key key) puts i put put (ap (λ k. pointwise ◌==◌ k key) (at_place puts put i e)) ∙ h
 
 -- what was put is put still
 pub put_keeps_key : (puts : List Put) (put : Put) (key : List ℕ) → was_put puts key ≡ true → was_put (with_put puts put) key ≡ true
-put_keeps_key puts put key h = put_at_keeps puts put key (place_of puts put.key) refl h
+put_keeps_key puts put key h = put_at_keeps puts put key (index_of puts put.key) refl h
 
-put_at_has : (puts : List Put) (put : Put) (o : Option ℕ) → place_of puts put.key ≡ o → was_put (with_put_at puts o put) put.key ≡ true
+put_at_has : (puts : List Put) (put : Put) (o : Option ℕ) → index_of puts put.key ≡ o → was_put (with_put_at puts o put) put.key ≡ true
 put_at_has puts put None e = list_any-append (has_key put.key) puts (put ∷ []) ∙ or_right _ _ (or_left _ _ (nat_list_eq_equiv.refl put.key))
 put_at_has puts put (Some i) e =
     any-set (has_key put.key) puts i put put (ap (λ k. pointwise ◌==◌ k put.key) (at_place puts put i e))
@@ -92,4 +92,4 @@ put_at_has puts put (Some i) e =
 
 -- the key of a put is put
 pub put_has_key : (puts : List Put) (put : Put) → was_put (with_put puts put) put.key ≡ true
-put_has_key puts put = put_at_has puts put (place_of puts put.key) refl
+put_has_key puts put = put_at_has puts put (index_of puts put.key) refl

@@ -15,7 +15,7 @@ use Rattle.dep_capture.specs.declared.access.Put.{Put}
 use Rattle.contract_semantics.specs.Scenes.{Scene}
 use Rattle.contract_semantics.specs.Steps.{Machine, machine, Step, Done, Failed}
 use Rattle.contract_semantics.specs.Statements.{Ending, statements_run}
-use Rattle.contract_semantics.specs.Calls.{CallResult, are_arguments, bound, function_of_name, call_ended, function_run, function_called, call_result}
+use Rattle.contract_semantics.specs.Calls.{CallResult, are_arguments, first_variables, function_of_name, call_ended, function_run, function_called, call_result}
 use Rattle.contract_laws.specs.Lookups.{Lookups}
 use Rattle.contract_laws.specs.CallLookups.{statements_lookups, function_lookups, call_lookups, keys_met}
 use Rattle.contract_laws.specs.Laws.{QuestionsAreOfBlocksBefore, IsOwnAndUnwritten, PutsAreOwnAndUnwritten, FailuresAreNotOk}
@@ -46,7 +46,7 @@ called_asks : (s : Scene) (args : List Value) (o : Option FunctionTree) → Asks
 called_asks s args None = no_questions s
 called_asks s args (Some function) =
     let m : Machine = machine s.site.budget captured_none in
-    let variables = bound function.params args in
+    let variables = first_variables function.params args in
     fit_asks s (statements_lookups s function.body variables m) (are_arguments function.params args) ((tame_statements function.body variables).asks s m)
 
 pub questions_are_of_blocks_before : QuestionsAreOfBlocksBefore
@@ -73,7 +73,7 @@ called_meets : (s : Scene) (args : List Value) (o : Option FunctionTree) → Mee
 called_meets s args None = λ well. All-nil (IsUsedAndUnwritten s captured_none)
 called_meets s args (Some function) =
     let m : Machine = machine s.site.budget captured_none in
-    let variables = bound function.params args in
+    let variables = first_variables function.params args in
     let tame = tame_statements function.body variables in
     fit_meets s (function_run s function args) (statements_lookups s function.body variables m) (are_arguments function.params args)
     (step_meets s s.site.budget (statements_run s function.body variables m) (statements_lookups s function.body variables m) (tame.clear s m) (tame.fails s m))
@@ -111,19 +111,29 @@ apart_key written c apart key used = ⊎_elim
 pub reads_and_puts_are_complete : ReadsAndPutsAreComplete
 reads_and_puts_are_complete functions s t args well site hold answer apart =
     let c : Captured = (call_result functions s args).capture in
-    what_is_recorded_is_complete functions s t args site hold answer
-    (each_of (λ key. t.place.written key ≡ s.place.written key) (keys_met functions s args) (λ key there.
-    let h = All-contains (IsUsedAndUnwritten s c) (keys_met functions s args) key (keys_met_are_read_or_put functions s args well) there in
-    apart_key t.place.written c apart key h.used ∙ sym h.unwritten))
+    what_is_recorded_is_complete functions s t args site (
+      hold,
+      (
+        answer,
+        each_of (λ key. t.place.written key ≡ s.place.written key) (keys_met functions s args) (λ key there.
+            let h = All-contains (IsUsedAndUnwritten s c) (keys_met functions s args) key (keys_met_are_read_or_put functions s args well) there in
+            apart_key t.place.written c apart key h.used ∙ sym h.unwritten),
+      ),
+    )
 
 pub puts_of_others_change_nothing : PutsOfOthersChangeNothing
 puts_of_others_change_nothing functions s args others well apart =
     let t : Scene = after_puts others s in
     let c : Captured = (call_result functions s args).capture in
-    what_is_recorded_is_complete functions s t args refl (λ k d lt. refl) (λ k d lt. refl)
-    (each_of (λ key. t.place.written key ≡ s.place.written key) (keys_met functions s args) (λ key there.
-    let h = All-contains (IsUsedAndUnwritten s c) (keys_met functions s args) key (keys_met_are_read_or_put functions s args well) there in
-    ap₂ (λ a b. a || b) h.unwritten (apart_key (was_put others) c apart key h.used) ∙ sym h.unwritten))
+    what_is_recorded_is_complete functions s t args refl (
+      λ k d lt. refl,
+      (
+        λ k d lt. refl,
+        each_of (λ key. t.place.written key ≡ s.place.written key) (keys_met functions s args) (λ key there.
+            let h = All-contains (IsUsedAndUnwritten s c) (keys_met functions s args) key (keys_met_are_read_or_put functions s args well) there in
+            ap₂ (λ a b. a || b) h.unwritten (apart_key (was_put others) c apart key h.used) ∙ sym h.unwritten),
+      ),
+    )
 
 -- ---- two calls
 
@@ -146,10 +156,15 @@ calls_can_be_exchanged functions functions' s site' args args' well well' apart 
     let here : Scene = with_site site' s in
     let t : Scene = after_puts first.capture.puts here in
     let second : CallResult = call_result functions' t args' in (
-      what_is_recorded_is_complete functions' t here args' refl (λ k d lt. refl) (λ k d lt. refl)
-          (each_of (λ key. here.place.written key ≡ t.place.written key) (keys_met functions' t args') (λ key there.
-          let h = All-contains (IsUsedAndUnwritten t second.capture) (keys_met functions' t args') key (keys_met_are_read_or_put functions' t args' well') there in
-          (neither (s.place.written key) (was_put first.capture.puts key) h.unwritten).0 ∙ sym h.unwritten)),
+      what_is_recorded_is_complete functions' t here args' refl (
+        λ k d lt. refl,
+        (
+          λ k d lt. refl,
+          each_of (λ key. here.place.written key ≡ t.place.written key) (keys_met functions' t args') (λ key there.
+              let h = All-contains (IsUsedAndUnwritten t second.capture) (keys_met functions' t args') key (keys_met_are_read_or_put functions' t args' well') there in
+              (neither (s.place.written key) (was_put first.capture.puts key) h.unwritten).0 ∙ sym h.unwritten),
+        ),
+      ),
       puts_of_others_change_nothing functions s args second.capture.puts well (record {
         reads = apart;
         puts = each_of (λ (put : Put). was_put second.capture.puts put.key ≡ false) first.capture.puts (λ put there. put_once functions' here first.capture.puts args' put.key (list_any-from_Any (λ (other : Put). pointwise ◌==◌ other.key put.key) first.capture.puts (there.0, put, there.1, there.2, nat_list_eq_equiv.refl put.key)));

@@ -23,10 +23,10 @@ use Rattle.dep_capture.specs.declared.error.CaptureError.{CaptureError}
 use Rattle.dep_capture.specs.declared.error.CaptureError.TheVariants as errors
 use Rattle.contract_semantics.specs.declared.variable.Variable.{Variable}
 use Rattle.contract_semantics.specs.Numbers.{fits, is_zero, in_range, quotient, remainder}
-use Rattle.contract_semantics.specs.Operators.{as_int, as_text, on_ints, on_texts, combined, prefixed}
+use Rattle.contract_semantics.specs.Operators.{as_int, as_text, on_ints, on_texts, binary_result, prefix_result}
 use Rattle.contract_semantics.specs.Steps.{and_so}
 use Rattle.contract_semantics.specs.Reading.{good_key, key_of_text, int_in, text_in}
-use Rattle.contract_semantics.specs.Asking.{block_before, asked, version_asked, list_asked, item_asked, item_part_of, list_told, value_told, block_told, tx_told, count_told, item_told, item_of}
+use Rattle.contract_semantics.specs.Asking.{block_before, answer_up_to, version_asked, list_asked, item_asked, item_part_of, list_told, value_told, block_told, tx_told, count_told, item_told, item_of}
 use Rattle.contract_semantics.specs.Builtins.{text_and_int, text_and_ints, with_args, version_value, item_value, version_part, count_part, item_part}
 use Rattle.contract_semantics.specs.Expressions.{value_found}
 use Rattle.contract_semantics.specs.Puts.{key_in, keys_in, named_keys, put_recorded}
@@ -93,13 +93,13 @@ texts_fails signs.Slash a b = refl
 texts_fails signs.Percent a b = refl
 texts_fails signs.Not a b = refl
 
-pub combined_fails : (sign : Sign) (a b : Value) → IsBad (combined sign a b)
+pub combined_fails : (sign : Sign) (a b : Value) → IsBad (binary_result sign a b)
 combined_fails sign (values.Int a) (values.Int b) = ints_fails sign a b
 combined_fails sign (values.Text a) (values.Text b) = texts_fails sign a b
 combined_fails sign (values.Int a) (values.Text b) = refl
 combined_fails sign (values.Text a) (values.Int b) = refl
 
-pub prefixed_fails : (sign : Sign) (value : Value) → IsBad (prefixed sign value)
+pub prefixed_fails : (sign : Sign) (value : Value) → IsBad (prefix_result sign value)
 prefixed_fails signs.Or value = refl
 prefixed_fails signs.And value = refl
 prefixed_fails signs.Equal value = refl
@@ -143,7 +143,7 @@ block_before_fails : (number : ℕ) (at : ℤ) → IsBad (block_before number at
 block_before_fails number (pos n) = either_fails (nat_lt n number) (Ok n) (Err statuses.BadBlock) tt refl
 block_before_fails number (negsuc n) = refl
 
-asked_fails : (rows : List Row) (number : ℕ) (kind : Kind) (text : List ℕ) (at : ℤ) → IsBad (asked rows number kind text at)
+asked_fails : (rows : List Row) (number : ℕ) (kind : Kind) (text : List ℕ) (at : ℤ) → IsBad (answer_up_to rows number kind text at)
 asked_fails rows number kind text at = so_fails (key_of_text text) (λ key. and_so (block_before number at) (λ block. Ok (scan rows (question kind key block)))) (key_fails text)
     (λ key. so_fails (block_before number at) (λ block. Ok (scan rows (question kind key block))) (block_before_fails number at) (λ block. tt))
 
@@ -152,7 +152,7 @@ list_told_fails None = refl
 list_told_fails (Some deps) = tt
 
 list_asked_fails : (rows : List Row) (number : ℕ) (kind : Kind) (text : List ℕ) (at : ℤ) → IsBad (list_asked rows number kind text at)
-list_asked_fails rows number kind text at = so_fails (asked rows number kind text at) (λ answer. list_told (list_in answer)) (asked_fails rows number kind text at) (λ answer. list_told_fails (list_in answer))
+list_asked_fails rows number kind text at = so_fails (answer_up_to rows number kind text at) (λ answer. list_told (list_in answer)) (asked_fails rows number kind text at) (λ answer. list_told_fails (list_in answer))
 
 pub value_fails : (o : Option Version) → IsBad (value_told o)
 value_fails None = refl
@@ -180,13 +180,13 @@ args_fails (Some x) next h = h x
 
 pub version_part_fails : (rows : List Row) (number : ℕ) (builtin : Builtin) → ((version : Option Version) → IsBad (version_value builtin version)) → (args : List Value) → IsBad (version_part rows number builtin args)
 version_part_fails rows number builtin bad args = args_fails (text_and_int args) _ (λ arg. so_fails (version_asked rows number arg.0 arg.1) (version_value builtin)
-    (so_fails (asked rows number Hist arg.0 arg.1) (λ answer. Ok (version_in answer)) (asked_fails rows number Hist arg.0 arg.1) (λ answer. tt)) bad)
+    (so_fails (answer_up_to rows number Hist arg.0 arg.1) (λ answer. Ok (version_in answer)) (asked_fails rows number Hist arg.0 arg.1) (λ answer. tt)) bad)
 
 pub count_part_fails : (rows : List Row) (number : ℕ) (kind : Kind) (args : List Value) → IsBad (count_part rows number kind args)
 count_part_fails rows number kind args = args_fails (text_and_int args) _ (λ arg. so_fails (list_asked rows number kind arg.0 arg.1) count_told (list_asked_fails rows number kind arg.0 arg.1) (λ deps. tt))
 
 item_asked_fails : (rows : List Row) (number : ℕ) (kind : Kind) (text : List ℕ) (at index : ℤ) → IsBad (item_asked rows number kind text at index)
-item_asked_fails rows number kind text at index = so_fails (asked rows number kind text at) (λ answer. item_part_of answer index) (asked_fails rows number kind text at)
+item_asked_fails rows number kind text at index = so_fails (answer_up_to rows number kind text at) (λ answer. item_part_of answer index) (asked_fails rows number kind text at)
     (λ answer. so_fails (list_told (list_in answer)) (λ deps. item_of deps index) (list_told_fails (list_in answer)) (λ deps. item_of_fails deps index))
 
 pub item_part_fails : (rows : List Row) (number : ℕ) (kind : Kind) (builtin : Builtin) → ((dep : Dep) → IsBad (item_value builtin dep)) → (args : List Value) → IsBad (item_part rows number kind builtin args)

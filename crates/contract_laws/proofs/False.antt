@@ -13,7 +13,7 @@ use Rattle.contract_tree.specs.Tree as tree
 use Rattle.dep_capture.specs.declared.access.Read.{Read}
 use Rattle.contract_semantics.specs.declared.site.CallSite.{CallSite}
 use Rattle.contract_semantics.specs.Scenes.{Scene, scene_of}
-use Rattle.contract_semantics.specs.Builtins.{applied}
+use Rattle.contract_semantics.specs.Builtins.{call_by_name}
 use Rattle.contract_semantics.specs.Calls.{CallResult, call_result}
 use Rattle.contract_laws.specs.Lookups.{applied_lookups}
 use Rattle.contract_laws.specs.CallLookups.{questions_of, call_lookups}
@@ -58,26 +58,26 @@ differ : (functions : List FunctionTree) (s t : Scene) → ends_well functions s
 differ functions s t well ill same = true≢false (sym well ∙ sym (ap (λ (run : CallResult). ended_well run.outcome.status) same) ∙ ill)
 
 well_without : ends_well fails_with_key (over []) ≡ true
-unfolding call_result applied builtin_of
+unfolding call_result call_by_name builtin_of
 well_without = refl
 
 ill_with : ends_well fails_with_key (over (row (pos 7) ∷ [])) ≡ false
-unfolding call_result applied builtin_of
+unfolding call_result call_by_name builtin_of
 ill_with = refl
 
 one_read : drop 1 (call_result fails_with_key (over []) []).capture.reads ≡ []
-unfolding call_result applied builtin_of
+unfolding call_result call_by_name builtin_of
 one_read = refl
 
 nothing_asked : questions_of fails_with_key (over []) [] ≡ []
-unfolding call_lookups applied_lookups applied builtin_of
+unfolding call_lookups applied_lookups call_by_name builtin_of
 nothing_asked = refl
 
 pub all_reads_but_one_are_not_complete : AllReadsButOneAreComplete → ⊥
 all_reads_but_one_are_not_complete law =
     let t : Scene = over (row (pos 7) ∷ []) in
     differ fails_with_key (over []) t well_without ill_with
-    (law fails_with_key (over []) t [] refl (nothing_held (over []) t _ one_read) (nothing_answered (over []) t _ nothing_asked) (λ k d lt. refl))
+    (law fails_with_key (over []) t [] refl (nothing_held (over []) t _ one_read, (nothing_answered (over []) t _ nothing_asked, λ k d lt. refl)))
 
 -- ---- rows may answer otherwise
 
@@ -86,22 +86,22 @@ abbrev fails_with_past : List FunctionTree
 fails_with_past = one_function (statements (If 0 (tree.Call 0 (codes "hist_int") (more (tree.Text 0 (codes "k")) (more (tree.Int 0 (pos 0)) none))) (statements (Fail 0) no_statement)) no_statement)
 
 well_over_0 : ends_well fails_with_past (over (row (pos 0) ∷ [])) ≡ true
-unfolding call_result applied builtin_of
+unfolding call_result call_by_name builtin_of
 well_over_0 = refl
 
 ill_over_1 : ends_well fails_with_past (over (row (pos 1) ∷ [])) ≡ false
-unfolding call_result applied builtin_of
+unfolding call_result call_by_name builtin_of
 ill_over_1 = refl
 
 nothing_read : (call_result fails_with_past (over (row (pos 0) ∷ [])) []).capture.reads ≡ []
-unfolding call_result applied builtin_of
+unfolding call_result call_by_name builtin_of
 nothing_read = refl
 
 pub questions_matter : QuestionsDoNotMatter → ⊥
 questions_matter law =
     let s : Scene = over (row (pos 0) ∷ []) in
     let t : Scene = over (row (pos 1) ∷ []) in
-    differ fails_with_past s t well_over_0 ill_over_1 (law fails_with_past s t [] refl (nothing_held s t _ nothing_read) (λ k d lt. refl))
+    differ fails_with_past s t well_over_0 ill_over_1 (law fails_with_past s t [] refl (nothing_held s t _ nothing_read, λ k d lt. refl))
 
 -- ---- keys that were met may be written
 
@@ -123,4 +123,4 @@ ill_written = refl
 pub keys_met_matter : KeysMetDoNotMatter → ⊥
 keys_met_matter law =
     differ puts_key (writing false) (writing true) well_unwritten ill_written
-    (law puts_key (writing false) (writing true) [] refl (λ k d lt. refl) (λ k d lt. refl))
+    (law puts_key (writing false) (writing true) [] refl (λ k d lt. refl, λ k d lt. refl))

@@ -5,7 +5,7 @@ use Rattle.std.proofs.lemmas.Bool.Decides.{nat_tests}
 use Rattle.lc_base.specs.declared.tx_status.TxStatus.TheVariants.{OutOfSteps}
 use Rattle.contract_semantics.specs.declared.variable.Variable.{Variable}
 use Rattle.contract_semantics.specs.Scenes.{Scene}
-use Rattle.contract_semantics.specs.Steps.{Machine, Step, Done, Failed, after, and_then, charged}
+use Rattle.contract_semantics.specs.Steps.{Machine, Step, Done, Failed, after, and_then, after_charge}
 use Rattle.contract_semantics.specs.Statements.{Ending, Turn, Again, Ended, after_turn, turns}
 use Rattle.contract_laws.specs.Lookups.{Lookups}
 use Rattle.contract_laws.specs.CallLookups.{after_turn_lookups, turns_lookups}
@@ -81,5 +81,5 @@ pub charge_lowers : {A B : Type 0} (f : Machine → Step A) (g : A → Machine �
 charge_lowers f g h k m true e = lowered_by m.left (and_then (f (paid 1 m)) g) (grind (arith, nat_tests)) (then_lowers (f (paid 1 m)) g (m.left - 1) k (h (paid 1 m)))
 charge_lowers f g h k m false e = tt
 
-pub charge_ends : {A B : Type 0} (f : Machine → Step A) (g : A → Machine → Step B) (m : Machine) → m.left ≡ 0 → and_then (charged 1 m f) g ≡ Failed OutOfSteps m
+pub charge_ends : {A B : Type 0} (f : Machine → Step A) (g : A → Machine → Step B) (m : Machine) → m.left ≡ 0 → and_then (after_charge 1 m f) g ≡ Failed OutOfSteps m
 charge_ends f g m e = rw e

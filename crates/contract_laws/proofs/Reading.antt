@@ -20,7 +20,7 @@ use Rattle.world_state.specs.declared.held.Held.{Held}
 use Rattle.contract_semantics.specs.Numbers.{truth}
 use Rattle.contract_semantics.specs.Scenes.{Scene}
 use Rattle.contract_semantics.specs.Steps.{Machine, after}
-use Rattle.contract_semantics.specs.Reading.{Taken, and_read, key_of_text, block_of, value_of_version, recorded, value_got, is_held, of_kind, getting, having}
+use Rattle.contract_semantics.specs.Reading.{Taken, and_read, key_of_text, block_of, value_of_version, read_result, value_got, is_held, of_kind, getting, having}
 use Rattle.contract_semantics.specs.Builtins.{reading_args, taken_step}
 use Rattle.contract_laws.specs.Lookups.{Lookups, no_lookups, one_met, unput_lookup, key_lookup, read_lookup}
 use Rattle.contract_laws.proofs.Failures.{key_fails}
@@ -114,7 +114,7 @@ moves_read s c key =
 
 abbrev read_by : Bool → Bool → Bool → Option Held → List ℕ → (Option Held → Result Value TxStatus) → Captured → Taken
 read_by written known full held key gives c =
-    and_read (if written then Err Conflict else recorded (if known then Ok c else (if full then Err errors.TooMany else Ok (with_read c key held)))) c (λ c. (gives held, c))
+    and_read (if written then Err Conflict else read_result (if known then Ok c else (if full then Err errors.TooMany else Ok (with_read c key held)))) c (λ c. (gives held, c))
 
 read_told : (s : Scene) (c : Captured) (key : List ℕ) (gives : Option Held → Result Value TxStatus) (written known full : Bool) → s.place.written key ≡ written → was_read c.reads key ≡ known
     → ToldTaken s c (λ t. read_by (t.place.written key) known full (t.place.newest key) key gives c) (λ t. one_met key) (read_by written known full (s.place.newest key) key gives c) (one_met key)

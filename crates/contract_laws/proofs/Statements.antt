@@ -9,7 +9,7 @@ use Rattle.contract_semantics.specs.Operators.{holds}
 use Rattle.contract_semantics.specs.Scenes.{Scene}
 use Rattle.contract_semantics.specs.Puts.{key_in}
 use Rattle.contract_semantics.specs.Steps.{Machine, Step, Done, and_then}
-use Rattle.contract_semantics.specs.Statements.{Ending, Goes, Returns, Again, Ended, unless_returned, block_ended, declared, assigned, tested, turn_again, loop_turn, parts_values, put_run, statement_run, statements_run}
+use Rattle.contract_semantics.specs.Statements.{Ending, Goes, Returns, Again, Ended, unless_returned, block_ended, with_variable, with_assignment, condition_step, turn_again, loop_turn, parts_values, put_run, statement_run, statements_run}
 use Rattle.contract_laws.specs.Lookups.{Lookups, no_lookups}
 use Rattle.contract_laws.specs.CallLookups.{unless_returned_lookups, tested_lookups, turn_lookups, parts_lookups, put_lookups, statement_lookups, statements_lookups}
 use Rattle.contract_laws.proofs.Tame.{Tame, tame_done, tame_failed, tame_charged, tame_charged_quiet, tame_then, tame_then_quiet, tame_if}
@@ -31,7 +31,7 @@ tame_turn_again : (ending : Ending) → Tame (λ s m. turn_again ending m) (λ s
 tame_turn_again (Goes variables) = tame_done (Again variables)
 tame_turn_again Returns = tame_done (Ended Returns)
 
-pub tame_condition : (test : Tree) (variables : List Variable) → Tame (λ s m. tested s test variables m) (λ s m. tested_lookups s test variables m)
+pub tame_condition : (test : Tree) (variables : List Variable) → Tame (λ s m. condition_step s test variables m) (λ s m. tested_lookups s test variables m)
 tame_condition test variables = tame_charged CHARGE_NODE (tame_then_quiet (tame_value variables test) (λ value. tame_done (holds value)))
 
 -- the rest of a turn, once its condition is known
@@ -55,8 +55,8 @@ tame_put key value parts variables = tame_charged CHARGE_NODE (tame_then (tame_v
 
 mutual
   pub tame_statement : (x : StatementTree) (variables : List Variable) → Tame (λ s m. statement_run s x variables m) (λ s m. statement_lookups s x variables m)
-  tame_statement (tree.Let at name_at name value) variables = tame_charged CHARGE_NODE (tame_then_quiet (tame_value variables value) (λ value. tame_done (Goes (declared variables name value))))
-  tame_statement (tree.Assign at name value) variables = tame_charged CHARGE_NODE (tame_then_quiet (tame_value variables value) (λ value. tame_done (Goes (assigned variables name value))))
+  tame_statement (tree.Let at name_at name value) variables = tame_charged CHARGE_NODE (tame_then_quiet (tame_value variables value) (λ value. tame_done (Goes (with_variable variables name value))))
+  tame_statement (tree.Assign at name value) variables = tame_charged CHARGE_NODE (tame_then_quiet (tame_value variables value) (λ value. tame_done (Goes (with_assignment variables name value))))
   tame_statement (tree.If at test first) variables = tame_then (tame_condition test variables)
       (λ chosen. tame_if chosen (tame_then_quiet (tame_statements first variables) (tame_block_ended variables)) (tame_done (Goes variables)))
   tame_statement (tree.IfElse at test first second) variables = tame_then (tame_condition test variables)

@@ -18,10 +18,10 @@ use Rattle.dep_capture.specs.declared.access.Read.{Read}
 use Rattle.dep_capture.specs.declared.access.Put.{Put}
 use Rattle.contract_semantics.specs.Scenes.{Scene}
 use Rattle.contract_semantics.specs.Reading.{block_of}
-use Rattle.contract_semantics.specs.Steps.{Machine, Step, Done, Failed, after, and_then, charged, given}
+use Rattle.contract_semantics.specs.Steps.{Machine, Step, Done, Failed, after, and_then, after_charge, step_of_result}
 use Rattle.contract_semantics.specs.Expressions.{unless_decided}
 use Rattle.contract_laws.specs.Laws.{IsOwnAndUnwritten}
-use Rattle.contract_laws.specs.Lookups.{Lookups, no_lookups, joined, then_lookups, charged_lookups, undecided_lookups}
+use Rattle.contract_laws.specs.Lookups.{Lookups, no_lookups, lookups_of_both, then_lookups, charged_lookups, undecided_lookups}
 
 -- ---- what a step does to a capture
 
@@ -78,7 +78,7 @@ pub record Agree (s t : Scene) (lookups : Lookups) (reads : List Read) : Type 0 
   pub history : (query : Query) → Contains lookups.asked query → scan t.rows query ≡ scan s.rows query
   pub written : (key : List ℕ) → Contains lookups.met key → t.place.written key ≡ s.place.written key
 
-pub agree_first : {s t : Scene} (l k : Lookups) (xs ys : List Read) → Grows xs ys → Agree s t (joined l k) ys → Agree s t l xs
+pub agree_first : {s t : Scene} (l k : Lookups) (xs ys : List Read) → Grows xs ys → Agree s t (lookups_of_both l k) ys → Agree s t l xs
 agree_first l k xs ys g a = record {
   number = a.number;
   contract = a.contract;
@@ -88,7 +88,7 @@ agree_first l k xs ys g a = record {
   written = λ key h. a.written key (Contains-append_left l.met k.met key h);
 }
 
-pub agree_second : {s t : Scene} (l k : Lookups) (xs : List Read) → Agree s t (joined l k) xs → Agree s t k xs
+pub agree_second : {s t : Scene} (l k : Lookups) (xs : List Read) → Agree s t (lookups_of_both l k) xs → Agree s t k xs
 agree_second l k xs a = record {
   number = a.number;
   contract = a.contract;
@@ -124,7 +124,7 @@ or_both false b c d f g h = or_right c d (g h)
 pub clear_later : (s : Scene) (lookups : Lookups) (b c : Captured) → Moves s b c → AreClear s lookups b → AreClear s lookups c
 clear_later s lookups b c moves h key there = ((h key there).0, or_both _ _ _ _ (still_read b.reads c.reads key moves.reads) (moves.puts key) (h key there).1)
 
-pub clear_both : (s : Scene) (l k : Lookups) (c : Captured) → AreClear s l c → AreClear s k c → AreClear s (joined l k) c
+pub clear_both : (s : Scene) (l k : Lookups) (c : Captured) → AreClear s l c → AreClear s k c → AreClear s (lookups_of_both l k) c
 clear_both s l k c h j key there = ⊎_elim (h key) (j key) (Contains-append_cases l.met k.met key there)
 
 -- ---- larger budgets
@@ -201,7 +201,7 @@ tame_failed A status bad = record {
   asks = λ s m. no_questions s;
 }
 
-pub tame_given : {A : Type 0} (r : Result A TxStatus) → IsBad r → Tame (λ s m. given r m) (λ s m. no_lookups)
+pub tame_given : {A : Type 0} (r : Result A TxStatus) → IsBad r → Tame (λ s m. step_of_result r m) (λ s m. no_lookups)
 tame_given (Ok x) bad = tame_done x
 tame_given {A} (Err status) bad = tame_failed A status bad
 
@@ -234,7 +234,7 @@ charged_lowers n f m true h = omega (arith, h)
 charged_lowers n f m false h = le_refl m.left
 
 charged_scales : {A : Type 0} (n k : ℕ) (f : Machine → Step A) (m : Machine) (b : Bool) → nat_le n m.left ≡ b → (ran_out (f (paid n m)) ≡ false → f (richer k (paid n m)) ≡ raised k (f (paid n m)))
-    → ran_out (charge_by b n m f) ≡ false → charged n (richer k m) f ≡ raised k (charge_by b n m f)
+    → ran_out (charge_by b n m f) ≡ false → after_charge n (richer k m) f ≡ raised k (charge_by b n m f)
 charged_scales n k f m true e h o = rw (still_enough n k m.left e, what_is_left n k m.left e) (h o)
 charged_scales n k f m false e h o = absurd (true≢false o)
 
@@ -251,7 +251,7 @@ charged_fails : {A : Type 0} (n : ℕ) (f : Machine → Step A) (m : Machine) (b
 charged_fails n f m true h = h
 charged_fails n f m false h = refl
 
-pub tame_charged : {A : Type 0} (n : ℕ) {f : Scene → Machine → Step A} {look : Scene → Machine → Lookups} → Tame f look → Tame (λ s m. charged n m (f s)) (λ s m. charged_lookups n m (look s))
+pub tame_charged : {A : Type 0} (n : ℕ) {f : Scene → Machine → Step A} {look : Scene → Machine → Lookups} → Tame f look → Tame (λ s m. after_charge n m (f s)) (λ s m. charged_lookups n m (look s))
 tame_charged {A} n {f} {look} h = record {
   told = λ s m. charged_told n f look s m (nat_le n m.left) (h.told s (paid n m));
   lowers = λ s m. charged_lowers n (f s) m (nat_le n m.left) (h.lowers s (paid n m));
@@ -286,7 +286,7 @@ tame_as {A} {f} {look} look' e h = record {
   asks = λ s m. subst (AsksBefore s) (e s m) (h.asks s m);
 }
 
-pub tame_charged_quiet : {A : Type 0} (n : ℕ) {f : Scene → Machine → Step A} → Tame f (λ s m. no_lookups) → Tame (λ s m. charged n m (f s)) (λ s m. no_lookups)
+pub tame_charged_quiet : {A : Type 0} (n : ℕ) {f : Scene → Machine → Step A} → Tame f (λ s m. no_lookups) → Tame (λ s m. after_charge n m (f s)) (λ s m. no_lookups)
 tame_charged_quiet n h = tame_as (λ s m. no_lookups) (λ s m. quiet_by (nat_le n m.left) n m) (tame_charged n h)
 
 -- ---- one step after another
@@ -303,7 +303,7 @@ then_told s m again look g next h (Done x n) lookups k =
           let first = k.1 t (agree_first lookups (next x s n) n.capture.reads later.reads l.0.reads a) in
           let second = l.1 t (agree_second lookups (next x s n) later.reads a) in (
             ap (λ step. and_then step (λ x m. g x t m)) first.0 ∙ second.0,
-            ap₂ (λ look step. then_lookups look step (λ x m. next x t m)) first.1 first.0 ∙ ap (joined lookups) second.1,
+            ap₂ (λ look step. then_lookups look step (λ x m. next x t m)) first.1 first.0 ∙ ap (lookups_of_both lookups) second.1,
           ),
     )
 then_told s m again look g next h (Failed status n) lookups k = (
@@ -323,7 +323,7 @@ pub then_scales : {A B : Type 0} (k : ℕ) (step step' : Step A) (g g' : A → M
 then_scales k (Done x n) step' g g' h j o = ap (λ step. and_then step g') (h refl) ∙ j x n o
 then_scales k (Failed status n) step' g g' h j o = ap (λ step. and_then step g') (h o)
 
-last_clear : {B : Type 0} (s : Scene) (l k : Lookups) (b : Captured) (step : Step B) → Moves s b (after step).capture → AreClear s l b → EndsClear s k step → EndsClear s (joined l k) step
+last_clear : {B : Type 0} (s : Scene) (l k : Lookups) (b : Captured) (step : Step B) → Moves s b (after step).capture → AreClear s l b → EndsClear s k step → EndsClear s (lookups_of_both l k) step
 last_clear s l k b (Done y n) moves h j = clear_both s l k n.capture (clear_later s l b n.capture moves h) j
 last_clear s l k b (Failed status n) moves h j = tt
 
@@ -353,7 +353,7 @@ tame_then {A} {B} {f} {look} {g} {next} h j = record {
 }
 
 -- where the second step looks nothing up
-joined_none : (l : Lookups) → joined l no_lookups ≡ l
+joined_none : (l : Lookups) → lookups_of_both l no_lookups ≡ l
 joined_none l = ap₂ (λ asked met. record { asked = asked; met = met }) (append-nil l.asked) (append-nil l.met)
 
 last_quiet : {A : Type 0} (l : Lookups) (step : Step A) → then_lookups l step (λ x m. no_lookups) ≡ l

@@ -26,7 +26,7 @@ use Rattle.contract_semantics.specs.Reading.{block_of}
 use Rattle.contract_semantics.specs.Steps.{Machine, machine, Step, Done, Failed, after, and_then}
 use Rattle.contract_semantics.specs.Expressions.{value_of}
 use Rattle.contract_semantics.specs.Statements.{Ending, Goes, Turn, Ended, block_ended, turn_again, loop_turn, statements_run}
-use Rattle.contract_semantics.specs.Calls.{CallResult, are_arguments, bound, function_of_name, refused, call_ended, function_run, function_called, call_result}
+use Rattle.contract_semantics.specs.Calls.{CallResult, are_arguments, first_variables, function_of_name, refused_call, call_ended, function_run, function_called, call_result}
 use Rattle.contract_laws.specs.Lookups.{Lookups, no_lookups, value_lookups}
 use Rattle.contract_laws.specs.CallLookups.{statements_lookups, function_lookups, call_lookups}
 use Rattle.contract_laws.specs.Laws.{with_budget, HoldAlike, AnswerAlike, AreWrittenAlike, IsReadVersion, CostAndLeftAreTheBudget, NothingIsPaidBack, LargerBudgetChangesNothing, LongerClockChangesNothing, ReadsAreOnlyAdded, ReadsAreOfVersionsBefore, DependenciesAreReads, DependenciesAreNewestRows, WhatIsRecordedIsComplete, LookupsAreTheSame, HistoriesWithTheSameReadsGiveTheSame}
@@ -42,12 +42,12 @@ ended_cost budget (Done ending m) le = omega (arith, le)
 ended_cost budget (Failed status m) le = omega (arith, le)
 
 abbrev pub by_fit : Bool → CallResult → CallResult
-by_fit fits run = if fits then run else refused statuses.BadArgs
+by_fit fits run = if fits then run else refused_call statuses.BadArgs
 
 pub cost_and_left_are_the_budget : CostAndLeftAreTheBudget
 cost_and_left_are_the_budget s function args =
     let m = machine s.site.budget captured_none in
-    let variables = bound function.params args in
+    let variables = first_variables function.params args in
     ended_cost s.site.budget (statements_run s function.body variables m) ((tame_statements function.body variables).lowers s m)
 
 pub nothing_is_paid_back : NothingIsPaidBack
@@ -91,7 +91,7 @@ ended_raised budget more (Failed status m) = ap (λ cost. record { outcome = rec
 run_richer : (s : Scene) (function : FunctionTree) (args : List Value) (more : ℕ) → (function_run s function args).outcome.status ≢ statuses.OutOfSteps → function_run (with_budget (s.site.budget + more) s) function args ≡ function_run s function args
 run_richer s function args more h =
     let t : Scene = with_budget (s.site.budget + more) s in
-    let variables = bound function.params args in
+    let variables = first_variables function.params args in
     let m : Machine = machine s.site.budget captured_none in
     let tame = tame_statements function.body variables in
     ap (call_ended (s.site.budget + more))
@@ -142,8 +142,8 @@ ended_capture budget (Failed status m) = refl
 run_moves : (s : Scene) (function : FunctionTree) (args : List Value) → Moves s captured_none (function_run s function args).capture
 run_moves s function args =
     let m : Machine = machine s.site.budget captured_none in
-    let step : Step Ending = statements_run s function.body (bound function.params args) m in
-    subst (Moves s captured_none) (sym (ended_capture s.site.budget step)) ((tame_statements function.body (bound function.params args)).told s m).0
+    let step : Step Ending = statements_run s function.body (first_variables function.params args) m in
+    subst (Moves s captured_none) (sym (ended_capture s.site.budget step)) ((tame_statements function.body (first_variables function.params args)).told s m).0
 
 fit_moves : (s : Scene) (run : CallResult) (fits : Bool) → Moves s captured_none run.capture → Moves s captured_none (by_fit fits run).capture
 fit_moves s run true h = h
@@ -198,11 +198,11 @@ abbrev Same : CallResult → CallResult → Lookups → Lookups → Type 0
 Same again run look lookups = (again ≡ run) × (look ≡ lookups)
 
 run_told : (s t : Scene) (function : FunctionTree) (args : List Value)
-    → Agree s t (statements_lookups s function.body (bound function.params args) (machine s.site.budget captured_none)) (function_run s function args).capture.reads
-    → (call_ended s.site.budget (statements_run t function.body (bound function.params args) (machine s.site.budget captured_none)) ≡ function_run s function args)
-    × (statements_lookups t function.body (bound function.params args) (machine s.site.budget captured_none) ≡ statements_lookups s function.body (bound function.params args) (machine s.site.budget captured_none))
+    → Agree s t (statements_lookups s function.body (first_variables function.params args) (machine s.site.budget captured_none)) (function_run s function args).capture.reads
+    → (call_ended s.site.budget (statements_run t function.body (first_variables function.params args) (machine s.site.budget captured_none)) ≡ function_run s function args)
+    × (statements_lookups t function.body (first_variables function.params args) (machine s.site.budget captured_none) ≡ statements_lookups s function.body (first_variables function.params args) (machine s.site.budget captured_none))
 run_told s t function args a =
-    let variables = bound function.params args in
+    let variables = first_variables function.params args in
     let m : Machine = machine s.site.budget captured_none in
     let step : Step Ending = statements_run s function.body variables m in
     let k = ((tame_statements function.body variables).told s m).1 t (subst (λ (c : Captured). Agree s t (statements_lookups s function.body variables m) c.reads) (ended_capture s.site.budget step) a) in
@@ -225,7 +225,7 @@ called_told : (s t : Scene) (args : List Value) (o : Option FunctionTree) → Ag
 called_told s t args None a = (refl, refl)
 called_told s t args (Some function) a =
     let m : Machine = machine s.site.budget captured_none in
-    let variables = bound function.params args in
+    let variables = first_variables function.params args in
     fit_told s (at_site s t) (function_run (at_site s t) function args) (function_run s function args) (statements_lookups (at_site s t) function.body variables m) (statements_lookups s function.body variables m) (are_arguments function.params args)
     (run_told s (at_site s t) function args) a
 
@@ -253,13 +253,13 @@ call_told functions s t args site hold answer written =
     )
 
 pub what_is_recorded_is_complete : WhatIsRecordedIsComplete
-what_is_recorded_is_complete functions s t args site hold answer written = (call_told functions s t args site hold answer written).0
+what_is_recorded_is_complete functions s t args site alike = (call_told functions s t args site alike.0 alike.1.0 alike.1.1).0
 
 pub lookups_are_the_same : LookupsAreTheSame
-lookups_are_the_same functions s t args site hold answer written =
-    let k = (call_told functions s t args site hold answer written).1 in
+lookups_are_the_same functions s t args site alike =
+    let k = (call_told functions s t args site alike.0 alike.1.0 alike.1.1).1 in
     (ap (λ (l : Lookups). l.asked) k, ap (λ (l : Lookups). l.met) k)
 
 pub histories_with_the_same_reads_give_the_same : HistoriesWithTheSameReadsGiveTheSame
 histories_with_the_same_reads_give_the_same functions rows rows' written written' site args hold answer met =
-    what_is_recorded_is_complete functions (scene_of rows written site) (scene_of rows' written' site) args refl hold answer met
+    what_is_recorded_is_complete functions (scene_of rows written site) (scene_of rows' written' site) args refl (hold, (answer, met))

@@ -12,8 +12,8 @@ use Rattle.contract_semantics.specs.Scenes.{Scene}
 use Rattle.contract_semantics.specs.Steps.{Machine, machine, Step}
 use Rattle.contract_semantics.specs.Puts.{is_own, key_in}
 use Rattle.contract_semantics.specs.Expressions.{value_of}
-use Rattle.contract_semantics.specs.Statements.{Ending, Goes, Returns, Turn, Again, Ended, tested, loop_turn, parts_values, statement_run, statements_run}
-use Rattle.contract_semantics.specs.Calls.{are_arguments, bound, function_of_name}
+use Rattle.contract_semantics.specs.Statements.{Ending, Goes, Returns, Turn, Again, Ended, condition_step, loop_turn, parts_values, statement_run, statements_run}
+use Rattle.contract_semantics.specs.Calls.{are_arguments, first_variables, function_of_name}
 use Rattle.contract_laws.specs.Lookups.{Lookups, no_lookups, one_met, then_lookups, charged_lookups, value_lookups, values_lookups}
 
 -- What follows looks up, unless the function has returned.
@@ -29,7 +29,7 @@ tested_lookups s test variables m =
 -- What a turn of a loop looks up: its condition, then the body where that holds.
 abbrev pub turn_lookups : Scene → Tree → (List Variable → Machine → Lookups) → List Variable → Machine → Lookups
 turn_lookups s test body variables m =
-    then_lookups (tested_lookups s test variables m) (tested s test variables m)
+    then_lookups (tested_lookups s test variables m) (condition_step s test variables m)
     (λ goes_on m. if goes_on then body variables m else no_lookups)
 
 -- What follows a turn: the next one, or nothing.
@@ -71,10 +71,10 @@ abbrev mutual
   statement_lookups s (tree.Assign at name value) variables m =
       charged_lookups CHARGE_NODE m (λ m. value_lookups s variables value m)
   statement_lookups s (tree.If at test first) variables m =
-      then_lookups (tested_lookups s test variables m) (tested s test variables m)
+      then_lookups (tested_lookups s test variables m) (condition_step s test variables m)
       (λ chosen m. if chosen then statements_lookups s first variables m else no_lookups)
   statement_lookups s (tree.IfElse at test first second) variables m =
-      then_lookups (tested_lookups s test variables m) (tested s test variables m)
+      then_lookups (tested_lookups s test variables m) (condition_step s test variables m)
       (λ chosen m. if chosen then statements_lookups s first variables m
       else statements_lookups s second variables m)
   statement_lookups s (tree.While at test body) variables m =
@@ -97,7 +97,7 @@ abbrev pub function_lookups : Scene → List Value → Option FunctionTree → L
 function_lookups s args None = no_lookups
 function_lookups s args (Some function) =
     if are_arguments function.params args
-    then statements_lookups s function.body (bound function.params args) (machine s.site.budget captured_none)
+    then statements_lookups s function.body (first_variables function.params args) (machine s.site.budget captured_none)
     else no_lookups
 
 -- What a call of a contract, whose functions are these, looks up beside its reads.

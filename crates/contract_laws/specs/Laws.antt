@@ -22,7 +22,7 @@ use Rattle.contract_semantics.specs.Puts.{is_own}
 use Rattle.contract_semantics.specs.Steps.{Machine, machine, Failed, after}
 use Rattle.contract_semantics.specs.Reading.{block_of}
 use Rattle.contract_semantics.specs.Statements.{loop_run, statement_run, statements_run}
-use Rattle.contract_semantics.specs.Calls.{bound, function_run, call_result}
+use Rattle.contract_semantics.specs.Calls.{first_variables, function_run, call_result}
 use Rattle.contract_laws.specs.CallLookups.{questions_of, keys_met}
 
 -- ---- the budget
@@ -32,7 +32,7 @@ abbrev pub CostAndLeftAreTheBudget : Type 0
 CostAndLeftAreTheBudget =
     (s : Scene) (function : FunctionTree) (args : List Value)
     → (function_run s function args).outcome.cost
-    + (after (statements_run s function.body (bound function.params args)
+    + (after (statements_run s function.body (first_variables function.params args)
     (machine s.site.budget captured_none))).left
     ≡ s.site.budget
 
@@ -138,30 +138,54 @@ AnswerAlike s t questions = All (λ query. scan t.rows query ≡ scan s.rows que
 abbrev pub AreWrittenAlike : Scene → Scene → List (List ℕ) → Type 0
 AreWrittenAlike s t keys = All (λ key. t.place.written key ≡ s.place.written key) keys
 
--- What is recorded of a call is all that it depends on. Take two scenes of one call site. If they
--- have the same newest version of each key that the call read in the first, answer alike each
--- question that it asked there, and agree, of each key that it met there, on whether the block has
--- written it, then the call ends alike in both: with the same status, cost, reads and puts, so with
--- the same rows and dependencies. This holds however the call ends.
-abbrev pub WhatIsRecordedIsComplete : Type 0
-WhatIsRecordedIsComplete =
-    (functions : List FunctionTree) (s t : Scene) (args : List Value)
-    → t.site ≡ s.site
-    → HoldAlike s t (call_result functions s args).capture.reads
-    → AnswerAlike s t (questions_of functions s args)
-    → AreWrittenAlike s t (keys_met functions s args)
-    → call_result functions t args ≡ call_result functions s args
+-- What may be said of a call in two scenes.
+abbrev pub InTwoScenes : Type 1
+InTwoScenes = List FunctionTree → Scene → Scene → List Value → Type 0
 
--- And it asks the same questions, and meets the same keys.
-abbrev pub LookupsAreTheSame : Type 0
-LookupsAreTheSame =
+-- Of each call in two scenes of one call site the second is true, where the first is.
+abbrev pub AtOneSite : InTwoScenes → InTwoScenes → Type 0
+AtOneSite Premise Law =
     (functions : List FunctionTree) (s t : Scene) (args : List Value)
-    → t.site ≡ s.site
-    → HoldAlike s t (call_result functions s args).capture.reads
-    → AnswerAlike s t (questions_of functions s args)
-    → AreWrittenAlike s t (keys_met functions s args)
-    → (questions_of functions t args ≡ questions_of functions s args)
+    → t.site ≡ s.site → Premise functions s t args → Law functions s t args
+
+-- Both are true of a call.
+abbrev pub Both : InTwoScenes → InTwoScenes → InTwoScenes
+Both One Other functions s t args = One functions s t args × Other functions s t args
+
+-- The scenes have the same newest version of each key that the call read in the first.
+abbrev pub ReadsHoldAlike : InTwoScenes
+ReadsHoldAlike functions s t args = HoldAlike s t (call_result functions s args).capture.reads
+
+-- They answer alike each question that the call asked in the first.
+abbrev pub QuestionsAnswerAlike : InTwoScenes
+QuestionsAnswerAlike functions s t args = AnswerAlike s t (questions_of functions s args)
+
+-- They agree, of each key that the call met in the first, on whether the block has written it.
+abbrev pub KeysAreWrittenAlike : InTwoScenes
+KeysAreWrittenAlike functions s t args = AreWrittenAlike s t (keys_met functions s args)
+
+-- All that is recorded of the call in the first is the same in both.
+abbrev pub IsRecordedAlike : InTwoScenes
+IsRecordedAlike = Both ReadsHoldAlike (Both QuestionsAnswerAlike KeysAreWrittenAlike)
+
+-- The call ends alike in both: with the same status, cost, reads and puts, so with the same rows and
+-- dependencies.
+abbrev pub EndsAlike : InTwoScenes
+EndsAlike functions s t args = call_result functions t args ≡ call_result functions s args
+
+-- The call asks the same questions in both, and meets the same keys.
+abbrev pub LooksUpAlike : InTwoScenes
+LooksUpAlike functions s t args =
+    (questions_of functions t args ≡ questions_of functions s args)
     × (keys_met functions t args ≡ keys_met functions s args)
+
+-- What is recorded of a call is all that it depends on, however it ends.
+abbrev pub WhatIsRecordedIsComplete : Type 0
+WhatIsRecordedIsComplete = AtOneSite IsRecordedAlike EndsAlike
+
+-- And where that is the same, it asks the same questions, and meets the same keys.
+abbrev pub LookupsAreTheSame : Type 0
+LookupsAreTheSame = AtOneSite IsRecordedAlike LooksUpAlike
 
 -- Each question of a call is about a block before its own.
 abbrev pub QuestionsAreOfBlocksBefore : Type 0

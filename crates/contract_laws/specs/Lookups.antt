@@ -16,7 +16,7 @@ use Rattle.dep_capture.specs.Capture.{pending}
 use Rattle.contract_semantics.specs.declared.charge.TheConstants.{CHARGE_NODE}
 use Rattle.contract_semantics.specs.declared.variable.Variable.{Variable}
 use Rattle.contract_semantics.specs.Charges.{charge_of}
-use Rattle.contract_semantics.specs.Operators.{decided}
+use Rattle.contract_semantics.specs.Operators.{left_decision}
 use Rattle.contract_semantics.specs.Scenes.{Scene}
 use Rattle.contract_semantics.specs.Steps.{Machine, Step, Done, Failed, and_so}
 use Rattle.contract_semantics.specs.Reading.{key_of_text}
@@ -43,12 +43,12 @@ abbrev pub one_met : List ℕ → Lookups
 one_met key = record { asked = []; met = key ∷ [] }
 
 -- What one part looks up, then what the next one does.
-abbrev pub joined : Lookups → Lookups → Lookups
-joined first next = record { asked = first.asked ++ next.asked; met = first.met ++ next.met }
+abbrev pub lookups_of_both : Lookups → Lookups → Lookups
+lookups_of_both first next = record { asked = first.asked ++ next.asked; met = first.met ++ next.met }
 
 -- What a step looks up, then what the next one does, where the first did not fail.
 abbrev pub then_lookups : {A : Type 0} → Lookups → Step A → (A → Machine → Lookups) → Lookups
-then_lookups first (Done x m) next = joined first (next x m)
+then_lookups first (Done x m) next = lookups_of_both first (next x m)
 then_lookups first (Failed status m) next = first
 
 -- What is looked up after a charge: nothing where the charge is not taken.
@@ -148,7 +148,7 @@ abbrev mutual
   value_lookups s variables (tree.Binary at sign left right) m =
       charged_lookups CHARGE_NODE m
       (λ m. then_lookups (value_lookups s variables left m) (value_of s variables left m)
-      (λ first m. undecided_lookups (decided sign first) (value_lookups s variables right m)))
+      (λ first m. undecided_lookups (left_decision sign first) (value_lookups s variables right m)))
 
   -- What expressions look up, one after another, after those that are done.
   pub values_lookups : Scene → List Variable → List Value → Trees → Machine → Lookups

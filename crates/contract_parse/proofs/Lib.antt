@@ -1,3 +1,4 @@
 pub mod Sources
 pub mod Parsed
 pub mod Outcomes
+pub mod Blocks

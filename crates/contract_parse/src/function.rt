@@ -3,26 +3,28 @@
 ghost use Rattle.std.specs.Prelude.{◌≡◌, ◌<◌, ◌-◌, List, [], ◌∷◌, map};
 ghost use Rattle.contract_tree.specs.Tree.{statement_of, statement_list, function_of, contract_of};
 ghost use Rattle.contract_tokens.specs.declared.token.Mark.TheVariants as m;
-ghost use Rattle.contract_grammar.specs.Marks.{is, is_no_end};
-ghost use Rattle.contract_grammar.specs.Rules.{each, put};
-ghost use Rattle.contract_grammar.specs.Reading.{preceded, terminated, block, param_name, param, more_params, params, a_function, function, contract};
-ghost use Rattle.contract_grammar.specs.Reads.{Gives, Reads};
-ghost use Rattle.contract_grammar.specs.declared.limits.TheConstants.{MAX_NESTING};
+ghost use Rattle.contract_grammar.specs.{
+  Marks.{is, is_no_end},
+  Rules.{each, put},
+  Reading.{after_mark, before_mark, block, param_name, param, more_params, params, a_function, function, contract},
+  Reads.{Gives, Reads},
+  declared.limits.TheConstants.{MAX_NESTING},
+};
 
+use crate::names::declared;
 use crate::statement::block;
-use contract_grammar::{Cursor, MAX_NESTING, MAX_PARAMETERS, Obstacle, Stop};
+use contract_grammar::{Cursor, MAX_NESTING, MAX_PARAMETERS, NameKind, Obstacle, Stop};
 use contract_tokens::Mark;
 use contract_tree::{Contract, Function, FunctionList, Param, ParamList};
 use lc_base::Name;
-use std::alloc::Global;
 
 fn param_name(cursor: &mut Cursor<'_>, count: usize) -> Result<(u32, Name), Stop>
     ensures { Reads result (param_name count cursor.old) cursor.new }
 {
     if count < MAX_PARAMETERS {
-        cursor.declared()
+        declared(cursor)
     } else {
-        Err(cursor.refusal(cursor.next_is_declared(), Obstacle::Surplus))
+        Err(cursor.refusal(cursor.next_is_name(NameKind::Declared), Obstacle::Surplus))
     }
 }
 
@@ -37,7 +39,7 @@ fn param(cursor: &mut Cursor<'_>, count: usize) -> Result<Param, Stop>
 
 fn push_param(cursor: &mut Cursor<'_>, earlier: ParamList) -> Result<ParamList, Stop>
     ensures { Gives (λ v. v.items) result
-        (put (λ n. preceded m.Comma (param n)) earlier.items cursor.old) cursor.new }
+        (put (λ n. after_mark m.Comma (param n)) earlier.items cursor.old) cursor.new }
 {
     let mut all = earlier;
     let count = all.len();
@@ -49,7 +51,7 @@ fn push_param(cursor: &mut Cursor<'_>, earlier: ParamList) -> Result<ParamList, 
 
 fn more_params(cursor: &mut Cursor<'_>, earlier: ParamList) -> Result<ParamList, Stop>
     ensures { Gives (λ v. v.items) result
-        (each (is m.Comma) (λ n. preceded m.Comma (param n)) earlier.items cursor.old) cursor.new }
+        (each (is m.Comma) (λ n. after_mark m.Comma (param n)) earlier.items cursor.old) cursor.new }
 {
     let mut all = earlier;
     while cursor.next_is(Mark::Comma) {
@@ -58,11 +60,11 @@ fn more_params(cursor: &mut Cursor<'_>, earlier: ParamList) -> Result<ParamList,
     Ok(all)
 }
 
-fn params(alloc: Global, cursor: &mut Cursor<'_>) -> Result<ParamList, Stop>
+fn params(cursor: &mut Cursor<'_>) -> Result<ParamList, Stop>
     ensures { Gives (λ v. v.items) result (params cursor.old) cursor.new }
 {
     cursor.take(Mark::ParenOpen)?;
-    let mut all = Vec::new(alloc);
+    let mut all = Vec::new(cursor.alloc());
     if cursor.next_is(Mark::ParenClose) {
         cursor.take(Mark::ParenClose)?;
         return Ok(all);
@@ -74,13 +76,13 @@ fn params(alloc: Global, cursor: &mut Cursor<'_>) -> Result<ParamList, Stop>
 }
 
 #[tactic(auto, unfolding(contract_grammar::specs::Reading::function))]
-fn function(alloc: Global, cursor: &mut Cursor<'_>) -> Result<Function, Stop>
+fn function(cursor: &mut Cursor<'_>) -> Result<Function, Stop>
     ensures { Gives function_of result (function cursor.old) cursor.new }
 {
     cursor.take(Mark::Fn)?;
-    let (at, name) = cursor.declared()?;
-    let params = params(alloc, cursor)?;
-    let body = block(alloc, cursor, MAX_NESTING)?;
+    let (at, name) = declared(cursor)?;
+    let params = params(cursor)?;
+    let body = block(cursor, MAX_NESTING)?;
     Ok(Function {
         at,
         name,
@@ -89,42 +91,34 @@ fn function(alloc: Global, cursor: &mut Cursor<'_>) -> Result<Function, Stop>
     })
 }
 
-fn push_function(
-    alloc: Global,
-    cursor: &mut Cursor<'_>,
-    earlier: FunctionList,
-) -> Result<FunctionList, Stop>
+fn push_function(cursor: &mut Cursor<'_>, earlier: FunctionList) -> Result<FunctionList, Stop>
     ensures { Gives (λ v. map function_of v.items) result
         (put (λ n. function) (map function_of earlier.items) cursor.old) cursor.new }
 {
     let mut all = earlier;
-    let next = function(alloc, cursor)?;
+    let next = function(cursor)?;
     all.push(next)?;
     Ok(all)
 }
 
-fn functions(
-    alloc: Global,
-    cursor: &mut Cursor<'_>,
-    earlier: FunctionList,
-) -> Result<FunctionList, Stop>
+fn functions(cursor: &mut Cursor<'_>, earlier: FunctionList) -> Result<FunctionList, Stop>
     ensures { Gives (λ v. map function_of v.items) result
         (each is_no_end (λ n. function) (map function_of earlier.items) cursor.old) cursor.new }
 {
     let mut all = earlier;
     while cursor.goes_on() {
-        all = push_function(alloc, cursor, all)?;
+        all = push_function(cursor, all)?;
     }
     Ok(all)
 }
 
 /// A contract, up to the end of the source.
 #[tactic(auto, unfolding(contract_grammar::specs::Reading::contract))]
-pub fn contract(alloc: Global, cursor: &mut Cursor<'_>) -> Result<Contract, Stop>
+pub fn contract(cursor: &mut Cursor<'_>) -> Result<Contract, Stop>
     ensures { Gives contract_of result (contract cursor.old) cursor.new }
 {
-    let mut first = Vec::new(alloc);
-    first.push(function(alloc, cursor)?)?;
-    let functions = functions(alloc, cursor, first)?;
+    let mut first = Vec::new(cursor.alloc());
+    first.push(function(cursor)?)?;
+    let functions = functions(cursor, first)?;
     Ok(Contract { functions })
 }

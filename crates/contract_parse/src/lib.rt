@@ -2,6 +2,7 @@
 #![tactic(auto)]
 
 mod function;
+mod names;
 mod source;
 mod statement;
 

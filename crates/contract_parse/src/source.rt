@@ -3,8 +3,7 @@
 ghost use Rattle.std.specs.Prelude.{◌≡◌, ◌<◌, ◌^◌, length};
 ghost use Rattle.lc_base.specs.Answers.{Answers};
 ghost use Rattle.contract_tree.specs.Tree.{contract_of};
-ghost use Rattle.contract_grammar.specs.Marks.{is_end};
-ghost use Rattle.contract_grammar.specs.Reading.{contract};
+ghost use Rattle.contract_grammar.specs.{Marks.{is_end}, Reading.{contract}};
 ghost use Rattle.contract_parse.specs.Syntax.{refusal, unfit_kind, Outcome, IsOutcome, HasOneOutcome, HasOneObstacle, fault_of, token_kind, stop_fault, obstacle_fault, reading_outcome};
 
 use crate::function::contract;
@@ -94,13 +93,13 @@ fn refusal(error: TokenError) -> SyntaxError
     }
 }
 
-fn read(alloc: Global, tokens: Tokens<'_>) -> Result<Contract, SyntaxError>
+fn read(tokens: Tokens<'_>) -> Result<Contract, SyntaxError>
     ensures { Answers contract_of fault_of result (reading_outcome (contract tokens.entry)) }
 {
     let Ok(mut cursor) = Cursor::new(tokens) else {
         return Err(SyntaxError::Memory);
     };
-    match contract(alloc, &mut cursor) {
+    match contract(&mut cursor) {
         Ok(contract) => Ok(contract),
         Err(Stop::Memory) => Err(SyntaxError::Memory),
         Err(Stop::At(why)) => {
@@ -123,7 +122,7 @@ pub fn parse(alloc: Global, source: &[u8]) -> Result<Contract, SyntaxError>
     ensures one_fault { HasOneObstacle source.now }
 {
     match Tokens::new(alloc, source) {
-        Ok(tokens) => read(alloc, tokens),
+        Ok(tokens) => read(tokens),
         Err(error) => Err(refusal(error)),
     }
 }

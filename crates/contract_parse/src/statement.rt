@@ -1,37 +1,39 @@
 //! Statements and blocks.
 
-ghost use Rattle.std.specs.Prelude.{◌≡◌, ◌<◌, ◌-◌, List, [], map, Some};
-ghost use Rattle.contract_tree.specs.Tree.{Tree, trees, tree_of, parts_of, statement_of, statement_list};
-ghost use Rattle.contract_tree.specs.Tree as tree;
+ghost use Rattle.std.specs.Prelude.{◌≡◌, ◌<◌, ◌-◌, ℕ, List, [], map};
+ghost use Rattle.contract_tree.specs.Tree.{Tree, StatementTrees, trees, tree_of, parts_of, statement_of, statement_list};
 ghost use Rattle.contract_tokens.specs.declared.token.Mark.TheVariants as m;
-ghost use Rattle.contract_grammar.specs.Marks.{is, is_not};
-ghost use Rattle.contract_grammar.specs.declared.Obstacle.TheVariants.{Nesting};
-ghost use Rattle.contract_grammar.specs.Rules.{each, put, seq, ret, refuse};
-ghost use Rattle.contract_grammar.specs.Reading.{expression, terminated, let_statement, assign_statement, else_part, if_statement, while_statement, from_part, put_statement, short_statement, statement, block_of, block};
-ghost use Rattle.contract_grammar.specs.Reads.{Gives};
+ghost use Rattle.contract_grammar.specs.{
+  Marks.{is, is_not},
+  declared.Obstacle.TheVariants.{Nesting},
+  Rules.{each, put, seq, refuse},
+  Reading.{expression, before_mark, let_statement, assign_statement, else_part, if_statement, while_statement, from_part, put_statement, short_statement, statement, block_of, block},
+  Reads.{Gives},
+};
+ghost use Rattle.contract_parse.specs.Blocks.{if_of};
 
-use contract_grammar::{Cursor, Obstacle, Stop};
+use crate::names::declared;
+use contract_grammar::{Cursor, NameKind, Obstacle, Stop};
 use contract_tokens::Mark;
 use contract_tree::{Expr, ExprList, Form, Statement, StatementList};
 use lc_base::Name;
 use parse_expression::{expression, expressions};
-use std::alloc::Global;
 
 fn end_statement(cursor: &mut Cursor<'_>, statement: Statement) -> Result<Statement, Stop>
-    ensures { Gives statement_of result (terminated m.Semicolon (statement_of statement) cursor.old)
+    ensures { Gives statement_of result (before_mark m.Semicolon (statement_of statement) cursor.old)
         cursor.new }
 {
     cursor.take(Mark::Semicolon)?;
     Ok(statement)
 }
 
-fn let_statement(alloc: Global, cursor: &mut Cursor<'_>) -> Result<Statement, Stop>
+fn let_statement(cursor: &mut Cursor<'_>) -> Result<Statement, Stop>
     ensures { Gives statement_of result (let_statement cursor.old) cursor.new }
 {
     let at = cursor.take(Mark::Let)?;
-    let (name_at, name) = cursor.declared()?;
+    let (name_at, name) = declared(cursor)?;
     cursor.take(Mark::Assign)?;
-    let value = expression(alloc, cursor)?;
+    let value = expression(cursor)?;
     let form = Form::Let {
         name_at,
         name,
@@ -40,17 +42,17 @@ fn let_statement(alloc: Global, cursor: &mut Cursor<'_>) -> Result<Statement, St
     end_statement(cursor, Statement { at, form })
 }
 
-fn assign_statement(alloc: Global, cursor: &mut Cursor<'_>) -> Result<Statement, Stop>
+fn assign_statement(cursor: &mut Cursor<'_>) -> Result<Statement, Stop>
     ensures { Gives statement_of result (assign_statement cursor.old) cursor.new }
 {
-    let (at, name) = cursor.name()?;
+    let (at, name) = cursor.name(NameKind::Plain)?;
     cursor.take(Mark::Assign)?;
-    let value = expression(alloc, cursor)?;
+    let value = expression(cursor)?;
     let form = Form::Assign { name, value };
     end_statement(cursor, Statement { at, form })
 }
 
-fn from_part(alloc: Global, cursor: &mut Cursor<'_>) -> Result<Option<ExprList>, Stop>
+fn from_part(cursor: &mut Cursor<'_>) -> Result<Option<ExprList>, Stop>
     ensures { Gives parts_of result (from_part cursor.old) cursor.new }
 {
     if cursor.next_is(Mark::Semicolon) {
@@ -58,18 +60,18 @@ fn from_part(alloc: Global, cursor: &mut Cursor<'_>) -> Result<Option<ExprList>,
         return Ok(None);
     }
     cursor.take(Mark::From)?;
-    let parts = expressions(alloc, cursor, Mark::Semicolon)?;
+    let parts = expressions(cursor, Mark::Semicolon)?;
     Ok(Some(parts))
 }
 
-fn put_statement(alloc: Global, cursor: &mut Cursor<'_>) -> Result<Statement, Stop>
+fn put_statement(cursor: &mut Cursor<'_>) -> Result<Statement, Stop>
     ensures { Gives statement_of result (put_statement cursor.old) cursor.new }
 {
     let at = cursor.take(Mark::Put)?;
-    let key = expression(alloc, cursor)?;
+    let key = expression(cursor)?;
     cursor.take(Mark::Assign)?;
-    let value = expression(alloc, cursor)?;
-    let from = from_part(alloc, cursor)?;
+    let value = expression(cursor)?;
+    let from = from_part(cursor)?;
     let form = Form::Put { key, value, from };
     Ok(Statement { at, form })
 }
@@ -91,94 +93,62 @@ fn refuse_block(cursor: &mut Cursor<'_>) -> Result<StatementList, Stop>
     Err(cursor.refusal(cursor.next_is(Mark::BraceOpen), Obstacle::Nesting))
 }
 
+/// The second block of an `if`, where it has one.
 #[cycle(block)]
-fn else_part(
-    alloc: Global,
-    cursor: &mut Cursor<'_>,
-    nesting: u32,
-    at: u32,
-    test: Expr,
-    first: StatementList,
-) -> Result<Statement, Stop>
-    ensures { Gives statement_of result
-        (else_part (block nesting) at (tree_of test) (statement_list (map statement_of first.items))
-        cursor.old)
-        cursor.new }
+fn else_part(cursor: &mut Cursor<'_>, nesting: u32) -> Result<Option<StatementList>, Stop>
+    ensures { (at : ℕ) (test : Tree) (first : StatementTrees) → Gives (if_of at test first) result
+        (else_part (block nesting) at test first cursor.old) cursor.new }
 {
-    if cursor.next_is(Mark::Else) {
-        cursor.take(Mark::Else)?;
-        return second_block(alloc, cursor, nesting, at, test, first);
+    if !cursor.next_is(Mark::Else) {
+        return Ok(None);
     }
-    let form = Form::If {
-        test,
-        first,
-        second: None,
-    };
-    Ok(Statement { at, form })
+    cursor.take(Mark::Else)?;
+    let second = block(cursor, nesting)?;
+    Ok(Some(second))
 }
 
 #[cycle(block)]
-fn second_block(
-    alloc: Global,
-    cursor: &mut Cursor<'_>,
-    nesting: u32,
-    at: u32,
-    test: Expr,
-    first: StatementList,
-) -> Result<Statement, Stop>
-    ensures { Gives statement_of result
-        (seq (block nesting)
-        (λ second. ret
-        (tree.IfElse at (tree_of test) (statement_list (map statement_of first.items))
-        second))
-        cursor.old)
-        cursor.new }
-{
-    let second = block(alloc, cursor, nesting)?;
-    let form = Form::If {
-        test,
-        first,
-        second: Some(second),
-    };
-    Ok(Statement { at, form })
-}
-
-#[cycle(block)]
-fn if_statement(alloc: Global, cursor: &mut Cursor<'_>, nesting: u32) -> Result<Statement, Stop>
+fn if_statement(cursor: &mut Cursor<'_>, nesting: u32) -> Result<Statement, Stop>
     ensures { Gives statement_of result (if_statement (block nesting) cursor.old) cursor.new }
 {
     let at = cursor.take(Mark::If)?;
-    let test = expression(alloc, cursor)?;
-    let first = block(alloc, cursor, nesting)?;
-    else_part(alloc, cursor, nesting, at, test, first)
+    let test = expression(cursor)?;
+    let first = block(cursor, nesting)?;
+    let second = else_part(cursor, nesting)?;
+    let form = Form::If {
+        test,
+        first,
+        second,
+    };
+    Ok(Statement { at, form })
 }
 
 #[cycle(block)]
-fn while_statement(alloc: Global, cursor: &mut Cursor<'_>, nesting: u32) -> Result<Statement, Stop>
+fn while_statement(cursor: &mut Cursor<'_>, nesting: u32) -> Result<Statement, Stop>
     ensures { Gives statement_of result (while_statement (block nesting) cursor.old) cursor.new }
 {
     let at = cursor.take(Mark::While)?;
-    let test = expression(alloc, cursor)?;
-    let body = block(alloc, cursor, nesting)?;
+    let test = expression(cursor)?;
+    let body = block(cursor, nesting)?;
     let form = Form::While { test, body };
     Ok(Statement { at, form })
 }
 
 #[cycle(block)]
-fn statement(alloc: Global, cursor: &mut Cursor<'_>, nesting: u32) -> Result<Statement, Stop>
+fn statement(cursor: &mut Cursor<'_>, nesting: u32) -> Result<Statement, Stop>
     ensures { Gives statement_of result (statement (block nesting) cursor.old) cursor.new }
 {
     if cursor.next_is(Mark::Let) {
-        return let_statement(alloc, cursor);
+        return let_statement(cursor);
     }
     if cursor.next_is(Mark::If) {
-        return if_statement(alloc, cursor, nesting);
+        return if_statement(cursor, nesting);
     }
     if cursor.next_is(Mark::While) {
-        return while_statement(alloc, cursor, nesting);
+        return while_statement(cursor, nesting);
     }
     if cursor.next_is(Mark::Put) {
-        return put_statement(alloc, cursor);
+        return put_statement(cursor);
     }
     if cursor.next_is(Mark::Fail) {
         return short_statement(cursor, Mark::Fail, Form::Fail);
@@ -186,12 +156,11 @@ fn statement(alloc: Global, cursor: &mut Cursor<'_>, nesting: u32) -> Result<Sta
     if cursor.next_is(Mark::Return) {
         return short_statement(cursor, Mark::Return, Form::Return);
     }
-    assign_statement(alloc, cursor)
+    assign_statement(cursor)
 }
 
 #[cycle(block)]
 fn push_statement(
-    alloc: Global,
     cursor: &mut Cursor<'_>,
     nesting: u32,
     earlier: StatementList,
@@ -201,52 +170,52 @@ fn push_statement(
         cursor.new }
 {
     let mut all = earlier;
-    let next = statement(alloc, cursor, nesting)?;
+    let next = statement(cursor, nesting)?;
     all.push(next)?;
     Ok(all)
 }
 
 #[cycle(block)]
-fn statements(alloc: Global, cursor: &mut Cursor<'_>, nesting: u32) -> Result<StatementList, Stop>
+fn statements(cursor: &mut Cursor<'_>, nesting: u32) -> Result<StatementList, Stop>
     ensures { Gives (λ v. map statement_of v.items) result
         (each (is_not m.BraceClose) (λ n. statement (block nesting)) [] cursor.old) cursor.new }
 {
-    let mut all = Vec::new(alloc);
+    let mut all = Vec::new(cursor.alloc());
     while cursor.next_is_other(Mark::BraceClose) {
-        all = push_statement(alloc, cursor, nesting, all)?;
+        all = push_statement(cursor, nesting, all)?;
     }
     Ok(all)
 }
 
 #[cycle(block)]
-fn block_rest(alloc: Global, cursor: &mut Cursor<'_>, nesting: u32) -> Result<StatementList, Stop>
+fn block_rest(cursor: &mut Cursor<'_>, nesting: u32) -> Result<StatementList, Stop>
     ensures { Gives (λ v. statement_list (map statement_of v.items)) result
         (seq (each (is_not m.BraceClose) (λ n. statement (block nesting)) [])
-        (λ ss. terminated m.BraceClose (statement_list ss)) cursor.old)
+        (λ ss. before_mark m.BraceClose (statement_list ss)) cursor.old)
         cursor.new }
 {
-    let all = statements(alloc, cursor, nesting)?;
+    let all = statements(cursor, nesting)?;
     cursor.take(Mark::BraceClose)?;
     Ok(all)
 }
 
 #[cycle(block)]
-fn open_block(alloc: Global, cursor: &mut Cursor<'_>, nesting: u32) -> Result<StatementList, Stop>
+fn open_block(cursor: &mut Cursor<'_>, nesting: u32) -> Result<StatementList, Stop>
     ensures { Gives (λ v. statement_list (map statement_of v.items)) result
         (block_of (block nesting) cursor.old) cursor.new }
 {
     cursor.take(Mark::BraceOpen)?;
-    block_rest(alloc, cursor, nesting)
+    block_rest(cursor, nesting)
 }
 
 /// A block, where so many more may be nested, itself counted.
 #[cycle(block)]
-pub fn block(alloc: Global, cursor: &mut Cursor<'_>, nesting: u32) -> Result<StatementList, Stop>
+pub fn block(cursor: &mut Cursor<'_>, nesting: u32) -> Result<StatementList, Stop>
     ensures { Gives (λ v. statement_list (map statement_of v.items)) result
         (block nesting cursor.old) cursor.new }
 {
     if nesting == 0 {
         return refuse_block(cursor);
     }
-    open_block(alloc, cursor, nesting - 1)
+    open_block(cursor, nesting - 1)
 }

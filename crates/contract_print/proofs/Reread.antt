@@ -23,7 +23,7 @@ use Rattle.contract_grammar.proofs.Sequence.{IsSeq, Seq}
 use Rattle.contract_grammar.proofs.Choice.{IsEach, Nothing, Each}
 use Rattle.contract_grammar.proofs.Operands.{close_args}
 use Rattle.contract_grammar.proofs.Expressions.{expression_is}
-use Rattle.contract_print.specs.Canonical.{mark_of_sign, sign_text, is_compound, wrapped, expression_text, args_text, more_args_text}
+use Rattle.contract_print.specs.Canonical.{mark_of_sign, sign_text, is_compound, in_parentheses, expression_text, args_text, more_args_text}
 use Rattle.contract_print.proofs.Respelled.{word_text, goes_on, sign_goes_on, IsWord, mark_word, int_in, name_first}
 use Rattle.contract_print.proofs.Printed.{IsPrinted, IsWordOf, Said, Both, Pair, word_printed, both, gap_after, mapped, stopped, spelled_as, breaks, break_word}
 
@@ -148,8 +148,8 @@ group_of : (d : ℕ) (x : Tree) → suc d ≤ MAX_PENDING → (ts : List Token) 
 group_of d x may ts (Pair _ _ (Pair _ vs (Said at) (y, i, e)) (Said end)) = (y, Grouped d (said at m.ParenOpen) at vs y (said end m.ParenClose) end refl may i refl, e)
 
 record AsOperand (d : ℕ) (b : Bool) (x : Tree) : Type 0 where
-  printed : IsPrinted (IsExprOf d 0 x) (Stops breaks) (wrapped b (expression_text x))
-  begins : (rest : List ℕ) → Stops sign_goes_on (wrapped b (expression_text x) ++ rest)
+  printed : IsPrinted (IsExprOf d 0 x) (Stops breaks) (in_parentheses b (expression_text x))
+  begins : (rest : List ℕ) → Stops sign_goes_on (in_parentheses b (expression_text x) ++ rest)
 
 operand_by : (b : Bool) (x : Tree) → is_compound x ≡ b → Rereads x → (d : ℕ) → d + 2 * height x + 1 ≤ MAX_PENDING → AsOperand d b x
 operand_by false x e again d low =
@@ -318,8 +318,8 @@ prefix_again_tree : (t : Token) (sign : ℕ × Sign) (x : Tree) → prefix_of t 
 prefix_again_tree t sign x e again d low =
     let inner = operand_by (is_compound x) x refl again (suc d) (omega (arith, low)) in
     let word = word_printed (w.Mark (mark_of_sign sign.1)) (mark_word (mark_of_sign sign.1)) in
-    let all = both word inner.printed (λ rest h. sign_ends sign.1 (wrapped (is_compound x) (expression_text x) ++ rest) (inner.begins rest)) in
-    let begins = λ (rest : List ℕ). subst (Stops sign_goes_on) (sym (append_assoc (sign_text sign.1) (wrapped (is_compound x) (expression_text x)) rest)) (prefix_begins t sign e (wrapped (is_compound x) (expression_text x) ++ rest)) in
+    let all = both word inner.printed (λ rest h. sign_ends sign.1 (in_parentheses (is_compound x) (expression_text x) ++ rest) (inner.begins rest)) in
+    let begins = λ (rest : List ℕ). subst (Stops sign_goes_on) (sym (append_assoc (sign_text sign.1) (in_parentheses (is_compound x) (expression_text x)) rest)) (prefix_begins t sign e (in_parentheses (is_compound x) (expression_text x) ++ rest)) in
     record { printed = mapped (prefix_made d t sign x e (omega arith) (omega arith)) all; begins = begins }
 
 binary_level : (b : Bool) (d k : ℕ) (t : Token) (sign : ℕ × Sign) (at : ℕ) (us vs : List Token) (x y : Tree) → is_chained (suc k) ≡ b → sign_of (suc k) t ≡ Some sign → IsExpr limits d 0 us x → IsExpr limits d 0 vs y → height (tree.Binary at sign.1 x y) ≤ MAX_HEIGHT → IsExpr limits d WHOLE (us ++ said at (mark_of_sign sign.1) ∷ vs) (tree.Binary at sign.1 x y)
@@ -344,10 +344,10 @@ binary_again k t sign x y e left_again right_again d low =
     let word = word_printed (w.Mark (mark_of_sign sign.1)) (mark_word (mark_of_sign sign.1)) in
     let signed = gap_after (codes " ") refl (both first word (λ rest h. tt)) (λ rest. sign_ends sign.1 (codes " " ++ rest) (blank_ends rest)) in
     let all = both signed right.printed (λ rest h. tt) in
-    let start = begins_left (wrapped (is_compound x) (expression_text x)) (codes " ") left.begins in
-    let middle = begins_left (wrapped (is_compound x) (expression_text x) ++ codes " ") (sign_text sign.1) start in
-    let later = begins_left ((wrapped (is_compound x) (expression_text x) ++ codes " ") ++ sign_text sign.1) (codes " ") middle in
-    let begins = begins_left (((wrapped (is_compound x) (expression_text x) ++ codes " ") ++ sign_text sign.1) ++ codes " ") (wrapped (is_compound y) (expression_text y)) later in
+    let start = begins_left (in_parentheses (is_compound x) (expression_text x)) (codes " ") left.begins in
+    let middle = begins_left (in_parentheses (is_compound x) (expression_text x) ++ codes " ") (sign_text sign.1) start in
+    let later = begins_left ((in_parentheses (is_compound x) (expression_text x) ++ codes " ") ++ sign_text sign.1) (codes " ") middle in
+    let begins = begins_left (((in_parentheses (is_compound x) (expression_text x) ++ codes " ") ++ sign_text sign.1) ++ codes " ") (in_parentheses (is_compound y) (expression_text y)) later in
     record { printed = mapped (binary_made d k t sign x y e (omega arith)) all; begins = begins }
 
 mutual

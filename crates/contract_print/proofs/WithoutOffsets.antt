@@ -7,7 +7,7 @@ use Rattle.contract_parse.proofs.Parsed.{has_one_outcome}
 use Rattle.contract_tree.specs.declared.tree.Param.{Param}
 use Rattle.contract_tree.specs.Tree.{Tree, Trees, none, more, StatementTree, StatementTrees, no_statement, statements, FunctionTree, erase, erase_all, erase_from, erase_statement, erase_statements, erase_param, erase_function, erase_contract}
 use Rattle.contract_tree.specs.Tree as tree
-use Rattle.contract_print.specs.Canonical.{sign_text, is_compound, wrapped, expression_text, args_text, more_args_text, from_text, assigned_text, put_text, test_text, deeper, statement_text, statements_text, param_text, more_params_text, params_text, function_text, more_functions_text, contract_text}
+use Rattle.contract_print.specs.Canonical.{sign_text, is_compound, in_parentheses, expression_text, args_text, more_args_text, from_text, assigned_text, put_text, test_text, deeper, statement_text, statements_text, param_text, more_params_text, params_text, function_text, more_functions_text, contract_text}
 use Rattle.contract_print.proofs.RereadContracts.{reads_again}
 
 -- ---- expressions
@@ -20,12 +20,12 @@ compound_same (tree.Call at name args) = refl
 compound_same (tree.Prefix at sign operand) = refl
 compound_same (tree.Binary at sign left right) = refl
 
-operand_same : (x : Tree) → expression_text (erase x) ≡ expression_text x → wrapped (is_compound (erase x)) (expression_text (erase x)) ≡ wrapped (is_compound x) (expression_text x)
-operand_same x e = ap (λ b. wrapped b (expression_text (erase x))) (compound_same x) ∙ ap (wrapped (is_compound x)) e
+operand_same : (x : Tree) → expression_text (erase x) ≡ expression_text x → in_parentheses (is_compound (erase x)) (expression_text (erase x)) ≡ in_parentheses (is_compound x) (expression_text x)
+operand_same x e = ap (λ b. in_parentheses b (expression_text (erase x))) (compound_same x) ∙ ap (in_parentheses (is_compound x)) e
 
-binary_same : (left right : Tree) (a b : List ℕ) (sign : List ℕ) → a ≡ wrapped (is_compound left) (expression_text left) → b ≡ wrapped (is_compound right) (expression_text right)
-    → a ++ codes " " ++ sign ++ codes " " ++ b ≡ wrapped (is_compound left) (expression_text left) ++ codes " " ++ sign ++ codes " " ++ wrapped (is_compound right) (expression_text right)
-binary_same left right a b sign e f = ap (λ l. l ++ codes " " ++ sign ++ codes " " ++ b) e ∙ ap (λ l. wrapped (is_compound left) (expression_text left) ++ codes " " ++ sign ++ codes " " ++ l) f
+binary_same : (left right : Tree) (a b : List ℕ) (sign : List ℕ) → a ≡ in_parentheses (is_compound left) (expression_text left) → b ≡ in_parentheses (is_compound right) (expression_text right)
+    → a ++ codes " " ++ sign ++ codes " " ++ b ≡ in_parentheses (is_compound left) (expression_text left) ++ codes " " ++ sign ++ codes " " ++ in_parentheses (is_compound right) (expression_text right)
+binary_same left right a b sign e f = ap (λ l. l ++ codes " " ++ sign ++ codes " " ++ b) e ∙ ap (λ l. in_parentheses (is_compound left) (expression_text left) ++ codes " " ++ sign ++ codes " " ++ l) f
 
 mutual
   expression_same : (x : Tree) → expression_text (erase x) ≡ expression_text x

@@ -56,9 +56,9 @@ is_compound (tree.Prefix at sign operand) = true
 is_compound (tree.Binary at sign left right) = true
 
 -- A text, in parentheses where it is to stand in them.
-abbrev pub wrapped : Bool → List ℕ → List ℕ
-wrapped true text = codes "(" ++ text ++ codes ")"
-wrapped false text = text
+abbrev pub in_parentheses : Bool → List ℕ → List ℕ
+in_parentheses true text = codes "(" ++ text ++ codes ")"
+in_parentheses false text = text
 
 -- An expression; its operands stand in parentheses where they have operands themselves.
 abbrev mutual
@@ -69,10 +69,10 @@ abbrev mutual
   expression_text (tree.Name at name) = name
   expression_text (tree.Call at name args) = name ++ codes "(" ++ args_text args ++ codes ")"
   expression_text (tree.Prefix at sign operand) =
-      sign_text sign ++ wrapped (is_compound operand) (expression_text operand)
+      sign_text sign ++ in_parentheses (is_compound operand) (expression_text operand)
   expression_text (tree.Binary at sign left right) =
-      wrapped (is_compound left) (expression_text left) ++ codes " " ++ sign_text sign ++ codes " "
-      ++ wrapped (is_compound right) (expression_text right)
+      in_parentheses (is_compound left) (expression_text left) ++ codes " " ++ sign_text sign ++ codes " "
+      ++ in_parentheses (is_compound right) (expression_text right)
 
   -- Expressions with a comma and a blank between them.
   pub args_text : Trees → List ℕ

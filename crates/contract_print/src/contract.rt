@@ -1,7 +1,6 @@
 //! Functions and contracts as text.
 
-ghost use Rattle.std.specs.Prelude.{◌≡◌, ◌++◌, OnOk, IfOk, map, codes, ℕ, List};
-ghost use Rattle.std.specs.List.{flat_map};
+ghost use Rattle.std.specs.{Prelude.{◌≡◌, ◌++◌, OnOk, IfOk, map, codes, ℕ, List}, List.{flat_map}};
 ghost use Rattle.contract_tree.specs.Tree.{statement_of, statement_list, function_of, contract_of};
 ghost use Rattle.contract_print.specs.Canonical.{param_text, params_text, function_text, contract_text, more_functions_text, statement_text, statements_text, ReadsAgain, HasOneText, IsFixed};
 ghost use Rattle.contract_parse.specs.Syntax.{ReadsAs};
@@ -109,7 +108,7 @@ fn put_functions(alloc: Global, out: &mut Vec<u8>, functions: &[Function]) -> Re
     }
 }
 
-fn written(alloc: Global, contract: &Contract) -> Result<Vec<u8>, Memory>
+fn text_of(alloc: Global, contract: &Contract) -> Result<Vec<u8>, Memory>
     ensures { IfOk result (λ text. text.items ≡ contract_text (contract_of contract.now)) }
 {
     let mut out = Vec::new(alloc);
@@ -130,6 +129,6 @@ pub fn print(alloc: Global, contract: &Contract) -> Result<Bytes, Memory>
     ensures again { (source : List ℕ) → ReadsAs source (contract_of contract.now) → IfOk result (λ text. ReadsAgain text (contract_of contract.now)) }
     ensures fixed { (source : List ℕ) → ReadsAs source (contract_of contract.now) → IfOk result IsFixed }
 {
-    let text = written(alloc, contract)?;
+    let text = text_of(alloc, contract)?;
     Ok(Seq::from_vec(text))
 }

@@ -3,7 +3,7 @@
 ghost use Rattle.std.specs.Prelude.{◌≡◌, ◌++◌, OnOk, map, codes};
 ghost use Rattle.contract_tokens.specs.Lexemes.{in_quotes, literal_body};
 ghost use Rattle.contract_tree.specs.Tree.{tree_of, trees};
-ghost use Rattle.contract_print.specs.Canonical.{expression_text, wrapped, is_compound, args_text, more_args_text};
+ghost use Rattle.contract_print.specs.Canonical.{expression_text, in_parentheses, is_compound, args_text, more_args_text};
 
 use crate::writer::{put, put_int, put_sign, put_text};
 use contract_tree::{Expr, ExprNode};
@@ -54,7 +54,7 @@ fn put_quoted(out: &mut Vec<u8>, text: &[u8]) -> Result<(), Memory>
 
 #[cycle(put)]
 fn put_operand(alloc: Global, out: &mut Vec<u8>, x: &Expr) -> Result<(), Memory>
-    ensures { OnOk result (out.new.items ≡ out.old.items ++ wrapped (is_compound (tree_of x.now)) (expression_text (tree_of x.now))) }
+    ensures { OnOk result (out.new.items ≡ out.old.items ++ in_parentheses (is_compound (tree_of x.now)) (expression_text (tree_of x.now))) }
 {
     if !is_compound(x) {
         return put_expression(alloc, out, x);

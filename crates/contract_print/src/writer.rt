@@ -1,7 +1,6 @@
 //! Bytes that are written one after another.
 
-ghost use Rattle.std.specs.Prelude.{◌≡◌, ◌++◌, OnOk};
-ghost use Rattle.std.specs.Fmt.{signed_decimal};
+ghost use Rattle.std.specs.{Prelude.{◌≡◌, ◌++◌, OnOk}, Fmt.{signed_decimal}};
 ghost use Rattle.contract_tokens.specs.Lexemes.{literal_body, escape, is_escaped};
 ghost use Rattle.contract_print.specs.Canonical.{sign_text, kind_text};
 

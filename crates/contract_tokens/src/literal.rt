@@ -25,23 +25,25 @@ pub enum LiteralByte {
     Fault,
 }
 
-fn literal_byte(escaped: bool, byte: u8) -> LiteralByte
-    ensures { result ≡ literal_byte escaped byte }
-{
-    if escaped {
-        if byte == b'"' || byte == b'\\' {
+impl LiteralByte {
+    fn of(escaped: bool, byte: u8) -> LiteralByte
+        ensures { result ≡ literal_byte escaped byte }
+    {
+        if escaped {
+            if byte == b'"' || byte == b'\\' {
+                LiteralByte::Itself
+            } else {
+                LiteralByte::Fault
+            }
+        } else if byte == b'"' {
+            LiteralByte::Close
+        } else if byte == b'\\' {
+            LiteralByte::Escape
+        } else if is_text_byte(byte) {
             LiteralByte::Itself
         } else {
             LiteralByte::Fault
         }
-    } else if byte == b'"' {
-        LiteralByte::Close
-    } else if byte == b'\\' {
-        LiteralByte::Escape
-    } else if is_text_byte(byte) {
-        LiteralByte::Itself
-    } else {
-        LiteralByte::Fault
     }
 }
 
@@ -65,7 +67,7 @@ pub fn literal_piece(alloc: Global, rest: &[u8]) -> Result<Piece, Memory>
     let mut text = Vec::new(alloc);
     let mut escaped = false;
     for (i, byte) in rest.iter().enumerate() {
-        match literal_byte(escaped, *byte) {
+        match LiteralByte::of(escaped, *byte) {
             LiteralByte::Close => return closed_literal(alloc, i + 2, text.as_slice()),
             LiteralByte::Escape => escaped = true,
             LiteralByte::Itself => {

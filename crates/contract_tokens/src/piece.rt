@@ -1,10 +1,14 @@
 //! What stands at the start of a source: a gap, a token, or a fault.
 
-ghost use Rattle.std.specs.Prelude.{◌≡◌, ℕ, ◌+◌, ◌-◌, ◌<◌, ◌^◌, not, ◌==◌, List, [], ◌∷◌, length, take, drop, take_while, IfOk};
-ghost use Rattle.std.specs.List.{prefix_len};
+ghost use Rattle.std.specs.{
+  Prelude.{◌≡◌, ℕ, ◌+◌, ◌-◌, ◌<◌, ◌^◌, not, ◌==◌, List, [], ◌∷◌, length, take, drop, IfOk},
+  List.{prefix_len},
+};
 ghost use Rattle.lc_names.specs.NameBytes.{is_letter, is_name_byte};
-ghost use Rattle.contract_tokens.specs.Lexemes.{is_blank, is_digit, newline};
-ghost use Rattle.contract_tokens.specs.Pieces.{next_piece, nonempty_piece};
+ghost use Rattle.contract_tokens.specs.{
+  Lexemes.{is_blank, is_digit, newline},
+  Pieces.{next_piece, nonempty_piece},
+};
 
 use crate::literal::literal_piece;
 use crate::name::name_piece;
@@ -57,22 +61,10 @@ fn name_length(bytes: &[u8]) -> usize
     bytes.iter().take_while(|byte| is_name_byte(**byte)).count()
 }
 
-fn name_run(bytes: &[u8]) -> &[u8]
-    ensures { result.now ≡ take_while is_name_byte bytes.now }
-{
-    &bytes[..name_length(bytes)]
-}
-
 fn digit_count(bytes: &[u8]) -> usize
     ensures { result ≡ prefix_len is_digit bytes.now }
 {
     bytes.iter().take_while(|byte| is_digit(**byte)).count()
-}
-
-fn digit_run(bytes: &[u8]) -> &[u8]
-    ensures { result.now ≡ take_while is_digit bytes.now }
-{
-    &bytes[..digit_count(bytes)]
 }
 
 fn nonempty_piece(alloc: Global, first: u8, bytes: &[u8]) -> Result<Piece, Memory>
@@ -86,10 +78,10 @@ fn nonempty_piece(alloc: Global, first: u8, bytes: &[u8]) -> Result<Piece, Memor
         return Ok(Piece::Skip(line_length(bytes)));
     }
     if is_letter(first) {
-        return Ok(name_piece(name_run(bytes)));
+        return Ok(name_piece(&bytes[..name_length(bytes)]));
     }
     if is_digit(first) {
-        return Ok(number_piece(digit_run(bytes)));
+        return Ok(number_piece(&bytes[..digit_count(bytes)]));
     }
     if first == b'"' {
         return literal_piece(alloc, &bytes[1..]);

@@ -4,7 +4,6 @@ ghost use Rattle.std.specs.Prelude.{◌≡◌};
 ghost use Rattle.contract_tokens.specs.declared.token.TokenError.TheVariants as TokenErrors;
 
 use lc_base::{Memory, Name, Text};
-use std::alloc::AllocFailed;
 
 /// A word of a source, with its offset.
 #[derive(Debug, Drop)]
@@ -130,14 +129,6 @@ impl From<Memory> for TokenError {
     ghost from_gives = { λ _ error. error ≡ TokenErrors.Memory };
 
     fn from(_error: Memory) -> TokenError {
-        TokenError::Memory
-    }
-}
-
-impl<T: Drop> From<AllocFailed<T>> for TokenError {
-    ghost from_gives = { λ _ error. error ≡ TokenErrors.Memory };
-
-    fn from(_error: AllocFailed<T>) -> TokenError {
         TokenError::Memory
     }
 }

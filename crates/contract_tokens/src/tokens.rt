@@ -2,9 +2,11 @@
 
 ghost use Rattle.std.specs.Prelude.{◌≡◌, ℕ, ◌^◌, ◌<◌, ◌≤◌, length, drop, List, [], IfOk, OnErr};
 ghost use Rattle.lc_base.specs.Answers.{Answers};
-ghost use Rattle.contract_tokens.specs.Tokens.{Outcome, IsTokenized, fault_of};
-ghost use Rattle.contract_tokens.specs.Listing.{tokens_from, next_and_rest, IsFirst, offset_after};
-ghost use Rattle.contract_tokens.specs.Pieces.{next_piece};
+ghost use Rattle.contract_tokens.specs.{
+  Tokens.{Outcome, IsTokenized, fault_of},
+  Listing.{tokens_from, next_and_rest, IsFirst, offset_after},
+  Pieces.{next_piece},
+};
 
 use crate::piece::{Piece, next_piece};
 use crate::token::{Token, TokenError, Word};
@@ -113,6 +115,11 @@ impl<'a> Tokens<'a> {
             source,
             at: Some(0),
         })
+    }
+
+    /// The allocator of what is read.
+    pub fn alloc(&self) -> Global {
+        self.alloc
     }
 
     /// The next token, or `None` after the end.

@@ -50,24 +50,13 @@ params_of b.FwdBlock = Text ∷ Int ∷ Int ∷ []
 
 -- The kind of what a builtin gives.
 abbrev pub kind_given : Builtin → ValueKind
-kind_given b.GetInt = Int
 kind_given b.GetText = Text
-kind_given b.Has = Int
 kind_given b.Caller = Text
-kind_given b.Block = Int
-kind_given b.Len = Int
 kind_given b.Text = Text
-kind_given b.HistInt = Int
 kind_given b.HistText = Text
-kind_given b.HistBlock = Int
-kind_given b.HistTx = Int
-kind_given b.Seen = Int
-kind_given b.BackCount = Int
-kind_given b.FwdCount = Int
 kind_given b.BackKey = Text
 kind_given b.FwdKey = Text
-kind_given b.BackBlock = Int
-kind_given b.FwdBlock = Int
+kind_given _ = Int
 
 -- All builtins.
 abbrev pub builtins : List Builtin

@@ -1,9 +1,11 @@
 //! The functions that each contract may call and none declares: the one table of their names,
 //! parameters and kinds.
 
-ghost use Rattle.std.specs.Prelude.{◌≡◌, ◌==◌, find};
-ghost use Rattle.std.specs.Option.{option_copied};
-ghost use Rattle.std.specs.Cmp.Lexicographic.{pointwise};
+ghost use Rattle.std.specs.{
+  Prelude.{◌≡◌, ◌==◌, find},
+  Option.{option_copied},
+  Cmp.Lexicographic.{pointwise},
+};
 ghost use Rattle.contract_tree.specs.Builtins.{builtin_name, params_of, kind_given, is_named, builtin_of};
 
 use crate::tree::ValueKind;
@@ -121,16 +123,10 @@ impl Builtin {
             Builtin::Caller | Builtin::Block => &[],
             Builtin::GetInt | Builtin::GetText | Builtin::Has | Builtin::Len => &[ValueKind::Text],
             Builtin::Text => &[ValueKind::Int],
-            Builtin::HistInt
-            | Builtin::HistText
-            | Builtin::HistBlock
-            | Builtin::HistTx
-            | Builtin::Seen
-            | Builtin::BackCount
-            | Builtin::FwdCount => &[ValueKind::Text, ValueKind::Int],
             Builtin::BackKey | Builtin::FwdKey | Builtin::BackBlock | Builtin::FwdBlock => {
                 &[ValueKind::Text, ValueKind::Int, ValueKind::Int]
             }
+            _ => &[ValueKind::Text, ValueKind::Int],
         }
     }
 

@@ -1,4 +1,4 @@
--- The places of names, as entries come and go.
+-- The indexes of names, as entries come and go.
 use Rattle.std.proofs.Common.{◌≡◌, ◌∙◌, ◌<◌, ℕ, zero, suc, ◌+◌, Bool, true, false, cond, ◌==◌, List, [], ◌∷◌, ◌++◌, length, position, slice_get, slice_set, Option, Some, None, is_some, nat_lt, inl, inr, refl, sym, ap, subst, arith}
 use Rattle.std.specs.Prelude.{IfSome}
 use Rattle.std.specs.Option.{option_map, option_or}
@@ -9,9 +9,9 @@ use Rattle.std.specs.Cmp.Lexicographic.{pointwise}
 use Rattle.std.proofs.lemmas.Bool.{cases_Bool, cases_lt}
 use Rattle.std.proofs.lemmas.Bool.Decides.{nat_tests}
 use Rattle.std.proofs.lemmas.Map.Made.{is_some-lookup}
-use Rattle.name_table.specs.Places.{AreNoted}
+use Rattle.name_table.specs.Indexes.{AreNoted}
 
--- ---- the place of the first that passes a test
+-- ---- the index of the first that passes a test
 
 pub at_head : {X : Type 0} (p : X → Bool) (x : X) (xs : List X) → p x ≡ true → position p (x ∷ xs) ≡ Some 0
 at_head p x xs e =
@@ -34,7 +34,7 @@ past_head p x xs e =
           rw (e, outer, inner) refl
     ]
 
--- The place, given what the first and the others are.
+-- The index, given what the first and the others are.
 abbrev placed : Bool → Option ℕ → Option ℕ
 placed true later = Some 0
 placed false later = option_map suc later
@@ -55,32 +55,32 @@ placed_or false true None n = refl
 placed_or false false None n = refl
 
 -- One more at the end.
-pub place_more : {K X : Type 0} (p : K → Bool) (es : List (K × X)) (last : K × X) → position p (keys_of (es ++ last ∷ [])) ≡ option_or (position p (keys_of es)) (last_or (p last.0) (length es))
-place_more p [] last = position_is p last.0 [] ∙ go (p last.0)
+pub index_more : {K X : Type 0} (p : K → Bool) (es : List (K × X)) (last : K × X) → position p (keys_of (es ++ last ∷ [])) ≡ option_or (position p (keys_of es)) (last_or (p last.0) (length es))
+index_more p [] last = position_is p last.0 [] ∙ go (p last.0)
   where
     go : (b : Bool) → placed b None ≡ option_or None (last_or b 0)
     go true = refl
     go false = refl
-place_more {K} {X} p (e ∷ es) last =
-    position_is p e.0 (keys_of (es ++ last ∷ [])) ∙ ap (placed (p e.0)) (place_more p es last) ∙ placed_or (p e.0) (p last.0) (position p (keys_of es)) (length es)
+index_more {K} {X} p (e ∷ es) last =
+    position_is p e.0 (keys_of (es ++ last ∷ [])) ∙ ap (placed (p e.0)) (index_more p es last) ∙ placed_or (p e.0) (p last.0) (position p (keys_of es)) (length es)
     ∙ ap (λ o. option_or o (last_or (p last.0) (suc (length es)))) (sym (position_is p e.0 (keys_of es)))
 
-placed_within : (b : Bool) (o : Option ℕ) (n : ℕ) → IfSome o (λ place. place < n) → IfSome (placed b o) (λ place. place < suc n)
+placed_within : (b : Bool) (o : Option ℕ) (n : ℕ) → IfSome o (λ index. index < n) → IfSome (placed b o) (λ index. index < suc n)
 placed_within true o n w = omega arith
 placed_within false None n w = tt
-placed_within false (Some place) n w = omega (arith, w)
+placed_within false (Some index) n w = omega (arith, w)
 
-pub place_within : {K X : Type 0} (p : K → Bool) (es : List (K × X)) → IfSome (position p (keys_of es)) (λ place. place < length es)
-place_within p [] = tt
-place_within {K} {X} p (e ∷ es) = subst (λ (o : Option ℕ). IfSome o (λ place. place < suc (length es))) (sym (position_is p e.0 (keys_of es))) (placed_within (p e.0) (position p (keys_of es)) (length es) (place_within p es))
+pub index_within : {K X : Type 0} (p : K → Bool) (es : List (K × X)) → IfSome (position p (keys_of es)) (λ index. index < length es)
+index_within p [] = tt
+index_within {K} {X} p (e ∷ es) = subst (λ (o : Option ℕ). IfSome o (λ index. index < suc (length es))) (sym (position_is p e.0 (keys_of es))) (placed_within (p e.0) (position p (keys_of es)) (length es) (index_within p es))
 
 -- The keys by themselves.
-pub place_of_key : {K X : Type 0} (p : K → Bool) (es : List (K × X)) → position (λ (e : K × X). p e.0) es ≡ position p (keys_of es)
-place_of_key p [] = refl
-place_of_key {K} {X} p (e ∷ es) = position_is (λ (e : K × X). p e.0) e es ∙ ap (placed (p e.0)) (place_of_key p es) ∙ sym (position_is p e.0 (keys_of es))
+pub index_of_key : {K X : Type 0} (p : K → Bool) (es : List (K × X)) → position (λ (e : K × X). p e.0) es ≡ position p (keys_of es)
+index_of_key p [] = refl
+index_of_key {K} {X} p (e ∷ es) = position_is (λ (e : K × X). p e.0) e es ∙ ap (placed (p e.0)) (index_of_key p es) ∙ sym (position_is p e.0 (keys_of es))
 
-placed_found : {X : Type 0} (b : Bool) (place : Option ℕ) (x : X) (found : Option X) → is_some place ≡ is_some found → is_some (placed b place) ≡ is_some (cond b (Some x) found)
-placed_found true place x found e = refl
+placed_found : {X : Type 0} (b : Bool) (index : Option ℕ) (x : X) (found : Option X) → is_some index ≡ is_some found → is_some (placed b index) ≡ is_some (cond b (Some x) found)
+placed_found true index x found e = refl
 placed_found false None x found e = e
 placed_found false (Some i) x found e = e
 
@@ -91,9 +91,9 @@ found_where_placed {K} {X} p (e ∷ es) = ap (λ (o : Option ℕ). is_some o) (p
 pub known : {K X : Type 0} (p : K → Bool) (es : List (K × X)) → is_some (position p (keys_of es)) ≡ list_any p (keys_of es)
 known p es = found_where_placed p es ∙ is_some-lookup p es
 
--- ---- what stands at the place of a name
+-- ---- what stands at the index of a name
 
--- what is found by a test, and what another value leaves, where this is the place of what passes
+-- what is found by a test, and what another value leaves, where this is the index of what passes
 abbrev pub At : {K X : Type 0} → (K → Bool) → List (K × X) → Option ℕ → Type 0
 At {K} {X} test es None = (lookup test es ≡ None) × ((v : X) → set_value test es v ≡ es)
 At {K} {X} test es (Some i) =
@@ -118,15 +118,15 @@ at_later test first es (Some i) f at = λ e is.
       there.2,
     )
 
-at_place : {K X : Type 0} (test : K → Bool) (es : List (K × X)) → At test es (position test (keys_of es))
-at_place test [] = (refl, λ v. refl)
-at_place {K} {X} test (first ∷ es) = elim (cases_Bool (test first.0)) [
+at_index : {K X : Type 0} (test : K → Bool) (es : List (K × X)) → At test es (position test (keys_of es))
+at_index test [] = (refl, λ v. refl)
+at_index {K} {X} test (first ∷ es) = elim (cases_Bool (test first.0)) [
   | inl t ↦ subst (At test (first ∷ es)) (sym (at_head test first.0 (keys_of es) t)) (at_first test first es t)
-  | inr f ↦ subst (At test (first ∷ es)) (sym (past_head test first.0 (keys_of es) f)) (at_later test first es (position test (keys_of es)) f (at_place test es))
+  | inr f ↦ subst (At test (first ∷ es)) (sym (past_head test first.0 (keys_of es) f)) (at_later test first es (position test (keys_of es)) f (at_index test es))
 ]
 
 pub found_at : {K X : Type 0} (test : K → Bool) (es : List (K × X)) (o : Option ℕ) → position test (keys_of es) ≡ o → At test es o
-found_at test es o is = subst (At test es) is (at_place test es)
+found_at test es o is = subst (At test es) is (at_index test es)
 
 -- Another value moves no key.
 keys_stay : {K X : Type 0} (es : List (K × X)) (i : ℕ) (e : K × X) (value : X) → slice_get es i ≡ Some e → keys_of (slice_set es i (e.0, value)) ≡ keys_of es
@@ -136,5 +136,5 @@ keys_stay {K} {X} (first ∷ es) zero e value at =
     ap (λ (e : K × X). e.0 ∷ keys_of es) (sym is)
 keys_stay {K} {X} (first ∷ es) (suc i) e value at = ap (λ l. first.0 ∷ l) (keys_stay es i e value at)
 
-pub still_noted : {T : Type 0} (entries : List (List ℕ × T)) (places : BTreeMap ℕ ℕ) (i : ℕ) (e : List ℕ × T) (value : T) → slice_get entries i ≡ Some e → AreNoted entries places → AreNoted (slice_set entries i (e.0, value)) places
-still_noted entries places i e value at are name is = are name is ∙ ap (λ names. position (pointwise ◌==◌ name) names) (sym (keys_stay entries i e value at))
+pub still_noted : {T : Type 0} (entries : List (List ℕ × T)) (indexes : BTreeMap ℕ ℕ) (i : ℕ) (e : List ℕ × T) (value : T) → slice_get entries i ≡ Some e → AreNoted entries indexes → AreNoted (slice_set entries i (e.0, value)) indexes
+still_noted entries indexes i e value at are name is = are name is ∙ ap (λ names. position (pointwise ◌==◌ name) names) (sym (keys_stay entries i e value at))

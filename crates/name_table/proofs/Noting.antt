@@ -1,4 +1,4 @@
--- Which places are noted, as entries come and go.
+-- Which indexes are noted_index, as entries come and go.
 use Rattle.std.proofs.Common.{◌≡◌, ◌∙◌, ◌<◌, ◌≤◌, ◌-◌, ◌+◌, ℕ, Bool, true, false, cond, ◌==◌, List, [], ◌∷◌, ◌++◌, length, take, get_or, Ordering, Less, Equal, Greater, Option, Some, None, is_some, inl, inr, refl, sym, ap, subst, arith}
 use Rattle.std.specs.Prelude.{IfSome}
 use Rattle.std.specs.Option.{option_or, option_eq}
@@ -11,8 +11,8 @@ use Rattle.std.proofs.lemmas.Cmp.{ranked, nat_cmp_total, tied_itself}
 use Rattle.std.proofs.lemmas.List.{take_more, length-take-le}
 use Rattle.lc_names.specs.NameBytes.{IsName}
 use Rattle.name_table.specs.Codes.{code}
-use Rattle.name_table.specs.Places.{place_in, noted, noted_with, noted_without, AreNoted}
-use Rattle.name_table.proofs.FirstPlaces.{place_more, place_within, last_or}
+use Rattle.name_table.specs.Indexes.{index_in, noted_index, noted_with, noted_without, AreNoted}
+use Rattle.name_table.proofs.FirstPlaces.{index_more, index_within, last_or}
 use Rattle.name_table.proofs.OneCode.{names_differ}
 
 itself : (n : ℕ) → (n == n) ≡ true
@@ -30,9 +30,9 @@ pub unseen : (o : Option ℕ) → is_some o ≡ false → o ≡ None
 unseen None e = refl
 unseen (Some n) e = absurd cc
 
-pub same_place : (o : Option ℕ) (place : ℕ) → option_eq ◌==◌ o (Some place) ≡ true → o ≡ Some place
-same_place None place e = absurd cc
-same_place (Some other) place e = (let same : other ≡ place = grind (arith, nat_tests, e) in ap Some same)
+pub same_index : (o : Option ℕ) (index : ℕ) → option_eq ◌==◌ o (Some index) ≡ true → o ≡ Some index
+same_index None index e = absurd cc
+same_index (Some other) index e = (let same : other ≡ index = grind (arith, nat_tests, e) in ap Some same)
 
 -- ---- codes
 
@@ -54,45 +54,45 @@ at_code key name other false is n o differ = elim (cases_Bool (is_eq (nat_cmp ke
   | inr f ↦ f
 ]
 
--- What is noted after a key got this, or nothing.
+-- What is noted_index after a key got this, or nothing.
 abbrev pub Sets : BTreeMap ℕ ℕ → BTreeMap ℕ ℕ → ℕ → Option ℕ → Type 0
 Sets old new key o = (other : ℕ) → get nat_cmp new other ≡ cond (is_eq (nat_cmp key other)) o (get nat_cmp old other)
 
-pub newly_noted : (old new : BTreeMap ℕ ℕ) (name : List ℕ) (key place : ℕ) → key ≡ code name → IsName name → get nat_cmp old key ≡ None → Sets old new key (Some place)
-    → (other : List ℕ) → IsName other → noted new other ≡ noted_with name place other (noted old other)
-newly_noted old new name key place is n none sets other o = elim (cases_Bool (pointwise ◌==◌ other name)) [
+pub newly_noted : (old new : BTreeMap ℕ ℕ) (name : List ℕ) (key index : ℕ) → key ≡ code name → IsName name → get nat_cmp old key ≡ None → Sets old new key (Some index)
+    → (other : List ℕ) → IsName other → noted_index new other ≡ noted_with name index other (noted_index old other)
+newly_noted old new name key index is n none sets other o = elim (cases_Bool (pointwise ◌==◌ other name)) [
   | inl t ↦
-      let absent : noted old other ≡ None = ap (λ (name : List ℕ). noted old name) ((bytes_decides other name).0 t) ∙ ap (λ (key : ℕ). get nat_cmp old key) (sym is) ∙ none in
+      let absent : noted_index old other ≡ None = ap (λ (name : List ℕ). noted_index old name) ((bytes_decides other name).0 t) ∙ ap (λ (key : ℕ). get nat_cmp old key) (sym is) ∙ none in
       sets (code other) ∙ rw (at_code key name other true is n o t, absent, t) refl
-  | inr f ↦ sets (code other) ∙ rw (at_code key name other false is n o f, f) (sym (or_none (noted old other)))
+  | inr f ↦ sets (code other) ∙ rw (at_code key name other false is n o f, f) (sym (or_none (noted_index old other)))
 ]
 
-pub now_forgotten : (old new : BTreeMap ℕ ℕ) (name : List ℕ) (key place : ℕ) → key ≡ code name → IsName name → get nat_cmp old key ≡ Some place → Sets old new key None
-    → (other : List ℕ) → IsName other → noted new other ≡ noted_without name place other (noted old other)
-now_forgotten old new name key place is n some sets other o = elim (cases_Bool (pointwise ◌==◌ other name)) [
+pub now_forgotten : (old new : BTreeMap ℕ ℕ) (name : List ℕ) (key index : ℕ) → key ≡ code name → IsName name → get nat_cmp old key ≡ Some index → Sets old new key None
+    → (other : List ℕ) → IsName other → noted_index new other ≡ noted_without name index other (noted_index old other)
+now_forgotten old new name key index is n some sets other o = elim (cases_Bool (pointwise ◌==◌ other name)) [
   | inl t ↦
-      let there : noted old other ≡ Some place = ap (λ (name : List ℕ). noted old name) ((bytes_decides other name).0 t) ∙ ap (λ (key : ℕ). get nat_cmp old key) (sym is) ∙ some in
-      sets (code other) ∙ rw (at_code key name other true is n o t, there, t, itself place) refl
+      let there : noted_index old other ≡ Some index = ap (λ (name : List ℕ). noted_index old name) ((bytes_decides other name).0 t) ∙ ap (λ (key : ℕ). get nat_cmp old key) (sym is) ∙ some in
+      sets (code other) ∙ rw (at_code key name other true is n o t, there, t, itself index) refl
   | inr f ↦ sets (code other) ∙ rw (at_code key name other false is n o f, f) refl
 ]
 
 -- ---- entries
 
-pub one_more_noted : {T : Type 0} (entries : List (List ℕ × T)) (places more : BTreeMap ℕ ℕ) (name : List ℕ) (value : T) (n : ℕ) → AreNoted entries places → n ≡ length entries
-    → ((other : List ℕ) → IsName other → noted more other ≡ noted_with name n other (noted places other)) → AreNoted (entries ++ (name, value) ∷ []) more
-one_more_noted {T} entries places more name value n are is adds other o =
-    adds other o ∙ ap (λ (o : Option ℕ). noted_with name n other o) (are other o) ∙ ap (λ (n : ℕ). noted_with name n other (place_in entries other)) is
-    ∙ sym (place_more (pointwise ◌==◌ other) entries (name, value))
+pub one_more_noted : {T : Type 0} (entries : List (List ℕ × T)) (indexes more : BTreeMap ℕ ℕ) (name : List ℕ) (value : T) (n : ℕ) → AreNoted entries indexes → n ≡ length entries
+    → ((other : List ℕ) → IsName other → noted_index more other ≡ noted_with name n other (noted_index indexes other)) → AreNoted (entries ++ (name, value) ∷ []) more
+one_more_noted {T} entries indexes more name value n are is adds other o =
+    adds other o ∙ ap (λ (o : Option ℕ). noted_with name n other o) (are other o) ∙ ap (λ (n : ℕ). noted_with name n other (index_in entries other)) is
+    ∙ sym (index_more (pointwise ◌==◌ other) entries (name, value))
 
-first_is : (n : ℕ) (name other : List ℕ) (b : Bool) (o : Option ℕ) → pointwise ◌==◌ other name ≡ b → IfSome o (λ place. place < n) → noted_without name n other (option_or o (last_or b n)) ≡ o
-first_is n name other true (Some place) is under = (let differ : (place == n) ≡ false = grind (arith, nat_tests, under) in rw (is, differ) refl)
-first_is n name other false (Some place) is under = rw is refl
+first_is : (n : ℕ) (name other : List ℕ) (b : Bool) (o : Option ℕ) → pointwise ◌==◌ other name ≡ b → IfSome o (λ index. index < n) → noted_without name n other (option_or o (last_or b n)) ≡ o
+first_is n name other true (Some index) is under = (let differ : (index == n) ≡ false = grind (arith, nat_tests, under) in rw (is, differ) refl)
+first_is n name other false (Some index) is under = rw is refl
 first_is n name other true None is under = rw (is, itself n) refl
 first_is n name other false None is under = rw is refl
 
-pub one_less_noted : {T : Type 0} (entries : List (List ℕ × T)) (places fewer : BTreeMap ℕ ℕ) (n : ℕ) (d : List ℕ × T) → 0 < n → n ≤ length entries → AreNoted (take n entries) places
-    → ((other : List ℕ) → IsName other → noted fewer other ≡ noted_without (get_or entries (n - 1) d).0 (n - 1) other (noted places other)) → AreNoted (take (n - 1) entries) fewer
-one_less_noted {T} entries places fewer n d some few are takes other o =
+pub one_less_noted : {T : Type 0} (entries : List (List ℕ × T)) (indexes fewer : BTreeMap ℕ ℕ) (n : ℕ) (d : List ℕ × T) → 0 < n → n ≤ length entries → AreNoted (take n entries) indexes
+    → ((other : List ℕ) → IsName other → noted_index fewer other ≡ noted_without (get_or entries (n - 1) d).0 (n - 1) other (noted_index indexes other)) → AreNoted (take (n - 1) entries) fewer
+one_less_noted {T} entries indexes fewer n d some few are takes other o =
     let e = get_or entries (n - 1) d in
     let kept = take (n - 1) entries in
     let back : n - 1 + 1 ≡ n = omega (arith, some) in
@@ -100,8 +100,8 @@ one_less_noted {T} entries places fewer n d some few are takes other o =
     let all : take n entries ≡ kept ++ e ∷ [] =
     ap (λ (n : ℕ). take n entries) (sym back) ∙ take_more entries (n - 1) d below in
     let count : length kept ≡ n - 1 = length-take-le (n - 1) entries (omega (arith, few)) in
-    let there : noted places other ≡ option_or (place_in kept other) (last_or (pointwise ◌==◌ other e.0) (n - 1)) =
-    are other o ∙ ap (λ (entries : List (List ℕ × T)). place_in entries other) all ∙ place_more (pointwise ◌==◌ other) kept e
-    ∙ ap (λ (n : ℕ). option_or (place_in kept other) (last_or (pointwise ◌==◌ other e.0) n)) count in
+    let there : noted_index indexes other ≡ option_or (index_in kept other) (last_or (pointwise ◌==◌ other e.0) (n - 1)) =
+    are other o ∙ ap (λ (entries : List (List ℕ × T)). index_in entries other) all ∙ index_more (pointwise ◌==◌ other) kept e
+    ∙ ap (λ (n : ℕ). option_or (index_in kept other) (last_or (pointwise ◌==◌ other e.0) n)) count in
     takes other o ∙ ap (λ (old : Option ℕ). noted_without e.0 (n - 1) other old) there
-    ∙ first_is (n - 1) e.0 other (pointwise ◌==◌ other e.0) (place_in kept other) refl (subst (λ (n : ℕ). IfSome (place_in kept other) (λ place. place < n)) count (place_within (pointwise ◌==◌ other) kept))
+    ∙ first_is (n - 1) e.0 other (pointwise ◌==◌ other e.0) (index_in kept other) refl (subst (λ (n : ℕ). IfSome (index_in kept other) (λ index. index < n)) count (index_within (pointwise ◌==◌ other) kept))

@@ -2,7 +2,7 @@
 #![tactic(auto)]
 
 mod code;
-mod places;
+mod indexes;
 mod table;
 
 pub use table::NameTable;

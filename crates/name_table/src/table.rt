@@ -1,13 +1,15 @@
 //! A table of what names stand for.
 
-ghost use Rattle.std.specs.Prelude.{◌≡◌, ◌==◌, ◌<◌, [], ◌∷◌, ◌++◌, length, take, position, is_some, IfSome, OnOk, OnErr};
-ghost use Rattle.std.specs.Option.{option_copied};
-ghost use Rattle.std.specs.List.{list_any};
-ghost use Rattle.std.specs.Map.{keys_of, lookup, set_value};
-ghost use Rattle.std.specs.Cmp.Lexicographic.{pointwise};
+ghost use Rattle.std.specs.{
+  Prelude.{◌≡◌, ◌==◌, ◌<◌, [], ◌∷◌, ◌++◌, length, take, position, is_some, IfSome, OnOk, OnErr},
+  Option.{option_copied},
+  List.{list_any},
+  Map.{keys_of, lookup, set_value},
+  Cmp.Lexicographic.{pointwise},
+};
 
 use crate::code::code_of;
-use crate::places::{forget_places, note_place, place_among};
+use crate::indexes::{forget_indexes, index_among, note_index};
 use lc_base::{Memory, Name};
 use std::alloc::Global;
 use std::collections::BTreeMap;
@@ -19,23 +21,23 @@ const FEW: usize = 4;
 /// Names and what they stand for, oldest first.
 ///
 /// A name may be there more than once, and then it stands for what was added first. Beside the entries
-/// stands a tree with the place of each name, in the order of the numbers that the names are: a look-up
+/// stands a tree with the index of each name, in the order of the numbers that the names are: a look-up
 /// makes as many comparisons whatever names there are.
 #[derive(Drop)]
 pub struct NameTable<T> {
     entries: Vec<(Name, T)>,
-    places: BTreeMap<u128, usize>,
+    indexes: BTreeMap<u128, usize>,
 }
 
 impl<T> Model for NameTable<T> {
     ghost use Rattle.std.specs.Prelude.{ℕ, List};
-    ghost use Rattle.name_table.specs.Places.{AreNoted};
+    ghost use Rattle.name_table.specs.Indexes.{AreNoted};
 
     ghost Value = { List (List ℕ × T) };
 
     ghost view = { λ table. table.entries.items };
 
-    ghost invariant = { λ table. AreNoted table.entries.items table.places };
+    ghost invariant = { λ table. AreNoted table.entries.items table.indexes };
 }
 
 impl<T> NameTable<T> {
@@ -45,7 +47,7 @@ impl<T> NameTable<T> {
     {
         NameTable {
             entries: Vec::new(alloc),
-            places: BTreeMap::new(alloc),
+            indexes: BTreeMap::new(alloc),
         }
     }
 
@@ -56,17 +58,17 @@ impl<T> NameTable<T> {
         self.entries.len()
     }
 
-    /// The place of the first entry of a name; `None` exactly where it stands for nothing.
+    /// The index of the first entry of a name; `None` exactly where it stands for nothing.
     #[tactic(auto, using(crate::proofs::FirstPlaces::found_where_placed))]
-    pub fn place_of(&self, name: &Name) -> Option<usize>
-        ensures place { result ≡ position (pointwise ◌==◌ name.now) (keys_of self.now) }
+    pub fn index_of(&self, name: &Name) -> Option<usize>
+        ensures index { result ≡ position (pointwise ◌==◌ name.now) (keys_of self.now) }
         ensures found { is_some result ≡ is_some (lookup (pointwise ◌==◌ name.now) self.now) }
-        ensures within { IfSome result (λ place. place < length self.now) }
+        ensures within { IfSome result (λ index. index < length self.now) }
     {
         if self.entries.len() > FEW {
-            self.places.get(&code_of(name)).copied()
+            self.indexes.get(&code_of(name)).copied()
         } else {
-            place_among(self.entries.as_slice(), name)
+            index_among(self.entries.as_slice(), name)
         }
     }
 
@@ -75,16 +77,16 @@ impl<T> NameTable<T> {
     pub fn contains(&self, name: &Name) -> bool
         ensures { result ≡ list_any (pointwise ◌==◌ name.now) (keys_of self.now) }
     {
-        self.place_of(name).is_some()
+        self.index_of(name).is_some()
     }
 
     /// What a name stands for; `None` exactly where it has no entry.
     pub fn get(&self, name: &Name) -> Option<&T>
         ensures { option_copied result ≡ lookup (pointwise ◌==◌ name.now) self.now }
     {
-        match self.place_of(name) {
+        match self.index_of(name) {
             None => None,
-            Some(place) => Some(&self.entries[place].1),
+            Some(index) => Some(&self.entries[index].1),
         }
     }
 }
@@ -94,8 +96,8 @@ impl<T: Drop> NameTable<T> {
     pub fn set(&mut self, name: &Name, value: T)
         ensures { self.new ≡ set_value (pointwise ◌==◌ name.now) self.old value }
     {
-        if let Some(place) = self.place_of(name) {
-            self.entries[place].1 = value;
+        if let Some(index) = self.index_of(name) {
+            self.entries[index].1 = value;
         }
     }
 
@@ -104,12 +106,12 @@ impl<T: Drop> NameTable<T> {
         ensures ok { OnOk result (self.new ≡ self.old ++ (name.now, value) ∷ []) }
         ensures err { OnErr result (self.new ≡ self.old) }
     {
-        let place = self.entries.len();
+        let index = self.entries.len();
         self.entries.push((*name, value))?;
-        match note_place(&mut self.places, name, place) {
+        match note_index(&mut self.indexes, name, index) {
             Ok(()) => Ok(()),
             Err(Memory) => {
-                self.entries.truncate(place);
+                self.entries.truncate(index);
                 Err(Memory)
             }
         }
@@ -120,7 +122,7 @@ impl<T: Drop> NameTable<T> {
         ensures { self.new ≡ take count self.old }
     {
         if self.entries.len() > count {
-            forget_places(&mut self.places, self.entries.as_slice(), count);
+            forget_indexes(&mut self.indexes, self.entries.as_slice(), count);
             self.entries.truncate(count);
         }
     }

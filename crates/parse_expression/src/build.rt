@@ -5,9 +5,11 @@ ghost use Rattle.contract_grammar.specs.declared.stop.Stop.TheVariants as stops;
 ghost use Rattle.contract_tokens.specs.declared.token.Token.{Token};
 ghost use Rattle.contract_tree.specs.Tree.{tree_of, trees, heights, height as height_of};
 ghost use Rattle.contract_tree.specs.Tree as tree;
-ghost use Rattle.contract_grammar.specs.Reading.{node};
-ghost use Rattle.contract_grammar.specs.Reads.{Gives};
-ghost use Rattle.contract_grammar.specs.declared.limits.TheConstants.{MAX_HEIGHT};
+ghost use Rattle.contract_grammar.specs.{
+  Reading.{node},
+  Reads.{Gives},
+  declared.limits.TheConstants.{MAX_HEIGHT},
+};
 
 use contract_grammar::{MAX_HEIGHT, Obstacle, Stop};
 use contract_tree::{Expr, ExprList, ExprNode, Sign};

@@ -24,7 +24,7 @@ use Rattle.contract_semantics.specs.declared.site.CallSite.{CallSite}
 use Rattle.contract_semantics.specs.Scenes.{Scene, scene_of}
 use Rattle.contract_semantics.specs.Steps.{Machine, machine, Step, Done, Failed}
 use Rattle.contract_semantics.specs.Statements.{Ending, statements_run}
-use Rattle.contract_semantics.specs.Calls.{CallResult, are_arguments, bound, call_ended, function_run, function_called, refused, call_result, rows_written}
+use Rattle.contract_semantics.specs.Calls.{CallResult, are_arguments, first_variables, call_ended, function_run, function_called, refused_call, call_result, rows_written}
 use Rattle.contract_laws.proofs.Tame.{FailsBadly, is_ok_status}
 use Rattle.contract_laws.proofs.Statements.{tame_statements}
 use Rattle.typed_replays.specs.Laws.{CallsWriteTypedRows}
@@ -48,10 +48,10 @@ none_typed = record {
   puts = All-nil IsTypedPut;
 }
 
-bound_holds : (params : List Param) (args : List Value) → All IsValue args → All HoldsValue (bound params args)
+bound_holds : (params : List Param) (args : List Value) → All IsValue args → All HoldsValue (first_variables params args)
 bound_holds [] args h = All-nil HoldsValue
 bound_holds (param ∷ params) [] h = All-nil HoldsValue
-bound_holds (param ∷ params) (arg ∷ args) h = All-cons HoldsValue (record { name = param.name; value = arg }) (bound params args) (All-head IsValue arg args h) (bound_holds params args (All-tail IsValue arg args h))
+bound_holds (param ∷ params) (arg ∷ args) h = All-cons HoldsValue (record { name = param.name; value = arg }) (first_variables params args) (All-head IsValue arg args h) (bound_holds params args (All-tail IsValue arg args h))
 
 -- the rows that a call writes are lawful and typed
 abbrev pub WritesTyped : ℕ → ℕ → CallResult → Type 0
@@ -78,17 +78,17 @@ module _ (number at : ℕ) (fits : number < 2 ^ 32) (at_fits : at < 2 ^ 16) wher
   step_writes budget (Done ending m) h bad = puts_typed m.capture number at h.1 fits at_fits
   step_writes budget (Failed status m) h bad = written_typed m.capture number at status (λ ok. absurd (true≢false (sym ok ∙ bad))) fits at_fits
 
-  refused_writes : (status : TxStatus) → WritesTyped number at (refused status)
+  refused_writes : (status : TxStatus) → WritesTyped number at (refused_call status)
   refused_writes status = written_typed captured_none number at status (λ ok. none_typed) fits at_fits
 
-  fit_writes : (s : Scene) (function : FunctionTree) (args : List Value) (b : Bool) → WritesTyped number at (function_run s function args) → WritesTyped number at (if b then function_run s function args else refused statuses.BadArgs)
+  fit_writes : (s : Scene) (function : FunctionTree) (args : List Value) (b : Bool) → WritesTyped number at (function_run s function args) → WritesTyped number at (if b then function_run s function args else refused_call statuses.BadArgs)
   fit_writes s function args true h = h
   fit_writes s function args false h = refused_writes statuses.BadArgs
 
   module _ (s : Scene) (typed : IsTypedScene s) (args : List Value) (values : All IsValue args) where
     run_writes : (function : FunctionTree) → RunValues function.body → WritesTyped number at (function_run s function args)
     run_writes function h =
-        let variables = bound function.params args in
+        let variables = first_variables function.params args in
         let m : Machine = machine s.site.budget captured_none in
         step_writes s.site.budget (statements_run s function.body variables m) ((statements_keep s typed function.body h variables (bound_holds function.params args values)).ends m none_typed) ((tame_statements function.body variables).fails s m)
 

@@ -99,8 +99,8 @@ module _ (compile : Compiler) (good : CompilesValues compile) where
   nothing_typed = record { history = nothing_typed_before; few = omega arith }
 
 pub chains_of_values_are_typed : ChainsOfValuesAreTyped
-chains_of_values_are_typed compile blocks good chain =
-    let typed = all_typed compile good blocks [] (nothing_typed compile good) chain in
+chains_of_values_are_typed compile blocks is =
+    let typed = all_typed compile is.0 blocks [] (nothing_typed compile is.0) is.1 in
     let counted : length (map digest_of blocks) ≡ length blocks = length-map blocks digest_of in
     record {
       history = typed.history.rows;
@@ -110,4 +110,4 @@ chains_of_values_are_typed compile blocks good chain =
     }
 
 pub replays_are_typed : ReplaysAreTyped
-replays_are_typed compile blocks is chain = chains_of_values_are_typed compile blocks (compilers_give_values compile is) chain
+replays_are_typed compile blocks is = chains_of_values_are_typed compile blocks (compilers_give_values compile is.0, is.1)

@@ -11,7 +11,7 @@ use Rattle.contract_tree.specs.Tree.{Tree, Trees, none, more}
 use Rattle.contract_tree.specs.Tree as tree
 use Rattle.contract_semantics.specs.declared.charge.TheConstants.{CHARGE_NODE}
 use Rattle.contract_semantics.specs.declared.variable.Variable.{Variable}
-use Rattle.contract_semantics.specs.Operators.{combined, prefixed, decided}
+use Rattle.contract_semantics.specs.Operators.{binary_result, prefix_result, left_decision}
 use Rattle.contract_semantics.specs.Scenes.{Scene}
 use Rattle.contract_semantics.specs.Expressions.{variable_of, value_found, value_of, values_of}
 use Rattle.typed_replays.specs.Literals.{HasValues, HaveValues}
@@ -38,9 +38,9 @@ module _ (s : Scene) (typed : IsTypedScene s) (variables : List Variable) (holds
     value_keeps (tree.Text at text) h = keeps_charged CHARGE_NODE (keeps_done (values.Text text) h)
     value_keeps (tree.Name at name) h = keeps_charged CHARGE_NODE (keeps_given (value_found (variable_of variables name)) (variable_typed variables name holds))
     value_keeps (tree.Call at name args) h = keeps_charged CHARGE_NODE (keeps_then (values_keep [] (All-nil IsValue) args h) (λ args k. applied_typed s typed name args k))
-    value_keeps (tree.Prefix at sign operand) h = keeps_charged CHARGE_NODE (keeps_then (value_keeps operand h) (λ value k. keeps_given (prefixed sign value) (prefixed_typed sign value)))
+    value_keeps (tree.Prefix at sign operand) h = keeps_charged CHARGE_NODE (keeps_then (value_keeps operand h) (λ value k. keeps_given (prefix_result sign value) (prefixed_typed sign value)))
     value_keeps (tree.Binary at sign left right) h = keeps_charged CHARGE_NODE (keeps_then (value_keeps left h.0)
-        (λ first k. keeps_unless (decided sign first) (decided_typed sign first) (keeps_then (value_keeps right h.1) (λ second l. keeps_given (combined sign first second) (combined_typed sign first second k l)))))
+        (λ first k. keeps_unless (left_decision sign first) (decided_typed sign first) (keeps_then (value_keeps right h.1) (λ second l. keeps_given (binary_result sign first second) (combined_typed sign first second k l)))))
 
     pub values_keep : (done : List Value) → All IsValue done → (xs : Trees) → HaveValues xs → Keeps (All IsValue) (λ m. values_of s variables done xs m)
     values_keep done d none h = keeps_done done d

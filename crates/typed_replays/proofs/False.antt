@@ -12,7 +12,7 @@ use Rattle.lc_base.specs.declared.row.Row.{Row}
 use Rattle.lc_base.specs.declared.value.Value.TheVariants as values
 use Rattle.contract_tree.specs.Tree.{FunctionTree, statements, no_statement}
 use Rattle.contract_tree.specs.Tree as tree
-use Rattle.contract_semantics.specs.Builtins.{applied}
+use Rattle.contract_semantics.specs.Builtins.{call_by_name}
 use Rattle.contract_semantics.specs.Calls.{call_result}
 use Rattle.block_codec.specs.Placement.{digest_of, no_parent, placement}
 use Rattle.block_codec.specs.Spelling.{IsBlock}
@@ -74,7 +74,7 @@ not_before a (inr same) = same.2 refl
 
 pub places_matter : PlacesDoNotMatter → ⊥
 places_matter law =
-    let typed = law compiled_in twice one_compiler.is_compiler (both_are (first (set (pos 1))) (first (set (pos 1))) is_first is_first) in
+    let typed = law compiled_in twice (one_compiler.is_compiler, both_are (first (set (pos 1))) (first (set (pos 1))) is_first is_first) in
     let ordered : AllPairs StandsBefore (row (pos 1) ∷ row (pos 1) ∷ []) = subst (AllPairs StandsBefore) rows_of_twice typed.history.lawful.ordered in
     not_before (row (pos 1)) (ordered 0 1 (row (pos 1)) (omega arith) (omega arith))
 
@@ -101,7 +101,7 @@ not_within fits = let low : 2 ^ 64 < 2 ^ 63 = fits.sfits in omega (arith, low)
 
 pub limits_matter : LimitsDoNotMatter → ⊥
 limits_matter law =
-    let typed = law compiled_in (large ∷ []) one_compiler.is_compiler (one_is_chain compiled_in large placed) in
+    let typed = law compiled_in (large ∷ []) (one_compiler.is_compiler, one_is_chain compiled_in large placed) in
     let rows : All IsTypedRow (row (pos (2 ^ 64)) ∷ []) = subst (All IsTypedRow) rows_of_large typed.history.typed in
     not_within (rows 0 (row (pos (2 ^ 64))) (omega arith)).value_is_value
 
@@ -127,7 +127,7 @@ abbrev written : Row
 written = record { key = codes "c/k"; block = 1; tx = 0; value = values.Int (pos (2 ^ 64)); deps = [] }
 
 rows_of_called : (parent : Digest) → (replay compiles_large (deploying ∷ calling parent ∷ [])).rows ≡ written ∷ []
-unfolding replay call_result applied
+unfolding replay call_result call_by_name
 rows_of_called parent = refl
 
 is_deploying : IsBlock deploying

@@ -12,7 +12,7 @@ use Rattle.lc_base.specs.declared.tx_status.TxStatus.TheVariants as statuses
 use Rattle.byte_fields.specs.Spelling.{IsValue}
 use Rattle.dep_capture.specs.Captured.{Captured, IsCapture}
 use Rattle.dep_capture.specs.declared.access.Put.{Put}
-use Rattle.contract_semantics.specs.Steps.{Machine, Step, Done, Failed, and_then, charged, given}
+use Rattle.contract_semantics.specs.Steps.{Machine, Step, Done, Failed, and_then, after_charge, step_of_result}
 use Rattle.contract_semantics.specs.Expressions.{unless_decided}
 
 -- A put of a value to a key.
@@ -39,7 +39,7 @@ keeps_done x p = record { ends = λ m h. (p, h) }
 pub keeps_failed : {A : Type 0} {P : A → Type 0} (status : TxStatus) → Keeps P (λ m. Failed status m)
 keeps_failed status = record { ends = λ m h. tt }
 
-pub keeps_given : {A : Type 0} {P : A → Type 0} (r : Result A TxStatus) → IfOk r P → Keeps P (λ m. given r m)
+pub keeps_given : {A : Type 0} {P : A → Type 0} (r : Result A TxStatus) → IfOk r P → Keeps P (λ m. step_of_result r m)
 keeps_given (Ok x) p = keeps_done x p
 keeps_given (Err status) p = keeps_failed status
 
@@ -47,7 +47,7 @@ charged_by : {A : Type 0} (P : A → Type 0) (n : ℕ) (f : Machine → Step A) 
 charged_by P n f m true h = h
 charged_by P n f m false h = tt
 
-pub keeps_charged : {A : Type 0} {P : A → Type 0} (n : ℕ) {f : Machine → Step A} → Keeps P f → Keeps P (λ m. charged n m f)
+pub keeps_charged : {A : Type 0} {P : A → Type 0} (n : ℕ) {f : Machine → Step A} → Keeps P f → Keeps P (λ m. after_charge n m f)
 keeps_charged {A} {P} n {f} h = record { ends = λ m k. charged_by P n f m (nat_le n m.left) (h.ends (record m { left = m.left - n }) k) }
 
 then_ends : {A B : Type 0} (P : A → Type 0) (Q : B → Type 0) (step : Step A) (g : A → Machine → Step B) → ((x : A) → P x → Keeps Q (g x)) → Ends P step → Ends Q (and_then step g)

@@ -16,7 +16,7 @@ use Rattle.lc_base.specs.declared.tx_status.TxStatus.TheVariants as statuses
 use Rattle.lc_base.proofs.Repeats.{apart_once}
 use Rattle.byte_fields.specs.Spelling.{IsValue}
 use Rattle.dep_capture.specs.Captured.{Captured, AreBackedDeps}
-use Rattle.dep_capture.specs.Capture.{was_put, are_read, deps_of, dep_of_read, dep_named, with_put, with_put_at, place_of, captured_after_put}
+use Rattle.dep_capture.specs.Capture.{was_put, are_read, deps_of, dep_of_read, dep_named, with_put, with_put_at, index_of, captured_after_put}
 use Rattle.dep_capture.specs.declared.limits.TheConstants.{MAX_KEYS_PUT}
 use Rattle.dep_capture.specs.declared.access.Read.{Read}
 use Rattle.dep_capture.specs.declared.access.Put.{Put}
@@ -73,7 +73,7 @@ refused_typed c key value named false false false e f h k v =
     let put : Put = record { key = key; value = value; deps = deps_of c.reads named } in
     record {
       lawful = put_keeps c.reads c.puts put h.lawful (deps_once c.reads named (grind (arith, nat_tests))) e;
-      puts = at_typed c.puts (place_of c.puts key) put (record { key_is_key = k; value_is_value = v }) h.puts;
+      puts = at_typed c.puts (index_of c.puts key) put (record { key_is_key = k; value_is_value = v }) h.puts;
     }
 
 allowed_by : (own written full : Bool) (key : List ℕ) → IsKey key → IfOk (if not own then Err statuses.Foreign else (if written then Err statuses.Conflict else (if full then Err statuses.TooMany else Ok key))) IsKey

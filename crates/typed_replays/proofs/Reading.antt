@@ -43,9 +43,9 @@ use Rattle.contract_semantics.specs.Charges.{charge_of}
 use Rattle.contract_semantics.specs.Numbers.{truth}
 use Rattle.contract_semantics.specs.Scenes.{Scene}
 use Rattle.contract_semantics.specs.Steps.{Machine, and_so}
-use Rattle.contract_semantics.specs.Reading.{Taken, and_read, key_of_text, block_of, value_of_version, recorded, value_got, is_held, int_in, text_in, of_kind, getting, having}
-use Rattle.contract_semantics.specs.Asking.{block_before, asked, version_asked, list_asked, item_asked, item_part_of, list_told, value_told, block_told, tx_told, count_told, item_told, item_of}
-use Rattle.contract_semantics.specs.Builtins.{one_text, one_int, text_and_int, text_and_ints, with_args, reading_args, version_value, item_value, version_part, count_part, item_part, plain_value, built, taken_step, called, applied}
+use Rattle.contract_semantics.specs.Reading.{Taken, and_read, key_of_text, block_of, value_of_version, read_result, value_got, is_held, int_in, text_in, of_kind, getting, having}
+use Rattle.contract_semantics.specs.Asking.{block_before, answer_up_to, version_asked, list_asked, item_asked, item_part_of, list_told, value_told, block_told, tx_told, count_told, item_told, item_of}
+use Rattle.contract_semantics.specs.Builtins.{one_text, one_int, text_and_int, text_and_ints, with_args, reading_args, version_value, item_value, version_part, count_part, item_part, plain_value, builtin_result, taken_step, builtin_call, call_by_name}
 use Rattle.typed_ledger.specs.TypedLedger.{IsTypedRow, IsTypedHistory}
 use Rattle.typed_replays.proofs.Values.{small_fits, truth_fits}
 use Rattle.typed_replays.proofs.Keeping.{IsTypedPut, IsTyped, Ends, Keeps, keeps_failed, keeps_charged}
@@ -145,7 +145,7 @@ asked_by rows kind h (Ok key) (Ok block) = scan_typed rows (question kind key bl
 asked_by rows kind h (Ok key) (Err status) = tt
 asked_by rows kind h (Err status) q = tt
 
-asked_typed : (rows : List Row) (number : ℕ) (kind : Kind) (text : List ℕ) (at : ℤ) → IsTypedHistory rows → IfOk (asked rows number kind text at) IsTypedAnswer
+asked_typed : (rows : List Row) (number : ℕ) (kind : Kind) (text : List ℕ) (at : ℤ) → IsTypedHistory rows → IfOk (answer_up_to rows number kind text at) IsTypedAnswer
 asked_typed rows number kind text at h = asked_by rows kind h (key_of_text text) (block_before number at)
 
 version_typed : (answer : Answer) → IsTypedAnswer answer → IfSome (version_in answer) IsTypedVersion
@@ -176,7 +176,7 @@ version_part_typed rows number builtin args h tell =
     let Q : Option Version → Type 0 = λ o. IfSome o IsTypedVersion in
     any_args (text_and_int args) (λ arg. and_so (version_asked rows number arg.0 arg.1) (version_value builtin))
     (λ arg. so_typed Q IsValue (version_asked rows number arg.0 arg.1) (version_value builtin)
-    (so_typed IsTypedAnswer Q (asked rows number kinds.Hist arg.0 arg.1) (λ answer. Ok (version_in answer)) (asked_typed rows number kinds.Hist arg.0 arg.1 h) version_typed) tell)
+    (so_typed IsTypedAnswer Q (answer_up_to rows number kinds.Hist arg.0 arg.1) (λ answer. Ok (version_in answer)) (asked_typed rows number kinds.Hist arg.0 arg.1 h) version_typed) tell)
 
 value_typed : (o : Option Version) → IfSome o IsTypedVersion → IfOk (value_told o) IsValue
 value_typed None h = tt
@@ -194,7 +194,7 @@ count_part_typed : (rows : List Row) (number : ℕ) (kind : Kind) (args : List V
 count_part_typed rows number kind args h =
     any_args (text_and_int args) (λ arg. and_so (list_asked rows number kind arg.0 arg.1) count_told)
     (λ arg. so_typed AreDeps IsValue (list_asked rows number kind arg.0 arg.1) count_told
-    (so_typed IsTypedAnswer AreDeps (asked rows number kind arg.0 arg.1) (λ answer. list_told (list_in answer)) (asked_typed rows number kind arg.0 arg.1 h) list_typed)
+    (so_typed IsTypedAnswer AreDeps (answer_up_to rows number kind arg.0 arg.1) (λ answer. list_told (list_in answer)) (asked_typed rows number kind arg.0 arg.1 h) list_typed)
     (λ deps k. small_fits (length deps) k.0))
 
 got_typed : (P : Dep → Type 0) (deps : List Dep) (n : ℕ) → All P deps → IfSome (slice_get deps n) P
@@ -214,7 +214,7 @@ item_part_typed : (rows : List Row) (number : ℕ) (kind : Kind) (builtin : Buil
 item_part_typed rows number kind builtin args h tell =
     any_args (text_and_ints args) (λ arg. and_so (item_asked rows number kind arg.0 arg.1.0 arg.1.1) (item_value builtin))
     (λ arg. so_typed IsTypedDep IsValue (item_asked rows number kind arg.0 arg.1.0 arg.1.1) (item_value builtin)
-    (so_typed IsTypedAnswer IsTypedDep (asked rows number kind arg.0 arg.1.0) (λ answer. item_part_of answer arg.1.1) (asked_typed rows number kind arg.0 arg.1.0 h)
+    (so_typed IsTypedAnswer IsTypedDep (answer_up_to rows number kind arg.0 arg.1.0) (λ answer. item_part_of answer arg.1.1) (asked_typed rows number kind arg.0 arg.1.0 h)
     (λ answer k. so_typed AreDeps IsTypedDep (list_told (list_in answer)) (λ deps. item_of deps arg.1.1) (list_typed answer k) (λ deps l. item_of_typed deps arg.1.1 l)))
     tell)
 
@@ -269,7 +269,7 @@ with_read c key held = record c { reads = c.reads ++ record { key = key; version
 
 abbrev read_by : Bool → Bool → Bool → Option Held → List ℕ → (Option Held → Result Value TxStatus) → Captured → Taken
 read_by written known full held key gives c =
-    and_read (if written then Err statuses.Conflict else recorded (if known then Ok c else (if full then Err errors.TooMany else Ok (with_read c key held)))) c (λ c. (gives held, c))
+    and_read (if written then Err statuses.Conflict else read_result (if known then Ok c else (if full then Err errors.TooMany else Ok (with_read c key held)))) c (λ c. (gives held, c))
 
 read_typed : (written known full : Bool) (held : Option Held) (key : List ℕ) (gives : Option Held → Result Value TxStatus) (c : Captured) → was_read c.reads key ≡ known → nat_le MAX_KEYS_READ (length c.reads) ≡ full → IsTyped c → IfOk (gives held) IsValue
     → TypedTaken (read_by written known full held key gives c)
@@ -314,7 +314,7 @@ reading_typed : (o : Option (List ℕ)) (c : Captured) (next : List ℕ → Take
 reading_typed None c next h = tt
 reading_typed (Some text) c next h = h text
 
-built_typed : (s : Scene) → IsTypedScene s → (builtin : Builtin) (args : List Value) (c : Captured) → All IsValue args → IsTyped c → TypedTaken (built s builtin args c)
+built_typed : (s : Scene) → IsTypedScene s → (builtin : Builtin) (args : List Value) (c : Captured) → All IsValue args → IsTyped c → TypedTaken (builtin_result s builtin args c)
 built_typed s h b.GetInt args c k t = reading_typed (one_text args) c (λ text. of_kind int_in (getting s.place text c)) (λ text. kind_typed int_in int_in_typed (getting s.place text c) (getting_by s h (key_of_text text) c t))
 built_typed s h b.GetText args c k t = reading_typed (one_text args) c (λ text. of_kind text_in (getting s.place text c)) (λ text. kind_typed text_in text_in_typed (getting s.place text c) (getting_by s h (key_of_text text) c t))
 built_typed s h b.Has args c k t = reading_typed (one_text args) c (λ text. having s.place text c) (λ text. having_by s (key_of_text text) c t)
@@ -338,11 +338,11 @@ step_typed : (taken : Taken) (m : Machine) → TypedTaken taken → Ends IsValue
 step_typed (Ok value, c) m h = h
 step_typed (Err status, c) m h = tt
 
-called_typed : (s : Scene) → IsTypedScene s → (o : Option Builtin) (args : List Value) → All IsValue args → Keeps IsValue (λ m. called s o args m)
+called_typed : (s : Scene) → IsTypedScene s → (o : Option Builtin) (args : List Value) → All IsValue args → Keeps IsValue (λ m. builtin_call s o args m)
 called_typed s h None args k = keeps_failed statuses.WrongKind
-called_typed s h (Some builtin) args k = keeps_charged (charge_of builtin) {f = λ m. taken_step (built s builtin args m.capture) m}
-    (record { ends = λ m t. step_typed (built s builtin args m.capture) m (built_typed s h builtin args m.capture k t) })
+called_typed s h (Some builtin) args k = keeps_charged (charge_of builtin) {f = λ m. taken_step (builtin_result s builtin args m.capture) m}
+    (record { ends = λ m t. step_typed (builtin_result s builtin args m.capture) m (built_typed s h builtin args m.capture k t) })
 
-pub applied_typed : (s : Scene) → IsTypedScene s → (name : List ℕ) (args : List Value) → All IsValue args → Keeps IsValue (λ m. applied s name args m)
-unfolding applied
+pub applied_typed : (s : Scene) → IsTypedScene s → (name : List ℕ) (args : List Value) → All IsValue args → Keeps IsValue (λ m. call_by_name s name args m)
+unfolding call_by_name
 applied_typed s h name args k = called_typed s h (builtin_of name) args k

@@ -28,7 +28,7 @@ use Rattle.block_codec.specs.declared.limits.TheConstants.{MAX_TXS, MAX_ROWS_BEF
 use Rattle.block_codec.specs.Spelling.{IsTx, IsBlock}
 use Rattle.chain_exec.specs.BlockRows.{HasNewestDeps, AreTxRows, AreBlockRows}
 use Rattle.chain_exec.specs.Compiled.{Compiler}
-use Rattle.chain_exec.specs.Effect.{Codes, History, Effect, refused, free, effect_of, is_written, meets_conflict, deps_on, is_taken_in, deploy_effect, code_in, call_effect}
+use Rattle.chain_exec.specs.Effect.{Codes, History, Effect, refused_effect, free, effect_of, is_written, meets_conflict, deps_on, is_taken_in, deploy_effect, code_in, call_effect}
 use Rattle.chain_exec.specs.Fold.{Staged, nothing_staged, with_effect, effects_after, block_effects}
 use Rattle.chain_exec.specs.Replay.{no_history, history_after}
 use Rattle.chain_exec.proofs.BlockSteps.{no_block_rows}
@@ -51,11 +51,11 @@ nothing_typed : (place : Place) (number at : ℕ) (effect : Effect) → effect.r
 nothing_typed place number at effect e codes = record { lawful = subst (AreTxRows place number at) (sym e) (no_rows place number at); typed = subst (All IsTypedRow) (sym e) (All-nil IsTypedRow); codes = codes }
 
 abbrev the_set : Bool → Bool → Row → Effect
-the_set foreign conflict row = cond foreign (refused statuses.Foreign) (cond conflict (refused statuses.Conflict) (record { receipt = free statuses.Ok; rows = row ∷ []; codes = [] }))
+the_set foreign conflict row = cond foreign (refused_effect statuses.Foreign) (cond conflict (refused_effect statuses.Conflict) (record { receipt = free statuses.Ok; rows = row ∷ []; codes = [] }))
 
 set_typed : (place : Place) (number at : ℕ) (foreign conflict : Bool) (row : Row) → row.block ≡ number → row.tx ≡ at → HasNewestDeps place.newest row → IsTypedRow row → (conflict ≡ false → place.written row.key ≡ false) → IsTypedEffect place number at (the_set foreign conflict row)
-set_typed place number at true conflict row b t d typed w = nothing_typed place number at (refused statuses.Foreign) refl (All-nil CodeOfValues)
-set_typed place number at false true row b t d typed w = nothing_typed place number at (refused statuses.Conflict) refl (All-nil CodeOfValues)
+set_typed place number at true conflict row b t d typed w = nothing_typed place number at (refused_effect statuses.Foreign) refl (All-nil CodeOfValues)
+set_typed place number at false true row b t d typed w = nothing_typed place number at (refused_effect statuses.Conflict) refl (All-nil CodeOfValues)
 set_typed place number at false false row b t d typed w = record {
   lawful = record {
     few = omega arith;
@@ -70,8 +70,8 @@ set_typed place number at false false row b t d typed w = record {
 }
 
 deploy_typed : (place : Place) (number at : ℕ) (taken : Bool) (name : List ℕ) (code : Option (List FunctionTree)) → IfSome code AreFunctionsOfValues → IsTypedEffect place number at (deploy_effect taken name code)
-deploy_typed place number at true name code h = nothing_typed place number at (refused statuses.Taken) refl (All-nil CodeOfValues)
-deploy_typed place number at false name None h = nothing_typed place number at (refused statuses.BadSource) refl (All-nil CodeOfValues)
+deploy_typed place number at true name code h = nothing_typed place number at (refused_effect statuses.Taken) refl (All-nil CodeOfValues)
+deploy_typed place number at false name None h = nothing_typed place number at (refused_effect statuses.BadSource) refl (All-nil CodeOfValues)
 deploy_typed place number at false name (Some functions) h = nothing_typed place number at (deploy_effect false name (Some functions)) refl (All-cons CodeOfValues (name, functions) [] h (All-nil CodeOfValues))
 
 by_name : (o : Option (List FunctionTree)) (functions : List FunctionTree) (b : Bool) → AreFunctionsOfValues functions → IfSome o AreFunctionsOfValues → IfSome (cond b (Some functions) o) AreFunctionsOfValues
@@ -84,7 +84,7 @@ code_typed (code ∷ codes) name h = by_name (code_in codes name) code.1 (pointw
 
 call_typed : (rows : List Row) (written : List ℕ → Bool) (site : CallSite) (args : List Value) (at : ℕ) (o : Option (List FunctionTree)) → IfSome o AreFunctionsOfValues → IsTypedHistory rows → IsKey site.sender → site.number < 2 ^ 32 → All IsValue args → at < 2 ^ 16
     → IsTypedEffect (record { newest = held_in rows; written = written }) site.number at (call_effect o (scene_of rows written site) args at)
-call_typed rows written site args at None h typed sender number given fits = nothing_typed (record { newest = held_in rows; written = written }) site.number at (refused statuses.NoContract) refl (All-nil CodeOfValues)
+call_typed rows written site args at None h typed sender number given fits = nothing_typed (record { newest = held_in rows; written = written }) site.number at (refused_effect statuses.NoContract) refl (All-nil CodeOfValues)
 call_typed rows written site args at (Some functions) h typed sender number given fits =
     let s : Scene = scene_of rows written site in
     let result = call_result functions s args in

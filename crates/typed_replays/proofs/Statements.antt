@@ -12,7 +12,7 @@ use Rattle.contract_semantics.specs.declared.variable.Variable.{Variable}
 use Rattle.contract_semantics.specs.Operators.{holds}
 use Rattle.contract_semantics.specs.Scenes.{Scene}
 use Rattle.contract_semantics.specs.Steps.{Machine, Step}
-use Rattle.contract_semantics.specs.Statements.{Ending, Goes, Returns, Turn, Again, Ended, unless_returned, block_ended, declared, assigned, variable_index, value_replaced, tested, turn_again, loop_turn, after_turn, turns, parts_values, put_run, statement_run, statements_run}
+use Rattle.contract_semantics.specs.Statements.{Ending, Goes, Returns, Turn, Again, Ended, unless_returned, block_ended, with_variable, with_assignment, variable_index, value_replaced, condition_step, turn_again, loop_turn, after_turn, turns, parts_values, put_run, statement_run, statements_run}
 use Rattle.typed_replays.specs.Literals.{HasValues, PartsHaveValues, RunsValues, RunValues}
 use Rattle.typed_replays.proofs.Keeping.{Keeps, keeps_done, keeps_failed, keeps_charged, keeps_then, keeps_if}
 use Rattle.typed_replays.proofs.Reading.{IsTypedScene}
@@ -52,7 +52,7 @@ turns_keep turn h zero variables k = keeps_failed statuses.OutOfSteps
 turns_keep turn h (suc n) variables k = keeps_then (h variables k) (λ t l. after_keeps (turns n turn) (turns_keep turn h n) t l)
 
 module _ (s : Scene) (typed : IsTypedScene s) where
-  condition_keeps : (test : Tree) → HasValues test → (variables : List Variable) → All HoldsValue variables → Keeps {A = Bool} Anything (λ m. tested s test variables m)
+  condition_keeps : (test : Tree) → HasValues test → (variables : List Variable) → All HoldsValue variables → Keeps {A = Bool} Anything (λ m. condition_step s test variables m)
   condition_keeps test h variables k = keeps_charged CHARGE_NODE (keeps_then (value_keeps s typed variables k test h) (λ value l. keeps_done (holds value) tt))
 
   parts_keep : (parts : Option Trees) → PartsHaveValues parts → (variables : List Variable) → All HoldsValue variables → Keeps {A = Option (List Value)} Anything (λ m. parts_values s variables parts m)
@@ -72,9 +72,9 @@ module _ (s : Scene) (typed : IsTypedScene s) where
   mutual
     pub statement_keeps : (x : StatementTree) → RunsValues x → (variables : List Variable) → All HoldsValue variables → Keeps EndingHolds (λ m. statement_run s x variables m)
     statement_keeps (tree.Let at name_at name value) h variables k = keeps_charged CHARGE_NODE (keeps_then (value_keeps s typed variables k value h)
-        (λ v l. keeps_done (Goes (declared variables name v)) (All-push HoldsValue variables (record { name = name; value = v }) k l)))
+        (λ v l. keeps_done (Goes (with_variable variables name v)) (All-push HoldsValue variables (record { name = name; value = v }) k l)))
     statement_keeps (tree.Assign at name value) h variables k = keeps_charged CHARGE_NODE (keeps_then (value_keeps s typed variables k value h)
-        (λ v l. keeps_done (Goes (assigned variables name v)) (replaced_keeps (variable_index variables name) variables name v k l)))
+        (λ v l. keeps_done (Goes (with_assignment variables name v)) (replaced_keeps (variable_index variables name) variables name v k l)))
     statement_keeps (tree.If at test first) h variables k = keeps_then (condition_keeps test h.0 variables k)
         (λ chosen l. keeps_if chosen (keeps_then (statements_keep first h.1 variables k) (λ ending e. ended_keeps variables ending e)) (keeps_done (Goes variables) k))
     statement_keeps (tree.IfElse at test first second) h variables k = keeps_then (condition_keeps test h.0 variables k)

@@ -16,7 +16,7 @@ use Rattle.byte_fields.specs.Spelling.{IsValue}
 use Rattle.contract_tree.specs.declared.tree.Sign.{Sign}
 use Rattle.contract_tree.specs.declared.tree.Sign.TheVariants as signs
 use Rattle.contract_semantics.specs.Numbers.{fits, is_zero, in_range, quotient, remainder, truth}
-use Rattle.contract_semantics.specs.Operators.{as_int, as_text, on_ints, on_texts, combined, prefixed, decided}
+use Rattle.contract_semantics.specs.Operators.{as_int, as_text, on_ints, on_texts, binary_result, prefix_result, left_decision}
 
 -- ---- numbers
 
@@ -105,13 +105,13 @@ texts_typed signs.Slash a b h k = tt
 texts_typed signs.Percent a b h k = tt
 texts_typed signs.Not a b h k = tt
 
-pub combined_typed : (sign : Sign) (a b : Value) → IsValue a → IsValue b → IfOk (combined sign a b) IsValue
+pub combined_typed : (sign : Sign) (a b : Value) → IsValue a → IsValue b → IfOk (binary_result sign a b) IsValue
 combined_typed sign (values.Int a) (values.Int b) h k = ints_typed sign a b k
 combined_typed sign (values.Text a) (values.Text b) h k = texts_typed sign a b h k
 combined_typed sign (values.Int a) (values.Text b) h k = tt
 combined_typed sign (values.Text a) (values.Int b) h k = tt
 
-pub prefixed_typed : (sign : Sign) (value : Value) → IfOk (prefixed sign value) IsValue
+pub prefixed_typed : (sign : Sign) (value : Value) → IfOk (prefix_result sign value) IsValue
 prefixed_typed signs.Or value = tt
 prefixed_typed signs.And value = tt
 prefixed_typed signs.Equal value = tt
@@ -138,7 +138,7 @@ decides_or : (b : Bool) → IfSome (if b then None else Some (pos 1)) (FitsSigne
 decides_or true = tt
 decides_or false = small_fits 1 (omega arith)
 
-pub decided_typed : (sign : Sign) (value : Value) → IfSome (decided sign value) (FitsSigned w64)
+pub decided_typed : (sign : Sign) (value : Value) → IfSome (left_decision sign value) (FitsSigned w64)
 decided_typed signs.Or (values.Int a) = decides_or (is_zero a)
 decided_typed signs.Or (values.Text a) = tt
 decided_typed signs.And (values.Int a) = decides_and (is_zero a)

@@ -72,14 +72,17 @@ BlocksAddTypedRows =
 
 -- ---- replays
 
--- The rows of a chain and the digests of its blocks are a typed ledger, where the compiler gives values.
-abbrev pub ChainsOfValuesAreTyped : Type 0
-ChainsOfValuesAreTyped =
-    (compile : Compiler) (blocks : List Block) → CompilesValues compile → IsLawfulChain compile blocks
+-- Where this holds of a compiler and blocks, the rows and the digests of the blocks are a typed ledger.
+abbrev pub AreTypedWhere : (Compiler → List Block → Type 0) → Type 0
+AreTypedWhere Premise =
+    (compile : Compiler) (blocks : List Block) → Premise compile blocks
     → IsTypedLedger (replay compile blocks).rows (map digest_of blocks)
 
--- The rows of a chain and the digests of its blocks are a typed ledger.
+-- Those of a chain are, where the compiler gives values.
+abbrev pub ChainsOfValuesAreTyped : Type 0
+ChainsOfValuesAreTyped =
+    AreTypedWhere (λ compile blocks. CompilesValues compile × IsLawfulChain compile blocks)
+
+-- Those of a chain are, where the compiler is right.
 abbrev pub ReplaysAreTyped : Type 0
-ReplaysAreTyped =
-    (compile : Compiler) (blocks : List Block) → IsCompiler compile → IsLawfulChain compile blocks
-    → IsTypedLedger (replay compile blocks).rows (map digest_of blocks)
+ReplaysAreTyped = AreTypedWhere (λ compile blocks. IsCompiler compile × IsLawfulChain compile blocks)

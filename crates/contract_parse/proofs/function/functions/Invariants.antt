@@ -5,8 +5,8 @@ use Rattle.contract_grammar.specs.Rules.{each}
 use Rattle.contract_grammar.specs.Reading.{function}
 use Rattle.contract_parse.proofs.function.functions.Given as goal
 
-abbrev pub decreases-loop-alloc : goal.decreases-loop-alloc
-decreases-loop-alloc l = length l.cursor
+abbrev pub decreases-loop-cursor : goal.decreases-loop-cursor
+decreases-loop-cursor l = length l.cursor
 
-abbrev pub invariant-loop-alloc : goal.invariant-loop-alloc
-invariant-loop-alloc l = each is_no_end (λ n. function) (map function_of l.all.items) l.cursor ≡ each is_no_end (λ n. function) (map function_of l.fn.earlier.items) l.initial.cursor
+abbrev pub invariant-loop-cursor : goal.invariant-loop-cursor
+invariant-loop-cursor l = each is_no_end (λ n. function) (map function_of l.all.items) l.cursor ≡ each is_no_end (λ n. function) (map function_of l.fn.earlier.items) l.initial.cursor

@@ -10,9 +10,6 @@ use Rattle.contract_parse.proofs.statement.+block.Given as goal
 abbrev pub decreases-block : goal.decreases-block
 decreases-block l = l.nesting * 100
 
-abbrev pub decreases-second_block : goal.decreases-second_block
-decreases-second_block l = l.nesting * 100 + 3
-
 abbrev pub decreases-else_part : goal.decreases-else_part
 decreases-else_part l = l.nesting * 100 + 5
 
@@ -37,8 +34,8 @@ decreases-open_block l = l.nesting * 100 + 12
 abbrev pub decreases-block_rest : goal.decreases-block_rest
 decreases-block_rest l = l.nesting * 100 + 11
 
-abbrev pub decreases-statements-loop-alloc : goal.decreases-statements-loop-alloc
-decreases-statements-loop-alloc l = length l.cursor
+abbrev pub decreases-statements-loop-cursor : goal.decreases-statements-loop-cursor
+decreases-statements-loop-cursor l = length l.cursor
 
-abbrev pub invariant-statements-loop-alloc : goal.invariant-statements-loop-alloc
-invariant-statements-loop-alloc l = each (is_not m.BraceClose) (λ n. statement (block l.nesting)) (map statement_of l.all.items) l.cursor ≡ each (is_not m.BraceClose) (λ n. statement (block l.nesting)) [] l.initial.cursor
+abbrev pub invariant-statements-loop-cursor : goal.invariant-statements-loop-cursor
+invariant-statements-loop-cursor l = each (is_not m.BraceClose) (λ n. statement (block l.nesting)) (map statement_of l.all.items) l.cursor ≡ each (is_not m.BraceClose) (λ n. statement (block l.nesting)) [] l.initial.cursor

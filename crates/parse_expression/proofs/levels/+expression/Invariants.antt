@@ -29,20 +29,20 @@ decreases-operand_by_start l = l.depth * 1000 + 4
 abbrev pub decreases-operand : goal.decreases-operand
 decreases-operand l = l.depth * 1000 + 5
 
-abbrev pub decreases-right_side : goal.decreases-right_side
-decreases-right_side l = l.depth * 1000 + l.looseness * 5 + 3
+abbrev pub decreases-binary : goal.decreases-binary
+decreases-binary l = l.depth * 1000 + l.level * 5 + 3
 
 abbrev pub decreases-chain : goal.decreases-chain
-decreases-chain l = l.depth * 1000 + l.looseness * 5 + 4
+decreases-chain l = l.depth * 1000 + l.level * 5 + 4
 
-abbrev pub decreases-level : goal.decreases-level
-decreases-level l = l.depth * 1000 + l.looseness * 5 + 7
+abbrev pub decreases-at_level : goal.decreases-at_level
+decreases-at_level l = l.depth * 1000 + l.level * 5 + 7
 
 abbrev pub decreases-binary_level : goal.decreases-binary_level
-decreases-binary_level l = l.depth * 1000 + l.looseness * 5 + 6
+decreases-binary_level l = l.depth * 1000 + l.level * 5 + 6
 
 abbrev pub decreases-rest : goal.decreases-rest
-decreases-rest l = l.depth * 1000 + l.looseness * 5 + 5
+decreases-rest l = l.depth * 1000 + l.level * 5 + 5
 
 abbrev pub decreases-item : goal.decreases-item
 decreases-item l = l.depth * 1000 + 40
@@ -53,14 +53,14 @@ decreases-items l = l.depth * 1000 + 41
 abbrev pub decreases-more_items : goal.decreases-more_items
 decreases-more_items l = l.depth * 1000 + 42
 
-abbrev pub decreases-chain-loop-alloc : goal.decreases-chain-loop-alloc
-decreases-chain-loop-alloc l = length l.cursor
+abbrev pub decreases-chain-loop-cursor : goal.decreases-chain-loop-cursor
+decreases-chain-loop-cursor l = length l.cursor
 
-abbrev pub invariant-chain-loop-alloc : goal.invariant-chain-loop-alloc
-invariant-chain-loop-alloc l = turns (has (sign_of l.looseness)) (binary l.looseness (level_of (operand l.depth) (l.looseness - 1))) (tree_of l.left.expr) l.cursor ≡ turns (has (sign_of l.looseness)) (binary l.looseness (level_of (operand l.depth) (l.looseness - 1))) (tree_of l.fn.first.expr) l.initial.cursor
+abbrev pub invariant-chain-loop-cursor : goal.invariant-chain-loop-cursor
+invariant-chain-loop-cursor l = turns (has (sign_of l.level)) (binary l.level (level_of (operand l.depth) (l.level - 1))) (tree_of l.left.expr) l.cursor ≡ turns (has (sign_of l.level)) (binary l.level (level_of (operand l.depth) (l.level - 1))) (tree_of l.fn.first.expr) l.initial.cursor
 
-abbrev pub decreases-items-loop-alloc : goal.decreases-items-loop-alloc
-decreases-items-loop-alloc l = length l.cursor
+abbrev pub decreases-items-loop-cursor : goal.decreases-items-loop-cursor
+decreases-items-loop-cursor l = length l.cursor
 
-abbrev pub invariant-items-loop-alloc : goal.invariant-items-loop-alloc
-invariant-items-loop-alloc l = each (is m.Comma) (comma_then (level_of (operand l.depth) WHOLE)) (map tree_of l.all.items.items) l.cursor ≡ each (is m.Comma) (comma_then (level_of (operand l.depth) WHOLE)) (map tree_of l.fn.earlier.items.items) l.initial.cursor
+abbrev pub invariant-items-loop-cursor : goal.invariant-items-loop-cursor
+invariant-items-loop-cursor l = each (is m.Comma) (comma_then (level_of (operand l.depth) WHOLE)) (map tree_of l.all.items.items) l.cursor ≡ each (is m.Comma) (comma_then (level_of (operand l.depth) WHOLE)) (map tree_of l.fn.earlier.items.items) l.initial.cursor

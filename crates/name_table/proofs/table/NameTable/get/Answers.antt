@@ -5,9 +5,9 @@ use Rattle.name_table.proofs.FirstPlaces.{found_at}
 use Rattle.name_table.proofs.table.NameTable.get.Goals as goal
 
 pub returns-in-None : goal.returns-in-None
-returns-in-None g c = sym (found_at (pointwise ◌==◌ c.args.name.now) c.args.self.now None (sym c.in-None.ensures.place)).0
+returns-in-None g c = sym (found_at (pointwise ◌==◌ c.args.name.now) c.args.self.now None (sym c.in-None.ensures.index)).0
 
 pub returns-in-Some : goal.returns-in-Some
 returns-in-Some g c =
-    let at = slice_get_read c.self.inside.entries.items (length c.self.inside.entries.items) c.in-Some.place c.index.result.now refl (rw c.self.view_is c.in-Some.ensures.within) c.index.ensures in
-    sym (found_at (pointwise ◌==◌ c.args.name.now) c.args.self.now (Some c.in-Some.place) (sym c.in-Some.ensures.place) c.index.result.now (rw (← c.self.view_is) at)).0
+    let at = slice_get_read c.self.inside.entries.items (length c.self.inside.entries.items) c.in-Some.index c.index.result.now refl (rw c.self.view_is c.in-Some.ensures.within) c.index.ensures in
+    sym (found_at (pointwise ◌==◌ c.args.name.now) c.args.self.now (Some c.in-Some.index) (sym c.in-Some.ensures.index) c.index.result.now (rw (← c.self.view_is) at)).0
