@@ -22,9 +22,9 @@ use Rattle.block_codec.specs.declared.block.Tx.TheVariants.{Set, Deploy, Call}
 use Rattle.block_codec.specs.declared.block.Block.{Block}
 use Rattle.chain_exec.specs.BlockRows.{IsOnNewest, HasNewestDeps}
 use Rattle.chain_exec.specs.Compiled.{Compiler}
-use Rattle.chain_exec.specs.Effect.{History, Effect, refused, free, is_written, meets_conflict, deps_on, is_taken_in, deploy_effect, code_in, call_effect}
+use Rattle.chain_exec.specs.Effect.{History, Effect, refused_effect, free, is_written, meets_conflict, deps_on, is_taken_in, deploy_effect, code_in, call_effect}
 use Rattle.chain_exec.specs.Fold.{block_effects}
-use Rattle.chain_exec.specs.Replay.{history_after, replayed, replay, receipts_after, receipts_of, no_history}
+use Rattle.chain_exec.specs.Replay.{history_after, history_of_blocks, replay, receipts_after, receipts_of, no_history}
 use Rattle.chain_exec.specs.Laws.{OneCompiler, ReceiptsIgnoreIndexes, FailuresLeaveNothing, ReplayGrows, BlocksKeepLawful, BlocksKeepOrder}
 use Rattle.chain_exec.proofs.BlockSteps.{pairs_append}
 use Rattle.chain_exec.proofs.Compilers.{compiled_is, one_compiler as only_compiler}
@@ -37,7 +37,7 @@ one_compiler = record { is_compiler = compiled_is; only = only_compiler }
 -- a Set, by its two tests
 abbrev tested : Bool → Bool → Row → Effect
 tested foreign conflict row =
-    cond foreign (refused statuses.Foreign) (cond conflict (refused statuses.Conflict) (record { receipt = free statuses.Ok; rows = row ∷ []; codes = [] }))
+    cond foreign (refused_effect statuses.Foreign) (cond conflict (refused_effect statuses.Conflict) (record { receipt = free statuses.Ok; rows = row ∷ []; codes = [] }))
 
 same_receipt : (foreign conflict : Bool) (a b : Row) → (tested foreign conflict a).receipt ≡ (tested foreign conflict b).receipt
 same_receipt true conflict a b = refl
@@ -87,11 +87,11 @@ failures_leave_nothing compile history rows codes number at (Call sender contrac
 -- ---- replay
 
 module _ (compile : Compiler) (block : Block) where
-  replayed_more : (history : History) (blocks : List Block) → replayed compile history (blocks ++ block ∷ []) ≡ history_after compile (replayed compile history blocks) block
+  replayed_more : (history : History) (blocks : List Block) → history_of_blocks compile history (blocks ++ block ∷ []) ≡ history_after compile (history_of_blocks compile history blocks) block
   replayed_more history [] = refl
   replayed_more history (b ∷ blocks) = replayed_more (history_after compile history b) blocks
 
-  receipts_more : (history : History) (blocks : List Block) → receipts_after compile history (blocks ++ block ∷ []) ≡ receipts_after compile history blocks ++ (block_effects compile (replayed compile history blocks) block).receipts ∷ []
+  receipts_more : (history : History) (blocks : List Block) → receipts_after compile history (blocks ++ block ∷ []) ≡ receipts_after compile history blocks ++ (block_effects compile (history_of_blocks compile history blocks) block).receipts ∷ []
   receipts_more history [] = refl
   receipts_more history (b ∷ blocks) = ap (λ rs. (block_effects compile history b).receipts ∷ rs) (receipts_more (history_after compile history b) blocks)
 

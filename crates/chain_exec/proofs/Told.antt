@@ -3,7 +3,7 @@ use Rattle.std.proofs.Common.{◌≡◌, ℕ, eqb, inl, inr, Option, None, Some,
 use Rattle.std.specs.Prelude.{IfSome, IfOk}
 use Rattle.std.proofs.lemmas.Bool.{cases_Bool, eqb-true, eq-eqb}
 use Rattle.lc_base.specs.declared.memory.Memory.{Memory}
-use Rattle.lc_base.specs.declared.host.HostError.{HostError}
+use Rattle.lc_base.specs.declared.host_error.HostError.{HostError}
 use Rattle.chain_exec.specs.declared.staging.TxRun.{TxRun}
 
 pub if_told : {X : Type 0} (P : X → Type 0) (told : Option X) → ((x : X) → P x) → IfSome told P

@@ -1,9 +1,8 @@
 -- What holds of the rows of one transaction.
-use Rattle.std.proofs.Common.{◌≡◌, ◌≢◌, eqb, ℕ, ◌≤◌, ◌+◌, false, cond, not, List, [], ◌∷◌, length, Option, Some, None, Result, Ok, Err, refl, sym, ap, subst, arith}
-use Rattle.std.specs.Prelude.{codes, IfOk}
+use Rattle.std.proofs.Common.{◌≡◌, ◌≢◌, ℕ, ◌≤◌, ◌+◌, false, not, List, [], ◌∷◌, length, Option, Some, None, refl, sym, ap, subst, arith}
 use Rattle.std.specs.Option.{option_map}
-use Rattle.std.specs.List.{list_any, starts_with, filter_map, cons_option, All, AllPairs}
-use Rattle.std.proofs.lemmas.Bool.{cond_both, or_parts}
+use Rattle.std.specs.List.{list_any, filter_map, cons_option, All, AllPairs}
+use Rattle.std.proofs.lemmas.Bool.{or_parts}
 use Rattle.std.proofs.lemmas.List.Elements.{All-nil, All-cons, All-head, All-tail, All-weaker, All-map, All-filter, All-contains}
 use Rattle.lc_base.specs.declared.limits.TheConstants.{MAX_DEPS}
 use Rattle.lc_base.specs.declared.row.Dep.{Dep}
@@ -19,16 +18,13 @@ use Rattle.dep_capture.specs.Capture.{row_of_put, rows_of_puts}
 use Rattle.world_state.specs.Known.{Known}
 use Rattle.world_state.specs.World.{newest_of, is_written}
 use Rattle.world_state.specs.declared.held.Held.{Held}
-use Rattle.lc_base.specs.declared.host.HostError.{HostError}
-use Rattle.contract_semantics.specs.declared.site.Outcome.{Outcome}
 use Rattle.contract_semantics.specs.Answers.{place_in, IsFaithful}
 use Rattle.contract_semantics.specs.Calls.{rows_written}
 use Rattle.contract_semantics.specs.Reading.{block_of}
 use Rattle.contract_semantics.specs.Scenes.{Place}
 use Rattle.chain_exec.specs.BlockRows.{IsOnNewest, HasNewestDeps, AreTxRows}
-use Rattle.chain_exec.specs.Effect.{Effect, refused, free, meets_conflict, set_effect, result_effect}
-use Rattle.chain_exec.specs.Running.{dep_in, deps_in, run_left}
-use Rattle.chain_exec.specs.declared.staging.TxRun.{TxRun}
+use Rattle.chain_exec.specs.Effect.{meets_conflict}
+use Rattle.chain_exec.specs.Running.{dep_in, deps_in}
 
 pub no_rows : (place : Place) (number at : ℕ) → AreTxRows place number at []
 no_rows place number at =
@@ -86,22 +82,10 @@ one_row world number at row keys block tx deps few unwritten =
       deps = All-cons (HasNewestDeps (newest_of world)) row [] lawful (All-nil (HasNewestDeps (newest_of world)));
     }
 
-module _ (world : Known Contract) (number at : ℕ) (row : Row) (keys : List (List ℕ)) where
-  abbrev effect_set : Effect
-  effect_set = set_effect (meets_conflict (is_written world) row.key keys) row
-
-  -- by the two tests of a Set
-  by_tests : (P : Effect → Type 0) → ((status : TxStatus) → P (refused status)) → (meets_conflict (is_written world) row.key keys ≡ false → P (record { receipt = free statuses.Ok; rows = row ∷ []; codes = [] })) → P effect_set
-  by_tests P fails works =
-      let conflict = meets_conflict (is_written world) row.key keys in
-      let wrote : Effect = record { receipt = free statuses.Ok; rows = row ∷ []; codes = [] } in
-      cond_both (not (starts_with eqb row.key (codes "raw/"))) (refused statuses.Foreign) (cond conflict (refused statuses.Conflict) wrote) P (λ _. fails statuses.Foreign)
-      (λ _. cond_both conflict (refused statuses.Conflict) wrote P (λ _. fails statuses.Conflict) works)
-
-  pub set_rows : row.block ≡ number → row.tx ≡ at → row.deps ≡ deps_in world keys → length keys ≤ MAX_DEPS → AreTxRows (place_in world) number at effect_set.rows
-  set_rows block tx deps few =
-      by_tests (λ (e : Effect). AreTxRows (place_in world) number at e.rows) (λ status. no_rows (place_in world) number at)
-      (λ free. one_row world number at row keys block tx deps few (or_parts (list_any (is_written world) keys) (is_written world row.key) free).1)
+-- the row of a Set that meets no conflict
+pub set_row : (world : Known Contract) (number at : ℕ) (row : Row) (keys : List (List ℕ)) → row.block ≡ number → row.tx ≡ at → row.deps ≡ deps_in world keys → length keys ≤ MAX_DEPS → meets_conflict (is_written world) row.key keys ≡ false
+    → AreTxRows (place_in world) number at (row ∷ [])
+set_row world number at row keys block tx deps few free = one_row world number at row keys block tx deps few (or_parts (list_any (is_written world) keys) (is_written world row.key) free).1
 
 -- ---- a Call
 
@@ -131,8 +115,3 @@ written_rows place number at _ c lawful faithful = no_rows place number at
 pub call_rows : (place : Place) (number at : ℕ) (status : TxStatus) (c : Captured) (rows : List Row) → rows ≡ rows_written number at status c → AreLawfulRows c.reads rows → IsFaithful place c → AreTxRows place number at rows
 call_rows place number at status c rows is lawful faithful =
     subst (AreTxRows place number at) (sym is) (written_rows place number at status c (subst (AreLawfulRows c.reads) is lawful) faithful)
-
-pub call_run : (place : Place) (number at : ℕ) (outcome : Outcome) (c : Captured) (result : Result TxRun HostError) → IfOk result (λ run. run ≡ run_left (result_effect number at (record { outcome = outcome; capture = c })))
-    → IfOk result (λ run. AreLawfulRows c.reads run.rows) → IsFaithful place c → IfOk result (λ run. AreTxRows place number at run.rows)
-call_run place number at outcome c (Ok run) is lawful faithful = call_rows place number at outcome.status c run.rows (ap (λ (r : TxRun). r.rows) is) lawful faithful
-call_run place number at outcome c (Err error) is lawful faithful = tt

@@ -41,8 +41,8 @@ abbrev pub free : TxStatus → Receipt
 free status = record { status = status; cost = 0 }
 
 -- A transaction that fails before it costs anything: it leaves nothing.
-abbrev pub refused : TxStatus → Effect
-refused status = record { receipt = free status; rows = []; codes = [] }
+abbrev pub refused_effect : TxStatus → Effect
+refused_effect status = record { receipt = free status; rows = []; codes = [] }
 
 -- ---- dependencies
 
@@ -69,8 +69,8 @@ meets_conflict written key deps = list_any written deps || written key
 -- raw/, and that is tested first.
 abbrev pub set_effect : Bool → Row → Effect
 set_effect conflict row =
-    if not (starts_with ◌==◌ row.key (codes "raw/")) then refused statuses.Foreign
-    else (if conflict then refused statuses.Conflict
+    if not (starts_with ◌==◌ row.key (codes "raw/")) then refused_effect statuses.Foreign
+    else (if conflict then refused_effect statuses.Conflict
     else record { receipt = free statuses.Ok; rows = row ∷ []; codes = [] })
 
 -- ---- deploying a contract
@@ -87,13 +87,13 @@ is_taken_in codes staged name =
 
 -- A Deploy of what the source was made into.
 abbrev pub code_effect : List ℕ → Option (List FunctionTree) → Effect
-code_effect name None = refused statuses.BadSource
+code_effect name None = refused_effect statuses.BadSource
 code_effect name (Some functions) =
     record { receipt = free statuses.Ok; rows = []; codes = (name, functions) ∷ [] }
 
 -- A Deploy under a name: Taken, where the name is taken, is tested before the source.
 abbrev pub deploy_effect : Bool → List ℕ → Option (List FunctionTree) → Effect
-deploy_effect taken name code = if taken then refused statuses.Taken else code_effect name code
+deploy_effect taken name code = if taken then refused_effect statuses.Taken else code_effect name code
 
 -- ---- calling a contract
 
@@ -108,7 +108,7 @@ result_effect number at result =
 
 -- A Call of a contract, where there is one.
 abbrev pub call_effect : Option (List FunctionTree) → Scene → List Value → ℕ → Effect
-call_effect None s args at = refused statuses.NoContract
+call_effect None s args at = refused_effect statuses.NoContract
 call_effect (Some functions) s args at =
     result_effect s.site.number at (call_result functions s args)
 

@@ -21,14 +21,14 @@ history_after compile history block =
     with_staged history (block_effects compile history block)
 
 -- The history after these blocks.
-abbrev pub replayed : Compiler → History → List Block → History
-replayed compile history [] = history
-replayed compile history (block ∷ blocks) =
-    replayed compile (history_after compile history block) blocks
+abbrev pub history_of_blocks : Compiler → History → List Block → History
+history_of_blocks compile history [] = history
+history_of_blocks compile history (block ∷ blocks) =
+    history_of_blocks compile (history_after compile history block) blocks
 
 -- The history of some blocks, from no row and no code.
 unfoldable pub replay : Compiler → List Block → History
-replay compile blocks = replayed compile no_history blocks
+replay compile blocks = history_of_blocks compile no_history blocks
 
 -- The receipts of these blocks, on the history of the blocks before them.
 abbrev pub receipts_after : Compiler → History → List Block → List (List Receipt)

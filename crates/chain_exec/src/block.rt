@@ -1,16 +1,21 @@
 //! A whole block.
 
-ghost use Rattle.std.specs.Prelude.{◌≡◌, ◌≤◌, [], ◌∷◌, ◌++◌, length, map, IfSome, IfOk, OnOk, IsErrOf};
-ghost use Rattle.std.specs.List.{AllByRecursion};
+ghost use Rattle.std.specs.{
+  Prelude.{◌≡◌, ◌≤◌, [], ◌∷◌, ◌++◌, length, map, IfSome, IfOk, OnOk, IsErrOf},
+  List.{AllByRecursion},
+};
 ghost use Rattle.lc_base.specs.Faults.{HasCause};
-ghost use Rattle.block_codec.specs.declared.limits.TheConstants.{MAX_TXS};
-ghost use Rattle.block_codec.specs.Spelling.{IsTx, IsBlock};
-ghost use Rattle.world_state.specs.Rows.{entry_of};
-ghost use Rattle.world_state.specs.World.{newest_of, StandsForRows};
-ghost use Rattle.chain_exec.specs.BlockRows.{AreBlockRows, AreWithinBudgets};
-ghost use Rattle.chain_exec.specs.Compiled.{compiled_in};
-ghost use Rattle.chain_exec.specs.Fold.{nothing_staged, with_effect, effects_after, block_effects};
-ghost use Rattle.chain_exec.specs.Running.{history_in, staged_in};
+ghost use Rattle.block_codec.specs.{
+  declared.limits.TheConstants.{MAX_TXS},
+  Spelling.{IsTx, IsBlock},
+};
+ghost use Rattle.world_state.specs.{Rows.{entry_of}, World.{newest_of, StandsForRows}};
+ghost use Rattle.chain_exec.specs.{
+  BlockRows.{AreBlockRows, AreWithinBudgets},
+  Compiled.{compiled_in},
+  Fold.{nothing_staged, with_effect, effects_after, block_effects},
+  Running.{history_in, staged_in},
+};
 
 use crate::receipt::{Receipt, ReceiptList};
 use crate::staging::TxRun;

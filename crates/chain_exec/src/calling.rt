@@ -5,11 +5,12 @@ ghost use Rattle.lc_base.specs.Faults.{HasCause};
 ghost use Rattle.contract_tree.specs.Tree.{contract_of};
 ghost use Rattle.dep_capture.specs.Captured.{AreLawfulRows};
 ghost use Rattle.world_state.specs.World.{StandsForRows};
-ghost use Rattle.contract_semantics.specs.Answers.{place_in};
-ghost use Rattle.contract_semantics.specs.Calls.{rows_written};
-ghost use Rattle.chain_exec.specs.BlockRows.{AreTxRows};
-ghost use Rattle.chain_exec.specs.Effect.{result_effect, call_effect};
-ghost use Rattle.chain_exec.specs.Running.{scene_at, call_in, run_left, StagesRows};
+ghost use Rattle.contract_semantics.specs.{Answers.{place_in}, Calls.{rows_written}};
+ghost use Rattle.chain_exec.specs.{
+  BlockRows.{AreTxRows},
+  Effect.{result_effect, call_effect},
+  Running.{scene_at, call_in, run_left, StagesRows},
+};
 
 use crate::receipt::Receipt;
 use crate::staging::{TxRun, or_memory, stage, without_rows};
@@ -63,56 +64,6 @@ fn run_of_outcome(
     }
 }
 
-/// What a call of a contract does, of this code.
-fn run_code<H: Host>(
-    alloc: Global,
-    code: &Checked,
-    site: &CallSite,
-    args: &ValueList,
-    world: &World<Checked>,
-    host: &mut H,
-    at: u16,
-) -> Result<TxRun, HostError>
-    requires ready { H.ready host.old }
-    requires stands { IfSome (H.rows host.old) (StandsForRows world.now) }
-    ensures same { H.same host.old host.new }
-    ensures effect { IfSome (H.rows host.old) (λ rows. IfOk result (λ run. run ≡ run_left
-        (call_effect (Some (contract_of code.now)) (scene_at rows world.now site.now) args.now at))) }
-    ensures lawful { IfOk result (λ run. AreTxRows (place_in world.now) site.now.number at run.rows) }
-    ensures cost { IfOk result (λ run. run.receipt.cost ≤ site.now.budget) }
-    ensures cause { HasCause (H.host_faults host.old) (H.host_faults host.new) (IsErrOf result HostError.Fault) }
-{
-    let mut capture = Capture::new(alloc);
-    match call(alloc, code, site, args, world, host, &mut capture) {
-        Err(error) => Err(error),
-        Ok(outcome) => run_of_outcome(alloc, site.number, at, outcome, capture),
-    }
-}
-
-/// What a Call at the index `at` of a block does, where a world stands for the state before.
-fn run_of_call<H: Host>(
-    alloc: Global,
-    site: &CallSite,
-    args: &ValueList,
-    world: &World<Checked>,
-    host: &mut H,
-    at: u16,
-) -> Result<TxRun, HostError>
-    requires ready { H.ready host.old }
-    requires stands { IfSome (H.rows host.old) (StandsForRows world.now) }
-    ensures same { H.same host.old host.new }
-    ensures effect { IfSome (H.rows host.old) (λ rows. IfOk result (λ run. run ≡ run_left
-        (call_in rows world.now site.now args.now at))) }
-    ensures lawful { IfOk result (λ run. AreTxRows (place_in world.now) site.now.number at run.rows) }
-    ensures cost { IfOk result (λ run. run.receipt.cost ≤ site.now.budget) }
-    ensures cause { HasCause (H.host_faults host.old) (H.host_faults host.new) (IsErrOf result HostError.Fault) }
-{
-    match world.code(&site.contract) {
-        None => Ok(without_rows(alloc, TxStatus::NoContract)),
-        Some(code) => run_code(alloc, code, site, args, world, host, at),
-    }
-}
-
 /// Runs a Call at the index `at` of a block, and stages its rows.
 pub(crate) fn run_call<H: Host>(
     alloc: Global,
@@ -133,6 +84,11 @@ pub(crate) fn run_call<H: Host>(
     ensures cost { IfOk result (λ run. run.receipt.cost ≤ site.now.budget) }
     ensures cause { HasCause (H.host_faults host.old) (H.host_faults host.new) (IsErrOf result HostError.Fault) }
 {
-    let run = run_of_call(alloc, site, args, world, host, at)?;
+    let Some(code) = world.code(&site.contract) else {
+        return Ok(without_rows(alloc, TxStatus::NoContract));
+    };
+    let mut capture = Capture::new(alloc);
+    let outcome = call(alloc, code, site, args, world, host, &mut capture)?;
+    let run = run_of_outcome(alloc, site.number, at, outcome, capture)?;
     or_memory(stage(world, run))
 }

@@ -1,12 +1,16 @@
 //! Transactions that deploy a contract.
 
-ghost use Rattle.std.specs.Prelude.{◌≡◌, ◌<◌, ◌^◌, [], ◌++◌, length, IfOk, OnOk};
-ghost use Rattle.std.specs.Option.{option_map};
+ghost use Rattle.std.specs.{
+  Prelude.{◌≡◌, ◌<◌, ◌^◌, [], ◌++◌, length, IfOk, OnOk},
+  Option.{option_map},
+};
 ghost use Rattle.contract_tree.specs.Tree.{contract_of};
 ghost use Rattle.contract_check.specs.Faults.{check_fault};
-ghost use Rattle.chain_exec.specs.Compiled.{faultless, compiled_in};
-ghost use Rattle.chain_exec.specs.Effect.{free};
-ghost use Rattle.chain_exec.specs.Running.{codes_seen, deploy_in, StagesRows, HasEffect};
+ghost use Rattle.chain_exec.specs.{
+  Compiled.{faultless, compiled_in},
+  Effect.{free},
+  Running.{codes_seen, deploy_in, StagesRows, HasEffect},
+};
 
 use crate::staging::{TxRun, without_rows};
 use contract_check::{CheckError, Checked, check};
@@ -40,33 +44,8 @@ fn compile(alloc: Global, source: &[u8]) -> Result<Option<Checked>, Memory>
     }
 }
 
-/// Stages the contract that a source is under a name, unless the name is taken or the source is no
-/// contract; how it ends.
-fn deploy(
-    alloc: Global,
-    world: &mut World<Checked>,
-    name: &Name,
-    source: &[u8],
-) -> Result<TxStatus, Memory>
-    requires { length source.now < 2 ^ 32 }
-    ensures status { IfOk result (λ status. status ≡ (deploy_in world.old name.now source.now).receipt.status) }
-    ensures codes { OnOk result (codes_seen world.new.staged_codes
-        ≡ codes_seen world.old.staged_codes ++ (deploy_in world.old name.now source.now).codes) }
-    ensures others { world.new ≡ record world.old { staged_codes = world.new.staged_codes } }
-{
-    if world.taken(name) {
-        return Ok(TxStatus::Taken);
-    }
-    match compile(alloc, source)? {
-        None => Ok(TxStatus::BadSource),
-        Some(code) => {
-            world.stage_code(*name, code)?;
-            Ok(TxStatus::Ok)
-        }
-    }
-}
-
-/// Runs a Deploy, which writes no row.
+/// Runs a Deploy, which writes no row: stages the contract that a source is under a name, unless the
+/// name is taken or the source is no contract.
 pub(crate) fn run_deploy(
     alloc: Global,
     world: &mut World<Checked>,
@@ -78,6 +57,12 @@ pub(crate) fn run_deploy(
     ensures stages { IfOk result (λ run. StagesRows world.old world.new run.rows) }
     ensures cost { IfOk result (λ run. run ≡ record { receipt = free run.receipt.status; rows = [] }) }
 {
-    let status = deploy(alloc, world, name, source)?;
-    Ok(without_rows(alloc, status))
+    if world.taken(name) {
+        return Ok(without_rows(alloc, TxStatus::Taken));
+    }
+    let Some(code) = compile(alloc, source)? else {
+        return Ok(without_rows(alloc, TxStatus::BadSource));
+    };
+    world.stage_code(*name, code)?;
+    Ok(without_rows(alloc, TxStatus::Ok))
 }

@@ -2,8 +2,10 @@
 
 ghost use Rattle.std.specs.Prelude.{List};
 ghost use Rattle.block_codec.specs.declared.block.Block.{Block};
-ghost use Rattle.chain_exec.specs.Compiled.{Compiler};
-ghost use Rattle.chain_exec.specs.Laws.{OneCompiler, ReceiptsIgnoreIndexes, FailuresLeaveNothing, ReplayGrows, BlocksKeepLawful, BlocksKeepOrder};
+ghost use Rattle.chain_exec.specs.{
+  Compiled.{Compiler},
+  Laws.{OneCompiler, ReceiptsIgnoreIndexes, FailuresLeaveNothing, ReplayGrows, BlocksKeepLawful, BlocksKeepOrder},
+};
 
 /// There is one compiler, so each source is deployed as one contract or none.
 pub fn one_compiler()

@@ -1,9 +1,6 @@
 //! How transactions ended.
 
-ghost use Rattle.std.specs.Prelude.{◌≡◌, Ok};
-
-use lc_base::{Duplicate, Memory, Seq, TxStatus};
-use std::alloc::Global;
+use lc_base::{Seq, TxStatus};
 
 /// How a transaction ended, and what it cost.
 #[derive(Clone, Copy, Debug, PartialEq, Eq)]
@@ -15,11 +12,3 @@ pub struct Receipt {
 
 /// Receipts.
 pub type ReceiptList = Seq<Receipt>;
-
-impl Duplicate for Receipt {
-    fn copy(&self, _alloc: Global) -> Result<Receipt, Memory>
-        ensures { result ≡ Ok self.now }
-    {
-        Ok(*self)
-    }
-}

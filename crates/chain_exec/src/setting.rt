@@ -1,13 +1,17 @@
 //! Transactions that write a value.
 
-ghost use Rattle.std.specs.Prelude.{◌≡◌, ◌≤◌, ◌==◌, [], ◌∷◌, length, codes, IfOk};
+ghost use Rattle.std.specs.{
+  Prelude.{◌≡◌, ◌≤◌, ◌==◌, [], ◌∷◌, length, codes, IfOk},
+  List.{starts_with, list_any, filter_map},
+};
 ghost use Rattle.lc_base.specs.declared.limits.TheConstants.{MAX_DEPS};
 ghost use Rattle.contract_semantics.specs.Answers.{place_in};
-ghost use Rattle.chain_exec.specs.BlockRows.{AreTxRows};
-ghost use Rattle.std.specs.List.{starts_with, list_any, filter_map};
+ghost use Rattle.chain_exec.specs.{
+  BlockRows.{AreTxRows},
+  Effect.{meets_conflict},
+  Running.{dep_in, deps_in, row_in, set_in, run_left, StagesRows, HasEffect},
+};
 ghost use Rattle.world_state.specs.World.{is_written};
-ghost use Rattle.chain_exec.specs.Effect.{meets_conflict};
-ghost use Rattle.chain_exec.specs.Running.{dep_in, deps_in, row_in, set_in, run_left, StagesRows, HasEffect};
 
 use crate::receipt::Receipt;
 use crate::staging::{TxRun, free, stage, without_rows};
@@ -74,54 +78,6 @@ fn one_row(alloc: Global, row: Row) -> Result<RowList, Memory>
     Ok(rows)
 }
 
-/// The row of a Set.
-fn row_of_set(
-    alloc: Global,
-    world: &World<Checked>,
-    number: u32,
-    at: u16,
-    key: &Key,
-    value: &Value,
-    deps: &[Key],
-) -> Result<Row, Memory>
-    ensures { IfOk result (λ row. row ≡ row_in world.now number at key.now value.now deps.now) }
-{
-    let value = value.copy(alloc)?;
-    let deps = deps_on(alloc, world, deps)?;
-    Ok(Row {
-        key: *key,
-        block: number,
-        tx: at,
-        value,
-        deps,
-    })
-}
-
-/// What a Set at the index `at` of a block does, where a world stands for the state before.
-fn run_of_set(
-    alloc: Global,
-    world: &World<Checked>,
-    number: u32,
-    at: u16,
-    key: &Key,
-    value: &Value,
-    deps: &[Key],
-) -> Result<TxRun, Memory>
-    ensures { IfOk result (λ run. run ≡ run_left (set_in world.now number at key.now value.now deps.now)) }
-{
-    if !is_raw(key) {
-        return Ok(without_rows(alloc, TxStatus::Foreign));
-    }
-    if meets_conflict(world, key, deps) {
-        return Ok(without_rows(alloc, TxStatus::Conflict));
-    }
-    let row = row_of_set(alloc, world, number, at, key, value, deps)?;
-    Ok(TxRun {
-        receipt: free(TxStatus::Ok),
-        rows: one_row(alloc, row)?,
-    })
-}
-
 /// Runs a Set at the index `at` of a block, and stages its row.
 pub(crate) fn run_set(
     alloc: Global,
@@ -139,6 +95,22 @@ pub(crate) fn run_set(
     ensures lawful { IfOk result (λ run. AreTxRows (place_in world.old) number at run.rows) }
     ensures cost { IfOk result (λ run. run.receipt.cost ≡ 0) }
 {
-    let run = run_of_set(alloc, world, number, at, key, value, deps)?;
+    if !is_raw(key) {
+        return Ok(without_rows(alloc, TxStatus::Foreign));
+    }
+    if meets_conflict(world, key, deps) {
+        return Ok(without_rows(alloc, TxStatus::Conflict));
+    }
+    let row = Row {
+        key: *key,
+        block: number,
+        tx: at,
+        value: value.copy(alloc)?,
+        deps: deps_on(alloc, world, deps)?,
+    };
+    let run = TxRun {
+        receipt: free(TxStatus::Ok),
+        rows: one_row(alloc, row)?,
+    };
     stage(world, run)
 }

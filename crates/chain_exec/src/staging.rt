@@ -1,8 +1,7 @@
 //! What a transaction hands to its block, and staging its rows.
 
 ghost use Rattle.std.specs.Prelude.{◌≡◌, [], Ok, IfOk, OnOk, IsErrOf};
-ghost use Rattle.chain_exec.specs.Effect.{free};
-ghost use Rattle.chain_exec.specs.Running.{StagesRows};
+ghost use Rattle.chain_exec.specs.{Effect.{free}, Running.{StagesRows}};
 
 use crate::receipt::Receipt;
 use contract_check::Checked;

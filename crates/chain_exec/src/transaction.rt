@@ -5,8 +5,10 @@ ghost use Rattle.lc_base.specs.Faults.{HasCause};
 ghost use Rattle.block_codec.specs.Spelling.{IsTx};
 ghost use Rattle.world_state.specs.World.{StandsForRows};
 ghost use Rattle.contract_semantics.specs.Answers.{place_in};
-ghost use Rattle.chain_exec.specs.BlockRows.{AreTxRows, IsWithinBudget};
-ghost use Rattle.chain_exec.specs.Running.{effect_in, StagesRows, HasEffect};
+ghost use Rattle.chain_exec.specs.{
+  BlockRows.{AreTxRows, IsWithinBudget},
+  Running.{effect_in, StagesRows, HasEffect},
+};
 
 use crate::calling::run_call;
 use crate::deploying::run_deploy;

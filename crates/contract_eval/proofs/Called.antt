@@ -12,7 +12,10 @@ use Rattle.world_state.specs.Known.{Known}
 use Rattle.world_state.specs.World.{is_written, StandsForRows}
 use Rattle.contract_semantics.specs.declared.site.CallSite.{CallSite}
 use Rattle.contract_semantics.specs.Scenes.{Scene, scene_of}
-use Rattle.contract_semantics.specs.Calls.{function_of_name, function_called, call_result}
+use Rattle.contract_semantics.specs.declared.variable.Variable.{Variable}
+use Rattle.contract_semantics.specs.Steps.{Step, Done, Failed, and_then}
+use Rattle.contract_semantics.specs.Statements.{Ending, Goes, Returns, block_ended}
+use Rattle.contract_semantics.specs.Calls.{call_ended, function_of_name, function_called, call_result}
 use Rattle.contract_semantics.specs.Answers.{scene_in}
 
 -- where the world stands for the rows, its scene is that of the history
@@ -39,3 +42,9 @@ called_is world rows site functions found args stands is =
 pub ok_so : {T E : Type 0} (P Q : T → Type 0) (result : Result T E) → ((x : T) → P x → Q x) → IfOk result P → IfOk result Q
 ok_so P Q (Ok x) f h = f x h
 ok_so P Q (Err e) f h = tt
+
+-- the names that end with a block are no part of how a call ends
+pub block_ends : (budget : ℕ) (step : Step Ending) (outer : List Variable) → call_ended budget step ≡ call_ended budget (and_then step (block_ended outer))
+block_ends budget (Done (Goes variables) m) outer = refl
+block_ends budget (Done Returns m) outer = refl
+block_ends budget (Failed status m) outer = refl

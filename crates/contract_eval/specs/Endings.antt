@@ -1,7 +1,7 @@
 -- How functions end in the program, for their definition.
 use Rattle.std.specs.Prelude.{◌≡◌, Result, Ok, Err}
-use Rattle.lc_base.specs.declared.host.HostError.{HostError}
-use Rattle.lc_base.specs.declared.host.HostError.TheVariants as hosts
+use Rattle.lc_base.specs.declared.host_error.HostError.{HostError}
+use Rattle.lc_base.specs.declared.host_error.HostError.TheVariants as hosts
 use Rattle.lc_base.specs.declared.tx_status.TxStatus.{TxStatus}
 use Rattle.lc_base.specs.declared.tx_status.TxStatus.TheVariants as statuses
 use Rattle.contract_semantics.specs.declared.stop.Stop.{Stop}

@@ -1,16 +1,20 @@
 //! Calls of contracts.
 
-ghost use Rattle.std.specs.Prelude.{◌≡◌, ◌≤◌, IfSome, IfOk, IsErrOf};
-ghost use Rattle.std.specs.Option.{option_copied, option_map};
-ghost use Rattle.std.specs.List.{list_all, zip};
+ghost use Rattle.std.specs.{
+  Prelude.{◌≡◌, ◌≤◌, IfSome, IfOk, IsErrOf},
+  Option.{option_copied, option_map},
+  List.{list_all, zip},
+};
 ghost use Rattle.contract_eval.specs.Endings.{IsStatusOf};
 ghost use Rattle.lc_base.specs.Faults.{HasCause};
 ghost use Rattle.contract_tree.specs.Tree.{function_of, contract_of};
 ghost use Rattle.dep_capture.specs.Capture.{captured_none};
 ghost use Rattle.world_state.specs.World.{is_written, StandsForRows};
-ghost use Rattle.contract_semantics.specs.Scenes.{scene_of};
-ghost use Rattle.contract_semantics.specs.Calls.{is_of_kind, is_of_its_kind, are_arguments, bound, function_run, function_called, call_result};
-ghost use Rattle.contract_semantics.specs.Answers.{scene_in, place_in, IsFaithful};
+ghost use Rattle.contract_semantics.specs.{
+  Scenes.{scene_of},
+  Calls.{is_of_kind, is_of_its_kind, are_arguments, first_variables, function_called, call_result},
+  Answers.{scene_in, place_in, IsFaithful},
+};
 
 use contract_check::Checked;
 use contract_semantics::{CallSite, Outcome, Stop};
@@ -18,7 +22,7 @@ use contract_tree::{Function, Param, ValueKind};
 use dep_capture::Capture;
 use eval_builtins::Run;
 use eval_simple::Flow;
-use eval_statements::statements;
+use eval_statements::block;
 use eval_variables::Variables;
 use lc_base::{Duplicate, Host, HostError, Memory, TxStatus, Value, ValueList};
 use std::alloc::Global;
@@ -53,8 +57,8 @@ fn are_arguments(params: &[Param], args: &[Value]) -> bool
 }
 
 /// The variables that a function begins with.
-fn bound(alloc: Global, params: &[Param], args: &[Value]) -> Result<Variables, Memory>
-    ensures { IfOk result (λ variables. variables ≡ bound params.now args.now) }
+fn first_variables(alloc: Global, params: &[Param], args: &[Value]) -> Result<Variables, Memory>
+    ensures { IfOk result (λ variables. variables ≡ first_variables params.now args.now) }
 {
     let mut variables = Variables::new(alloc);
     for (i, param) in params.iter().enumerate() {
@@ -78,44 +82,8 @@ fn status_of(ended: Result<Flow, Stop>) -> Result<TxStatus, HostError>
     }
 }
 
-/// A function with its arguments, within the budget of the call.
-fn function_run<C, H: Host>(
-    alloc: Global,
-    function: &Function,
-    site: &CallSite,
-    args: &[Value],
-    world: &World<C>,
-    host: &mut H,
-    capture: &mut Capture,
-) -> Result<Outcome, HostError>
-    requires ready { H.ready host.old }
-    requires fresh { capture.old ≡ captured_none }
-    ensures same { H.same host.old host.new }
-    ensures outcome { IfSome (H.rows host.old) (λ rows. IfOk result (λ outcome. function_run (scene_in rows world.now site.now) (function_of function.now) args.now ≡ record { outcome = outcome; capture = capture.new })) }
-    ensures cost { IfOk result (λ outcome. outcome.cost ≤ site.now.budget) }
-    ensures faithful { IfOk result (λ _. IsFaithful (place_in world.now) capture.new) }
-    ensures cause { HasCause (H.host_faults host.old) (H.host_faults host.new) (IsErrOf result HostError.Fault) }
-{
-    let mut variables = match bound(alloc, &function.params, args) {
-        Ok(variables) => variables,
-        Err(Memory) => return Err(HostError::Memory),
-    };
-    let mut run = Run {
-        alloc,
-        world,
-        site,
-        host,
-        capture,
-        left: site.budget,
-    };
-    let body = &function.body;
-    let ended = statements(&mut run, &mut variables, body);
-    let cost = site.budget - run.left;
-    let status = status_of(ended)?;
-    Ok(Outcome { status, cost })
-}
-
-/// A function, where the arguments are those that it takes.
+/// A function within the budget of the call, where the arguments are those that it takes.
+#[tactic(auto, using(crate::proofs::Called::block_ends))]
 fn function_called<C, H: Host>(
     alloc: Global,
     function: Option<&Function>,
@@ -133,18 +101,32 @@ fn function_called<C, H: Host>(
     ensures faithful { IfOk result (λ _. IsFaithful (place_in world.now) capture.new) }
     ensures cause { HasCause (H.host_faults host.old) (H.host_faults host.new) (IsErrOf result HostError.Fault) }
 {
-    match function {
-        None => Ok(refused(TxStatus::NoFunction)),
-        Some(function) => {
-            if !are_arguments(&function.params, args) {
-                return Ok(refused(TxStatus::BadArgs));
-            }
-            function_run(alloc, function, site, args, world, host, capture)
-        }
+    let Some(function) = function else {
+        return Ok(refused_call(TxStatus::NoFunction));
+    };
+    if !are_arguments(&function.params, args) {
+        return Ok(refused_call(TxStatus::BadArgs));
     }
+    let mut variables = match first_variables(alloc, &function.params, args) {
+        Ok(variables) => variables,
+        Err(Memory) => return Err(HostError::Memory),
+    };
+    let mut run = Run {
+        alloc,
+        world,
+        site,
+        host,
+        capture,
+        left: site.budget,
+    };
+    let body = &function.body;
+    let ended = block(&mut run, &mut variables, body);
+    let cost = site.budget - run.left;
+    let status = status_of(ended)?;
+    Ok(Outcome { status, cost })
 }
 
-fn refused(status: TxStatus) -> Outcome
+fn refused_call(status: TxStatus) -> Outcome
     ensures { result ≡ record { status = status; cost = 0 } }
 {
     Outcome { status, cost: 0 }

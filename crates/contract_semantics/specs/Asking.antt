@@ -22,25 +22,25 @@ block_before number (pos n) = if nat_lt n number then Ok n else Err BadBlock
 block_before number (negsuc n) = Err BadBlock
 
 -- The answer to a question about the key that a text is, up to a block before this one.
-abbrev pub asked : List Row → ℕ → Kind → List ℕ → ℤ → Result Answer TxStatus
-asked rows number kind text at =
+abbrev pub answer_up_to : List Row → ℕ → Kind → List ℕ → ℤ → Result Answer TxStatus
+answer_up_to rows number kind text at =
     and_so (key_of_text text)
     (λ key. and_so (block_before number at) (λ block. Ok (scan rows (question kind key block))))
 
--- The version that is asked about, where there is one.
+-- The version that is answer_up_to about, where there is one.
 abbrev pub version_asked : List Row → ℕ → List ℕ → ℤ → Result (Option Version) TxStatus
 version_asked rows number text at =
-    and_so (asked rows number Hist text at) (λ answer. Ok (version_in answer))
+    and_so (answer_up_to rows number Hist text at) (λ answer. Ok (version_in answer))
 
 -- A list, where there is a version.
 abbrev pub list_told : Option (List Dep) → Result (List Dep) TxStatus
 list_told None = Err NoKey
 list_told (Some deps) = Ok deps
 
--- The dependencies or the uses of the version that is asked about.
+-- The dependencies or the uses of the version that is answer_up_to about.
 abbrev pub list_asked : List Row → ℕ → Kind → List ℕ → ℤ → Result (List Dep) TxStatus
 list_asked rows number kind text at =
-    and_so (asked rows number kind text at) (λ answer. list_told (list_in answer))
+    and_so (answer_up_to rows number kind text at) (λ answer. list_told (list_in answer))
 
 -- ---- what is told of a version
 
@@ -103,10 +103,10 @@ item_of deps (negsuc n) = Err BadIndex
 abbrev pub item_part_of : Answer → ℤ → Result Dep TxStatus
 item_part_of answer index = and_so (list_told (list_in answer)) (λ deps. item_of deps index)
 
--- The dependency or use at an index of the version that is asked about.
+-- The dependency or use at an index of the version that is answer_up_to about.
 abbrev pub item_asked : List Row → ℕ → Kind → List ℕ → ℤ → ℤ → Result Dep TxStatus
 item_asked rows number kind text at index =
-    and_so (asked rows number kind text at) (λ answer. item_part_of answer index)
+    and_so (answer_up_to rows number kind text at) (λ answer. item_part_of answer index)
 
 -- Its key, as a text.
 abbrev pub key_value : Dep → Result Value TxStatus

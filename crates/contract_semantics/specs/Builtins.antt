@@ -16,7 +16,7 @@ use Rattle.dep_capture.specs.Captured.{Captured}
 use Rattle.lc_base.specs.declared.row.Row.{Row}
 use Rattle.contract_semantics.specs.declared.site.CallSite.{CallSite}
 use Rattle.contract_semantics.specs.Charges.{charge_of}
-use Rattle.contract_semantics.specs.Steps.{Machine, Step, Done, Failed, charged, and_so}
+use Rattle.contract_semantics.specs.Steps.{Machine, Step, Done, Failed, after_charge, and_so}
 use Rattle.contract_semantics.specs.Scenes.{Scene}
 use Rattle.contract_semantics.specs.Reading.{Taken, int_in, text_in, of_kind, getting, having}
 use Rattle.contract_semantics.specs.Asking.{version_asked, list_asked, value_told, block_told, tx_told, seen_told, count_told, item_asked, key_value, block_value}
@@ -115,12 +115,12 @@ plain_value rows site b.GetText args = Err statuses.WrongKind
 plain_value rows site b.Has args = Err statuses.WrongKind
 
 -- What a builtin gives, and what was read and put by then.
-abbrev pub built : Scene → Builtin → List Value → Captured → Taken
-built s b.GetInt args c = reading_args (one_text args) c (λ text. of_kind int_in (getting s.place text c))
-built s b.GetText args c =
+abbrev pub builtin_result : Scene → Builtin → List Value → Captured → Taken
+builtin_result s b.GetInt args c = reading_args (one_text args) c (λ text. of_kind int_in (getting s.place text c))
+builtin_result s b.GetText args c =
     reading_args (one_text args) c (λ text. of_kind text_in (getting s.place text c))
-built s b.Has args c = reading_args (one_text args) c (λ text. having s.place text c)
-built s builtin args c = (plain_value s.rows s.site builtin args, c)
+builtin_result s b.Has args c = reading_args (one_text args) c (λ text. having s.place text c)
+builtin_result s builtin args c = (plain_value s.rows s.site builtin args, c)
 
 -- What was taken, as a step.
 abbrev pub taken_step : Taken → Machine → Step Value
@@ -129,11 +129,11 @@ taken_step (Err status, c) m = Failed status (record m { capture = c })
 
 -- A call of a builtin: its charge comes before all that it does. A name that is none of a builtin
 -- is in no checked contract.
-abbrev pub called : Scene → Option Builtin → List Value → Machine → Step Value
-called s None args m = Failed statuses.WrongKind m
-called s (Some builtin) args m =
-    charged (charge_of builtin) m (λ m. taken_step (built s builtin args m.capture) m)
+abbrev pub builtin_call : Scene → Option Builtin → List Value → Machine → Step Value
+builtin_call s None args m = Failed statuses.WrongKind m
+builtin_call s (Some builtin) args m =
+    after_charge (charge_of builtin) m (λ m. taken_step (builtin_result s builtin args m.capture) m)
 
 -- A call of a builtin by its name.
-unfoldable pub applied : Scene → List ℕ → List Value → Machine → Step Value
-applied s name args m = called s (builtin_of name) args m
+unfoldable pub call_by_name : Scene → List ℕ → List Value → Machine → Step Value
+call_by_name s name args m = builtin_call s (builtin_of name) args m

@@ -38,10 +38,10 @@ are_arguments (param ∷ params) (arg ∷ args) =
     is_of_its_kind (param, arg) && are_arguments params args
 
 -- The variables that a function begins with: its parameters, with these values.
-abbrev pub bound : List Param → List Value → List Variable
-bound [] args = []
-bound (param ∷ params) [] = []
-bound (param ∷ params) (arg ∷ args) = record { name = param.name; value = arg } ∷ bound params args
+abbrev pub first_variables : List Param → List Value → List Variable
+first_variables [] args = []
+first_variables (param ∷ params) [] = []
+first_variables (param ∷ params) (arg ∷ args) = record { name = param.name; value = arg } ∷ first_variables params args
 
 -- The function of a name.
 abbrev pub function_of_name : List FunctionTree → List ℕ → Option FunctionTree
@@ -53,9 +53,9 @@ pub record CallResult : Type 0 where
   pub outcome : Outcome
   pub capture : Captured
 
--- A call that is refused before it begins costs nothing.
-abbrev pub refused : TxStatus → CallResult
-refused status =
+-- A call that is refused_call before it begins costs nothing.
+abbrev pub refused_call : TxStatus → CallResult
+refused_call status =
     record { outcome = record { status = status; cost = 0 }; capture = captured_none }
 
 -- The end of a function's body: what was taken of the budget is the cost.
@@ -69,14 +69,14 @@ call_ended budget (Failed status m) =
 abbrev pub function_run : Scene → FunctionTree → List Value → CallResult
 function_run s function args =
     call_ended s.site.budget
-    (statements_run s function.body (bound function.params args) (machine s.site.budget captured_none))
+    (statements_run s function.body (first_variables function.params args) (machine s.site.budget captured_none))
 
 -- A function, where the arguments are those that it takes.
 abbrev pub function_called : Scene → List Value → Option FunctionTree → CallResult
-function_called s args None = refused statuses.NoFunction
+function_called s args None = refused_call statuses.NoFunction
 function_called s args (Some function) =
     if are_arguments function.params args then function_run s function args
-    else refused statuses.BadArgs
+    else refused_call statuses.BadArgs
 
 -- A call of a contract, whose functions are these: there must be the function, then the arguments
 -- must be those that it takes, then its body runs within the budget.

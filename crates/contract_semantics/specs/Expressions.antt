@@ -10,10 +10,10 @@ use Rattle.contract_tree.specs.Tree.{Tree, Trees, none, more}
 use Rattle.contract_tree.specs.Tree as tree
 use Rattle.contract_semantics.specs.declared.charge.TheConstants.{CHARGE_NODE}
 use Rattle.contract_semantics.specs.declared.variable.Variable.{Variable}
-use Rattle.contract_semantics.specs.Operators.{combined, prefixed, decided}
+use Rattle.contract_semantics.specs.Operators.{binary_result, prefix_result, left_decision}
 use Rattle.contract_semantics.specs.Scenes.{Scene}
-use Rattle.contract_semantics.specs.Builtins.{applied}
-use Rattle.contract_semantics.specs.Steps.{Machine, Step, Done, and_then, charged, given}
+use Rattle.contract_semantics.specs.Builtins.{call_by_name}
+use Rattle.contract_semantics.specs.Steps.{Machine, Step, Done, and_then, after_charge, step_of_result}
 
 -- The variable of a name.
 abbrev pub variable_of : List Variable → List ℕ → Option Variable
@@ -34,22 +34,22 @@ abbrev mutual
   -- The value of an expression. Each part takes its charge when it begins, before its operands,
   -- which come from left to right.
   pub value_of : Scene → List Variable → Tree → Machine → Step Value
-  value_of s variables (tree.Int at z) m = charged CHARGE_NODE m (λ m. Done (values.Int z) m)
+  value_of s variables (tree.Int at z) m = after_charge CHARGE_NODE m (λ m. Done (values.Int z) m)
   value_of s variables (tree.Text at text) m =
-      charged CHARGE_NODE m (λ m. Done (values.Text text) m)
+      after_charge CHARGE_NODE m (λ m. Done (values.Text text) m)
   value_of s variables (tree.Name at name) m =
-      charged CHARGE_NODE m (λ m. given (value_found (variable_of variables name)) m)
+      after_charge CHARGE_NODE m (λ m. step_of_result (value_found (variable_of variables name)) m)
   value_of s variables (tree.Call at name args) m =
-      charged CHARGE_NODE m
-      (λ m. and_then (values_of s variables [] args m) (λ args m. applied s name args m))
+      after_charge CHARGE_NODE m
+      (λ m. and_then (values_of s variables [] args m) (λ args m. call_by_name s name args m))
   value_of s variables (tree.Prefix at sign operand) m =
-      charged CHARGE_NODE m
-      (λ m. and_then (value_of s variables operand m) (λ value m. given (prefixed sign value) m))
+      after_charge CHARGE_NODE m
+      (λ m. and_then (value_of s variables operand m) (λ value m. step_of_result (prefix_result sign value) m))
   value_of s variables (tree.Binary at sign left right) m =
-      charged CHARGE_NODE m
+      after_charge CHARGE_NODE m
       (λ m. and_then (value_of s variables left m)
-      (λ first m. unless_decided (decided sign first)
-      (and_then (value_of s variables right m) (λ second m. given (combined sign first second) m))
+      (λ first m. unless_decided (left_decision sign first)
+      (and_then (value_of s variables right m) (λ second m. step_of_result (binary_result sign first second) m))
       m))
 
   -- The values of expressions, one after another, after those that are done.
@@ -59,27 +59,27 @@ abbrev mutual
       and_then (value_of s variables x m)
       (λ value m. values_of s variables (done ++ value ∷ []) xs m)
 
--- A call of a builtin by its name, once its own part is charged.
+-- A call of a builtin by its name, once its own part is after_charge.
 abbrev pub call_value : Scene → List Variable → List ℕ → Trees → Machine → Step Value
 call_value s variables name args m =
-    and_then (values_of s variables [] args m) (λ args m. applied s name args m)
+    and_then (values_of s variables [] args m) (λ args m. call_by_name s name args m)
 
 -- What an operator gives, once its left side has its value.
 abbrev pub right_value : Scene → List Variable → Sign → Value → Tree → Machine → Step Value
 right_value s variables sign first right m =
-    unless_decided (decided sign first)
-    (and_then (value_of s variables right m) (λ second m. given (combined sign first second) m))
+    unless_decided (left_decision sign first)
+    (and_then (value_of s variables right m) (λ second m. step_of_result (binary_result sign first second) m))
     m
 
--- The value of an expression, once its own part is charged.
+-- The value of an expression, once its own part is after_charge.
 abbrev pub node_value : Scene → List Variable → Tree → Machine → Step Value
 node_value s variables (tree.Int at z) m = Done (values.Int z) m
 node_value s variables (tree.Text at text) m = Done (values.Text text) m
 node_value s variables (tree.Name at name) m =
-    given (value_found (variable_of variables name)) m
+    step_of_result (value_found (variable_of variables name)) m
 node_value s variables (tree.Call at name args) m = call_value s variables name args m
 node_value s variables (tree.Prefix at sign operand) m =
-    and_then (value_of s variables operand m) (λ value m. given (prefixed sign value) m)
+    and_then (value_of s variables operand m) (λ value m. step_of_result (prefix_result sign value) m)
 node_value s variables (tree.Binary at sign left right) m =
     and_then (value_of s variables left m)
     (λ first m. right_value s variables sign first right m)

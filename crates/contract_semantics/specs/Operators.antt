@@ -52,23 +52,23 @@ on_texts _ a b = Err WrongKind
 
 -- Two values under an operator. What it does not take is of the wrong kind, which no checked
 -- contract comes to.
-abbrev pub combined : Sign → Value → Value → Result Value TxStatus
-combined sign (values.Int a) (values.Int b) = on_ints sign a b
-combined sign (values.Text a) (values.Text b) = on_texts sign a b
-combined sign (values.Int a) (values.Text b) = Err WrongKind
-combined sign (values.Text a) (values.Int b) = Err WrongKind
+abbrev pub binary_result : Sign → Value → Value → Result Value TxStatus
+binary_result sign (values.Int a) (values.Int b) = on_ints sign a b
+binary_result sign (values.Text a) (values.Text b) = on_texts sign a b
+binary_result sign (values.Int a) (values.Text b) = Err WrongKind
+binary_result sign (values.Text a) (values.Int b) = Err WrongKind
 
 -- A value under a prefix.
-abbrev pub prefixed : Sign → Value → Result Value TxStatus
-prefixed signs.Minus (values.Int a) = as_int (in_range (neg_ℤ a))
-prefixed signs.Not (values.Int a) = as_truth (is_zero a)
-prefixed _ value = Err WrongKind
+abbrev pub prefix_result : Sign → Value → Result Value TxStatus
+prefix_result signs.Minus (values.Int a) = as_int (in_range (neg_ℤ a))
+prefix_result signs.Not (values.Int a) = as_truth (is_zero a)
+prefix_result _ value = Err WrongKind
 
 -- What the left side of `&&` or `||` decides alone.
-abbrev pub decided : Sign → Value → Option ℤ
-decided signs.And (values.Int a) = if is_zero a then Some (pos 0) else None
-decided signs.Or (values.Int a) = if is_zero a then None else Some (pos 1)
-decided _ value = None
+abbrev pub left_decision : Sign → Value → Option ℤ
+left_decision signs.And (values.Int a) = if is_zero a then Some (pos 0) else None
+left_decision signs.Or (values.Int a) = if is_zero a then None else Some (pos 1)
+left_decision _ value = None
 
 -- A condition holds where it is not 0.
 abbrev pub holds : Value → Bool

@@ -42,16 +42,16 @@ abbrev pub value_of_version : Option Held → Result Value TxStatus
 value_of_version None = Err NoKey
 value_of_version (Some held) = Ok held.value
 
--- A read that is recorded; it is one too many where it is refused.
-abbrev pub recorded : Result Captured CaptureError → Result Captured TxStatus
-recorded (Ok c) = Ok c
-recorded (Err error) = Err TooMany
+-- A read that is read_result; it is one too many where it is refused.
+abbrev pub read_result : Result Captured CaptureError → Result Captured TxStatus
+read_result (Ok c) = Ok c
+read_result (Err error) = Err TooMany
 
--- A read of a key that the block has not written, recorded with the version that the key had.
+-- A read of a key that the block has not written, read_result with the version that the key had.
 abbrev pub captured_by_read : Place → List ℕ → Captured → Result Captured TxStatus
 captured_by_read place key c =
     if place.written key then Err Conflict
-    else recorded (captured_after_read c key (block_of (place.newest key)))
+    else read_result (captured_after_read c key (block_of (place.newest key)))
 
 -- What the key holds: what the transaction has put, which is no read, or else what is read.
 abbrev pub value_got : Place → List ℕ → Option Value → Captured → Taken

@@ -13,7 +13,7 @@ use Rattle.contract_semantics.specs.Operators.{holds}
 use Rattle.contract_semantics.specs.Scenes.{Place, Scene}
 use Rattle.contract_semantics.specs.Puts.{captured_by_put}
 use Rattle.contract_semantics.specs.Expressions.{value_of, values_of}
-use Rattle.contract_semantics.specs.Steps.{Machine, Step, Done, Failed, and_then, charged}
+use Rattle.contract_semantics.specs.Steps.{Machine, Step, Done, Failed, and_then, after_charge}
 
 -- How a statement ends: what follows it runs, with these variables, or the function has returned.
 pub data Ending : Type 0 where
@@ -33,8 +33,8 @@ block_ended outer Returns m = Done Returns m
 -- ---- variables
 
 -- A new variable.
-abbrev pub declared : List Variable → List ℕ → Value → List Variable
-declared variables name value = variables ++ record { name = name; value = value } ∷ []
+abbrev pub with_variable : List Variable → List ℕ → Value → List Variable
+with_variable variables name value = variables ++ record { name = name; value = value } ∷ []
 
 -- The index of the variable of a name.
 abbrev pub variable_index : List Variable → List ℕ → Option ℕ
@@ -48,16 +48,16 @@ value_replaced (Some i) variables name value =
     slice_set variables i (record { name = name; value = value })
 
 -- The variables after an assignment.
-abbrev pub assigned : List Variable → List ℕ → Value → List Variable
-assigned variables name value =
+abbrev pub with_assignment : List Variable → List ℕ → Value → List Variable
+with_assignment variables name value =
     value_replaced (variable_index variables name) variables name value
 
 -- ---- conditions and loops
 
 -- The charge of a statement, and whether its condition holds.
-abbrev pub tested : Scene → Tree → List Variable → Machine → Step Bool
-tested s test variables m =
-    charged CHARGE_NODE m
+abbrev pub condition_step : Scene → Tree → List Variable → Machine → Step Bool
+condition_step s test variables m =
+    after_charge CHARGE_NODE m
     (λ m. and_then (value_of s variables test m) (λ value m. Done (holds value) m))
 
 -- How a turn of a loop ends: with another turn to come, or as the loop ends.
@@ -73,7 +73,7 @@ turn_again Returns m = Done (Ended Returns) m
 -- A turn of a loop: its charge and its condition, then the body where that holds.
 abbrev pub loop_turn : Scene → Tree → (List Variable → Machine → Step Ending) → List Variable → Machine → Step Turn
 loop_turn s test body variables m =
-    and_then (tested s test variables m)
+    and_then (condition_step s test variables m)
     (λ goes_on m. if goes_on then and_then (and_then (body variables m) (block_ended variables)) turn_again
     else Done (Ended (Goes variables)) m)
 
@@ -105,11 +105,11 @@ put_done variables (Err status) m = Failed status m
 -- does.
 abbrev pub put_run : Scene → Tree → Tree → Option Trees → List Variable → Machine → Step Ending
 put_run s key value parts variables m =
-    charged CHARGE_NODE m
+    after_charge CHARGE_NODE m
     (λ m. and_then (value_of s variables key m)
     (λ key m. and_then (value_of s variables value m)
     (λ value m. and_then (parts_values s variables parts m)
-    (λ parts m. charged CHARGE_PUT m
+    (λ parts m. after_charge CHARGE_PUT m
     (λ m. put_done variables (captured_by_put s.site.contract s.place key value parts m.capture) m)))))
 
 -- ---- statements
@@ -117,16 +117,16 @@ put_run s key value parts variables m =
 -- A declaration.
 abbrev pub let_run : Scene → List ℕ → Tree → List Variable → Machine → Step Ending
 let_run s name value variables m =
-    charged CHARGE_NODE m
+    after_charge CHARGE_NODE m
     (λ m. and_then (value_of s variables value m)
-    (λ value m. Done (Goes (declared variables name value)) m))
+    (λ value m. Done (Goes (with_variable variables name value)) m))
 
 -- An assignment.
 abbrev pub assign_run : Scene → List ℕ → Tree → List Variable → Machine → Step Ending
 assign_run s name value variables m =
-    charged CHARGE_NODE m
+    after_charge CHARGE_NODE m
     (λ m. and_then (value_of s variables value m)
-    (λ value m. Done (Goes (assigned variables name value)) m))
+    (λ value m. Done (Goes (with_assignment variables name value)) m))
 
 abbrev mutual
   -- A statement.
@@ -134,19 +134,19 @@ abbrev mutual
   statement_run s (tree.Let at name_at name value) variables m = let_run s name value variables m
   statement_run s (tree.Assign at name value) variables m = assign_run s name value variables m
   statement_run s (tree.If at test first) variables m =
-      and_then (tested s test variables m)
+      and_then (condition_step s test variables m)
       (λ chosen m. if chosen then and_then (statements_run s first variables m) (block_ended variables)
       else Done (Goes variables) m)
   statement_run s (tree.IfElse at test first second) variables m =
-      and_then (tested s test variables m)
+      and_then (condition_step s test variables m)
       (λ chosen m. if chosen then and_then (statements_run s first variables m) (block_ended variables)
       else and_then (statements_run s second variables m) (block_ended variables))
   statement_run s (tree.While at test body) variables m =
       turns m.left (loop_turn s test (statements_run s body)) variables m
   statement_run s (tree.Put at key value parts) variables m = put_run s key value parts variables m
   statement_run s (tree.Fail at) variables m =
-      charged CHARGE_NODE m (λ m. Failed statuses.Failed m)
-  statement_run s (tree.Return at) variables m = charged CHARGE_NODE m (λ m. Done Returns m)
+      after_charge CHARGE_NODE m (λ m. Failed statuses.Failed m)
+  statement_run s (tree.Return at) variables m = after_charge CHARGE_NODE m (λ m. Done Returns m)
 
   -- Statements, one after another.
   pub statements_run : Scene → StatementTrees → List Variable → Machine → Step Ending
@@ -174,7 +174,7 @@ loop_run s test body clock variables m =
 -- The end of a put, once its parts have their values: its further charge, and what it does.
 abbrev pub put_end : List ℕ → Place → Value → Value → Option (List Value) → List Variable → Machine → Step Ending
 put_end contract place key value parts variables m =
-    charged CHARGE_PUT m
+    after_charge CHARGE_PUT m
     (λ m. put_done variables (captured_by_put contract place key value parts m.capture) m)
 
 -- A put, once its key and its value have theirs.

@@ -29,14 +29,14 @@ and_then (Done x m) next = next x m
 and_then (Failed status m) next = Failed status m
 
 -- The next step after a charge. A charge that is larger than what is left is not taken.
-abbrev pub charged : {B : Type 0} → ℕ → Machine → (Machine → Step B) → Step B
-charged charge m next =
+abbrev pub after_charge : {B : Type 0} → ℕ → Machine → (Machine → Step B) → Step B
+after_charge charge m next =
     if nat_le charge m.left then next (record m { left = m.left - charge }) else Failed OutOfSteps m
 
 -- A result that leaves the machine as it is.
-abbrev pub given : {A : Type 0} → Result A TxStatus → Machine → Step A
-given (Ok x) m = Done x m
-given (Err status) m = Failed status m
+abbrev pub step_of_result : {A : Type 0} → Result A TxStatus → Machine → Step A
+step_of_result (Ok x) m = Done x m
+step_of_result (Err status) m = Failed status m
 
 -- The second result, with what the first gave, where that is no failure.
 abbrev pub and_so : {A B : Type 0} → Result A TxStatus → (A → Result B TxStatus) → Result B TxStatus

@@ -16,7 +16,7 @@ use Rattle.dep_capture.specs.declared.limits.TheConstants.{MAX_KEYS_READ, MAX_KE
 use Rattle.dep_capture.specs.declared.access.Read.{Read}
 use Rattle.dep_capture.specs.declared.access.Put.{Put}
 use Rattle.dep_capture.specs.Captured.{AreBackedDeps, IsCapture, AreLawfulRows}
-use Rattle.dep_capture.specs.Capture.{was_read, was_put, place_of, with_put_at, with_put, row_of_put, rows_of_puts}
+use Rattle.dep_capture.specs.Capture.{was_read, was_put, index_of, with_put_at, with_put, row_of_put, rows_of_puts}
 use Rattle.dep_capture.proofs.Backed.{more_backed}
 
 -- what has no key in common with a list is none of its items
@@ -45,10 +45,10 @@ none_passes p xs none k d within = elim (cases_lt (position_or_len p xs) (length
 ]
 
 -- a key without a place was not put
-not_put : (puts : List Put) (key : List ℕ) → place_of puts key ≡ None → was_put puts key ≡ false
+not_put : (puts : List Put) (key : List ℕ) → index_of puts key ≡ None → was_put puts key ≡ false
 not_put puts key none = list_any_none (λ (put : Put). pointwise ◌==◌ put.key key) puts (none_passes (λ (put : Put). pointwise ◌==◌ put.key key) puts none)
 
-after_keeps : (reads : List Read) (puts : List Put) (put : Put) → IsCapture reads puts → AreBackedDeps reads put.deps → place_of puts put.key ≡ None → length puts < MAX_KEYS_PUT → IsCapture reads (puts ++ put ∷ [])
+after_keeps : (reads : List Read) (puts : List Put) (put : Put) → IsCapture reads puts → AreBackedDeps reads put.deps → index_of puts put.key ≡ None → length puts < MAX_KEYS_PUT → IsCapture reads (puts ++ put ∷ [])
 after_keeps reads puts put old backed none room =
     record {
       few_reads = old.few_reads;
@@ -59,7 +59,7 @@ after_keeps reads puts put old backed none room =
     }
 
 -- a put in the place of one of its key changes no key
-same_key : (puts : List Put) (put : Put) (i : ℕ) → place_of puts put.key ≡ Some i → (k : ℕ) (d : Put) → (get_or (set puts i put) k d).key ≡ (get_or puts k d).key
+same_key : (puts : List Put) (put : Put) (i : ℕ) → index_of puts put.key ≡ Some i → (k : ℕ) (d : Put) → (get_or (set puts i put) k d).key ≡ (get_or puts k d).key
 same_key puts put i at k d =
     let found = position-Some (λ (p : Put). pointwise ◌==◌ p.key put.key) puts i d at in
     elim (cases_eq k i) [
@@ -69,7 +69,7 @@ same_key puts put i at k d =
       | inr elsewhere ↦ ap (λ (p : Put). p.key) (get_or-set_other puts i k put d elsewhere)
     ]
 
-in_place_keeps : (reads : List Read) (puts : List Put) (put : Put) (i : ℕ) → IsCapture reads puts → AreBackedDeps reads put.deps → place_of puts put.key ≡ Some i → IsCapture reads (set puts i put)
+in_place_keeps : (reads : List Read) (puts : List Put) (put : Put) (i : ℕ) → IsCapture reads puts → AreBackedDeps reads put.deps → index_of puts put.key ≡ Some i → IsCapture reads (set puts i put)
 in_place_keeps reads puts put i old backed at =
     record {
       few_reads = old.few_reads;
@@ -79,18 +79,18 @@ in_place_keeps reads puts put i old backed at =
       backed_deps = All-set (λ (p : Put). AreBackedDeps reads p.deps) puts i put backed old.backed_deps;
     }
 
-put_at_keeps : (reads : List Read) (puts : List Put) (put : Put) (place : Option ℕ) → IsCapture reads puts → AreBackedDeps reads put.deps → place_of puts put.key ≡ place → (place ≡ None → length puts < MAX_KEYS_PUT) → IsCapture reads (with_put_at puts place put)
+put_at_keeps : (reads : List Read) (puts : List Put) (put : Put) (place : Option ℕ) → IsCapture reads puts → AreBackedDeps reads put.deps → index_of puts put.key ≡ place → (place ≡ None → length puts < MAX_KEYS_PUT) → IsCapture reads (with_put_at puts place put)
 put_at_keeps reads puts put None old backed at room = after_keeps reads puts put old backed at (room refl)
 put_at_keeps reads puts put (Some i) old backed at room = in_place_keeps reads puts put i old backed at
 
 -- where there is no place for the key there is room, if the put is not refused
-room_after : (puts : List Put) (key : List ℕ) → (not (was_put puts key) && nat_le MAX_KEYS_PUT (length puts)) ≡ false → place_of puts key ≡ None → length puts < MAX_KEYS_PUT
+room_after : (puts : List Put) (key : List ℕ) → (not (was_put puts key) && nat_le MAX_KEYS_PUT (length puts)) ≡ false → index_of puts key ≡ None → length puts < MAX_KEYS_PUT
 room_after puts key room none =
     let full : nat_le MAX_KEYS_PUT (length puts) ≡ false = rw (not_put puts key none) at room in
     grind (arith, nat_tests)
 
 pub put_keeps : (reads : List Read) (puts : List Put) (put : Put) → IsCapture reads puts → AreBackedDeps reads put.deps → (not (was_put puts put.key) && nat_le MAX_KEYS_PUT (length puts)) ≡ false → IsCapture reads (with_put puts put)
-put_keeps reads puts put old backed room = put_at_keeps reads puts put (place_of puts put.key) old backed refl (λ none. room_after puts put.key room none)
+put_keeps reads puts put old backed room = put_at_keeps reads puts put (index_of puts put.key) old backed refl (λ none. room_after puts put.key room none)
 
 -- ---- the rows
 

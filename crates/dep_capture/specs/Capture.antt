@@ -30,8 +30,8 @@ abbrev pub was_put : List Put → List ℕ → Bool
 was_put puts key = list_any (λ (put : Put). pointwise ◌==◌ put.key key) puts
 
 -- The index of the put of the key, if it was put.
-abbrev pub place_of : List Put → List ℕ → Option ℕ
-place_of puts key = position (λ (put : Put). pointwise ◌==◌ put.key key) puts
+abbrev pub index_of : List Put → List ℕ → Option ℕ
+index_of puts key = position (λ (put : Put). pointwise ◌==◌ put.key key) puts
 
 -- The value that was put to the key, if it was put.
 abbrev pub pending : List Put → List ℕ → Option Value
@@ -78,7 +78,7 @@ with_put_at puts (Some i) put = slice_set puts i put
 
 -- A put in the place of the earlier put of its key, or else after the others.
 abbrev pub with_put : List Put → Put → List Put
-with_put puts put = with_put_at puts (place_of puts put.key) put
+with_put puts put = with_put_at puts (index_of puts put.key) put
 
 -- The capture after a put of a value to a key, or why it is refused.
 abbrev pub captured_after_put : Captured → List ℕ → Value → Option (List (List ℕ)) → Result Captured CaptureError

@@ -1,13 +1,17 @@
 //! The reads and puts of one transaction.
 
-ghost use Rattle.std.specs.Prelude.{◌≡◌, ◌≢◌, ◌≤◌, length, IfOk, OnErr};
-ghost use Rattle.std.specs.List.{AllPairs};
-ghost use Rattle.std.specs.Option.{option_copied};
+ghost use Rattle.std.specs.{
+  Prelude.{◌≡◌, ◌≢◌, ◌≤◌, length, IfOk, OnErr},
+  List.{AllPairs},
+  Option.{option_copied},
+};
 ghost use Rattle.lc_base.specs.Answers.{Answers};
-ghost use Rattle.dep_capture.specs.declared.limits.TheConstants.{MAX_KEYS_PUT};
-ghost use Rattle.dep_capture.specs.declared.access.Put.{Put};
-ghost use Rattle.dep_capture.specs.Captured.{AreLawfulRows};
-ghost use Rattle.dep_capture.specs.Capture.{was_read, pending, captured_none, captured_after_read, captured_after_put, rows_of_puts, fault_of};
+ghost use Rattle.dep_capture.specs.{
+  declared.limits.TheConstants.{MAX_KEYS_PUT},
+  declared.access.Put.{Put},
+  Captured.{AreLawfulRows},
+  Capture.{was_read, pending, captured_none, captured_after_read, captured_after_put, rows_of_puts, fault_of},
+};
 
 use crate::access::{Put, Read};
 use crate::dependencies::{are_read, deps_of, was_read};

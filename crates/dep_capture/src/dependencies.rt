@@ -1,8 +1,10 @@
 //! What a put depends on.
 
-ghost use Rattle.std.specs.Prelude.{◌≡◌, ◌≢◌, Some, IfOk, filter_map};
-ghost use Rattle.std.specs.List.{AllPairs};
-ghost use Rattle.std.specs.Option.{option_copied};
+ghost use Rattle.std.specs.{
+  Prelude.{◌≡◌, ◌≢◌, Some, IfOk, filter_map},
+  List.{AllPairs},
+  Option.{option_copied},
+};
 ghost use Rattle.dep_capture.specs.Capture.{was_read, read_of, dep_of_read, dep_named, deps_of, are_read};
 
 use crate::access::Read;

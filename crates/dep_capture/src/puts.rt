@@ -1,9 +1,13 @@
 //! The keys put, in order of first put.
 
-ghost use Rattle.std.specs.Prelude.{◌≡◌, ◌<◌, ◌&&◌, not, nat_le, length, slice_set, IfOk, OnOk, OnErr};
-ghost use Rattle.std.specs.Option.{option_copied};
-ghost use Rattle.dep_capture.specs.declared.limits.TheConstants.{MAX_KEYS_PUT};
-ghost use Rattle.dep_capture.specs.Capture.{was_put, place_of, pending, with_put, row_of_put, rows_of_puts};
+ghost use Rattle.std.specs.{
+  Prelude.{◌≡◌, ◌<◌, ◌&&◌, not, nat_le, length, slice_set, IfOk, OnOk, OnErr},
+  Option.{option_copied},
+};
+ghost use Rattle.dep_capture.specs.{
+  declared.limits.TheConstants.{MAX_KEYS_PUT},
+  Capture.{was_put, index_of, pending, with_put, row_of_put, rows_of_puts},
+};
 
 use crate::access::Put;
 use crate::limits::MAX_KEYS_PUT;
@@ -25,8 +29,8 @@ pub(crate) fn is_one_too_many(puts: &[Put], key: &Key) -> bool
 }
 
 /// The index of the put of the key, from 0.
-fn place_of(puts: &[Put], key: &Key) -> Option<usize>
-    ensures { result ≡ place_of puts.now key.now }
+fn index_of(puts: &[Put], key: &Key) -> Option<usize>
+    ensures { result ≡ index_of puts.now key.now }
 {
     puts.iter().position(|put| put.key == *key)
 }
@@ -57,7 +61,7 @@ pub(crate) fn set_put(puts: &mut Seq<Put>, put: Put) -> Result<(), Memory>
     ensures ok { OnOk result (puts.new ≡ with_put puts.old put) }
     ensures err { OnErr result (puts.new ≡ puts.old) }
 {
-    match place_of(puts.as_slice(), &put.key) {
+    match index_of(puts.as_slice(), &put.key) {
         None => puts.push(put),
         Some(i) => {
             replace(puts, i, put);

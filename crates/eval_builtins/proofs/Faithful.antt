@@ -9,12 +9,12 @@ use Rattle.dep_capture.specs.declared.access.Read.{Read}
 use Rattle.dep_capture.specs.declared.error.CaptureError.TheVariants as errors
 use Rattle.lc_base.specs.declared.tx_status.TxStatus.TheVariants.{Conflict}
 use Rattle.contract_semantics.specs.Scenes.{Place}
-use Rattle.contract_semantics.specs.Reading.{block_of, recorded, captured_by_read}
+use Rattle.contract_semantics.specs.Reading.{block_of, read_result, captured_by_read}
 use Rattle.contract_semantics.specs.Answers.{IsFaithful}
 
--- what is recorded is one of two
+-- what is read_result is one of two
 of_two : (P : Captured → Type 0) (written known full : Bool) (old pushed new : Captured)
-    → cond written (Err Conflict) (recorded (cond known (Ok old) (cond full (Err errors.TooMany) (Ok pushed)))) ≡ Ok new → P old → P pushed → P new
+    → cond written (Err Conflict) (read_result (cond known (Ok old) (cond full (Err errors.TooMany) (Ok pushed)))) ≡ Ok new → P old → P pushed → P new
 of_two P true known full old pushed new e is also = absurd cc
 of_two P false true full old pushed new e is also = let same : old ≡ new = cc in subst P same is
 of_two P false false true old pushed new e is also = absurd cc

@@ -24,7 +24,7 @@ Tells host old new Means = IfSome (host.rows old.host.now) (λ rows. Means (scen
 -- What holds whether it tells them or not: the host is the same as before, nothing of the budget is
 -- paid back, what was read and put keeps to the world, and a fault is told exactly where the host
 -- failed.
-pub record Keeps {C H A : Type 0} (host : Host H) (old new : Run C H) (result : Result A Stop) : Type 0 where
+pub record KeepsRun {C H A : Type 0} (host : Host H) (old new : Run C H) (result : Result A Stop) : Type 0 where
   pub lent : IsLent old new
   pub same : host.same old.host.now new.host.now
   pub left : new.left ≤ old.left

@@ -1,7 +1,6 @@
 //! The arguments of builtins.
 
-ghost use Rattle.std.specs.Prelude.{◌≡◌, None, Some, MatchOption};
-ghost use Rattle.std.specs.Option.{option_copied};
+ghost use Rattle.std.specs.{Prelude.{◌≡◌, None, Some, MatchOption}, Option.{option_copied}};
 ghost use Rattle.contract_semantics.specs.Builtins.{one_text, one_int, text_and_int, text_and_ints};
 
 use lc_base::{Text, Value};

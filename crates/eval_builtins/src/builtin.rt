@@ -1,22 +1,24 @@
 //! What builtins give.
 
-ghost use Rattle.std.specs.Prelude.{◌≡◌, ℕ, pos, length, Ok};
-ghost use Rattle.std.specs.Fmt.{signed_decimal};
+ghost use Rattle.std.specs.{Prelude.{◌≡◌, ℕ, pos, length, Ok}, Fmt.{signed_decimal}};
 ghost use Rattle.lc_base.specs.declared.value.Value.TheVariants as values;
-ghost use Rattle.contract_semantics.specs.Builtins.{with_args, one_text, one_int, version_value, item_value, version_part, count_part, item_part, plain_value, built, called, applied};
-ghost use Rattle.contract_semantics.specs.Answers.{IsResultOf, IsNoFault, Takes, Gives, Charges};
-ghost use Rattle.contract_semantics.specs.Hosts.{Asks};
+ghost use Rattle.contract_semantics.specs.{
+  Builtins.{with_args, one_text, one_int, version_value, item_value, item_part, plain_value, builtin_result, builtin_call, call_by_name},
+  Answers.{IsResultOf, IsNoFault, Takes, Gives, Charges},
+  Hosts.{Asks},
+};
 ghost use Rattle.eval_history.specs.Sides.{kind_of};
-ghost use Rattle.eval_builtins.specs.Runs.{Keeps, Tells};
+ghost use Rattle.eval_builtins.specs.{Kinds.{in_kind}, Runs.{KeepsRun, Tells}, Versions.{version_told}};
 
 use crate::arguments::{one_int, one_text, text_and_int, text_and_ints};
-use crate::reading::{get_int, get_text, has, int_in, text_in};
+use crate::reading::{get, has, in_kind};
 use crate::run::Run;
+use crate::wanted::Wanted;
 use contract_semantics::{CallSite, Stop, charge_of};
-use contract_tree::Builtin;
+use contract_tree::{Builtin, ValueKind};
 use eval_history::{
-    Side, block_told, block_value, count_asked, item_asked, key_value, seen_told, tx_told,
-    value_told, version_asked,
+    Side, block_before, block_told, block_value, count_asked, item_asked, key_of_text, key_value,
+    seen_told, tx_told, value_told, version_asked,
 };
 use lc_base::{Dep, Host, Name, Text, TxStatus, Value, Version};
 use std::alloc::Global;
@@ -37,8 +39,8 @@ fn version_value(builtin: Builtin, version: Option<Version>) -> Result<Value, Tx
     ensures { result ≡ version_value builtin version }
 {
     match builtin {
-        Builtin::HistInt => int_in(value_told(version)?),
-        Builtin::HistText => text_in(value_told(version)?),
+        Builtin::HistInt => in_kind(ValueKind::Int, value_told(version)?),
+        Builtin::HistText => in_kind(ValueKind::Text, value_told(version)?),
         Builtin::HistBlock => block_told(version),
         Builtin::HistTx => tx_told(version),
         Builtin::Seen => Ok(seen_told(version)),
@@ -59,41 +61,32 @@ fn item_value(alloc: Global, builtin: Builtin, dep: &Dep) -> Result<Value, Stop>
     }
 }
 
-fn version_part<H: Host>(
+/// What is told of the version of a key up to a block.
+fn version_told<H: Host>(
     alloc: Global,
     number: u32,
     host: &mut H,
-    builtin: Builtin,
+    wanted: Wanted,
     args: &[Value],
 ) -> Result<Value, Stop>
     requires { H.ready host.old }
-    ensures { Asks H.Host host.old host.new (λ value. value) (λ rows. version_part rows number builtin args.now) result }
+    ensures { Asks H.Host host.old host.new (λ value. value) (λ rows. version_told rows number wanted args.now) result }
 {
-    match text_and_int(args) {
-        None => Err(Stop::Status(TxStatus::WrongKind)),
-        Some((text, at)) => {
-            let version = version_asked(alloc, number, host, text, at)?;
+    let Some((text, at)) = text_and_int(args) else {
+        return Err(Stop::Status(TxStatus::WrongKind));
+    };
+    let key = key_of_text(text)?;
+    let block = block_before(number, at)?;
+    match wanted {
+        Wanted::Count(side) => count_asked(host, side, &key, block),
+        Wanted::Part(builtin) => {
+            let version = version_asked(alloc, host, &key, block)?;
             Ok(version_value(builtin, version)?)
         }
     }
 }
 
-fn count_part<H: Host>(
-    alloc: Global,
-    number: u32,
-    host: &mut H,
-    side: Side,
-    args: &[Value],
-) -> Result<Value, Stop>
-    requires { H.ready host.old }
-    ensures { Asks H.Host host.old host.new (λ value. value) (λ rows. count_part rows number (kind_of side) args.now) result }
-{
-    match text_and_int(args) {
-        None => Err(Stop::Status(TxStatus::WrongKind)),
-        Some((text, at)) => count_asked(alloc, number, host, side, text, at),
-    }
-}
-
+/// What a builtin tells of one of the dependencies or uses of that version.
 fn item_part<H: Host>(
     alloc: Global,
     number: u32,
@@ -108,7 +101,9 @@ fn item_part<H: Host>(
     match text_and_ints(args) {
         None => Err(Stop::Status(TxStatus::WrongKind)),
         Some((text, at, index)) => {
-            let dep = item_asked(alloc, number, host, side, text, at, index)?;
+            let key = key_of_text(text)?;
+            let block = block_before(number, at)?;
+            let dep = item_asked(host, side, &key, block, index)?;
             item_value(alloc, builtin, &dep)
         }
     }
@@ -157,13 +152,19 @@ fn plain_value<H: Host>(
         Builtin::Block => Ok(Value::Int(i64::from(site.number))),
         Builtin::Len => Ok(text_length(args)?),
         Builtin::Text => number_text(alloc, args),
-        Builtin::HistInt => version_part(alloc, site.number, host, builtin, args),
-        Builtin::HistText => version_part(alloc, site.number, host, builtin, args),
-        Builtin::HistBlock => version_part(alloc, site.number, host, builtin, args),
-        Builtin::HistTx => version_part(alloc, site.number, host, builtin, args),
-        Builtin::Seen => version_part(alloc, site.number, host, builtin, args),
-        Builtin::BackCount => count_part(alloc, site.number, host, Side::Back, args),
-        Builtin::FwdCount => count_part(alloc, site.number, host, Side::Fwd, args),
+        Builtin::HistInt => version_told(alloc, site.number, host, Wanted::Part(builtin), args),
+        Builtin::HistText => version_told(alloc, site.number, host, Wanted::Part(builtin), args),
+        Builtin::HistBlock => version_told(alloc, site.number, host, Wanted::Part(builtin), args),
+        Builtin::HistTx => version_told(alloc, site.number, host, Wanted::Part(builtin), args),
+        Builtin::Seen => version_told(alloc, site.number, host, Wanted::Part(builtin), args),
+        Builtin::BackCount => version_told(
+            alloc,
+            site.number,
+            host,
+            Wanted::Count(Side::Back),
+            args,
+        ),
+        Builtin::FwdCount => version_told(alloc, site.number, host, Wanted::Count(Side::Fwd), args),
         Builtin::BackKey => item_part(alloc, site.number, host, Side::Back, builtin, args),
         Builtin::FwdKey => item_part(alloc, site.number, host, Side::Fwd, builtin, args),
         Builtin::BackBlock => item_part(alloc, site.number, host, Side::Back, builtin, args),
@@ -175,20 +176,24 @@ fn plain_value<H: Host>(
 }
 
 /// What a builtin gives, and what was read by then.
-fn built<C, H: Host>(run: &mut Run<C, H>, builtin: Builtin, args: &[Value]) -> Result<Value, Stop>
+fn builtin_result<C, H: Host>(
+    run: &mut Run<C, H>,
+    builtin: Builtin,
+    args: &[Value],
+) -> Result<Value, Stop>
     requires { H.ready run.old.host.now }
-    ensures taken { Tells H.Host run.old run.new (λ s m k. Takes (built s builtin args.now m.capture) result k.capture) }
+    ensures taken { Tells H.Host run.old run.new (λ s m k. Takes (builtin_result s builtin args.now m.capture) result k.capture) }
     ensures left { run.new.left ≡ run.old.left }
-    ensures keeps { Keeps H.Host run.old run.new result }
+    ensures keeps { KeepsRun H.Host run.old run.new result }
 {
     match builtin {
         Builtin::GetInt => match one_text(args) {
             None => Err(Stop::Status(TxStatus::WrongKind)),
-            Some(text) => get_int(run.alloc, run.world, run.capture, text),
+            Some(text) => get(run.alloc, run.world, run.capture, ValueKind::Int, text),
         },
         Builtin::GetText => match one_text(args) {
             None => Err(Stop::Status(TxStatus::WrongKind)),
-            Some(text) => get_text(run.alloc, run.world, run.capture, text),
+            Some(text) => get(run.alloc, run.world, run.capture, ValueKind::Text, text),
         },
         Builtin::Has => match one_text(args) {
             None => Err(Stop::Status(TxStatus::WrongKind)),
@@ -199,20 +204,20 @@ fn built<C, H: Host>(run: &mut Run<C, H>, builtin: Builtin, args: &[Value]) -> R
 }
 
 /// A call of a builtin, whose charge comes first.
-fn called<C, H: Host>(
+fn builtin_call<C, H: Host>(
     run: &mut Run<C, H>,
     builtin: Option<Builtin>,
     args: &[Value],
 ) -> Result<Value, Stop>
     requires { H.ready run.old.host.now }
-    ensures step { Tells H.Host run.old run.new (λ s m k. Gives (λ value. value) (called s builtin args.now m) result k) }
-    ensures keeps { Keeps H.Host run.old run.new result }
+    ensures step { Tells H.Host run.old run.new (λ s m k. Gives (λ value. value) (builtin_call s builtin args.now m) result k) }
+    ensures keeps { KeepsRun H.Host run.old run.new result }
 {
     match builtin {
         None => Err(Stop::Status(TxStatus::WrongKind)),
         Some(builtin) => {
             charge(&mut run.left, charge_of(builtin))?;
-            built(run, builtin, args)
+            builtin_result(run, builtin, args)
         }
     }
 }
@@ -222,12 +227,16 @@ fn called<C, H: Host>(
 /// # Errors
 ///
 /// The status with which it fails, a fault of the host, or `Memory`.
-#[tactic(auto, unfolding(contract_semantics::specs::Builtins::applied))]
-pub fn applied<C, H: Host>(run: &mut Run<C, H>, name: &Name, args: &[Value]) -> Result<Value, Stop>
+#[tactic(auto, unfolding(contract_semantics::specs::Builtins::call_by_name))]
+pub fn call_by_name<C, H: Host>(
+    run: &mut Run<C, H>,
+    name: &Name,
+    args: &[Value],
+) -> Result<Value, Stop>
     requires { H.ready run.old.host.now }
-    ensures step { Tells H.Host run.old run.new (λ s m k. Gives (λ value. value) (applied s name.now args.now m) result k) }
-    ensures keeps { Keeps H.Host run.old run.new result }
+    ensures step { Tells H.Host run.old run.new (λ s m k. Gives (λ value. value) (call_by_name s name.now args.now m) result k) }
+    ensures keeps { KeepsRun H.Host run.old run.new result }
 {
     let builtin = Builtin::of_name(name);
-    called(run, builtin, args)
+    builtin_call(run, builtin, args)
 }

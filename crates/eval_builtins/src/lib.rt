@@ -5,7 +5,8 @@ mod arguments;
 mod builtin;
 mod reading;
 mod run;
+mod wanted;
 
-pub use builtin::{applied, charge};
-pub use reading::copied;
+pub use builtin::{call_by_name, charge};
+pub use reading::copy_of;
 pub use run::Run;

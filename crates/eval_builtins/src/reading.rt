@@ -3,10 +3,14 @@
 ghost use Rattle.std.specs.Prelude.{◌≡◌, Ok};
 ghost use Rattle.dep_capture.specs.Capture.{pending};
 ghost use Rattle.world_state.specs.World.{newest_of};
-ghost use Rattle.contract_semantics.specs.Reading.{block_of, value_of_version, captured_by_read, value_got, is_held, int_in, text_in, of_kind, getting, having};
-ghost use Rattle.contract_semantics.specs.Answers.{place_in, IsResultOf, IsNoFault, Takes, ReadsOrRefuses, IsFaithful};
+ghost use Rattle.contract_semantics.specs.{
+  Reading.{block_of, value_of_version, captured_by_read, value_got, is_held, of_kind, getting, having},
+  Answers.{place_in, IsResultOf, IsNoFault, Takes, ReadsOrRefuses, IsFaithful},
+};
+ghost use Rattle.eval_builtins.specs.Kinds.{in_kind};
 
 use contract_semantics::Stop;
+use contract_tree::ValueKind;
 use dep_capture::{Capture, CaptureError};
 use eval_history::key_of_text;
 use eval_operators::truth;
@@ -15,28 +19,21 @@ use std::alloc::Global;
 use world_state::World;
 
 /// The same value again.
-pub fn copied(alloc: Global, value: &Value) -> Result<Value, Stop>
+pub fn copy_of(alloc: Global, value: &Value) -> Result<Value, Stop>
     ensures value { IsResultOf (λ value. value) (Ok value.now) result }
     ensures no_fault { IsNoFault result }
 {
     Ok(value.copy(alloc)?)
 }
 
-pub(crate) fn int_in(value: Value) -> Result<Value, TxStatus>
-    ensures { result ≡ int_in value }
+/// A value, where it is of this kind.
+pub(crate) fn in_kind(kind: ValueKind, value: Value) -> Result<Value, TxStatus>
+    ensures { result ≡ in_kind kind value }
 {
-    match value {
-        Value::Int(number) => Ok(Value::Int(number)),
-        Value::Text(_) => Err(TxStatus::WrongKind),
-    }
-}
-
-pub(crate) fn text_in(value: Value) -> Result<Value, TxStatus>
-    ensures { result ≡ text_in value }
-{
-    match value {
-        Value::Int(_) => Err(TxStatus::WrongKind),
-        Value::Text(text) => Ok(Value::Text(text)),
+    match (kind, value) {
+        (ValueKind::Int, Value::Int(number)) => Ok(Value::Int(number)),
+        (ValueKind::Text, Value::Text(text)) => Ok(Value::Text(text)),
+        _ => Err(TxStatus::WrongKind),
     }
 }
 
@@ -72,7 +69,7 @@ fn value_of_version<C>(alloc: Global, world: &World<C>, key: &Key) -> Result<Val
 {
     match world.value(key) {
         None => Err(Stop::Status(TxStatus::NoKey)),
-        Some((_, value)) => copied(alloc, value),
+        Some((_, value)) => copy_of(alloc, value),
     }
 }
 
@@ -87,7 +84,7 @@ fn value_got<C>(
     ensures no_fault { IsNoFault result }
 {
     match capture.pending(key) {
-        Some(value) => copied(alloc, value),
+        Some(value) => copy_of(alloc, value),
         None => {
             read(world, capture, key)?;
             value_of_version(alloc, world, key)
@@ -109,48 +106,21 @@ fn is_held<C>(world: &World<C>, capture: &mut Capture, key: &Key) -> Result<Valu
     }
 }
 
-fn getting<C>(
+/// The value of this kind at the key that a text is.
+pub(crate) fn get<C>(
     alloc: Global,
     world: &World<C>,
     capture: &mut Capture,
+    kind: ValueKind,
     text: &Text,
 ) -> Result<Value, Stop>
-    ensures taken { Takes (getting (place_in world.now) text.now capture.old) result capture.new }
+    ensures taken { Takes (of_kind (in_kind kind) (getting (place_in world.now) text.now capture.old)) result capture.new }
     ensures faithful { IsFaithful (place_in world.now) capture.old → IsFaithful (place_in world.now) capture.new }
     ensures no_fault { IsNoFault result }
 {
     let key = key_of_text(text)?;
-    value_got(alloc, world, capture, &key)
-}
-
-/// The number at the key that a text is.
-pub(crate) fn get_int<C>(
-    alloc: Global,
-    world: &World<C>,
-    capture: &mut Capture,
-    text: &Text,
-) -> Result<Value, Stop>
-    ensures taken { Takes (of_kind int_in (getting (place_in world.now) text.now capture.old)) result capture.new }
-    ensures faithful { IsFaithful (place_in world.now) capture.old → IsFaithful (place_in world.now) capture.new }
-    ensures no_fault { IsNoFault result }
-{
-    let value = getting(alloc, world, capture, text)?;
-    Ok(int_in(value)?)
-}
-
-/// The text at the key that a text is.
-pub(crate) fn get_text<C>(
-    alloc: Global,
-    world: &World<C>,
-    capture: &mut Capture,
-    text: &Text,
-) -> Result<Value, Stop>
-    ensures taken { Takes (of_kind text_in (getting (place_in world.now) text.now capture.old)) result capture.new }
-    ensures faithful { IsFaithful (place_in world.now) capture.old → IsFaithful (place_in world.now) capture.new }
-    ensures no_fault { IsNoFault result }
-{
-    let value = getting(alloc, world, capture, text)?;
-    Ok(text_in(value)?)
+    let value = value_got(alloc, world, capture, &key)?;
+    Ok(in_kind(kind, value)?)
 }
 
 /// Whether there is a value at the key that a text is: 1 or 0.

@@ -9,7 +9,7 @@ use Rattle.contract_tree.specs.Tree.{Tree}
 use Rattle.contract_tree.specs.Tree as tree
 use Rattle.contract_semantics.specs.declared.variable.Variable.{Variable}
 use Rattle.contract_semantics.specs.Scenes.{Scene}
-use Rattle.contract_semantics.specs.Steps.{Machine, Done, given}
+use Rattle.contract_semantics.specs.Steps.{Machine, Done, step_of_result}
 use Rattle.contract_semantics.specs.Expressions.{variable_of, value_found, node_value}
 use Rattle.eval_variables.specs.Named.{value_in}
 use Rattle.eval_expressions.specs.PlainNumbers.{number_in, number_found, plain_number}
@@ -18,7 +18,7 @@ of_value : (value : Value) (z : ℤ) (m : Machine) → number_in value ≡ Some 
 of_value (values.Int w) z m e = let same : w ≡ z = cc in ap (λ (z : ℤ). Done (values.Int z) m) same
 of_value (values.Text text) z m e = absurd cc
 
-of_name : (found : Option Variable) (z : ℤ) (m : Machine) → number_found (option_map (λ (variable : Variable). variable.value) found) ≡ Some z → given (value_found found) m ≡ Done (values.Int z) m
+of_name : (found : Option Variable) (z : ℤ) (m : Machine) → number_found (option_map (λ (variable : Variable). variable.value) found) ≡ Some z → step_of_result (value_found found) m ≡ Done (values.Int z) m
 of_name None z m e = absurd cc
 of_name (Some variable) z m e = of_value variable.value z m e
 

@@ -1,17 +1,18 @@
 //! The values of expressions.
 
-ghost use Rattle.std.specs.Prelude.{◌≡◌, [], Ok, map};
-ghost use Rattle.std.specs.Option.{option_copied};
+ghost use Rattle.std.specs.{Prelude.{◌≡◌, [], Ok, map}, Option.{option_copied}};
 ghost use Rattle.contract_tree.specs.Tree.{tree_of, trees};
-ghost use Rattle.contract_semantics.specs.Expressions.{variable_of, value_found, value_of, values_of, call_value, right_value, node_value};
-ghost use Rattle.contract_semantics.specs.Answers.{IsResultOf, IsNoFault, Gives};
-ghost use Rattle.eval_builtins.specs.Runs.{Keeps, Tells};
+ghost use Rattle.contract_semantics.specs.{
+  Expressions.{variable_of, value_found, value_of, values_of, call_value, right_value, node_value},
+  Answers.{IsResultOf, IsNoFault, Gives},
+};
+ghost use Rattle.eval_builtins.specs.Runs.{KeepsRun, Tells};
 ghost use Rattle.eval_expressions.specs.PlainNumbers.{number_found, plain_number};
 
 use contract_semantics::{CHARGE_NODE, Stop};
 use contract_tree::{Expr, ExprNode, Sign};
-use eval_builtins::{Run, applied, charge, copied};
-use eval_operators::{combined, decided, prefixed};
+use eval_builtins::{Run, call_by_name, charge, copy_of};
+use eval_operators::{binary_result, left_decision, prefix_result};
 use eval_variables::Variables;
 use lc_base::{Duplicate, Host, Name, TxStatus, Value};
 use std::alloc::Global;
@@ -23,7 +24,7 @@ fn named_value(alloc: Global, variables: &Variables, name: &Name) -> Result<Valu
 {
     match variables.get(name) {
         None => Err(Stop::Status(TxStatus::WrongKind)),
-        Some(value) => copied(alloc, value),
+        Some(value) => copy_of(alloc, value),
     }
 }
 
@@ -59,7 +60,7 @@ pub fn value<C, H: Host>(
 ) -> Result<Value, Stop>
     requires { H.ready run.old.host.now }
     ensures step { Tells H.Host run.old run.new (λ s m k. Gives (λ value. value) (value_of s variables.now (tree_of x.now) m) result k) }
-    ensures keeps { Keeps H.Host run.old run.new result }
+    ensures keeps { KeepsRun H.Host run.old run.new result }
 {
     charge(&mut run.left, CHARGE_NODE)?;
     match plain_number(variables, x) {
@@ -74,7 +75,7 @@ pub fn value<C, H: Host>(
 fn node<C, H: Host>(run: &mut Run<C, H>, variables: &Variables, x: &Expr) -> Result<Value, Stop>
     requires { H.ready run.old.host.now }
     ensures step { Tells H.Host run.old run.new (λ s m k. Gives (λ value. value) (node_value s variables.now (tree_of x.now) m) result k) }
-    ensures keeps { Keeps H.Host run.old run.new result }
+    ensures keeps { KeepsRun H.Host run.old run.new result }
 {
     match &x.node {
         ExprNode::Int(number) => Ok(Value::Int(*number)),
@@ -83,7 +84,7 @@ fn node<C, H: Host>(run: &mut Run<C, H>, variables: &Variables, x: &Expr) -> Res
         ExprNode::Call { name, args } => { call(run, variables, name, args) }
         ExprNode::Prefix { sign, operand } => {
             let operand = value(run, variables, operand)?;
-            Ok(prefixed(*sign, &operand)?)
+            Ok(prefix_result(*sign, &operand)?)
         }
         ExprNode::Binary {
             sign,
@@ -107,13 +108,13 @@ fn right<C, H: Host>(
 ) -> Result<Value, Stop>
     requires { H.ready run.old.host.now }
     ensures step { Tells H.Host run.old run.new (λ s m k. Gives (λ value. value) (right_value s variables.now sign first (tree_of x.now) m) result k) }
-    ensures keeps { Keeps H.Host run.old run.new result }
+    ensures keeps { KeepsRun H.Host run.old run.new result }
 {
-    match decided(sign, &first) {
+    match left_decision(sign, &first) {
         Some(number) => Ok(Value::Int(number)),
         None => {
             let second = value(run, variables, x)?;
-            combined(run.alloc, sign, &first, &second)
+            binary_result(run.alloc, sign, &first, &second)
         }
     }
 }
@@ -128,10 +129,10 @@ fn call<C, H: Host>(
 ) -> Result<Value, Stop>
     requires { H.ready run.old.host.now }
     ensures step { Tells H.Host run.old run.new (λ s m k. Gives (λ value. value) (call_value s variables.now name.now (trees (map tree_of args.now)) m) result k) }
-    ensures keeps { Keeps H.Host run.old run.new result }
+    ensures keeps { KeepsRun H.Host run.old run.new result }
 {
     let args = values(run, variables, args)?;
-    applied(run, name, args.as_slice())
+    call_by_name(run, name, args.as_slice())
 }
 
 /// The values of expressions, in order.
@@ -143,7 +144,7 @@ pub fn values<C, H: Host>(
 ) -> Result<Vec<Value>, Stop>
     requires { H.ready run.old.host.now }
     ensures step { Tells H.Host run.old run.new (λ s m k. Gives (λ values. values.items) (values_of s variables.now [] (trees (map tree_of xs.now)) m) result k) }
-    ensures keeps { Keeps H.Host run.old run.new result }
+    ensures keeps { KeepsRun H.Host run.old run.new result }
 {
     let mut all = Vec::new(run.alloc);
     for x in xs {

@@ -1,14 +1,19 @@
 //! What a contract asks of the past.
 
 ghost use Rattle.std.specs.Prelude.{◌≡◌, ◌<◌, ◌^◌, ℕ, Ok, Some, IfSome, IfOk};
-ghost use Rattle.lc_base.specs.History.{scan};
-ghost use Rattle.lc_base.specs.Parts.{question, count_in, item_in};
-ghost use Rattle.contract_semantics.specs.Reading.{key_of_text};
-ghost use Rattle.contract_semantics.specs.Steps.{and_so};
-ghost use Rattle.contract_semantics.specs.Asking.{block_before, version_asked, list_asked, value_told, block_told, tx_told, seen_told, count_told, count_value, index_in, index_told, item_told, item_part_of, item_asked, key_value, block_value};
-ghost use Rattle.contract_semantics.specs.Answers.{IsResultOf, IsNoFault};
-ghost use Rattle.contract_semantics.specs.Hosts.{Asks};
-ghost use Rattle.eval_history.specs.Sides.{kind_of, room_of, answered};
+ghost use Rattle.lc_base.specs.{
+  declared.answer.Kind.TheVariants.{Hist},
+  History.{scan},
+  Parts.{question, version_in, list_in, count_in, item_in},
+};
+ghost use Rattle.contract_semantics.specs.{
+  Reading.{key_of_text},
+  Steps.{and_so},
+  Asking.{block_before, list_told, value_told, block_told, tx_told, seen_told, count_told, count_value, index_in, index_told, item_told, item_part_of, key_value, block_value},
+  Answers.{IsResultOf, IsNoFault},
+  Hosts.{Asks},
+};
+ghost use Rattle.eval_history.specs.Sides.{kind_of, room_of, host_answer};
 
 use crate::side::Side;
 use contract_semantics::Stop;
@@ -26,7 +31,8 @@ pub fn key_of_text(text: &Text) -> Result<Key, TxStatus>
     }
 }
 
-fn block_before(number: u32, at: i64) -> Result<u32, TxStatus>
+/// A block before the one of this number.
+pub fn block_before(number: u32, at: i64) -> Result<u32, TxStatus>
     ensures { result ≡ block_before number at }
 {
     if at < 0 || at >= i64::from(number) {
@@ -108,8 +114,8 @@ fn index_below(count: u64, index: i64) -> Option<u64>
 // ---- questions
 
 /// What a host gave, or why it gave nothing.
-fn answered<T>(given: Result<T, HostError>) -> Result<T, Stop>
-    ensures { result ≡ answered given }
+fn host_answer<T>(given: Result<T, HostError>) -> Result<T, Stop>
+    ensures { result ≡ host_answer given }
 {
     match given {
         Ok(told) => Ok(told),
@@ -118,42 +124,33 @@ fn answered<T>(given: Result<T, HostError>) -> Result<T, Stop>
     }
 }
 
-/// The version of the key that a text is, up to a block before this one.
+/// The version of a key up to a block.
 pub fn version_asked<H: Host>(
     alloc: Global,
-    number: u32,
     host: &mut H,
-    text: &Text,
-    at: i64,
+    key: &Key,
+    block: u32,
 ) -> Result<Option<Version>, Stop>
     requires { H.ready host.old }
-    ensures { Asks H.Host host.old host.new (λ version. version) (λ rows. version_asked rows number text.now at) result }
+    ensures { Asks H.Host host.old host.new (λ version. version) (λ rows. Ok (version_in (scan rows (question Hist key.now block)))) result }
 {
-    let key = key_of_text(text)?;
-    let block = block_before(number, at)?;
-    answered(host.hist(alloc, &key, block))
+    host_answer(host.hist(alloc, key, block))
 }
 
 // ---- how many dependencies or uses
 
 #[tactic(auto, unfolding(crate::specs::Sides::kind_of))]
-fn count_of<H: Host>(
-    alloc: Global,
-    host: &mut H,
-    side: Side,
-    key: &Key,
-    block: u32,
-) -> Result<Option<u64>, Stop>
+fn count_of<H: Host>(host: &mut H, side: Side, key: &Key, block: u32) -> Result<Option<u64>, Stop>
     requires { H.ready host.old }
     ensures asked { Asks H.Host host.old host.new (λ count. count) (λ rows. Ok (count_in (scan rows (question (kind_of side) key.now block)))) result }
     ensures bound { IfOk result (λ count. IfSome count (λ n. n < room_of side)) }
 {
     match side {
-        Side::Back => match answered(host.back_count(alloc, key, block))? {
+        Side::Back => match host_answer(host.back_count(key, block))? {
             None => Ok(None),
             Some(count) => Ok(Some(u64::from(count))),
         },
-        Side::Fwd => answered(host.fwd_count(alloc, key, block)),
+        Side::Fwd => host_answer(host.fwd_count(key, block)),
     }
 }
 
@@ -167,22 +164,13 @@ fn count_value(count: Option<u64>) -> Result<Value, TxStatus>
     }
 }
 
-/// The number of dependencies or of uses of the version of the key that a text is.
+/// The number of dependencies or of uses of the version of a key up to a block.
 #[tactic(auto, using(crate::proofs::Items::count_is))]
-pub fn count_asked<H: Host>(
-    alloc: Global,
-    number: u32,
-    host: &mut H,
-    side: Side,
-    text: &Text,
-    at: i64,
-) -> Result<Value, Stop>
+pub fn count_asked<H: Host>(host: &mut H, side: Side, key: &Key, block: u32) -> Result<Value, Stop>
     requires { H.ready host.old }
-    ensures { Asks H.Host host.old host.new (λ value. value) (λ rows. and_so (list_asked rows number (kind_of side) text.now at) count_told) result }
+    ensures { Asks H.Host host.old host.new (λ value. value) (λ rows. and_so (list_told (list_in (scan rows (question (kind_of side) key.now block)))) count_told) result }
 {
-    let key = key_of_text(text)?;
-    let block = block_before(number, at)?;
-    let count = count_of(alloc, host, side, &key, block)?;
+    let count = count_of(host, side, key, block)?;
     Ok(count_value(count)?)
 }
 
@@ -190,7 +178,6 @@ pub fn count_asked<H: Host>(
 
 #[tactic(auto, unfolding(crate::specs::Sides::kind_of))]
 fn item_at<H: Host>(
-    alloc: Global,
     host: &mut H,
     side: Side,
     key: &Key,
@@ -202,8 +189,8 @@ fn item_at<H: Host>(
     ensures { Asks H.Host host.old host.new (λ dep. dep) (λ rows. Ok (item_in index (scan rows (question (kind_of side) key.now block)))) result }
 {
     match side {
-        Side::Back => answered(host.back_at(alloc, key, block, index as u32)),
-        Side::Fwd => answered(host.fwd_at(alloc, key, block, index)),
+        Side::Back => host_answer(host.back_at(key, block, index as u32)),
+        Side::Fwd => host_answer(host.fwd_at(key, block, index)),
     }
 }
 
@@ -230,8 +217,7 @@ fn item_told(dep: Option<Dep>) -> Result<Dep, TxStatus>
 
 /// A dependency or a use of the version of a key up to a block.
 #[tactic(auto, using(crate::proofs::Items::item_is))]
-fn item_of<H: Host>(
-    alloc: Global,
+pub fn item_asked<H: Host>(
     host: &mut H,
     side: Side,
     key: &Key,
@@ -241,30 +227,12 @@ fn item_of<H: Host>(
     requires { H.ready host.old }
     ensures { Asks H.Host host.old host.new (λ dep. dep) (λ rows. item_part_of (scan rows (question (kind_of side) key.now block)) index) result }
 {
-    let count = count_of(alloc, host, side, key, block)?;
+    let count = count_of(host, side, key, block)?;
     match index_told(count, index) {
         Err(status) => Err(Stop::Status(status)),
         Ok(index) => {
-            let dep = item_at(alloc, host, side, key, block, index)?;
+            let dep = item_at(host, side, key, block, index)?;
             Ok(item_told(dep)?)
         }
     }
-}
-
-/// A dependency or a use of the version of the key that a text is.
-pub fn item_asked<H: Host>(
-    alloc: Global,
-    number: u32,
-    host: &mut H,
-    side: Side,
-    text: &Text,
-    at: i64,
-    index: i64,
-) -> Result<Dep, Stop>
-    requires { H.ready host.old }
-    ensures { Asks H.Host host.old host.new (λ dep. dep) (λ rows. item_asked rows number (kind_of side) text.now at index) result }
-{
-    let key = key_of_text(text)?;
-    let block = block_before(number, at)?;
-    item_of(alloc, host, side, &key, block, index)
 }

@@ -5,7 +5,7 @@ mod asking;
 mod side;
 
 pub use asking::{
-    block_told, block_value, count_asked, item_asked, key_of_text, key_value, seen_told, tx_told,
-    value_told, version_asked,
+    block_before, block_told, block_value, count_asked, item_asked, key_of_text, key_value,
+    seen_told, tx_told, value_told, version_asked,
 };
 pub use side::Side;

@@ -5,4 +5,4 @@ mod number;
 mod operator;
 
 pub use number::truth;
-pub use operator::{combined, decided, holds, prefixed};
+pub use operator::{binary_result, holds, left_decision, prefix_result};

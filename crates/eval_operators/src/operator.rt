@@ -1,8 +1,10 @@
 //! Operators on values.
 
 ghost use Rattle.std.specs.Prelude.{◌≡◌};
-ghost use Rattle.contract_semantics.specs.Operators.{on_ints, on_texts, combined, prefixed, decided, holds};
-ghost use Rattle.contract_semantics.specs.Answers.{IsResultOf, IsNoFault};
+ghost use Rattle.contract_semantics.specs.{
+  Operators.{on_ints, on_texts, binary_result, prefix_result, left_decision, holds},
+  Answers.{IsResultOf, IsNoFault},
+};
 
 use crate::number::{difference, negation, product, quotient, remainder, sum, truth};
 use contract_semantics::Stop;
@@ -11,8 +13,8 @@ use lc_base::{Memory, Text, TxStatus, Value};
 use std::alloc::Global;
 
 /// What the left side of `&&` or `||` decides alone: 0 or 1, or `None` where the right side counts.
-pub fn decided(sign: Sign, value: &Value) -> Option<i64>
-    ensures { result ≡ decided sign value.now }
+pub fn left_decision(sign: Sign, value: &Value) -> Option<i64>
+    ensures { result ≡ left_decision sign value.now }
 {
     match (sign, value) {
         (Sign::And, Value::Int(number)) => { if *number == 0 { Some(0) } else { None } }
@@ -63,8 +65,13 @@ fn on_texts(alloc: Global, sign: Sign, a: &Text, b: &Text) -> Result<Value, Stop
 ///
 /// `Overflow`, `DivZero` and `TextTooLong` as the operator says, or `Memory` for a text. `WrongKind`
 /// where the operator does not take these values, which no checked contract comes to.
-pub fn combined(alloc: Global, sign: Sign, first: &Value, second: &Value) -> Result<Value, Stop>
-    ensures value { IsResultOf (λ value. value) (combined sign first.now second.now) result }
+pub fn binary_result(
+    alloc: Global,
+    sign: Sign,
+    first: &Value,
+    second: &Value,
+) -> Result<Value, Stop>
+    ensures value { IsResultOf (λ value. value) (binary_result sign first.now second.now) result }
     ensures no_fault { IsNoFault result }
 {
     match (first, second) {
@@ -80,8 +87,8 @@ pub fn combined(alloc: Global, sign: Sign, first: &Value, second: &Value) -> Res
 ///
 /// `Overflow` for the least number negated. `WrongKind` where the prefix does not take the value,
 /// which no checked contract comes to.
-pub fn prefixed(sign: Sign, value: &Value) -> Result<Value, TxStatus>
-    ensures { result ≡ prefixed sign value.now }
+pub fn prefix_result(sign: Sign, value: &Value) -> Result<Value, TxStatus>
+    ensures { result ≡ prefix_result sign value.now }
 {
     match (sign, value) {
         (Sign::Minus, Value::Int(number)) => negation(*number).map(Value::Int),

@@ -4,7 +4,7 @@ use Rattle.std.specs.List.{All}
 use Rattle.std.proofs.lemmas.List.Elements.{All-push, All-set}
 use Rattle.lc_base.specs.declared.value.Value.{Value}
 use Rattle.dep_capture.specs.Captured.{Captured}
-use Rattle.dep_capture.specs.Capture.{deps_of, place_of, with_put_at, with_put, captured_after_put}
+use Rattle.dep_capture.specs.Capture.{deps_of, index_of, with_put_at, with_put, captured_after_put}
 use Rattle.dep_capture.specs.declared.access.Put.{Put}
 use Rattle.dep_capture.specs.declared.error.CaptureError.TheVariants as errors
 use Rattle.contract_semantics.specs.Scenes.{Place}
@@ -27,4 +27,4 @@ pub put_faithful : (place : Place) (old new : Captured) (key : List ℕ) (value 
 put_faithful place old new key value named e unwritten is =
     let put : Put = record { key = key; value = value; deps = deps_of old.reads named } in
     of_put (IsFaithful place) _ _ _ (record old { puts = with_put old.puts put }) new e
-    (record { reads = is.reads; puts = all_with (λ (put : Put). place.written put.key ≡ false) old.puts (place_of old.puts key) put unwritten is.puts })
+    (record { reads = is.reads; puts = all_with (λ (put : Put). place.written put.key ≡ false) old.puts (index_of old.puts key) put unwritten is.puts })

@@ -1,12 +1,13 @@
 //! What a `put` does.
 
-ghost use Rattle.std.specs.Prelude.{◌≡◌, [], false, Ok, OnOk};
-ghost use Rattle.std.specs.Option.{option_map, option_copied};
+ghost use Rattle.std.specs.{Prelude.{◌≡◌, [], false, Ok, OnOk}, Option.{option_map, option_copied}};
 ghost use Rattle.dep_capture.specs.Capture.{captured_after_put};
 ghost use Rattle.world_state.specs.World.{is_written};
-ghost use Rattle.contract_semantics.specs.Scenes.{Place};
-ghost use Rattle.contract_semantics.specs.Puts.{is_own, key_in, keys_in, named_keys, is_one_too_many, key_to_put, put_recorded, captured_by_put};
-ghost use Rattle.contract_semantics.specs.Answers.{place_in, IsResultOf, IsNoFault, IsAllowed, ReadsOrRefuses, IsFaithful};
+ghost use Rattle.contract_semantics.specs.{
+  Scenes.{Place},
+  Puts.{is_own, key_in, keys_in, named_keys, is_one_too_many, key_to_put, put_recorded, captured_by_put},
+  Answers.{place_in, IsResultOf, IsNoFault, IsAllowed, ReadsOrRefuses, IsFaithful},
+};
 
 use contract_semantics::Stop;
 use dep_capture::{Capture, CaptureError, MAX_KEYS_PUT};
@@ -87,7 +88,7 @@ fn key_to_put<C>(
 
 /// Records a put.
 #[tactic(auto, using(crate::proofs::Faithful::put_faithful))]
-fn recorded(
+fn record_put(
     capture: &mut Capture,
     key: &Key,
     value: Value,
@@ -127,5 +128,5 @@ pub fn put<C>(
     let key = key_in(key)?;
     key_to_put(world, contract, capture, &key)?;
     let named = named_keys(alloc, parts)?;
-    recorded(capture, &key, value, named.as_ref())
+    record_put(capture, &key, value, named.as_ref())
 }

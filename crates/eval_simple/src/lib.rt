@@ -2,10 +2,12 @@
 //! the conditions of those that have one.
 #![tactic(auto)]
 
+mod binding;
 mod flow;
 mod put;
 mod simple;
 
+pub use binding::Binding;
 pub use flow::Flow;
 pub use put::put_statement;
-pub use simple::{assign_statement, fail_statement, let_statement, return_statement, tested};
+pub use simple::{bind_statement, condition_step, fail_statement, return_statement};

@@ -1,12 +1,13 @@
 //! The statement `put`.
 
-ghost use Rattle.std.specs.Prelude.{List};
-ghost use Rattle.std.specs.Option.{option_map};
+ghost use Rattle.std.specs.{Prelude.{List}, Option.{option_map}};
 ghost use Rattle.contract_tree.specs.Tree.{tree_of, parts_of};
-ghost use Rattle.contract_semantics.specs.declared.variable.Variable.{Variable};
-ghost use Rattle.contract_semantics.specs.Statements.{parts_values, put_run, put_of_key, put_of_values, put_end};
-ghost use Rattle.contract_semantics.specs.Answers.{Gives};
-ghost use Rattle.eval_builtins.specs.Runs.{Keeps, Tells};
+ghost use Rattle.contract_semantics.specs.{
+  declared.variable.Variable.{Variable},
+  Statements.{parts_values, put_run, put_of_key, put_of_values, put_end},
+  Answers.{Gives},
+};
+ghost use Rattle.eval_builtins.specs.Runs.{KeepsRun, Tells};
 ghost use Rattle.eval_simple.specs.Flows.{Flows};
 
 use crate::flow::Flow;
@@ -26,7 +27,7 @@ fn parts_values<C, H: Host>(
 ) -> Result<Option<Vec<Value>>, Stop>
     requires { H.ready run.old.host.now }
     ensures step { Tells H.Host run.old run.new (λ s m k. Gives (option_map (λ values. values.items)) (parts_values s variables.now (parts_of parts.now) m) result k) }
-    ensures keeps { Keeps H.Host run.old run.new result }
+    ensures keeps { KeepsRun H.Host run.old run.new result }
 {
     match parts {
         None => Ok(None),
@@ -47,7 +48,7 @@ fn put_end<C, H: Host>(
 ) -> Result<Flow, Stop>
     requires { H.ready run.old.host.now }
     ensures step { Tells H.Host run.old run.new (λ s m k. Flows (put_end s.site.contract s.place key.now value (option_map (λ values. values.items) parts) variables.now m) result variables.now k) }
-    ensures keeps { Keeps H.Host run.old run.new result }
+    ensures keeps { KeepsRun H.Host run.old run.new result }
 {
     charge(&mut run.left, CHARGE_PUT)?;
     put(
@@ -72,7 +73,7 @@ fn put_of_values<C, H: Host>(
 ) -> Result<Flow, Stop>
     requires { H.ready run.old.host.now }
     ensures step { Tells H.Host run.old run.new (λ s m k. Flows (put_of_values s key value (parts_of parts.now) variables.now m) result variables.now k) }
-    ensures keeps { Keeps H.Host run.old run.new result }
+    ensures keeps { KeepsRun H.Host run.old run.new result }
 {
     let parts = parts_values(run, variables, parts)?;
     put_end(run, variables, &key, value, parts)
@@ -88,7 +89,7 @@ fn put_of_key<C, H: Host>(
 ) -> Result<Flow, Stop>
     requires { H.ready run.old.host.now }
     ensures step { Tells H.Host run.old run.new (λ s m k. Flows (put_of_key s key (tree_of x.now) (parts_of parts.now) variables.now m) result variables.now k) }
-    ensures keeps { Keeps H.Host run.old run.new result }
+    ensures keeps { KeepsRun H.Host run.old run.new result }
 {
     let value = value(run, variables, x)?;
     put_of_values(run, variables, key, value, parts)
@@ -104,7 +105,7 @@ pub fn put_statement<C, H: Host>(
 ) -> Result<Flow, Stop>
     requires { H.ready run.old.host.now }
     ensures step { Tells H.Host run.old run.new (λ s m k. Flows (put_run s (tree_of key.now) (tree_of x.now) (parts_of parts.now) variables.now m) result variables.now k) }
-    ensures keeps { Keeps H.Host run.old run.new result }
+    ensures keeps { KeepsRun H.Host run.old run.new result }
 {
     charge(&mut run.left, CHARGE_NODE)?;
     let key = value(run, variables, key)?;

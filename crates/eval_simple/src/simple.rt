@@ -3,15 +3,18 @@
 ghost use Rattle.std.specs.Prelude.{◌≤◌, List};
 ghost use Rattle.lc_base.specs.declared.tx_status.TxStatus.TheVariants as statuses;
 ghost use Rattle.contract_tree.specs.Tree.{tree_of};
-ghost use Rattle.contract_semantics.specs.declared.variable.Variable.{Variable};
-ghost use Rattle.contract_semantics.specs.declared.charge.TheConstants.{CHARGE_NODE};
-ghost use Rattle.contract_semantics.specs.Steps.{machine, charged, Done, Failed};
-ghost use Rattle.contract_semantics.specs.Statements.{Returns, tested, let_run, assign_run};
-ghost use Rattle.contract_semantics.specs.Answers.{Gives, IsNoFault};
-ghost use Rattle.eval_builtins.specs.Runs.{Keeps, Tells};
+ghost use Rattle.contract_semantics.specs.{
+  declared.variable.Variable.{Variable},
+  declared.charge.TheConstants.{CHARGE_NODE},
+  Steps.{machine, after_charge, Done, Failed},
+  Statements.{Returns, condition_step},
+  Answers.{Gives, IsNoFault},
+};
+ghost use Rattle.eval_builtins.specs.Runs.{KeepsRun, Tells};
 ghost use Rattle.dep_capture.specs.Captured.{Captured};
-ghost use Rattle.eval_simple.specs.Flows.{Flows};
+ghost use Rattle.eval_simple.specs.{Bindings.{bind_run}, Flows.{Flows}};
 
+use crate::binding::Binding;
 use crate::flow::Flow;
 use contract_semantics::{CHARGE_NODE, Stop};
 use contract_tree::Expr;
@@ -23,57 +26,44 @@ use lc_base::{Host, Name, TxStatus};
 
 /// The charge of a statement, and whether its condition holds.
 #[inline(always)]
-pub fn tested<C, H: Host>(
+pub fn condition_step<C, H: Host>(
     run: &mut Run<C, H>,
     variables: &Variables,
     test: &Expr,
 ) -> Result<bool, Stop>
     requires { H.ready run.old.host.now }
-    ensures step { Tells H.Host run.old run.new (λ s m k. Gives (λ holds. holds) (tested s (tree_of test.now) variables.now m) result k) }
-    ensures keeps { Keeps H.Host run.old run.new result }
+    ensures step { Tells H.Host run.old run.new (λ s m k. Gives (λ holds. holds) (condition_step s (tree_of test.now) variables.now m) result k) }
+    ensures keeps { KeepsRun H.Host run.old run.new result }
 {
     charge(&mut run.left, CHARGE_NODE)?;
     let value = value(run, variables, test)?;
     Ok(holds(&value))
 }
 
-/// `let name = x;`
-pub fn let_statement<C, H: Host>(
+/// `let name = x;` or `name = x;`
+pub fn bind_statement<C, H: Host>(
     run: &mut Run<C, H>,
     variables: &mut Variables,
+    binding: Binding,
     name: &Name,
     x: &Expr,
 ) -> Result<Flow, Stop>
     requires { H.ready run.old.host.now }
-    ensures step { Tells H.Host run.old run.new (λ s m k. Flows (let_run s name.now (tree_of x.now) variables.old m) result variables.new k) }
-    ensures keeps { Keeps H.Host run.old run.new result }
+    ensures step { Tells H.Host run.old run.new (λ s m k. Flows (bind_run s binding name.now (tree_of x.now) variables.old m) result variables.new k) }
+    ensures keeps { KeepsRun H.Host run.old run.new result }
 {
     charge(&mut run.left, CHARGE_NODE)?;
     let value = value(run, variables, x)?;
-    variables.declare(name, value)?;
-    Ok(Flow::Goes)
-}
-
-/// `name = x;`
-pub fn assign_statement<C, H: Host>(
-    run: &mut Run<C, H>,
-    variables: &mut Variables,
-    name: &Name,
-    x: &Expr,
-) -> Result<Flow, Stop>
-    requires { H.ready run.old.host.now }
-    ensures step { Tells H.Host run.old run.new (λ s m k. Flows (assign_run s name.now (tree_of x.now) variables.old m) result variables.new k) }
-    ensures keeps { Keeps H.Host run.old run.new result }
-{
-    charge(&mut run.left, CHARGE_NODE)?;
-    let value = value(run, variables, x)?;
-    variables.assign(name, value);
+    match binding {
+        Binding::Declares => variables.declare(name, value)?,
+        Binding::Assigns => variables.assign(name, value),
+    }
     Ok(Flow::Goes)
 }
 
 /// `fail;`
 pub fn fail_statement(left: &mut u32) -> Result<Flow, Stop>
-    ensures step { (variables : List Variable) (c : Captured) → Flows (charged CHARGE_NODE (machine left.old c) (λ m. Failed statuses.Failed m)) result variables (machine left.new c) }
+    ensures step { (variables : List Variable) (c : Captured) → Flows (after_charge CHARGE_NODE (machine left.old c) (λ m. Failed statuses.Failed m)) result variables (machine left.new c) }
     ensures left { left.new ≤ left.old }
     ensures no_fault { IsNoFault result }
 {
@@ -83,7 +73,7 @@ pub fn fail_statement(left: &mut u32) -> Result<Flow, Stop>
 
 /// `return;`
 pub fn return_statement(left: &mut u32) -> Result<Flow, Stop>
-    ensures step { (variables : List Variable) (c : Captured) → Flows (charged CHARGE_NODE (machine left.old c) (λ m. Done Returns m)) result variables (machine left.new c) }
+    ensures step { (variables : List Variable) (c : Captured) → Flows (after_charge CHARGE_NODE (machine left.old c) (λ m. Done Returns m)) result variables (machine left.new c) }
     ensures left { left.new ≤ left.old }
     ensures no_fault { IsNoFault result }
 {

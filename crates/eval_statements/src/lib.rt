@@ -3,4 +3,4 @@
 
 mod statement;
 
-pub use statement::statements;
+pub use statement::block;

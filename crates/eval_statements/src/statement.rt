@@ -3,7 +3,7 @@
 ghost use Rattle.std.specs.Prelude.{map};
 ghost use Rattle.contract_tree.specs.Tree.{tree_of, statement_of, statement_list};
 ghost use Rattle.contract_semantics.specs.Statements.{statement_run, statements_run, block_run, branch_run, loop_turn, loop_run};
-ghost use Rattle.eval_builtins.specs.Runs.{Keeps, Tells};
+ghost use Rattle.eval_builtins.specs.Runs.{KeepsRun, Tells};
 ghost use Rattle.eval_simple.specs.Flows.{Flows};
 ghost use Rattle.eval_statements.specs.Turns.{Turns};
 
@@ -11,7 +11,7 @@ use contract_semantics::Stop;
 use contract_tree::{Expr, Form, Statement};
 use eval_builtins::Run;
 use eval_simple::{
-    Flow, assign_statement, fail_statement, let_statement, put_statement, return_statement, tested,
+    Binding, Flow, bind_statement, condition_step, fail_statement, put_statement, return_statement,
 };
 use eval_variables::Variables;
 use lc_base::{Host, TxStatus};
@@ -25,13 +25,17 @@ fn statement<C, H: Host>(
 ) -> Result<Flow, Stop>
     requires { H.ready run.old.host.now }
     ensures step { Tells H.Host run.old run.new (λ s m k. Flows (statement_run s (statement_of x.now) variables.old m) result variables.new k) }
-    ensures keeps { Keeps H.Host run.old run.new result }
+    ensures keeps { KeepsRun H.Host run.old run.new result }
 {
     match &x.form {
-        Form::Let { name, value, .. } => { let_statement(run, variables, name, value) }
-        Form::Assign { name, value } => { assign_statement(run, variables, name, value) }
+        Form::Let { name, value, .. } => {
+            bind_statement(run, variables, Binding::Declares, name, value)
+        }
+        Form::Assign { name, value } => {
+            bind_statement(run, variables, Binding::Assigns, name, value)
+        }
         Form::If { test, .. } => {
-            let chosen = tested(run, variables, test)?;
+            let chosen = condition_step(run, variables, test)?;
             branch(run, variables, x, chosen)
         }
         Form::While { test, body } => { turns(run, variables, body, test) }
@@ -51,7 +55,7 @@ fn branch<C, H: Host>(
 ) -> Result<Flow, Stop>
     requires { H.ready run.old.host.now }
     ensures step { Tells H.Host run.old run.new (λ s m k. Flows (branch_run s (statement_of x.now) chosen variables.old m) result variables.new k) }
-    ensures keeps { Keeps H.Host run.old run.new result }
+    ensures keeps { KeepsRun H.Host run.old run.new result }
 {
     match &x.form {
         Form::If { first, second, .. } => {
@@ -68,28 +72,6 @@ fn branch<C, H: Host>(
     }
 }
 
-/// A block, whose names end with it.
-#[inline(always)]
-#[cycle(statement)]
-fn block<C, H: Host>(
-    run: &mut Run<C, H>,
-    variables: &mut Variables,
-    body: &[Statement],
-) -> Result<Flow, Stop>
-    requires { H.ready run.old.host.now }
-    ensures step { Tells H.Host run.old run.new (λ s m k. Flows (block_run s (statement_list (map statement_of body.now)) variables.old m) result variables.new k) }
-    ensures keeps { Keeps H.Host run.old run.new result }
-{
-    let outer = variables.len();
-    match statements(run, variables, body)? {
-        Flow::Returns => Ok(Flow::Returns),
-        Flow::Goes => {
-            variables.keep(outer);
-            Ok(Flow::Goes)
-        }
-    }
-}
-
 /// A turn of a loop: `None` where another turn comes.
 #[inline(always)]
 #[cycle(statement)]
@@ -101,9 +83,9 @@ fn turn<C, H: Host>(
 ) -> Result<Option<Flow>, Stop>
     requires { H.ready run.old.host.now }
     ensures step { Tells H.Host run.old run.new (λ s m k. Turns (loop_turn s (tree_of test.now) (statements_run s (statement_list (map statement_of body.now))) variables.old m) result variables.new k) }
-    ensures keeps { Keeps H.Host run.old run.new result }
+    ensures keeps { KeepsRun H.Host run.old run.new result }
 {
-    if !tested(run, variables, test)? {
+    if !condition_step(run, variables, test)? {
         return Ok(Some(Flow::Goes));
     }
     match block(run, variables, body)? {
@@ -123,7 +105,7 @@ fn turns<C, H: Host>(
 ) -> Result<Flow, Stop>
     requires { H.ready run.old.host.now }
     ensures step { Tells H.Host run.old run.new (λ s m k. Flows (loop_run s (tree_of test.now) (statement_list (map statement_of body.now)) m.left variables.old m) result variables.new k) }
-    ensures keeps { Keeps H.Host run.old run.new result }
+    ensures keeps { KeepsRun H.Host run.old run.new result }
 {
     let most = run.left;
     'rounds: for _ in 0..most {
@@ -136,22 +118,24 @@ fn turns<C, H: Host>(
     Err(Stop::Status(TxStatus::OutOfSteps))
 }
 
-/// Statements, one after another.
+/// A block: its statements, one after another, whose names end with it.
 #[cycle(statement)]
-pub fn statements<C, H: Host>(
+pub fn block<C, H: Host>(
     run: &mut Run<C, H>,
     variables: &mut Variables,
     body: &[Statement],
 ) -> Result<Flow, Stop>
     requires { H.ready run.old.host.now }
-    ensures step { Tells H.Host run.old run.new (λ s m k. Flows (statements_run s (statement_list (map statement_of body.now)) variables.old m) result variables.new k) }
-    ensures keeps { Keeps H.Host run.old run.new result }
+    ensures step { Tells H.Host run.old run.new (λ s m k. Flows (block_run s (statement_list (map statement_of body.now)) variables.old m) result variables.new k) }
+    ensures keeps { KeepsRun H.Host run.old run.new result }
 {
+    let outer = variables.len();
     for x in body {
         match statement(run, variables, x)? {
             Flow::Returns => return Ok(Flow::Returns),
             Flow::Goes => {}
         }
     }
+    variables.keep(outer);
     Ok(Flow::Goes)
 }

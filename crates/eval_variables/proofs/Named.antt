@@ -8,7 +8,7 @@ use Rattle.std.proofs.lemmas.List.{take-map}
 use Rattle.name_table.proofs.FirstPlaces.{at_head, past_head}
 use Rattle.lc_base.specs.declared.value.Value.{Value}
 use Rattle.contract_semantics.specs.declared.variable.Variable.{Variable}
-use Rattle.contract_semantics.specs.Statements.{assigned, value_replaced}
+use Rattle.contract_semantics.specs.Statements.{with_assignment, value_replaced}
 use Rattle.eval_variables.specs.Named.{variable_in, value_in}
 
 -- ---- the value of a name
@@ -30,15 +30,15 @@ replaced_after : (at : Option ℕ) (v : Variable) (variables : List Variable) (n
 replaced_after None v variables name value = refl
 replaced_after (Some i) v variables name value = refl
 
-assigned_first : (v : Variable) (variables : List Variable) (name : List ℕ) (value : Value) → pointwise ◌==◌ v.name name ≡ true → assigned (v ∷ variables) name value ≡ record { name = name; value = value } ∷ variables
+assigned_first : (v : Variable) (variables : List Variable) (name : List ℕ) (value : Value) → pointwise ◌==◌ v.name name ≡ true → with_assignment (v ∷ variables) name value ≡ record { name = name; value = value } ∷ variables
 assigned_first v variables name value e = ap (λ (at : Option ℕ). value_replaced at (v ∷ variables) name value) (at_head (λ (v : Variable). pointwise ◌==◌ v.name name) v variables e)
 
-assigned_later : (v : Variable) (variables : List Variable) (name : List ℕ) (value : Value) → pointwise ◌==◌ v.name name ≡ false → assigned (v ∷ variables) name value ≡ v ∷ assigned variables name value
+assigned_later : (v : Variable) (variables : List Variable) (name : List ℕ) (value : Value) → pointwise ◌==◌ v.name name ≡ false → with_assignment (v ∷ variables) name value ≡ v ∷ with_assignment variables name value
 assigned_later v variables name value e =
     ap (λ (at : Option ℕ). value_replaced at (v ∷ variables) name value) (past_head (λ (v : Variable). pointwise ◌==◌ v.name name) v variables e)
     ∙ replaced_after (position (λ (v : Variable). pointwise ◌==◌ v.name name) variables) v variables name value
 
-pub value_set : (entries : List (List ℕ × Value)) (name : List ℕ) (value : Value) → map variable_in (set_value (pointwise ◌==◌ name) entries value) ≡ assigned (map variable_in entries) name value
+pub value_set : (entries : List (List ℕ × Value)) (name : List ℕ) (value : Value) → map variable_in (set_value (pointwise ◌==◌ name) entries value) ≡ with_assignment (map variable_in entries) name value
 value_set [] name value = refl
 value_set (e ∷ es) name value = elim (cases_Bool (pointwise ◌==◌ name e.0)) [
   | inl t ↦

@@ -1,8 +1,7 @@
 //! Variables, oldest first.
 
-ghost use Rattle.std.specs.Prelude.{◌≡◌, [], length, take, OnOk, OnErr};
-ghost use Rattle.std.specs.Option.{option_copied};
-ghost use Rattle.contract_semantics.specs.Statements.{declared, assigned};
+ghost use Rattle.std.specs.{Prelude.{◌≡◌, [], length, take, OnOk, OnErr}, Option.{option_copied}};
+ghost use Rattle.contract_semantics.specs.Statements.{with_variable, with_assignment};
 ghost use Rattle.eval_variables.specs.Named.{value_in};
 
 use lc_base::{Memory, Name, Value};
@@ -57,14 +56,14 @@ impl Variables {
     /// Gives the variable of a name another value. A name that isn't visible changes nothing.
     #[tactic(auto, using(crate::proofs::Named::value_set))]
     pub fn assign(&mut self, name: &Name, value: Value)
-        ensures { self.new ≡ assigned self.old name.now value }
+        ensures { self.new ≡ with_assignment self.old name.now value }
     {
         self.named.set(name, value);
     }
 
     /// Makes a name visible, with this value. Out of memory, nothing changes.
     pub fn declare(&mut self, name: &Name, value: Value) -> Result<(), Memory>
-        ensures ok { OnOk result (self.new ≡ declared self.old name.now value) }
+        ensures ok { OnOk result (self.new ≡ with_variable self.old name.now value) }
         ensures err { OnErr result (self.new ≡ self.old) }
     {
         self.named.push(name, value)

@@ -7,7 +7,7 @@ use Rattle.std.specs.Cmp.Lexicographic.{pointwise, slice_cmp}
 use Rattle.std.proofs.lemmas.Bool.{cases_Bool}
 use Rattle.std.proofs.lemmas.Map.Text.{is_eq-slice_cmp}
 use Rattle.std.proofs.lemmas.Slice.Eq.{bytes_eq-Decides}
-use Rattle.world_state.specs.KnownCodes.{code, place_of}
+use Rattle.world_state.specs.KnownCodes.{code, index_of}
 
 pub none_of : {A : Type 0} (o : Option A) → is_some o ≡ false → o ≡ None
 none_of None e = refl
@@ -54,11 +54,11 @@ module _ {C : Type 0} where
   first_or false entry codes o found e = next_in entry codes o ∙ e
 
   -- the place of a name in all codes finds the code of the name in the first of them
-  pub found_at : (codes : List (List ℕ × C)) (committed : ℕ) (name : List ℕ) → code_in (take committed codes) (place_of codes name) ≡ lookup (pointwise ◌==◌ name) (take committed codes)
+  pub found_at : (codes : List (List ℕ × C)) (committed : ℕ) (name : List ℕ) → code_in (take committed codes) (index_of codes name) ≡ lookup (pointwise ◌==◌ name) (take committed codes)
   found_at [] zero name = refl
   found_at [] (suc n) name = refl
-  found_at (entry ∷ codes) zero name = none_in (place_of (entry ∷ codes) name)
-  found_at (entry ∷ codes) (suc n) name = first_or (pointwise ◌==◌ name entry.0) entry (take n codes) (place_of codes name) (lookup (pointwise ◌==◌ name) (take n codes)) (found_at codes n name)
+  found_at (entry ∷ codes) zero name = none_in (index_of (entry ∷ codes) name)
+  found_at (entry ∷ codes) (suc n) name = first_or (pointwise ◌==◌ name entry.0) entry (take n codes) (index_of codes name) (lookup (pointwise ◌==◌ name) (take n codes)) (found_at codes n name)
 
   either : (b : Bool) (entry : List ℕ × C) (o : Option ℕ) (found other : Option C) → is_some o ≡ (is_some found || is_some other)
       → is_some (cond b (Some 0) (option_map suc o)) ≡ (is_some (cond b (Some entry.1) found) || is_some other)
@@ -66,32 +66,32 @@ module _ {C : Type 0} where
   either false entry o found other e = some_next o ∙ e
 
   pub used_at : (codes : List (List ℕ × C)) (committed : ℕ) (name : List ℕ)
-      → is_some (place_of codes name) ≡ (is_some (lookup (pointwise ◌==◌ name) (take committed codes)) || is_some (lookup (pointwise ◌==◌ name) (drop committed codes)))
+      → is_some (index_of codes name) ≡ (is_some (lookup (pointwise ◌==◌ name) (take committed codes)) || is_some (lookup (pointwise ◌==◌ name) (drop committed codes)))
   used_at [] zero name = refl
   used_at [] (suc n) name = refl
   used_at (entry ∷ codes) zero name = all (entry ∷ codes)
     where
-      all : (codes : List (List ℕ × C)) → is_some (place_of codes name) ≡ is_some (lookup (pointwise ◌==◌ name) codes)
+      all : (codes : List (List ℕ × C)) → is_some (index_of codes name) ≡ is_some (lookup (pointwise ◌==◌ name) codes)
       all [] = refl
-      all (e ∷ es) = either (pointwise ◌==◌ name e.0) e (place_of es name) None (lookup (pointwise ◌==◌ name) es) (all es) ∙ last (pointwise ◌==◌ name e.0) e (lookup (pointwise ◌==◌ name) es)
+      all (e ∷ es) = either (pointwise ◌==◌ name e.0) e (index_of es name) None (lookup (pointwise ◌==◌ name) es) (all es) ∙ last (pointwise ◌==◌ name e.0) e (lookup (pointwise ◌==◌ name) es)
         where
           last : (b : Bool) (entry : List ℕ × C) (o : Option C) → (is_some (cond b (Some entry.1) None) || is_some o) ≡ is_some (cond b (Some entry.1) o)
           last true entry o = refl
           last false entry o = refl
   used_at (entry ∷ codes) (suc n) name =
-      either (pointwise ◌==◌ name entry.0) entry (place_of codes name) (lookup (pointwise ◌==◌ name) (take n codes)) (lookup (pointwise ◌==◌ name) (drop n codes)) (used_at codes n name)
+      either (pointwise ◌==◌ name entry.0) entry (index_of codes name) (lookup (pointwise ◌==◌ name) (take n codes)) (lookup (pointwise ◌==◌ name) (drop n codes)) (used_at codes n name)
 
   -- ---- one code more
 
   placed_last : (codes : List (List ℕ × C)) (name new : List ℕ) (x : C)
-      → place_of (codes ++ (new, x) ∷ []) name ≡ option_or (place_of codes name) (cond (pointwise ◌==◌ name new) (Some (length codes)) None)
+      → index_of (codes ++ (new, x) ∷ []) name ≡ option_or (index_of codes name) (cond (pointwise ◌==◌ name new) (Some (length codes)) None)
   placed_last [] name new x = refl
   placed_last (entry ∷ codes) name new x =
-      after_first (pointwise ◌==◌ name entry.0) (pointwise ◌==◌ name new) (place_of codes name) (place_of (codes ++ (new, x) ∷ []) name) (length codes) (placed_last codes name new x)
+      after_first (pointwise ◌==◌ name entry.0) (pointwise ◌==◌ name new) (index_of codes name) (index_of (codes ++ (new, x) ∷ []) name) (length codes) (placed_last codes name new x)
 
   -- a new name has the last place, and the others have those that they had
-  pub placed_more : (codes : List (List ℕ × C)) (new : List ℕ) (x : C) (name : List ℕ) → place_of codes new ≡ None
-      → cond (is_eq (slice_cmp nat_cmp new name)) (Some (length codes)) (place_of codes name) ≡ place_of (codes ++ (new, x) ∷ []) name
+  pub placed_more : (codes : List (List ℕ × C)) (new : List ℕ) (x : C) (name : List ℕ) → index_of codes new ≡ None
+      → cond (is_eq (slice_cmp nat_cmp new name)) (Some (length codes)) (index_of codes name) ≡ index_of (codes ++ (new, x) ∷ []) name
   placed_more codes new x name none = elim (cases_Bool (pointwise ◌==◌ new name)) [
     | inl t ↦
         let same : new ≡ name = (bytes_eq-Decides new name).0 t in
@@ -100,16 +100,16 @@ module _ {C : Type 0} where
         ∙ sym (placed_last codes name new x)
     | inr f ↦
         chosen f
-        ∙ sym (or_none (place_of codes name))
-        ∙ ap (λ b. option_or (place_of codes name) (cond b (Some (length codes)) None)) (sym (apart f))
+        ∙ sym (or_none (index_of codes name))
+        ∙ ap (λ b. option_or (index_of codes name) (cond b (Some (length codes)) None)) (sym (apart f))
         ∙ sym (placed_last codes name new x)
   ]
     where
-      chosen : {b : _} → pointwise ◌==◌ new name ≡ b → cond (is_eq (slice_cmp nat_cmp new name)) (Some (length codes)) (place_of codes name) ≡ cond b (Some (length codes)) (place_of codes name)
-      chosen e = ap (λ b. cond b (Some (length codes)) (place_of codes name)) (is_eq-slice_cmp new name ∙ e)
+      chosen : {b : _} → pointwise ◌==◌ new name ≡ b → cond (is_eq (slice_cmp nat_cmp new name)) (Some (length codes)) (index_of codes name) ≡ cond b (Some (length codes)) (index_of codes name)
+      chosen e = ap (λ b. cond b (Some (length codes)) (index_of codes name)) (is_eq-slice_cmp new name ∙ e)
 
-      none_here : new ≡ name → place_of codes name ≡ None
-      none_here same = ap (place_of codes) (sym same) ∙ none
+      none_here : new ≡ name → index_of codes name ≡ None
+      none_here same = ap (index_of codes) (sym same) ∙ none
 
       apart : pointwise ◌==◌ new name ≡ false → pointwise ◌==◌ name new ≡ false
       apart f = elim (cases_Bool (pointwise ◌==◌ name new)) [

@@ -21,12 +21,12 @@ abbrev pub code : {C : Type 0} → List ℕ × C → C
 code entry = entry.1
 
 -- The place of the first code of this name.
-abbrev pub place_of : {C : Type 0} → List (List ℕ × C) → List ℕ → Option ℕ
-place_of [] name = None
-place_of (entry ∷ entries) name =
-    if pointwise ◌==◌ name entry.0 then Some 0 else option_map suc (place_of entries name)
+abbrev pub index_of : {C : Type 0} → List (List ℕ × C) → List ℕ → Option ℕ
+index_of [] name = None
+index_of (entry ∷ entries) name =
+    if pointwise ◌==◌ name entry.0 then Some 0 else option_map suc (index_of entries name)
 
 -- Of each name the place of its code is kept, and that many of the codes can be called.
 pub record AreKept {C : Type 0} (kept : BTreeMap (List ℕ) ℕ) (committed : ℕ) (codes : List (List ℕ × C)) : Type 0 where
-  pub places : (name : List ℕ) → get (slice_cmp nat_cmp) kept name ≡ place_of codes name
+  pub places : (name : List ℕ) → get (slice_cmp nat_cmp) kept name ≡ index_of codes name
   pub within : committed ≤ length codes

@@ -1,9 +1,11 @@
 //! The codes of contracts, of the blocks so far and of the block at work.
 
-ghost use Rattle.std.specs.Prelude.{◌≡◌, ◌==◌, [], ◌∷◌, ◌++◌, false, take, slice_get, OnOk, OnErr};
-ghost use Rattle.std.specs.Option.{option_copied, option_map};
-ghost use Rattle.std.specs.Map.{lookup};
-ghost use Rattle.std.specs.Cmp.Lexicographic.{pointwise};
+ghost use Rattle.std.specs.{
+  Prelude.{◌≡◌, ◌==◌, [], ◌∷◌, ◌++◌, false, take, slice_get, OnOk, OnErr},
+  Option.{option_copied, option_map},
+  Map.{lookup},
+  Cmp.Lexicographic.{pointwise},
+};
 ghost use Rattle.world_state.specs.KnownCodes.{KnownCodes, code, is_used};
 
 use lc_base::{Memory, Name};

@@ -1,8 +1,10 @@
 //! What the block at work has written.
 
-ghost use Rattle.std.specs.Prelude.{◌≡◌, ◌==◌, ◌||◌, ◌&&◌, not, true, false, ℕ, List, [], ◌++◌, map, IfOk, OnOk, OnErr};
-ghost use Rattle.std.specs.List.{list_any};
-ghost use Rattle.std.specs.Cmp.Lexicographic.{pointwise};
+ghost use Rattle.std.specs.{
+  Prelude.{◌≡◌, ◌==◌, ◌||◌, ◌&&◌, not, true, false, ℕ, List, [], ◌++◌, map, IfOk, OnOk, OnErr},
+  List.{list_any},
+  Cmp.Lexicographic.{pointwise},
+};
 ghost use Rattle.world_state.specs.Rows.{entry_of, has, is_staged, missing_keys};
 
 use crate::held::{Held, entries_of};

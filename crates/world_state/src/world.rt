@@ -1,12 +1,16 @@
 //! The world.
 
-ghost use Rattle.std.specs.Prelude.{◌≡◌, ◌==◌, false, ℕ, List, [], ◌∷◌, ◌++◌, map, None, Some, MatchOption, IfOk, OnOk, OnErr};
-ghost use Rattle.std.specs.Option.{option_copied, option_or};
-ghost use Rattle.std.specs.Cmp.Lexicographic.{pointwise};
-ghost use Rattle.std.specs.Map.{lookup};
+ghost use Rattle.std.specs.{
+  Prelude.{◌≡◌, ◌==◌, false, ℕ, List, [], ◌∷◌, ◌++◌, map, None, Some, MatchOption, IfOk, OnOk, OnErr},
+  Option.{option_copied, option_or},
+  Cmp.Lexicographic.{pointwise},
+  Map.{lookup},
+};
 ghost use Rattle.lc_base.specs.declared.row.Row.{Row};
-ghost use Rattle.world_state.specs.Rows.{entry_of, newest_staged, held_in};
-ghost use Rattle.world_state.specs.World.{newest_of, newest_after, is_written, code_of, is_raw, is_taken, StandsForRows};
+ghost use Rattle.world_state.specs.{
+  Rows.{entry_of, newest_staged, held_in},
+  World.{newest_of, newest_after, is_written, code_of, is_raw, is_taken, StandsForRows},
+};
 
 use crate::codes::Codes;
 use crate::held::Held;

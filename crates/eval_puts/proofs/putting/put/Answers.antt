@@ -3,4 +3,4 @@ use Rattle.eval_puts.proofs.putting.put.Goals as goal
 
 pub returns-clause-faithful : goal.returns-clause-faithful
 returns-clause-faithful g c =
-    c.recorded.ensures.faithful (place_in c.args.world.now) c.in_ok-key_to_put.ensures.unwritten
+    c.record_put.ensures.faithful (place_in c.args.world.now) c.in_ok-key_to_put.ensures.unwritten

@@ -13,7 +13,7 @@ statement-returns-in_ok-chosen-in-If-clause-step g t c =
     told_all _ _
     (λ rows told.
     let lent = c.in_ok-chosen-in-If.ensures.keeps.lent in
-    let mid = g.met.H.Host.same_rows c.args.run.now.host.now c.tested.new.run.host.now c.in_ok-chosen-in-If.ensures.keeps.same ∙ told in
+    let mid = g.met.H.Host.same_rows c.args.run.now.host.now c.condition_step.new.run.host.now c.in_ok-chosen-in-If.ensures.keeps.same ∙ told in
     if_flows _ c.args.x.now c.in-If.test c.in-If.first c.in-If.second c.in_ok-chosen-in-If.chosen c.args.variables.now c.branch-run.new.variables _ _ _ c.branch-run.result c.in-If.is
     (told_at _ _ rows told c.in_ok-chosen-in-If.ensures.step) (told_at _ _ rows mid (rw (lent.world, lent.site) at c.branch-run.ensures.step)))
 

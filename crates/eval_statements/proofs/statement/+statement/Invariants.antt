@@ -3,18 +3,18 @@ use Rattle.std.specs.Prelude.{IfSome}
 use Rattle.lc_base.specs.declared.row.Row.{Row}
 use Rattle.contract_tree.specs.Tree.{tree_of, statement_of, statement_list}
 use Rattle.contract_semantics.specs.Answers.{scene_in, place_in, IsFaithful}
-use Rattle.contract_semantics.specs.Steps.{machine}
-use Rattle.contract_semantics.specs.Statements.{statements_run, turns, loop_turn, loop_run}
+use Rattle.contract_semantics.specs.Steps.{machine, and_then}
+use Rattle.contract_semantics.specs.Statements.{statements_run, block_run, block_ended, turns, loop_turn, loop_run}
 use Rattle.eval_builtins.specs.Runs.{IsLent}
 use Rattle.eval_statements.proofs.statement.+statement.Given as goal
 
-abbrev pub invariant-statements-loop-x : goal.invariant-statements-loop-x
-invariant-statements-loop-x g l =
+abbrev pub invariant-block-loop-x : goal.invariant-block-loop-x
+invariant-block-loop-x g l =
     record {
       lent : IsLent l.initial.run l.run;
       same : g.H.Host.same l.initial.run.host.now l.run.host.now;
-      step : IfSome (g.H.Host.rows l.initial.run.host.now) (λ rows. statements_run (scene_in rows l.initial.run.world.now l.initial.run.site.now) (statement_list (map statement_of (drop l.x-index l.body))) l.variables (machine l.run.left l.run.capture.now)
-          ≡ statements_run (scene_in rows l.initial.run.world.now l.initial.run.site.now) (statement_list (map statement_of l.body)) l.initial.variables (machine l.initial.run.left l.initial.run.capture.now));
+      step : IfSome (g.H.Host.rows l.initial.run.host.now) (λ rows. and_then (statements_run (scene_in rows l.initial.run.world.now l.initial.run.site.now) (statement_list (map statement_of (drop l.x-index l.body))) l.variables (machine l.run.left l.run.capture.now)) (block_ended l.initial.variables)
+          ≡ block_run (scene_in rows l.initial.run.world.now l.initial.run.site.now) (statement_list (map statement_of l.body)) l.initial.variables (machine l.initial.run.left l.initial.run.capture.now));
       left : l.run.left ≤ l.initial.run.left;
       faithful : IsFaithful (place_in l.initial.run.world.now) l.initial.run.capture.now → IsFaithful (place_in l.initial.run.world.now) l.run.capture.now;
       no_fault : g.H.Host.host_faults l.run.host.now ≡ g.H.Host.host_faults l.initial.run.host.now;

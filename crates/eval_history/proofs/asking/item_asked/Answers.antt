@@ -1,6 +1,6 @@
 use Rattle.std.proofs.Common.{rules}
 use Rattle.eval_history.proofs.Items.{no_item_told}
-use Rattle.eval_history.proofs.asking.item_of.Goals as goal
+use Rattle.eval_history.proofs.asking.item_asked.Goals as goal
 
 pub returns-in-Err : goal.returns-in-Err
 returns-in-Err g c = record {

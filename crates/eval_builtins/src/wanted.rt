@@ -1,0 +1,11 @@
+use contract_tree::Builtin;
+use eval_history::Side;
+
+/// What is wanted of a version.
+#[derive(Clone, Copy)]
+pub(crate) enum Wanted {
+    /// What this builtin tells of it.
+    Part(Builtin),
+    /// The length of one of its lists.
+    Count(Side),
+}

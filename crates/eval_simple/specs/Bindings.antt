@@ -1,0 +1,14 @@
+-- Statements that give a name a value.
+use Rattle.std.specs.Prelude.{ℕ, List}
+use Rattle.contract_tree.specs.Tree.{Tree}
+use Rattle.contract_semantics.specs.declared.variable.Variable.{Variable}
+use Rattle.contract_semantics.specs.Scenes.{Scene}
+use Rattle.contract_semantics.specs.Steps.{Machine, Step}
+use Rattle.contract_semantics.specs.Statements.{Ending, let_run, assign_run}
+use Rattle.eval_simple.specs.declared.binding.Binding.{Binding}
+use Rattle.eval_simple.specs.declared.binding.Binding.TheVariants.{Declares, Assigns}
+
+-- A declaration or an assignment.
+abbrev pub bind_run : Scene → Binding → List ℕ → Tree → List Variable → Machine → Step Ending
+bind_run s Declares name value variables m = let_run s name value variables m
+bind_run s Assigns name value variables m = assign_run s name value variables m

@@ -1,0 +1,8 @@
+/// What a statement does with a name and a value.
+#[derive(Clone, Copy, Debug, PartialEq, Eq)]
+pub enum Binding {
+    /// The name becomes visible, and stands for the value.
+    Declares,
+    /// The name, which is visible, stands for the value from now on.
+    Assigns,
+}
