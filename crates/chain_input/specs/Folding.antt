@@ -5,7 +5,7 @@ use Rattle.block_codec.specs.Spelling.{Decoder}
 use Rattle.block_codec.specs.declared.limits.TheConstants.{MAX_FRAMES}
 use Rattle.block_codec.specs.declared.block.Block.{Block}
 use Rattle.chain_exec.specs.Compiled.{Compiler}
-use Rattle.chain_replay.specs.Judging.{Taken, judged, added_by}
+use Rattle.chain_replay.specs.Judging.{Taken, judgement_of, added_by}
 use Rattle.chain_replay.specs.declared.refusal.Refusal.{Refusal}
 use Rattle.chain_input.specs.declared.cause.Cause.{Cause}
 use Rattle.chain_input.specs.declared.cause.Cause.TheVariants as causes
@@ -44,7 +44,7 @@ fold_step read compile next count blocks input Truncated = ends_at (Refused coun
 fold_step read compile next count blocks input (Length size) = ends_at (Refused count (causes.Length size)) (drop 4 input)
 fold_step read compile next count blocks input Many = ends_at (Refused count causes.Many) (drop 4 input)
 fold_step read compile next count blocks input (Frame frame rest) =
-    fold_after_frame next count blocks rest (judged compile blocks (read frame))
+    fold_after_frame next count blocks rest (judgement_of compile blocks (read frame))
 
 -- The frames of an input, taken one by one after those blocks. `more` is how often to look at the
 -- start of the input: an input has at most MAX_FRAMES frames, so looking once more than that

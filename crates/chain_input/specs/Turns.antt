@@ -4,8 +4,8 @@ use Rattle.block_codec.specs.Frames.{frame_step}
 use Rattle.block_codec.specs.Reading.{block_in}
 use Rattle.block_codec.specs.declared.limits.TheConstants.{MAX_FRAMES}
 use Rattle.block_codec.specs.declared.block.Block.{Block}
-use Rattle.block_codec.specs.declared.frames.FrameError.{FrameError}
-use Rattle.block_codec.specs.declared.frames.FrameError.TheVariants as frames
+use Rattle.block_codec.specs.declared.error.FrameError.{FrameError}
+use Rattle.block_codec.specs.declared.error.FrameError.TheVariants as frames
 use Rattle.chain_exec.specs.Compiled.{compiled_in}
 use Rattle.chain_replay.specs.Chain.{ChainState, StandsFor}
 use Rattle.chain_replay.specs.Judging.{Taken, added_by, added_by_all}
@@ -17,8 +17,8 @@ use Rattle.chain_input.specs.declared.folding.Folded.{Folded}
 use Rattle.chain_input.specs.declared.folding.Folded.TheVariants as found
 use Rattle.chain_input.specs.declared.folding.Turn.{Turn}
 use Rattle.chain_input.specs.declared.folding.Turn.TheVariants as turns
-use Rattle.chain_input.specs.declared.stop.Stop.{Stop}
-use Rattle.chain_input.specs.declared.stop.Stop.TheVariants.{Fault, Memory}
+use Rattle.lc_base.specs.declared.host_error.HostError.{HostError}
+use Rattle.lc_base.specs.declared.host_error.HostError.TheVariants.{Fault, Memory}
 
 -- The fold is found where it ends, with a chain that stands for the blocks that it adds, and what
 -- follows is left.
@@ -33,7 +33,7 @@ IsTakenIn blocks (Ok kept) judgement = (frame : Taken) × (judgement ≡ Ok fram
 IsTakenIn blocks (Err refusal) judgement = judgement ≡ Err refusal
 
 -- What an error of the frames says of the input, or that it says nothing.
-abbrev pub IsCauseOf : FrameError → Result Cause Stop → Type 0
+abbrev pub IsCauseOf : FrameError → Result Cause HostError → Type 0
 IsCauseOf frames.Truncated result = result ≡ Ok causes.Truncated
 IsCauseOf (frames.Length count) result = result ≡ Ok (causes.Length count)
 IsCauseOf frames.Many result = result ≡ Ok causes.Many

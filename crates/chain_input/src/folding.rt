@@ -1,21 +1,19 @@
 //! The frames of an input, taken one after another into a chain.
 
-ghost use Rattle.lc_base.specs.Faults.{HasCause};
+ghost use Rattle.lc_base.specs.Faults.{HasCause, Rose};
 ghost use Rattle.std.specs.Prelude.{◌≡◌, [], IfOk, IfSome, List, IsErrOf};
-ghost use Rattle.lc_base.specs.Faults.{Rose};
-ghost use Rattle.block_codec.specs.Reading.{block_in};
-ghost use Rattle.block_codec.specs.declared.block.Block.{Block as Blocks};
+ghost use Rattle.block_codec.specs.{Reading.{block_in}, declared.block.Block.{Block as Blocks}};
 ghost use Rattle.chain_exec.specs.Compiled.{compiled_in};
-ghost use Rattle.chain_replay.specs.Chain.{StandsFor};
-ghost use Rattle.chain_replay.specs.Judging.{judged};
-ghost use Rattle.chain_input.specs.Folding.{fold_input};
-ghost use Rattle.chain_input.specs.Turns.{IsTakenIn, IsFoldResult, IsCauseOf, IsTurn, CountsFrames};
+ghost use Rattle.chain_replay.specs.{Chain.{StandsFor}, Judging.{judgement_of}};
+ghost use Rattle.chain_input.specs.{
+  Folding.{fold_input},
+  Turns.{IsTakenIn, IsFoldResult, IsCauseOf, IsTurn, CountsFrames},
+};
 
 use crate::cause::Cause;
-use crate::stop::Stop;
 use block_codec::{FrameError, Frames};
 use chain_replay::{Chain, Judged, Refusal, Replay};
-use lc_base::Memory;
+use lc_base::{HostError, Memory};
 use lc_io::Source;
 use std::alloc::Global;
 
@@ -41,7 +39,7 @@ enum Turn {
 
 /// A frame as what its bytes are to the chain.
 fn take_frame(alloc: Global, chain: Chain, frame: &[u8]) -> Result<Result<Chain, Refusal>, Memory>
-    ensures { IfOk result (λ taken. (blocks : List Blocks) → StandsFor chain blocks → IsTakenIn blocks taken (judged compiled_in blocks (block_in frame.now))) }
+    ensures { IfOk result (λ taken. (blocks : List Blocks) → StandsFor chain blocks → IsTakenIn blocks taken (judgement_of compiled_in blocks (block_in frame.now))) }
 {
     match chain.judge(alloc, frame) {
         Ok(Judged::Known { .. }) => Ok(Ok(chain)),
@@ -61,15 +59,15 @@ fn take_frame(alloc: Global, chain: Chain, frame: &[u8]) -> Result<Result<Chain,
 }
 
 /// Why no further frame could be taken: what it says of the input, or that it says nothing.
-fn cause_of(error: FrameError) -> Result<Cause, Stop>
+fn cause_of(error: FrameError) -> Result<Cause, HostError>
     ensures { IsCauseOf error result }
 {
     match error {
         FrameError::Truncated => Ok(Cause::Truncated),
         FrameError::Length(count) => Ok(Cause::Length(count)),
         FrameError::Many => Ok(Cause::Many),
-        FrameError::Fault => Err(Stop::Fault),
-        FrameError::Memory => Err(Stop::Memory),
+        FrameError::Fault => Err(HostError::Fault),
+        FrameError::Memory => Err(HostError::Memory),
     }
 }
 
@@ -79,10 +77,10 @@ fn look<I: Source>(
     chain: Chain,
     frames: Frames,
     source: &mut I,
-) -> Result<Turn, Stop>
+) -> Result<Turn, HostError>
     ensures turn { IfSome (I.left source.old) (λ input. IfOk result (IsTurn chain frames input (I.left source.new))) }
     ensures count { IfOk result (CountsFrames frames) }
-    ensures cause { HasCause (I.source_faults source.old) (I.source_faults source.new) (IsErrOf result Stop.Fault) }
+    ensures cause { HasCause (I.source_faults source.old) (I.source_faults source.new) (IsErrOf result HostError.Fault) }
 {
     match frames.next(alloc, source) {
         Ok(None) => Ok(Turn::Ended(chain)),
@@ -98,9 +96,9 @@ fn look<I: Source>(
 }
 
 /// Takes the frames of the input one after another into a chain, from no block.
-pub fn fold<I: Source>(alloc: Global, source: &mut I) -> Result<Folded, Stop>
+pub fn fold<I: Source>(alloc: Global, source: &mut I) -> Result<Folded, HostError>
     ensures fold { IfSome (I.left source.old) (λ input. IfOk result (λ folded. IsFoldResult folded (I.left source.new) (fold_input block_in compiled_in input))) }
-    ensures cause { HasCause (I.source_faults source.old) (I.source_faults source.new) (IsErrOf result Stop.Fault) }
+    ensures cause { HasCause (I.source_faults source.old) (I.source_faults source.new) (IsErrOf result HostError.Fault) }
 {
     let mut chain = Chain::new(alloc);
     let mut frames = Frames::new();

@@ -3,8 +3,6 @@
 
 mod cause;
 mod folding;
-mod stop;
 
 pub use cause::Cause;
 pub use folding::{Folded, fold};
-pub use stop::Stop;

@@ -6,10 +6,10 @@ use Rattle.std.proofs.lemmas.List.{map_push}
 use Rattle.std.proofs.lemmas.List.Sums.{sum_by_push}
 use native.Mathlib.Numerals.{unary_clauses}
 use Rattle.lc_base.specs.declared.row.Row.{Row}
-use Rattle.chain_gen.specs.Draws.{repeated}
+use Rattle.chain_gen.specs.Draws.{draw_list}
 use Rattle.chain_gen.specs.Generator.{Progress, standing_at}
 use Rattle.chain_load.specs.Lookups.{Lookup, lookup_drawn, lookups_drawn, looked_at, greatest}
-use Rattle.chain_load.specs.Lookups.{counted}
+use Rattle.chain_load.specs.Lookups.{lookup_counts}
 use Rattle.chain_load.specs.declared.looking.Looked.{Looked}
 use Rattle.chain_load.proofs.Lengths.{path_few}
 
@@ -24,7 +24,7 @@ greatest_more [] number = omega arith
 greatest_more (first ∷ numbers) number = omega (arith, greatest_more numbers number)
 
 pub counted_more : (numbers : List ℕ) (number : ℕ)
-    → counted (numbers ++ number ∷ []) ≡ record
+    → lookup_counts (numbers ++ number ∷ []) ≡ record
     { entries = sum numbers + number; most = max (greatest numbers) number }
 counted_more numbers number =
     ap (λ (n : ℕ). let looked : Looked = record
@@ -36,10 +36,10 @@ counted_more numbers number =
 -- ---- one look-up more
 
 drawn_more : (blocks count state : ℕ)
-    → repeated (lookup_drawn blocks) (count + 1) state ≡
-    (let before = repeated (lookup_drawn blocks) count state in let last = lookup_drawn blocks
+    → draw_list (lookup_drawn blocks) (count + 1) state ≡
+    (let before = draw_list (lookup_drawn blocks) count state in let last = lookup_drawn blocks
     before.1 in (before.0 ++ last.0 ∷ [], last.1))
-unfolding repeated
+unfolding draw_list
 drawn_more blocks count state = simp unary_clauses refl
 
 pub count_few : (rows : List Row) (lookup : Lookup) (count : ℕ) → length rows < 2 ^ 32
@@ -50,13 +50,13 @@ count_few rows lookup count few is = let short = path_few rows lookup.key lookup
 -- So many look-ups were drawn from a state, and made.
 pub record IsLooking (rows : List Row) (blocks state made : ℕ) (generator : Progress)
     (looked : Looked) : Type 0 where
-  pub state_is : generator.state ≡ (repeated (lookup_drawn blocks) made state).1
-  pub looked_is : looked ≡ counted (map (looked_at rows) (lookups_drawn blocks made state))
+  pub state_is : generator.state ≡ (draw_list (lookup_drawn blocks) made state).1
+  pub looked_is : looked ≡ lookup_counts (map (looked_at rows) (lookups_drawn blocks made state))
   pub few : looked.entries ≤ (2 ^ 32 - 1) * made
 
 pub begins : (rows : List Row) (blocks : ℕ) (generator : Progress)
     → IsLooking rows blocks generator.state 0 generator (record { entries = 0; most = 0 })
-unfolding repeated
+unfolding draw_list
 begins rows blocks generator = record { state_is = refl; looked_is = refl; few = omega arith }
 
 pub goes_on : (rows : List Row) (blocks state made count : ℕ) (generator after : Progress)
@@ -68,7 +68,7 @@ pub goes_on : (rows : List Row) (blocks state made count : ℕ) (generator after
     → IsLooking rows blocks state (made + 1) after more
 goes_on rows blocks state made count generator after looked more so_far few_rows count_is after_is
     more_is =
-    let before = repeated (lookup_drawn blocks) made state in
+    let before = draw_list (lookup_drawn blocks) made state in
     let last = lookup_drawn blocks before.1 in
     let drawn : lookup_drawn blocks generator.state ≡ last = ap (lookup_drawn blocks)
     so_far.state_is in
@@ -96,6 +96,6 @@ goes_on rows blocks state made count generator after looked more so_far few_rows
           ∙ ap (λ (n : ℕ). let l : Looked = record
           { entries = sum (map (looked_at rows) before.0) + count; most = max n count } in l)
           most
-          ∙ sym (counted_more (map (looked_at rows) before.0) count) ∙ sym (ap counted counts);
+          ∙ sym (counted_more (map (looked_at rows) before.0) count) ∙ sym (ap lookup_counts counts);
       few = omega (arith, few, fits, more_entries);
     }

@@ -3,7 +3,7 @@ use Rattle.std.proofs.Common.{◌≡◌, ℕ, zero, suc, ◌^◌, ◌<◌, ◌�
 use Rattle.std.proofs.Common.{arith}
 use Rattle.lc_base.specs.declared.row.Row.{Row}
 use Rattle.skip_path.specs.Paths.{path, path_from, next_block}
-use Rattle.entry_store.specs.Steps.{raised}
+use Rattle.entry_store.specs.Steps.{raised_count}
 
 path_from_within : (n : ℕ) (links_of : ℕ → List ℕ) (at : ℕ) (block : Option ℕ)
     → length (path_from n links_of at block) ≤ n
@@ -23,7 +23,7 @@ pub path_few : (rows : List Row) (key : List ℕ) (at : ℕ) → length rows < 2
 path_few rows key at few = let within = path_within rows key at in omega (arith, within, few)
 
 pub all_counted : (rows : List Row) (key : List ℕ) (at before count : ℕ) → length rows < 2 ^ 32
-    → before ≡ 0 → count ≡ raised before (length (path rows key at))
+    → before ≡ 0 → count ≡ raised_count before (length (path rows key at))
     → count ≡ length (path rows key at)
 all_counted rows key at before count few none is = let short = path_few rows key at few in omega
     (arith, short, none, is)

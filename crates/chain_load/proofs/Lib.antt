@@ -2,4 +2,3 @@ pub mod Lengths
 pub mod Placed
 pub mod Counting
 pub mod Told
-pub mod Causes

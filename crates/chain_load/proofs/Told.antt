@@ -7,20 +7,20 @@ use Rattle.lc_base.specs.declared.row.Row.{Row}
 use Rattle.chain_exec.specs.Compiled.{compiled_in}
 use Rattle.chain_replay.specs.Chain.{ChainState, StandsFor}
 use Rattle.rooted_chain.specs.Roots.{root_in}
-use Rattle.chain_gen.specs.Draws.{repeated}
-use Rattle.chain_gen.specs.Generator.{Progress, made, progress}
-use Rattle.chain_load.specs.Lookups.{lookup_drawn, lookups_drawn, looked_at, counted}
+use Rattle.chain_gen.specs.Draws.{draw_list}
+use Rattle.chain_gen.specs.Generator.{Progress, first_blocks, progress}
+use Rattle.chain_load.specs.Lookups.{lookup_drawn, lookups_drawn, looked_at, lookup_counts}
 use Rattle.chain_load.specs.Loads.{blocks_of, rows_of, counts_of, load_of}
 use Rattle.chain_load.specs.declared.looking.Looked.{Looked}
 use Rattle.chain_load.specs.declared.loading.Load.{Load}
 use Rattle.chain_load.proofs.Placed.{rows_are}
 
 many_drawn : (blocks count state : ℕ) → length (lookups_drawn blocks count state) ≡ count
-unfolding repeated
+unfolding draw_list
 many_drawn blocks zero state = refl
 many_drawn blocks (suc count) state =
     let before = many_drawn blocks count state in
-    let last = lookup_drawn blocks (repeated (lookup_drawn blocks) count state).1 in
+    let last = lookup_drawn blocks (draw_list (lookup_drawn blocks) count state).1 in
     omega (arith, before, length-append (lookups_drawn blocks count state) (last.0 ∷ []))
 
 abbrev load_with : ℕ → ℕ → Digest → ℕ → Looked → Load
@@ -39,23 +39,23 @@ pub load_is : (chain : ChainState) (generator : Progress) (blocks seed count : �
     → generator ≡ progress seed blocks blocks
     → rows ≡ chain.rows → count ≡ length rows
     → root.0 ≡ root_in compiled_in (blocks_of blocks seed) (blocks - 1)
-    → looked ≡ counted (map (looked_at rows) (lookups_drawn blocks blocks generator.state))
+    → looked ≡ lookup_counts (map (looked_at rows) (lookups_drawn blocks blocks generator.state))
     → load_with blocks count root blocks looked ≡ load_of compiled_in blocks seed
 load_is chain generator blocks seed count rows root looked stands generator_is kept count_is root_is
     looked_is =
     let all : rows ≡ rows_of compiled_in blocks seed = kept
     ∙ rows_are chain (blocks_of blocks seed) stands in
-    let state : generator.state ≡ (made seed blocks).state = ap (λ (g : Progress). g.state)
+    let state : generator.state ≡ (first_blocks seed blocks).state = ap (λ (g : Progress). g.state)
     generator_is in
     let counts : map (looked_at rows) (lookups_drawn blocks blocks generator.state) ≡ counts_of
     compiled_in blocks seed =
     ap (λ (s : ℕ). map (looked_at rows) (lookups_drawn blocks blocks s)) state
     ∙ ap (λ (rs : List Row). map (looked_at rs)
-    (lookups_drawn blocks blocks (made seed blocks).state)) all in
+    (lookups_drawn blocks blocks (first_blocks seed blocks).state)) all in
     let many : blocks ≡ length (counts_of compiled_in blocks seed) =
-    sym (length-map (lookups_drawn blocks blocks (made seed blocks).state)
+    sym (length-map (lookups_drawn blocks blocks (first_blocks seed blocks).state)
     (looked_at (rows_of compiled_in blocks seed))
-    ∙ many_drawn blocks blocks (made seed blocks).state) in
+    ∙ many_drawn blocks blocks (first_blocks seed blocks).state) in
     let digest : root ≡ record { 0 = root_in compiled_in (blocks_of blocks seed) (blocks - 1) } = ap
     (λ (bytes : List ℕ). let d : Digest = record { 0 = bytes } in d) root_is in
     ap (λ (n : ℕ). load_with blocks n root blocks looked) (count_is ∙ ap (length {A = Row}) all)
@@ -65,4 +65,4 @@ load_is chain generator blocks seed count rows root looked stands generator_is k
     (record { 0 = root_in compiled_in (blocks_of blocks seed) (blocks - 1) }) n looked) many
     ∙ ap (λ (l : Looked). load_with blocks (length (rows_of compiled_in blocks seed))
     (record { 0 = root_in compiled_in (blocks_of blocks seed) (blocks - 1) })
-    (length (counts_of compiled_in blocks seed)) l) (looked_is ∙ ap counted counts)
+    (length (counts_of compiled_in blocks seed)) l) (looked_is ∙ ap lookup_counts counts)

@@ -6,13 +6,13 @@ use Rattle.block_codec.specs.declared.block.Block.{Block}
 use Rattle.chain_exec.specs.Compiled.{Compiler}
 use Rattle.chain_exec.specs.Replay.{replay}
 use Rattle.rooted_chain.specs.Roots.{root_in}
-use Rattle.chain_gen.specs.Generator.{made}
+use Rattle.chain_gen.specs.Generator.{first_blocks}
 use Rattle.chain_load.specs.declared.loading.Load.{Load}
 use Rattle.chain_load.specs.Lookups.{lookups_drawn, looked_at, greatest}
 
 -- The blocks of a load: so many of a seed.
 abbrev pub blocks_of : ℕ → ℕ → List Block
-blocks_of blocks seed = (made seed blocks).blocks
+blocks_of blocks seed = (first_blocks seed blocks).blocks
 
 -- The rows that replaying them gives.
 abbrev pub rows_of : Compiler → ℕ → ℕ → List Row
@@ -23,7 +23,7 @@ rows_of compile blocks seed = (replay compile (blocks_of blocks seed)).rows
 -- the blocks.
 abbrev pub counts_of : Compiler → ℕ → ℕ → List ℕ
 counts_of compile blocks seed = map (looked_at (rows_of compile blocks seed))
-    (lookups_drawn blocks blocks (made seed blocks).state)
+    (lookups_drawn blocks blocks (first_blocks seed blocks).state)
 
 -- What a load of so many blocks of a seed tells: how many blocks and rows there are, and the root
 -- at the

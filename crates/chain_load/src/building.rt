@@ -1,26 +1,27 @@
 //! The chain of the blocks of a seed.
 
-ghost use Rattle.std.specs.Prelude.{◌≡◌, ℕ, ◌+◌, ◌*◌, ◌<◌, ◌≤◌, true, List, [], ◌∷◌, ◌++◌, length};
-ghost use Rattle.std.specs.Prelude.{IfOk, IsErrOf};
+ghost use Rattle.std.specs.Prelude.{◌≡◌, ℕ, ◌+◌, ◌*◌, ◌<◌, ◌≤◌, true, List, [], ◌∷◌, ◌++◌, length, IfOk, IsErrOf};
 ghost use Rattle.lc_base.specs.Faults.{HasCause};
-ghost use Rattle.scratch_model.specs.Scratch.{is_told, Retains};
+ghost use Rattle.scratch_model.specs.Scratch.{is_known, Retains};
 ghost use Rattle.dep_capture.specs.declared.limits.TheConstants.{MAX_KEYS_PUT};
-ghost use Rattle.block_codec.specs.Placement.{digest_of};
-ghost use Rattle.block_codec.specs.Spelling.{Spells};
-ghost use Rattle.block_codec.specs.declared.block.Block.{Block as Blocks};
-ghost use Rattle.block_codec.specs.declared.limits.TheConstants.{MAX_BLOCKS};
-ghost use Rattle.block_codec.specs.declared.placement.Placement.TheVariants.{Next};
+ghost use Rattle.block_codec.specs.{
+  Placement.{digest_of},
+  Spelling.{Spells},
+  declared.block.Block.{Block as Blocks},
+  declared.limits.TheConstants.{MAX_BLOCKS},
+  declared.placement.Placement.TheVariants.{Next},
+};
 ghost use Rattle.chain_exec.specs.Compiled.{compiled_in};
 ghost use Rattle.chain_replay.specs.Chain.{placement_in, HasRoom, StandsFor};
 ghost use Rattle.merkle_dag.specs.Lineage.{AgreesWith};
 ghost use Rattle.rooted_chain.specs.Roots.{kept_in, lineage_in};
-ghost use Rattle.chain_gen.specs.Generator.{made, progress};
+ghost use Rattle.chain_gen.specs.Generator.{first_blocks, progress};
 ghost use Rattle.chain_load.specs.Building.{HasAdded};
 
 use block_codec::{DecodeError, NO_PARENT, block_digest, decode};
 use chain_gen::Gen;
-use chain_replay::{Replay, ReplayError};
-use lc_base::{Digest, Memory};
+use chain_replay::Replay;
+use lc_base::{Digest, HostError, Memory};
 use rooted_chain::LineageChain;
 use scratch_model::Scratch;
 use std::alloc::Global;
@@ -33,11 +34,11 @@ fn with_block<S: Scratch>(
     scratch: &mut S,
     chain: LineageChain,
     bytes: &[u8],
-) -> Result<LineageChain, ReplayError>
+) -> Result<LineageChain, HostError>
     requires next { (block : Blocks) × Spells bytes.now block × HasRoom (kept_in chain) block }
     requires agrees { AgreesWith (lineage_in chain) (S.state scratch.old) }
     ensures stands { IfOk result
-        (λ longer. is_told (S.state scratch.old) ≡ true → (blocks : List Blocks) (block : Blocks)
+        (λ longer. is_known (S.state scratch.old) ≡ true → (blocks : List Blocks) (block : Blocks)
         → StandsFor (kept_in chain) blocks → Spells bytes.now block
         → placement_in compiled_in blocks block ≡ Next
         → StandsFor (kept_in longer) (blocks ++ block ∷ [])) }
@@ -49,7 +50,7 @@ fn with_block<S: Scratch>(
     ensures agrees { IfOk result (λ longer. AgreesWith (lineage_in longer) (S.state scratch.new)) }
     ensures retains { Retains (S.state scratch.old) (S.state scratch.new) }
     ensures cause { HasCause (S.scratch_faults scratch.old) (S.scratch_faults scratch.new)
-        (IsErrOf result ReplayError.Fault) }
+        (IsErrOf result HostError.Fault) }
 {
     match decode(alloc, bytes) {
         Ok(block) => {
@@ -62,7 +63,7 @@ fn with_block<S: Scratch>(
         Err(DecodeError::Malformed { .. }) => unreachable!(),
         Err(DecodeError::Memory) => {
             chain.give_up();
-            Err(ReplayError::Memory)
+            Err(HostError::Memory)
         }
     }
 }
@@ -79,20 +80,20 @@ fn with_next<S: Scratch>(
     alloc: Global,
     scratch: &mut S,
     building: Building,
-) -> Result<Building, ReplayError>
+) -> Result<Building, HostError>
     requires next { (seed : ℕ) × (count : ℕ) × (added : ℕ)
-        × HasAdded (is_told (S.state scratch.old)) seed count added (kept_in building.chain)
+        × HasAdded (is_known (S.state scratch.old)) seed count added (kept_in building.chain)
         building.generator building.parent × (added < count) × (count ≤ MAX_BLOCKS) }
     requires agrees { AgreesWith (lineage_in building.chain) (S.state scratch.old) }
     ensures added { (seed count added : ℕ)
-        → HasAdded (is_told (S.state scratch.old)) seed count added (kept_in building.chain)
+        → HasAdded (is_known (S.state scratch.old)) seed count added (kept_in building.chain)
         building.generator building.parent → added < count → count ≤ MAX_BLOCKS
-        → IfOk result (λ more. HasAdded (is_told (S.state scratch.old)) seed count (added + 1)
+        → IfOk result (λ more. HasAdded (is_known (S.state scratch.old)) seed count (added + 1)
         (kept_in more.chain) more.generator more.parent) }
     ensures agrees { IfOk result (λ more. AgreesWith (lineage_in more.chain) (S.state scratch.new)) }
     ensures retains { Retains (S.state scratch.old) (S.state scratch.new) }
     ensures cause { HasCause (S.scratch_faults scratch.old) (S.scratch_faults scratch.new)
-        (IsErrOf result ReplayError.Fault) }
+        (IsErrOf result HostError.Fault) }
 {
     let Building {
         chain,
@@ -114,7 +115,7 @@ fn with_next<S: Scratch>(
         Ok(None) => unreachable!(),
         Err(Memory) => {
             chain.give_up();
-            Err(ReplayError::Memory)
+            Err(HostError::Memory)
         }
     }
 }
@@ -125,21 +126,21 @@ pub(crate) fn chain_made<S: Scratch>(
     scratch: &mut S,
     blocks: u32,
     seed: u32,
-) -> Result<(LineageChain, Gen), ReplayError>
+) -> Result<(LineageChain, Gen), HostError>
     requires { blocks ≤ MAX_BLOCKS }
     ensures chain { IfOk result
-        (λ pair. is_told (S.state scratch.old) ≡ true
-        → StandsFor (kept_in pair.0) (made seed blocks).blocks) }
+        (λ pair. is_known (S.state scratch.old) ≡ true
+        → StandsFor (kept_in pair.0) (first_blocks seed blocks).blocks) }
     ensures digests { IfOk result (λ pair. length pair.0.digests ≡ blocks) }
     ensures generator { IfOk result (λ pair. pair.1 ≡ progress seed blocks blocks) }
     ensures agrees { IfOk result (λ pair. AgreesWith (lineage_in pair.0) (S.state scratch.new)) }
     ensures retains { Retains (S.state scratch.old) (S.state scratch.new) }
     ensures cause { HasCause (S.scratch_faults scratch.old) (S.scratch_faults scratch.new)
-        (IsErrOf result ReplayError.Fault) }
+        (IsErrOf result HostError.Fault) }
 {
     let chain = match LineageChain::start(alloc) {
         Ok(chain) => chain,
-        Err(Memory) => return Err(ReplayError::Memory),
+        Err(Memory) => return Err(HostError::Memory),
     };
     let mut building = Building {
         chain,

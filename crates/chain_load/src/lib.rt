@@ -2,9 +2,7 @@
 #![tactic(auto)]
 
 mod building;
-mod error;
 mod loading;
 mod looking;
 
-pub use error::LoadError;
 pub use loading::{Load, load_chain};

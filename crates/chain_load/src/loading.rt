@@ -2,21 +2,19 @@
 
 ghost use Rattle.std.specs.Prelude.{◌≡◌, ℕ, ◌<◌, ◌≤◌, ◌-◌, true, length, IfOk, IsErrOf};
 ghost use Rattle.lc_base.specs.Faults.{HasCause};
-ghost use Rattle.scratch_model.specs.Scratch.{is_told, Retains};
+ghost use Rattle.scratch_model.specs.Scratch.{is_known, Retains};
 ghost use Rattle.block_codec.specs.declared.limits.TheConstants.{MAX_BLOCKS};
 ghost use Rattle.chain_exec.specs.Compiled.{compiled_in};
 ghost use Rattle.chain_replay.specs.Chain.{StandsFor};
 ghost use Rattle.merkle_dag.specs.Lineage.{AgreesWith};
 ghost use Rattle.rooted_chain.specs.Roots.{kept_in, lineage_in, root_in};
-ghost use Rattle.chain_gen.specs.Generator.{made, progress};
+ghost use Rattle.chain_gen.specs.Generator.{first_blocks, progress};
 ghost use Rattle.chain_load.specs.Loads.{load_of};
 
 use crate::building::chain_made;
-use crate::error::LoadError;
 use crate::looking::look_up_all;
 use chain_gen::Gen;
-use chain_replay::ReplayError;
-use lc_base::Digest;
+use lc_base::{Digest, HostError};
 use rooted_chain::LineageChain;
 use scratch_model::Scratch;
 use std::alloc::Global;
@@ -42,8 +40,8 @@ pub struct Load {
 fn last_root(chain: &LineageChain, blocks: u32) -> Digest
     requires some { 0 < blocks }
     requires blocks { length chain.now.digests ≡ blocks }
-    ensures { (seed : ℕ) → StandsFor (kept_in chain.now) (made seed blocks).blocks
-        → result.0 ≡ root_in compiled_in (made seed blocks).blocks (blocks - 1) }
+    ensures { (seed : ℕ) → StandsFor (kept_in chain.now) (first_blocks seed blocks).blocks
+        → result.0 ≡ root_in compiled_in (first_blocks seed blocks).blocks (blocks - 1) }
 {
     match chain.root(blocks - 1) {
         Some(root) => root,
@@ -52,22 +50,22 @@ fn last_root(chain: &LineageChain, blocks: u32) -> Digest
 }
 
 /// What a load tells, once its blocks are in the chain, which takes no further one.
-fn loaded<S: Scratch>(
+fn load_over<S: Scratch>(
     alloc: Global,
     scratch: &mut S,
     chain: LineageChain,
     generator: Gen,
     blocks: u32,
-) -> Result<Load, LoadError>
+) -> Result<Load, HostError>
     requires some { 0 < blocks }
     requires blocks { length chain.digests ≡ blocks }
     requires agrees { AgreesWith (lineage_in chain) (S.state scratch.old) }
-    ensures load { (seed : ℕ) → StandsFor (kept_in chain) (made seed blocks).blocks
+    ensures load { (seed : ℕ) → StandsFor (kept_in chain) (first_blocks seed blocks).blocks
         → generator ≡ progress seed blocks blocks
         → IfOk result (λ load. load ≡ load_of compiled_in blocks seed) }
     ensures retains { Retains (S.state scratch.old) (S.state scratch.new) }
     ensures cause { HasCause (S.scratch_faults scratch.old) (S.scratch_faults scratch.new)
-        (IsErrOf result LoadError.Fault) }
+        (IsErrOf result HostError.Fault) }
 {
     let root = last_root(&chain, blocks);
     let mut lineage = chain.into_lineage();
@@ -97,18 +95,17 @@ pub fn load_chain<S: Scratch>(
     scratch: &mut S,
     blocks: u32,
     seed: u32,
-) -> Result<Load, LoadError>
+) -> Result<Load, HostError>
     requires some { 0 < blocks }
     requires few { blocks ≤ MAX_BLOCKS }
-    ensures load { is_told (S.state scratch.old) ≡ true
+    ensures load { is_known (S.state scratch.old) ≡ true
         → IfOk result (λ load. load ≡ load_of compiled_in blocks seed) }
     ensures retains { Retains (S.state scratch.old) (S.state scratch.new) }
     ensures cause { HasCause (S.scratch_faults scratch.old) (S.scratch_faults scratch.new)
-        (IsErrOf result LoadError.Fault) }
+        (IsErrOf result HostError.Fault) }
 {
     match chain_made(alloc, scratch, blocks, seed) {
-        Ok((chain, generator)) => loaded(alloc, scratch, chain, generator, blocks),
-        Err(ReplayError::Fault) => Err(LoadError::Fault),
-        Err(ReplayError::Memory) => Err(LoadError::Memory),
+        Ok((chain, generator)) => load_over(alloc, scratch, chain, generator, blocks),
+        Err(error) => Err(error),
     }
 }

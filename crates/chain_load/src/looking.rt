@@ -1,16 +1,14 @@
 //! The look-ups of a load.
 
-ghost use Rattle.std.specs.Prelude.{◌≡◌, ◌<◌, ◌≤◌, ◌+◌, ◌^◌, max, length, map, IfOk, IsErrOf};
-ghost use Rattle.lc_base.specs.Faults.{HasCause};
+ghost use Rattle.std.specs.Prelude.{◌≡◌, ◌<◌, ◌+◌, ◌^◌, max, length, map, IfOk, IsErrOf};
 ghost use Rattle.skip_path.specs.Paths.{path};
-ghost use Rattle.merkle_dag.specs.Lineage.{AgreesWith, StaysSame};
+ghost use Rattle.merkle_dag.specs.Lineage.{AgreesWith, LeavesLineage};
 ghost use Rattle.chain_gen.specs.Generator.{standing_at};
-ghost use Rattle.chain_load.specs.Lookups.{lookup_drawn, lookups_drawn, looked_at, counted};
+ghost use Rattle.chain_load.specs.Lookups.{CanBeLookedUp, lookup_drawn, lookups_drawn, looked_at, lookup_counts};
 
-use crate::error::LoadError;
 use chain_gen::Gen;
 use entry_store::Steps;
-use lc_base::{Kind, Query};
+use lc_base::{HostError, Kind, Query};
 use merkle_dag::Lineage;
 use prov_query::{AskError, ask};
 use scratch_model::Scratch;
@@ -44,22 +42,21 @@ fn versions_looked_at<S: Scratch>(
     lineage: &mut Lineage,
     scratch: &mut S,
     query: &Query,
-) -> Result<u64, LoadError>
+) -> Result<u64, HostError>
     requires block { query.now.at < length lineage.old.digests }
     requires few_rows { length lineage.old.rows < 2 ^ 32 }
     requires agrees { AgreesWith lineage.old (S.state scratch.old) }
     ensures count { IfOk result
         (λ count. count ≡ length (path lineage.old.rows query.now.key query.now.at)) }
-    ensures same { StaysSame lineage.old (S.state scratch.old) lineage.new (S.state scratch.new) }
-    ensures cause { HasCause (S.scratch_faults scratch.old) (S.scratch_faults scratch.new)
-        (IsErrOf result LoadError.Fault) }
+    ensures leaves { LeavesLineage S.state S.scratch_faults lineage.old scratch.old lineage.new
+        scratch.new (IsErrOf result HostError.Fault) }
 {
     let mut steps = Steps::new();
     match ask(alloc, lineage, scratch, query, &mut steps) {
         Ok(_answer) => Ok(steps.count()),
         Err(AskError::Beyond { .. }) => unreachable!(),
-        Err(AskError::Fault) => Err(LoadError::Fault),
-        Err(AskError::Memory) => Err(LoadError::Memory),
+        Err(AskError::Fault) => Err(HostError::Fault),
+        Err(AskError::Memory) => Err(HostError::Memory),
     }
 }
 
@@ -71,18 +68,15 @@ fn look_up<S: Scratch>(
     scratch: &mut S,
     generator: &mut Gen,
     blocks: u32,
-) -> Result<u64, LoadError>
-    requires some { 0 < blocks }
-    requires blocks { blocks ≤ length lineage.old.digests }
-    requires few_rows { length lineage.old.rows < 2 ^ 32 }
+) -> Result<u64, HostError>
+    requires ready { CanBeLookedUp lineage.old blocks }
     requires agrees { AgreesWith lineage.old (S.state scratch.old) }
     ensures count { IfOk result
         (λ count. count ≡ looked_at lineage.old.rows (lookup_drawn blocks generator.old.state).0) }
-    ensures same { StaysSame lineage.old (S.state scratch.old) lineage.new (S.state scratch.new) }
     ensures state { generator.new ≡ standing_at (lookup_drawn blocks generator.old.state).1
         generator.old }
-    ensures cause { HasCause (S.scratch_faults scratch.old) (S.scratch_faults scratch.new)
-        (IsErrOf result LoadError.Fault) }
+    ensures leaves { LeavesLineage S.state S.scratch_faults lineage.old scratch.old lineage.new
+        scratch.new (IsErrOf result HostError.Fault) }
 {
     let key = generator.draw_key();
     let at = generator.draw(blocks);
@@ -101,17 +95,14 @@ pub(crate) fn look_up_all<S: Scratch>(
     scratch: &mut S,
     generator: Gen,
     blocks: u32,
-) -> Result<Looked, LoadError>
-    requires some { 0 < blocks }
-    requires blocks { blocks ≤ length lineage.old.digests }
-    requires few_rows { length lineage.old.rows < 2 ^ 32 }
+) -> Result<Looked, HostError>
+    requires ready { CanBeLookedUp lineage.old blocks }
     requires agrees { AgreesWith lineage.old (S.state scratch.old) }
     ensures looked { IfOk result
-        (λ looked. looked ≡ counted
+        (λ looked. looked ≡ lookup_counts
         (map (looked_at lineage.old.rows) (lookups_drawn blocks blocks generator.state))) }
-    ensures same { StaysSame lineage.old (S.state scratch.old) lineage.new (S.state scratch.new) }
-    ensures cause { HasCause (S.scratch_faults scratch.old) (S.scratch_faults scratch.new)
-        (IsErrOf result LoadError.Fault) }
+    ensures leaves { LeavesLineage S.state S.scratch_faults lineage.old scratch.old lineage.new
+        scratch.new (IsErrOf result HostError.Fault) }
 {
     let mut generator = generator;
     let mut looked = Looked {

@@ -10,7 +10,7 @@ use Rattle.block_codec.specs.declared.placement.Placement.{Placement}
 use Rattle.block_codec.specs.declared.placement.Placement.TheVariants.{Known as KnownBlock, Next, Fork, Full, Number, Parent, Budget}
 use Rattle.chain_exec.specs.Compiled.{Compiler}
 use Rattle.chain_replay.specs.Chain.{ChainState, HasRoom, placement_in, placement_kept}
-use Rattle.chain_replay.specs.Judging.{Added, judged, judged_by_placement, IsJudged, IsPlacedBlock, IfNext, IsNextBlock}
+use Rattle.chain_replay.specs.Judging.{Added, judgement_of, judged_by_placement, IsJudged, IsPlacedBlock, IfNext, IsNextBlock}
 use Rattle.chain_replay.specs.declared.judging.Judged.{Judged}
 use Rattle.chain_replay.specs.declared.judging.Judged.TheVariants as judgements
 
@@ -23,34 +23,34 @@ added_stands block other (Number want) is = absurd (cc is)
 added_stands block other (Parent want) is = absurd (cc is)
 added_stands block other (Budget sum) is = absurd (cc is)
 
--- a block that a chain tells to be next is so judged, and stands so
+-- a block that a chain tells to be next is so judgement_of, and stands so
 pub record IsAdded (compile : Compiler) (blocks : List Block) (kept : ChainState) (bytes : List ℕ) (block : Block) (digest : Digest) : Type 0 where
-  pub judgement : judged compile blocks (block_in bytes) ≡ Ok (Added block)
+  pub judgement : judgement_of compile blocks (block_in bytes) ≡ Ok (Added block)
   pub stands : placement_in compile blocks block ≡ Next
   pub given : IsNextBlock kept bytes block digest
 
 pub added : (compile : Compiler) (blocks : List Block) (kept : ChainState) (bytes : List ℕ) (told : Judged) (block : Block) (digest : Digest)
-    → told ≡ judgements.Next block digest → IsJudged told (judged compile blocks (block_in bytes)) → IfNext told (IsNextBlock kept bytes) → IsAdded compile blocks kept bytes block digest
+    → told ≡ judgements.Next block digest → IsJudged told (judgement_of compile blocks (block_in bytes)) → IfNext told (IsNextBlock kept bytes) → IsAdded compile blocks kept bytes block digest
 added compile blocks kept bytes told block digest is is_judged next =
-    let judgement : judged compile blocks (block_in bytes) ≡ Ok (Added block) = subst (λ (j : Judged). IsJudged j (judged compile blocks (block_in bytes))) is is_judged in
+    let judgement : judgement_of compile blocks (block_in bytes) ≡ Ok (Added block) = subst (λ (j : Judged). IsJudged j (judgement_of compile blocks (block_in bytes))) is is_judged in
     let given : IsNextBlock kept bytes block digest = subst (λ (j : Judged). IfNext j (IsNextBlock kept bytes)) is next in
     record {
       judgement = judgement;
-      stands = added_stands block block (placement_in compile blocks block) (sym (ap (judged compile blocks) given.decoded) ∙ judgement);
+      stands = added_stands block block (placement_in compile blocks block) (sym (ap (judgement_of compile blocks) given.decoded) ∙ judgement);
       given = given;
     }
 
--- a block that is judged to be added is the next one
-pub added_is_next : (compile : Compiler) (blocks : List Block) (decoded : Result Block ℕ) (block other : Block) → decoded ≡ Ok block → judged compile blocks decoded ≡ Ok (Added other) → placement_in compile blocks block ≡ Next
-added_is_next compile blocks decoded block other is judgement = added_stands block other (placement_in compile blocks block) (sym (ap (judged compile blocks) is) ∙ judgement)
+-- a block that is judgement_of to be added is the next one
+pub added_is_next : (compile : Compiler) (blocks : List Block) (decoded : Result Block ℕ) (block other : Block) → decoded ≡ Ok block → judgement_of compile blocks decoded ≡ Ok (Added other) → placement_in compile blocks block ≡ Next
+added_is_next compile blocks decoded block other is judgement = added_stands block other (placement_in compile blocks block) (sym (ap (judgement_of compile blocks) is) ∙ judgement)
 
 -- ---- what a block is to a chain, where it stands so
 
 -- the judgement of a block is that of the bytes that spell it
 pub judged_of_bytes : (told : Judged) (compile : Compiler) (blocks : List Block) (bytes : List ℕ) (block : Block) (placement : Placement)
-    → IsJudged told (judged_by_placement block placement) → block_in bytes ≡ Ok block → placement ≡ placement_in compile blocks block → IsJudged told (judged compile blocks (block_in bytes))
+    → IsJudged told (judged_by_placement block placement) → block_in bytes ≡ Ok block → placement ≡ placement_in compile blocks block → IsJudged told (judgement_of compile blocks (block_in bytes))
 judged_of_bytes told compile blocks bytes block placement is spelled placed =
-    subst (λ (decoded : Result Block ℕ). IsJudged told (judged compile blocks decoded)) (sym spelled)
+    subst (λ (decoded : Result Block ℕ). IsJudged told (judgement_of compile blocks decoded)) (sym spelled)
     (subst (λ (place : Placement). IsJudged told (judged_by_placement block place)) placed is)
 
 -- what is so of the block that is next

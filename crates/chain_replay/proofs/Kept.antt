@@ -18,7 +18,7 @@ use Rattle.world_state.specs.World.{newest_of, StandsForRows}
 use Rattle.world_state.specs.declared.held.Held.{Held}
 use Rattle.chain_exec.specs.BlockRows.{AreBlockRows}
 use Rattle.chain_exec.proofs.TheLaws.{blocks_keep_lawful, blocks_keep_order}
-use Rattle.chain_replay.specs.Chain.{IsKept}
+use Rattle.chain_replay.specs.Chain.{IsKeptChain}
 
 -- ---- a block that is next has room
 
@@ -45,7 +45,7 @@ next_room held rows None parent block digest next few =
 
 -- ---- the rows of the next block
 
-module _ (digests : List Digest) (rows : List Row) (world : Known Contract) (more : List Row) (number count : ℕ) (kept : IsKept digests rows world) (is : number ≡ length digests) where
+module _ (digests : List Digest) (rows : List Row) (world : Known Contract) (more : List Row) (number count : ℕ) (kept : IsKeptChain digests rows world) (is : number ≡ length digests) where
   below : All (λ (row : Row). row.block < number) rows
   below = subst (λ (n : ℕ). All (λ (row : Row). row.block < n) rows) (sym is) kept.held
 
@@ -55,7 +55,7 @@ module _ (digests : List Digest) (rows : List Row) (world : Known Contract) (mor
       (subst (λ (newest : List ℕ → Option Held). AreBlockRows newest number count more) (λ i key. kept.stands key i) written)
 
   pub next_kept : (after : Known Contract) (digest : Digest) → length digests < MAX_BLOCKS → IsLawful (rows ++ more) → AreBlockRows (newest_of world) number count more
-      → StandsForRows after (rows ++ more) → after.staged ≡ [] → after.staged_codes ≡ [] → IsKept (digests ++ digest ∷ []) (rows ++ more) after
+      → StandsForRows after (rows ++ more) → after.staged ≡ [] → after.staged_codes ≡ [] → IsKeptChain (digests ++ digest ∷ []) (rows ++ more) after
   next_kept after digest room lawful written stands no_rows no_codes =
       let longer : length (digests ++ digest ∷ []) ≡ number + 1 = length-append digests (digest ∷ []) ∙ ap (λ (n : ℕ). n + 1) (sym is) in
       record {

@@ -9,7 +9,7 @@ use Rattle.block_codec.specs.declared.limits.TheConstants.{MAX_BLOCKS, MAX_ROWS_
 use Rattle.block_codec.specs.declared.block.Block.{Block}
 use Rattle.block_codec.specs.declared.placement.Placement.{Placement}
 use Rattle.block_codec.specs.declared.placement.Placement.TheVariants as placements
-use Rattle.scratch_model.specs.Scratch.{ScratchState, is_told}
+use Rattle.scratch_model.specs.Scratch.{ScratchState, is_known}
 use Rattle.contract_tree.specs.declared.tree.Contract.{Contract}
 use Rattle.world_state.specs.Known.{Known}
 use Rattle.world_state.specs.World.{StandsForRows}
@@ -65,7 +65,7 @@ pub record IsAfter (old : ChainState) (block : Block) (digest : Digest) (new : C
 
 -- What is kept has at most MAX_BLOCKS blocks, a lawful history of rows of these alone, and a world
 -- that stands for the rows, with no block at work.
-pub record IsKept (digests : List Digest) (rows : List Row) (world : Known Contract) : Type 0 where
+pub record IsKeptChain (digests : List Digest) (rows : List Row) (world : Known Contract) : Type 0 where
   pub few : length digests ≤ MAX_BLOCKS
   pub lawful : IsLawful rows
   pub held : All (λ row. row.block < length digests) rows
@@ -81,6 +81,6 @@ pub record StandsFor (kept : ChainState) (blocks : List Block) : Type 0 where
 
 -- ---- a scratch device that a chain may be lent
 
--- Where the device is called, it is told which bytes it holds.
-abbrev pub IsToldFor : Bool → ScratchState → Type 0
-IsToldFor calls_scratch scratch = calls_scratch ≡ true → is_told scratch ≡ true
+-- Where the device is called, it is known which bytes it holds.
+abbrev pub IsKnownFor : Bool → ScratchState → Type 0
+IsKnownFor calls_scratch scratch = calls_scratch ≡ true → is_known scratch ≡ true

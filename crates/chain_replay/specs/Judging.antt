@@ -31,9 +31,9 @@ judged_by_placement block (placements.Parent want) = Err (refusals.Parent want)
 judged_by_placement block (placements.Budget sum) = Err (refusals.Budget sum)
 
 -- What the bytes spell decides: a block, or the offset at which they are invalid.
-abbrev pub judged : Compiler → List Block → Result Block ℕ → Result Taken Refusal
-judged compile blocks (Ok block) = judged_by_placement block (placement_in compile blocks block)
-judged compile blocks (Err offset) = Err (refusals.Malformed offset)
+abbrev pub judgement_of : Compiler → List Block → Result Block ℕ → Result Taken Refusal
+judgement_of compile blocks (Ok block) = judged_by_placement block (placement_in compile blocks block)
+judgement_of compile blocks (Err offset) = Err (refusals.Malformed offset)
 
 -- The blocks that are added by bytes that were taken: none, or their own.
 abbrev pub added_by : Taken → List Block

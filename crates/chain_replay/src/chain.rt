@@ -2,13 +2,15 @@
 
 ghost use Rattle.std.specs.Prelude.{◌≡◌, false, List, [], ◌∷◌, ◌++◌, length, IfOk, OnOk};
 ghost use Rattle.lc_base.specs.History.{IsLawful, scan};
-ghost use Rattle.block_codec.specs.Spelling.{IsBlock};
-ghost use Rattle.block_codec.specs.Placement.{digest_of, last_digest};
-ghost use Rattle.block_codec.specs.declared.block.Block.{Block as Blocks};
+ghost use Rattle.block_codec.specs.{
+  Spelling.{IsBlock},
+  Placement.{digest_of, last_digest},
+  declared.block.Block.{Block as Blocks},
+};
 ghost use Rattle.chain_exec.specs.Compiled.{compiled_in};
 ghost use Rattle.chain_replay.specs.Chain.{nothing_kept, placement_in, HasRoom, IsAfter, StandsFor};
 
-use crate::replaying::{Replay, ReplayError};
+use crate::replaying::Replay;
 use block_codec::{Block, NO_PARENT, Placement, place};
 use chain_exec::{BlockRun, run_block};
 use contract_check::Checked;
@@ -29,7 +31,7 @@ pub struct Chain {
 }
 
 impl Model for Chain {
-    ghost use Rattle.chain_replay.specs.Chain.{ChainState, IsKept};
+    ghost use Rattle.chain_replay.specs.Chain.{ChainState, IsKeptChain};
     ghost use Rattle.contract_tree.specs.contracts.tree.Contract as contracts;
     ghost use Rattle.std.specs.Coded.{codes};
 
@@ -39,7 +41,7 @@ impl Model for Chain {
 
     ghost view = { λ chain. record { digests = chain.digests; rows = chain.rows; codes = chain.world.codes } };
 
-    ghost invariant = { λ chain. IsKept chain.digests chain.rows chain.world };
+    ghost invariant = { λ chain. IsKeptChain chain.digests chain.rows chain.world };
 }
 
 /// Keeps the digest and the rows of a block after those of the others. On `Memory` only some of
@@ -166,10 +168,10 @@ impl Replay for Chain {
         _scratch: &mut S,
         block: &Block,
         digest: Digest,
-    ) -> Result<Chain, ReplayError> {
+    ) -> Result<Chain, HostError> {
         match self.extended(alloc, block, digest) {
             Ok((longer, _run)) => Ok(longer),
-            Err(Memory) => Err(ReplayError::Memory),
+            Err(Memory) => Err(HostError::Memory),
         }
     }
 

@@ -9,4 +9,4 @@ mod replaying;
 pub use chain::Chain;
 pub use judging::Judged;
 pub use refusal::Refusal;
-pub use replaying::{Replay, ReplayError};
+pub use replaying::Replay;

@@ -1,32 +1,29 @@
 //! Blocks, run one after another.
 
 ghost use Rattle.std.specs.Prelude.{◌≡◌, Bool, false, List, [], ◌∷◌, ◌++◌, IfOk, IsErrOf};
-ghost use Rattle.lc_base.specs.Faults.{HasCause};
-ghost use Rattle.block_codec.specs.Reading.{block_in};
-ghost use Rattle.block_codec.specs.Spelling.{IsBlock};
-ghost use Rattle.block_codec.specs.Placement.{digest_of};
-ghost use Rattle.block_codec.specs.declared.block.Block.{Block as Blocks};
+ghost use Rattle.lc_base.specs.{
+  Faults.{HasCause},
+  declared.host_error.HostError.TheVariants.{Fault},
+};
+ghost use Rattle.block_codec.specs.{
+  Reading.{block_in},
+  Spelling.{IsBlock},
+  Placement.{digest_of},
+  declared.block.Block.{Block as Blocks},
+};
 ghost use Rattle.chain_exec.specs.Compiled.{compiled_in};
-ghost use Rattle.chain_replay.specs.Chain.{ChainState, nothing_kept, placement_in, placement_kept, HasRoom, IsToldFor, StandsFor};
-ghost use Rattle.chain_replay.specs.Judging.{judged, IsJudged, IfNext, IsNextBlock};
-ghost use Rattle.chain_replay.specs.declared.replaying.ReplayError.TheVariants.{Fault};
+ghost use Rattle.chain_replay.specs.{
+  Chain.{ChainState, nothing_kept, placement_in, placement_kept, HasRoom, IsKnownFor, StandsFor},
+  Judging.{judgement_of, IsJudged, IfNext, IsNextBlock},
+};
 ghost use Rattle.scratch_model.specs.Scratch.{ScratchState, Retains};
 
 use crate::judging::{Judged, judge_block};
 use crate::refusal::Refusal;
 use block_codec::{Block, DecodeError, Placement, block_digest, decode};
-use lc_base::{Digest, Memory};
+use lc_base::{Digest, HostError, Memory};
 use scratch_model::Scratch;
 use std::alloc::Global;
-
-/// Why a block was not replayed.
-#[derive(Clone, Copy, Debug, PartialEq, Eq)]
-pub enum ReplayError {
-    /// A call of the scratch device failed.
-    Fault,
-    /// Out of memory.
-    Memory,
-}
 
 /// What is kept of a chain while its blocks are run, one after another, with a scratch device that
 /// may keep a part of it.
@@ -60,13 +57,13 @@ pub trait Replay: Drop {
         scratch: &mut S,
         block: &Block,
         digest: Digest,
-    ) -> Result<Self, ReplayError>
+    ) -> Result<Self, HostError>
         requires room { HasRoom (kept self) block.now }
         requires is_block { IsBlock block.now }
         requires agrees { agrees self (S.state scratch.old) }
-        // Where the device is not called, or it is told which bytes it holds.
-        ensures stands { IfOk result (λ longer. IsToldFor calls_scratch (S.state scratch.old) → (blocks : List Blocks) → StandsFor (kept self) blocks → digest ≡ digest_of block.now → placement_in compiled_in blocks block.now ≡ Placement.Next → StandsFor (kept longer) (blocks ++ block.now ∷ [])) }
-        // Whether that is told or not.
+        // Where the device is not called, or it is known which bytes it holds.
+        ensures stands { IfOk result (λ longer. IsKnownFor calls_scratch (S.state scratch.old) → (blocks : List Blocks) → StandsFor (kept self) blocks → digest ≡ digest_of block.now → placement_in compiled_in blocks block.now ≡ Placement.Next → StandsFor (kept longer) (blocks ++ block.now ∷ [])) }
+        // Whether that is known or not.
         ensures digests { IfOk result (λ longer. (kept longer).digests ≡ (kept self).digests ++ digest ∷ []) }
         ensures agrees { IfOk result (λ longer. agrees longer (S.state scratch.new)) }
         ensures retains { Retains (S.state scratch.old) (S.state scratch.new) }
@@ -79,7 +76,7 @@ pub trait Replay: Drop {
 
     /// What some bytes are to the chain.
     final fn judge(&self, alloc: Global, bytes: &[u8]) -> Result<Judged, Memory>
-        ensures judged { IfOk result (λ answer. (blocks : List Blocks) → StandsFor (kept self.now) blocks → IsJudged answer (judged compiled_in blocks (block_in bytes.now))) }
+        ensures judged { IfOk result (λ answer. (blocks : List Blocks) → StandsFor (kept self.now) blocks → IsJudged answer (judgement_of compiled_in blocks (block_in bytes.now))) }
         ensures next { IfOk result (λ answer. IfNext answer (IsNextBlock (kept self.now) bytes.now)) }
     {
         match decode(alloc, bytes) {

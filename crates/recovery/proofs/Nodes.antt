@@ -17,7 +17,7 @@ use Rattle.block_log.specs.Log.{LogState, Agrees, IsNextAfter}
 use Rattle.block_log.proofs.Resting.{rests_at, rests_keeps}
 use Rattle.chain_exec.specs.Compiled.{compiled_in}
 use Rattle.chain_replay.specs.Chain.{ChainState, StandsFor, placement_in}
-use Rattle.chain_replay.specs.Judging.{Taken, Added, judged, judged_by_placement, IsNextBlock}
+use Rattle.chain_replay.specs.Judging.{Taken, Added, judgement_of, judged_by_placement, IsNextBlock}
 use Rattle.chain_replay.specs.declared.refusal.Refusal.{Refusal}
 use Rattle.chain_replay.proofs.Chains.{placed_as_kept}
 use Rattle.chain_replay.proofs.Judgements.{added_is_next}
@@ -25,11 +25,11 @@ use Rattle.recovery.specs.Node.{NodeState, AreOfBlocks, AreOfOneChain, HoldsChai
 use Rattle.recovery.specs.Node.{IsStepOf, chain_in}
 use Rattle.recovery.proofs.Placing.{stricter}
 
--- bytes that are judged to be added are the next block after those that the content stands for
+-- bytes that are judgement_of to be added are the next block after those that the content stands for
 pub next_after : (node : NodeState) (state : Option DiskState) (blocks : List Block)
     (content bytes : List ℕ) (block : Block) → IsNodeOf node state blocks
     → content_of state ≡ Some content → block_in bytes ≡ Ok block
-    → judged compiled_in blocks (block_in bytes) ≡ Ok (Added block)
+    → judgement_of compiled_in blocks (block_in bytes) ≡ Ok (Added block)
     → IsNextAfter (placement_in compiled_in) content bytes blocks block
 next_after node state blocks content bytes block is told decoded judgement = record {
   stricter = stricter compiled_in;
@@ -63,12 +63,12 @@ still_only {D} now disk old new log same rests content told =
     (rests_keeps now disk old (λ (image : List ℕ). image ≡ content) content
     (rests_at (Agrees log) (disk old (now old)) content rests told).0 refl)
 
--- bytes that spell the next block of what is kept are judged to be added
+-- bytes that spell the next block of what is kept are judgement_of to be added
 pub is_added : (chain : ChainState) (bytes : List ℕ) (blocks : List Block) (block : Block)
     (digest : Digest) → IsNextBlock chain bytes block digest → StandsFor chain blocks
-    → judged compiled_in blocks (block_in bytes) ≡ Ok (Added block)
+    → judgement_of compiled_in blocks (block_in bytes) ≡ Ok (Added block)
 is_added chain bytes blocks block digest next stands =
-    ap (judged compiled_in blocks) next.decoded
+    ap (judgement_of compiled_in blocks) next.decoded
     ∙ ap (judged_by_placement block)
     (sym (placed_as_kept chain blocks block digest stands next.digest_is) ∙ next.placed)
 

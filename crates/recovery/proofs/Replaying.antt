@@ -9,7 +9,7 @@ use Rattle.block_codec.specs.declared.placement.Placement.TheVariants.{Known, Ne
 use Rattle.block_codec.specs.declared.placement.Placement.TheVariants.{Number, Parent, Budget}
 use Rattle.block_log.specs.Standing.{Standing, Damaged, if_next, blocks_in, records_at, standing}
 use Rattle.block_log.specs.Log.{next_in_log}
-use Rattle.block_log.specs.Stricter.{restood}
+use Rattle.block_log.specs.Stricter.{standing_after}
 use Rattle.block_log.proofs.Stricter.{damaged_at, restood_none, restood_next}
 use Rattle.block_log.specs.declared.layout.Stored.{Stored}
 use Rattle.chain_exec.specs.Compiled.{compiled_in}
@@ -24,7 +24,7 @@ use Rattle.recovery.proofs.Placing.{stricter}
 pub record AreRun (stored : List Stored) (chain : ChainState) : Type 0 where
   pub stands : StandsFor chain (blocks_in stored)
   pub same : (more : List Stored) (end : List Stored → Standing)
-      → restood (placement_in compiled_in) [] (stored ++ more) end ≡ restood
+      → standing_after (placement_in compiled_in) [] (stored ++ more) end ≡ standing_after
       (placement_in compiled_in) stored more end
 
 no_blocks : StandsFor nothing_kept []
@@ -57,7 +57,7 @@ module _ (stored : List Stored) (chain : ChainState) (run : AreRun stored chain)
     stands = subst (StandsFor longer) (sym (map_push (λ (s : Stored). s.block) stored next))
         extended;
     same = λ more end.
-        ap (λ (all : List Stored). restood (placement_in compiled_in) [] all end)
+        ap (λ (all : List Stored). standing_after (placement_in compiled_in) [] all end)
         (append_assoc stored (next ∷ []) more) ∙ run.same (next ∷ more) end
         ∙ restood_next (placement_in compiled_in) stored next more end
         (ap (λ (p : Placement). is_some (if_next next.block p)) here);
@@ -75,8 +75,8 @@ module _ (stored : List Stored) (chain : ChainState) (run : AreRun stored chain)
 
   -- no more
   pub all_run : (end : List Stored → Standing)
-      → restood (placement_in compiled_in) [] stored end ≡ end stored
+      → standing_after (placement_in compiled_in) [] stored end ≡ end stored
   all_run end =
-      ap (λ (all : List Stored). restood (placement_in compiled_in) [] all end)
+      ap (λ (all : List Stored). standing_after (placement_in compiled_in) [] all end)
       (sym (append-nil stored)) ∙ run.same [] end
       ∙ restood_none (placement_in compiled_in) stored end

@@ -3,7 +3,7 @@ use Rattle.std.specs.Prelude.{◌≡◌, ◌⊎◌, ℕ, Bool, true, false, List
 use Rattle.std.specs.Prelude.{Some, None, IfSome, Result, Ok, Err}
 use Rattle.std.specs.Option.{is_some}
 use Rattle.lc_io.specs.Disk.{DiskState}
-use Rattle.scratch_model.specs.Scratch.{ScratchState, is_told}
+use Rattle.scratch_model.specs.Scratch.{ScratchState, is_known}
 use Rattle.body_store.specs.Bodies.{BodiesState}
 use Rattle.merkle_dag.specs.Lineage.{LineageState, AgreesWith}
 use Rattle.disk_model.specs.Disk.{Rests}
@@ -20,8 +20,8 @@ use Rattle.chain_exec.specs.Replay.{replay}
 use Rattle.chain_replay.specs.Chain.{ChainState, StandsFor, placement_in}
 use Rattle.chain_replay.specs.Judging.{Taken, Known, Added, added_by}
 use Rattle.chain_replay.specs.declared.refusal.Refusal.{Refusal}
-use Rattle.chain_replay.specs.declared.replaying.ReplayError.{ReplayError}
-use Rattle.chain_replay.specs.declared.replaying.ReplayError.TheVariants as replays
+use Rattle.lc_base.specs.declared.host_error.HostError.{HostError}
+use Rattle.lc_base.specs.declared.host_error.HostError.TheVariants as replays
 use Rattle.rooted_chain.specs.Roots.{root_in, lineage_of}
 use Rattle.recovery.specs.declared.errors.StartError.{StartError}
 use Rattle.recovery.specs.declared.errors.StartError.TheVariants as starts
@@ -58,9 +58,8 @@ pub record HoldsChain (log : LogState) (blocks : List Block) (image : List ℕ) 
   pub agrees : Agrees log image
   pub stands : chain_in image ≡ Some blocks
 
--- A chain and a log of these blocks: the chain stands for them, and where the disk is told nothing
--- is
--- pending, and its content stands for them.
+-- A chain and a log of these blocks: the chain stands for them, and where the disk is known nothing
+-- is pending, and its content stands for them.
 pub record AreOfBlocks (chain : ChainState) (held : LogState) (state : Option DiskState)
     (blocks : List Block) : Type 0 where
   pub kept : StandsFor chain blocks
@@ -70,16 +69,15 @@ pub record AreOfBlocks (chain : ChainState) (held : LogState) (state : Option Di
 abbrev pub IsNodeOf : NodeState → Option DiskState → List Block → Type 0
 IsNodeOf node state blocks = AreOfBlocks node.chain node.log state blocks
 
--- A node over a disk and a scratch device. Whether it is told which bytes the device holds or not,
--- the
--- lineage agrees with the device, and where the disk is told nothing is pending, and the log agrees
--- with
--- its content. Where it is told which bytes the device holds, it is the node of some blocks.
+-- A node over a disk and a scratch device. Whether it is known which bytes the device holds or not,
+-- the lineage agrees with the device, and where the disk is known nothing is pending, and the log
+-- agrees with its content. Where it is known which bytes the device holds, it is the node of some
+-- blocks.
 pub record IsReady (node : NodeState) (state : Option DiskState) (scratch : ScratchState) : Type 0
   where
     pub agrees : AgreesWith (lineage_in node) scratch
     pub log : Rests state (Agrees node.log)
-    pub of : is_told scratch ≡ true → (blocks : List Block) × IsNodeOf node state blocks
+    pub of : is_known scratch ≡ true → (blocks : List Block) × IsNodeOf node state blocks
 
 -- Why there is nothing to start with on bytes that stand so.
 abbrev pub IsNoStart : Standing → StartError → Type 0
@@ -108,8 +106,7 @@ IsChainStored stands result = IsStarted StandsFor stands result
 -- ---- one more block
 
 -- What a crash may leave while bytes that are judged so are taken: the chain from before, or that
--- with
--- the block that they add.
+-- with the block that they add.
 abbrev pub IsStepOf : List Block → Result Taken Refusal → List ℕ → Type 0
 IsStepOf blocks (Ok frame) image = (chain_in image ≡ Some blocks)
     ⊎ (chain_in image ≡ Some (blocks ++ added_by frame))
@@ -151,7 +148,7 @@ IsAppendAnswer old state blocks judgement (Err back) = IsHandedBack old state bl
     back.0 back.1
 
 -- Why a block was not replayed, as a node tells it.
-abbrev pub append_error : ReplayError → AppendError
+abbrev pub append_error : HostError → AppendError
 append_error replays.Fault = errors.ScratchFault
 append_error replays.Memory = errors.Memory
 

@@ -1,6 +1,11 @@
 -- Blocks of a log, run as they are read.
-use Rattle.std.specs.Prelude.{◌≡◌, ℕ, List, [], ◌∷◌, ◌++◌, map, Option, Some, Result, Ok, Err}
+use Rattle.std.specs.Prelude.{◌≡◌, ℕ, Bool, false, List, [], ◌∷◌, ◌++◌, map, Option, Some}
+use Rattle.std.specs.Prelude.{Result, Ok, Err}
+use Rattle.lc_base.specs.Faults.{HasCause}
 use Rattle.lc_base.specs.declared.digest.Digest.{Digest}
+use Rattle.lc_io.specs.Disk.{DiskState, Stays}
+use Rattle.disk_model.specs.Leaving.{LeavesWire}
+use Rattle.scratch_model.specs.Scratch.{ScratchState, Serves}
 use Rattle.block_codec.specs.declared.block.Block.{Block}
 use Rattle.block_codec.specs.declared.placement.Placement.TheVariants.{Next}
 use Rattle.block_log.specs.Standing.{NotALog, Damaged, blocks_in, standing}
@@ -22,9 +27,24 @@ start_error (errors.Damaged at) = starts.Damaged at
 start_error errors.DiskFault = starts.DiskFault
 start_error errors.Memory = starts.Memory
 
+-- What reading a log does to the machine that has it: its disk stays as it is, at each moment, and
+-- nothing is told; and the disk is blamed exactly where one of its calls failed.
+pub record ReadsLog {D T : Type 0} (now : D → ℕ) (disk : D → ℕ → Option DiskState)
+    (disk_faults : D → ℕ) (told : D → T) (wire_faults : D → ℕ) (old new : D) (Blames : Type 0)
+    : Type 0 where
+  pub stays : Stays now disk old new
+  pub wire : LeavesWire told wire_faults old new
+  pub cause : HasCause (disk_faults old) (disk_faults new) Blames
+
+-- What running blocks does to the scratch device that it is lent, `calls` or not: one that is not
+-- called is as it was, and is not blamed.
+pub record RunsOn {S : Type 0} (calls : Bool) (state : S → ScratchState) (faults : S → ℕ)
+    (old new : S) (Blames : Type 0) : Type 0 where
+  pub serves : Serves state faults old new Blames
+  pub unused : calls ≡ false → (new ≡ old) × (Blames → ⊥)
+
 -- The block is the next one after these, and the chain is that with it; or it isn't, and this is
--- the
--- offset of its gate. `kept` is what is kept of a chain.
+-- the offset of its gate. `kept` is what is kept of a chain.
 abbrev pub IsRun : {C : Type 0} → (C → ChainState) → List Block → Stored → Result C ℕ → Type 0
 IsRun kept blocks next (Ok chain) = (placement_in compiled_in blocks next.block ≡ Next)
     × StandsFor (kept chain) (blocks ++ next.block ∷ [])
@@ -40,9 +60,8 @@ IfMade P (Err other) = Unit {0}
 abbrev pub digests_of : List Stored → List Digest
 digests_of stored = map (λ one. one.digest) stored
 
--- Whether the content is told or not, and whatever running the blocks gave: these blocks were read,
--- and
--- are all; the chain has their digests.
+-- Whether the content is known or not, and whatever running the blocks gave: these blocks were read,
+-- and are all; the chain has their digests.
 pub record HasRead (chain : ChainState) (log : LogState) (content : Option (List ℕ)) : Type 0 where
   pub stored : List Stored
   pub all : AreAll log content stored
@@ -53,7 +72,7 @@ pub record HasRun (chain : ChainState) (log : LogState) (content : Option (List 
   pub stored : List Stored
   pub all : AreAll log content stored
   pub stands : StandsFor chain (blocks_in stored)
-  -- Where the content is told it stands for them, rows counted.
+  -- Where the content is known it stands for them, rows counted.
   pub counted : (image : List ℕ) → content ≡ Some image → chain_in image ≡ Some (blocks_in stored)
 
 -- What the blocks of a log give.

@@ -2,34 +2,31 @@
 
 ghost use Rattle.std.specs.Prelude.{◌≡◌, ℕ, List, Ok, Some, false, true};
 ghost use Rattle.lc_base.specs.Faults.{HasCause};
-ghost use Rattle.scratch_model.specs.Scratch.{is_told, Retains};
-ghost use Rattle.disk_model.specs.Disk.{Keeps, content_of};
-ghost use Rattle.block_codec.specs.Reading.{block_in};
-ghost use Rattle.block_codec.specs.declared.block.Block.{Block as Blocks};
+ghost use Rattle.scratch_model.specs.Scratch.{is_known, Serves};
+ghost use Rattle.disk_model.specs.{Disk.{Keeps, content_of}, Leaving.{LeavesWire}};
+ghost use Rattle.block_codec.specs.{Reading.{block_in}, declared.block.Block.{Block as Blocks}};
 ghost use Rattle.chain_exec.specs.Compiled.{compiled_in};
-ghost use Rattle.chain_replay.specs.Judging.{Added, judged, IsNextBlock};
-ghost use Rattle.recovery.specs.Node.{IsNodeOf, IsReady, IsStepOf, IsAppendAnswer, append_error};
-ghost use Rattle.recovery.specs.Node.{Blames, HandsBack, IfNode, is_disk_fault, is_scratch_fault};
-ghost use Rattle.recovery.specs.Node.{reaches_disk};
+ghost use Rattle.chain_replay.specs.Judging.{Added, judgement_of, IsNextBlock};
+ghost use Rattle.recovery.specs.Node.{IsNodeOf, IsReady, IsStepOf, IsAppendAnswer, append_error, Blames, HandsBack, IfNode, is_disk_fault, is_scratch_fault, reaches_disk};
 
 use crate::errors::AppendError;
 use crate::node::{Appended, Node};
 use crate::storing::store;
 use block_codec::Block;
 use block_log::DiskFault;
-use chain_replay::{Judged, Replay, ReplayError};
+use chain_replay::{Judged, Replay};
 use disk_model::Disk;
-use lc_base::{Digest, Memory};
+use lc_base::{Digest, HostError, Memory};
 use scratch_model::Scratch;
 use std::alloc::Global;
 
 /// Why a block did not run, as a node tells it.
-fn run_error(error: ReplayError) -> AppendError
+fn run_error(error: HostError) -> AppendError
     ensures { result ≡ append_error error }
 {
     match error {
-        ReplayError::Fault => AppendError::ScratchFault,
-        ReplayError::Memory => AppendError::Memory,
+        HostError::Fault => AppendError::ScratchFault,
+        HostError::Memory => AppendError::Memory,
     }
 }
 
@@ -47,29 +44,27 @@ impl Node {
     ) -> Result<(Node, Appended), (Option<Node>, AppendError)>
         requires ready { IsReady self (M.disk machine.old (M.now machine.old)) (S.state scratch.old) }
         requires next { IsNextBlock self.chain bytes.now block.now digest }
-        ensures answer { is_told (S.state scratch.old) ≡ true → (blocks : List Blocks)
+        ensures answer { is_known (S.state scratch.old) ≡ true → (blocks : List Blocks)
             → IsNodeOf self (M.disk machine.old (M.now machine.old)) blocks
-            → judged compiled_in blocks (block_in bytes.now) ≡ Ok (Added block.now)
+            → judgement_of compiled_in blocks (block_in bytes.now) ≡ Ok (Added block.now)
             → IsAppendAnswer self (M.disk machine.new (M.now machine.new)) blocks
             (Ok (Added block.now)) result }
-        ensures images { is_told (S.state scratch.old) ≡ true
+        ensures images { is_known (S.state scratch.old) ≡ true
             → (blocks : List Blocks) (content : List ℕ)
             → IsNodeOf self (M.disk machine.old (M.now machine.old)) blocks
             → content_of (M.disk machine.old (M.now machine.old)) ≡ Some content
-            → judged compiled_in blocks (block_in bytes.now) ≡ Ok (Added block.now)
+            → judgement_of compiled_in blocks (block_in bytes.now) ≡ Ok (Added block.now)
             → Keeps M.now M.disk machine.old machine.new
             (IsStepOf blocks (Ok (Added block.now))) }
         ensures ready { IfNode (λ node. IsReady node (M.disk machine.new (M.now machine.new))
             (S.state scratch.new)) result }
         ensures handed { HandsBack result }
         ensures untouched { reaches_disk result ≡ false → machine.new ≡ machine.old }
-        ensures told { M.told machine.new ≡ M.told machine.old }
-        ensures wire_faults { M.wire_faults machine.new ≡ M.wire_faults machine.old }
-        ensures retains { Retains (S.state scratch.old) (S.state scratch.new) }
+        ensures wire { LeavesWire M.told M.wire_faults machine.old machine.new }
         ensures disk_cause { HasCause (M.disk_faults machine.old) (M.disk_faults machine.new)
             (Blames is_disk_fault result) }
-        ensures scratch_cause { HasCause (S.scratch_faults scratch.old)
-            (S.scratch_faults scratch.new) (Blames is_scratch_fault result) }
+        ensures scratch { Serves S.state S.scratch_faults scratch.old scratch.new
+            (Blames is_scratch_fault result) }
     {
         let Node { chain, log } = self;
         let (chain, run, root) = match chain.extended(alloc, scratch, block, digest) {
@@ -107,38 +102,35 @@ impl Node {
         bytes: &[u8],
     ) -> Result<(Node, Appended), (Option<Node>, AppendError)>
         requires ready { IsReady self (M.disk machine.old (M.now machine.old)) (S.state scratch.old) }
-        // Where it is told which bytes the scratch device holds: what is answered is how the bytes
+        // Where it is known which bytes the scratch device holds: what is answered is how the bytes
         // are judged, unless a device fails or memory runs out.
-        ensures answer { is_told (S.state scratch.old) ≡ true → (blocks : List Blocks)
+        ensures answer { is_known (S.state scratch.old) ≡ true → (blocks : List Blocks)
             → IsNodeOf self (M.disk machine.old (M.now machine.old)) blocks
             → IsAppendAnswer self (M.disk machine.new (M.now machine.new)) blocks
-            (judged compiled_in blocks (block_in bytes.now)) result }
+            (judgement_of compiled_in blocks (block_in bytes.now)) result }
         // A crash at any moment leaves the chain from before the call, or that with the next block.
-        ensures images { is_told (S.state scratch.old) ≡ true
+        ensures images { is_known (S.state scratch.old) ≡ true
             → (blocks : List Blocks) (content : List ℕ)
             → IsNodeOf self (M.disk machine.old (M.now machine.old)) blocks
             → content_of (M.disk machine.old (M.now machine.old)) ≡ Some content
             → Keeps M.now M.disk machine.old machine.new
-            (IsStepOf blocks (judged compiled_in blocks (block_in bytes.now))) }
-        // Whether that is told or not: a node that is given, or handed back, is ready for the next
+            (IsStepOf blocks (judgement_of compiled_in blocks (block_in bytes.now))) }
+        // Whether that is known or not: a node that is given, or handed back, is ready for the next
         // block; and it is handed back exactly where the bytes are refused.
         ensures ready { IfNode (λ node. IsReady node (M.disk machine.new (M.now machine.new))
             (S.state scratch.new)) result }
         ensures handed { HandsBack result }
         // Where no block was stored and the disk did not fail, also after ScratchFault and Memory,
-        // the
-        // disk was not touched, and the content at entry is all that a crash could have left.
+        // the disk was not touched, and the content at entry is all that a crash could have left.
         ensures untouched { reaches_disk result ≡ false → machine.new ≡ machine.old }
         ensures only_image { reaches_disk result ≡ false → (content : List ℕ)
             → content_of (M.disk machine.old (M.now machine.old)) ≡ Some content
             → Keeps M.now M.disk machine.old machine.new (λ image. image ≡ content) }
-        ensures told { M.told machine.new ≡ M.told machine.old }
-        ensures wire_faults { M.wire_faults machine.new ≡ M.wire_faults machine.old }
-        ensures retains { Retains (S.state scratch.old) (S.state scratch.new) }
+        ensures wire { LeavesWire M.told M.wire_faults machine.old machine.new }
         ensures disk_cause { HasCause (M.disk_faults machine.old) (M.disk_faults machine.new)
             (Blames is_disk_fault result) }
-        ensures scratch_cause { HasCause (S.scratch_faults scratch.old)
-            (S.scratch_faults scratch.new) (Blames is_scratch_fault result) }
+        ensures scratch { Serves S.state S.scratch_faults scratch.old scratch.new
+            (Blames is_scratch_fault result) }
     {
         match self.chain.judge(alloc, bytes) {
             Ok(Judged::Known { number }) => Ok((self, Appended::Known { number })),

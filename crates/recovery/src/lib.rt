@@ -3,6 +3,7 @@
 
 mod appending;
 mod errors;
+mod no_scratch;
 mod node;
 mod opening;
 mod restoring;

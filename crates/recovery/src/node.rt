@@ -1,17 +1,17 @@
 //! A node: the chain of the blocks that a log holds, and the log.
 
-ghost use Rattle.std.specs.Prelude.{◌≡◌, ◌<◌, ◌≤◌, ℕ, true, List, length, slice_get, Some, IfOk};
-ghost use Rattle.std.specs.Prelude.{IsErrOf, MatchOption};
-ghost use Rattle.lc_base.specs.Faults.{HasCause};
-ghost use Rattle.lc_io.specs.Disk.{Stays};
+ghost use Rattle.std.specs.Prelude.{◌≡◌, ◌<◌, ◌≤◌, ℕ, true, List, length, slice_get, Some, IfOk, IsErrOf, MatchOption};
 ghost use Rattle.disk_model.specs.Disk.{IsSettled, content_of};
-ghost use Rattle.scratch_model.specs.Scratch.{is_told, Retains};
+ghost use Rattle.scratch_model.specs.Scratch.{is_known, Serves};
 ghost use Rattle.block_codec.specs.declared.block.Block.{Block as Blocks};
 ghost use Rattle.block_log.specs.Standing.{standing};
 ghost use Rattle.chain_exec.specs.Compiled.{compiled_in};
 ghost use Rattle.chain_replay.specs.Chain.{StandsFor};
 ghost use Rattle.rooted_chain.specs.Roots.{root_in};
-ghost use Rattle.recovery.specs.Node.{IsNodeStarted, IsReady, lineage_in, next_in_chain};
+ghost use Rattle.recovery.specs.{
+  Node.{IsNodeStarted, IsReady, lineage_in, next_in_chain},
+  Restoring.{ReadsLog},
+};
 
 use crate::errors::StartError;
 use crate::opening::open;
@@ -74,23 +74,19 @@ impl Node {
         scratch: &mut S,
     ) -> Result<Node, StartError>
         requires settled { IsSettled (M.disk machine.old (M.now machine.old)) }
-        // Where it is told which bytes the scratch device holds, the node is that of the chain that
+        // Where it is known which bytes the scratch device holds, the node is that of the chain that
         // the content stands for, or it stands for none.
-        ensures answer { is_told (S.state scratch.old) ≡ true → (content : List ℕ)
+        ensures answer { is_known (S.state scratch.old) ≡ true → (content : List ℕ)
             → content_of (M.disk machine.old (M.now machine.old)) ≡ Some content
             → IsNodeStarted (M.disk machine.new (M.now machine.new))
             (standing next_in_chain content) result }
-        // Whether that is told or not, and the disk.
+        // Whether that is known or not, and the disk.
         ensures ready { IfOk result
             (λ node. IsReady node (M.disk machine.new (M.now machine.new)) (S.state scratch.new)) }
-        ensures disk { Stays M.now M.disk machine.old machine.new }
-        ensures told { M.told machine.new ≡ M.told machine.old }
-        ensures wire_faults { M.wire_faults machine.new ≡ M.wire_faults machine.old }
-        ensures retains { Retains (S.state scratch.old) (S.state scratch.new) }
-        ensures disk_cause { HasCause (M.disk_faults machine.old) (M.disk_faults machine.new)
-            (IsErrOf result StartError.DiskFault) }
-        ensures scratch_cause { HasCause (S.scratch_faults scratch.old)
-            (S.scratch_faults scratch.new) (IsErrOf result StartError.ScratchFault) }
+        ensures machine { ReadsLog M.now M.disk M.disk_faults M.told M.wire_faults machine.old
+            machine.new (IsErrOf result StartError.DiskFault) }
+        ensures scratch { Serves S.state S.scratch_faults scratch.old scratch.new
+            (IsErrOf result StartError.ScratchFault) }
     {
         match open::<LineageChain, M, S>(alloc, machine, scratch) {
             Ok((chain, log)) => Ok(Node { chain, log }),

@@ -1,24 +1,22 @@
 //! The chain of the blocks of a log, which run as they are read.
 
-ghost use Rattle.std.specs.Prelude.{◌≡◌, [], ◌∷◌, ◌++◌, false, List, IfOk, IsErrOf};
-ghost use Rattle.lc_base.specs.Faults.{HasCause};
-ghost use Rattle.lc_io.specs.Disk.{Stays};
+ghost use Rattle.std.specs.Prelude.{◌≡◌, [], ◌∷◌, ◌++◌, List, IfOk, IsErrOf};
 ghost use Rattle.disk_model.specs.Disk.{content_of};
-ghost use Rattle.scratch_model.specs.Scratch.{Retains};
-ghost use Rattle.block_codec.specs.Spelling.{IsBlock};
-ghost use Rattle.block_codec.specs.Placement.{digest_of};
-ghost use Rattle.block_codec.specs.declared.block.Block.{Block as Blocks};
+ghost use Rattle.block_codec.specs.{
+  Spelling.{IsBlock},
+  Placement.{digest_of},
+  declared.block.Block.{Block as Blocks},
+};
 ghost use Rattle.block_log.specs.Reader.{AreRead};
-ghost use Rattle.chain_replay.specs.Chain.{IsToldFor, StandsFor};
-ghost use Rattle.chain_replay.specs.declared.replaying.ReplayError.TheVariants.{Fault};
-ghost use Rattle.recovery.specs.Restoring.{HasRead, IfMade, IsRestored, IsRun, start_error};
+ghost use Rattle.chain_replay.specs.Chain.{IsKnownFor, StandsFor};
+ghost use Rattle.recovery.specs.Restoring.{HasRead, IfMade, IsRestored, IsRun, ReadsLog, RunsOn, start_error};
 
 use crate::errors::StartError;
 use block_codec::Placement;
 use block_log::{Log, LogError, LogReader, Stored, Turn};
-use chain_replay::{Replay, ReplayError};
+use chain_replay::Replay;
 use disk_model::Disk;
-use lc_base::Memory;
+use lc_base::{HostError, Memory};
 use scratch_model::Scratch;
 use std::alloc::Global;
 
@@ -52,21 +50,18 @@ fn run_stored<C: Replay, S: Scratch>(
     chain: C,
     scratch: &mut S,
     next: &Stored,
-) -> Result<Result<C, u64>, ReplayError>
+) -> Result<Result<C, u64>, HostError>
     requires is_block { IsBlock next.now.block }
     requires agrees { C.agrees chain (S.state scratch.old) }
-    ensures run { IsToldFor C.calls_scratch (S.state scratch.old) → (blocks : List Blocks)
+    ensures run { IsKnownFor C.calls_scratch (S.state scratch.old) → (blocks : List Blocks)
         → StandsFor (C.kept chain) blocks → next.now.digest ≡ digest_of next.now.block
         → IfOk result (IsRun C.kept blocks next.now) }
     ensures digests { IfOk result
         (IfMade (λ longer. (C.kept longer).digests ≡ (C.kept chain).digests ++ next.now.digest ∷
         [])) }
     ensures agrees { IfOk result (IfMade (λ longer. C.agrees longer (S.state scratch.new))) }
-    ensures retains { Retains (S.state scratch.old) (S.state scratch.new) }
-    ensures cause { HasCause (S.scratch_faults scratch.old) (S.scratch_faults scratch.new)
-        (IsErrOf result Fault) }
-    ensures unused { C.calls_scratch ≡ false → (scratch.new ≡ scratch.old)
-        × (IsErrOf result Fault → ⊥) }
+    ensures scratch { RunsOn C.calls_scratch S.state S.scratch_faults scratch.old scratch.new
+        (IsErrOf result HostError.Fault) }
 {
     match chain.place(&next.block, next.digest) {
         Placement::Next => {
@@ -89,22 +84,16 @@ pub fn restore<C: Replay, M: Disk, S: Scratch>(
     first: LogReader,
 ) -> Result<(C, Log), StartError>
     requires none_read { AreRead first (content_of (M.disk machine.old (M.now machine.old))) [] }
-    ensures restored { IsToldFor C.calls_scratch (S.state scratch.old)
+    ensures restored { IsKnownFor C.calls_scratch (S.state scratch.old)
         → IsRestored C.kept (content_of (M.disk machine.new (M.now machine.new))) result }
     ensures read { IfOk result
         (λ opened. HasRead (C.kept opened.0) opened.1
         (content_of (M.disk machine.new (M.now machine.new)))) }
     ensures agrees { IfOk result (λ opened. C.agrees opened.0 (S.state scratch.new)) }
-    ensures disk { Stays M.now M.disk machine.old machine.new }
-    ensures told { M.told machine.new ≡ M.told machine.old }
-    ensures wire_faults { M.wire_faults machine.new ≡ M.wire_faults machine.old }
-    ensures retains { Retains (S.state scratch.old) (S.state scratch.new) }
-    ensures disk_cause { HasCause (M.disk_faults machine.old) (M.disk_faults machine.new)
-        (IsErrOf result StartError.DiskFault) }
-    ensures scratch_cause { HasCause (S.scratch_faults scratch.old) (S.scratch_faults scratch.new)
+    ensures machine { ReadsLog M.now M.disk M.disk_faults M.told M.wire_faults machine.old
+        machine.new (IsErrOf result StartError.DiskFault) }
+    ensures scratch { RunsOn C.calls_scratch S.state S.scratch_faults scratch.old scratch.new
         (IsErrOf result StartError.ScratchFault) }
-    ensures unused { C.calls_scratch ≡ false → (scratch.new ≡ scratch.old)
-        × (IsErrOf result StartError.ScratchFault → ⊥) }
 {
     let mut chain = C::start(alloc)?;
     let mut reader = first;
@@ -120,8 +109,8 @@ pub fn restore<C: Replay, M: Disk, S: Scratch>(
                     reader = further;
                 }
                 Ok(Err(at)) => return Err(StartError::Damaged { at }),
-                Err(ReplayError::Fault) => return Err(StartError::ScratchFault),
-                Err(ReplayError::Memory) => return Err(StartError::Memory),
+                Err(HostError::Fault) => return Err(StartError::ScratchFault),
+                Err(HostError::Memory) => return Err(StartError::Memory),
             },
         }
     }

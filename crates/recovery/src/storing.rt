@@ -1,14 +1,20 @@
 //! Storing a block in a log.
 
-ghost use Rattle.std.specs.Prelude.{◌≡◌, ◌+◌, ℕ, List, [], ◌∷◌, ◌++◌, Some, IfOk, IsErr};
-ghost use Rattle.std.specs.Option.{is_some};
+ghost use Rattle.std.specs.{
+  Prelude.{◌≡◌, ◌+◌, ℕ, List, [], ◌∷◌, ◌++◌, Some, IfOk, IsErr},
+  Option.{is_some},
+};
 ghost use Rattle.lc_base.specs.Faults.{HasCause};
-ghost use Rattle.disk_model.specs.Disk.{Keeps, Rests, content_of};
-ghost use Rattle.block_codec.specs.Placement.{bytes_digest};
-ghost use Rattle.block_codec.specs.Reading.{block_in};
-ghost use Rattle.block_codec.specs.declared.block.Block.{Block};
-ghost use Rattle.block_log.specs.Standing.{Placer, chain_of, next_block};
-ghost use Rattle.block_log.specs.Log.{Agrees, IsNextAfter, IsNextOf, IsOldOrNew};
+ghost use Rattle.disk_model.specs.{Disk.{Keeps, Rests, content_of}, Leaving.{LeavesWire}};
+ghost use Rattle.block_codec.specs.{
+  Placement.{bytes_digest},
+  Reading.{block_in},
+  declared.block.Block.{Block},
+};
+ghost use Rattle.block_log.specs.{
+  Standing.{Placer, chain_of, next_block},
+  Log.{Agrees, IsNextAfter, IsNextOf, IsOldOrNew},
+};
 
 use block_log::{DiskFault, Log};
 use disk_model::Disk;
@@ -32,11 +38,10 @@ pub fn store<M: Disk>(log: Log, machine: &mut M, bytes: &[u8]) -> Result<Log, Di
         → IsNextAfter place content bytes.now blocks block
         → Rests (M.disk machine.new (M.now machine.new))
         (λ image. chain_of (next_block block_in place) image ≡ Some (blocks ++ block ∷ []))) }
-    ensures still_told { IfOk result
+    ensures still_known { IfOk result
         (λ longer. is_some (M.disk machine.new (M.now machine.new)) ≡ is_some
         (M.disk machine.old (M.now machine.old))) }
-    ensures told { M.told machine.new ≡ M.told machine.old }
-    ensures wire_faults { M.wire_faults machine.new ≡ M.wire_faults machine.old }
+    ensures wire { LeavesWire M.told M.wire_faults machine.old machine.new }
     ensures cause { HasCause (M.disk_faults machine.old) (M.disk_faults machine.new) (IsErr result) }
 {
     if log.ready() {

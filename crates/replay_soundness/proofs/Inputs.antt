@@ -11,7 +11,7 @@ use Rattle.block_codec.specs.declared.placement.Placement.{Placement}
 use Rattle.block_codec.specs.declared.placement.Placement.TheVariants.{Known as KnownBlock, Next, Fork, Full, Number, Parent, Budget}
 use Rattle.chain_exec.specs.Compiled.{Compiler}
 use Rattle.chain_replay.specs.Chain.{placement_in}
-use Rattle.chain_replay.specs.Judging.{Taken, Known, Added, judged_by_placement, judged, added_by, added_by_all}
+use Rattle.chain_replay.specs.Judging.{Taken, Known, Added, judged_by_placement, judgement_of, added_by, added_by_all}
 use Rattle.chain_replay.specs.declared.refusal.Refusal.{Refusal}
 use Rattle.chain_input.specs.Folding.{Fold, fold_after_frame, fold_step, fold_from}
 use Rattle.typed_replays.specs.Chains.{IsLawfulChain}
@@ -66,7 +66,7 @@ module _ (read : Decoder) (compile : Compiler) (right : IsDecoder read) where
   same_chain : (blocks : List Block) → IsLawfulChain compile blocks → IsLawfulChain compile (blocks ++ [])
   same_chain blocks chain = subst (IsLawfulChain compile) (sym (append-nil blocks)) chain
 
-  -- the blocks of a chain and those that bytes add, which are judged so
+  -- the blocks of a chain and those that bytes add, which are judgement_of so
   by_placement : (blocks : List Block) (bytes : List ℕ) (block : Block) (frame : Taken) → IsBytes bytes → IsLawfulChain compile blocks → read bytes ≡ Ok block
       → (placement : Placement) → placement_in compile blocks block ≡ placement → judged_by_placement block placement ≡ Ok frame → IsLawfulChain compile (blocks ++ added_by frame)
   by_placement blocks bytes block frame fits chain spelled KnownBlock e is =
@@ -81,7 +81,7 @@ module _ (read : Decoder) (compile : Compiler) (right : IsDecoder read) where
   by_placement blocks bytes block frame fits chain spelled (Budget sum) e is = absurd (cc is)
 
   by_judgement : (blocks : List Block) (bytes : List ℕ) (frame : Taken) → IsBytes bytes → IsLawfulChain compile blocks → (decoded : Result Block ℕ) → read bytes ≡ decoded
-      → judged compile blocks decoded ≡ Ok frame → IsLawfulChain compile (blocks ++ added_by frame)
+      → judgement_of compile blocks decoded ≡ Ok frame → IsLawfulChain compile (blocks ++ added_by frame)
   by_judgement blocks bytes frame fits chain (Ok block) spelled is = by_placement blocks bytes block frame fits chain spelled (placement_in compile blocks block) refl is
   by_judgement blocks bytes frame fits chain (Err offset) spelled is = absurd (cc is)
 
@@ -92,7 +92,7 @@ module _ (read : Decoder) (compile : Compiler) (right : IsDecoder read) where
   GoesOn next = (blocks : List Block) (input : List ℕ) → IsBytes input → IsLawfulChain compile blocks → AddsTo blocks (next blocks input)
 
   after_adds : (next : List Block → List ℕ → Fold) → GoesOn next → (count : ℕ) (blocks : List Block) (bytes rest : List ℕ) → IsBytes bytes → IsBytes rest → IsLawfulChain compile blocks
-      → (r : Result Taken Refusal) → judged compile blocks (read bytes) ≡ r → AddsTo blocks (fold_after_frame next count blocks rest r)
+      → (r : Result Taken Refusal) → judgement_of compile blocks (read bytes) ≡ r → AddsTo blocks (fold_after_frame next count blocks rest r)
   after_adds next goes count blocks bytes rest fits rest_fits chain (Ok frame) is =
       subst (IsLawfulChain compile) (append_assoc blocks (added_by frame) (added_by_all (next (blocks ++ added_by frame) rest).taken))
       (goes (blocks ++ added_by frame) rest rest_fits (by_judgement blocks bytes frame fits chain (read bytes) refl is))
@@ -106,7 +106,7 @@ module _ (read : Decoder) (compile : Compiler) (right : IsDecoder read) where
   step_adds next goes count blocks input fits chain Many e = same_chain blocks chain
   step_adds next goes count blocks input fits chain (Frame frame rest) e =
       let bytes = frame_bytes count input frame rest fits e in
-      after_adds next goes count blocks frame rest bytes.0 bytes.1 chain (judged compile blocks (read frame)) refl
+      after_adds next goes count blocks frame rest bytes.0 bytes.1 chain (judgement_of compile blocks (read frame)) refl
 
   fold_adds : (more : ℕ) → GoesOn (fold_from read compile more)
   unfolding fold_from

@@ -16,7 +16,7 @@ use Rattle.replay_soundness.proofs.Logs.{logs_hold_chains}
 
 pub accepted_proofs_answer_as_replays : AcceptedProofsAnswerAsReplays
 accepted_proofs_answer_as_replays root query proof answer is compile blocks block has =
-    let typed = replays_are_typed compile blocks has.right has.chain in
+    let typed = replays_are_typed compile blocks (has.right, has.chain) in
     let few : length (map digest_of blocks) < 2 ^ 32 = typed.few in
     let fits : block < 2 ^ 32 = omega (arith, has.within, few, length-map blocks digest_of) in
     accepted_is_sound root query proof answer is.lawful is.accepted (replay compile blocks).rows (map digest_of blocks) block typed.history fits has.root_is

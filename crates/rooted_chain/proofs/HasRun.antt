@@ -9,7 +9,7 @@ use Rattle.contract_tree.specs.declared.tree.Contract.{Contract}
 use Rattle.world_state.specs.Known.{Known}
 use Rattle.world_state.specs.World.{newest_of, StandsForRows}
 use Rattle.chain_exec.specs.BlockRows.{AreBlockRows}
-use Rattle.chain_replay.specs.Chain.{HasRoom, IsKept}
+use Rattle.chain_replay.specs.Chain.{HasRoom, IsKeptChain}
 use Rattle.chain_replay.proofs.Kept.{next_lawful, next_kept}
 use Rattle.merkle_dag.specs.Lineage.{LineageState}
 use Rattle.rooted_chain.specs.Roots.{RootedState, kept_in}
@@ -18,7 +18,7 @@ use Rattle.rooted_chain.specs.Roots.{RootedState, kept_in}
 abbrev pub rooted_of : LineageState → List (List ℕ × Contract) → RootedState
 rooted_of lineage codes = record { digests = lineage.digests; rows = lineage.rows; codes = codes; bodies = lineage.bodies }
 
-module _ (lineage : LineageState) (world : Known Contract) (rooted : RootedState) (seen : rooted_of lineage world.codes ≡ rooted) (kept : IsKept lineage.digests lineage.rows world)
+module _ (lineage : LineageState) (world : Known Contract) (rooted : RootedState) (seen : rooted_of lineage world.codes ≡ rooted) (kept : IsKeptChain lineage.digests lineage.rows world)
     (block : Block) (room : HasRoom (kept_in rooted) block) (few : length block.txs ≤ MAX_TXS) (more : List Row) (written : AreBlockRows (newest_of world) block.number (length block.txs) more) where
   numbered : block.number ≡ length lineage.digests
   numbered = room.number ∙ sym (ap (λ (r : RootedState). length r.digests) seen)
@@ -31,9 +31,9 @@ module _ (lineage : LineageState) (world : Known Contract) (rooted : RootedState
 
   -- and what is kept with them belongs together, as before
   pub run_kept : (after : Known Contract) (digest : Digest) (digests : List Digest) (rows : List Row) → StandsForRows after (lineage.rows ++ more) → after.staged ≡ [] → after.staged_codes ≡ []
-      → digests ≡ lineage.digests ++ digest ∷ [] → rows ≡ lineage.rows ++ more → IsKept digests rows after
+      → digests ≡ lineage.digests ++ digest ∷ [] → rows ≡ lineage.rows ++ more → IsKeptChain digests rows after
   run_kept after digest digests rows stands no_rows no_codes digests_are rows_are =
       let longer = next_kept lineage.digests lineage.rows world more block.number (length block.txs) kept numbered after digest
       (subst (λ (r : RootedState). length r.digests < MAX_BLOCKS) (sym seen) room.room) run_lawful written stands no_rows no_codes in
-      subst (λ (ds : List Digest). IsKept ds rows after) (sym digests_are)
-      (subst (λ (all : List Row). IsKept (lineage.digests ++ digest ∷ []) all after) (sym rows_are) longer)
+      subst (λ (ds : List Digest). IsKeptChain ds rows after) (sym digests_are)
+      (subst (λ (all : List Row). IsKeptChain (lineage.digests ++ digest ∷ []) all after) (sym rows_are) longer)

@@ -1,14 +1,15 @@
 -- The lineage of a chain, and the roots of its blocks.
-use Rattle.std.specs.Prelude.{ℕ, List, map}
+use Rattle.std.specs.Prelude.{◌≡◌, ℕ, List, [], ◌∷◌, ◌++◌, map}
 use Rattle.lc_base.specs.declared.digest.Digest.{Digest}
 use Rattle.lc_base.specs.declared.row.Row.{Row}
 use Rattle.body_store.specs.Bodies.{BodiesState}
 use Rattle.block_codec.specs.Placement.{digest_of}
 use Rattle.block_codec.specs.declared.block.Block.{Block}
+use Rattle.block_codec.specs.declared.placement.Placement.TheVariants.{Next}
 use Rattle.contract_tree.specs.declared.tree.Contract.{Contract}
-use Rattle.chain_exec.specs.Compiled.{Compiler}
+use Rattle.chain_exec.specs.Compiled.{Compiler, compiled_in}
 use Rattle.chain_exec.specs.Replay.{replay}
-use Rattle.chain_replay.specs.Chain.{ChainState}
+use Rattle.chain_replay.specs.Chain.{ChainState, StandsFor, placement_in}
 use Rattle.root_laws.specs.Root.{root_of}
 use Rattle.merkle_dag.specs.Lineage.{LineageState}
 
@@ -35,3 +36,10 @@ lineage_in rooted = lineage_of (kept_in rooted) rooted.bodies
 -- The root at a block of a chain: over the rows that replaying its blocks gives, and their digests.
 abbrev pub root_in : Compiler → List Block → ℕ → List ℕ
 root_in compile blocks at = root_of (replay compile blocks).rows (map digest_of blocks) at
+
+-- So it is with a block, which has this digest, after the others: where a chain stands for blocks,
+-- and this one is the next of them, it is so of all these.
+abbrev pub IsSoWithNext : ChainState → Block → Digest → (List Block → Type 0) → Type 0
+IsSoWithNext kept block digest IsSo =
+    (blocks : List Block) → StandsFor kept blocks → digest ≡ digest_of block
+    → placement_in compiled_in blocks block ≡ Next → IsSo (blocks ++ block ∷ [])

@@ -1,9 +1,11 @@
 //! A chain of blocks over a lineage.
 
 ghost use Rattle.std.specs.Prelude.{◌≡◌, ◌<◌, ◌≤◌, true, List, length, map, slice_get, MatchOption};
-ghost use Rattle.block_codec.specs.Placement.{digest_of, last_digest};
-ghost use Rattle.block_codec.specs.declared.limits.TheConstants.{MAX_BLOCKS};
-ghost use Rattle.block_codec.specs.declared.block.Block.{Block as Blocks};
+ghost use Rattle.block_codec.specs.{
+  Placement.{digest_of, last_digest},
+  declared.limits.TheConstants.{MAX_BLOCKS},
+  declared.block.Block.{Block as Blocks},
+};
 ghost use Rattle.chain_exec.specs.Compiled.{compiled_in};
 ghost use Rattle.chain_replay.specs.Chain.{StandsFor};
 ghost use Rattle.root_laws.specs.Root.{root_of};
@@ -11,9 +13,9 @@ ghost use Rattle.merkle_dag.specs.Lineage.{AgreesWith};
 ghost use Rattle.rooted_chain.specs.Roots.{kept_in, lineage_in, root_in};
 
 use block_codec::{Block, NO_PARENT, Placement, place};
-use chain_replay::{Replay, ReplayError};
+use chain_replay::Replay;
 use contract_check::Checked;
-use lc_base::{Digest, Memory};
+use lc_base::{Digest, HostError, Memory};
 use merkle_dag::Lineage;
 use scratch_model::Scratch;
 use std::alloc::Global;
@@ -29,7 +31,7 @@ pub struct LineageChain {
 }
 
 impl Model for LineageChain {
-    ghost use Rattle.chain_replay.specs.Chain.{IsKept};
+    ghost use Rattle.chain_replay.specs.Chain.{IsKeptChain};
     ghost use Rattle.rooted_chain.specs.Roots.{RootedState};
     ghost use Rattle.contract_tree.specs.contracts.tree.Contract as contracts;
     ghost use Rattle.std.specs.Coded.{codes};
@@ -40,7 +42,7 @@ impl Model for LineageChain {
 
     ghost view = { λ chain. record { digests = chain.lineage.digests; rows = chain.lineage.rows; codes = chain.world.codes; bodies = chain.lineage.bodies } };
 
-    ghost invariant = { λ chain. IsKept chain.lineage.digests chain.lineage.rows chain.world };
+    ghost invariant = { λ chain. IsKeptChain chain.lineage.digests chain.lineage.rows chain.world };
 }
 
 /// Drops a world, whose many parts are dropped here alone.
@@ -143,7 +145,7 @@ impl Replay for LineageChain {
         scratch: &mut S,
         block: &Block,
         digest: Digest,
-    ) -> Result<LineageChain, ReplayError> {
+    ) -> Result<LineageChain, HostError> {
         match self.extended(alloc, scratch, block, digest) {
             Ok((longer, _run, _root)) => Ok(longer),
             Err(error) => Err(error),

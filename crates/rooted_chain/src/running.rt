@@ -1,16 +1,17 @@
 //! Running a block over a lineage and the device that keeps its bodies.
 
 ghost use Rattle.std.specs.Prelude.{◌≡◌, true, [], length, map, IfOk, OnOk, IsErrOf};
-ghost use Rattle.lc_base.specs.Faults.{HasCause};
-ghost use Rattle.scratch_model.specs.Scratch.{is_told};
+ghost use Rattle.scratch_model.specs.Scratch.{is_known};
 ghost use Rattle.block_codec.specs.Spelling.{IsBlock};
-ghost use Rattle.world_state.specs.Rows.{entry_of};
-ghost use Rattle.world_state.specs.World.{newest_of, StandsForRows};
-ghost use Rattle.chain_exec.specs.BlockRows.{AreBlockRows};
-ghost use Rattle.chain_exec.specs.Compiled.{compiled_in};
-ghost use Rattle.chain_exec.specs.Fold.{block_effects};
-ghost use Rattle.chain_exec.specs.Running.{history_in, staged_in};
-ghost use Rattle.merkle_dag.specs.Lineage.{AgreesWith, StaysSame};
+ghost use Rattle.world_state.specs.{Rows.{entry_of}, World.{newest_of, StandsForRows}};
+ghost use Rattle.chain_exec.specs.{
+  BlockRows.{AreBlockRows},
+  Compiled.{compiled_in},
+  Fold.{block_effects},
+  Running.{history_in, staged_in},
+};
+ghost use Rattle.lc_base.specs.declared.host_error.HostError.TheVariants.{Fault};
+ghost use Rattle.merkle_dag.specs.Lineage.{AgreesWith, LeavesLineage};
 
 use block_codec::Block;
 use chain_exec::{BlockRun, run_block};
@@ -22,8 +23,8 @@ use scratch_model::Scratch;
 use std::alloc::Global;
 use world_state::World;
 
-/// Runs a block over a lineage, as `run_block` does. What it does is known where it is told which
-/// bytes the device holds; that its rows are lawful is so whether that is told or not.
+/// Runs a block over a lineage, as `run_block` does. What it does is known where it is known which
+/// bytes the device holds; that its rows are lawful is so whether that is known or not.
 pub(crate) fn run_next<S: Scratch>(
     alloc: Global,
     lineage: &mut Lineage,
@@ -36,14 +37,17 @@ pub(crate) fn run_next<S: Scratch>(
     requires is_block { IsBlock block.now }
     requires no_rows { world.old.staged ≡ [] }
     requires no_codes { world.old.staged_codes ≡ [] }
-    ensures same { StaysSame lineage.old (S.state scratch.old) lineage.new (S.state scratch.new) }
-    ensures effects { is_told (S.state scratch.old) ≡ true → IfOk result (λ run. staged_in world.new run ≡ block_effects compiled_in (history_in lineage.old.rows world.old) block.now) }
+    ensures effects { is_known (S.state scratch.old) ≡ true → IfOk result (λ run. staged_in world.new run ≡ block_effects compiled_in (history_in lineage.old.rows world.old) block.now) }
     ensures newest { OnOk result (world.new.newest ≡ world.old.newest) }
     ensures codes { OnOk result (world.new.codes ≡ world.old.codes) }
     ensures staged { IfOk result (λ run. world.new.staged ≡ map entry_of run.rows) }
     ensures lawful { IfOk result (λ run. AreBlockRows (newest_of world.old) block.now.number (length block.now.txs) run.rows) }
-    ensures cause { HasCause (S.scratch_faults scratch.old) (S.scratch_faults scratch.new) (IsErrOf result HostError.Fault) }
+    ensures leaves { LeavesLineage S.state S.scratch_faults lineage.old scratch.old lineage.new
+        scratch.new (IsErrOf result Fault) }
 {
     let mut reading = Reading { lineage, scratch };
-    run_block(alloc, &mut reading, world, block)
+    match run_block(alloc, &mut reading, world, block) {
+        Ok(run) => Ok(run),
+        Err(error) => Err(error),
+    }
 }

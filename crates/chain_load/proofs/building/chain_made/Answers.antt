@@ -1,10 +1,10 @@
 use Rattle.std.proofs.Common.{◌≡◌, ◌∙◌, ◌+◌, ℕ, Bool, refl, subst, sym, arith}
-use Rattle.scratch_model.specs.Scratch.{is_told}
+use Rattle.scratch_model.specs.Scratch.{is_known}
 use Rattle.scratch_model.proofs.Retaining.{retains_refl, retains_trans}
 use Rattle.rooted_chain.specs.Roots.{kept_in}
 use Rattle.chain_load.specs.Building.{HasAdded}
 use Rattle.chain_load.proofs.Placed.{none_added, all_added}
-use Rattle.chain_load.proofs.Causes.{unblamed}
+use Rattle.merkle_dag.proofs.Causes.{unblamed}
 use Rattle.chain_load.proofs.building.chain_made.Goals as goal
 
 pub loop-init : goal.loop-init
@@ -18,8 +18,8 @@ loop-init g c = record {
 pub loop-preserved : goal.loop-preserved
 loop-preserved g c =
     let building = c.loop.building in
-    let told = is_told (g.S.Scratch.state c.args.scratch.now) in
-    let told_now : is_told (g.S.Scratch.state c.loop.scratch) ≡ told = c.loop.invariant.retains.told
+    let told = is_known (g.S.Scratch.state c.args.scratch.now) in
+    let told_now : is_known (g.S.Scratch.state c.loop.scratch) ≡ told = c.loop.invariant.retains.known
     in
     let before = subst (λ (b : Bool). HasAdded b c.args.seed c.args.blocks c.loop.counter
     (kept_in building.chain) building.generator building.parent) (sym told_now)
@@ -39,6 +39,6 @@ pub returns-clause-digests : goal.returns-clause-digests
 returns-clause-digests g c =
     all_added _ c.args.seed c.args.blocks (kept_in c.loop.building.chain) c.loop.building.generator
     c.loop.building.parent
-    (subst (λ (n : ℕ). HasAdded (is_told (g.S.Scratch.state c.args.scratch.now)) c.args.seed
+    (subst (λ (n : ℕ). HasAdded (is_known (g.S.Scratch.state c.args.scratch.now)) c.args.seed
     c.args.blocks n (kept_in c.loop.building.chain) c.loop.building.generator
     c.loop.building.parent) (omega arith) c.loop.invariant.added)

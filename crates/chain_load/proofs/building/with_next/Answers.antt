@@ -1,5 +1,5 @@
 use Rattle.std.proofs.Common.{◌∙◌, ap, subst, arith}
-use Rattle.scratch_model.specs.Scratch.{is_told}
+use Rattle.scratch_model.specs.Scratch.{is_known}
 use Rattle.block_codec.specs.Placement.{bytes_digest}
 use Rattle.block_codec.specs.Spelling.{Spells}
 use Rattle.block_codec.specs.declared.block.Block.{Block}
@@ -39,7 +39,7 @@ returns-in-Ok-clause-added g c seed count added has more few =
     let building = c.args.building in
     let block : Block = (block_drawn building.generator.given building.parent
     building.generator.state).0 in
-    let told = is_told (g.S.Scratch.state c.args.scratch.now) in
+    let told = is_known (g.S.Scratch.state c.args.scratch.now) in
     let gives = gives_next told seed count added (kept_in building.chain) building.generator
     building.parent has more few c.in-Ok-Some.ensures.placed in
     let spells : Spells c.in-Ok-Some.bytes block = rw c.in-Ok-Some.field-0-is at

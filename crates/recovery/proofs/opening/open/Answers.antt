@@ -10,14 +10,14 @@ restore-requires g c = record { none_read = rw c.in-Records.is at c.in_ok-reader
 
 pub returns-in-Records-clause-answer : goal.returns-in-Records-clause-answer
 returns-in-Records-clause-answer g c known content told =
-    let same = c.restore.ensures.disk.last ∙ c.start.ensures.disk.last in
+    let same = c.restore.ensures.machine.stays.last ∙ c.start.ensures.disk.last in
     started g.C.Replay.kept (g.M.Clock.disk c.restore.new.machine
     (g.M.Clock.now c.restore.new.machine)) (subst IsSettled (sym same) c.requires.settled)
     c.restore.result (c.restore.ensures.restored known) content (ap content_of same ∙ told)
 
 pub returns-in-Records-clause-blocks : goal.returns-in-Records-clause-blocks
 returns-in-Records-clause-blocks g c known =
-    let same = c.restore.ensures.disk.last ∙ c.start.ensures.disk.last in
+    let same = c.restore.ensures.machine.stays.last ∙ c.start.ensures.disk.last in
     has_node g.C.Replay.kept
     (g.M.Clock.disk c.restore.new.machine (g.M.Clock.now c.restore.new.machine))
     (subst IsSettled (sym same) c.requires.settled) c.restore.result
@@ -25,14 +25,14 @@ returns-in-Records-clause-blocks g c known =
 
 pub returns-in-Records-clause-log : goal.returns-in-Records-clause-log
 returns-in-Records-clause-log g c =
-    let same = c.restore.ensures.disk.last ∙ c.start.ensures.disk.last in
+    let same = c.restore.ensures.machine.stays.last ∙ c.start.ensures.disk.last in
     has_log g.C.Replay.kept (g.M.Clock.disk c.restore.new.machine
     (g.M.Clock.now c.restore.new.machine)) (subst IsSettled (sym same) c.requires.settled)
     c.restore.result c.restore.ensures.read
 
 pub returns-in-Records-clause-one_chain : goal.returns-in-Records-clause-one_chain
 returns-in-Records-clause-one_chain g c =
-    let same = c.restore.ensures.disk.last ∙ c.start.ensures.disk.last in
+    let same = c.restore.ensures.machine.stays.last ∙ c.start.ensures.disk.last in
     has_one_chain g.C.Replay.kept
     (g.M.Clock.disk c.restore.new.machine (g.M.Clock.now c.restore.new.machine))
     (subst IsSettled (sym same) c.requires.settled) c.restore.result c.restore.ensures.read

@@ -39,7 +39,7 @@ loop-log-preserved g c =
       read = turn;
       run = λ known.
           let is = rw c.in-Ok-Ok.field-0-is at
-          (c.in-Ok-Ok.ensures.run (λ calls. so_far.retains.told ∙ known calls)
+          (c.in-Ok-Ok.ensures.run (λ calls. so_far.retains.known ∙ known calls)
           (blocks_in so_far.stored) (so_far.run known).stands block.digest_is) in
           one_run so_far.stored (g.C.Replay.kept c.loop-log.chain) (so_far.run known)
           c.in-Block.next (g.C.Replay.kept c.in-Ok-Ok.longer) is.0 is.1;
@@ -55,11 +55,11 @@ loop-log-preserved g c =
           (g.M.Clock.disk_faults c.next.new.machine) c.in_ok-log.ensures.cause ∙ so_far.no_fault;
       retains = retains_trans (g.S.Scratch.state c.args.scratch.now)
           (g.S.Scratch.state c.loop-log.scratch) (g.S.Scratch.state c.run_stored.new.scratch)
-          so_far.retains c.in-Ok-Ok.ensures.retains;
+          so_far.retains c.in-Ok-Ok.ensures.scratch.serves.retains;
       no_scratch_fault = unblamed (g.S.Scratch.scratch_faults c.loop-log.scratch)
-          (g.S.Scratch.scratch_faults c.run_stored.new.scratch) c.in-Ok-Ok.ensures.cause
+          (g.S.Scratch.scratch_faults c.run_stored.new.scratch) c.in-Ok-Ok.ensures.scratch.serves.cause
           ∙ so_far.no_scratch_fault;
-      unused = λ is. (c.in-Ok-Ok.ensures.unused is).0 ∙ so_far.unused is;
+      unused = λ is. (c.in-Ok-Ok.ensures.scratch.unused is).0 ∙ so_far.unused is;
     }
 
 pub loop-log-smaller : goal.loop-log-smaller
@@ -96,7 +96,7 @@ returns-in-Ok-Err-clause-restored g c known image told =
     let turn = rw c.in-Block.is at (c.in_ok-log.ensures.answer so_far.stored so_far.read) in
     let block = rw c.in-Block.is at c.in_ok-log.ensures.block in
     let run = rw c.in-Ok-Err.field-0-is at
-    (c.in-Ok-Err.ensures.run (λ calls. so_far.retains.told ∙ known calls)
+    (c.in-Ok-Err.ensures.run (λ calls. so_far.retains.known ∙ known calls)
     (blocks_in so_far.stored) (so_far.run known).stands block.digest_is) in
     let damaged = not_run so_far.stored (g.C.Replay.kept c.loop-log.chain) (so_far.run known)
     c.in-Block.next image _ _ _ run.0 (turn.stands image told) in

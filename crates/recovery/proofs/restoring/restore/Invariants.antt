@@ -5,7 +5,7 @@ use Rattle.disk_model.specs.Disk.{content_of}
 use Rattle.block_codec.specs.declared.limits.TheConstants.{MAX_BLOCKS}
 use Rattle.block_log.specs.Reader.{AreRead}
 use Rattle.block_log.specs.declared.layout.Stored.{Stored}
-use Rattle.chain_replay.specs.Chain.{IsToldFor}
+use Rattle.chain_replay.specs.Chain.{IsKnownFor}
 use Rattle.recovery.specs.Restoring.{digests_of}
 use Rattle.recovery.proofs.Replaying.{AreRun}
 use Rattle.recovery.proofs.restoring.restore.Given as goal
@@ -14,7 +14,7 @@ abbrev pub invariant-loop-log : goal.invariant-loop-log
 invariant-loop-log g l = record {
   stored : List Stored;
   read : AreRead l.reader (content_of (g.M.Clock.disk l.machine (g.M.Clock.now l.machine))) stored;
-  run : IsToldFor g.C.Replay.calls_scratch (g.S.Scratch.state l.fn.scratch)
+  run : IsKnownFor g.C.Replay.calls_scratch (g.S.Scratch.state l.fn.scratch)
       → AreRun stored (g.C.Replay.kept l.chain);
   digests : (g.C.Replay.kept l.chain).digests ≡ digests_of stored;
   agrees : g.C.Replay.agrees l.chain (g.S.Scratch.state l.scratch);

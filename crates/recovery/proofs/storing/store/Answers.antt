@@ -31,4 +31,4 @@ returns-clause-added g c =
     c.requires.agrees told next in
     then_added g.M.Clock.now g.M.Clock.disk c.args.machine.now c.create.new.machine
     c.append-2.new.machine place content c.args.bytes.now blocks block told next none
-    c.in_ok-log.ensures.still_told c.in_ok-log.ensures.empty appended)
+    c.in_ok-log.ensures.still_known c.in_ok-log.ensures.empty appended)

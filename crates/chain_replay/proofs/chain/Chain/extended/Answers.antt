@@ -7,7 +7,7 @@ use Rattle.lc_base.specs.History.{IsLawful}
 use Rattle.lc_base.specs.declared.row.Row.{Row}
 use Rattle.lc_base.specs.declared.digest.Digest.{Digest}
 use Rattle.world_state.specs.declared.held.Held.{Held}
-use Rattle.chain_replay.specs.Chain.{ChainState, IsKept, StandsFor}
+use Rattle.chain_replay.specs.Chain.{ChainState, IsKeptChain, StandsFor}
 use Rattle.chain_replay.proofs.Chains.{is_after, stands_after}
 use Rattle.chain_replay.proofs.Kept.{next_lawful, next_kept}
 use Rattle.chain_replay.proofs.chain.Chain.extended.Goals as goal
@@ -28,8 +28,8 @@ invariant_of-chain c =
     let stands = c.in_ok-world.ensures.rows c.self.inside.rows c.in-Ok.run'.rows before c.in-Ok.ensures.staged in
     let kept = next_kept c.self.inside.digests c.self.inside.rows c.self.inside.world c.in-Ok.run'.rows c.args.block.now.number (length c.args.block.now.txs) c.self.invariant numbered c.in_ok-world.world c.args.digest
     (subst (λ (kept : ChainState). length kept.digests < MAX_BLOCKS) (sym c.self.view_is) c.requires.room.room) lawful c.in-Ok.ensures.lawful stands c.in_ok-world.ensures.no_rows c.in_ok-world.ensures.no_codes in
-    subst (λ (digests : List Digest). IsKept digests c.record.new.rows c.in_ok-world.world) (sym c.in-Ok-record.ensures.digests)
-    (subst (λ (rows : List Row). IsKept (c.self.inside.digests ++ c.args.digest ∷ []) rows c.in_ok-world.world) (sym (c.in-Ok-record.ensures.rows ∙ ap (λ (rows : List Row). rows ++ c.in-Ok.run'.rows) c.in-Ok.ensures.same)) kept)
+    subst (λ (digests : List Digest). IsKeptChain digests c.record.new.rows c.in_ok-world.world) (sym c.in-Ok-record.ensures.digests)
+    (subst (λ (rows : List Row). IsKeptChain (c.self.inside.digests ++ c.args.digest ∷ []) rows c.in_ok-world.world) (sym (c.in-Ok-record.ensures.rows ∙ ap (λ (rows : List Row). rows ++ c.in-Ok.run'.rows) c.in-Ok.ensures.same)) kept)
 
 pub returns-in-Ok-record-clause-stands : goal.returns-in-Ok-record-clause-stands
 returns-in-Ok-record-clause-stands c =

@@ -2,14 +2,14 @@ use Rattle.std.proofs.Common.{◌≡◌, true, List, [], ◌∷◌, ◌++◌, le
 use Rattle.std.proofs.Common.{arith}
 use Rattle.std.proofs.lemmas.List.{length-append}
 use Rattle.lc_base.specs.declared.row.Row.{Row}
-use Rattle.scratch_model.specs.Scratch.{is_told}
+use Rattle.scratch_model.specs.Scratch.{is_known}
 use Rattle.block_codec.specs.Reading.{block_in}
 use Rattle.block_codec.specs.declared.block.Block.{Block}
 use Rattle.chain_exec.specs.Compiled.{compiled_in}
 use Rattle.chain_exec.specs.Effect.{History}
 use Rattle.chain_exec.specs.Fold.{block_effects}
 use Rattle.chain_replay.specs.Chain.{placement_in}
-use Rattle.chain_replay.specs.Judging.{Added, judged, IsNextBlock}
+use Rattle.chain_replay.specs.Judging.{Added, judgement_of, IsNextBlock}
 use Rattle.chain_replay.proofs.Judgements.{added_is_next}
 use Rattle.rooted_chain.specs.Roots.{kept_in}
 use Rattle.recovery.specs.Node.{NodeState, AreOfBlocks, IsNodeOf}
@@ -56,10 +56,10 @@ invariant_of-result g c =
     c.in-Ok-store.ensures.count c.in-Ok-store.ensures.last
 
 module _ (g : Over) (c : After-drop-run g)
-    (told : is_told (g.S.Scratch.state c.args.scratch.now) ≡ true) (blocks : List Block)
+    (told : is_known (g.S.Scratch.state c.args.scratch.now) ≡ true) (blocks : List Block)
     (is : IsNodeOf c.args.self
     (g.M.Clock.disk c.args.machine.now (g.M.Clock.now c.args.machine.now)) blocks)
-    (judgement : judged compiled_in blocks (block_in c.args.bytes.now) ≡ Ok
+    (judgement : judgement_of compiled_in blocks (block_in c.args.bytes.now) ≡ Ok
     (Added c.args.block.now)) where
   -- the node, seen by its parts
   inner : IsNodeOf (the_view c.self.inside)
@@ -80,7 +80,7 @@ module _ (g : Over) (c : After-drop-run g)
       (g.M.Clock.disk c.store.new.machine (g.M.Clock.now c.store.new.machine)) blocks
       c.args.block.now (kept_in c.in-Ok.done.0) c.in-Ok-store.log
       inner (c.in-Ok.ensures.stands told blocks inner.kept c.requires.next.digest_is placed)
-      c.in-Ok-store.ensures.still_told c.in-Ok-store.ensures.agrees
+      c.in-Ok-store.ensures.still_known c.in-Ok-store.ensures.agrees
       (λ content shown. c.in-Ok-store.ensures.added (placement_in compiled_in) content blocks
       c.args.block.now shown
       (next_after c.args.self (g.M.Clock.disk c.args.machine.now (g.M.Clock.now c.args.machine.now))
@@ -116,7 +116,7 @@ returns-in-Ok-store-clause-ready g c = record {
   agrees = c.in-Ok.ensures.agrees;
   log = c.in-Ok-store.ensures.agrees;
   of = λ told_now.
-      let told = sym c.in-Ok.ensures.retains.told ∙ told_now in
+      let told = sym c.in-Ok.ensures.retains.known ∙ told_now in
       let node = c.requires.ready.of told in
       let judgement = is_added c.args.self.chain c.args.bytes.now node.0 c.args.block.now
       c.args.digest c.requires.next node.1.kept in

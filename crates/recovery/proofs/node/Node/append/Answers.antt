@@ -3,7 +3,7 @@ use Rattle.disk_model.specs.Disk.{Keeps}
 use Rattle.block_codec.specs.Reading.{block_in}
 use Rattle.chain_exec.specs.Compiled.{compiled_in}
 use Rattle.chain_replay.specs.Chain.{StandsFor}
-use Rattle.chain_replay.specs.Judging.{Taken, judged}
+use Rattle.chain_replay.specs.Judging.{Taken, judgement_of}
 use Rattle.chain_replay.specs.declared.refusal.Refusal.{Refusal}
 use Rattle.chain_replay.proofs.Judgements.{added}
 use Rattle.rooted_chain.specs.Roots.{kept_in}
@@ -14,7 +14,7 @@ use Rattle.recovery.proofs.node.Node.append.Goals as goal
 pub returns-in-Ok-Known-clause-images : goal.returns-in-Ok-Known-clause-images
 returns-in-Ok-Known-clause-images g c told blocks content is shown = still g.M.Clock.now
     g.M.Clock.disk c.args.machine.now c.args.self blocks content
-    (judged compiled_in blocks (block_in c.args.bytes.now)) is shown
+    (judgement_of compiled_in blocks (block_in c.args.bytes.now)) is shown
 
 pub returns-in-Ok-Next-clause-images : goal.returns-in-Ok-Next-clause-images
 returns-in-Ok-Next-clause-images g c told blocks content is shown =
@@ -31,12 +31,12 @@ returns-in-Ok-Next-clause-images g c told blocks content is shown =
 pub returns-in-Ok-Refused-clause-images : goal.returns-in-Ok-Refused-clause-images
 returns-in-Ok-Refused-clause-images g c told blocks content is shown = still g.M.Clock.now
     g.M.Clock.disk c.args.machine.now c.args.self blocks content
-    (judged compiled_in blocks (block_in c.args.bytes.now)) is shown
+    (judgement_of compiled_in blocks (block_in c.args.bytes.now)) is shown
 
 pub returns-in-Err-clause-images : goal.returns-in-Err-clause-images
 returns-in-Err-clause-images g c told blocks content is shown = still g.M.Clock.now g.M.Clock.disk
     c.args.machine.now c.args.self blocks content
-    (judged compiled_in blocks (block_in c.args.bytes.now)) is shown
+    (judgement_of compiled_in blocks (block_in c.args.bytes.now)) is shown
 
 pub returns-in-Ok-Known-clause-only_image : goal.returns-in-Ok-Known-clause-only_image
 returns-in-Ok-Known-clause-only_image g c unreached content shown = still_only g.M.Clock.now

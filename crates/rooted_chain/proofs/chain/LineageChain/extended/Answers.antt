@@ -6,7 +6,7 @@ use Rattle.std.specs.Cmp.Lexicographic.{pointwise}
 use Rattle.lc_base.specs.History.{IsLawful}
 use Rattle.lc_base.specs.declared.digest.Digest.{Digest}
 use Rattle.lc_base.specs.declared.row.Row.{Row}
-use Rattle.scratch_model.specs.Scratch.{is_told}
+use Rattle.scratch_model.specs.Scratch.{is_known}
 use Rattle.world_state.specs.declared.held.Held.{Held}
 use Rattle.chain_replay.specs.Chain.{IsAfter}
 use Rattle.chain_replay.proofs.Chains.{is_after, stands_after}
@@ -21,21 +21,21 @@ use Rattle.rooted_chain.proofs.chain.LineageChain.extended.Goals.{In-Ok-add_bloc
 
 pub add_block-requires-clause-lawful : goal.add_block-requires-clause-lawful
 add_block-requires-clause-lawful g c =
-    subst (λ (rows : List Row). IsLawful (rows ++ c.in-Ok.run'.rows)) (sym c.in-Ok.ensures.same.rows)
+    subst (λ (rows : List Row). IsLawful (rows ++ c.in-Ok.run'.rows)) (sym c.in-Ok.ensures.leaves.same.rows)
     (run_lawful c.self.inside.lineage c.self.inside.world c.args.self c.self.view_is c.self.invariant c.args.block.now c.requires.room c.requires.is_block.few_txs c.in-Ok.run'.rows c.in-Ok.ensures.lawful)
 
 module _ (g : Over) (c : In-Ok-add_block g) where
   rows_added : c.in-Ok-add_block.lineage.rows ≡ c.self.inside.lineage.rows ++ c.in-Ok.run'.rows
-  rows_added = ap (λ (ledger : Ledger). ledger.rows) c.in-Ok-add_block.ensures.kept ∙ ap (λ (rows : List Row). rows ++ c.in-Ok.run'.rows) c.in-Ok.ensures.same.rows
+  rows_added = ap (λ (ledger : Ledger). ledger.rows) c.in-Ok-add_block.ensures.kept ∙ ap (λ (rows : List Row). rows ++ c.in-Ok.run'.rows) c.in-Ok.ensures.leaves.same.rows
 
   digest_added : c.in-Ok-add_block.lineage.digests ≡ c.self.inside.lineage.digests ++ c.args.digest ∷ []
-  digest_added = ap (λ (ledger : Ledger). ledger.digests) c.in-Ok-add_block.ensures.kept ∙ ap (λ (digests : List Digest). digests ++ c.args.digest ∷ []) c.in-Ok.ensures.same.digests
+  digest_added = ap (λ (ledger : Ledger). ledger.digests) c.in-Ok-add_block.ensures.kept ∙ ap (λ (digests : List Digest). digests ++ c.args.digest ∷ []) c.in-Ok.ensures.leaves.same.digests
 
   abbrev longer : RootedState
   longer = rooted_of c.in-Ok-add_block.lineage c.in-Ok-commit.world.codes
 
-  -- where it is told which bytes the device holds, the block did what it is defined to do
-  after : is_told (g.S.Scratch.state c.args.scratch.now) ≡ true → IsAfter (kept_in c.args.self) c.args.block.now c.args.digest (kept_in longer) c.in-Ok.run'
+  -- where it is known which bytes the device holds, the block did what it is defined to do
+  after : is_known (g.S.Scratch.state c.args.scratch.now) ≡ true → IsAfter (kept_in c.args.self) c.args.block.now c.args.digest (kept_in longer) c.in-Ok.run'
   after told =
       subst (λ (r : RootedState). IsAfter (kept_in r) c.args.block.now c.args.digest (kept_in longer) c.in-Ok.run') c.self.view_is
       (is_after c.self.inside.lineage.digests c.in-Ok-add_block.lineage.digests c.self.inside.lineage.rows c.in-Ok-add_block.lineage.rows c.self.inside.world c.run_next.new.world c.in-Ok-commit.world c.args.block.now c.args.digest c.in-Ok.run'

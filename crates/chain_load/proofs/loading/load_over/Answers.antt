@@ -2,7 +2,7 @@ use Rattle.std.proofs.Common.{ap}
 use Rattle.merkle_dag.specs.Lineage.{LineageState}
 use Rattle.rooted_chain.specs.Roots.{kept_in}
 use Rattle.chain_load.proofs.Told.{load_is}
-use Rattle.chain_load.proofs.loading.loaded.Goals as goal
+use Rattle.chain_load.proofs.loading.load_over.Goals as goal
 
 pub returns-in-Ok-clause-load : goal.returns-in-Ok-clause-load
 returns-in-Ok-clause-load g c seed stands is =

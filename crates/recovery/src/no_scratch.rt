@@ -1,0 +1,28 @@
+//! The scratch device of a chain that calls none.
+
+ghost use Rattle.std.specs.Prelude.{nat_le, None};
+
+use lc_io::{Failed, one_more};
+use scratch_model::Scratch;
+
+/// A device that keeps no byte: each call of it fails.
+#[derive(Drop)]
+pub struct NoScratch {
+    pub faults: u64,
+}
+
+impl Scratch for NoScratch {
+    ghost state = { λ _. record { kept = λ place count. nat_le count 0; held = None } };
+
+    ghost scratch_faults = { λ device. device.faults };
+
+    fn put(&mut self, _bytes: &[u8]) -> Result<u64, Failed> {
+        self.faults = one_more(self.faults);
+        Err(Failed)
+    }
+
+    fn get(&mut self, _place: u64, _buffer: &mut [u8]) -> Result<(), Failed> {
+        self.faults = one_more(self.faults);
+        Err(Failed)
+    }
+}
