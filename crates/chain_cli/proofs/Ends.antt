@@ -9,8 +9,7 @@ use Rattle.contract_check.specs.declared.fault.Fault.{Fault}
 use Rattle.chain_pack.specs.declared.error.PackError.{PackError}
 use Rattle.cli_append.specs.declared.ending.AppendEnd.{AppendEnd}
 use Rattle.cli_append.specs.declared.ending.AppendEnd.TheVariants as appends
-use Rattle.cli_append.specs.declared.ending.AppendStop.{AppendStop}
-use Rattle.cli_append.specs.declared.ending.AppendStop.TheVariants as halts
+use Rattle.cli_append.specs.declared.ending.RunStop.{RunStop}
 use Rattle.cli_words.specs.Words.{CanBeGiven, IsCount}
 use Rattle.cli_words.specs.declared.words.Generation.{Generation}
 use Rattle.cli_words.specs.declared.words.Command.{Command}
@@ -26,11 +25,10 @@ use Rattle.cli_output.specs.Output.{Output, output_of, fmt_outcome, source_outco
 use Rattle.cli_output.specs.Output.{Long, Source, uses_disk}
 use Rattle.cli_output.specs.Running.{MayEnd, found_no_log}
 use Rattle.cli_output.specs.Telling.{status_of_result, status_of_stop, stop_of_outcome}
-use Rattle.cli_output.specs.Telling.{append_answer}
+use Rattle.cli_output.specs.Telling.{OnlyTells, append_answer}
 use Rattle.cli_output.specs.declared.stop.OutcomeStop.{OutcomeStop}
 use Rattle.cli_output.specs.declared.stop.OutcomeStop.TheVariants as outcomes
-use Rattle.cli_output.specs.declared.stop.RunStop.{RunStop}
-use Rattle.cli_output.specs.declared.stop.RunStop.TheVariants as stops
+use Rattle.cli_append.specs.declared.ending.RunStop.TheVariants as stops
 
 -- ---- inputs that are read whole
 
@@ -65,40 +63,39 @@ pack_ends outcome found is = subst (λ (o : Outcome). MayEnd (status_of o.ending
 
 -- ---- `append`
 
-pub answer_ends : (answer : Result AppendEnd AppendStop)
+pub answer_ends : (answer : Result AppendEnd RunStop)
     → MayEnd (status_of_result (append_answer answer)) (Some Append)
 answer_ends (Ok appends.Whole) = refl
 answer_ends (Ok (appends.Refused frame cause)) = refl
-answer_ends (Err halts.Unreadable) = refl
-answer_ends (Err halts.Untold) = tt
-answer_ends (Err halts.DiskFault) = refl
-answer_ends (Err halts.ScratchFault) = refl
-answer_ends (Err halts.Memory) = tt
+answer_ends (Err stops.Unreadable) = refl
+answer_ends (Err stops.Untold) = tt
+answer_ends (Err stops.DiskFault) = refl
+answer_ends (Err stops.ScratchFault) = refl
+answer_ends (Err stops.Memory) = tt
 
-pub answer_has_log : (answer : Result AppendEnd AppendStop)
+pub answer_has_log : (answer : Result AppendEnd RunStop)
     → found_no_log (status_of_result (append_answer answer)) ≡ false
 answer_has_log (Ok appends.Whole) = refl
 answer_has_log (Ok (appends.Refused frame cause)) = refl
-answer_has_log (Err halts.Unreadable) = refl
-answer_has_log (Err halts.Untold) = refl
-answer_has_log (Err halts.DiskFault) = refl
-answer_has_log (Err halts.ScratchFault) = refl
-answer_has_log (Err halts.Memory) = refl
+answer_has_log (Err stops.Unreadable) = refl
+answer_has_log (Err stops.Untold) = refl
+answer_has_log (Err stops.DiskFault) = refl
+answer_has_log (Err stops.ScratchFault) = refl
+answer_has_log (Err stops.Memory) = refl
 
 -- ---- whole runs
 
 -- a command that tells what it makes
 pub done_ends : (result : Result Ending RunStop) (command : Command)
-    → IfOk result (λ ending. ending ≡ endings.Done) → (result ≡ Err stops.Unreadable → ⊥)
-    → (result ≡ Err stops.DiskFault → ⊥) → (result ≡ Err stops.ScratchFault → ⊥)
+    → IfOk result (λ ending. ending ≡ endings.Done) → OnlyTells result
     → MayEnd (status_of_result result) (Some command)
-done_ends (Ok ending) command done reads writes keeps = subst
+done_ends (Ok ending) command done only = subst
     (λ (e : Ending). MayEnd (status_of e) (Some command)) (sym done) refl
-done_ends (Err stops.Unreadable) command done reads writes keeps = absurd (reads refl)
-done_ends (Err stops.Untold) command done reads writes keeps = tt
-done_ends (Err stops.DiskFault) command done reads writes keeps = absurd (writes refl)
-done_ends (Err stops.ScratchFault) command done reads writes keeps = absurd (keeps refl)
-done_ends (Err stops.Memory) command done reads writes keeps = tt
+done_ends (Err stops.Unreadable) command done only = absurd (only.reads refl)
+done_ends (Err stops.Untold) command done only = tt
+done_ends (Err stops.DiskFault) command done only = absurd (only.writes refl)
+done_ends (Err stops.ScratchFault) command done only = absurd (only.keeps refl)
+done_ends (Err stops.Memory) command done only = tt
 
 pub load_ends : {E : Type 0} (generation : Generation) (found : Result Outcome E)
     → IfOk found (λ outcome. outcome.ending ≡ endings.Done)

@@ -12,14 +12,14 @@ use Rattle.block_log.specs.Standing.{standing}
 use Rattle.recovery.specs.Node.{NodeState, IsNodeOf, IsNodeStarted, next_in_chain}
 use Rattle.crash_promises.specs.Promises.{NoChange, Appends, MayLeaveAny}
 use Rattle.crash_promises.proofs.Tellings.{still}
-use Rattle.cli_append.specs.Appending.{IsTold, GoesFrom}
+use Rattle.cli_append.specs.Appending.{IsKnown, GoesFrom}
 use Rattle.cli_append.proofs.Frames.{rests_each}
 
 rests_told : (state : Option DiskState) (content : List ℕ) → IsSettled state → content_of state ≡ Some content → Rests state (λ c. c ≡ content)
 rests_told None content rests told = tt
 rests_told (Some s) content rests told = (rests, cc told)
 
-is_told : (state : Option DiskState) (content : List ℕ) → content_of state ≡ Some content → IsTold state
+is_told : (state : Option DiskState) (content : List ℕ) → content_of state ≡ Some content → IsKnown state
 is_told None content told = absurd (cc told)
 is_told (Some s) content told = refl
 
@@ -38,14 +38,14 @@ module _ {D : Type 0} (now : D → ℕ) (disk : D → ℕ → Option DiskState) 
   -- `append`, over the node that it started with
   pub append_any : (old mid new : D) (node : NodeState) → IsSettled (disk old (now old)) → Stays now disk old mid
       → ((content : List ℕ) → content_of (disk old (now old)) ≡ Some content → IsNodeStarted (disk mid (now mid)) (standing next_in_chain content) (Ok node))
-      → ((blocks : List Block) → IsNodeOf node (disk mid (now mid)) blocks → IsTold (disk mid (now mid)) → Keeps now disk mid new (GoesFrom blocks))
+      → ((blocks : List Block) → IsNodeOf node (disk mid (now mid)) blocks → IsKnown (disk mid (now mid)) → Keeps now disk mid new (GoesFrom blocks))
       → (content : List ℕ) → content_of (disk old (now old)) ≡ Some content → Keeps now disk old new (MayLeaveAny next_in_chain content)
   append_any old mid new node settled begins started goes content here =
       let s = started content here in
       let blocks : List Block = s.0 in
-      let still_told : IsTold (disk mid (now mid)) = ap is_some begins.last ∙ is_told (disk old (now old)) content here in
+      let still_known : IsKnown (disk mid (now mid)) = ap is_some begins.last ∙ is_told (disk old (now old)) content here in
       then_keeps now disk old mid new (MayLeaveAny next_in_chain content) (stays_any old mid content settled here begins)
-      (weaker now disk mid new (GoesFrom blocks) (MayLeaveAny next_in_chain content) (goes blocks s.2 still_told)
+      (weaker now disk mid new (GoesFrom blocks) (MayLeaveAny next_in_chain content) (goes blocks s.2 still_known)
       (λ c more. (Appends more.0, (blocks, s.1, (length more.0, more.1 ∙ ap (λ (b : List Block). Some (blocks ++ b)) (sym (take-length more.0)))))))
 
   -- a command that changes the log or does not

@@ -25,7 +25,7 @@ use Rattle.proof_commands.proofs.Verified.{is_verification, one_answer}
 use Rattle.cli_lines.specs.declared.whole.TheConstants.{MAX_WHOLE_INPUT_BYTES}
 use Rattle.chain_exec.specs.Compiled.{Compiler, compiled_in}
 use Rattle.chain_exec.proofs.TheLaws.{one_compiler}
-use Rattle.chain_replay.specs.Judging.{Taken, judged, added_by}
+use Rattle.chain_replay.specs.Judging.{Taken, judgement_of, added_by}
 use Rattle.chain_replay.specs.declared.refusal.Refusal.{Refusal}
 use Rattle.chain_input.specs.Folding.{Fold, taken_before, fold_after_frame, fold_step, fold_from, fold_input}
 use Rattle.cli_output.specs.Output.{Output, output_of, scan_output, usage_output, long_output, pack_output, gen_output, load_output, append_output, root_output, ask_output, prove_output, on_log, next_by, source_outcome, IsFmtOutput, Long, Source, IsVerifyOutput, LongProof, Verified, IsExposeOutput, IsOnLog, Wants, IsWanted, IsOneOutput}
@@ -93,8 +93,8 @@ module _ (compile : Compiler) (a b : Decoder) (is_a : IsDecoder a) (is_b : IsDec
   step_same f g same taken blocks input fits Many e = refl
   step_same f g same taken blocks input fits (Frame frame rest) e =
       let bytes = frame_bytes taken input frame rest fits e in
-      ap (λ (r : Result Block ℕ). fold_after_frame f taken blocks rest (judged compile blocks r)) (decoders_agree a b is_a is_b frame bytes.0)
-      ∙ next_same f g same taken blocks rest bytes.1 (judged compile blocks (b frame))
+      ap (λ (r : Result Block ℕ). fold_after_frame f taken blocks rest (judgement_of compile blocks r)) (decoders_agree a b is_a is_b frame bytes.0)
+      ∙ next_same f g same taken blocks rest bytes.1 (judgement_of compile blocks (b frame))
 
   fold_same : (more : ℕ) (blocks : List Block) (input : List ℕ) → IsBytes input → fold_from a compile more blocks input ≡ fold_from b compile more blocks input
   unfolding fold_from

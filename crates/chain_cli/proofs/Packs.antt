@@ -2,7 +2,7 @@
 use Rattle.std.proofs.Common.{◌≡◌, ℕ, ◌+◌, ◌<◌, ◌≤◌, Bool, true, false, cond, ltb, List, [], length, drop, Option, Some, None, Result, Ok, Err, sym, ap, ◌∙◌, subst, arith}
 use Rattle.std.specs.Prelude.{codes, IfOk, IfSome}
 use Rattle.std.proofs.lemmas.Bool.Decides.{nat_tests}
-use Rattle.chain_pack.specs.Draft.{pack_fault, packed}
+use Rattle.chain_pack.specs.Draft.{pack_fault, texts_of_draft}
 use Rattle.chain_pack.specs.declared.error.PackError.{PackError}
 use Rattle.cli_lines.specs.Outcome.{bad_input}
 use Rattle.cli_lines.specs.Whole.{IsWholeInput}
@@ -12,8 +12,8 @@ use Rattle.cli_output.specs.Blocks.{draft_cause, draft_outcome, TellsFault}
 use Rattle.cli_output.specs.Output.{Output, output_of, long_output, pack_output}
 use Rattle.cli_output.specs.Scanning.{GivesOutput}
 
-by_length : (long : Bool) (input : List ℕ) → ltb MAX_WHOLE_INPUT_BYTES (length input) ≡ long → pack_output input ≡ cond long (long_output input) (output_of (draft_outcome (packed input)) [])
-by_length long input is = ap (λ (b : Bool). cond b (long_output input) (output_of (draft_outcome (packed input)) [])) is
+by_length : (long : Bool) (input : List ℕ) → ltb MAX_WHOLE_INPUT_BYTES (length input) ≡ long → pack_output input ≡ cond long (long_output input) (output_of (draft_outcome (texts_of_draft input)) [])
+by_length long input is = ap (λ (b : Bool). cond b (long_output input) (output_of (draft_outcome (texts_of_draft input)) [])) is
 
 is_long : (input : List ℕ) → MAX_WHOLE_INPUT_BYTES < length input → ltb MAX_WHOLE_INPUT_BYTES (length input) ≡ true
 is_long input long = grind (arith, nat_tests)
@@ -31,15 +31,15 @@ long_here (Some input) left outcome (long, rest) is =
 pub long_packed : (first left found : Option (List ℕ)) (outcome : Outcome) → found ≡ None → IfSome first (λ input. IsWholeInput found input left) → outcome ≡ bad_input (codes "long") → IfSome first (λ input. GivesOutput outcome left (pack_output input))
 long_packed first left found outcome none whole is = long_here first left outcome (subst (λ (f : Option (List ℕ)). IfSome first (λ input. IsWholeInput f input left)) none whole) is
 
-draft_here : (first left : Option (List ℕ)) (bytes : List ℕ) (outcome : Outcome) → IfSome first (λ input. IsWholeInput (Some bytes) input left) → outcome ≡ draft_outcome (packed bytes) → IfSome first (λ input. GivesOutput outcome left (pack_output input))
+draft_here : (first left : Option (List ℕ)) (bytes : List ℕ) (outcome : Outcome) → IfSome first (λ input. IsWholeInput (Some bytes) input left) → outcome ≡ draft_outcome (texts_of_draft bytes) → IfSome first (λ input. GivesOutput outcome left (pack_output input))
 draft_here None left bytes outcome whole is = tt
 draft_here (Some input) left bytes outcome (same, short, rest) is =
-    let output : pack_output input ≡ output_of (draft_outcome (packed input)) [] = by_length false input (is_short input short) in
-    let outcome_is : outcome ≡ draft_outcome (packed input) = is ∙ ap (λ (draft : List ℕ). draft_outcome (packed draft)) same in
+    let output : pack_output input ≡ output_of (draft_outcome (texts_of_draft input)) [] = by_length false input (is_short input short) in
+    let outcome_is : outcome ≡ draft_outcome (texts_of_draft input) = is ∙ ap (λ (draft : List ℕ). draft_outcome (texts_of_draft draft)) same in
     (output ∙ ap (λ (o : Outcome). output_of o []) (sym outcome_is) ∙ ap (λ (o : Output). output_of outcome o.left) (sym output), rest ∙ ap (λ (o : Output). Some o.left) (sym output))
 
 -- a draft that was read whole
-pub draft_packed : (first left found : Option (List ℕ)) (bytes : List ℕ) (outcome : Outcome) → found ≡ Some bytes → IfSome first (λ input. IsWholeInput found input left) → outcome ≡ draft_outcome (packed bytes)
+pub draft_packed : (first left found : Option (List ℕ)) (bytes : List ℕ) (outcome : Outcome) → found ≡ Some bytes → IfSome first (λ input. IsWholeInput found input left) → outcome ≡ draft_outcome (texts_of_draft bytes)
     → IfSome first (λ input. GivesOutput outcome left (pack_output input))
 draft_packed first left found bytes outcome some whole is = draft_here first left bytes outcome (subst (λ (f : Option (List ℕ)). IfSome first (λ input. IsWholeInput f input left)) some whole) is
 

@@ -18,17 +18,17 @@ use Rattle.block_log.specs.Standing.{chain_of, standing}
 use Rattle.chain_exec.specs.Compiled.{compiled_in}
 use Rattle.chain_replay.specs.Judging.{added_by_all}
 use Rattle.chain_input.specs.Folding.{Fold, FoldEnd, fold_from, fold_input}
-use Rattle.chain_input.specs.declared.stop.Stop.{Stop}
+use Rattle.lc_base.specs.declared.host_error.HostError.{HostError}
 use Rattle.recovery.specs.Node.{NodeState, IsNodeOf, IsNodeStarted, IsNoStart, next_in_chain}
 use Rattle.recovery.specs.declared.errors.StartError.{StartError}
 use Rattle.crash_promises.specs.Promises.{plain, NoChange, Appends, Telling, IsPartly, MayLeave}
 use Rattle.crash_promises.specs.Promises.{IsChanged}
 use Rattle.crash_promises.proofs.Tellings.{told_since}
-use Rattle.cli_append.specs.Appending.{AppendsAll, HasEnded as Appended, IsTold, fold_lines}
+use Rattle.cli_append.specs.Appending.{AppendsAll, HasEnded as Appended, IsKnown, fold_lines}
 use Rattle.cli_append.specs.Appending.{fold_end}
 use Rattle.cli_append.specs.declared.ending.AppendEnd.{AppendEnd}
-use Rattle.cli_append.specs.declared.ending.AppendStop.{AppendStop}
-use Rattle.chain_gen.specs.Generator.{generated}
+use Rattle.cli_append.specs.declared.ending.RunStop.{RunStop}
+use Rattle.chain_gen.specs.Generator.{blocks_of_seed}
 use Rattle.cli_words.specs.declared.words.Generation.{Generation}
 use Rattle.cli_words.specs.declared.words.Command.{Command}
 use Rattle.cli_words.specs.declared.words.Command.TheVariants.{Scan, Fmt, Pack, Gen, Load, Append}
@@ -46,9 +46,8 @@ use Rattle.cli_output.specs.Output.{fold_ending, IsFmtOutput, Long, Source, IsVe
 use Rattle.cli_output.specs.Output.{LongProof, Verified}
 use Rattle.cli_output.specs.Running.{came_to_end, leaves, appends_none, Meets, IsGiven, IsRun}
 use Rattle.cli_output.specs.Scanning.{GivesOutput, IsFmtOutcome, IsVerifyOutcome}
-use Rattle.cli_output.specs.Telling.{status_of_result, status_of_usage, append_stop, append_answer}
+use Rattle.cli_output.specs.Telling.{status_of_result, status_of_usage, append_answer}
 use Rattle.cli_output.specs.Telling.{Says, TellsResult, TellsStart}
-use Rattle.cli_output.specs.declared.stop.RunStop.{RunStop}
 use Rattle.chain_cli.proofs.OneOutput.{some_output}
 use Rattle.cli_output.proofs.Meets.{ending_ends, stop_stops, told_input, left_same, left_read}
 use Rattle.cli_output.proofs.Meets.{rests_given, on_log_blocks, content_stays, quiet_images}
@@ -57,7 +56,7 @@ use Rattle.cli_output.proofs.Meets.{said_met, reading_since, start_met}
 -- ---- what is given
 
 told_disk : (state : Option DiskState) (content : List ℕ) → IsGiven true (content_of state) content
-    → IsTold state
+    → IsKnown state
 told_disk None content given = absurd given
 told_disk (Some s) content given = refl
 
@@ -154,7 +153,7 @@ module _ {D : Type 0} (now : D → ℕ) (disk : D → ℕ → Option DiskState)
       (left : Option (List ℕ)) (held : Bool) → IsSettled (disk old (now old))
       → Stays now disk old new
       → Telling next_in_chain now disk told old new
-      (map plain (map frame (generated generation.blocks generation.seed))) (is_ok result)
+      (map plain (map frame (blocks_of_seed generation.blocks generation.seed))) (is_ok result)
       → IfOk result (λ ending. ending ≡ endings.Done)
       → IsRun now disk told old new (status_of_result result) left left held block_in compiled_in
       (Some (Gen generation))
@@ -163,7 +162,7 @@ module _ {D : Type 0} (now : D → ℕ) (disk : D → ℕ → Option DiskState)
         gen_output generation input,
         refl,
         said_met now disk told old new content
-            (outcome_with (map frame (generated generation.blocks generation.seed)) endings.Done) result
+            (outcome_with (map frame (blocks_of_seed generation.blocks generation.seed)) endings.Done) result
             left left input (rests_given false (disk old (now old)) content settled given) stays
             (record { lines = lines; ending = ending }) (left_same left input given_input),
       )
@@ -190,7 +189,7 @@ module _ {D : Type 0} (now : D → ℕ) (disk : D → ℕ → Option DiskState)
 
   reading_met : (old new : D) (Wanted : Output → Type 0) (some : Output) → Wanted some
       → some.change ≡ NoChange
-      → (found : Result Outcome Stop) (result : Result Ending RunStop)
+      → (found : Result Outcome HostError) (result : Result Ending RunStop)
       (left_old left_new : Option (List ℕ)) (input content : List ℕ)
       → Rests (disk old (now old)) (λ c. c ≡ content) → Stays now disk old new
       → left_old ≡ Some input → TellsResult next_in_chain now disk told old new found result
@@ -204,14 +203,14 @@ module _ {D : Type 0} (now : D → ℕ) (disk : D → ℕ → Option DiskState)
       reading_since now disk told old old new Wanted some wanted none found result left_old left_new
       input content rests stays refl left_is says is
 
-  gives : (found : Result Outcome Stop) (left_new : Option (List ℕ)) (wanted : Output)
+  gives : (found : Result Outcome HostError) (left_new : Option (List ℕ)) (wanted : Output)
       → IfOk found (λ outcome. GivesOutput outcome left_new wanted)
       → IfOk found (λ outcome. (rest : List ℕ) × (left_new ≡ Some rest)
       × (output_of outcome rest ≡ wanted))
   gives (Ok outcome) left_new wanted (is, left) = (wanted.left, left, sym is)
   gives (Err stop) left_new wanted is = tt
 
-  pub scan_run : (old new : D) (query : Query) (found : Result Outcome Stop)
+  pub scan_run : (old new : D) (query : Query) (found : Result Outcome HostError)
       (result : Result Ending RunStop) (left_old left_new : Option (List ℕ)) (held : Bool)
       → IsSettled (disk old (now old)) → Stays now disk old new
       → TellsResult next_in_chain now disk told old new found result
@@ -237,7 +236,7 @@ module _ {D : Type 0} (now : D → ℕ) (disk : D → ℕ → Option DiskState)
   pack_no_change true a b is_a is_b = is_a
   pack_no_change false a b is_a is_b = is_b
 
-  pub pack_run : (old new : D) (found : Result Outcome Stop) (result : Result Ending RunStop)
+  pub pack_run : (old new : D) (found : Result Outcome HostError) (result : Result Ending RunStop)
       (left_old left_new : Option (List ℕ)) (held : Bool) → IsSettled (disk old (now old))
       → Stays now disk old new → TellsResult next_in_chain now disk told old new found result
       → IfSome left_old (λ input. IfOk found
@@ -254,7 +253,7 @@ module _ {D : Type 0} (now : D → ℕ) (disk : D → ℕ → Option DiskState)
       (given_here (λ input. IfOk found
       (λ outcome. GivesOutput outcome left_new (pack_output input))) left_old input left_is is))
 
-  pub fmt_run : (old new : D) (found : Result Outcome Stop) (result : Result Ending RunStop)
+  pub fmt_run : (old new : D) (found : Result Outcome HostError) (result : Result Ending RunStop)
       (left_old left_new : Option (List ℕ)) (held : Bool) → IsSettled (disk old (now old))
       → Stays now disk old new → TellsResult next_in_chain now disk told old new found result
       → IfSome left_old (λ input. IfOk found (λ outcome. IsFmtOutcome outcome left_new input))
@@ -270,7 +269,7 @@ module _ {D : Type 0} (now : D → ℕ) (disk : D → ℕ → Option DiskState)
       (given_here (λ input. IfOk found (λ outcome. IsFmtOutcome outcome left_new input)) left_old
       input left_is is)
 
-  pub verify_run : (old new : D) (root : Digest) (query : Query) (found : Result Outcome Stop)
+  pub verify_run : (old new : D) (root : Digest) (query : Query) (found : Result Outcome HostError)
       (result : Result Ending RunStop) (left_old left_new : Option (List ℕ)) (held : Bool)
       → IsSettled (disk old (now old)) → Stays now disk old new
       → TellsResult next_in_chain now disk told old new found result
@@ -321,7 +320,7 @@ module _ {D : Type 0} (now : D → ℕ) (disk : D → ℕ → Option DiskState)
   changed (Some s) content blocks added is rests = (rests.0, (blocks, is, rests.1))
 
   append_met : (old mid new : D) (content : List ℕ) (blocks : List Block) (fold : Fold)
-      (answer : Result AppendEnd AppendStop) (left_old left_new : Option (List ℕ)) (input : List ℕ)
+      (answer : Result AppendEnd RunStop) (left_old left_new : Option (List ℕ)) (input : List ℕ)
       → left_old ≡ Some input → chain_of next_in_chain content ≡ Some blocks
       → Stays now disk old mid
       → Keeps now disk old new (MayLeave next_in_chain content (Appends (added_by_all fold.taken)))
@@ -349,7 +348,7 @@ module _ {D : Type 0} (now : D → ℕ) (disk : D → ℕ → Option DiskState)
       }
   append_met old mid new content blocks fold (Err stop) left_old left_new input left_is is begins
       images lines unwritten ended =
-      let halts = stop_stops (append_stop stop) in
+      let halts = stop_stops stop in
       record {
         lines = subst (λ (all : Bool). Telling next_in_chain now disk told old new
             (fold_lines compiled_in blocks fold) all) (sym halts) lines;
@@ -358,7 +357,7 @@ module _ {D : Type 0} (now : D → ℕ) (disk : D → ℕ → Option DiskState)
         ended = λ e. absurd (cc (halts, e));
       }
 
-  append_run : (old mid new : D) (node : NodeState) (answer : Result AppendEnd AppendStop)
+  append_run : (old mid new : D) (node : NodeState) (answer : Result AppendEnd RunStop)
       (left_old left_new : Option (List ℕ)) (held : Bool) → IsSettled (disk old (now old))
       → Stays now disk old mid → told mid ≡ told old
       → (held ≡ true → (content : List ℕ) → content_of (disk old (now old)) ≡ Some content
@@ -377,7 +376,7 @@ module _ {D : Type 0} (now : D → ℕ) (disk : D → ℕ → Option DiskState)
       let blocks : List Block = s.0 in
       let fold : Fold = fold_from block_in compiled_in (MAX_FRAMES + 1) blocks input in
       let appends = all (heard refl) blocks input s.2 left_is in
-      let here : IsTold (disk mid (now mid)) = ap is_some begins.last
+      let here : IsKnown (disk mid (now mid)) = ap is_some begins.last
       ∙ told_disk (disk old (now old)) content given in
       let rests = rests_given true (disk old (now old)) content settled given in
       let images : Keeps now disk old new
@@ -397,7 +396,7 @@ module _ {D : Type 0} (now : D → ℕ) (disk : D → ℕ → Option DiskState)
             appends.unwritten appends.ended,
       )
 
-  pub append_run_is : (old mid new : D) (node : NodeState) (answer : Result AppendEnd AppendStop)
+  pub append_run_is : (old mid new : D) (node : NodeState) (answer : Result AppendEnd RunStop)
       (result : Result Ending RunStop) (left_old left_new : Option (List ℕ)) (held : Bool)
       → result ≡ append_answer answer → IsSettled (disk old (now old)) → Stays now disk old mid
       → told mid ≡ told old

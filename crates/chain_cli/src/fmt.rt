@@ -4,21 +4,24 @@ ghost use Rattle.lc_base.specs.Faults.{HasCause};
 ghost use Rattle.std.specs.Prelude.{◌≡◌, ◌≤◌, ℕ, List, [], ◌∷◌, ◌++◌, length, string_bytes, Some, IfOk, IfSome, OnOk, IsErrOf};
 ghost use Rattle.contract_tree.specs.Tree.{contract_of};
 ghost use Rattle.contract_check.specs.Faults.{check_fault};
-ghost use Rattle.cli_lines.specs.declared.whole.TheConstants.{MAX_WHOLE_INPUT_BYTES};
-ghost use Rattle.cli_lines.specs.Lines.{syntax_word, syntax_cause, check_word, check_cause};
-ghost use Rattle.cli_lines.specs.Outcome.{status_of, bad_input};
+ghost use Rattle.cli_lines.specs.{
+  declared.whole.TheConstants.{MAX_WHOLE_INPUT_BYTES},
+  Lines.{syntax_word, syntax_cause, check_word, check_cause},
+  Outcome.{status_of, bad_input},
+};
 ghost use Rattle.cli_words.specs.declared.words.Command.TheVariants.{Fmt};
-ghost use Rattle.cli_output.specs.Output.{fmt_outcome, IsFmtOutput, output_of};
-ghost use Rattle.cli_output.specs.Running.{MayEnd};
-ghost use Rattle.cli_output.specs.Scanning.{IsFmtOutcome};
-ghost use Rattle.cli_output.specs.Texts.{last_line, lines_after, lines_of};
+ghost use Rattle.cli_output.specs.{
+  Output.{fmt_outcome, IsFmtOutput, output_of},
+  Running.{MayEnd},
+  Scanning.{IsFmtOutcome},
+  Texts.{last_line, lines_after, lines_of},
+};
 
-use chain_input::Stop;
 use cli_lines::{Ending, Outcome, read_whole};
 use contract_check::{CheckError, CheckKind, check};
 use contract_parse::{Contract, SyntaxError, SyntaxKind, parse};
 use contract_print::print;
-use lc_base::{Bytes, Memory, Seq};
+use lc_base::{Bytes, HostError, Memory, Seq};
 use lc_io::Source;
 use std::alloc::{AllocError, Global};
 use std::mem;
@@ -142,10 +145,10 @@ fn source_outcome(alloc: Global, source: &[u8]) -> Result<Outcome, Memory>
 }
 
 /// The canonical text of the contract that the input is, or its first fault.
-pub fn fmt<I: Source>(alloc: Global, source: &mut I) -> Result<Outcome, Stop>
+pub fn fmt<I: Source>(alloc: Global, source: &mut I) -> Result<Outcome, HostError>
     ensures outcome { IfSome (I.left source.old) (λ input. IfOk result (λ outcome. IsFmtOutcome outcome (I.left source.new) input)) }
     ensures ends { IfOk result (λ outcome. MayEnd (status_of outcome.ending) (Some Fmt)) }
-    ensures cause { HasCause (I.source_faults source.old) (I.source_faults source.new) (IsErrOf result Stop.Fault) }
+    ensures cause { HasCause (I.source_faults source.old) (I.source_faults source.new) (IsErrOf result HostError.Fault) }
 {
     match read_whole(alloc, source)? {
         None => Ok(Outcome::bad_input(alloc, "long")?),

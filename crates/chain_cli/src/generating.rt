@@ -2,11 +2,11 @@
 
 ghost use Rattle.std.specs.Prelude.{◌≡◌, [], ◌∷◌, map, is_ok, IfOk, IsErrOf};
 ghost use Rattle.lc_base.specs.Faults.{HasCause};
-ghost use Rattle.lc_io.specs.Disk.{Stays};
+ghost use Rattle.disk_model.specs.Leaving.{LeavesDisk};
 ghost use Rattle.block_log.specs.Standing.{NextBlock};
-ghost use Rattle.chain_gen.specs.Generator.{generated};
+ghost use Rattle.chain_gen.specs.Generator.{blocks_of_seed};
 ghost use Rattle.crash_promises.specs.Promises.{plain, Telling};
-ghost use Rattle.cli_output.specs.Blocks.{frame};
+ghost use Rattle.cli_output.specs.{Blocks.{frame}, Telling.{OnlyTells}};
 
 use crate::packing::frame;
 use block_codec::{NO_PARENT, block_digest};
@@ -21,11 +21,8 @@ use std::alloc::Global;
 /// Tells the frame of a block.
 fn tell_frame<M: Wire>(alloc: Global, machine: &mut M, block: &[u8]) -> Result<(), RunStop>
     ensures lines { (next : NextBlock) → Telling next M.now M.disk M.told machine.old machine.new (plain (frame block.now) ∷ []) (is_ok result) }
-    ensures reads { IsErrOf result RunStop.Unreadable → ⊥ }
-    ensures writes { IsErrOf result RunStop.DiskFault → ⊥ }
-    ensures keeps { IsErrOf result RunStop.ScratchFault → ⊥ }
-    ensures disk { Stays M.now M.disk machine.old machine.new }
-    ensures disk_faults { M.disk_faults machine.new ≡ M.disk_faults machine.old }
+    ensures only { OnlyTells result }
+    ensures disk { LeavesDisk M.now M.disk M.disk_faults machine.old machine.new }
     ensures cause { HasCause (M.wire_faults machine.old) (M.wire_faults machine.new) (IsErrOf result RunStop.Untold) }
 {
     match frame(alloc, block) {
@@ -43,13 +40,10 @@ pub fn generate<M: Wire>(
     machine: &mut M,
     generation: &Generation,
 ) -> Result<Ending, RunStop>
-    ensures lines { (next : NextBlock) → Telling next M.now M.disk M.told machine.old machine.new (map plain (map frame (generated generation.now.blocks generation.now.seed))) (is_ok result) }
+    ensures lines { (next : NextBlock) → Telling next M.now M.disk M.told machine.old machine.new (map plain (map frame (blocks_of_seed generation.now.blocks generation.now.seed))) (is_ok result) }
     ensures ending { IfOk result (λ ending. ending ≡ Ending.Done) }
-    ensures reads { IsErrOf result RunStop.Unreadable → ⊥ }
-    ensures writes { IsErrOf result RunStop.DiskFault → ⊥ }
-    ensures keeps { IsErrOf result RunStop.ScratchFault → ⊥ }
-    ensures disk { Stays M.now M.disk machine.old machine.new }
-    ensures disk_faults { M.disk_faults machine.new ≡ M.disk_faults machine.old }
+    ensures only { OnlyTells result }
+    ensures disk { LeavesDisk M.now M.disk M.disk_faults machine.old machine.new }
     ensures cause { HasCause (M.wire_faults machine.old) (M.wire_faults machine.new) (IsErrOf result RunStop.Untold) }
 {
     let mut generator = Gen::new(generation.blocks, generation.seed);

@@ -2,15 +2,16 @@
 
 ghost use Rattle.std.specs.Prelude.{◌≡◌, true, IfOk, IsErrOf};
 ghost use Rattle.lc_base.specs.Faults.{HasCause};
-ghost use Rattle.scratch_model.specs.Scratch.{is_told};
+ghost use Rattle.scratch_model.specs.Scratch.{is_known};
 ghost use Rattle.chain_exec.specs.Compiled.{compiled_in};
 ghost use Rattle.cli_words.specs.Words.{IsCount};
 ghost use Rattle.cli_output.specs.Output.{load_outcome};
 
-use chain_load::{LoadError, load_chain};
+use chain_load::load_chain;
 use cli_lines::{Ending, Outcome, load_line};
 use cli_output::OutcomeStop;
 use cli_words::Generation;
+use lc_base::HostError;
 use scratch_model::Scratch;
 use std::alloc::Global;
 
@@ -21,16 +22,16 @@ pub fn load_outcome<S: Scratch>(
     generation: &Generation,
 ) -> Result<Outcome, OutcomeStop>
     requires { IsCount generation.now.blocks }
-    // Where it is told which bytes the scratch device holds:
-    ensures outcome { is_told (S.state scratch.old) ≡ true → IfOk result (λ outcome. outcome ≡ load_outcome compiled_in generation.now) }
-    // Whether that is told or not:
+    // Where it is known which bytes the scratch device holds:
+    ensures outcome { is_known (S.state scratch.old) ≡ true → IfOk result (λ outcome. outcome ≡ load_outcome compiled_in generation.now) }
+    // Whether that is known or not:
     ensures ending { IfOk result (λ outcome. outcome.ending ≡ Ending.Done) }
     ensures reads { IsErrOf result OutcomeStop.Unreadable → ⊥ }
     ensures cause { HasCause (S.scratch_faults scratch.old) (S.scratch_faults scratch.new) (IsErrOf result OutcomeStop.ScratchFault) }
 {
     match load_chain(alloc, scratch, generation.blocks, generation.seed) {
         Ok(load) => Ok(Outcome::from_line(alloc, load_line(alloc, &load)?, Ending::Done)?),
-        Err(LoadError::Fault) => Err(OutcomeStop::ScratchFault),
-        Err(LoadError::Memory) => Err(OutcomeStop::Memory),
+        Err(HostError::Fault) => Err(OutcomeStop::ScratchFault),
+        Err(HostError::Memory) => Err(OutcomeStop::Memory),
     }
 }

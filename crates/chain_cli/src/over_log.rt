@@ -1,25 +1,25 @@
 //! The commands over the log: `append`, `root`, and the questions `hist`, `back` and `fwd`.
 
-ghost use Rattle.std.specs.Prelude.{◌≡◌, ℕ, true, List, Option, Some, IfOk, IsErrOf};
+ghost use Rattle.std.specs.Prelude.{◌≡◌, ℕ, Bool, true, List, Option, Some, IfOk, IsErrOf};
 ghost use Rattle.lc_base.specs.Faults.{HasCause};
-ghost use Rattle.lc_io.specs.Disk.{Stays};
 ghost use Rattle.disk_model.specs.Disk.{IsSettled, Keeps, content_of};
-ghost use Rattle.block_codec.specs.Reading.{block_in};
-ghost use Rattle.block_codec.specs.declared.block.Block.{Block as Blocks};
+ghost use Rattle.block_codec.specs.{Reading.{block_in}, declared.block.Block.{Block as Blocks}};
 ghost use Rattle.chain_exec.specs.Compiled.{compiled_in};
 ghost use Rattle.chain_replay.specs.Chain.{StandsFor};
-ghost use Rattle.scratch_model.specs.Scratch.{is_told};
+ghost use Rattle.scratch_model.specs.Scratch.{is_known};
 ghost use Rattle.recovery.specs.Node.{next_in_chain};
 ghost use Rattle.crash_promises.specs.Promises.{MayLeaveAny};
 ghost use Rattle.cli_words.specs.declared.words.Command.TheVariants.{Append, Root, Ask};
-ghost use Rattle.cli_output.specs.Output.{answer_outcome, root_outcome, at_or_last};
-ghost use Rattle.cli_output.specs.Running.{IsRun, IsSilent, MayEnd, found_no_log};
-ghost use Rattle.cli_output.specs.Scanning.{EndsAsked};
-ghost use Rattle.cli_output.specs.Telling.{append_answer, status_of_result};
+ghost use Rattle.cli_output.specs.{
+  Output.{answer_outcome, root_outcome, at_or_last},
+  Running.{IsRun, IsSilent, MayEnd, found_no_log},
+  Scanning.{EndsAsked},
+  Telling.{TellsOfLog, append_answer, status_of_result},
+};
 
 use crate::scan::whole_outcome;
 use chain_replay::Chain;
-use cli_append::{AppendEnd, AppendStop, append as append_frames, start};
+use cli_append::{AppendEnd, append as append_frames, start};
 use cli_lines::{Ending, Outcome, root_line};
 use cli_output::{RunStop, beyond, tell_made, tell_start};
 use disk_model::Disk;
@@ -30,17 +30,13 @@ use scratch_model::Scratch;
 use std::alloc::Global;
 
 /// How a command ends that appended.
-fn append_answer(answer: Result<AppendEnd, AppendStop>) -> Result<Ending, RunStop>
+fn append_answer(answer: Result<AppendEnd, RunStop>) -> Result<Ending, RunStop>
     ensures { result ≡ append_answer answer }
 {
     match answer {
         Ok(AppendEnd::Whole) => Ok(Ending::Done),
         Ok(AppendEnd::Refused { .. }) => Ok(Ending::Refused),
-        Err(AppendStop::Unreadable) => Err(RunStop::Unreadable),
-        Err(AppendStop::Untold) => Err(RunStop::Untold),
-        Err(AppendStop::DiskFault) => Err(RunStop::DiskFault),
-        Err(AppendStop::ScratchFault) => Err(RunStop::ScratchFault),
-        Err(AppendStop::Memory) => Err(RunStop::Memory),
+        Err(stop) => Err(stop),
     }
 }
 
@@ -52,8 +48,8 @@ pub fn append<I: Source, M: Disk + Wire, S: Scratch>(
     scratch: &mut S,
 ) -> Result<Ending, RunStop>
     requires settled { IsSettled (M.disk machine.old (M.now machine.old)) }
-    ensures run { IsRun M.now M.disk M.told machine.old machine.new (status_of_result result) (I.left source.old) (I.left source.new) (is_told (S.state scratch.old)) block_in compiled_in (Some Append) }
-    ensures goes_on { is_told (S.state scratch.old) ≡ true → (content : List ℕ) → content_of (M.disk machine.old (M.now machine.old)) ≡ Some content → Keeps M.now M.disk machine.old machine.new (MayLeaveAny next_in_chain content) }
+    ensures run { IsRun M.now M.disk M.told machine.old machine.new (status_of_result result) (I.left source.old) (I.left source.new) (is_known (S.state scratch.old)) block_in compiled_in (Some Append) }
+    ensures goes_on { is_known (S.state scratch.old) ≡ true → (content : List ℕ) → content_of (M.disk machine.old (M.now machine.old)) ≡ Some content → Keeps M.now M.disk machine.old machine.new (MayLeaveAny next_in_chain content) }
     ensures ends { MayEnd (status_of_result result) (Some Append) }
     ensures no_log { found_no_log (status_of_result result) ≡ true → source.new ≡ source.old }
     ensures unreadable { HasCause (I.source_faults source.old) (I.source_faults source.new) (IsErrOf result RunStop.Unreadable) }
@@ -84,26 +80,22 @@ fn last_answer(
 }
 
 /// Tells the answer to a question over the blocks of the log.
-pub fn ask<M: Disk + Wire, S: Scratch>(
+pub fn ask<M: Disk + Wire>(
     alloc: Global,
     kind: Kind,
     key: Key,
     at: Option<u32>,
     machine: &mut M,
-    scratch: &mut S,
 ) -> Result<Ending, RunStop>
     requires settled { IsSettled (M.disk machine.old (M.now machine.old)) }
-    ensures run { (left : Option (List ℕ)) → IsRun M.now M.disk M.told machine.old machine.new (status_of_result result) left left (is_told (S.state scratch.old)) block_in compiled_in (Some (Ask kind key at)) }
+    ensures run { (left : Option (List ℕ)) (held : Bool) → IsRun M.now M.disk M.told machine.old machine.new (status_of_result result) left left held block_in compiled_in (Some (Ask kind key at)) }
     ensures ends { MayEnd (status_of_result result) (Some (Ask kind key at)) }
     ensures silent { IsSilent (status_of_result result) (M.told machine.old) (M.told machine.new) }
     ensures reads { IsErrOf result RunStop.Unreadable → ⊥ }
-    ensures disk { Stays M.now M.disk machine.old machine.new }
-    ensures disk_fault { HasCause (M.disk_faults machine.old) (M.disk_faults machine.new) (IsErrOf result RunStop.DiskFault) }
+    ensures machine { TellsOfLog M.now M.disk M.disk_faults M.wire_faults machine.old machine.new result }
     ensures keeps { IsErrOf result RunStop.ScratchFault → ⊥ }
-    ensures scratch { scratch.new ≡ scratch.old }
-    ensures untold { HasCause (M.wire_faults machine.old) (M.wire_faults machine.new) (IsErrOf result RunStop.Untold) }
 {
-    match stored_chain(alloc, machine, scratch) {
+    match stored_chain(alloc, machine) {
         Ok(chain) => tell_made(machine, last_answer(alloc, kind, key, at, chain)),
         Err(error) => tell_start(alloc, machine, error),
     }
@@ -143,14 +135,12 @@ pub fn root<M: Disk + Wire, S: Scratch>(
     scratch: &mut S,
 ) -> Result<Ending, RunStop>
     requires settled { IsSettled (M.disk machine.old (M.now machine.old)) }
-    ensures run { (left : Option (List ℕ)) → IsRun M.now M.disk M.told machine.old machine.new (status_of_result result) left left (is_told (S.state scratch.old)) block_in compiled_in (Some (Root at)) }
+    ensures run { (left : Option (List ℕ)) → IsRun M.now M.disk M.told machine.old machine.new (status_of_result result) left left (is_known (S.state scratch.old)) block_in compiled_in (Some (Root at)) }
     ensures ends { MayEnd (status_of_result result) (Some (Root at)) }
     ensures silent { IsSilent (status_of_result result) (M.told machine.old) (M.told machine.new) }
     ensures reads { IsErrOf result RunStop.Unreadable → ⊥ }
-    ensures disk { Stays M.now M.disk machine.old machine.new }
-    ensures disk_fault { HasCause (M.disk_faults machine.old) (M.disk_faults machine.new) (IsErrOf result RunStop.DiskFault) }
+    ensures machine { TellsOfLog M.now M.disk M.disk_faults M.wire_faults machine.old machine.new result }
     ensures scratch_fault { HasCause (S.scratch_faults scratch.old) (S.scratch_faults scratch.new) (IsErrOf result RunStop.ScratchFault) }
-    ensures untold { HasCause (M.wire_faults machine.old) (M.wire_faults machine.new) (IsErrOf result RunStop.Untold) }
 {
     match Node::start(alloc, machine, scratch) {
         Ok(node) => tell_made(machine, last_root(alloc, at, node)),

@@ -3,18 +3,19 @@
 ghost use Rattle.std.specs.Prelude.{◌≡◌, map, Some, IfOk, IfSome, IsErrOf};
 ghost use Rattle.lc_base.specs.Faults.{HasCause};
 ghost use Rattle.cli_lines.specs.Outcome.{status_of};
-ghost use Rattle.chain_pack.specs.Draft.{packed};
+ghost use Rattle.chain_pack.specs.Draft.{texts_of_draft};
 ghost use Rattle.cli_words.specs.declared.words.Command.TheVariants.{Pack};
-ghost use Rattle.cli_output.specs.Blocks.{frame, draft_outcome, TellsFault};
-ghost use Rattle.cli_output.specs.Output.{pack_output};
-ghost use Rattle.cli_output.specs.Running.{MayEnd};
-ghost use Rattle.cli_output.specs.Scanning.{GivesOutput};
+ghost use Rattle.cli_output.specs.{
+  Blocks.{frame, draft_outcome, TellsFault},
+  Output.{pack_output},
+  Running.{MayEnd},
+  Scanning.{GivesOutput},
+};
 
 use byte_fields::put_u32;
-use chain_input::Stop;
 use chain_pack::{PackError, pack as blocks_of};
 use cli_lines::{Ending, Outcome, read_whole};
-use lc_base::{Bytes, Memory, Seq, TextList};
+use lc_base::{Bytes, HostError, Memory, Seq, TextList};
 use lc_io::Source;
 use std::alloc::Global;
 
@@ -44,7 +45,7 @@ fn frames(alloc: Global, blocks: &[Bytes]) -> Result<Seq<Bytes>, Memory>
 }
 
 /// What is told of a draft that is no list of blocks.
-fn refused(alloc: Global, error: &PackError) -> Result<Outcome, Memory>
+fn refusal_outcome(alloc: Global, error: &PackError) -> Result<Outcome, Memory>
     ensures { IfOk result (TellsFault error.now) }
 {
     match error {
@@ -64,22 +65,22 @@ fn refused(alloc: Global, error: &PackError) -> Result<Outcome, Memory>
 
 /// What is told of a draft that was read whole.
 fn draft_outcome(alloc: Global, draft: &[u8]) -> Result<Outcome, Memory>
-    ensures { IfOk result (λ outcome. outcome ≡ draft_outcome (packed draft.now)) }
+    ensures { IfOk result (λ outcome. outcome ≡ draft_outcome (texts_of_draft draft.now)) }
 {
     match blocks_of(alloc, draft) {
         Ok(blocks) => Ok(Outcome {
             pieces: frames(alloc, blocks.as_slice())?,
             ending: Ending::Done,
         }),
-        Err(error) => refused(alloc, &error),
+        Err(error) => refusal_outcome(alloc, &error),
     }
 }
 
 /// The block file of the draft that the input is, or its first fault.
-pub fn pack<I: Source>(alloc: Global, source: &mut I) -> Result<Outcome, Stop>
+pub fn pack<I: Source>(alloc: Global, source: &mut I) -> Result<Outcome, HostError>
     ensures outcome { IfSome (I.left source.old) (λ input. IfOk result (λ outcome. GivesOutput outcome (I.left source.new) (pack_output input))) }
     ensures ends { IfOk result (λ outcome. MayEnd (status_of outcome.ending) (Some Pack)) }
-    ensures cause { HasCause (I.source_faults source.old) (I.source_faults source.new) (IsErrOf result Stop.Fault) }
+    ensures cause { HasCause (I.source_faults source.old) (I.source_faults source.new) (IsErrOf result HostError.Fault) }
 {
     match read_whole(alloc, source)? {
         None => Ok(Outcome::bad_input(alloc, "long")?),

@@ -1,23 +1,25 @@
 //! The top call: everything that the program does.
 
 ghost use Rattle.std.specs.Prelude.{◌≡◌, ℕ, List, Option, Some, map, string_bytes, true, false, IfSome, IsErrOf};
-ghost use Rattle.lc_base.specs.Faults.{HasCause};
+ghost use Rattle.lc_base.specs.{Faults.{HasCause}, declared.answer.Query.{Query}};
 ghost use Rattle.lc_io.specs.Disk.{Stays};
 ghost use Rattle.disk_model.specs.Disk.{IsSettled, Keeps, content_of};
-ghost use Rattle.lc_base.specs.declared.answer.Query.{Query};
 ghost use Rattle.byte_fields.specs.Spelling.{IsBytes};
-ghost use Rattle.block_codec.specs.Reading.{block_in};
-ghost use Rattle.block_codec.specs.Spelling.{Decoder, IsDecoder};
+ghost use Rattle.block_codec.specs.{Reading.{block_in}, Spelling.{Decoder, IsDecoder}};
 ghost use Rattle.chain_exec.specs.Compiled.{Compiler, IsCompiler, compiled_in};
-ghost use Rattle.cli_words.specs.declared.words.Command.{Command as Commands};
-ghost use Rattle.scratch_model.specs.Scratch.{is_told};
+ghost use Rattle.cli_words.specs.{
+  declared.words.Command.{Command as Commands},
+  Words.{CanBeGiven, IsCommand, IsOneCommand},
+};
+ghost use Rattle.scratch_model.specs.Scratch.{is_known};
 ghost use Rattle.recovery.specs.Node.{next_in_chain};
 ghost use Rattle.crash_promises.specs.Promises.{MayLeaveAny};
-ghost use Rattle.cli_words.specs.Words.{CanBeGiven, IsCommand, IsOneCommand};
-ghost use Rattle.cli_output.specs.Output.{FormatsAgain, IsWanted, IsOneOutput, next_by, reads_input, uses_disk, uses_scratch, changes_log, tells_as_it_goes};
-ghost use Rattle.cli_output.specs.Running.{IsRun, IsSilent, MayEnd, found_no_log};
-ghost use Rattle.cli_output.specs.Showing.{VerifiedAnswersHold, WrongAnswersAreTold};
-ghost use Rattle.cli_output.specs.Telling.{status_of_result};
+ghost use Rattle.cli_output.specs.{
+  Output.{FormatsAgain, IsWanted, IsOneOutput, next_by, reads_input, uses_disk, uses_scratch, changes_log, tells_as_it_goes},
+  Running.{IsRun, IsSilent, MayEnd, found_no_log},
+  Showing.{VerifiedAnswersHold, WrongAnswersAreTold},
+  Telling.{status_of_result},
+};
 
 use crate::fmt::fmt;
 use crate::generating::generate;
@@ -26,7 +28,7 @@ use crate::over_log::{append, ask, root};
 use crate::packing::pack;
 use crate::scan::scan;
 use cli_lines::{Ending, Status};
-use cli_output::{RunStop, tell_answer, tell_result, tell_usage};
+use cli_output::{RunStop, status_of_stop, tell_answer, tell_result, tell_usage};
 use cli_proofs::{expose, prove, verify};
 use cli_words::{Command, command_of};
 use disk_model::Disk;
@@ -44,11 +46,11 @@ fn run_command<I: Source, M: Disk + Wire, S: Scratch>(
 ) -> Result<Ending, RunStop>
     requires given { CanBeGiven command.now }
     requires settled { IsSettled (M.disk machine.old (M.now machine.old)) }
-    ensures run { IsRun M.now M.disk M.told machine.old machine.new (status_of_result result) (I.left source.old) (I.left source.new) (is_told (S.state scratch.old)) block_in compiled_in (Some command.now) }
+    ensures run { IsRun M.now M.disk M.told machine.old machine.new (status_of_result result) (I.left source.old) (I.left source.new) (is_known (S.state scratch.old)) block_in compiled_in (Some command.now) }
     ensures untouched { changes_log (Some command.now) ≡ false → Stays M.now M.disk machine.old machine.new }
     ensures silent { tells_as_it_goes (Some command.now) ≡ false → IsSilent (status_of_result result) (M.told machine.old) (M.told machine.new) }
     ensures unread { reads_input (Some command.now) ≡ false → source.new ≡ source.old }
-    ensures goes_on { changes_log (Some command.now) ≡ true → is_told (S.state scratch.old) ≡ true → (content : List ℕ) → content_of (M.disk machine.old (M.now machine.old)) ≡ Some content
+    ensures goes_on { changes_log (Some command.now) ≡ true → is_known (S.state scratch.old) ≡ true → (content : List ℕ) → content_of (M.disk machine.old (M.now machine.old)) ≡ Some content
         → Keeps M.now M.disk machine.old machine.new (MayLeaveAny next_in_chain content) }
     ensures unused { uses_disk (Some command.now) ≡ false → M.disk_faults machine.new ≡ M.disk_faults machine.old }
     ensures unused_scratch { uses_scratch (Some command.now) ≡ false → scratch.new ≡ scratch.old }
@@ -67,7 +69,7 @@ fn run_command<I: Source, M: Disk + Wire, S: Scratch>(
         Command::Load(generation) => tell_answer(machine, load_outcome(alloc, scratch, generation)),
         Command::Append => append(alloc, source, machine, scratch),
         Command::Root(at) => root(alloc, *at, machine, scratch),
-        Command::Ask { kind, key, at } => ask(alloc, *kind, *key, *at, machine, scratch),
+        Command::Ask { kind, key, at } => ask(alloc, *kind, *key, *at, machine),
         Command::Prove { query, root_at } => prove(alloc, query, *root_at, machine, scratch),
         Command::Verify { root, query } => tell_result(machine, verify(alloc, root, query, source)),
         Command::Expose {
@@ -88,11 +90,11 @@ fn run_words<I: Source, M: Disk + Wire, S: Scratch>(
 ) -> Status
     requires given { IfSome command CanBeGiven }
     requires settled { IsSettled (M.disk machine.old (M.now machine.old)) }
-    ensures run { IsRun M.now M.disk M.told machine.old machine.new result (I.left source.old) (I.left source.new) (is_told (S.state scratch.old)) block_in compiled_in command }
+    ensures run { IsRun M.now M.disk M.told machine.old machine.new result (I.left source.old) (I.left source.new) (is_known (S.state scratch.old)) block_in compiled_in command }
     ensures untouched { changes_log command ≡ false → Stays M.now M.disk machine.old machine.new }
     ensures silent { tells_as_it_goes command ≡ false → IsSilent result (M.told machine.old) (M.told machine.new) }
     ensures unread { reads_input command ≡ false → source.new ≡ source.old }
-    ensures goes_on { changes_log command ≡ true → is_told (S.state scratch.old) ≡ true → (content : List ℕ) → content_of (M.disk machine.old (M.now machine.old)) ≡ Some content
+    ensures goes_on { changes_log command ≡ true → is_known (S.state scratch.old) ≡ true → (content : List ℕ) → content_of (M.disk machine.old (M.now machine.old)) ≡ Some content
         → Keeps M.now M.disk machine.old machine.new (MayLeaveAny next_in_chain content) }
     ensures unused { uses_disk command ≡ false → M.disk_faults machine.new ≡ M.disk_faults machine.old }
     ensures unused_scratch { uses_scratch command ≡ false → scratch.new ≡ scratch.old }
@@ -106,11 +108,11 @@ fn run_words<I: Source, M: Disk + Wire, S: Scratch>(
     match command {
         None => match tell_usage(alloc, machine) {
             Ok(()) => Status::Usage,
-            Err(stop) => stop.status(),
+            Err(stop) => status_of_stop(stop),
         },
         Some(command) => match run_command(alloc, &command, source, machine, scratch) {
             Ok(ending) => ending.status(),
-            Err(stop) => stop.status(),
+            Err(stop) => status_of_stop(stop),
         },
     }
 }
@@ -131,10 +133,10 @@ pub fn run<I: Source, M: Disk + Wire, S: Scratch>(
     ensures command { (command : Option Commands) × IsOneCommand (map string_bytes words.now) command }
     // What is told, the status, what is left of the input, and what a crash at any moment may leave of
     // the log, are those that the words, the input and the content of the disk want; of a command that uses
-    // the scratch device, where it is told which bytes this holds.
+    // the scratch device, where it is known which bytes this holds.
     ensures output { (read : Decoder) × IsDecoder read × ((compile : Compiler) × IsCompiler compile
         × ((command : Option Commands) → IsCommand (map string_bytes words.now) command
-        → IsRun M.now M.disk M.told machine.old machine.new result (I.left source.old) (I.left source.new) (is_told (S.state scratch.old)) read compile command)) }
+        → IsRun M.now M.disk M.told machine.old machine.new result (I.left source.old) (I.left source.new) (is_known (S.state scratch.old)) read compile command)) }
     // A command, an input of bytes and a disk of bytes want one output.
     ensures one { (command : Option Commands) (input content : List ℕ) → IsBytes input → IsBytes content
         → IsOneOutput (IsWanted command input content) }
@@ -146,10 +148,10 @@ pub fn run<I: Source, M: Disk + Wire, S: Scratch>(
     // Of a proof that is accepted with another answer than that of a chain with the root, `expose` tells a
     // text of the proof and one of that chain's ledger that differ and have one digest.
     ensures exposed { (root : List ℕ) (query : Query) (root_at : ℕ) (input : List ℕ) → WrongAnswersAreTold root query root_at input }
-    // Whatever the source has left, where the disk is told, and which bytes the scratch device holds: a crash
+    // Whatever the source has left, where the disk is known, and which bytes the scratch device holds: a crash
     // at any moment leaves what the disk held, or the chain of that with further blocks.
     ensures goes_on { (read : Decoder) × IsDecoder read × ((compile : Compiler) × IsCompiler compile
-        × (is_told (S.state scratch.old) ≡ true → (content : List ℕ) → content_of (M.disk machine.old (M.now machine.old)) ≡ Some content
+        × (is_known (S.state scratch.old) ≡ true → (content : List ℕ) → content_of (M.disk machine.old (M.now machine.old)) ≡ Some content
         → Keeps M.now M.disk machine.old machine.new (MayLeaveAny (next_by read compile) content))) }
     // Whatever the source has left and the disk holds: a command that does not change the log leaves
     // the disk as it is;

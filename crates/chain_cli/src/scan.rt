@@ -2,27 +2,28 @@
 
 ghost use Rattle.lc_base.specs.Faults.{HasCause};
 ghost use Rattle.std.specs.Prelude.{◌≡◌, [], ◌∷◌, IfOk, IfSome, List, Some, IsErrOf};
-ghost use Rattle.block_codec.specs.Reading.{block_in};
-ghost use Rattle.block_codec.specs.declared.block.Block.{Block as Blocks};
+ghost use Rattle.block_codec.specs.{Reading.{block_in}, declared.block.Block.{Block as Blocks}};
 ghost use Rattle.chain_replay.specs.Chain.{StandsFor};
-ghost use Rattle.cli_lines.specs.Outcome.{status_of, outcome_with};
+ghost use Rattle.cli_lines.specs.{Outcome.{status_of, outcome_with}, Lines.{refused_line}};
 ghost use Rattle.cli_words.specs.declared.words.Command.TheVariants.{Scan};
-ghost use Rattle.cli_output.specs.Output.{answer_outcome, scan_output};
+ghost use Rattle.cli_output.specs.{
+  Output.{answer_outcome, scan_output},
+  Running.{MayEnd},
+  Scanning.{GivesOutput, EndsAsked},
+};
 ghost use Rattle.chain_exec.specs.Compiled.{compiled_in};
 ghost use Rattle.chain_input.specs.Folding.{fold_input};
-ghost use Rattle.cli_output.specs.Running.{MayEnd};
-ghost use Rattle.cli_output.specs.Scanning.{GivesOutput, EndsAsked};
-ghost use Rattle.cli_lines.specs.Lines.{refused_line};
 
-use chain_input::{Cause, Folded, Stop, fold};
+use chain_input::{Cause, Folded, fold};
 use chain_replay::{Chain, Replay};
-use cli_lines::{Ending, Outcome, answer_lines, empty_line, head_line, refused_line};
-use lc_base::{Memory, Query};
+use cli_lines::{Ending, Outcome, answer_lines, refused_line};
+use cli_output::beyond;
+use lc_base::{HostError, Memory, Query};
 use lc_io::Source;
 use std::alloc::Global;
 
 /// A frame is refused.
-fn refused(alloc: Global, frame: u32, cause: &Cause) -> Result<Outcome, Memory>
+fn refusal_outcome(alloc: Global, frame: u32, cause: &Cause) -> Result<Outcome, Memory>
     ensures { IfOk result (λ outcome. outcome ≡ outcome_with (refused_line frame cause.now ∷ []) Ending.Refused) }
 {
     Outcome::from_line(alloc, refused_line(alloc, frame, cause)?, Ending::Refused)
@@ -35,10 +36,10 @@ fn answer_outcome(alloc: Global, query: &Query, chain: &mut Chain) -> Result<Out
 {
     let count = chain.len();
     if count == 0 {
-        return Outcome::from_line(alloc, empty_line(alloc)?, Ending::Beyond);
+        return beyond(alloc, None);
     }
     if query.at >= count {
-        return Outcome::from_line(alloc, head_line(alloc, count - 1)?, Ending::Beyond);
+        return beyond(alloc, Some(count - 1));
     }
     let answer = chain.ask(query)?;
     Ok(Outcome {
@@ -59,13 +60,13 @@ pub fn whole_outcome(alloc: Global, query: &Query, chain: Chain) -> Result<Outco
 }
 
 /// The answer to a question over the blocks of an input.
-pub fn scan<I: Source>(alloc: Global, query: &Query, source: &mut I) -> Result<Outcome, Stop>
+pub fn scan<I: Source>(alloc: Global, query: &Query, source: &mut I) -> Result<Outcome, HostError>
     ensures outcome { IfSome (I.left source.old) (λ input. IfOk result (λ outcome. GivesOutput outcome (I.left source.new) (scan_output compiled_in query.now (fold_input block_in compiled_in input)))) }
     ensures ends { IfOk result (λ outcome. MayEnd (status_of outcome.ending) (Some (Scan query.now))) }
-    ensures cause { HasCause (I.source_faults source.old) (I.source_faults source.new) (IsErrOf result Stop.Fault) }
+    ensures cause { HasCause (I.source_faults source.old) (I.source_faults source.new) (IsErrOf result HostError.Fault) }
 {
     match fold(alloc, source)? {
         Folded::Whole(chain) => Ok(whole_outcome(alloc, query, chain)?),
-        Folded::Refused { frame, cause } => Ok(refused(alloc, frame, &cause)?),
+        Folded::Refused { frame, cause } => Ok(refusal_outcome(alloc, frame, &cause)?),
     }
 }

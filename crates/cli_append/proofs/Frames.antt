@@ -9,7 +9,7 @@ use Rattle.disk_model.proofs.Moments.{then_keeps, weaker, stays_here}
 use Rattle.block_codec.specs.declared.block.Block.{Block}
 use Rattle.block_log.specs.Log.{LogState}
 use Rattle.chain_exec.specs.Compiled.{compiled_in}
-use Rattle.chain_replay.specs.Judging.{Taken, Known, Added, judged, added_by}
+use Rattle.chain_replay.specs.Judging.{Taken, Known, Added, judgement_of, added_by}
 use Rattle.chain_replay.specs.declared.refusal.Refusal.{Refusal}
 use Rattle.recovery.specs.Node.{NodeState, HoldsChain, IsNodeOf, IsStepOf, IsAppended, was_added, blocks_after, next_in_chain, chain_in}
 use Rattle.recovery.specs.declared.node.Appended.{Appended}
@@ -17,15 +17,15 @@ use Rattle.recovery.specs.declared.node.Appended.TheVariants as appendeds
 use Rattle.crash_promises.specs.Promises.{Promise, IsKeptAt, Telling}
 use Rattle.crash_promises.proofs.Tellings.{none_told, none_to_tell, still, told_since}
 use Rattle.crash_promises.proofs.Sure.{sure_kept}
-use Rattle.cli_append.specs.Appending.{IsTold, line_of}
+use Rattle.cli_append.specs.Appending.{IsKnown, line_of}
 use Rattle.cli_append.specs.Steps.{appended_text, lines_for, added_for, Takes}
-use Rattle.cli_append.specs.declared.ending.AppendStop.{AppendStop}
+use Rattle.cli_append.specs.declared.ending.RunStop.{RunStop}
 use Rattle.cli_append.proofs.Promised.{line_sure}
 
 -- a disk that is told has a content
-pub content_told : (state : Option DiskState) → IsTold state → (content : List ℕ) × (content_of state ≡ Some content)
-content_told None is_told = absurd (cc is_told)
-content_told (Some state) is_told = (state.content, refl)
+pub content_known : (state : Option DiskState) → IsKnown state → (content : List ℕ) × (content_of state ≡ Some content)
+content_known None is_told = absurd (cc is_told)
+content_known (Some state) is_told = (state.content, refl)
 
 -- the content on the disk of a node stands for its blocks
 pub stands_at : (log : LogState) (blocks : List Block) (state : Option DiskState) → Rests state (HoldsChain log blocks) → Rests state (λ image. chain_in image ≡ Some blocks)
@@ -51,30 +51,30 @@ not_added old node (appendeds.Added number rows receipts root) blocks judgement 
 
 module _ {D : Type 0} (now : D → ℕ) (disk : D → ℕ → Option DiskState) (told : D → Option (List Tell)) where
   -- a disk that was told stays told
-  pub still_told : (old new : D) (P : List ℕ → Type 0) → Keeps now disk old new P → IsTold (disk old (now old)) → IsTold (disk new (now new))
-  still_told old new P keeps is_told = keeps.told ∙ is_told
+  pub still_known : (old new : D) (P : List ℕ → Type 0) → Keeps now disk old new P → IsKnown (disk old (now old)) → IsKnown (disk new (now new))
+  still_known old new P keeps is_told = keeps.told ∙ is_told
 
   -- while the line of a frame is told, the disk holds its chain
-  behind_images : (mid new : D) (blocks : List Block) (frame : Taken) → Rests (disk mid (now mid)) (λ image. chain_in image ≡ Some (blocks ++ added_by frame)) → Stays now disk mid new → Keeps now disk mid new (IsStepOf blocks (Ok frame))
-  behind_images mid new blocks frame rests stays =
+  after_images : (mid new : D) (blocks : List Block) (frame : Taken) → Rests (disk mid (now mid)) (λ image. chain_in image ≡ Some (blocks ++ added_by frame)) → Stays now disk mid new → Keeps now disk mid new (IsStepOf blocks (Ok frame))
+  after_images mid new blocks frame rests stays =
       let P : List ℕ → Type 0 = λ image. chain_in image ≡ Some (blocks ++ added_by frame) in
       weaker now disk mid new P (IsStepOf blocks (Ok frame)) (still next_in_chain now disk told mid new P (rests_each (disk mid (now mid)) P rests) stays) (λ image is. inr is)
 
   -- a frame was stored, and its line told, or some first bytes of it
   pub stored : (old mid new : D) (blocks : List Block) (spelled : Result Block ℕ) (start node : NodeState) (appended : Appended) (bytes : List ℕ) (all : Bool)
-      → IsAppended start blocks (judged compiled_in blocks spelled) node appended → bytes ≡ appended_text appended
-      → (IsTold (disk old (now old)) → Keeps now disk old mid (IsStepOf blocks (judged compiled_in blocks spelled))) → told mid ≡ told old
-      → IsNodeOf node (disk mid (now mid)) (blocks_after blocks (judged compiled_in blocks spelled))
+      → IsAppended start blocks (judgement_of compiled_in blocks spelled) node appended → bytes ≡ appended_text appended
+      → (IsKnown (disk old (now old)) → Keeps now disk old mid (IsStepOf blocks (judgement_of compiled_in blocks spelled))) → told mid ≡ told old
+      → IsNodeOf node (disk mid (now mid)) (blocks_after blocks (judgement_of compiled_in blocks spelled))
       → ((promise : Promise) → IsKeptAt next_in_chain now disk mid promise → Telling next_in_chain now disk told mid new (record { text = bytes; promise = promise } ∷ []) all) → Stays now disk mid new
-      → (frame : Taken) × (judged compiled_in blocks spelled ≡ Ok frame) × IsNodeOf node (disk new (now new)) (blocks ++ added_by frame)
-      × (IsTold (disk old (now old)) → Keeps now disk old new (IsStepOf blocks (Ok frame)))
-      × (IsTold (disk old (now old)) → Telling next_in_chain now disk told old new (line_of compiled_in blocks frame ∷ []) all)
+      → (frame : Taken) × (judgement_of compiled_in blocks spelled ≡ Ok frame) × IsNodeOf node (disk new (now new)) (blocks ++ added_by frame)
+      × (IsKnown (disk old (now old)) → Keeps now disk old new (IsStepOf blocks (Ok frame)))
+      × (IsKnown (disk old (now old)) → Telling next_in_chain now disk told old new (line_of compiled_in blocks frame ∷ []) all)
   stored old mid new blocks spelled start node appended bytes all is text images same is_node tell stays =
-      let t = took start node appended blocks (judged compiled_in blocks spelled) is in
+      let t = took start node appended blocks (judgement_of compiled_in blocks spelled) is in
       let frame : Taken = t.0 in
-      let e : judged compiled_in blocks spelled ≡ Ok frame = t.1 in
+      let e : judgement_of compiled_in blocks spelled ≡ Ok frame = t.1 in
       let node_is = subst (λ (j : Result Taken Refusal). IsNodeOf node (disk mid (now mid)) (blocks_after blocks j)) e is_node in
-      let step = subst (λ (j : Result Taken Refusal). IsTold (disk old (now old)) → Keeps now disk old mid (IsStepOf blocks j)) e images in
+      let step = subst (λ (j : Result Taken Refusal). IsKnown (disk old (now old)) → Keeps now disk old mid (IsStepOf blocks j)) e images in
       let rests = stands_at node.log (blocks ++ added_by frame) (disk mid (now mid)) node_is.log in
       let promise : Promise = (line_of compiled_in blocks frame).promise in
       let here : IsKeptAt next_in_chain now disk mid promise = λ s image at shows.
@@ -83,42 +83,42 @@ module _ {D : Type 0} (now : D → ℕ) (disk : D → ℕ → Option DiskState) 
         frame,
         e,
         subst (λ (o : Option DiskState). IsNodeOf node o (blocks ++ added_by frame)) (sym stays.last) node_is,
-        λ is_told. then_keeps now disk old mid new (IsStepOf blocks (Ok frame)) (step is_told) (behind_images mid new blocks frame rests stays),
+        λ is_told. then_keeps now disk old mid new (IsStepOf blocks (Ok frame)) (step is_told) (after_images mid new blocks frame rests stays),
         λ is_told. told_since next_in_chain now disk told old mid new (line_of compiled_in blocks frame ∷ []) all same one,
       )
 
   pub takes_whole : (old mid new : D) (blocks : List Block) (spelled : Result Block ℕ) (start node : NodeState) (appended : Appended) (bytes : List ℕ)
-      → IsAppended start blocks (judged compiled_in blocks spelled) node appended → bytes ≡ appended_text appended
-      → (IsTold (disk old (now old)) → Keeps now disk old mid (IsStepOf blocks (judged compiled_in blocks spelled))) → told mid ≡ told old
-      → IsNodeOf node (disk mid (now mid)) (blocks_after blocks (judged compiled_in blocks spelled))
+      → IsAppended start blocks (judgement_of compiled_in blocks spelled) node appended → bytes ≡ appended_text appended
+      → (IsKnown (disk old (now old)) → Keeps now disk old mid (IsStepOf blocks (judgement_of compiled_in blocks spelled))) → told mid ≡ told old
+      → IsNodeOf node (disk mid (now mid)) (blocks_after blocks (judgement_of compiled_in blocks spelled))
       → ((promise : Promise) → IsKeptAt next_in_chain now disk mid promise → Telling next_in_chain now disk told mid new (record { text = bytes; promise = promise } ∷ []) true) → Stays now disk mid new → (was_added appended ≡ false → mid ≡ old)
-      → Takes now disk told old new blocks (judged compiled_in blocks spelled) (Ok (Ok node))
+      → Takes now disk told old new blocks (judgement_of compiled_in blocks spelled) (Ok (Ok node))
   takes_whole old mid new blocks spelled start node appended bytes is text images same is_node tell stays untouched =
       let s = stored old mid new blocks spelled start node appended bytes true is text images same is_node tell stays in
       subst (λ (j : Result Taken Refusal). Takes now disk told old new blocks j (Ok (Ok node))) (sym s.1) (record {
         images = s.3;
         lines = s.4;
-        unwritten = λ ok none. subst (λ (m : D). Stays now disk m new) (untouched (not_added start node appended blocks (judged compiled_in blocks spelled) is (ap added_for s.1 ∙ none))) stays;
+        unwritten = λ ok none. subst (λ (m : D). Stays now disk m new) (untouched (not_added start node appended blocks (judgement_of compiled_in blocks spelled) is (ap added_for s.1 ∙ none))) stays;
         answer = (s.0, refl, s.2);
       })
 
-  pub takes_part : (old mid new : D) (blocks : List Block) (spelled : Result Block ℕ) (start node : NodeState) (appended : Appended) (bytes : List ℕ) (stop : AppendStop)
-      → IsAppended start blocks (judged compiled_in blocks spelled) node appended → bytes ≡ appended_text appended
-      → (IsTold (disk old (now old)) → Keeps now disk old mid (IsStepOf blocks (judged compiled_in blocks spelled))) → told mid ≡ told old
-      → IsNodeOf node (disk mid (now mid)) (blocks_after blocks (judged compiled_in blocks spelled))
+  pub takes_part : (old mid new : D) (blocks : List Block) (spelled : Result Block ℕ) (start node : NodeState) (appended : Appended) (bytes : List ℕ) (stop : RunStop)
+      → IsAppended start blocks (judgement_of compiled_in blocks spelled) node appended → bytes ≡ appended_text appended
+      → (IsKnown (disk old (now old)) → Keeps now disk old mid (IsStepOf blocks (judgement_of compiled_in blocks spelled))) → told mid ≡ told old
+      → IsNodeOf node (disk mid (now mid)) (blocks_after blocks (judgement_of compiled_in blocks spelled))
       → ((promise : Promise) → IsKeptAt next_in_chain now disk mid promise → Telling next_in_chain now disk told mid new (record { text = bytes; promise = promise } ∷ []) false) → Stays now disk mid new
-      → Takes now disk told old new blocks (judged compiled_in blocks spelled) (Err stop)
+      → Takes now disk told old new blocks (judgement_of compiled_in blocks spelled) (Err stop)
   takes_part old mid new blocks spelled start node appended bytes stop is text images same is_node tell stays =
       let s = stored old mid new blocks spelled start node appended bytes false is text images same is_node tell stays in
       subst (λ (j : Result Taken Refusal). Takes now disk told old new blocks j (Err stop)) (sym s.1) (record { images = s.3; lines = s.4; unwritten = λ ok none. absurd (cc ok); answer = tt })
 
   -- nothing was told of a frame
-  pub takes_none : (old new : D) (blocks : List Block) (judgement : Result Taken Refusal) (stop : AppendStop) → (IsTold (disk old (now old)) → Keeps now disk old new (IsStepOf blocks judgement)) → told new ≡ told old
+  pub takes_none : (old new : D) (blocks : List Block) (judgement : Result Taken Refusal) (stop : RunStop) → (IsKnown (disk old (now old)) → Keeps now disk old new (IsStepOf blocks judgement)) → told new ≡ told old
       → Takes now disk told old new blocks judgement (Err stop)
   takes_none old new blocks judgement stop images same = record { images = images; lines = λ is_told. none_told next_in_chain now disk told old new (lines_for blocks judgement) same; unwritten = λ ok none. absurd (cc ok); answer = tt }
 
   -- a frame was refused
-  pub takes_refusal : (old new : D) (blocks : List Block) (judgement : Result Taken Refusal) (node : NodeState) (refusal : Refusal) → (IsTold (disk old (now old)) → Keeps now disk old new (IsStepOf blocks judgement)) → told new ≡ told old
+  pub takes_refusal : (old new : D) (blocks : List Block) (judgement : Result Taken Refusal) (node : NodeState) (refusal : Refusal) → (IsKnown (disk old (now old)) → Keeps now disk old new (IsStepOf blocks judgement)) → told new ≡ told old
       → new ≡ old → judgement ≡ Err refusal → IsNodeOf node (disk new (now new)) blocks → Takes now disk told old new blocks judgement (Ok (Err refusal))
   takes_refusal old new blocks judgement node refusal images same untouched is is_node = record {
     images = images;
@@ -127,7 +127,7 @@ module _ {D : Type 0} (now : D → ℕ) (disk : D → ℕ → Option DiskState) 
     answer = (is, stands_at node.log blocks (disk new (now new)) is_node.log);
   }
 
-  -- what an append of a node says of images, where the disk is told
+  -- what an append of a node says of images, where the disk is known
   pub images_told : (old new : D) (blocks : List Block) (judgement : Result Taken Refusal) → ((content : List ℕ) → content_of (disk old (now old)) ≡ Some content → Keeps now disk old new (IsStepOf blocks judgement))
-      → IsTold (disk old (now old)) → Keeps now disk old new (IsStepOf blocks judgement)
-  images_told old new blocks judgement images is_told = let c = content_told (disk old (now old)) is_told in images c.0 c.1
+      → IsKnown (disk old (now old)) → Keeps now disk old new (IsStepOf blocks judgement)
+  images_told old new blocks judgement images is_told = let c = content_known (disk old (now old)) is_told in images c.0 c.1

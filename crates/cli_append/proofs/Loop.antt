@@ -10,10 +10,10 @@ use Rattle.block_codec.specs.Frames.{frame_step, IsFrameAnswer}
 use Rattle.block_codec.specs.Reading.{block_in}
 use Rattle.block_codec.specs.declared.limits.TheConstants.{MAX_FRAMES}
 use Rattle.block_codec.specs.declared.block.Block.{Block}
-use Rattle.block_codec.specs.declared.frames.FrameError.{FrameError}
-use Rattle.block_codec.specs.declared.frames.FrameError.TheVariants as frames
+use Rattle.block_codec.specs.declared.error.FrameError.{FrameError}
+use Rattle.block_codec.specs.declared.error.FrameError.TheVariants as frames
 use Rattle.chain_exec.specs.Compiled.{compiled_in}
-use Rattle.chain_replay.specs.Judging.{Taken, judged, added_by, added_by_all}
+use Rattle.chain_replay.specs.Judging.{Taken, judgement_of, added_by, added_by_all}
 use Rattle.chain_replay.specs.declared.refusal.Refusal.{Refusal}
 use Rattle.cli_lines.specs.Lines.{refused_line}
 use Rattle.chain_input.specs.Folding.{Fold, FoldEnd, Whole, Refused, ends_at, taken_before, fold_after_frame, fold_step, fold_from}
@@ -23,13 +23,13 @@ use Rattle.recovery.specs.Node.{NodeState, IsNodeOf, IsStepOf, next_in_chain, ch
 use Rattle.crash_promises.specs.Promises.{Line, plain, KeepsLines, IsPartly, Telling}
 use Rattle.crash_promises.proofs.Tellings.{none_to_tell, join, longer, still}
 use Rattle.crash_promises.proofs.Sure.{AreSure, all_sure_more, sure_push, all_sure_kept, partly_more, partly_held, partly_longer}
-use Rattle.cli_append.specs.Appending.{IsTold, line_of, lines_of, end_lines, fold_lines, fold_end, HasEnded, AppendsAll, GoesFrom}
+use Rattle.cli_append.specs.Appending.{IsKnown, line_of, lines_of, end_lines, fold_lines, fold_end, HasEnded, AppendsAll, GoesFrom}
 use Rattle.cli_append.specs.Steps.{IsCauseOf, lines_for, added_for, Takes}
 use Rattle.cli_append.specs.declared.ending.AppendEnd.{AppendEnd}
 use Rattle.cli_append.specs.declared.ending.AppendEnd.TheVariants as ends
-use Rattle.cli_append.specs.declared.ending.AppendStop.{AppendStop}
+use Rattle.cli_append.specs.declared.ending.RunStop.{RunStop}
 use Rattle.cli_append.proofs.Promised.{line_sure, added_append, added_push, lines_append}
-use Rattle.cli_append.proofs.Frames.{rests_each, stands_at, still_told}
+use Rattle.cli_append.proofs.Frames.{rests_each, stands_at, still_known}
 
 -- ---- the fold
 
@@ -53,7 +53,7 @@ folded_turn count blocks rest bound =
     let t : MAX_FRAMES - m ≡ count = omega arith in
     ap (λ (n : ℕ). fold_from block_in compiled_in n blocks rest) e ∙ ap (λ (n : ℕ). fold_step block_in compiled_in (fold_from block_in compiled_in m) n blocks rest (frame_step n rest)) t
 
--- ---- one frame that was judged
+-- ---- one frame that was judgement_of
 
 partly_step : (first added blocks : List Block) (judgement : Result Taken Refusal) (image : List ℕ) → blocks ≡ first ++ added → IsStepOf blocks judgement image → IsPartly next_in_chain first (added ++ added_for judgement) image
 partly_step first added blocks (Ok frame) image same (inl is) = partly_held next_in_chain first added (added_by frame) blocks image same is
@@ -79,19 +79,19 @@ pub record Leads (input : List ℕ) (left : Option (List ℕ)) (count : ℕ) (fi
 
 -- the fold ends here
 pub record FoldEnds (count : ℕ) (blocks : List Block) (rest : List ℕ) (left : Option (List ℕ)) (end : FoldEnd) : Type 0 where
-  pub behind_it : List ℕ
-  pub left_is : left ≡ Some behind_it
-  pub is_end : (next : List Block → List ℕ → Fold) → step_at_start next count blocks rest ≡ ends_at end behind_it
+  pub after_it : List ℕ
+  pub left_is : left ≡ Some after_it
+  pub is_end : (next : List Block → List ℕ → Fold) → step_at_start next count blocks rest ≡ ends_at end after_it
 
 frames_end : (count : ℕ) (blocks : List Block) (before left : Option (List ℕ)) (rest : List ℕ) → before ≡ Some rest → IfSome before (λ input. IsFrameAnswer count input (Ok None) left) → FoldEnds count blocks rest left Whole
 frames_end count blocks before left rest is answer =
     let a = subst (λ (o : Option (List ℕ)). IfSome o (λ input. IsFrameAnswer count input (Ok None) left)) is answer in
-    record { behind_it = []; left_is = a.1; is_end = λ next. ap (fold_step block_in compiled_in next count blocks rest) a.0 }
+    record { after_it = []; left_is = a.1; is_end = λ next. ap (fold_step block_in compiled_in next count blocks rest) a.0 }
 
 error_ends : (count : ℕ) (blocks : List Block) (rest : List ℕ) (left : Option (List ℕ)) (error : FrameError) (cause : Cause) → IsFrameAnswer count rest (Err error) left → IsCauseOf error (Ok cause) → FoldEnds count blocks rest left (Refused count cause)
-error_ends count blocks rest left frames.Truncated cause a e = record { behind_it = []; left_is = a.1; is_end = λ next. ap (fold_step block_in compiled_in next count blocks rest) a.0 ∙ ap (λ (c : Cause). ends_at (Refused count c) []) (sym (cc e)) }
-error_ends count blocks rest left (frames.Length size) cause a e = record { behind_it = drop 4 rest; left_is = a.1; is_end = λ next. ap (fold_step block_in compiled_in next count blocks rest) a.0 ∙ ap (λ (c : Cause). ends_at (Refused count c) (drop 4 rest)) (sym (cc e)) }
-error_ends count blocks rest left frames.Many cause a e = record { behind_it = drop 4 rest; left_is = a.1; is_end = λ next. ap (fold_step block_in compiled_in next count blocks rest) a.0 ∙ ap (λ (c : Cause). ends_at (Refused count c) (drop 4 rest)) (sym (cc e)) }
+error_ends count blocks rest left frames.Truncated cause a e = record { after_it = []; left_is = a.1; is_end = λ next. ap (fold_step block_in compiled_in next count blocks rest) a.0 ∙ ap (λ (c : Cause). ends_at (Refused count c) []) (sym (cc e)) }
+error_ends count blocks rest left (frames.Length size) cause a e = record { after_it = drop 4 rest; left_is = a.1; is_end = λ next. ap (fold_step block_in compiled_in next count blocks rest) a.0 ∙ ap (λ (c : Cause). ends_at (Refused count c) (drop 4 rest)) (sym (cc e)) }
+error_ends count blocks rest left frames.Many cause a e = record { after_it = drop 4 rest; left_is = a.1; is_end = λ next. ap (fold_step block_in compiled_in next count blocks rest) a.0 ∙ ap (λ (c : Cause). ends_at (Refused count c) (drop 4 rest)) (sym (cc e)) }
 error_ends count blocks rest left frames.Fault cause a e = absurd (cc e)
 error_ends count blocks rest left frames.Memory cause a e = absurd (cc e)
 
@@ -100,12 +100,12 @@ frames_error : (count : ℕ) (blocks : List Block) (before left : Option (List �
 frames_error count blocks before left error cause rest is answer because = error_ends count blocks rest left error cause (subst (λ (o : Option (List ℕ)). IfSome o (λ input. IsFrameAnswer count input (Err error) left)) is answer) because
 
 frame_refused : (count : ℕ) (blocks : List Block) (before left : Option (List ℕ)) (bytes : List ℕ) (more : ℕ) (refusal : Refusal) (rest : List ℕ) → before ≡ Some rest → IfSome before (λ input. IsFrameAnswer count input (Ok (Some (bytes, more))) left)
-    → judged compiled_in blocks (block_in bytes) ≡ Err refusal → FoldEnds count blocks rest left (Refused count (causes.Block refusal))
+    → judgement_of compiled_in blocks (block_in bytes) ≡ Err refusal → FoldEnds count blocks rest left (Refused count (causes.Block refusal))
 frame_refused count blocks before left bytes more refusal rest is answer judgement =
     let a = subst (λ (o : Option (List ℕ)). IfSome o (λ input. IsFrameAnswer count input (Ok (Some (bytes, more))) left)) is answer in
-    record { behind_it = a.0; left_is = a.2; is_end = λ next. ap (fold_step block_in compiled_in next count blocks rest) a.1 ∙ ap (fold_after_frame next count blocks a.0) judgement }
+    record { after_it = a.0; left_is = a.2; is_end = λ next. ap (fold_step block_in compiled_in next count blocks rest) a.1 ∙ ap (fold_after_frame next count blocks a.0) judgement }
 
--- what follows a frame that was judged: its line and block, and then others
+-- what follows a frame that was judgement_of: its line and block, and then others
 judged_lines : (next : List Block → List ℕ → Fold) (count : ℕ) (blocks : List Block) (rest : List ℕ) (judgement : Result Taken Refusal)
     → (more : List Line) × (fold_lines compiled_in blocks (fold_after_frame next count blocks rest judgement) ≡ lines_for blocks judgement ++ more)
 judged_lines next count blocks rest (Ok frame) =
@@ -130,8 +130,8 @@ module _ {D : Type 0} (now : D → ℕ) (disk : D → ℕ → Option DiskState) 
     pub blocks_are : blocks ≡ first ++ added_by_all taken
     pub is_node : IsNodeOf node (disk new (now new)) blocks
     pub sure : AreSure blocks (lines_of compiled_in first taken)
-    pub telling : IsTold (disk old (now old)) → Telling next_in_chain now disk told old new (lines_of compiled_in first taken) true
-    pub images : IsTold (disk old (now old)) → Keeps now disk old new (IsPartly next_in_chain first (added_by_all taken))
+    pub telling : IsKnown (disk old (now old)) → Telling next_in_chain now disk told old new (lines_of compiled_in first taken) true
+    pub images : IsKnown (disk old (now old)) → Keeps now disk old new (IsPartly next_in_chain first (added_by_all taken))
     pub unwritten : added_by_all taken ≡ [] → Stays now disk old new
     pub leads : (input : List ℕ) → left_old ≡ Some input → Leads input left_new count first blocks taken
 
@@ -158,21 +158,21 @@ module _ {D : Type 0} (now : D → ℕ) (disk : D → ℕ → Option DiskState) 
   -- a frame more
   pub goes_on : (old mid new : D) (node longer_node : NodeState) (count more : ℕ) (left_old left_mid left_new : Option (List ℕ)) (first : List Block) (bytes : List ℕ)
       → Progress old mid node count left_old left_mid first → count ≤ MAX_FRAMES → more ≡ count + 1 → IfSome left_mid (λ input. IsFrameAnswer count input (Ok (Some (bytes, more))) left_new)
-      → ((blocks : List Block) → IsNodeOf node (disk mid (now mid)) blocks → Takes now disk told mid new blocks (judged compiled_in blocks (block_in bytes)) (Ok (Ok longer_node)))
+      → ((blocks : List Block) → IsNodeOf node (disk mid (now mid)) blocks → Takes now disk told mid new blocks (judgement_of compiled_in blocks (block_in bytes)) (Ok (Ok longer_node)))
       → Progress old new longer_node more left_old left_new first
   goes_on old mid new node longer_node count more left_old left_mid left_new first bytes p bound one_more answer takes =
-      let j : Result Taken Refusal = judged compiled_in p.blocks (block_in bytes) in
+      let j : Result Taken Refusal = judgement_of compiled_in p.blocks (block_in bytes) in
       let t = takes p.blocks p.is_node in
       let frame : Taken = t.answer.0 in
       let e : j ≡ Ok frame = t.answer.1 in
-      let keeps = subst (λ (r : Result Taken Refusal). IsTold (disk mid (now mid)) → Keeps now disk mid new (IsStepOf p.blocks r)) e t.images in
-      let line = subst (λ (r : Result Taken Refusal). IsTold (disk mid (now mid)) → Telling next_in_chain now disk told mid new (lines_for p.blocks r) true) e t.lines in
+      let keeps = subst (λ (r : Result Taken Refusal). IsKnown (disk mid (now mid)) → Keeps now disk mid new (IsStepOf p.blocks r)) e t.images in
+      let line = subst (λ (r : Result Taken Refusal). IsKnown (disk mid (now mid)) → Telling next_in_chain now disk told mid new (lines_for p.blocks r) true) e t.lines in
       let lines : List Line = lines_of compiled_in first p.taken in
       let all : List Taken = p.taken ++ frame ∷ [] in
       let added : added_by_all all ≡ added_by_all p.taken ++ added_by frame = added_push p.taken frame in
       let lines_are : lines_of compiled_in first all ≡ lines ++ line_of compiled_in p.blocks frame ∷ [] =
       lines_append first p.taken (frame ∷ []) ∙ ap (λ (l : List Block). lines ++ line_of compiled_in l frame ∷ []) (sym p.blocks_are) in
-      let still_is = λ (is_told : IsTold (disk old (now old))). still_told now disk told old mid (IsPartly next_in_chain first (added_by_all p.taken)) (p.images is_told) is_told in
+      let still_is = λ (is_told : IsKnown (disk old (now old))). still_known now disk told old mid (IsPartly next_in_chain first (added_by_all p.taken)) (p.images is_told) is_told in
       record {
         taken = all;
         blocks = p.blocks ++ added_by frame;
@@ -211,13 +211,13 @@ module _ {D : Type 0} (now : D → ℕ) (disk : D → ℕ → Option DiskState) 
 
   -- the fold ends here
   ends_same : (old new : D) (node : NodeState) (count : ℕ) (left_old left_mid left : Option (List ℕ)) (first : List Block) (end : FoldEnd) (input : List ℕ) → (p : Progress old new node count left_old left_mid first) → count ≤ MAX_FRAMES
-      → (l : Leads input left_mid count first p.blocks p.taken) → (s : FoldEnds count p.blocks l.rest left end) → taken_before p.taken (ends_at end s.behind_it) ≡ fold_all first input
+      → (l : Leads input left_mid count first p.blocks p.taken) → (s : FoldEnds count p.blocks l.rest left end) → taken_before p.taken (ends_at end s.after_it) ≡ fold_all first input
   ends_same old new node count left_old left_mid left first end input p bound l s = sym (l.same ∙ ap (taken_before p.taken) (folded_turn count p.blocks l.rest bound ∙ s.is_end (fold_from block_in compiled_in (MAX_FRAMES - count))))
 
   -- what was told and left up to the end of the fold
-  all_of : (old new : D) (left : Option (List ℕ)) (first blocks : List Block) (taken : List Taken) (end : FoldEnd) (rest : List ℕ) (result : Result AppendEnd AppendStop)
-      → (IsTold (disk old (now old)) → Keeps now disk old new (IsPartly next_in_chain first (added_by_all taken))) → blocks ≡ first ++ added_by_all taken
-      → (IsTold (disk old (now old)) → Telling next_in_chain now disk told old new (lines_of compiled_in first taken ++ end_lines end) (is_ok result)) → IfOk result (λ answer. fold_end answer ≡ end)
+  all_of : (old new : D) (left : Option (List ℕ)) (first blocks : List Block) (taken : List Taken) (end : FoldEnd) (rest : List ℕ) (result : Result AppendEnd RunStop)
+      → (IsKnown (disk old (now old)) → Keeps now disk old new (IsPartly next_in_chain first (added_by_all taken))) → blocks ≡ first ++ added_by_all taken
+      → (IsKnown (disk old (now old)) → Telling next_in_chain now disk told old new (lines_of compiled_in first taken ++ end_lines end) (is_ok result)) → IfOk result (λ answer. fold_end answer ≡ end)
       → left ≡ Some rest → Rests (disk new (now new)) (λ image. chain_in image ≡ Some blocks) → (is_ok result ≡ true → added_by_all taken ≡ [] → Stays now disk old new)
       → AppendsAll now disk told old new left first (taken_before taken (ends_at end rest)) result
   all_of old new left first blocks taken end rest result images same telling is left_is rests unwritten = record {
@@ -227,7 +227,7 @@ module _ {D : Type 0} (now : D → ℕ) (disk : D → ℕ → Option DiskState) 
     ended = at_end result is;
   }
     where
-      at_end : (result : Result AppendEnd AppendStop) → IfOk result (λ answer. fold_end answer ≡ end) → IfOk result (HasEnded (disk new (now new)) left first (taken_before taken (ends_at end rest)))
+      at_end : (result : Result AppendEnd RunStop) → IfOk result (λ answer. fold_end answer ≡ end) → IfOk result (HasEnded (disk new (now new)) left first (taken_before taken (ends_at end rest)))
       at_end (Ok answer) is = record {
         end_is = is;
         left_is = left_is;
@@ -242,28 +242,28 @@ module _ {D : Type 0} (now : D → ℕ) (disk : D → ℕ → Option DiskState) 
       let l = p.leads input is in
       let s = frames_end count p.blocks left_mid left l.rest l.left_is answer in
       subst (λ (f : Fold). AppendsAll now disk told old new left first f (Ok ends.Whole)) (ends_same old new node count left_old left_mid left first Whole input p bound l s)
-      (all_of old new left first p.blocks p.taken Whole s.behind_it (Ok ends.Whole) p.images p.blocks_are
+      (all_of old new left first p.blocks p.taken Whole s.after_it (Ok ends.Whole) p.images p.blocks_are
       (λ is_told. subst (λ (ls : List Line). Telling next_in_chain now disk told old new ls true) (sym (append-nil (lines_of compiled_in first p.taken))) (p.telling is_told)) refl s.left_is
       (stands_at node.log p.blocks (disk new (now new)) p.is_node.log) (λ ok. p.unwritten))
 
-  refused_end : (frame count : ℕ) (cause : Cause) (result : Result AppendEnd AppendStop) → frame ≡ count → IfOk result (λ answer. answer ≡ ends.Refused frame cause) → IfOk result (λ answer. fold_end answer ≡ Refused count cause)
+  refused_end : (frame count : ℕ) (cause : Cause) (result : Result AppendEnd RunStop) → frame ≡ count → IfOk result (λ answer. answer ≡ ends.Refused frame cause) → IfOk result (λ answer. fold_end answer ≡ Refused count cause)
   refused_end frame count cause (Ok answer) number is = ap fold_end is ∙ ap (λ (n : ℕ). Refused n cause) number
   refused_end frame count cause (Err stop) number is = tt
 
   -- a frame is refused, and that is told
-  refused_at : (old mid new : D) (node : NodeState) (count frame : ℕ) (left_old left_mid left : Option (List ℕ)) (first : List Block) (input : List ℕ) (cause : Cause) (result : Result AppendEnd AppendStop) → (p : Progress old mid node count left_old left_mid first)
+  refused_at : (old mid new : D) (node : NodeState) (count frame : ℕ) (left_old left_mid left : Option (List ℕ)) (first : List Block) (input : List ℕ) (cause : Cause) (result : Result AppendEnd RunStop) → (p : Progress old mid node count left_old left_mid first)
       → count ≤ MAX_FRAMES → frame ≡ count → (l : Leads input left_mid count first p.blocks p.taken) → FoldEnds count p.blocks l.rest left (Refused count cause)
-      → (IsTold (disk mid (now mid)) → Keeps now disk mid new (λ image. chain_in image ≡ Some p.blocks)) → (IsTold (disk mid (now mid)) → Telling next_in_chain now disk told mid new (plain (refused_line frame cause) ∷ []) (is_ok result))
+      → (IsKnown (disk mid (now mid)) → Keeps now disk mid new (λ image. chain_in image ≡ Some p.blocks)) → (IsKnown (disk mid (now mid)) → Telling next_in_chain now disk told mid new (plain (refused_line frame cause) ∷ []) (is_ok result))
       → IfOk result (λ answer. answer ≡ ends.Refused frame cause) → Rests (disk new (now new)) (λ image. chain_in image ≡ Some p.blocks) → (is_ok result ≡ true → Stays now disk mid new)
       → AppendsAll now disk told old new left first (fold_all first input) result
   refused_at old mid new node count frame left_old left_mid left first input cause result p bound number l s images line end rests stays =
       let lines : List Line = lines_of compiled_in first p.taken in
-      let told_line = λ (is_told : IsTold (disk mid (now mid))). subst (λ (n : ℕ). Telling next_in_chain now disk told mid new (plain (refused_line n cause) ∷ []) (is_ok result)) number (line is_told) in
+      let told_line = λ (is_told : IsKnown (disk mid (now mid))). subst (λ (n : ℕ). Telling next_in_chain now disk told mid new (plain (refused_line n cause) ∷ []) (is_ok result)) number (line is_told) in
       let P : List ℕ → Type 0 = λ image. chain_in image ≡ Some p.blocks in
       let Q : List ℕ → Type 0 = IsPartly next_in_chain first (added_by_all p.taken) in
-      let still_is = λ (is_told : IsTold (disk old (now old))). still_told now disk told old mid Q (p.images is_told) is_told in
+      let still_is = λ (is_told : IsKnown (disk old (now old))). still_known now disk told old mid Q (p.images is_told) is_told in
       subst (λ (f : Fold). AppendsAll now disk told old new left first f result) (ends_same old mid node count left_old left_mid left first (Refused count cause) input p bound l s)
-      (all_of old new left first p.blocks p.taken (Refused count cause) s.behind_it result
+      (all_of old new left first p.blocks p.taken (Refused count cause) s.after_it result
       (λ is_told. then_keeps now disk old mid new Q (p.images is_told) (weaker now disk mid new P Q (images (still_is is_told))
       (λ image at. subst (λ (a : List Block). IsPartly next_in_chain first a image) (append-nil (added_by_all p.taken)) (partly_held next_in_chain first (added_by_all p.taken) [] p.blocks image p.blocks_are at))))
       p.blocks_are
@@ -275,7 +275,7 @@ module _ {D : Type 0} (now : D → ℕ) (disk : D → ℕ → Option DiskState) 
   same_rests mid new P rests stays = subst (λ (o : Option DiskState). Rests o P) (sym stays.last) rests
 
   -- the form of the frame is refused
-  pub refused_form : (old mid new : D) (node : NodeState) (count frame : ℕ) (left_old left_mid left : Option (List ℕ)) (first : List Block) (input : List ℕ) (error : FrameError) (cause : Cause) (result : Result AppendEnd AppendStop)
+  pub refused_form : (old mid new : D) (node : NodeState) (count frame : ℕ) (left_old left_mid left : Option (List ℕ)) (first : List Block) (input : List ℕ) (error : FrameError) (cause : Cause) (result : Result AppendEnd RunStop)
       → Progress old mid node count left_old left_mid first → count ≤ MAX_FRAMES
       → frame ≡ count → left_old ≡ Some input → IfSome left_mid (λ input. IsFrameAnswer count input (Err error) left) → IsCauseOf error (Ok cause) → Stays now disk mid new
       → Telling next_in_chain now disk told mid new (plain (refused_line frame cause) ∷ []) (is_ok result) → IfOk result (λ answer. answer ≡ ends.Refused frame cause) → AppendsAll now disk told old new left first (fold_all first input) result
@@ -287,10 +287,10 @@ module _ {D : Type 0} (now : D → ℕ) (disk : D → ℕ → Option DiskState) 
       (λ is_told. still next_in_chain now disk told mid new P (rests_each (disk mid (now mid)) P rests) stays) (λ is_told. line) end (same_rests mid new P rests stays) (λ ok. stays)
 
   -- the block of the frame is refused
-  pub refused_block : (old mid next new : D) (node : NodeState) (count more frame : ℕ) (left_old left_mid left : Option (List ℕ)) (first : List Block) (input bytes : List ℕ) (refusal : Refusal) (result : Result AppendEnd AppendStop)
+  pub refused_block : (old mid next new : D) (node : NodeState) (count more frame : ℕ) (left_old left_mid left : Option (List ℕ)) (first : List Block) (input bytes : List ℕ) (refusal : Refusal) (result : Result AppendEnd RunStop)
       → Progress old mid node count left_old left_mid first → count ≤ MAX_FRAMES
       → frame ≡ count → left_old ≡ Some input → IfSome left_mid (λ input. IsFrameAnswer count input (Ok (Some (bytes, more))) left)
-      → ((blocks : List Block) → IsNodeOf node (disk mid (now mid)) blocks → Takes now disk told mid next blocks (judged compiled_in blocks (block_in bytes)) (Ok (Err refusal))) → Stays now disk next new
+      → ((blocks : List Block) → IsNodeOf node (disk mid (now mid)) blocks → Takes now disk told mid next blocks (judgement_of compiled_in blocks (block_in bytes)) (Ok (Err refusal))) → Stays now disk next new
       → Telling next_in_chain now disk told next new (plain (refused_line frame (causes.Block refusal)) ∷ []) (is_ok result) → IfOk result (λ answer. answer ≡ ends.Refused frame (causes.Block refusal))
       → AppendsAll now disk told old new left first (fold_all first input) result
   refused_block old mid next new node count more frame left_old left_mid left first input bytes refusal result p bound number is answer takes stays line end =
@@ -298,17 +298,17 @@ module _ {D : Type 0} (now : D → ℕ) (disk : D → ℕ → Option DiskState) 
       let P : List ℕ → Type 0 = λ image. chain_in image ≡ Some p.blocks in
       let t = takes p.blocks p.is_node in
       let e = t.answer.0 in
-      let before = λ (is_told : IsTold (disk mid (now mid))). subst (λ (r : Result Taken Refusal). Keeps now disk mid next (IsStepOf p.blocks r)) e (t.images is_told) in
+      let before = λ (is_told : IsKnown (disk mid (now mid))). subst (λ (r : Result Taken Refusal). Keeps now disk mid next (IsStepOf p.blocks r)) e (t.images is_told) in
       let after : Keeps now disk next new P = still next_in_chain now disk told next new P (rests_each (disk next (now next)) P t.answer.1) stays in
-      let nothing = λ (is_told : IsTold (disk mid (now mid))). subst (λ (r : Result Taken Refusal). Telling next_in_chain now disk told mid next (lines_for p.blocks r) true) e (t.lines is_told) in
+      let nothing = λ (is_told : IsKnown (disk mid (now mid))). subst (λ (r : Result Taken Refusal). Telling next_in_chain now disk told mid next (lines_for p.blocks r) true) e (t.lines is_told) in
       refused_at old mid new node count frame left_old left_mid left first input (causes.Block refusal) result p bound number l (frame_refused count p.blocks left_mid left bytes more refusal l.rest l.left_is answer e)
       (λ is_told. then_keeps now disk mid next new P (before is_told) after)
       (λ is_told. join next_in_chain now disk told mid next new P [] (plain (refused_line frame (causes.Block refusal)) ∷ []) (is_ok result) (nothing is_told) after (λ image at. tt) line) end (same_rests next new P t.answer.1 stays) (λ ok. stays_on now disk mid next new (t.unwritten refl (ap added_for e)) stays)
 
   -- ---- a stop
 
-  stopped : (old new : D) (left : Option (List ℕ)) (first : List Block) (fold : Fold) (lines more : List Line) (added others : List Block) (all : Bool) (stop : AppendStop)
-      → (IsTold (disk old (now old)) → Keeps now disk old new (IsPartly next_in_chain first added)) → (IsTold (disk old (now old)) → Telling next_in_chain now disk told old new lines all)
+  stopped : (old new : D) (left : Option (List ℕ)) (first : List Block) (fold : Fold) (lines more : List Line) (added others : List Block) (all : Bool) (stop : RunStop)
+      → (IsKnown (disk old (now old)) → Keeps now disk old new (IsPartly next_in_chain first added)) → (IsKnown (disk old (now old)) → Telling next_in_chain now disk told old new lines all)
       → fold_lines compiled_in first fold ≡ lines ++ more → added_by_all fold.taken ≡ added ++ others → AppendsAll now disk told old new left first fold (Err stop)
   stopped old new left first fold lines more added others all stop images telling lines_are added_are = record {
     images = λ is_told. weaker now disk old new (IsPartly next_in_chain first added) (IsPartly next_in_chain first (added_by_all fold.taken)) (images is_told)
@@ -319,7 +319,7 @@ module _ {D : Type 0} (now : D → ℕ) (disk : D → ℕ → Option DiskState) 
   }
 
   -- the source failed, or memory ran out before the frame
-  pub stopped_before : (old new : D) (node : NodeState) (count : ℕ) (left_old left_mid left : Option (List ℕ)) (first : List Block) (input : List ℕ) (stop : AppendStop) → Progress old new node count left_old left_mid first → left_old ≡ Some input
+  pub stopped_before : (old new : D) (node : NodeState) (count : ℕ) (left_old left_mid left : Option (List ℕ)) (first : List Block) (input : List ℕ) (stop : RunStop) → Progress old new node count left_old left_mid first → left_old ≡ Some input
       → AppendsAll now disk told old new left first (fold_all first input) (Err stop)
   stopped_before old new node count left_old left_mid left first input stop p is =
       let l = p.leads input is in
@@ -329,14 +329,14 @@ module _ {D : Type 0} (now : D → ℕ) (disk : D → ℕ → Option DiskState) 
       (lines_before first p.taken f) (added_append p.taken f.taken))
 
   -- taking a frame was stopped
-  pub stopped_at : (old mid new : D) (node : NodeState) (count more : ℕ) (left_old left_mid left : Option (List ℕ)) (first : List Block) (input bytes : List ℕ) (stop : AppendStop) → Progress old mid node count left_old left_mid first → count ≤ MAX_FRAMES
+  pub stopped_at : (old mid new : D) (node : NodeState) (count more : ℕ) (left_old left_mid left : Option (List ℕ)) (first : List Block) (input bytes : List ℕ) (stop : RunStop) → Progress old mid node count left_old left_mid first → count ≤ MAX_FRAMES
       → left_old ≡ Some input → IfSome left_mid (λ input. IsFrameAnswer count input (Ok (Some (bytes, more))) left)
-      → ((blocks : List Block) → IsNodeOf node (disk mid (now mid)) blocks → Takes now disk told mid new blocks (judged compiled_in blocks (block_in bytes)) (Err stop))
+      → ((blocks : List Block) → IsNodeOf node (disk mid (now mid)) blocks → Takes now disk told mid new blocks (judgement_of compiled_in blocks (block_in bytes)) (Err stop))
       → AppendsAll now disk told old new left first (fold_all first input) (Err stop)
   stopped_at old mid new node count more left_old left_mid left first input bytes stop p bound is answer takes =
       let l = p.leads input is in
       let t = takes p.blocks p.is_node in
-      let j : Result Taken Refusal = judged compiled_in p.blocks (block_in bytes) in
+      let j : Result Taken Refusal = judgement_of compiled_in p.blocks (block_in bytes) in
       let a = subst (λ (o : Option (List ℕ)). IfSome o (λ rest. IsFrameAnswer count rest (Ok (Some (bytes, more))) left)) l.left_is answer in
       let next : List Block → List ℕ → Fold = fold_from block_in compiled_in (MAX_FRAMES - count) in
       let f : Fold = fold_after_frame next count p.blocks a.0 j in
@@ -346,7 +346,7 @@ module _ {D : Type 0} (now : D → ℕ) (disk : D → ℕ → Option DiskState) 
       let line = judged_lines next count p.blocks a.0 j in
       let others = judged_added next count p.blocks a.0 j in
       let P : List ℕ → Type 0 = IsPartly next_in_chain first (added ++ added_for j) in
-      let still_is = λ (is_told : IsTold (disk old (now old))). still_told now disk told old mid (IsPartly next_in_chain first added) (p.images is_told) is_told in
+      let still_is = λ (is_told : IsKnown (disk old (now old))). still_known now disk told old mid (IsPartly next_in_chain first added) (p.images is_told) is_told in
       subst (λ (x : Fold). AppendsAll now disk told old new left first x (Err stop)) (sym same)
       (stopped old new left first (taken_before p.taken f) (lines ++ lines_for p.blocks j) line.0 (added ++ added_for j) others.0 false stop
       (λ is_told. then_keeps now disk old mid new P
@@ -363,16 +363,16 @@ module _ {D : Type 0} (now : D → ℕ) (disk : D → ℕ → Option DiskState) 
   step_goes first blocks added (Ok frame) image same (inr is) = (added ++ added_by frame, is ∙ ap Some (ap (λ (b : List Block). b ++ added_by frame) same ∙ append_assoc first added (added_by frame)))
   step_goes first blocks added (Err refusal) image same is = (added, is ∙ ap Some same)
 
-  pub goes_from : (old new : D) (node : NodeState) (count : ℕ) (left_old left_new : Option (List ℕ)) (first : List Block) → Progress old new node count left_old left_new first → IsTold (disk old (now old)) → Keeps now disk old new (GoesFrom first)
+  pub goes_from : (old new : D) (node : NodeState) (count : ℕ) (left_old left_new : Option (List ℕ)) (first : List Block) → Progress old new node count left_old left_new first → IsKnown (disk old (now old)) → Keeps now disk old new (GoesFrom first)
   goes_from old new node count left_old left_new first p is_told = weaker now disk old new (IsPartly next_in_chain first (added_by_all p.taken)) (GoesFrom first) (p.images is_told) (λ image partly. (take partly.0 (added_by_all p.taken), partly.1))
 
   pub goes_still : (old mid new : D) (first : List Block) → Keeps now disk old mid (GoesFrom first) → Stays now disk mid new → Keeps now disk old new (GoesFrom first)
   goes_still old mid new first keeps stays = stay_keeps now disk old mid new (GoesFrom first) keeps stays
 
-  pub goes_step : (old mid new : D) (node : NodeState) (count : ℕ) (left_old left_new : Option (List ℕ)) (first : List Block) (bytes : List ℕ) (result : Result (Result NodeState Refusal) AppendStop) → Progress old mid node count left_old left_new first
-      → ((blocks : List Block) → IsNodeOf node (disk mid (now mid)) blocks → Takes now disk told mid new blocks (judged compiled_in blocks (block_in bytes)) result) → IsTold (disk old (now old)) → Keeps now disk old new (GoesFrom first)
+  pub goes_step : (old mid new : D) (node : NodeState) (count : ℕ) (left_old left_new : Option (List ℕ)) (first : List Block) (bytes : List ℕ) (result : Result (Result NodeState Refusal) RunStop) → Progress old mid node count left_old left_new first
+      → ((blocks : List Block) → IsNodeOf node (disk mid (now mid)) blocks → Takes now disk told mid new blocks (judgement_of compiled_in blocks (block_in bytes)) result) → IsKnown (disk old (now old)) → Keeps now disk old new (GoesFrom first)
   goes_step old mid new node count left_old left_new first bytes result p takes is_told =
       let t = takes p.blocks p.is_node in
-      let j : Result Taken Refusal = judged compiled_in p.blocks (block_in bytes) in
+      let j : Result Taken Refusal = judgement_of compiled_in p.blocks (block_in bytes) in
       then_keeps now disk old mid new (GoesFrom first) (goes_from old mid node count left_old left_new first p is_told)
       (weaker now disk mid new (IsStepOf p.blocks j) (GoesFrom first) (t.images ((p.images is_told).told ∙ is_told)) (λ image step. step_goes first p.blocks (added_by_all p.taken) j image p.blocks_are step))

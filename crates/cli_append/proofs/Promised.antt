@@ -14,7 +14,7 @@ use Rattle.block_codec.specs.declared.placement.Placement.TheVariants as placeme
 use Rattle.chain_exec.specs.Compiled.{compiled_in}
 use Rattle.chain_exec.specs.Replay.{replay}
 use Rattle.chain_replay.specs.Chain.{placement_in}
-use Rattle.chain_replay.specs.Judging.{Taken, Known, Added, judged, judged_by_placement, added_by, added_by_all}
+use Rattle.chain_replay.specs.Judging.{Taken, Known, Added, judgement_of, judged_by_placement, added_by, added_by_all}
 use Rattle.crash_promises.specs.Promises.{Line}
 use Rattle.crash_promises.proofs.Sure.{IsSure}
 use Rattle.cli_append.specs.Appending.{line_of, lines_of}
@@ -46,9 +46,9 @@ known_is_held held rows None parent block digest e =
     absurd (not_known (held == MAX_BLOCKS || nat_lt MAX_ROWS_BEFORE_BLOCK rows) (block.number == held) (is_same_digest block.parent parent) (nat_lt MAX_BLOCK_BUDGET (block_budget block)) held parent (block_budget block) e)
 
 -- the next block has the first number that is not held
-next_is_behind : (held rows : ℕ) (have : Option Digest) (parent : Digest) (block : Block) (digest : Digest) → placement held rows have parent block digest ≡ placements.Next → block.number ≡ held
-next_is_behind held rows (Some d) parent block digest e = absurd (not_next (is_same_digest d digest) d e)
-next_is_behind held rows None parent block digest e =
+next_is_after : (held rows : ℕ) (have : Option Digest) (parent : Digest) (block : Block) (digest : Digest) → placement held rows have parent block digest ≡ placements.Next → block.number ≡ held
+next_is_after held rows (Some d) parent block digest e = absurd (not_next (is_same_digest d digest) d e)
+next_is_after held rows None parent block digest e =
     eqb-true block.number held
     (number_is (held == MAX_BLOCKS || nat_lt MAX_ROWS_BEFORE_BLOCK rows) (block.number == held) (is_same_digest block.parent parent) (nat_lt MAX_BLOCK_BUDGET (block_budget block)) held parent (block_budget block) e)
 
@@ -63,7 +63,7 @@ sure_at blocks block placements.Known (Added b) is e = absurd (cc e)
 sure_at blocks block placements.Next (Known b) is e = absurd (cc e)
 sure_at blocks block placements.Next (Added b) is e =
     let same : block ≡ b = cc e in
-    let number : block.number ≡ length blocks = next_is_behind (length blocks) (length (replay compiled_in blocks).rows) (slice_get (map digest_of blocks) block.number) (last_digest (map digest_of blocks)) block (digest_of block) is in
+    let number : block.number ≡ length blocks = next_is_after (length blocks) (length (replay compiled_in blocks).rows) (slice_get (map digest_of blocks) block.number) (last_digest (map digest_of blocks)) block (digest_of block) is in
     let there : get_or (blocks ++ block ∷ []) block.number block ≡ block = get_or_push blocks block block block.number (sym number) in
     subst (λ (x : Block). slice_get (blocks ++ x ∷ []) x.number ≡ Some x) same (slice_get-get_or (blocks ++ block ∷ []) block.number block (omega (arith, number, length-append blocks (block ∷ []))) ∙ ap Some there)
 sure_at blocks block (placements.Fork have) frame is e = absurd (cc e)
@@ -73,7 +73,7 @@ sure_at blocks block (placements.Parent want) frame is e = absurd (cc e)
 sure_at blocks block (placements.Budget sum) frame is e = absurd (cc e)
 
 -- the chain after a frame has what the frame's line promises
-pub line_sure : (blocks : List Block) (spelled : Result Block ℕ) (frame : Taken) → judged compiled_in blocks spelled ≡ Ok frame → IsSure (blocks ++ added_by frame) (line_of compiled_in blocks frame).promise
+pub line_sure : (blocks : List Block) (spelled : Result Block ℕ) (frame : Taken) → judgement_of compiled_in blocks spelled ≡ Ok frame → IsSure (blocks ++ added_by frame) (line_of compiled_in blocks frame).promise
 line_sure blocks (Ok block) frame is = sure_at blocks block (placement_in compiled_in blocks block) frame refl is
 line_sure blocks (Err offset) frame is = absurd (cc is)
 

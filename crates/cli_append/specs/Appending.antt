@@ -17,7 +17,7 @@ use Rattle.crash_promises.specs.Promises.{Line, Holds, plain, Telling, IsPartly}
 use Rattle.cli_append.specs.Lines.{known_line, block_line}
 use Rattle.cli_append.specs.declared.ending.AppendEnd.{AppendEnd}
 use Rattle.cli_append.specs.declared.ending.AppendEnd.TheVariants as ends
-use Rattle.cli_append.specs.declared.ending.AppendStop.{AppendStop}
+use Rattle.cli_append.specs.declared.ending.RunStop.{RunStop}
 
 -- The line of a frame that was taken into a chain of these blocks. It promises that the chain has a
 -- block as its block of that number: the one that it held, or the one that was added.
@@ -47,11 +47,11 @@ fold_end ends.Whole = Whole
 fold_end (ends.Refused frame cause) = Refused frame cause
 
 -- The disk tells what it holds.
-abbrev pub IsTold : Option DiskState → Type 0
-IsTold state = is_some state ≡ true
+abbrev pub IsKnown : Option DiskState → Type 0
+IsKnown state = is_some state ≡ true
 
 -- It came to the end of this fold, from these blocks on: what follows what was taken of the input is
--- left; and where the disk is told, nothing is pending, and its content stands for the blocks and
+-- left; and where the disk is known, nothing is pending, and its content stands for the blocks and
 -- those that the fold adds.
 pub record HasEnded (state : Option DiskState) (left : Option (List ℕ)) (blocks : List Block) (fold : Fold) (end : AppendEnd) : Type 0 where
   pub end_is : fold_end end ≡ fold.end
@@ -60,13 +60,13 @@ pub record HasEnded (state : Option DiskState) (left : Option (List ℕ)) (block
 
 -- What becomes of the disk and of the wire, whatever is answered, where the frames of the input fold
 -- so from these blocks on.
-pub record AppendsAll {D : Type 0} (now : D → ℕ) (disk : D → ℕ → Option DiskState) (told : D → Option (List Tell)) (old new : D) (left : Option (List ℕ)) (blocks : List Block) (fold : Fold) (result : Result AppendEnd AppendStop) : Type 0 where
+pub record AppendsAll {D : Type 0} (now : D → ℕ) (disk : D → ℕ → Option DiskState) (told : D → Option (List Tell)) (old new : D) (left : Option (List ℕ)) (blocks : List Block) (fold : Fold) (result : Result AppendEnd RunStop) : Type 0 where
   -- A crash at any moment leaves the chain from before, and some first ones of the blocks that the
   -- fold adds.
-  pub images : IsTold (disk old (now old)) → Keeps now disk old new (IsPartly next_in_chain blocks (added_by_all fold.taken))
+  pub images : IsKnown (disk old (now old)) → Keeps now disk old new (IsPartly next_in_chain blocks (added_by_all fold.taken))
   -- All lines were told where it came to its end, else a prefix of them; and each line that was begun
   -- keeps its promise from then on.
-  pub lines : IsTold (disk old (now old)) → Telling next_in_chain now disk told old new (fold_lines compiled_in blocks fold) (is_ok result)
+  pub lines : IsKnown (disk old (now old)) → Telling next_in_chain now disk told old new (fold_lines compiled_in blocks fold) (is_ok result)
   -- Where it came to its end and the fold adds no block, the disk is as it was.
   pub unwritten : is_ok result ≡ true → added_by_all fold.taken ≡ [] → Stays now disk old new
   pub ended : IfOk result (HasEnded (disk new (now new)) left blocks fold)

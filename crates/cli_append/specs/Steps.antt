@@ -4,8 +4,8 @@ use Rattle.lc_io.specs.Disk.{DiskState, Stays}
 use Rattle.lc_io.specs.Outside.{Tell}
 use Rattle.disk_model.specs.Disk.{Keeps, Rests}
 use Rattle.block_codec.specs.declared.block.Block.{Block}
-use Rattle.block_codec.specs.declared.frames.FrameError.{FrameError}
-use Rattle.block_codec.specs.declared.frames.FrameError.TheVariants as frames
+use Rattle.block_codec.specs.declared.error.FrameError.{FrameError}
+use Rattle.block_codec.specs.declared.error.FrameError.TheVariants as frames
 use Rattle.chain_exec.specs.Compiled.{compiled_in}
 use Rattle.chain_replay.specs.Judging.{Taken, added_by}
 use Rattle.chain_replay.specs.declared.refusal.Refusal.{Refusal}
@@ -16,9 +16,9 @@ use Rattle.recovery.specs.declared.node.Appended.{Appended}
 use Rattle.recovery.specs.declared.node.Appended.TheVariants as appendeds
 use Rattle.crash_promises.specs.Promises.{Line, Telling}
 use Rattle.cli_append.specs.Lines.{known_line, block_line}
-use Rattle.cli_append.specs.Appending.{IsTold, line_of}
-use Rattle.cli_append.specs.declared.ending.AppendStop.{AppendStop}
-use Rattle.cli_append.specs.declared.ending.AppendStop.TheVariants as stops
+use Rattle.cli_append.specs.Appending.{IsKnown, line_of}
+use Rattle.cli_append.specs.declared.ending.RunStop.{RunStop}
+use Rattle.cli_append.specs.declared.ending.RunStop.TheVariants as stops
 
 -- The line of a block that was not refused.
 abbrev pub appended_text : Appended → List ℕ
@@ -26,7 +26,7 @@ appended_text (appendeds.Known number) = known_line number
 appended_text (appendeds.Added number rows receipts root) = block_line number rows receipts root.0
 
 -- What an error of the frames says of the input, or that it says nothing.
-abbrev pub IsCauseOf : FrameError → Result Cause AppendStop → Type 0
+abbrev pub IsCauseOf : FrameError → Result Cause RunStop → Type 0
 IsCauseOf frames.Truncated result = result ≡ Ok causes.Truncated
 IsCauseOf (frames.Length count) result = result ≡ Ok (causes.Length count)
 IsCauseOf frames.Many result = result ≡ Ok causes.Many
@@ -46,21 +46,21 @@ added_for (Ok frame) = added_by frame
 added_for (Err refusal) = []
 
 -- What is answered to a frame that is judged so: a node with the block that it adds, or why it is
--- refused; then, where the disk is told, nothing is pending, and it stands for the blocks.
-abbrev pub IsTaken : Option DiskState → List Block → Result Taken Refusal → Result (Result NodeState Refusal) AppendStop → Type 0
+-- refused; then, where the disk is known, nothing is pending, and it stands for the blocks.
+abbrev pub IsTaken : Option DiskState → List Block → Result Taken Refusal → Result (Result NodeState Refusal) RunStop → Type 0
 IsTaken state blocks judgement (Ok (Ok node)) = (frame : Taken) × (judgement ≡ Ok frame) × IsNodeOf node state (blocks ++ added_by frame)
 IsTaken state blocks judgement (Ok (Err refusal)) = (judgement ≡ Err refusal) × Rests state (λ image. chain_in image ≡ Some blocks)
 IsTaken state blocks judgement (Err stop) = Unit {0}
 
 -- A node goes on after the frame, and this is so of it.
-abbrev pub IfLonger : (NodeState → Type 0) → Result (Result NodeState Refusal) AppendStop → Type 0
+abbrev pub IfLonger : (NodeState → Type 0) → Result (Result NodeState Refusal) RunStop → Type 0
 IfLonger P (Ok (Ok node)) = P node
 IfLonger P (Ok (Err refusal)) = Unit {0}
 IfLonger P (Err stop) = Unit {0}
 
 -- A frame that is judged so was taken or refused, or taking it was stopped.
-pub record Takes {D : Type 0} (now : D → ℕ) (disk : D → ℕ → Option DiskState) (told : D → Option (List Tell)) (old new : D) (blocks : List Block) (judgement : Result Taken Refusal) (result : Result (Result NodeState Refusal) AppendStop) : Type 0 where
-  pub images : IsTold (disk old (now old)) → Keeps now disk old new (IsStepOf blocks judgement)
-  pub lines : IsTold (disk old (now old)) → Telling next_in_chain now disk told old new (lines_for blocks judgement) (is_ok result)
+pub record Takes {D : Type 0} (now : D → ℕ) (disk : D → ℕ → Option DiskState) (told : D → Option (List Tell)) (old new : D) (blocks : List Block) (judgement : Result Taken Refusal) (result : Result (Result NodeState Refusal) RunStop) : Type 0 where
+  pub images : IsKnown (disk old (now old)) → Keeps now disk old new (IsStepOf blocks judgement)
+  pub lines : IsKnown (disk old (now old)) → Telling next_in_chain now disk told old new (lines_for blocks judgement) (is_ok result)
   pub unwritten : is_ok result ≡ true → added_for judgement ≡ [] → Stays now disk old new
   pub answer : IsTaken (disk new (now new)) blocks judgement result

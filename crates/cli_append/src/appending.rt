@@ -2,17 +2,19 @@
 
 ghost use Rattle.std.specs.Prelude.{◌≡◌, true, ◌+◌, ℕ, List, Some, IsErrOf};
 ghost use Rattle.lc_base.specs.Faults.{HasCause};
-ghost use Rattle.block_codec.specs.Reading.{block_in};
-ghost use Rattle.block_codec.specs.declared.block.Block.{Block};
-ghost use Rattle.block_codec.specs.declared.limits.TheConstants.{MAX_FRAMES};
+ghost use Rattle.block_codec.specs.{
+  Reading.{block_in},
+  declared.block.Block.{Block},
+  declared.limits.TheConstants.{MAX_FRAMES},
+};
 ghost use Rattle.chain_exec.specs.Compiled.{compiled_in};
 ghost use Rattle.chain_input.specs.Folding.{fold_from};
-ghost use Rattle.scratch_model.specs.Scratch.{is_told, Retains};
+ghost use Rattle.scratch_model.specs.Scratch.{is_known, Retains};
 ghost use Rattle.recovery.specs.Node.{IsNodeOf, IsReady};
 ghost use Rattle.disk_model.specs.Disk.{Keeps};
-ghost use Rattle.cli_append.specs.Appending.{AppendsAll, GoesFrom, IsTold};
+ghost use Rattle.cli_append.specs.Appending.{AppendsAll, GoesFrom, IsKnown};
 
-use crate::ending::{AppendEnd, AppendStop};
+use crate::ending::{AppendEnd, RunStop};
 use crate::taking::{cause_of, take_frame};
 use crate::telling::refuse;
 use block_codec::Frames;
@@ -31,21 +33,21 @@ pub fn append<I: Source, M: Disk + Wire, S: Scratch>(
     machine: &mut M,
     scratch: &mut S,
     node: Node,
-) -> Result<AppendEnd, AppendStop>
+) -> Result<AppendEnd, RunStop>
     requires ready { IsReady node (M.disk machine.old (M.now machine.old)) (S.state scratch.old) }
     // Where the source tells what it has left, and the scratch device which bytes it holds, the frames
     // are taken, and told, as they fold.
-    ensures appends { is_told (S.state scratch.old) ≡ true → (blocks : List Block) (input : List ℕ) → IsNodeOf node (M.disk machine.old (M.now machine.old)) blocks → I.left source.old ≡ Some input
+    ensures appends { is_known (S.state scratch.old) ≡ true → (blocks : List Block) (input : List ℕ) → IsNodeOf node (M.disk machine.old (M.now machine.old)) blocks → I.left source.old ≡ Some input
         → AppendsAll M.now M.disk M.told machine.old machine.new (I.left source.new) blocks (fold_from block_in compiled_in (MAX_FRAMES + 1) blocks input) result }
     // Whether the source tells or not: a crash at any moment leaves the chain from before, and any blocks after it.
-    ensures goes_on { is_told (S.state scratch.old) ≡ true → (blocks : List Block) → IsNodeOf node (M.disk machine.old (M.now machine.old)) blocks → IsTold (M.disk machine.old (M.now machine.old)) → Keeps M.now M.disk machine.old machine.new (GoesFrom blocks) }
+    ensures goes_on { is_known (S.state scratch.old) ≡ true → (blocks : List Block) → IsNodeOf node (M.disk machine.old (M.now machine.old)) blocks → IsKnown (M.disk machine.old (M.now machine.old)) → Keeps M.now M.disk machine.old machine.new (GoesFrom blocks) }
     // What was on the scratch device stays there.
     ensures retains { Retains (S.state scratch.old) (S.state scratch.new) }
     // A source, a disk, a scratch device or a wire is blamed only where it failed.
-    ensures unreadable { HasCause (I.source_faults source.old) (I.source_faults source.new) (IsErrOf result AppendStop.Unreadable) }
-    ensures disk_fault { HasCause (M.disk_faults machine.old) (M.disk_faults machine.new) (IsErrOf result AppendStop.DiskFault) }
-    ensures scratch_fault { HasCause (S.scratch_faults scratch.old) (S.scratch_faults scratch.new) (IsErrOf result AppendStop.ScratchFault) }
-    ensures untold { HasCause (M.wire_faults machine.old) (M.wire_faults machine.new) (IsErrOf result AppendStop.Untold) }
+    ensures unreadable { HasCause (I.source_faults source.old) (I.source_faults source.new) (IsErrOf result RunStop.Unreadable) }
+    ensures disk_fault { HasCause (M.disk_faults machine.old) (M.disk_faults machine.new) (IsErrOf result RunStop.DiskFault) }
+    ensures scratch_fault { HasCause (S.scratch_faults scratch.old) (S.scratch_faults scratch.new) (IsErrOf result RunStop.ScratchFault) }
+    ensures untold { HasCause (M.wire_faults machine.old) (M.wire_faults machine.new) (IsErrOf result RunStop.Untold) }
 {
     let mut node = node;
     let mut frames = Frames::new();

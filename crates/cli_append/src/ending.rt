@@ -1,6 +1,9 @@
-//! How appending ends.
+//! How appending ends, and why a command stops.
+
+ghost use Rattle.std.specs.Prelude.{◌≡◌};
 
 use chain_input::Cause;
+use lc_base::Memory;
 
 /// How appending came to its end.
 #[derive(Clone, Copy, Debug, PartialEq, Eq)]
@@ -11,9 +14,9 @@ pub enum AppendEnd {
     Refused { frame: u32, cause: Cause },
 }
 
-/// Why appending stopped before its end.
+/// Why a command stopped before its end.
 #[derive(Clone, Copy, Debug, PartialEq, Eq)]
-pub enum AppendStop {
+pub enum RunStop {
     /// The source failed.
     Unreadable,
     /// The wire failed.
@@ -24,4 +27,14 @@ pub enum AppendStop {
     ScratchFault,
     /// Out of memory.
     Memory,
+}
+
+impl From<Memory> for RunStop {
+    ghost use Rattle.cli_append.specs.declared.ending.RunStop.TheVariants.{Memory};
+
+    ghost from_gives = { λ _ stop. stop ≡ Memory };
+
+    fn from(_memory: Memory) -> RunStop {
+        RunStop::Memory
+    }
 }

@@ -10,5 +10,5 @@ mod taking;
 mod telling;
 
 pub use appending::append;
-pub use ending::{AppendEnd, AppendStop};
+pub use ending::{AppendEnd, RunStop};
 pub use starting::start;

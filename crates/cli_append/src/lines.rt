@@ -1,10 +1,11 @@
 //! The lines that tell of blocks that were appended.
 
-ghost use Rattle.std.specs.Prelude.{◌≡◌, ◌∷◌, ◌++◌, IfOk, string_bytes};
-ghost use Rattle.std.specs.List.{flat_map};
-ghost use Rattle.cli_append.specs.Lines.{known_line, block_line, status_text, statuses_text};
-ghost use Rattle.cli_append.specs.Steps.{appended_text};
-ghost use Rattle.cli_append.specs.declared.lines.TheConstants.{COMMA};
+ghost use Rattle.std.specs.{Prelude.{◌≡◌, ◌∷◌, ◌++◌, IfOk, string_bytes}, List.{flat_map}};
+ghost use Rattle.cli_append.specs.{
+  Lines.{known_line, block_line, status_text, statuses_text},
+  Steps.{appended_text},
+  declared.lines.TheConstants.{COMMA},
+};
 
 use chain_exec::Receipt;
 use lc_base::{Bytes, Digest, Memory};

@@ -1,12 +1,13 @@
 //! The node that appending starts with.
 
 ghost use Rattle.std.specs.Prelude.{◌≡◌, true, ℕ, List, Some, IfOk, IsErr, IsErrOf};
-ghost use Rattle.lc_base.specs.Faults.{HasCause};
-ghost use Rattle.lc_io.specs.Disk.{Stays};
 ghost use Rattle.disk_model.specs.Disk.{IsSettled, content_of};
 ghost use Rattle.block_log.specs.Standing.{standing};
-ghost use Rattle.scratch_model.specs.Scratch.{is_told, Retains};
-ghost use Rattle.recovery.specs.Node.{IsReady, IsNodeStarted, next_in_chain};
+ghost use Rattle.scratch_model.specs.Scratch.{is_known, Serves};
+ghost use Rattle.recovery.specs.{
+  Node.{IsReady, IsNodeStarted, next_in_chain},
+  Restoring.{ReadsLog},
+};
 
 use disk_model::Disk;
 use lc_io::Failed;
@@ -19,10 +20,8 @@ use std::alloc::Global;
 /// then can't.
 fn settle<M: Disk>(machine: &mut M) -> Result<(), Failed>
     requires settled { IsSettled (M.disk machine.old (M.now machine.old)) }
-    ensures disk { Stays M.now M.disk machine.old machine.new }
-    ensures told { M.told machine.new ≡ M.told machine.old }
-    ensures wire_faults { M.wire_faults machine.new ≡ M.wire_faults machine.old }
-    ensures cause { HasCause (M.disk_faults machine.old) (M.disk_faults machine.new) (IsErr result) }
+    ensures { ReadsLog M.now M.disk M.disk_faults M.told M.wire_faults machine.old machine.new
+        (IsErr result) }
 {
     machine.sync()
 }
@@ -35,18 +34,16 @@ pub fn start<M: Disk, S: Scratch>(
     scratch: &mut S,
 ) -> Result<Node, StartError>
     requires settled { IsSettled (M.disk machine.old (M.now machine.old)) }
-    // Where it is told which bytes the scratch device holds, the node is that of the chain that the
+    // Where it is known which bytes the scratch device holds, the node is that of the chain that the
     // content stands for, or it stands for none.
-    ensures answer { is_told (S.state scratch.old) ≡ true → (content : List ℕ) → content_of (M.disk machine.old (M.now machine.old)) ≡ Some content
+    ensures answer { is_known (S.state scratch.old) ≡ true → (content : List ℕ) → content_of (M.disk machine.old (M.now machine.old)) ≡ Some content
         → IsNodeStarted (M.disk machine.new (M.now machine.new)) (standing next_in_chain content) result }
     // Whether the disk and the device tell what they hold or not, it is ready to take blocks.
     ensures ready { IfOk result (λ node. IsReady node (M.disk machine.new (M.now machine.new)) (S.state scratch.new)) }
-    ensures disk { Stays M.now M.disk machine.old machine.new }
-    ensures told { M.told machine.new ≡ M.told machine.old }
-    ensures wire_faults { M.wire_faults machine.new ≡ M.wire_faults machine.old }
-    ensures retains { Retains (S.state scratch.old) (S.state scratch.new) }
-    ensures disk_cause { HasCause (M.disk_faults machine.old) (M.disk_faults machine.new) (IsErrOf result StartError.DiskFault) }
-    ensures scratch_cause { HasCause (S.scratch_faults scratch.old) (S.scratch_faults scratch.new) (IsErrOf result StartError.ScratchFault) }
+    ensures machine { ReadsLog M.now M.disk M.disk_faults M.told M.wire_faults machine.old
+        machine.new (IsErrOf result StartError.DiskFault) }
+    ensures scratch { Serves S.state S.scratch_faults scratch.old scratch.new
+        (IsErrOf result StartError.ScratchFault) }
 {
     match Node::start(alloc, machine, scratch) {
         Ok(node) => match settle(machine) {

@@ -2,15 +2,14 @@
 
 ghost use Rattle.std.specs.Prelude.{◌≡◌, true, ℕ, List, IsErrOf};
 ghost use Rattle.lc_base.specs.Faults.{HasCause};
-ghost use Rattle.block_codec.specs.Reading.{block_in};
-ghost use Rattle.block_codec.specs.declared.block.Block.{Block};
+ghost use Rattle.block_codec.specs.{Reading.{block_in}, declared.block.Block.{Block}};
 ghost use Rattle.chain_exec.specs.Compiled.{compiled_in};
-ghost use Rattle.chain_replay.specs.Judging.{judged};
-ghost use Rattle.scratch_model.specs.Scratch.{is_told, Retains};
+ghost use Rattle.chain_replay.specs.Judging.{judgement_of};
+ghost use Rattle.scratch_model.specs.Scratch.{is_known, Retains};
 ghost use Rattle.recovery.specs.Node.{IsNodeOf, IsReady};
 ghost use Rattle.cli_append.specs.Steps.{IsCauseOf, IfLonger, Takes};
 
-use crate::ending::AppendStop;
+use crate::ending::RunStop;
 use crate::lines::appended_line;
 use crate::telling::tell_line;
 use block_codec::FrameError;
@@ -24,15 +23,15 @@ use scratch_model::Scratch;
 use std::alloc::Global;
 
 /// Why no further frame could be taken: what it says of the input, or that it says nothing.
-pub fn cause_of(error: FrameError) -> Result<Cause, AppendStop>
+pub fn cause_of(error: FrameError) -> Result<Cause, RunStop>
     ensures { IsCauseOf error result }
 {
     match error {
         FrameError::Truncated => Ok(Cause::Truncated),
         FrameError::Length(count) => Ok(Cause::Length(count)),
         FrameError::Many => Ok(Cause::Many),
-        FrameError::Fault => Err(AppendStop::Unreadable),
-        FrameError::Memory => Err(AppendStop::Memory),
+        FrameError::Fault => Err(RunStop::Unreadable),
+        FrameError::Memory => Err(RunStop::Memory),
     }
 }
 
@@ -50,16 +49,16 @@ pub fn take_frame<M: Disk + Wire, S: Scratch>(
     scratch: &mut S,
     node: Node,
     frame: &[u8],
-) -> Result<Result<Node, Refusal>, AppendStop>
+) -> Result<Result<Node, Refusal>, RunStop>
     requires ready { IsReady node (M.disk machine.old (M.now machine.old)) (S.state scratch.old) }
-    ensures takes { is_told (S.state scratch.old) ≡ true → (blocks : List Block) → IsNodeOf node (M.disk machine.old (M.now machine.old)) blocks
-        → Takes M.now M.disk M.told machine.old machine.new blocks (judged compiled_in blocks (block_in frame.now)) result }
+    ensures takes { is_known (S.state scratch.old) ≡ true → (blocks : List Block) → IsNodeOf node (M.disk machine.old (M.now machine.old)) blocks
+        → Takes M.now M.disk M.told machine.old machine.new blocks (judgement_of compiled_in blocks (block_in frame.now)) result }
     ensures ready { IfLonger (λ longer. IsReady longer (M.disk machine.new (M.now machine.new)) (S.state scratch.new)) result }
     ensures retains { Retains (S.state scratch.old) (S.state scratch.new) }
-    ensures disk_fault { HasCause (M.disk_faults machine.old) (M.disk_faults machine.new) (IsErrOf result AppendStop.DiskFault) }
-    ensures scratch_fault { HasCause (S.scratch_faults scratch.old) (S.scratch_faults scratch.new) (IsErrOf result AppendStop.ScratchFault) }
-    ensures untold { HasCause (M.wire_faults machine.old) (M.wire_faults machine.new) (IsErrOf result AppendStop.Untold) }
-    ensures reads { IsErrOf result AppendStop.Unreadable → ⊥ }
+    ensures disk_fault { HasCause (M.disk_faults machine.old) (M.disk_faults machine.new) (IsErrOf result RunStop.DiskFault) }
+    ensures scratch_fault { HasCause (S.scratch_faults scratch.old) (S.scratch_faults scratch.new) (IsErrOf result RunStop.ScratchFault) }
+    ensures untold { HasCause (M.wire_faults machine.old) (M.wire_faults machine.new) (IsErrOf result RunStop.Untold) }
+    ensures reads { IsErrOf result RunStop.Unreadable → ⊥ }
 {
     match node.append(alloc, machine, scratch, frame) {
         Ok((longer, appended)) => match appended_line(alloc, &appended) {
@@ -67,21 +66,21 @@ pub fn take_frame<M: Disk + Wire, S: Scratch>(
                 Ok(()) => Ok(Ok(longer)),
                 Err(Failed) => {
                     longer.give_up();
-                    Err(AppendStop::Untold)
+                    Err(RunStop::Untold)
                 }
             },
             Err(Memory) => {
                 longer.give_up();
-                Err(AppendStop::Memory)
+                Err(RunStop::Memory)
             }
         },
         Err((back, error)) => {
             give_up(back);
             match error {
                 AppendError::Refused(refusal) => Ok(Err(refusal)),
-                AppendError::DiskFault => Err(AppendStop::DiskFault),
-                AppendError::ScratchFault => Err(AppendStop::ScratchFault),
-                AppendError::Memory => Err(AppendStop::Memory),
+                AppendError::DiskFault => Err(RunStop::DiskFault),
+                AppendError::ScratchFault => Err(RunStop::ScratchFault),
+                AppendError::Memory => Err(RunStop::Memory),
             }
         }
     }

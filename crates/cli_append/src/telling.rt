@@ -2,12 +2,12 @@
 
 ghost use Rattle.std.specs.Prelude.{◌≡◌, [], ◌∷◌, IfOk, IsErr, IsErrOf, is_ok};
 ghost use Rattle.lc_base.specs.Faults.{HasCause};
-ghost use Rattle.lc_io.specs.Disk.{Stays};
+ghost use Rattle.disk_model.specs.Leaving.{LeavesDisk};
 ghost use Rattle.block_log.specs.Standing.{NextBlock};
 ghost use Rattle.cli_lines.specs.Lines.{refused_line as refused_text};
 ghost use Rattle.crash_promises.specs.Promises.{Promise, plain, IsKeptAt, Telling};
 
-use crate::ending::{AppendEnd, AppendStop};
+use crate::ending::{AppendEnd, RunStop};
 use chain_input::Cause;
 use cli_lines::refused_line;
 use lc_base::Memory;
@@ -19,8 +19,7 @@ pub fn tell_line<M: Wire>(machine: &mut M, line: &[u8]) -> Result<(), Failed>
     // Whatever the line promises that each image of the disk keeps now, each image since keeps.
     ensures lines { (next : NextBlock) (promise : Promise) → IsKeptAt next M.now M.disk machine.old promise
         → Telling next M.now M.disk M.told machine.old machine.new (record { text = line.now; promise = promise } ∷ []) (is_ok result) }
-    ensures disk { Stays M.now M.disk machine.old machine.new }
-    ensures disk_faults { M.disk_faults machine.new ≡ M.disk_faults machine.old }
+    ensures disk { LeavesDisk M.now M.disk M.disk_faults machine.old machine.new }
     ensures cause { HasCause (M.wire_faults machine.old) (M.wire_faults machine.new) (IsErr result) }
 {
     machine.tell(line)
@@ -32,21 +31,20 @@ pub fn refuse<M: Wire>(
     machine: &mut M,
     frame: u32,
     cause: Cause,
-) -> Result<AppendEnd, AppendStop>
+) -> Result<AppendEnd, RunStop>
     ensures lines { (next : NextBlock) → Telling next M.now M.disk M.told machine.old machine.new (plain (refused_text frame cause) ∷ []) (is_ok result) }
     ensures end { IfOk result (λ end. end ≡ AppendEnd.Refused frame cause) }
-    ensures disk { Stays M.now M.disk machine.old machine.new }
-    ensures disk_faults { M.disk_faults machine.new ≡ M.disk_faults machine.old }
-    ensures untold { HasCause (M.wire_faults machine.old) (M.wire_faults machine.new) (IsErrOf result AppendStop.Untold) }
-    ensures reads { IsErrOf result AppendStop.Unreadable → ⊥ }
-    ensures writes { IsErrOf result AppendStop.DiskFault → ⊥ }
-    ensures keeps { IsErrOf result AppendStop.ScratchFault → ⊥ }
+    ensures disk { LeavesDisk M.now M.disk M.disk_faults machine.old machine.new }
+    ensures untold { HasCause (M.wire_faults machine.old) (M.wire_faults machine.new) (IsErrOf result RunStop.Untold) }
+    ensures reads { IsErrOf result RunStop.Unreadable → ⊥ }
+    ensures writes { IsErrOf result RunStop.DiskFault → ⊥ }
+    ensures keeps { IsErrOf result RunStop.ScratchFault → ⊥ }
 {
     match refused_line(alloc, frame, &cause) {
         Ok(line) => match tell_line(machine, line.as_bytes()) {
             Ok(()) => Ok(AppendEnd::Refused { frame, cause }),
-            Err(Failed) => Err(AppendStop::Untold),
+            Err(Failed) => Err(RunStop::Untold),
         },
-        Err(Memory) => Err(AppendStop::Memory),
+        Err(Memory) => Err(RunStop::Memory),
     }
 }

@@ -1,5 +1,5 @@
 -- The lines that are told.
-use Rattle.std.specs.Prelude.{ℕ, List, [], ◌∷◌, ◌++◌, length, map, codes, decimal}
+use Rattle.std.specs.Prelude.{ℕ, List, [], ◌∷◌, ◌++◌, length, map, codes, decimal, Option, Some, None}
 use Rattle.std.specs.Fmt.{signed_decimal}
 use Rattle.lc_base.specs.declared.value.Value.{Value}
 use Rattle.lc_base.specs.declared.value.Value.TheVariants.{Int, Text}
@@ -42,13 +42,10 @@ answer_lines (Fwd block uses) = line (codes "block " ++ decimal block ++ codes "
 abbrev pub usage_line : List ℕ
 usage_line = line (codes "usage")
 
--- There is no block at all.
-abbrev pub empty_line : List ℕ
-empty_line = line (codes "beyond empty")
-
--- The head of the chain, past which was asked.
-abbrev pub head_line : ℕ → List ℕ
-head_line head = line (codes "beyond head " ++ decimal head)
+-- The head of the chain, past which was asked; or that there is no block at all.
+abbrev pub beyond_line : Option ℕ → List ℕ
+beyond_line None = line (codes "beyond empty")
+beyond_line (Some head) = line (codes "beyond head " ++ decimal head)
 
 -- The root at a block.
 abbrev pub root_line : ℕ → List ℕ → List ℕ

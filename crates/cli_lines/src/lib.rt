@@ -8,7 +8,7 @@ mod status;
 mod whole;
 
 pub use lines::{
-    answer_lines, bad_input_line, damaged_line, empty_line, head_line, load_line, not_a_log_line,
+    answer_lines, bad_input_line, beyond_line, damaged_line, hex_after, load_line, not_a_log_line,
     refused_line, root_line, usage_line,
 };
 pub use outcome::{Ending, Outcome};

@@ -1,8 +1,10 @@
 //! The lines that are told.
 
-ghost use Rattle.std.specs.Prelude.{◌≡◌, [], ◌∷◌, ◌++◌, codes, decimal, map, string_bytes, IfOk};
-ghost use Rattle.std.specs.Fmt.{signed_decimal};
-ghost use Rattle.cli_lines.specs.Lines.{usage_line, empty_line, head_line, refusal_text, cause_text, refused_line, value_text, dep_line, answer_lines, bad_input_line, not_a_log_line, damaged_line, root_line, load_line, line};
+ghost use Rattle.std.specs.{
+  Prelude.{◌≡◌, [], ◌∷◌, ◌++◌, codes, decimal, map, string_bytes, IfOk},
+  Fmt.{signed_decimal},
+};
+ghost use Rattle.cli_lines.specs.Lines.{usage_line, beyond_line, refusal_text, cause_text, refused_line, value_text, dep_line, answer_lines, bad_input_line, not_a_log_line, damaged_line, root_line, load_line, line};
 ghost use Rattle.hex.specs.Hex.{encode_lower};
 
 use chain_input::Cause;
@@ -26,29 +28,33 @@ pub fn usage_line(alloc: Global) -> Result<Bytes, Memory>
     line(alloc, "usage")
 }
 
-/// There is no block at all.
-pub fn empty_line(alloc: Global) -> Result<Bytes, Memory>
-    ensures { IfOk result (λ bytes. bytes ≡ empty_line) }
+/// A block past the head was asked for, or there is no block at all.
+pub fn beyond_line(alloc: Global, head: Option<u32>) -> Result<Bytes, Memory>
+    ensures { IfOk result (λ bytes. bytes ≡ beyond_line head) }
 {
-    line(alloc, "beyond empty")
+    match head {
+        None => line(alloc, "beyond empty"),
+        Some(head) => {
+            let text = format!(in alloc; "beyond head {head}")?;
+            line(alloc, text.as_str())
+        }
+    }
 }
 
-/// A block past the head was asked for.
-pub fn head_line(alloc: Global, head: u32) -> Result<Bytes, Memory>
-    ensures { IfOk result (λ bytes. bytes ≡ head_line head) }
+/// Bytes in lower-case hex, after a word.
+pub fn hex_after(alloc: Global, word: &str, bytes: &[u8]) -> Result<String, AllocError>
+    ensures { IfOk result (λ text. string_bytes text ≡ word.now ++ encode_lower bytes.now) }
 {
-    let text = format!(in alloc; "beyond head {head}")?;
-    line(alloc, text.as_str())
+    let mut text = String::from_str(alloc, word)?;
+    let hex = hex::encode(alloc, bytes)?;
+    text.push_str(hex.as_str())?;
+    Ok(text)
 }
 
-/// A digest in lower-case hex, after a word.
 fn digest_text(alloc: Global, word: &str, digest: &Digest) -> Result<String, AllocError>
     ensures { IfOk result (λ text. string_bytes text ≡ word.now ++ encode_lower digest.now.0) }
 {
-    let mut text = String::from_str(alloc, word)?;
-    let hex = hex::encode(alloc, digest.0.as_slice())?;
-    text.push_str(hex.as_str())?;
-    Ok(text)
+    hex_after(alloc, word, digest.0.as_slice())
 }
 
 /// The root at the block of this number.

@@ -1,25 +1,27 @@
 //! Inputs that are read whole.
 
 ghost use Rattle.lc_base.specs.Faults.{HasCause};
-ghost use Rattle.std.specs.Prelude.{◌≡◌, ◌<◌, ◌≤◌, length, vec_len, IfOk, IfSome, IsErrOf};
-ghost use Rattle.cli_lines.specs.declared.whole.TheConstants.{MAX_WHOLE_INPUT_BYTES};
-ghost use Rattle.cli_lines.specs.Whole.{IsWholeInput};
+ghost use Rattle.std.specs.Prelude.{◌≡◌, ◌<◌, ◌≤◌, length, IfOk, IfSome, IsErrOf};
+ghost use Rattle.cli_lines.specs.{
+  declared.whole.TheConstants.{MAX_WHOLE_INPUT_BYTES},
+  Whole.{IsWholeInput},
+};
 
-use chain_input::Stop;
-use lc_base::Bytes;
+use lc_base::{Bytes, HostError, Memory, zeros};
 use lc_io::Source;
-use std::alloc::{AllocError, Global};
+use std::alloc::Global;
 
 /// The greatest number of bytes of an input that is read whole.
 pub const MAX_WHOLE_INPUT_BYTES: usize = 67_108_864;
 
+/// How many bytes a pull asks for.
 const CHUNK: usize = 65_536;
 
-/// Room for the bytes of one pull.
-fn chunk(alloc: Global) -> Result<Vec<u8>, AllocError>
-    ensures { IfOk result (λ chunk. 0 < vec_len chunk) }
+/// Room for so many bytes.
+fn room(alloc: Global, count: usize) -> Result<Vec<u8>, Memory>
+    ensures { IfOk result (λ room. length room.items ≡ count) }
 {
-    Vec::from_elem(alloc, 0, CHUNK)
+    zeros(alloc, count)
 }
 
 /// All bytes that the source has left, pulled by way of the chunk; `None` where there are more than
@@ -28,11 +30,11 @@ fn read_by<I: Source>(
     alloc: Global,
     source: &mut I,
     chunk: &mut [u8],
-) -> Result<Option<Bytes>, Stop>
+) -> Result<Option<Bytes>, HostError>
     requires { 0 < length chunk.old }
     ensures whole { IfSome (I.left source.old) (λ input. IfOk result (λ found. IsWholeInput found input (I.left source.new))) }
     ensures bound { IfOk result (λ found. IfSome found (λ bytes. length bytes ≤ MAX_WHOLE_INPUT_BYTES)) }
-    ensures cause { HasCause (I.source_faults source.old) (I.source_faults source.new) (IsErrOf result Stop.Fault) }
+    ensures cause { HasCause (I.source_faults source.old) (I.source_faults source.new) (IsErrOf result HostError.Fault) }
 {
     let mut bytes = Vec::new(alloc);
     'pulls: loop {
@@ -50,11 +52,11 @@ fn read_by<I: Source>(
 
 /// All bytes that the source has left; `None` where there are more than `MAX_WHOLE_INPUT_BYTES`, of
 /// which one too many is taken then.
-pub fn read_whole<I: Source>(alloc: Global, source: &mut I) -> Result<Option<Bytes>, Stop>
+pub fn read_whole<I: Source>(alloc: Global, source: &mut I) -> Result<Option<Bytes>, HostError>
     ensures whole { IfSome (I.left source.old) (λ input. IfOk result (λ found. IsWholeInput found input (I.left source.new))) }
     ensures bound { IfOk result (λ found. IfSome found (λ bytes. length bytes ≤ MAX_WHOLE_INPUT_BYTES)) }
-    ensures cause { HasCause (I.source_faults source.old) (I.source_faults source.new) (IsErrOf result Stop.Fault) }
+    ensures cause { HasCause (I.source_faults source.old) (I.source_faults source.new) (IsErrOf result HostError.Fault) }
 {
-    let mut chunk = chunk(alloc)?;
+    let mut chunk = room(alloc, CHUNK)?;
     read_by(alloc, source, &mut chunk)
 }

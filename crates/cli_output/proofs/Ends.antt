@@ -10,8 +10,8 @@ use Rattle.cli_output.specs.Output.{asks_for_block}
 use Rattle.cli_output.specs.Running.{MayEnd}
 use Rattle.cli_output.specs.Scanning.{EndsAsked}
 use Rattle.cli_output.specs.Telling.{status_of_result, status_of_stop}
-use Rattle.cli_output.specs.declared.stop.RunStop.{RunStop}
-use Rattle.cli_output.specs.declared.stop.RunStop.TheVariants as stops
+use Rattle.cli_append.specs.declared.ending.RunStop.{RunStop}
+use Rattle.cli_append.specs.declared.ending.RunStop.TheVariants as stops
 
 -- an outcome that was told, or that the wire failed for
 told_ends : (outcome : Outcome) (result : Result Ending RunStop) (command : Option Command) → IfOk result (λ ending. ending ≡ outcome.ending) → IfErr result (λ stop. stop ≡ stops.Untold) → MayEnd (status_of outcome.ending) command → MayEnd (status_of_result result) command

@@ -8,8 +8,8 @@ use Rattle.lc_io.specs.Outside.{Tell}
 use Rattle.disk_model.specs.Disk.{IsSettled, Keeps, Rests, content_of}
 use Rattle.disk_model.proofs.Moments.{weaker, stays_on}
 use Rattle.block_codec.specs.declared.block.Block.{Block}
-use Rattle.chain_input.specs.declared.stop.Stop.{Stop}
-use Rattle.chain_input.specs.declared.stop.Stop.TheVariants as reads
+use Rattle.lc_base.specs.declared.host_error.HostError.{HostError}
+use Rattle.lc_base.specs.declared.host_error.HostError.TheVariants as reads
 use Rattle.block_log.specs.Standing.{Standing, Blank, NotALog, Damaged, Holds, NextBlock, blocks_of}
 use Rattle.block_log.specs.Standing.{blocks_in, standing}
 use Rattle.chain_replay.specs.Chain.{ChainState, StandsFor}
@@ -30,8 +30,8 @@ use Rattle.cli_output.specs.Running.{came_to_end, leaves, Meets, IsGiven}
 use Rattle.cli_output.specs.Telling.{status_of_stop, status_of_result, stop_of_outcome, Says}
 use Rattle.cli_output.specs.Telling.{StopsSilent, TellsAnswer, TellsResult, TellsStart}
 use Rattle.cli_output.specs.declared.stop.OutcomeStop.{OutcomeStop}
-use Rattle.cli_output.specs.declared.stop.RunStop.{RunStop}
-use Rattle.cli_output.specs.declared.stop.RunStop.TheVariants as stops
+use Rattle.cli_append.specs.declared.ending.RunStop.{RunStop}
+use Rattle.cli_append.specs.declared.ending.RunStop.TheVariants as stops
 
 -- ---- statuses
 
@@ -245,7 +245,7 @@ module _ {D : Type 0} (now : D → ℕ) (disk : D → ℕ → Option DiskState)
 
   pub reading_since : (old mid new : D) (Wanted : Output → Type 0) (some : Output) → Wanted some
       → some.change ≡ NoChange
-      → (found : Result Outcome Stop) (result : Result Ending RunStop)
+      → (found : Result Outcome HostError) (result : Result Ending RunStop)
       (left_old left_new : Option (List ℕ)) (input content : List ℕ)
       → Rests (disk old (now old)) (λ c. c ≡ content) → Stays now disk old new → told mid ≡ told old
       → left_old ≡ Some input → TellsResult next_in_chain now disk told mid new found result

@@ -1,6 +1,6 @@
 -- What a command wants told of an input and of the content of the disk, how it ends, what it leaves of
 -- the input, and what it does to the log.
-use Rattle.std.specs.Prelude.{◌≡◌, ℕ, ◌+◌, ◌-◌, ◌<◌, ◌≤◌, ◌==◌, ◌&&◌, nat_le, nat_lt, Bool, true, false, if◌then◌else◌, List, [], ◌∷◌, length, drop, map, Option, Some, None, Ok, Err, codes}
+use Rattle.std.specs.Prelude.{◌≡◌, ℕ, ◌+◌, ◌-◌, ◌<◌, ◌≤◌, ◌==◌, ◌&&◌, ◌||◌, nat_le, nat_lt, Bool, true, false, if◌then◌else◌, List, [], ◌∷◌, length, drop, map, Option, Some, None, Ok, Err, codes}
 use Rattle.std.specs.List.{concat}
 use Rattle.lc_base.specs.History.{scan}
 use Rattle.lc_base.specs.declared.answer.Kind.{Kind}
@@ -23,8 +23,8 @@ use Rattle.rooted_chain.specs.Roots.{root_in}
 use Rattle.chain_input.specs.Folding.{Fold, FoldEnd, Whole, Refused, fold_from, fold_input}
 use Rattle.crash_promises.specs.Promises.{Line, plain, Change, NoChange, Appends}
 use Rattle.cli_append.specs.Appending.{fold_lines}
-use Rattle.chain_pack.specs.Draft.{packed}
-use Rattle.chain_gen.specs.Generator.{generated}
+use Rattle.chain_pack.specs.Draft.{texts_of_draft}
+use Rattle.chain_gen.specs.Generator.{blocks_of_seed}
 use Rattle.chain_load.specs.Loads.{load_of}
 use Rattle.proof_codec.specs.declared.proof.Proof.{Proof}
 use Rattle.proof_checks.specs.Making.{made_proof}
@@ -36,7 +36,7 @@ use Rattle.proof_commands.specs.declared.verification.Verification.{Verification
 use Rattle.cli_words.specs.declared.words.Generation.{Generation}
 use Rattle.cli_words.specs.declared.words.Command.{Command}
 use Rattle.cli_words.specs.declared.words.Command.TheVariants.{Scan, Fmt, Pack, Gen, Load, Append, Root, Ask, Prove, Verify, Expose}
-use Rattle.cli_lines.specs.Lines.{usage_line, empty_line, head_line, root_line, load_line, refused_line, answer_lines, syntax_cause, check_cause, not_a_log_line, damaged_line}
+use Rattle.cli_lines.specs.Lines.{usage_line, beyond_line, root_line, load_line, refused_line, answer_lines, syntax_cause, check_cause, not_a_log_line, damaged_line}
 use Rattle.cli_lines.specs.Outcome.{status_of, outcome_with, bad_input}
 use Rattle.cli_lines.specs.declared.whole.TheConstants.{MAX_WHOLE_INPUT_BYTES}
 use Rattle.cli_lines.specs.declared.outcome.Outcome.{Outcome}
@@ -74,8 +74,7 @@ usage_output input = record { lines = plain usage_line ∷ []; status = statuses
 
 -- What is told where a block past the head is asked for, or where there is none.
 abbrev pub beyond_outcome : Option ℕ → Outcome
-beyond_outcome None = outcome_with (empty_line ∷ []) endings.Beyond
-beyond_outcome (Some head) = outcome_with (head_line head ∷ []) endings.Beyond
+beyond_outcome head = outcome_with (beyond_line head ∷ []) endings.Beyond
 
 -- The same, by the blocks of the chain.
 abbrev pub beyond_head : List Block → Outcome
@@ -146,14 +145,14 @@ pub data IsVerifyOutput (root : List ℕ) (query : Query) (input : List ℕ) : O
 abbrev pub pack_output : List ℕ → Output
 pack_output input =
     if nat_lt MAX_WHOLE_INPUT_BYTES (length input) then long_output input
-    else output_of (draft_outcome (packed input)) []
+    else output_of (draft_outcome (texts_of_draft input)) []
 
 -- ---- blocks that are made
 
 -- What `gen` tells: the frame of each block. It leaves the input.
 abbrev pub gen_output : Generation → List ℕ → Output
 gen_output generation input =
-    record { lines = map plain (map frame (generated generation.blocks generation.seed)); status = statuses.Done; left = input; change = NoChange }
+    record { lines = map plain (map frame (blocks_of_seed generation.blocks generation.seed)); status = statuses.Done; left = input; change = NoChange }
 
 -- What `load` tells: one line of the load of these blocks.
 abbrev pub load_outcome : Compiler → Generation → Outcome
@@ -293,138 +292,60 @@ pub record IsOneOutput (Wanted : Output → Type 0) : Type 0 where
 
 -- ---- what a command uses
 
--- Whether a command, or words that are none, reads the input.
+-- Whether a command, or words that are none, takes frames of blocks.
+abbrev pub takes_frames : Option Command → Bool
+takes_frames (Some (Scan query)) = true
+takes_frames (Some Append) = true
+takes_frames other = false
+
+-- Whether it reads the input whole, as a text.
+abbrev pub reads_whole : Option Command → Bool
+reads_whole (Some Fmt) = true
+reads_whole (Some Pack) = true
+reads_whole (Some (Verify root query)) = true
+reads_whole (Some (Expose root query root_at)) = true
+reads_whole other = false
+
+-- Whether it reads the input: frame by frame, or whole.
 abbrev pub reads_input : Option Command → Bool
-reads_input None = false
-reads_input (Some (Scan query)) = true
-reads_input (Some Fmt) = true
-reads_input (Some Pack) = true
-reads_input (Some (Gen generation)) = false
-reads_input (Some (Load generation)) = false
-reads_input (Some Append) = true
-reads_input (Some (Root at)) = false
-reads_input (Some (Ask kind key at)) = false
-reads_input (Some (Prove query root_at)) = false
-reads_input (Some (Verify root query)) = true
-reads_input (Some (Expose root query root_at)) = true
+reads_input command = takes_frames command || reads_whole command
 
 -- Whether it uses the disk.
 abbrev pub uses_disk : Option Command → Bool
-uses_disk None = false
-uses_disk (Some (Scan query)) = false
-uses_disk (Some Fmt) = false
-uses_disk (Some Pack) = false
-uses_disk (Some (Gen generation)) = false
-uses_disk (Some (Load generation)) = false
 uses_disk (Some Append) = true
 uses_disk (Some (Root at)) = true
 uses_disk (Some (Ask kind key at)) = true
 uses_disk (Some (Prove query root_at)) = true
-uses_disk (Some (Verify root query)) = false
 uses_disk (Some (Expose root query root_at)) = true
+uses_disk other = false
 
--- Whether it uses the scratch device. The questions `hist`, `back` and `fwd` run the blocks of the log
--- into rows in memory, and use none.
+-- Whether it uses the scratch device: as those that use the disk do, but for the questions `hist`, `back`
+-- and `fwd`, which run the blocks of the log into rows in memory; and as `load` does.
 abbrev pub uses_scratch : Option Command → Bool
-uses_scratch None = false
-uses_scratch (Some (Scan query)) = false
-uses_scratch (Some Fmt) = false
-uses_scratch (Some Pack) = false
-uses_scratch (Some (Gen generation)) = false
 uses_scratch (Some (Load generation)) = true
-uses_scratch (Some Append) = true
-uses_scratch (Some (Root at)) = true
 uses_scratch (Some (Ask kind key at)) = false
-uses_scratch (Some (Prove query root_at)) = true
-uses_scratch (Some (Verify root query)) = false
-uses_scratch (Some (Expose root query root_at)) = true
+uses_scratch other = uses_disk other
 
 -- Whether it may change the log.
 abbrev pub changes_log : Option Command → Bool
-changes_log None = false
-changes_log (Some (Scan query)) = false
-changes_log (Some Fmt) = false
-changes_log (Some Pack) = false
-changes_log (Some (Gen generation)) = false
-changes_log (Some (Load generation)) = false
 changes_log (Some Append) = true
-changes_log (Some (Root at)) = false
-changes_log (Some (Ask kind key at)) = false
-changes_log (Some (Prove query root_at)) = false
-changes_log (Some (Verify root query)) = false
-changes_log (Some (Expose root query root_at)) = false
+changes_log other = false
 
--- Whether it takes frames of blocks.
-abbrev pub takes_frames : Option Command → Bool
-takes_frames None = false
-takes_frames (Some (Scan query)) = true
-takes_frames (Some Fmt) = false
-takes_frames (Some Pack) = false
-takes_frames (Some (Gen generation)) = false
-takes_frames (Some (Load generation)) = false
-takes_frames (Some Append) = true
-takes_frames (Some (Root at)) = false
-takes_frames (Some (Ask kind key at)) = false
-takes_frames (Some (Prove query root_at)) = false
-takes_frames (Some (Verify root query)) = false
-takes_frames (Some (Expose root query root_at)) = false
-
--- Whether it asks for a block of a chain.
+-- Whether it asks for a block of a chain: of the input, as `scan` does, or of the log, as those that use the
+-- disk do, but for `append`.
 abbrev pub asks_for_block : Option Command → Bool
-asks_for_block None = false
 asks_for_block (Some (Scan query)) = true
-asks_for_block (Some Fmt) = false
-asks_for_block (Some Pack) = false
-asks_for_block (Some (Gen generation)) = false
-asks_for_block (Some (Load generation)) = false
 asks_for_block (Some Append) = false
-asks_for_block (Some (Root at)) = true
-asks_for_block (Some (Ask kind key at)) = true
-asks_for_block (Some (Prove query root_at)) = true
-asks_for_block (Some (Verify root query)) = false
-asks_for_block (Some (Expose root query root_at)) = true
+asks_for_block other = uses_disk other
 
 -- Whether it checks a proof.
 abbrev pub checks_proof : Option Command → Bool
-checks_proof None = false
-checks_proof (Some (Scan query)) = false
-checks_proof (Some Fmt) = false
-checks_proof (Some Pack) = false
-checks_proof (Some (Gen generation)) = false
-checks_proof (Some (Load generation)) = false
-checks_proof (Some Append) = false
-checks_proof (Some (Root at)) = false
-checks_proof (Some (Ask kind key at)) = false
-checks_proof (Some (Prove query root_at)) = false
 checks_proof (Some (Verify root query)) = true
 checks_proof (Some (Expose root query root_at)) = true
-
--- Whether it reads the input whole, as a text.
-abbrev pub reads_whole : Option Command → Bool
-reads_whole None = false
-reads_whole (Some (Scan query)) = false
-reads_whole (Some Fmt) = true
-reads_whole (Some Pack) = true
-reads_whole (Some (Gen generation)) = false
-reads_whole (Some (Load generation)) = false
-reads_whole (Some Append) = false
-reads_whole (Some (Root at)) = false
-reads_whole (Some (Ask kind key at)) = false
-reads_whole (Some (Prove query root_at)) = false
-reads_whole (Some (Verify root query)) = true
-reads_whole (Some (Expose root query root_at)) = true
+checks_proof other = false
 
 -- Whether it tells lines while it makes others.
 abbrev pub tells_as_it_goes : Option Command → Bool
-tells_as_it_goes None = false
-tells_as_it_goes (Some (Scan query)) = false
-tells_as_it_goes (Some Fmt) = false
-tells_as_it_goes (Some Pack) = false
 tells_as_it_goes (Some (Gen generation)) = true
-tells_as_it_goes (Some (Load generation)) = false
 tells_as_it_goes (Some Append) = true
-tells_as_it_goes (Some (Root at)) = false
-tells_as_it_goes (Some (Ask kind key at)) = false
-tells_as_it_goes (Some (Prove query root_at)) = false
-tells_as_it_goes (Some (Verify root query)) = false
-tells_as_it_goes (Some (Expose root query root_at)) = false
+tells_as_it_goes other = false

@@ -15,19 +15,12 @@ use Rattle.cli_output.specs.Output.{Output, Wants, next_by, reads_input, uses_di
 
 -- Whether a run with this status came to its end: nothing outside failed, and memory did not run out.
 abbrev pub came_to_end : Status → Bool
-came_to_end statuses.Done = true
-came_to_end statuses.Usage = true
 came_to_end statuses.Unreadable = false
 came_to_end statuses.Untold = false
 came_to_end statuses.DiskFault = false
-came_to_end statuses.Memory = false
-came_to_end statuses.NotALog = true
-came_to_end statuses.Damaged = true
-came_to_end statuses.Refused = true
-came_to_end statuses.Beyond = true
-came_to_end statuses.Rejected = true
-came_to_end statuses.BadInput = true
 came_to_end statuses.ScratchFault = false
+came_to_end statuses.Memory = false
+came_to_end other = true
 
 -- Which commands may end with a status. Every one may be out of memory, or have a wire that fails.
 abbrev pub MayEnd : Status → Option Command → Type 0
@@ -48,21 +41,11 @@ MayEnd statuses.ScratchFault command = uses_scratch command ≡ true
 -- Whether a run with this status found no log that it could read: the disk holds something else, or
 -- the log is damaged.
 abbrev pub found_no_log : Status → Bool
-found_no_log statuses.Done = false
-found_no_log statuses.Usage = false
-found_no_log statuses.Unreadable = false
-found_no_log statuses.Untold = false
-found_no_log statuses.DiskFault = false
-found_no_log statuses.Memory = false
 found_no_log statuses.NotALog = true
 found_no_log statuses.Damaged = true
-found_no_log statuses.Refused = false
-found_no_log statuses.Beyond = false
-found_no_log statuses.Rejected = false
-found_no_log statuses.BadInput = false
-found_no_log statuses.ScratchFault = false
+found_no_log other = false
 
--- What is left of the input, where that is told.
+-- What is left of the input, where that is known.
 abbrev pub leaves : Option (List ℕ) → List ℕ → Option (List ℕ)
 leaves before left = option_map (λ input. left) before
 
@@ -73,7 +56,7 @@ appends_none (Appends []) = true
 appends_none (Appends (block ∷ blocks)) = false
 
 -- A run that came to its end has the status of the output, and leaves of the input what that says.
--- Where the disk is told, nothing is pending, and the log has all blocks that are appended.
+-- Where the disk is known, nothing is pending, and the log has all blocks that are appended.
 pub record HasEnded (next : NextBlock) (state : Option DiskState) (status : Status) (left_old left_new : Option (List ℕ)) (content : List ℕ) (output : Output) : Type 0 where
   pub status_is : status ≡ output.status
   pub left_is : left_new ≡ leaves left_old output.left
@@ -111,16 +94,8 @@ IsRun now disk told old new status left_old left_new held read compile command =
 
 -- Where the source, the disk or the scratch device failed, or memory ran out, nothing was told.
 abbrev pub IsSilent : Status → Option (List Tell) → Option (List Tell) → Type 0
-IsSilent statuses.Done old new = Unit {0}
-IsSilent statuses.Usage old new = Unit {0}
 IsSilent statuses.Unreadable old new = new ≡ old
-IsSilent statuses.Untold old new = Unit {0}
 IsSilent statuses.DiskFault old new = new ≡ old
-IsSilent statuses.Memory old new = new ≡ old
-IsSilent statuses.NotALog old new = Unit {0}
-IsSilent statuses.Damaged old new = Unit {0}
-IsSilent statuses.Refused old new = Unit {0}
-IsSilent statuses.Beyond old new = Unit {0}
-IsSilent statuses.Rejected old new = Unit {0}
-IsSilent statuses.BadInput old new = Unit {0}
 IsSilent statuses.ScratchFault old new = new ≡ old
+IsSilent statuses.Memory old new = new ≡ old
+IsSilent other old new = Unit {0}

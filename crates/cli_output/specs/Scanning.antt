@@ -31,20 +31,14 @@ IsExposeOutcome root query root_at blocks outcome left input = GivesAny (IsExpos
 -- How a question about a block of a chain ends: it is answered, or the chain has no such block.
 abbrev pub EndsAsked : Ending → Type 0
 EndsAsked endings.Done = Unit {0}
-EndsAsked endings.Refused = ⊥
 EndsAsked endings.Beyond = Unit {0}
-EndsAsked endings.Rejected = ⊥
-EndsAsked endings.BadInput = ⊥
-EndsAsked endings.NotALog = ⊥
-EndsAsked endings.Damaged = ⊥
+EndsAsked other = ⊥
 
 -- How the search for a clash with a proof ends: it was made, the chain has no such block, the proof is not
 -- accepted, or the input is none.
 abbrev pub EndsExposed : Ending → Type 0
 EndsExposed endings.Done = Unit {0}
-EndsExposed endings.Refused = ⊥
 EndsExposed endings.Beyond = Unit {0}
 EndsExposed endings.Rejected = Unit {0}
 EndsExposed endings.BadInput = Unit {0}
-EndsExposed endings.NotALog = ⊥
-EndsExposed endings.Damaged = ⊥
+EndsExposed other = ⊥

@@ -1,17 +1,17 @@
 -- What was told of a command, and how it was answered.
-use Rattle.std.specs.Prelude.{◌≡◌, ℕ, List, [], ◌∷◌, map, Option, Result, Ok, Err, IfOk, is_ok}
-use Rattle.lc_io.specs.Disk.{DiskState}
+use Rattle.std.specs.Prelude.{◌≡◌, ℕ, List, [], ◌∷◌, map, Option, Result, Ok, Err, IfOk, IsErrOf, is_ok}
+use Rattle.lc_base.specs.Faults.{HasCause}
+use Rattle.lc_io.specs.Disk.{DiskState, Stays}
 use Rattle.lc_io.specs.Outside.{Tell}
 use Rattle.block_log.specs.Standing.{NextBlock}
-use Rattle.chain_input.specs.declared.stop.Stop.{Stop}
-use Rattle.chain_input.specs.declared.stop.Stop.TheVariants as reads
+use Rattle.lc_base.specs.declared.host_error.HostError.{HostError}
+use Rattle.lc_base.specs.declared.host_error.HostError.TheVariants as reads
 use Rattle.recovery.specs.declared.errors.StartError.{StartError}
 use Rattle.recovery.specs.declared.errors.StartError.TheVariants as starts
 use Rattle.crash_promises.specs.Promises.{plain, Telling}
 use Rattle.cli_append.specs.Appending.{fold_end}
 use Rattle.cli_append.specs.declared.ending.AppendEnd.{AppendEnd}
-use Rattle.cli_append.specs.declared.ending.AppendStop.{AppendStop}
-use Rattle.cli_append.specs.declared.ending.AppendStop.TheVariants as appends
+use Rattle.cli_append.specs.declared.ending.RunStop.{RunStop}
 use Rattle.cli_lines.specs.Lines.{not_a_log_line, damaged_line}
 use Rattle.cli_lines.specs.Outcome.{status_of, outcome_with}
 use Rattle.cli_lines.specs.declared.outcome.Outcome.{Outcome}
@@ -22,8 +22,7 @@ use Rattle.cli_lines.specs.declared.status.Status.TheVariants as statuses
 use Rattle.cli_output.specs.Output.{fold_ending}
 use Rattle.cli_output.specs.declared.stop.OutcomeStop.{OutcomeStop}
 use Rattle.cli_output.specs.declared.stop.OutcomeStop.TheVariants as outcomes
-use Rattle.cli_output.specs.declared.stop.RunStop.{RunStop}
-use Rattle.cli_output.specs.declared.stop.RunStop.TheVariants as stops
+use Rattle.cli_append.specs.declared.ending.RunStop.TheVariants as stops
 
 -- ---- answers
 
@@ -45,21 +44,13 @@ abbrev pub status_of_usage : {T : Type 0} → Result T RunStop → Status
 status_of_usage (Ok told) = statuses.Usage
 status_of_usage (Err stop) = status_of_stop stop
 
--- Why a command stopped that appends.
-abbrev pub append_stop : AppendStop → RunStop
-append_stop appends.Unreadable = stops.Unreadable
-append_stop appends.Untold = stops.Untold
-append_stop appends.DiskFault = stops.DiskFault
-append_stop appends.ScratchFault = stops.ScratchFault
-append_stop appends.Memory = stops.Memory
-
 -- How a command ends that appends.
-abbrev pub append_answer : Result AppendEnd AppendStop → Result Ending RunStop
+abbrev pub append_answer : Result AppendEnd RunStop → Result Ending RunStop
 append_answer (Ok end) = Ok (fold_ending (fold_end end))
-append_answer (Err stop) = Err (append_stop stop)
+append_answer (Err stop) = Err stop
 
 -- Why there is no outcome, for a source.
-abbrev pub stop_of_source : Stop → OutcomeStop
+abbrev pub stop_of_source : HostError → OutcomeStop
 stop_of_source reads.Fault = outcomes.Unreadable
 stop_of_source reads.Memory = outcomes.Memory
 
@@ -68,6 +59,20 @@ abbrev pub stop_of_outcome : OutcomeStop → RunStop
 stop_of_outcome outcomes.Unreadable = stops.Unreadable
 stop_of_outcome outcomes.ScratchFault = stops.ScratchFault
 stop_of_outcome outcomes.Memory = stops.Memory
+
+-- What a command does to the machine that reads the log and tells of it: the disk stays as it is, at each
+-- moment; and the disk and the wire are blamed exactly where they failed.
+pub record TellsOfLog {D : Type 0} (now : D → ℕ) (disk : D → ℕ → Option DiskState) (disk_faults wire_faults : D → ℕ)
+    (old new : D) (result : Result Ending RunStop) : Type 0 where
+  pub stays : Stays now disk old new
+  pub disk_fault : HasCause (disk_faults old) (disk_faults new) (IsErrOf result stops.DiskFault)
+  pub untold : HasCause (wire_faults old) (wire_faults new) (IsErrOf result stops.Untold)
+
+-- What only tells is stopped by no source, no disk and no scratch device.
+pub record OnlyTells {T : Type 0} (result : Result T RunStop) : Type 0 where
+  pub reads : IsErrOf result stops.Unreadable → ⊥
+  pub writes : IsErrOf result stops.DiskFault → ⊥
+  pub keeps : IsErrOf result stops.ScratchFault → ⊥
 
 -- ---- outcomes
 
@@ -82,7 +87,7 @@ pub record StopsSilent {D : Type 0} (told : D → Option (List Tell)) (old new :
   pub silent : told new ≡ told old
 
 -- What became of a command that has an outcome, or that stopped before it told anything.
-abbrev pub TellsResult : {D : Type 0} → NextBlock → (D → ℕ) → (D → ℕ → Option DiskState) → (D → Option (List Tell)) → D → D → Result Outcome Stop → Result Ending RunStop → Type 0
+abbrev pub TellsResult : {D : Type 0} → NextBlock → (D → ℕ) → (D → ℕ → Option DiskState) → (D → Option (List Tell)) → D → D → Result Outcome HostError → Result Ending RunStop → Type 0
 TellsResult next now disk told old new (Ok outcome) result = Says next now disk told old new outcome result
 TellsResult next now disk told old new (Err reads.Fault) result = StopsSilent told old new stops.Unreadable result
 TellsResult next now disk told old new (Err reads.Memory) result = StopsSilent told old new stops.Memory result

@@ -2,18 +2,19 @@
 
 ghost use Rattle.std.specs.Prelude.{◌≡◌, true, [], ◌∷◌, Option, IfOk, IsErrOf};
 ghost use Rattle.lc_base.specs.Faults.{HasCause};
-ghost use Rattle.lc_io.specs.Disk.{Stays};
+ghost use Rattle.disk_model.specs.Leaving.{LeavesDisk};
 ghost use Rattle.block_log.specs.Standing.{NextBlock};
 ghost use Rattle.recovery.specs.declared.errors.StartError.TheVariants as starts;
-ghost use Rattle.cli_lines.specs.Lines.{not_a_log_line, damaged_line};
-ghost use Rattle.cli_lines.specs.Outcome.{outcome_with};
+ghost use Rattle.cli_lines.specs.{Lines.{not_a_log_line, damaged_line}, Outcome.{outcome_with}};
 ghost use Rattle.cli_words.specs.declared.words.Command.{Command};
-ghost use Rattle.cli_output.specs.Output.{uses_disk, uses_scratch};
-ghost use Rattle.cli_output.specs.Running.{IsSilent, MayEnd};
-ghost use Rattle.cli_output.specs.Telling.{TellsStart, status_of_result};
+ghost use Rattle.cli_output.specs.{
+  Output.{uses_disk, uses_scratch},
+  Running.{IsSilent, MayEnd},
+  Telling.{TellsStart, status_of_result},
+};
 
-use crate::stop::RunStop;
 use crate::telling::tell_made;
+use cli_append::RunStop;
 use cli_lines::{Ending, Outcome, damaged_line, not_a_log_line};
 use lc_base::Memory;
 use lc_io::Wire;
@@ -28,7 +29,7 @@ fn not_a_log(alloc: Global) -> Result<Outcome, Memory>
 }
 
 /// The log is damaged at this offset.
-fn damaged(alloc: Global, at: u64) -> Result<Outcome, Memory>
+fn damaged_outcome(alloc: Global, at: u64) -> Result<Outcome, Memory>
     ensures { IfOk result (λ outcome. outcome ≡ outcome_with (damaged_line at ∷ []) Ending.Damaged) }
 {
     Outcome::from_line(alloc, damaged_line(alloc, at)?, Ending::Damaged)
@@ -48,13 +49,12 @@ pub fn tell_start<M: Wire>(
     ensures blamed { error ≡ starts.DiskFault → IsErrOf result RunStop.DiskFault }
     ensures scratch_fault { IsErrOf result RunStop.ScratchFault → error ≡ starts.ScratchFault }
     ensures scratch_blamed { error ≡ starts.ScratchFault → IsErrOf result RunStop.ScratchFault }
-    ensures disk { Stays M.now M.disk machine.old machine.new }
-    ensures disk_faults { M.disk_faults machine.new ≡ M.disk_faults machine.old }
+    ensures disk { LeavesDisk M.now M.disk M.disk_faults machine.old machine.new }
     ensures cause { HasCause (M.wire_faults machine.old) (M.wire_faults machine.new) (IsErrOf result RunStop.Untold) }
 {
     match error {
         StartError::NotALog => tell_made(machine, not_a_log(alloc)),
-        StartError::Damaged { at } => tell_made(machine, damaged(alloc, at)),
+        StartError::Damaged { at } => tell_made(machine, damaged_outcome(alloc, at)),
         StartError::DiskFault => Err(RunStop::DiskFault),
         StartError::ScratchFault => Err(RunStop::ScratchFault),
         StartError::Memory => Err(RunStop::Memory),

@@ -2,31 +2,34 @@
 
 ghost use Rattle.std.specs.Prelude.{◌≡◌, [], ◌∷◌, map, is_ok, true, IfOk, IfErr, IsErr, IsErrOf, Option, Err};
 ghost use Rattle.lc_base.specs.Faults.{HasCause};
-ghost use Rattle.lc_io.specs.Disk.{Stays};
+ghost use Rattle.disk_model.specs.Leaving.{LeavesDisk};
 ghost use Rattle.block_log.specs.Standing.{NextBlock};
-ghost use Rattle.chain_input.specs.declared.stop.Stop.TheVariants as stops;
+ghost use Rattle.lc_base.specs.declared.host_error.HostError.TheVariants as stops;
 ghost use Rattle.crash_promises.specs.Promises.{plain, Telling};
-ghost use Rattle.cli_lines.specs.Lines.{usage_line};
-ghost use Rattle.cli_lines.specs.Outcome.{status_of};
-ghost use Rattle.cli_lines.specs.declared.outcome.Outcome.{Outcome as Outcomes};
+ghost use Rattle.cli_lines.specs.{
+  Lines.{usage_line},
+  Outcome.{status_of},
+  declared.outcome.Outcome.{Outcome as Outcomes},
+};
 ghost use Rattle.cli_words.specs.declared.words.Command.{Command};
-ghost use Rattle.cli_output.specs.Output.{reads_input};
-ghost use Rattle.cli_output.specs.Running.{IsSilent, MayEnd};
-ghost use Rattle.cli_output.specs.Telling.{Says, TellsAnswer, TellsResult, status_of_result, status_of_stop, status_of_usage, stop_of_outcome};
+ghost use Rattle.cli_output.specs.{
+  Output.{reads_input},
+  Running.{IsSilent, MayEnd},
+  Telling.{OnlyTells, Says, TellsAnswer, TellsResult, status_of_result, status_of_stop, status_of_usage, stop_of_outcome},
+};
 ghost use Rattle.cli_output.specs.declared.stop.OutcomeStop.TheVariants as outcomes;
 
-use crate::stop::{OutcomeStop, RunStop};
-use chain_input::Stop;
+use crate::stop::OutcomeStop;
+use cli_append::RunStop;
 use cli_lines::{Ending, Outcome, usage_line};
-use lc_base::{Bytes, Memory};
+use lc_base::{Bytes, HostError, Memory};
 use lc_io::{Failed, Wire};
 use std::alloc::Global;
 
 /// Tells each piece by itself, in order.
 fn tell_all<M: Wire>(machine: &mut M, pieces: &[Bytes]) -> Result<(), Failed>
     ensures lines { (next : NextBlock) → Telling next M.now M.disk M.told machine.old machine.new (map plain pieces.now) (is_ok result) }
-    ensures disk { Stays M.now M.disk machine.old machine.new }
-    ensures disk_faults { M.disk_faults machine.new ≡ M.disk_faults machine.old }
+    ensures disk { LeavesDisk M.now M.disk M.disk_faults machine.old machine.new }
     ensures cause { HasCause (M.wire_faults machine.old) (M.wire_faults machine.new) (IsErr result) }
 {
     for piece in pieces {
@@ -42,8 +45,7 @@ fn tell_all<M: Wire>(machine: &mut M, pieces: &[Bytes]) -> Result<(), Failed>
 pub fn tell_outcome<M: Wire>(machine: &mut M, outcome: &Outcome) -> Result<Ending, RunStop>
     ensures says { (next : NextBlock) → Says next M.now M.disk M.told machine.old machine.new outcome.now result }
     ensures stop { IfErr result (λ stop. stop ≡ RunStop.Untold) }
-    ensures disk { Stays M.now M.disk machine.old machine.new }
-    ensures disk_faults { M.disk_faults machine.new ≡ M.disk_faults machine.old }
+    ensures disk { LeavesDisk M.now M.disk M.disk_faults machine.old machine.new }
     ensures cause { HasCause (M.wire_faults machine.old) (M.wire_faults machine.new) (IsErrOf result RunStop.Untold) }
 {
     match tell_all(machine, outcome.pieces.as_slice()) {
@@ -55,7 +57,7 @@ pub fn tell_outcome<M: Wire>(machine: &mut M, outcome: &Outcome) -> Result<Endin
 /// Tells the outcome of a command, or says why it stopped before it told anything.
 pub fn tell_result<M: Wire>(
     machine: &mut M,
-    outcome: Result<Outcome, Stop>,
+    outcome: Result<Outcome, HostError>,
 ) -> Result<Ending, RunStop>
     ensures says { (next : NextBlock) → TellsResult next M.now M.disk M.told machine.old machine.new outcome result }
     ensures silent { IsSilent (status_of_result result) (M.told machine.old) (M.told machine.new) }
@@ -64,14 +66,13 @@ pub fn tell_result<M: Wire>(
     ensures unread { outcome ≡ Err stops.Fault → IsErrOf result RunStop.Unreadable }
     ensures writes { IsErrOf result RunStop.DiskFault → ⊥ }
     ensures keeps { IsErrOf result RunStop.ScratchFault → ⊥ }
-    ensures disk { Stays M.now M.disk machine.old machine.new }
-    ensures disk_faults { M.disk_faults machine.new ≡ M.disk_faults machine.old }
+    ensures disk { LeavesDisk M.now M.disk M.disk_faults machine.old machine.new }
     ensures cause { HasCause (M.wire_faults machine.old) (M.wire_faults machine.new) (IsErrOf result RunStop.Untold) }
 {
     match outcome {
         Ok(outcome) => tell_outcome(machine, &outcome),
-        Err(Stop::Fault) => Err(RunStop::Unreadable),
-        Err(Stop::Memory) => Err(RunStop::Memory),
+        Err(HostError::Fault) => Err(RunStop::Unreadable),
+        Err(HostError::Memory) => Err(RunStop::Memory),
     }
 }
 
@@ -90,8 +91,7 @@ pub fn tell_answer<M: Wire>(
     ensures scratch_fault { IsErrOf result RunStop.ScratchFault → answer ≡ Err outcomes.ScratchFault }
     ensures scratch_blamed { answer ≡ Err outcomes.ScratchFault → IsErrOf result RunStop.ScratchFault }
     ensures writes { IsErrOf result RunStop.DiskFault → ⊥ }
-    ensures disk { Stays M.now M.disk machine.old machine.new }
-    ensures disk_faults { M.disk_faults machine.new ≡ M.disk_faults machine.old }
+    ensures disk { LeavesDisk M.now M.disk M.disk_faults machine.old machine.new }
     ensures cause { HasCause (M.wire_faults machine.old) (M.wire_faults machine.new) (IsErrOf result RunStop.Untold) }
 {
     match answer {
@@ -108,11 +108,8 @@ pub fn tell_made<M: Wire>(
     ensures says { (next : NextBlock) (wanted : Outcomes) → IfOk outcome (λ o. o ≡ wanted) → Says next M.now M.disk M.told machine.old machine.new wanted result }
     ensures ends { (command : Option Command) → IfOk outcome (λ o. MayEnd (status_of o.ending) command) → MayEnd (status_of_result result) command }
     ensures silent { IsSilent (status_of_result result) (M.told machine.old) (M.told machine.new) }
-    ensures reads { IsErrOf result RunStop.Unreadable → ⊥ }
-    ensures writes { IsErrOf result RunStop.DiskFault → ⊥ }
-    ensures keeps { IsErrOf result RunStop.ScratchFault → ⊥ }
-    ensures disk { Stays M.now M.disk machine.old machine.new }
-    ensures disk_faults { M.disk_faults machine.new ≡ M.disk_faults machine.old }
+    ensures only { OnlyTells result }
+    ensures disk { LeavesDisk M.now M.disk M.disk_faults machine.old machine.new }
     ensures cause { HasCause (M.wire_faults machine.old) (M.wire_faults machine.new) (IsErrOf result RunStop.Untold) }
 {
     match outcome {
@@ -125,11 +122,8 @@ pub fn tell_made<M: Wire>(
 pub fn tell_usage<M: Wire>(alloc: Global, machine: &mut M) -> Result<(), RunStop>
     ensures lines { (next : NextBlock) → Telling next M.now M.disk M.told machine.old machine.new (plain usage_line ∷ []) (is_ok result) }
     ensures silent { IsSilent (status_of_usage result) (M.told machine.old) (M.told machine.new) }
-    ensures reads { IsErrOf result RunStop.Unreadable → ⊥ }
-    ensures writes { IsErrOf result RunStop.DiskFault → ⊥ }
-    ensures keeps { IsErrOf result RunStop.ScratchFault → ⊥ }
-    ensures disk { Stays M.now M.disk machine.old machine.new }
-    ensures disk_faults { M.disk_faults machine.new ≡ M.disk_faults machine.old }
+    ensures only { OnlyTells result }
+    ensures disk { LeavesDisk M.now M.disk M.disk_faults machine.old machine.new }
     ensures cause { HasCause (M.wire_faults machine.old) (M.wire_faults machine.new) (IsErrOf result RunStop.Untold) }
 {
     match usage_line(alloc) {

@@ -1,7 +1,6 @@
 //! The number with which the program exits.
 
-ghost use Rattle.std.specs.Prelude.{◌≡◌};
-ghost use Rattle.std.specs.Process.{exit_status};
+ghost use Rattle.std.specs.{Prelude.{◌≡◌}, Process.{exit_status}};
 ghost use Rattle.cli_lines.specs.Status.{status_number};
 
 use cli_lines::Status;

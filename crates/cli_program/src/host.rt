@@ -1,10 +1,11 @@
 //! A run over the host.
 
-ghost use Rattle.std.specs.Prelude.{◌≡◌, drop, map, string_bytes, Option, IfOk, IfErr, IfSome};
-ghost use Rattle.std.specs.Vec.Iter.{into_iter_items};
-ghost use Rattle.std.specs.IoError.{error_kind};
-ghost use Rattle.cli_words.specs.declared.words.Command.{Command};
-ghost use Rattle.cli_words.specs.Words.{IsCommand};
+ghost use Rattle.std.specs.{
+  Prelude.{◌≡◌, drop, map, string_bytes, Option, IfOk, IfErr, IfSome},
+  Vec.Iter.{into_iter_items},
+  IoError.{error_kind},
+};
+ghost use Rattle.cli_words.specs.{declared.words.Command.{Command}, Words.{IsCommand}};
 ghost use Rattle.cli_output.specs.Running.{MayEnd};
 ghost use Rattle.cli_program.specs.Words.{status_without_words};
 

@@ -1,8 +1,10 @@
 //! The words that the program was started with.
 
-ghost use Rattle.std.specs.Prelude.{◌≡◌, true, [], drop, Err, IfOk, IfErr, MatchOption, is_ok};
-ghost use Rattle.std.specs.Vec.Iter.{into_iter_items};
-ghost use Rattle.std.specs.IoError.{error_kind};
+ghost use Rattle.std.specs.{
+  Prelude.{◌≡◌, true, [], drop, Err, IfOk, IfErr, MatchOption, is_ok},
+  Vec.Iter.{into_iter_items},
+  IoError.{error_kind},
+};
 ghost use Rattle.cli_program.specs.Words.{status_without_words};
 
 use cli_lines::Status;

@@ -58,8 +58,8 @@ use Rattle.cli_output.specs.Telling.{status_of_result, status_of_stop, stop_of_o
 use Rattle.cli_output.specs.Telling.{TellsStart}
 use Rattle.cli_output.specs.declared.stop.OutcomeStop.{OutcomeStop}
 use Rattle.cli_output.specs.declared.stop.OutcomeStop.TheVariants as outcomes
-use Rattle.cli_output.specs.declared.stop.RunStop.{RunStop}
-use Rattle.cli_output.specs.declared.stop.RunStop.TheVariants as stops
+use Rattle.cli_append.specs.declared.ending.RunStop.{RunStop}
+use Rattle.cli_append.specs.declared.ending.RunStop.TheVariants as stops
 use Rattle.cli_output.proofs.Exposed.{some_expose, expose_no_change}
 use Rattle.cli_output.proofs.Meets.{told_input, rests_given, left_read, same_may_leave}
 use Rattle.cli_output.proofs.Meets.{answer_since, start_met, is_on_log_blocks, some_on_log}

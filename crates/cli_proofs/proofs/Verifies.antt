@@ -1,5 +1,5 @@
 -- What `verify` tells, by cases.
-use Rattle.std.proofs.Common.{◌≡◌, ℕ, ◌+◌, ◌≤◌, List, [], ◌++◌, length, drop, Option, Some, None, Result, Ok, Err, refl, sym, ap, ◌∙◌, subst}
+use Rattle.std.proofs.Common.{◌≡◌, ℕ, ◌+◌, List, [], ◌++◌, drop, Option, Some, None, Result, Ok, Err, refl, sym, ap, ◌∙◌, subst}
 use Rattle.std.specs.Prelude.{codes, decimal, IfOk, IfSome}
 use Rattle.lc_base.specs.declared.answer.Query.{Query}
 use Rattle.lc_base.specs.declared.digest.Digest.{Digest}
@@ -13,7 +13,7 @@ use Rattle.cli_lines.specs.declared.whole.TheConstants.{MAX_WHOLE_INPUT_BYTES}
 use Rattle.cli_lines.specs.declared.outcome.Outcome.{Outcome}
 use Rattle.cli_lines.specs.Outcome.{status_of, bad_input}
 use Rattle.cli_lines.specs.Whole.{IsWholeInput}
-use Rattle.cli_output.specs.Output.{Output, output_of, IsVerifyOutput, LongProof, Verified}
+use Rattle.cli_output.specs.Output.{output_of, IsVerifyOutput, LongProof, Verified}
 use Rattle.cli_output.specs.Proofs.{hex_cause, verification_outcome}
 use Rattle.cli_output.specs.Running.{MayEnd}
 use Rattle.cli_output.specs.Scanning.{IsVerifyOutcome}
@@ -22,11 +22,17 @@ use Rattle.cli_output.specs.Scanning.{IsVerifyOutcome}
 pub bad_at : {E : Type 0} (result : Result Outcome E) (fault : HexFault) (at : ℕ) (text : List ℕ) → fault ≡ At at → text ≡ codes "at " ++ decimal at → IfOk result (λ outcome. outcome ≡ bad_input text) → IfOk result (λ outcome. outcome ≡ bad_input (hex_cause fault))
 bad_at result fault at text is told made = subst (λ (t : List ℕ). IfOk result (λ outcome. outcome ≡ bad_input t)) (told ∙ sym (ap hex_cause is)) made
 
--- the outcome of an input that was read whole
-pub answered : {E : Type 0} (root : List ℕ) (query : Query) (input : List ℕ) (told : Verification) (result : Result Outcome E) → length input ≤ MAX_WHOLE_INPUT_BYTES → IsVerification root query input told
-    → IfOk result (λ outcome. outcome ≡ verification_outcome told) → IfOk result (λ outcome. IsVerifyOutput root query input (output_of outcome []))
-answered root query input told (Ok outcome) fits is made = subst (λ (o : Outcome). IsVerifyOutput root query input (output_of o [])) (sym made) (Verified fits told is)
-answered root query input told (Err e) fits is made = tt
+-- an input that was read whole
+whole_here : (root : List ℕ) (query : Query) (first left : Option (List ℕ)) (bytes : List ℕ) (told : Verification) (outcome : Outcome) → IfSome first (λ input. IsWholeInput (Some bytes) input left)
+    → IsVerification root query bytes told → outcome ≡ verification_outcome told → IfSome first (λ input. IsVerifyOutcome root query outcome left input)
+whole_here root query None left bytes told outcome whole is made = tt
+whole_here root query (Some input) left bytes told outcome (alike, fits, rest) is made =
+    ([], rest, subst (λ (o : Outcome). IsVerifyOutput root query input (output_of o [])) (sym made) (Verified fits told (subst (λ (b : List ℕ). IsVerification root query b told) alike is)))
+
+pub whole_verified : (root : List ℕ) (query : Query) (first left found : Option (List ℕ)) (bytes : List ℕ) (told : Verification) (outcome : Outcome) → found ≡ Some bytes
+    → IfSome first (λ input. IsWholeInput found input left) → IsVerification root query bytes told → outcome ≡ verification_outcome told → IfSome first (λ input. IsVerifyOutcome root query outcome left input)
+whole_verified root query first left found bytes told outcome some whole is made =
+    whole_here root query first left bytes told outcome (subst (λ (f : Option (List ℕ)). IfSome first (λ input. IsWholeInput f input left)) some whole) is made
 
 -- an input that is too long
 long_here : (root : List ℕ) (query : Query) (first left : Option (List ℕ)) (outcome : Outcome) → IfSome first (λ input. IsWholeInput None input left) → outcome ≡ bad_input (codes "long")
@@ -47,9 +53,5 @@ told_ends root query (Accepted answer) = refl
 told_ends root query (Rejected reject) = refl
 told_ends root query (BadHex fault) = refl
 
-output_ends : (root : Digest) (query : Query) (input : List ℕ) (output : Output) → IsVerifyOutput root.0 query input output → MayEnd output.status (Some (Verify root query))
-output_ends root query input _ (LongProof long) = refl
-output_ends root query input _ (Verified fits told is) = told_ends root query told
-
-pub verify_ends : (root : Digest) (query : Query) (input : List ℕ) (outcome : Outcome) → IsVerifyOutput root.0 query input (output_of outcome []) → MayEnd (status_of outcome.ending) (Some (Verify root query))
-verify_ends root query input outcome is = output_ends root query input (output_of outcome []) is
+pub verify_ends : (root : Digest) (query : Query) (told : Verification) (outcome : Outcome) → outcome ≡ verification_outcome told → MayEnd (status_of outcome.ending) (Some (Verify root query))
+verify_ends root query told outcome made = subst (λ (o : Outcome). MayEnd (status_of o.ending) (Some (Verify root query))) (sym made) (told_ends root query told)

@@ -1,34 +1,35 @@
 //! The command `expose`: the first clash of an accepted proof with the blocks of the log.
 
-ghost use Rattle.std.specs.Prelude.{◌≡◌, ◌<◌, ◌≤◌, ◌++◌, ℕ, List, Option, Ok, true, length, codes, string_bytes, Some, IfOk, IfSome, IsErrOf};
+ghost use Rattle.std.specs.Prelude.{◌≡◌, ◌<◌, ◌≤◌, ◌++◌, ℕ, List, Option, true, length, codes, string_bytes, Some, IfOk, IfSome, IsErrOf};
 ghost use Rattle.lc_base.specs.Faults.{HasCause};
-ghost use Rattle.lc_io.specs.Disk.{Stays};
 ghost use Rattle.disk_model.specs.Disk.{IsSettled};
-ghost use Rattle.hex.specs.Hex.{encode_lower, decode_of};
+ghost use Rattle.hex.specs.Hex.{encode_lower};
 ghost use Rattle.merkle_tree.specs.Tree.{audit_length};
-ghost use Rattle.block_codec.specs.Reading.{block_in};
-ghost use Rattle.block_codec.specs.declared.block.Block.{Block as Blocks};
+ghost use Rattle.block_codec.specs.{Reading.{block_in}, declared.block.Block.{Block as Blocks}};
 ghost use Rattle.chain_exec.specs.Compiled.{compiled_in};
 ghost use Rattle.chain_replay.specs.Chain.{ChainState, StandsFor};
-ghost use Rattle.scratch_model.specs.Scratch.{is_told};
+ghost use Rattle.scratch_model.specs.Scratch.{is_known};
 ghost use Rattle.merkle_dag.specs.Lineage.{AgreesWith, ledger_in};
 ghost use Rattle.recovery.specs.Node.{lineage_in};
 ghost use Rattle.proof_checks.specs.ProofTexts.{proof_texts};
-ghost use Rattle.proof_commands.specs.Verifying.{hex_text};
-ghost use Rattle.answer_exposing.specs.Exposing.{IsFound};
-ghost use Rattle.answer_exposing.specs.declared.exposing.Clash.{Clash as Clashes};
+ghost use Rattle.answer_exposing.specs.{
+  Exposing.{IsFound},
+  declared.exposing.Clash.{Clash as Clashes},
+};
 ghost use Rattle.cli_lines.specs.declared.whole.TheConstants.{MAX_WHOLE_INPUT_BYTES};
 ghost use Rattle.cli_words.specs.declared.words.Command.TheVariants.{Expose};
-ghost use Rattle.cli_output.specs.Proofs.{clash_line};
-ghost use Rattle.cli_output.specs.Running.{IsRun, IsSilent, MayEnd, found_no_log};
-ghost use Rattle.cli_output.specs.Scanning.{EndsExposed, IsExposeOutcome};
-ghost use Rattle.cli_output.specs.Telling.{status_of_result};
+ghost use Rattle.cli_output.specs.{
+  Proofs.{clash_line},
+  Running.{IsRun, IsSilent, MayEnd, found_no_log},
+  Scanning.{EndsExposed, IsExposeOutcome},
+  Telling.{TellsOfLog, status_of_result},
+};
 ghost use Rattle.cli_proofs.specs.Exposing.{IsHeld, found_outcome, ledger_kept, reaches, texts_kept};
 
 use crate::lines::line_of;
-use crate::verifying::{bad_hex, rejected};
+use crate::verifying::{bad_hex, rejected_outcome};
 use answer_exposing::{Clash, ExposeError, expose as expose_proof};
-use cli_lines::{Ending, Outcome, read_whole};
+use cli_lines::{Ending, Outcome, hex_after, read_whole};
 use cli_output::{OutcomeStop, RunStop, beyond, tell_answer, tell_start};
 use disk_model::Disk;
 use lc_base::{Bytes, Digest, Memory, Query};
@@ -40,16 +41,6 @@ use proof_views::ProofView;
 use recovery::Node;
 use scratch_model::Scratch;
 use std::alloc::{AllocError, Global};
-
-/// Bytes in lower-case hex, after a word.
-fn hex_after(alloc: Global, word: &str, bytes: &[u8]) -> Result<String, AllocError>
-    ensures { IfOk result (λ text. string_bytes text ≡ word.now ++ encode_lower bytes.now) }
-{
-    let mut text = String::from_str(alloc, word)?;
-    let hex = hex::encode(alloc, bytes)?;
-    text.push_str(hex.as_str())?;
-    Ok(text)
-}
 
 /// Two texts in lower-case hex, after a word.
 fn clash_text(alloc: Global, given: &[u8], own: &[u8]) -> Result<String, AllocError>
@@ -95,9 +86,9 @@ fn accepted_outcome<S: Scratch>(
     requires within { root_at < length lineage.old.digests }
     requires long { length proof.now.audit ≡ audit_length proof.now.leaf_index proof.now.leaf_count }
     requires agrees { AgreesWith lineage.old (S.state scratch.old) }
-    // Where it is told which bytes the scratch device holds:
-    ensures outcome { is_told (S.state scratch.old) ≡ true → IfOk result (λ outcome. (found : Option Clashes) × IsFound (proof_texts proof.now) (texts_kept (ledger_in lineage.old) root_at) found × (outcome ≡ found_outcome found)) }
-    // Whether that is told or not:
+    // Where it is known which bytes the scratch device holds:
+    ensures outcome { is_known (S.state scratch.old) ≡ true → IfOk result (λ outcome. (found : Option Clashes) × IsFound (proof_texts proof.now) (texts_kept (ledger_in lineage.old) root_at) found × (outcome ≡ found_outcome found)) }
+    // Whether that is known or not:
     ensures ends { IfOk result (λ outcome. EndsExposed outcome.ending) }
     ensures reads { IsErrOf result OutcomeStop.Unreadable → ⊥ }
     ensures cause { HasCause (S.scratch_faults scratch.old) (S.scratch_faults scratch.new) (IsErrOf result OutcomeStop.ScratchFault) }
@@ -107,29 +98,6 @@ fn accepted_outcome<S: Scratch>(
         Err(ExposeError::Beyond { .. }) => unreachable!(),
         Err(ExposeError::Fault) => Err(OutcomeStop::ScratchFault),
         Err(ExposeError::Memory) => Err(OutcomeStop::Memory),
-    }
-}
-
-/// What is told of the bytes that an input has in hex.
-fn bytes_outcome<S: Scratch>(
-    alloc: Global,
-    root: &Digest,
-    query: &Query,
-    root_at: u32,
-    lineage: &mut Lineage,
-    scratch: &mut S,
-    bytes: &[u8],
-) -> Result<Outcome, OutcomeStop>
-    requires within { root_at < length lineage.old.digests }
-    requires agrees { AgreesWith lineage.old (S.state scratch.old) }
-    ensures outcome { is_told (S.state scratch.old) ≡ true → (input : List ℕ) → decode_of (hex_text input) ≡ Ok bytes.now → IfOk result (IsHeld (ledger_in lineage.old) root.now.0 query.now root_at input) }
-    ensures ends { IfOk result (λ outcome. EndsExposed outcome.ending) }
-    ensures reads { IsErrOf result OutcomeStop.Unreadable → ⊥ }
-    ensures cause { HasCause (S.scratch_faults scratch.old) (S.scratch_faults scratch.new) (IsErrOf result OutcomeStop.ScratchFault) }
-{
-    match accept(root, query, bytes) {
-        Ok(proof) => accepted_outcome(alloc, root_at, lineage, scratch, &proof),
-        Err(reject) => Ok(rejected(alloc, &reject)?),
     }
 }
 
@@ -145,21 +113,16 @@ fn input_outcome<S: Scratch>(
 ) -> Result<Outcome, OutcomeStop>
     requires within { root_at < length lineage.old.digests }
     requires agrees { AgreesWith lineage.old (S.state scratch.old) }
-    ensures outcome { is_told (S.state scratch.old) ≡ true → IfOk result (IsHeld (ledger_in lineage.old) root.now.0 query.now root_at input.now) }
+    ensures outcome { is_known (S.state scratch.old) ≡ true → IfOk result (IsHeld (ledger_in lineage.old) root.now.0 query.now root_at input.now) }
     ensures ends { IfOk result (λ outcome. EndsExposed outcome.ending) }
     ensures reads { IsErrOf result OutcomeStop.Unreadable → ⊥ }
     ensures cause { HasCause (S.scratch_faults scratch.old) (S.scratch_faults scratch.new) (IsErrOf result OutcomeStop.ScratchFault) }
 {
     match decode_hex(alloc, input)? {
-        Ok(bytes) => bytes_outcome(
-            alloc,
-            root,
-            query,
-            root_at,
-            lineage,
-            scratch,
-            bytes.as_bytes(),
-        ),
+        Ok(bytes) => match accept(root, query, bytes.as_bytes()) {
+            Ok(proof) => accepted_outcome(alloc, root_at, lineage, scratch, &proof),
+            Err(reject) => Ok(rejected_outcome(alloc, &reject)?),
+        },
         Err(fault) => Ok(bad_hex(alloc, &fault)?),
     }
 }
@@ -186,7 +149,7 @@ fn held_outcome<I: Source, S: Scratch>(
     scratch: &mut S,
 ) -> Result<Outcome, OutcomeStop>
     requires agrees { AgreesWith lineage.old (S.state scratch.old) }
-    ensures outcome { is_told (S.state scratch.old) ≡ true → (kept : ChainState) → ledger_in lineage.old ≡ ledger_kept kept
+    ensures outcome { is_known (S.state scratch.old) ≡ true → (kept : ChainState) → ledger_in lineage.old ≡ ledger_kept kept
         → IfSome (I.left source.old) (λ input. IfOk result (λ outcome. (blocks : List Blocks) → StandsFor kept blocks → IsExposeOutcome root.now.0 query.now root_at blocks outcome (I.left source.new) input)) }
     ensures ends { IfOk result (λ outcome. EndsExposed outcome.ending) }
     ensures unreadable { HasCause (I.source_faults source.old) (I.source_faults source.new) (IsErrOf result OutcomeStop.Unreadable) }
@@ -215,7 +178,7 @@ fn last_held<I: Source, S: Scratch>(
     scratch: &mut S,
 ) -> Result<Outcome, OutcomeStop>
     requires agrees { AgreesWith (lineage_in node) (S.state scratch.old) }
-    ensures outcome { is_told (S.state scratch.old) ≡ true → IfSome (I.left source.old) (λ input. IfOk result (λ outcome. (blocks : List Blocks) → StandsFor node.chain blocks → IsExposeOutcome root.now.0 query.now root_at blocks outcome (I.left source.new) input)) }
+    ensures outcome { is_known (S.state scratch.old) ≡ true → IfSome (I.left source.old) (λ input. IfOk result (λ outcome. (blocks : List Blocks) → StandsFor node.chain blocks → IsExposeOutcome root.now.0 query.now root_at blocks outcome (I.left source.new) input)) }
     ensures ends { IfOk result (λ outcome. EndsExposed outcome.ending) }
     ensures unreadable { HasCause (I.source_faults source.old) (I.source_faults source.new) (IsErrOf result OutcomeStop.Unreadable) }
     ensures scratch_fault { HasCause (S.scratch_faults scratch.old) (S.scratch_faults scratch.new) (IsErrOf result OutcomeStop.ScratchFault) }
@@ -238,15 +201,13 @@ pub fn expose<I: Source, M: Disk + Wire, S: Scratch>(
     scratch: &mut S,
 ) -> Result<Ending, RunStop>
     requires settled { IsSettled (M.disk machine.old (M.now machine.old)) }
-    ensures run { IsRun M.now M.disk M.told machine.old machine.new (status_of_result result) (I.left source.old) (I.left source.new) (is_told (S.state scratch.old)) block_in compiled_in (Some (Expose root.now query.now root_at)) }
+    ensures run { IsRun M.now M.disk M.told machine.old machine.new (status_of_result result) (I.left source.old) (I.left source.new) (is_known (S.state scratch.old)) block_in compiled_in (Some (Expose root.now query.now root_at)) }
     ensures ends { MayEnd (status_of_result result) (Some (Expose root.now query.now root_at)) }
     ensures silent { IsSilent (status_of_result result) (M.told machine.old) (M.told machine.new) }
     ensures no_log { found_no_log (status_of_result result) ≡ true → source.new ≡ source.old }
-    ensures disk { Stays M.now M.disk machine.old machine.new }
+    ensures machine { TellsOfLog M.now M.disk M.disk_faults M.wire_faults machine.old machine.new result }
     ensures unreadable { HasCause (I.source_faults source.old) (I.source_faults source.new) (IsErrOf result RunStop.Unreadable) }
-    ensures disk_fault { HasCause (M.disk_faults machine.old) (M.disk_faults machine.new) (IsErrOf result RunStop.DiskFault) }
     ensures scratch_fault { HasCause (S.scratch_faults scratch.old) (S.scratch_faults scratch.new) (IsErrOf result RunStop.ScratchFault) }
-    ensures untold { HasCause (M.wire_faults machine.old) (M.wire_faults machine.new) (IsErrOf result RunStop.Untold) }
 {
     match Node::start(alloc, machine, scratch) {
         Ok(node) => {

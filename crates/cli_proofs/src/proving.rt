@@ -2,22 +2,22 @@
 
 ghost use Rattle.std.specs.Prelude.{◌≡◌, true, ℕ, List, Option, Some, IfOk, IsErrOf};
 ghost use Rattle.lc_base.specs.Faults.{HasCause};
-ghost use Rattle.lc_io.specs.Disk.{Stays};
 ghost use Rattle.disk_model.specs.Disk.{IsSettled};
 ghost use Rattle.hex.specs.Hex.{encode_lower};
-ghost use Rattle.block_codec.specs.Reading.{block_in};
-ghost use Rattle.block_codec.specs.declared.block.Block.{Block as Blocks};
+ghost use Rattle.block_codec.specs.{Reading.{block_in}, declared.block.Block.{Block as Blocks}};
 ghost use Rattle.chain_exec.specs.Compiled.{compiled_in};
 ghost use Rattle.chain_replay.specs.Chain.{ChainState, StandsFor};
-ghost use Rattle.scratch_model.specs.Scratch.{is_told};
+ghost use Rattle.scratch_model.specs.Scratch.{is_known};
 ghost use Rattle.merkle_dag.specs.Lineage.{AgreesWith, ledger_in};
 ghost use Rattle.recovery.specs.Node.{lineage_in};
 ghost use Rattle.cli_lines.specs.Lines.{line};
 ghost use Rattle.cli_words.specs.declared.words.Command.TheVariants.{Prove};
-ghost use Rattle.cli_output.specs.Output.{prove_outcome};
-ghost use Rattle.cli_output.specs.Running.{IsRun, IsSilent, MayEnd};
-ghost use Rattle.cli_output.specs.Scanning.{EndsAsked};
-ghost use Rattle.cli_output.specs.Telling.{status_of_result};
+ghost use Rattle.cli_output.specs.{
+  Output.{prove_outcome},
+  Running.{IsRun, IsSilent, MayEnd},
+  Scanning.{EndsAsked},
+  Telling.{TellsOfLog, status_of_result},
+};
 ghost use Rattle.cli_proofs.specs.Exposing.{ledger_kept};
 
 use crate::lines::line_of;
@@ -48,10 +48,10 @@ fn proof_outcome<S: Scratch>(
     scratch: &mut S,
 ) -> Result<Outcome, OutcomeStop>
     requires agrees { AgreesWith lineage.old (S.state scratch.old) }
-    // Where it is told which bytes the scratch device holds:
-    ensures outcome { is_told (S.state scratch.old) ≡ true → (kept : ChainState) → ledger_in lineage.old ≡ ledger_kept kept
+    // Where it is known which bytes the scratch device holds:
+    ensures outcome { is_known (S.state scratch.old) ≡ true → (kept : ChainState) → ledger_in lineage.old ≡ ledger_kept kept
         → IfOk result (λ outcome. (blocks : List Blocks) → StandsFor kept blocks → outcome ≡ prove_outcome compiled_in query.now root_at blocks) }
-    // Whether that is told or not:
+    // Whether that is known or not:
     ensures ends { IfOk result (λ outcome. EndsAsked outcome.ending) }
     ensures reads { IsErrOf result OutcomeStop.Unreadable → ⊥ }
     ensures cause { HasCause (S.scratch_faults scratch.old) (S.scratch_faults scratch.new) (IsErrOf result OutcomeStop.ScratchFault) }
@@ -76,7 +76,7 @@ fn last_proof<S: Scratch>(
     scratch: &mut S,
 ) -> Result<Outcome, OutcomeStop>
     requires agrees { AgreesWith (lineage_in node) (S.state scratch.old) }
-    ensures outcome { is_told (S.state scratch.old) ≡ true → IfOk result (λ outcome. (blocks : List Blocks) → StandsFor node.chain blocks → outcome ≡ prove_outcome compiled_in query.now root_at blocks) }
+    ensures outcome { is_known (S.state scratch.old) ≡ true → IfOk result (λ outcome. (blocks : List Blocks) → StandsFor node.chain blocks → outcome ≡ prove_outcome compiled_in query.now root_at blocks) }
     ensures ends { IfOk result (λ outcome. EndsAsked outcome.ending) }
     ensures reads { IsErrOf result OutcomeStop.Unreadable → ⊥ }
     ensures cause { HasCause (S.scratch_faults scratch.old) (S.scratch_faults scratch.new) (IsErrOf result OutcomeStop.ScratchFault) }
@@ -97,14 +97,12 @@ pub fn prove<M: Disk + Wire, S: Scratch>(
     scratch: &mut S,
 ) -> Result<Ending, RunStop>
     requires settled { IsSettled (M.disk machine.old (M.now machine.old)) }
-    ensures run { (left : Option (List ℕ)) → IsRun M.now M.disk M.told machine.old machine.new (status_of_result result) left left (is_told (S.state scratch.old)) block_in compiled_in (Some (Prove query.now root_at)) }
+    ensures run { (left : Option (List ℕ)) → IsRun M.now M.disk M.told machine.old machine.new (status_of_result result) left left (is_known (S.state scratch.old)) block_in compiled_in (Some (Prove query.now root_at)) }
     ensures ends { MayEnd (status_of_result result) (Some (Prove query.now root_at)) }
     ensures silent { IsSilent (status_of_result result) (M.told machine.old) (M.told machine.new) }
     ensures reads { IsErrOf result RunStop.Unreadable → ⊥ }
-    ensures disk { Stays M.now M.disk machine.old machine.new }
-    ensures disk_fault { HasCause (M.disk_faults machine.old) (M.disk_faults machine.new) (IsErrOf result RunStop.DiskFault) }
+    ensures machine { TellsOfLog M.now M.disk M.disk_faults M.wire_faults machine.old machine.new result }
     ensures scratch_fault { HasCause (S.scratch_faults scratch.old) (S.scratch_faults scratch.new) (IsErrOf result RunStop.ScratchFault) }
-    ensures untold { HasCause (M.wire_faults machine.old) (M.wire_faults machine.new) (IsErrOf result RunStop.Untold) }
 {
     match Node::start(alloc, machine, scratch) {
         Ok(node) => tell_answer(machine, last_proof(alloc, query, root_at, node, scratch)),

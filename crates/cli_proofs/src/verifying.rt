@@ -1,26 +1,25 @@
 //! The command `verify`: the answer of a proof, or why it is not accepted.
 
-ghost use Rattle.std.specs.Prelude.{◌≡◌, ◌≤◌, [], ◌∷◌, length, Some, IfOk, IfSome, IsErrOf};
+ghost use Rattle.std.specs.Prelude.{◌≡◌, [], ◌∷◌, Some, IfOk, IfSome, IsErrOf};
 ghost use Rattle.lc_base.specs.Faults.{HasCause};
-ghost use Rattle.cli_lines.specs.declared.whole.TheConstants.{MAX_WHOLE_INPUT_BYTES};
-ghost use Rattle.proof_commands.specs.Lines.{rejected_line};
 ghost use Rattle.cli_lines.specs.Outcome.{status_of, outcome_with, bad_input};
+ghost use Rattle.proof_commands.specs.Lines.{rejected_line};
 ghost use Rattle.cli_words.specs.declared.words.Command.TheVariants.{Verify};
-ghost use Rattle.cli_output.specs.Output.{IsVerifyOutput, output_of};
-ghost use Rattle.cli_output.specs.Proofs.{hex_cause, verification_outcome};
-ghost use Rattle.cli_output.specs.Running.{MayEnd};
-ghost use Rattle.cli_output.specs.Scanning.{IsVerifyOutcome};
+ghost use Rattle.cli_output.specs.{
+  Proofs.{hex_cause, verification_outcome},
+  Running.{MayEnd},
+  Scanning.{IsVerifyOutcome},
+};
 
-use chain_input::Stop;
 use cli_lines::{Ending, Outcome, answer_lines, read_whole};
-use lc_base::{Digest, Memory, Query};
+use lc_base::{Digest, HostError, Memory, Query};
 use lc_io::Source;
 use proof_checks::Reject;
 use proof_commands::{HexFault, Verification, rejected_line, verify_hex};
 use std::alloc::Global;
 
 /// What is told of a proof that is not accepted.
-pub(crate) fn rejected(alloc: Global, reject: &Reject) -> Result<Outcome, Memory>
+pub(crate) fn rejected_outcome(alloc: Global, reject: &Reject) -> Result<Outcome, Memory>
     ensures { IfOk result (λ outcome. outcome ≡ outcome_with (rejected_line reject.now ∷ []) Ending.Rejected) }
 {
     Outcome::from_line(alloc, rejected_line(alloc, reject)?, Ending::Rejected)
@@ -48,23 +47,9 @@ fn verification_outcome(alloc: Global, told: &Verification) -> Result<Outcome, M
             pieces: answer_lines(alloc, answer)?,
             ending: Ending::Done,
         }),
-        Verification::Rejected(reject) => rejected(alloc, reject),
+        Verification::Rejected(reject) => rejected_outcome(alloc, reject),
         Verification::BadHex(fault) => bad_hex(alloc, fault),
     }
-}
-
-/// What is told of an input that was read whole.
-fn proof_outcome(
-    alloc: Global,
-    root: &Digest,
-    query: &Query,
-    input: &[u8],
-) -> Result<Outcome, Memory>
-    requires { length input.now ≤ MAX_WHOLE_INPUT_BYTES }
-    ensures { IfOk result (λ outcome. IsVerifyOutput root.now.0 query.now input.now (output_of outcome [])) }
-{
-    let told = verify_hex(alloc, root, query, input)?;
-    verification_outcome(alloc, &told)
 }
 
 /// The answer of the proof that the input is in hex, for one who has the root; or why it is not accepted.
@@ -73,13 +58,16 @@ pub fn verify<I: Source>(
     root: &Digest,
     query: &Query,
     source: &mut I,
-) -> Result<Outcome, Stop>
+) -> Result<Outcome, HostError>
     ensures outcome { IfSome (I.left source.old) (λ input. IfOk result (λ outcome. IsVerifyOutcome root.now.0 query.now outcome (I.left source.new) input)) }
     ensures ends { IfOk result (λ outcome. MayEnd (status_of outcome.ending) (Some (Verify root.now query.now))) }
-    ensures cause { HasCause (I.source_faults source.old) (I.source_faults source.new) (IsErrOf result Stop.Fault) }
+    ensures cause { HasCause (I.source_faults source.old) (I.source_faults source.new) (IsErrOf result HostError.Fault) }
 {
     match read_whole(alloc, source)? {
         None => Ok(Outcome::bad_input(alloc, "long")?),
-        Some(bytes) => Ok(proof_outcome(alloc, root, query, bytes.as_bytes())?),
+        Some(bytes) => {
+            let told = verify_hex(alloc, root, query, bytes.as_bytes())?;
+            Ok(verification_outcome(alloc, &told)?)
+        }
     }
 }

@@ -12,10 +12,7 @@ pub(crate) fn prove_of(words: &[String]) -> Option<Command>
     ensures { IsProve (map string_bytes words.now) result }
 {
     match words {
-        [word, kind, key, at, root_at] => {
-            if !is_text(word.as_str(), "prove") {
-                return None;
-            }
+        [word, kind, key, at, root_at] if is_text(word.as_str(), "prove") => {
             let query = query_of(kind.as_str(), key.as_str(), at.as_str())?;
             match number_of(root_at.as_str()) {
                 Some(root_at) => Some(Command::Prove { query, root_at }),
@@ -31,10 +28,7 @@ pub(crate) fn verify_of(words: &[String]) -> Option<Command>
     ensures { IsVerify (map string_bytes words.now) result }
 {
     match words {
-        [word, root, kind, key, at] => {
-            if !is_text(word.as_str(), "verify") {
-                return None;
-            }
+        [word, root, kind, key, at] if is_text(word.as_str(), "verify") => {
             verify_words(root.as_str(), kind.as_str(), key.as_str(), at.as_str())
         }
         _ => None,
@@ -57,10 +51,7 @@ pub(crate) fn expose_of(words: &[String]) -> Option<Command>
     ensures { IsExpose (map string_bytes words.now) result }
 {
     match words {
-        [word, root, kind, key, at, root_at] => {
-            if !is_text(word.as_str(), "expose") {
-                return None;
-            }
+        [word, root, kind, key, at, root_at] if is_text(word.as_str(), "expose") => {
             expose_words(
                 root.as_str(),
                 kind.as_str(),

@@ -1,9 +1,9 @@
 //! The words of questions about a block: over the input, and over the log.
 
-ghost use Rattle.std.specs.Prelude.{◌≡◌, ◌↔◌, [], ◌∷◌, IsTrue, map, string_bytes, codes};
+ghost use Rattle.std.specs.Prelude.{[], ◌∷◌, map, string_bytes};
 ghost use Rattle.cli_words.specs.Words.{IsQueryOf, IsScan, IsAsk, IsRoot};
 
-use crate::single::{key_of, kind_of, number_of};
+use crate::single::{is_text, key_of, kind_of, number_of};
 use crate::words::Command;
 use lc_base::Query;
 
@@ -19,22 +19,13 @@ pub(crate) fn query_of(kind: &str, key: &str, at: &str) -> Option<Query>
     }
 }
 
-fn is_scan(text: &str) -> bool
-    ensures { IsTrue result ↔ (text.now ≡ codes "scan") }
-{
-    text == "scan"
-}
-
 /// The question of the command `scan KIND KEY BLOCK`; `None` exactly where the words are no such
 /// command.
 pub(crate) fn scan_of(words: &[String]) -> Option<Query>
     ensures { IsScan (map string_bytes words.now) result }
 {
     match words {
-        [scan, kind, key, at] => {
-            if !is_scan(scan.as_str()) {
-                return None;
-            }
+        [word, kind, key, at] if is_text(word.as_str(), "scan") => {
             query_of(kind.as_str(), key.as_str(), at.as_str())
         }
         _ => None,
@@ -72,33 +63,17 @@ pub(crate) fn ask_of(words: &[String]) -> Option<Command>
     }
 }
 
-fn is_root(text: &str) -> bool
-    ensures { IsTrue result ↔ (text.now ≡ codes "root") }
-{
-    text == "root"
-}
-
 /// The block of the command `root` or `root BLOCK`; `None` exactly where the words are no such
 /// command.
 pub(crate) fn root_of(words: &[String]) -> Option<Command>
     ensures { IsRoot (map string_bytes words.now) result }
 {
     match words {
-        [word] => {
-            if !is_root(word.as_str()) {
-                return None;
-            }
-            Some(Command::Root(None))
-        }
-        [word, at] => {
-            if !is_root(word.as_str()) {
-                return None;
-            }
-            match number_of(at.as_str()) {
-                Some(at) => Some(Command::Root(Some(at))),
-                None => None,
-            }
-        }
+        [word] if is_text(word.as_str(), "root") => Some(Command::Root(None)),
+        [word, at] if is_text(word.as_str(), "root") => match number_of(at.as_str()) {
+            Some(at) => Some(Command::Root(Some(at))),
+            None => None,
+        },
         _ => None,
     }
 }

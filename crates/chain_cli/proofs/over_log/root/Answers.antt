@@ -14,11 +14,11 @@ returns-in-Ok-clause-run g c left heard =
     c.tell_made.new.machine (λ blocks. root_outcome compiled_in (at_or_last c.args.at blocks)
     blocks)
     c.in-Ok.node.chain c.last_root.result c.tell_made.result left
-    c.requires.settled c.start.ensures.disk c.start.ensures.told
+    c.requires.settled c.start.ensures.machine.stays c.start.ensures.machine.wire.told
     (λ content told. chain_of_node
     (g.M.Clock.disk c.start.new.machine (g.M.Clock.now c.start.new.machine)) c.in-Ok.node
     (standing next_in_chain content) (c.in-Ok.ensures.answer (heard refl) content told))
-    c.last_root.ensures.outcome c.tell_made.ensures.disk
+    c.last_root.ensures.outcome c.tell_made.ensures.disk.stays
     (c.tell_made.ensures.says next_in_chain)
 
 pub returns-in-Err-clause-run : goal.returns-in-Err-clause-run
@@ -27,8 +27,8 @@ returns-in-Err-clause-run g c left heard =
     c.tell_start.new.machine
     (λ blocks. root_outcome compiled_in (at_or_last c.args.at blocks) blocks)
     c.in-Err.error c.tell_start.result left
-    c.requires.settled c.start.ensures.disk c.start.ensures.told
-    (c.in-Err.ensures.answer (heard refl)) c.tell_start.ensures.disk
+    c.requires.settled c.start.ensures.machine.stays c.start.ensures.machine.wire.told
+    (c.in-Err.ensures.answer (heard refl)) c.tell_start.ensures.disk.stays
     (c.tell_start.ensures.says next_in_chain)
 
 pub returns-in-Ok-clause-ends : goal.returns-in-Ok-clause-ends

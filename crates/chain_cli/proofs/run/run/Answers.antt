@@ -1,6 +1,6 @@
 use Rattle.std.proofs.Common.{refl}
 use Rattle.block_codec.specs.Reading.{block_in}
-use Rattle.scratch_model.specs.Scratch.{is_told}
+use Rattle.scratch_model.specs.Scratch.{is_known}
 use Rattle.block_codec.proofs.WholeBlocks.{decided}
 use Rattle.chain_exec.specs.Compiled.{compiled_in}
 use Rattle.chain_exec.proofs.TheLaws.{one_compiler}
@@ -16,7 +16,7 @@ returns-clause-output g c = (
   (
     compiled_in,
     one_compiler.is_compiler,
-    λ command is. with_status g.M.Clock.now g.M.Clock.disk g.M.Clock.told c.args.machine.now c.run_words.new.machine c.run_words.result c.run_words.result (g.I.Source.left c.args.source.now) (g.I.Source.left c.run_words.new.source) (is_told (g.S.Scratch.state c.args.scratch.now)) c.command_of-command.result command
+    λ command is. with_status g.M.Clock.now g.M.Clock.disk g.M.Clock.told c.args.machine.now c.run_words.new.machine c.run_words.result c.run_words.result (g.I.Source.left c.args.source.now) (g.I.Source.left c.run_words.new.source) (is_known (g.S.Scratch.state c.args.scratch.now)) c.command_of-command.result command
         refl (c.command_of-command.ensures.one.only command is) c.run_words.ensures.run,
   ),
 )
@@ -28,6 +28,6 @@ returns-clause-goes_on g c = (
   (
     compiled_in,
     one_compiler.is_compiler,
-    any_command g.M.Clock.now g.M.Clock.disk g.M.Clock.told (changes_log c.command_of-command.result) (is_told (g.S.Scratch.state c.args.scratch.now)) c.args.machine.now c.run_words.new.machine c.requires.settled c.run_words.ensures.untouched c.run_words.ensures.goes_on,
+    any_command g.M.Clock.now g.M.Clock.disk g.M.Clock.told (changes_log c.command_of-command.result) (is_known (g.S.Scratch.state c.args.scratch.now)) c.args.machine.now c.run_words.new.machine c.requires.settled c.run_words.ensures.untouched c.run_words.ensures.goes_on,
   ),
 )

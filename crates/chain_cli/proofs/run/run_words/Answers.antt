@@ -1,5 +1,5 @@
 use Rattle.std.proofs.Common.{Some, None, sym, ap, ◌∙◌}
-use Rattle.scratch_model.specs.Scratch.{is_told}
+use Rattle.scratch_model.specs.Scratch.{is_known}
 use Rattle.recovery.specs.Node.{next_in_chain}
 use Rattle.cli_output.specs.Telling.{status_of_result, status_of_usage}
 use Rattle.chain_cli.proofs.Runs.{usage_run, with_status}
@@ -7,20 +7,20 @@ use Rattle.chain_cli.proofs.run.run_words.Goals as goal
 
 pub returns-in-Ok-clause-run : goal.returns-in-Ok-clause-run
 returns-in-Ok-clause-run g c =
-    with_status g.M.Clock.now g.M.Clock.disk g.M.Clock.told c.args.machine.now c.tell_usage.new.machine (status_of_usage c.tell_usage.result) _ (g.I.Source.left c.args.source.now) (g.I.Source.left c.args.source.now) (is_told (g.S.Scratch.state c.args.scratch.now)) None c.args.command (ap status_of_usage c.in-Ok.is) c.in-None.is
-    (usage_run g.M.Clock.now g.M.Clock.disk g.M.Clock.told c.args.machine.now c.tell_usage.new.machine c.tell_usage.result (g.I.Source.left c.args.source.now) (is_told (g.S.Scratch.state c.args.scratch.now)) c.requires.settled c.tell_usage.ensures.disk (c.tell_usage.ensures.lines next_in_chain))
+    with_status g.M.Clock.now g.M.Clock.disk g.M.Clock.told c.args.machine.now c.tell_usage.new.machine (status_of_usage c.tell_usage.result) _ (g.I.Source.left c.args.source.now) (g.I.Source.left c.args.source.now) (is_known (g.S.Scratch.state c.args.scratch.now)) None c.args.command (ap status_of_usage c.in-Ok.is) c.in-None.is
+    (usage_run g.M.Clock.now g.M.Clock.disk g.M.Clock.told c.args.machine.now c.tell_usage.new.machine c.tell_usage.result (g.I.Source.left c.args.source.now) (is_known (g.S.Scratch.state c.args.scratch.now)) c.requires.settled c.tell_usage.ensures.disk.stays (c.tell_usage.ensures.lines next_in_chain))
 
 pub returns-in-Err-clause-run : goal.returns-in-Err-clause-run
 returns-in-Err-clause-run g c =
-    with_status g.M.Clock.now g.M.Clock.disk g.M.Clock.told c.args.machine.now c.tell_usage.new.machine (status_of_usage c.tell_usage.result) _ (g.I.Source.left c.args.source.now) (g.I.Source.left c.args.source.now) (is_told (g.S.Scratch.state c.args.scratch.now)) None c.args.command (ap status_of_usage c.in-Err.is ∙ sym c.status.ensures) c.in-None.is
-    (usage_run g.M.Clock.now g.M.Clock.disk g.M.Clock.told c.args.machine.now c.tell_usage.new.machine c.tell_usage.result (g.I.Source.left c.args.source.now) (is_told (g.S.Scratch.state c.args.scratch.now)) c.requires.settled c.tell_usage.ensures.disk (c.tell_usage.ensures.lines next_in_chain))
+    with_status g.M.Clock.now g.M.Clock.disk g.M.Clock.told c.args.machine.now c.tell_usage.new.machine (status_of_usage c.tell_usage.result) _ (g.I.Source.left c.args.source.now) (g.I.Source.left c.args.source.now) (is_known (g.S.Scratch.state c.args.scratch.now)) None c.args.command (ap status_of_usage c.in-Err.is ∙ sym c.status_of_stop.ensures) c.in-None.is
+    (usage_run g.M.Clock.now g.M.Clock.disk g.M.Clock.told c.args.machine.now c.tell_usage.new.machine c.tell_usage.result (g.I.Source.left c.args.source.now) (is_known (g.S.Scratch.state c.args.scratch.now)) c.requires.settled c.tell_usage.ensures.disk.stays (c.tell_usage.ensures.lines next_in_chain))
 
 pub returns-in-Ok-run_command-clause-run : goal.returns-in-Ok-run_command-clause-run
 returns-in-Ok-run_command-clause-run g c =
-    with_status g.M.Clock.now g.M.Clock.disk g.M.Clock.told c.args.machine.now c.run_command.new.machine (status_of_result c.run_command.result) _ (g.I.Source.left c.args.source.now) (g.I.Source.left c.run_command.new.source) (is_told (g.S.Scratch.state c.args.scratch.now)) (Some c.in-Some.command) c.args.command
-    (ap status_of_result c.in-Ok-run_command.is ∙ sym c.status-in-Ok-run_command.ensures) c.in-Some.is c.run_command.ensures.run
+    with_status g.M.Clock.now g.M.Clock.disk g.M.Clock.told c.args.machine.now c.run_command.new.machine (status_of_result c.run_command.result) _ (g.I.Source.left c.args.source.now) (g.I.Source.left c.run_command.new.source) (is_known (g.S.Scratch.state c.args.scratch.now)) (Some c.in-Some.command) c.args.command
+    (ap status_of_result c.in-Ok-run_command.is ∙ sym c.status.ensures) c.in-Some.is c.run_command.ensures.run
 
 pub returns-in-Err-run_command-clause-run : goal.returns-in-Err-run_command-clause-run
 returns-in-Err-run_command-clause-run g c =
-    with_status g.M.Clock.now g.M.Clock.disk g.M.Clock.told c.args.machine.now c.run_command.new.machine (status_of_result c.run_command.result) _ (g.I.Source.left c.args.source.now) (g.I.Source.left c.run_command.new.source) (is_told (g.S.Scratch.state c.args.scratch.now)) (Some c.in-Some.command) c.args.command
-    (ap status_of_result c.in-Err-run_command.is ∙ sym c.status-in-Err-run_command.ensures) c.in-Some.is c.run_command.ensures.run
+    with_status g.M.Clock.now g.M.Clock.disk g.M.Clock.told c.args.machine.now c.run_command.new.machine (status_of_result c.run_command.result) _ (g.I.Source.left c.args.source.now) (g.I.Source.left c.run_command.new.source) (is_known (g.S.Scratch.state c.args.scratch.now)) (Some c.in-Some.command) c.args.command
+    (ap status_of_result c.in-Err-run_command.is ∙ sym c.status_of_stop-in-Err-run_command.ensures) c.in-Some.is c.run_command.ensures.run

@@ -37,7 +37,7 @@ returns-in-Ok-Err-clause-appends g c told first input is left =
     (c.turns.invariant.taken told first is) c.turns.invariant.bound c.taken-frame.ensures.count left
     (rw c.in-Ok-Some.field-0-is at c.in-Ok-Some.ensures.answer)
     ((rw (c.as_bytes.ensures, c.in-Ok-Err.field-0-is) at c.in-Ok-Err.ensures.takes)
-    (c.turns.invariant.retains.told ∙ told)) c.refuse.ensures.disk
+    (c.turns.invariant.retains.known ∙ told)) c.refuse.ensures.disk.stays
     (c.refuse.ensures.lines next_in_chain) c.refuse.ensures.end
 
 pub returns-in-Err-take_frame-clause-appends : goal.returns-in-Err-take_frame-clause-appends
@@ -49,7 +49,7 @@ returns-in-Err-take_frame-clause-appends g c told first input is left =
     (c.turns.invariant.taken told first is) c.turns.invariant.bound left
     (rw c.in-Ok-Some.field-0-is at c.in-Ok-Some.ensures.answer)
     ((rw c.as_bytes.ensures at c.in-Err-take_frame.ensures.takes)
-    (c.turns.invariant.retains.told ∙ told))
+    (c.turns.invariant.retains.known ∙ told))
 
 pub turns-preserved : goal.turns-preserved
 turns-preserved g c =
@@ -91,7 +91,7 @@ turns-preserved g c =
           (c.turns.invariant.taken told first is) c.turns.invariant.bound count.0
           (rw c.in-Ok-Some.field-0-is at c.in-Ok-Some.ensures.answer)
           ((rw (c.as_bytes.ensures, c.in-Ok-Ok.field-0-is) at c.in-Ok-Ok.ensures.takes)
-          (c.turns.invariant.retains.told ∙ told));
+          (c.turns.invariant.retains.known ∙ told));
     }
 
 pub returns-in-Ok-clause-appends : goal.returns-in-Ok-clause-appends
@@ -102,7 +102,7 @@ returns-in-Ok-clause-appends g c told first input is left =
     (g.I.Source.left c.next.new.source) first input c.in-Err.error c.in-Ok.cause
     c.refuse-in-Ok.result
     (c.turns.invariant.taken told first is) c.turns.invariant.bound c.taken-frame.ensures.count left
-    c.in-Err.ensures.answer c.in-Ok.ensures c.refuse-in-Ok.ensures.disk
+    c.in-Err.ensures.answer c.in-Ok.ensures c.refuse-in-Ok.ensures.disk.stays
     (c.refuse-in-Ok.ensures.lines next_in_chain) c.refuse-in-Ok.ensures.end
 
 pub returns-in-Err-cause_of-clause-appends : goal.returns-in-Err-cause_of-clause-appends
@@ -130,7 +130,7 @@ returns-in-Ok-clause-goes_on g c told first is is_told = goes_still g.M.Clock.no
     g.M.Clock.told c.args.machine.now c.turns.machine c.refuse-in-Ok.new.machine first
     (goes_from g.M.Clock.now g.M.Clock.disk g.M.Clock.told c.args.machine.now c.turns.machine
     c.turns.node c.turns.frames (g.I.Source.left c.args.source.now) (g.I.Source.left c.turns.source)
-    first (c.turns.invariant.taken told first is) is_told) c.refuse-in-Ok.ensures.disk
+    first (c.turns.invariant.taken told first is) is_told) c.refuse-in-Ok.ensures.disk.stays
 
 pub returns-in-Ok-Err-clause-goes_on : goal.returns-in-Ok-Err-clause-goes_on
 returns-in-Ok-Err-clause-goes_on g c told first is is_told = goes_still g.M.Clock.now g.M.Clock.disk
@@ -140,7 +140,7 @@ returns-in-Ok-Err-clause-goes_on g c told first is is_told = goes_still g.M.Cloc
     (g.I.Source.left c.turns.source) first c.in-Ok-Some.bytes (Ok (Err c.in-Ok-Err.refusal))
     (c.turns.invariant.taken told first is)
     ((rw (c.as_bytes.ensures, c.in-Ok-Err.field-0-is) at c.in-Ok-Err.ensures.takes)
-    (c.turns.invariant.retains.told ∙ told)) is_told) c.refuse.ensures.disk
+    (c.turns.invariant.retains.known ∙ told)) is_told) c.refuse.ensures.disk.stays
 
 pub returns-in-Err-take_frame-clause-goes_on : goal.returns-in-Err-take_frame-clause-goes_on
 returns-in-Err-take_frame-clause-goes_on g c told first is is_told = goes_step g.M.Clock.now
@@ -148,4 +148,4 @@ returns-in-Err-take_frame-clause-goes_on g c told first is is_told = goes_step g
     c.turns.node c.turns.frames (g.I.Source.left c.args.source.now) (g.I.Source.left c.turns.source)
     first c.in-Ok-Some.bytes (Err c.in-Err-take_frame.stop) (c.turns.invariant.taken told first is)
     ((rw c.as_bytes.ensures at c.in-Err-take_frame.ensures.takes)
-    (c.turns.invariant.retains.told ∙ told)) is_told
+    (c.turns.invariant.retains.known ∙ told)) is_told

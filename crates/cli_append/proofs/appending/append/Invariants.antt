@@ -1,7 +1,7 @@
 use Rattle.std.proofs.Common.{◌≡◌, true, ◌+◌, ◌-◌, ◌≤◌, List}
 use Rattle.block_codec.specs.declared.block.Block.{Block}
 use Rattle.block_codec.specs.declared.limits.TheConstants.{MAX_FRAMES}
-use Rattle.scratch_model.specs.Scratch.{is_told, Retains}
+use Rattle.scratch_model.specs.Scratch.{is_known, Retains}
 use Rattle.recovery.specs.Node.{IsNodeOf, IsReady}
 use Rattle.cli_append.proofs.Loop.{Progress}
 use Rattle.cli_append.proofs.appending.append.Given as goal
@@ -16,7 +16,7 @@ invariant-turns g l = record {
   ready : IsReady l.node (g.M.Clock.disk l.machine (g.M.Clock.now l.machine))
       (g.S.Scratch.state l.scratch);
   retains : Retains (g.S.Scratch.state l.fn.scratch) (g.S.Scratch.state l.scratch);
-  taken : is_told (g.S.Scratch.state l.fn.scratch) ≡ true → (first : List Block)
+  taken : is_known (g.S.Scratch.state l.fn.scratch) ≡ true → (first : List Block)
       → IsNodeOf l.fn.node (g.M.Clock.disk l.fn.machine (g.M.Clock.now l.fn.machine)) first
       → Progress g.M.Clock.now g.M.Clock.disk g.M.Clock.told l.fn.machine l.machine l.node l.frames
       (g.I.Source.left l.fn.source) (g.I.Source.left l.source) first;

@@ -1,7 +1,7 @@
 use Rattle.std.proofs.Common.{◌∙◌, refl}
 use Rattle.block_codec.specs.Reading.{block_in}
 use Rattle.chain_exec.specs.Compiled.{compiled_in}
-use Rattle.chain_replay.specs.Judging.{judged}
+use Rattle.chain_replay.specs.Judging.{judgement_of}
 use Rattle.recovery.specs.Node.{next_in_chain}
 use Rattle.cli_append.proofs.Causes.{carried, kept}
 use Rattle.cli_append.proofs.Frames.{takes_whole, takes_part, takes_none, takes_refusal}
@@ -11,7 +11,7 @@ use Rattle.cli_append.proofs.taking.take_frame.Goals as goal
 pub returns-in-Ok-tell_line-clause-takes : goal.returns-in-Ok-tell_line-clause-takes
 returns-in-Ok-tell_line-clause-takes g c heard blocks is =
     let answer = c.in-Ok.ensures.answer heard blocks is in
-    let judgement = judged compiled_in blocks (block_in c.args.frame.now) in
+    let judgement = judgement_of compiled_in blocks (block_in c.args.frame.now) in
     takes_whole g.M.Clock.now g.M.Clock.disk g.M.Clock.told c.args.machine.now c.append.new.machine
     c.tell_line.new.machine blocks (block_in c.args.frame.now) c.args.node c.in-Ok.longer
     c.in-Ok.appended c.as_bytes.result.now
@@ -19,13 +19,13 @@ returns-in-Ok-tell_line-clause-takes g c heard blocks is =
     (images_told g.M.Clock.now g.M.Clock.disk g.M.Clock.told c.args.machine.now
     c.append.new.machine blocks judgement
     (λ content told. c.append.ensures.images heard blocks content is told))
-    c.append.ensures.told answer.1 (c.in-Ok-tell_line.ensures.lines next_in_chain)
-    c.tell_line.ensures.disk c.in-Ok.ensures.untouched
+    c.append.ensures.wire.told answer.1 (c.in-Ok-tell_line.ensures.lines next_in_chain)
+    c.tell_line.ensures.disk.stays c.in-Ok.ensures.untouched
 
 pub returns-in-Ok-appended_line-clause-takes : goal.returns-in-Ok-appended_line-clause-takes
 returns-in-Ok-appended_line-clause-takes g c heard blocks is =
     let answer = c.in-Ok.ensures.answer heard blocks is in
-    let judgement = judged compiled_in blocks (block_in c.args.frame.now) in
+    let judgement = judgement_of compiled_in blocks (block_in c.args.frame.now) in
     takes_part g.M.Clock.now g.M.Clock.disk g.M.Clock.told c.args.machine.now c.append.new.machine
     c.tell_line.new.machine blocks (block_in c.args.frame.now) c.args.node c.in-Ok.longer
     c.in-Ok.appended c.as_bytes.result.now _
@@ -33,77 +33,77 @@ returns-in-Ok-appended_line-clause-takes g c heard blocks is =
     (images_told g.M.Clock.now g.M.Clock.disk g.M.Clock.told c.args.machine.now
     c.append.new.machine blocks judgement
     (λ content told. c.append.ensures.images heard blocks content is told))
-    c.append.ensures.told answer.1 (c.in-Err-tell_line.ensures.lines next_in_chain)
-    c.tell_line.ensures.disk
+    c.append.ensures.wire.told answer.1 (c.in-Err-tell_line.ensures.lines next_in_chain)
+    c.tell_line.ensures.disk.stays
 
 pub returns-in-Ok-clause-takes : goal.returns-in-Ok-clause-takes
 returns-in-Ok-clause-takes g c heard blocks is =
-    let judgement = judged compiled_in blocks (block_in c.args.frame.now) in
+    let judgement = judgement_of compiled_in blocks (block_in c.args.frame.now) in
     takes_none g.M.Clock.now g.M.Clock.disk g.M.Clock.told c.args.machine.now c.append.new.machine
     blocks judgement _
     (images_told g.M.Clock.now g.M.Clock.disk g.M.Clock.told c.args.machine.now c.append.new.machine
     blocks judgement (λ content told. c.append.ensures.images heard blocks content is told))
-    c.append.ensures.told
+    c.append.ensures.wire.told
 
 pub returns-in-Refused-clause-takes : goal.returns-in-Refused-clause-takes
 returns-in-Refused-clause-takes g c heard blocks is =
-    let judgement = judged compiled_in blocks (block_in c.args.frame.now) in
+    let judgement = judgement_of compiled_in blocks (block_in c.args.frame.now) in
     let handed = rw c.in-Refused.is at (c.in-Err.ensures.answer heard blocks is) in
     let untouched = (rw c.in-Refused.is at c.in-Err.ensures.untouched) refl in
     takes_refusal g.M.Clock.now g.M.Clock.disk g.M.Clock.told c.args.machine.now
     c.append.new.machine blocks judgement c.args.node c.in-Refused.refusal
     (images_told g.M.Clock.now g.M.Clock.disk g.M.Clock.told c.args.machine.now c.append.new.machine
     blocks judgement (λ content told. c.append.ensures.images heard blocks content is told))
-    c.append.ensures.told untouched handed.0 handed.2
+    c.append.ensures.wire.told untouched handed.0 handed.2
 
 pub returns-in-DiskFault-clause-takes : goal.returns-in-DiskFault-clause-takes
 returns-in-DiskFault-clause-takes g c heard blocks is =
-    let judgement = judged compiled_in blocks (block_in c.args.frame.now) in
+    let judgement = judgement_of compiled_in blocks (block_in c.args.frame.now) in
     takes_none g.M.Clock.now g.M.Clock.disk g.M.Clock.told c.args.machine.now c.append.new.machine
     blocks judgement _
     (images_told g.M.Clock.now g.M.Clock.disk g.M.Clock.told c.args.machine.now c.append.new.machine
     blocks judgement (λ content told. c.append.ensures.images heard blocks content is told))
-    c.append.ensures.told
+    c.append.ensures.wire.told
 
 pub returns-in-ScratchFault-clause-takes : goal.returns-in-ScratchFault-clause-takes
 returns-in-ScratchFault-clause-takes g c heard blocks is =
-    let judgement = judged compiled_in blocks (block_in c.args.frame.now) in
+    let judgement = judgement_of compiled_in blocks (block_in c.args.frame.now) in
     takes_none g.M.Clock.now g.M.Clock.disk g.M.Clock.told c.args.machine.now c.append.new.machine
     blocks judgement _
     (images_told g.M.Clock.now g.M.Clock.disk g.M.Clock.told c.args.machine.now c.append.new.machine
     blocks judgement (λ content told. c.append.ensures.images heard blocks content is told))
-    c.append.ensures.told
+    c.append.ensures.wire.told
 
 pub returns-clause-takes : goal.returns-clause-takes
 returns-clause-takes g c heard blocks is =
-    let judgement = judged compiled_in blocks (block_in c.args.frame.now) in
+    let judgement = judgement_of compiled_in blocks (block_in c.args.frame.now) in
     takes_none g.M.Clock.now g.M.Clock.disk g.M.Clock.told c.args.machine.now c.append.new.machine
     blocks judgement _
     (images_told g.M.Clock.now g.M.Clock.disk g.M.Clock.told c.args.machine.now c.append.new.machine
     blocks judgement (λ content told. c.append.ensures.images heard blocks content is told))
-    c.append.ensures.told
+    c.append.ensures.wire.told
 
 pub returns-in-Ok-tell_line-clause-untold : goal.returns-in-Ok-tell_line-clause-untold
 returns-in-Ok-tell_line-clause-untold g c =
     carried (g.M.Clock.wire_faults c.args.machine.now) (g.M.Clock.wire_faults c.append.new.machine)
-    (g.M.Clock.wire_faults c.tell_line.new.machine) _ _ c.append.ensures.wire_faults
+    (g.M.Clock.wire_faults c.tell_line.new.machine) _ _ c.append.ensures.wire.faults
     c.in-Ok-tell_line.ensures.cause (λ b. absurd (cc b)) (λ b. absurd (cc b))
 
 pub returns-in-Ok-tell_line-clause-disk_fault : goal.returns-in-Ok-tell_line-clause-disk_fault
 returns-in-Ok-tell_line-clause-disk_fault g c =
     kept (g.M.Clock.disk_faults c.args.machine.now) (g.M.Clock.disk_faults c.append.new.machine)
-    (g.M.Clock.disk_faults c.tell_line.new.machine) _ _ c.tell_line.ensures.disk_faults
+    (g.M.Clock.disk_faults c.tell_line.new.machine) _ _ c.tell_line.ensures.disk.faults
     c.in-Ok.ensures.disk_cause (λ b. absurd b) (λ b. absurd (cc b))
 
 pub returns-in-Ok-appended_line-clause-untold : goal.returns-in-Ok-appended_line-clause-untold
 returns-in-Ok-appended_line-clause-untold g c =
     carried (g.M.Clock.wire_faults c.args.machine.now) (g.M.Clock.wire_faults c.append.new.machine)
-    (g.M.Clock.wire_faults c.tell_line.new.machine) _ _ c.append.ensures.wire_faults
+    (g.M.Clock.wire_faults c.tell_line.new.machine) _ _ c.append.ensures.wire.faults
     c.in-Err-tell_line.ensures.cause (λ b. refl) (λ b. refl)
 
 pub returns-in-Ok-appended_line-clause-disk_fault :
     goal.returns-in-Ok-appended_line-clause-disk_fault
 returns-in-Ok-appended_line-clause-disk_fault g c =
     kept (g.M.Clock.disk_faults c.args.machine.now) (g.M.Clock.disk_faults c.append.new.machine)
-    (g.M.Clock.disk_faults c.tell_line.new.machine) _ _ c.tell_line.ensures.disk_faults
+    (g.M.Clock.disk_faults c.tell_line.new.machine) _ _ c.tell_line.ensures.disk.faults
     c.in-Ok.ensures.disk_cause (λ b. absurd b) (λ b. absurd (cc b))

@@ -1,5 +1,5 @@
 use Rattle.std.proofs.Common.{refl}
-use Rattle.cli_output.specs.declared.stop.RunStop.TheVariants as stops
+use Rattle.cli_append.specs.declared.ending.RunStop.TheVariants as stops
 use Rattle.recovery.specs.Node.{next_in_chain}
 use Rattle.cli_output.proofs.Ends.{made_ends}
 use Rattle.cli_output.proofs.Meets.{made_ok, made_err}

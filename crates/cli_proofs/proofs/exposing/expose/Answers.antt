@@ -1,5 +1,5 @@
 use Rattle.std.proofs.Common.{◌∙◌}
-use Rattle.scratch_model.specs.Scratch.{is_told}
+use Rattle.scratch_model.specs.Scratch.{is_known}
 use Rattle.block_log.specs.Standing.{standing}
 use Rattle.recovery.specs.Node.{next_in_chain}
 use Rattle.cli_output.proofs.Meets.{chain_of_node}
@@ -9,9 +9,9 @@ use Rattle.cli_proofs.proofs.exposing.expose.Goals as goal
 pub returns-in-Ok-clause-run : goal.returns-in-Ok-clause-run
 returns-in-Ok-clause-run g c =
     expose_run g.M.Clock.now g.M.Clock.disk g.M.Clock.told c.args.machine.now c.start.new.machine c.tell_answer.new.machine c.args.root.now c.args.query.now c.args.root_at c.in-Ok.node.chain c.last_held-outcome.result c.tell_answer.result
-    (g.I.Source.left c.args.source.now) (g.I.Source.left c.last_held-outcome.new.source) (is_told (g.S.Scratch.state c.args.scratch.now)) c.requires.settled c.start.ensures.disk c.start.ensures.told
+    (g.I.Source.left c.args.source.now) (g.I.Source.left c.last_held-outcome.new.source) (is_known (g.S.Scratch.state c.args.scratch.now)) c.requires.settled c.start.ensures.machine.stays c.start.ensures.machine.wire.told
     (λ heard content told. chain_of_node (g.M.Clock.disk c.start.new.machine (g.M.Clock.now c.start.new.machine)) c.in-Ok.node (standing next_in_chain content) (c.in-Ok.ensures.answer heard content told))
-    (λ heard. c.last_held-outcome.ensures.outcome (c.start.ensures.retains.told ∙ heard)) c.tell_answer.ensures.disk (c.tell_answer.ensures.tells next_in_chain)
+    (λ heard. c.last_held-outcome.ensures.outcome (c.start.ensures.scratch.retains.known ∙ heard)) c.tell_answer.ensures.disk.stays (c.tell_answer.ensures.tells next_in_chain)
 
 pub returns-in-Ok-clause-no_log : goal.returns-in-Ok-clause-no_log
 returns-in-Ok-clause-no_log g c none =
@@ -20,5 +20,5 @@ returns-in-Ok-clause-no_log g c none =
 
 pub returns-in-Err-clause-run : goal.returns-in-Err-clause-run
 returns-in-Err-clause-run g c =
-    expose_refused g.M.Clock.now g.M.Clock.disk g.M.Clock.told c.args.machine.now c.start.new.machine c.tell_start.new.machine c.args.root.now c.args.query.now c.args.root_at c.in-Err.error c.tell_start.result (g.I.Source.left c.args.source.now) (is_told (g.S.Scratch.state c.args.scratch.now))
-    c.requires.settled c.start.ensures.disk c.start.ensures.told c.in-Err.ensures.answer c.tell_start.ensures.disk (c.tell_start.ensures.says next_in_chain)
+    expose_refused g.M.Clock.now g.M.Clock.disk g.M.Clock.told c.args.machine.now c.start.new.machine c.tell_start.new.machine c.args.root.now c.args.query.now c.args.root_at c.in-Err.error c.tell_start.result (g.I.Source.left c.args.source.now) (is_known (g.S.Scratch.state c.args.scratch.now))
+    c.requires.settled c.start.ensures.machine.stays c.start.ensures.machine.wire.told c.in-Err.ensures.answer c.tell_start.ensures.disk.stays (c.tell_start.ensures.says next_in_chain)

@@ -4,7 +4,7 @@ use Rattle.std.specs.Prelude.{codes, string_bytes}
 use Rattle.cli_words.specs.Words.{IsExpose}
 use Rattle.cli_words.proofs.proving.expose_of.Goals as goal
 
-pub returns-else-not-is_text : goal.returns-else-not-is_text
-returns-else-not-is_text c =
+pub returns-in-len6 : goal.returns-in-len6
+returns-in-len6 c =
     let words : map string_bytes c.args.words.now ≡ codes "expose" ∷ c.as_str-in-len6.result.now ∷ c.as_str-in-len6-2.result.now ∷ c.as_str-in-len6-3.result.now ∷ c.as_str-in-len6-4.result.now ∷ c.as_str-in-len6-5.result.now ∷ [] = grind (arith, common_steps) in
     subst (λ (ws : List (List ℕ)). IsExpose ws c.expose_words.result) (sym words) c.expose_words.ensures

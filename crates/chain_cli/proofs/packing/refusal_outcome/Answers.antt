@@ -1,7 +1,7 @@
 use Rattle.std.proofs.Common.{◌∙◌, refl, append_assoc}
 use Rattle.chain_pack.specs.declared.error.PackError.TheVariants.{Shape, BlockLimit}
 use Rattle.chain_cli.proofs.Packs.{told_fault}
-use Rattle.chain_cli.proofs.packing.refused.Goals as goal
+use Rattle.chain_cli.proofs.packing.refusal_outcome.Goals as goal
 
 pub returns-in_ok-cause-in-Shape : goal.returns-in_ok-cause-in-Shape
 returns-in_ok-cause-in-Shape c =
