@@ -2,141 +2,65 @@
 //! `examples/recall.blocks`.
 
 ghost use Rattle.std.specs.Prelude.{IfSome};
+ghost use Rattle.scratch_model.specs.MemScratch.{state_over};
 ghost use Rattle.merkle_dag.specs.Lineage.{AgreesWith};
-ghost use Rattle.rooted_chain.specs.Roots.{lineage_in};
 
-use chain_replay::{Judged, Replay};
+use crate::alike::is_same_answer;
+use crate::lineages::lineage_in_memory;
+use chain_pack::pack;
 use entry_store::Steps;
-use lc_base::{Answer, Dep, Digest, Key, Kind, Query, Value};
-use lc_io::Room;
+use hex::FromHex;
+use lc_base::{Answer, Dep, DepList, Digest, Key, Kind, Query, Value};
 use lineage_reading::answer;
 use merkle_dag::Lineage;
 use prov_query::{AskError, ask};
-use rooted_chain::LineageChain;
 use scratch_model::{MemScratch, Scratch};
 use std::alloc::Global;
 
-/// Room for the bodies of the rows, and for reading them.
-const ROOM: Room = Room {
-    calls: 100,
-    bytes: 10_000,
-};
-
-/// Block 0.
-const BLOCK_0: [u8; 109] = [
-    0x01, 0x00, 0x00, 0x00, 0x00, 0x00, 0x00, 0x00, 0x00, 0x00, 0x00, 0x00, 0x00, 0x00, 0x00, 0x00,
-    0x00, 0x00, 0x00, 0x00, 0x00, 0x00, 0x00, 0x00, 0x00, 0x00, 0x00, 0x00, 0x00, 0x00, 0x00, 0x00,
-    0x00, 0x00, 0x00, 0x00, 0x00, 0x00, 0x02, 0x01, 0x00, 0x07, 0x66, 0x6f, 0x75, 0x6e, 0x64, 0x72,
-    0x79, 0x00, 0x0b, 0x72, 0x61, 0x77, 0x2f, 0x70, 0x61, 0x72, 0x74, 0x2f, 0x70, 0x31, 0x01, 0x00,
-    0x08, 0x62, 0x61, 0x74, 0x63, 0x68, 0x20, 0x31, 0x37, 0x00, 0x01, 0x00, 0x07, 0x66, 0x6f, 0x75,
-    0x6e, 0x64, 0x72, 0x79, 0x00, 0x0b, 0x72, 0x61, 0x77, 0x2f, 0x70, 0x61, 0x72, 0x74, 0x2f, 0x70,
-    0x32, 0x01, 0x00, 0x08, 0x62, 0x61, 0x74, 0x63, 0x68, 0x20, 0x31, 0x38, 0x00,
-];
-
-/// Block 1.
-const BLOCK_1: [u8; 125] = [
-    0x01, 0x00, 0x00, 0x00, 0x01, 0xd6, 0xda, 0xa0, 0x4b, 0x35, 0xf4, 0xdb, 0x35, 0xe1, 0x20, 0xac,
-    0xbd, 0xc6, 0x86, 0x33, 0x26, 0x1a, 0xff, 0x06, 0x95, 0x5c, 0xe8, 0xf3, 0xb9, 0x3b, 0x97, 0xaa,
-    0x45, 0xe2, 0x11, 0xae, 0x56, 0x00, 0x02, 0x01, 0x00, 0x05, 0x70, 0x6c, 0x61, 0x6e, 0x74, 0x00,
-    0x0a, 0x72, 0x61, 0x77, 0x2f, 0x6c, 0x6f, 0x74, 0x2f, 0x6c, 0x31, 0x00, 0x00, 0x00, 0x00, 0x00,
-    0x00, 0x00, 0x00, 0x78, 0x01, 0x00, 0x0b, 0x72, 0x61, 0x77, 0x2f, 0x70, 0x61, 0x72, 0x74, 0x2f,
-    0x70, 0x31, 0x01, 0x00, 0x05, 0x70, 0x6c, 0x61, 0x6e, 0x74, 0x00, 0x0a, 0x72, 0x61, 0x77, 0x2f,
-    0x6c, 0x6f, 0x74, 0x2f, 0x6c, 0x32, 0x00, 0x00, 0x00, 0x00, 0x00, 0x00, 0x00, 0x00, 0x50, 0x01,
-    0x00, 0x0b, 0x72, 0x61, 0x77, 0x2f, 0x70, 0x61, 0x72, 0x74, 0x2f, 0x70, 0x32,
-];
-
-/// Block 2.
-const BLOCK_2: [u8; 133] = [
-    0x01, 0x00, 0x00, 0x00, 0x02, 0x08, 0x45, 0x07, 0xb5, 0x94, 0x8b, 0x64, 0x8d, 0x0c, 0x94, 0x6d,
-    0x48, 0xc7, 0x9a, 0x14, 0xb8, 0xce, 0xcf, 0xd2, 0xfd, 0xe0, 0x6b, 0xbf, 0xb4, 0x44, 0x5c, 0x2a,
-    0xbd, 0x16, 0x94, 0x0c, 0x2f, 0x00, 0x02, 0x01, 0x00, 0x05, 0x70, 0x6c, 0x61, 0x6e, 0x74, 0x00,
-    0x0a, 0x72, 0x61, 0x77, 0x2f, 0x6c, 0x6f, 0x74, 0x2f, 0x6c, 0x33, 0x00, 0x00, 0x00, 0x00, 0x00,
-    0x00, 0x00, 0x00, 0xc8, 0x02, 0x00, 0x0b, 0x72, 0x61, 0x77, 0x2f, 0x70, 0x61, 0x72, 0x74, 0x2f,
-    0x70, 0x31, 0x00, 0x0b, 0x72, 0x61, 0x77, 0x2f, 0x70, 0x61, 0x72, 0x74, 0x2f, 0x70, 0x32, 0x01,
-    0x00, 0x04, 0x73, 0x68, 0x6f, 0x70, 0x00, 0x0b, 0x72, 0x61, 0x77, 0x2f, 0x73, 0x68, 0x6f, 0x70,
-    0x2f, 0x73, 0x31, 0x01, 0x00, 0x02, 0x6c, 0x31, 0x01, 0x00, 0x0a, 0x72, 0x61, 0x77, 0x2f, 0x6c,
-    0x6f, 0x74, 0x2f, 0x6c, 0x31,
-];
+/// The draft of the three blocks.
+const DRAFT: &[u8] = br#"[
+  [
+    {"set": {"sender": "foundry", "key": "raw/part/p1", "value": "batch 17"}},
+    {"set": {"sender": "foundry", "key": "raw/part/p2", "value": "batch 18"}}
+  ],
+  [
+    {"set": {"sender": "plant", "key": "raw/lot/l1", "value": 120, "deps": ["raw/part/p1"]}},
+    {"set": {"sender": "plant", "key": "raw/lot/l2", "value": 80, "deps": ["raw/part/p2"]}}
+  ],
+  [
+    {"set": {"sender": "plant", "key": "raw/lot/l3", "value": 200,
+      "deps": ["raw/part/p1", "raw/part/p2"]}},
+    {"set": {"sender": "shop", "key": "raw/shop/s1", "value": "l1", "deps": ["raw/lot/l1"]}}
+  ]
+]"#;
 
 /// The tree hash of the two leaves before the last.
-const PAIR: [u8; 32] = [
-    0xb7, 0x29, 0x32, 0xa2, 0x90, 0x59, 0x36, 0x19, 0x20, 0xa5, 0x0e, 0x42, 0x14, 0x78, 0x9b, 0xbc,
-    0x92, 0x39, 0x66, 0x95, 0xdd, 0xfb, 0x08, 0xa1, 0x89, 0x4f, 0x6b, 0xf5, 0xc1, 0xf5, 0x34, 0x78,
-];
+const PAIR: &str = "b72932a29059361920a50e4214789bbc92396695ddfb08a1894f6bf5c1f53478";
 
 /// The tree hash of the first four leaves.
-const FOUR: [u8; 32] = [
-    0x7c, 0x2e, 0x11, 0xc9, 0x3b, 0x33, 0x1c, 0x08, 0x0c, 0x08, 0xfe, 0x17, 0xb9, 0x70, 0xb5, 0x7e,
-    0x84, 0x66, 0x4f, 0x9a, 0x9a, 0xa9, 0x63, 0xdf, 0x1f, 0xed, 0x9f, 0x7f, 0x89, 0xc7, 0x25, 0xe4,
-];
+const FOUR: &str = "7c2e11c93b331c080c08fe17b970b57e84664f9a9aa963df1fed9f7f89c725e4";
 
-/// The chain with one block more; `None` where these bytes aren't its next block.
-fn longer<S: Scratch>(
-    alloc: Global,
-    scratch: &mut S,
-    chain: LineageChain,
-    bytes: &[u8],
-) -> Option<LineageChain>
-    requires agrees { AgreesWith (lineage_in chain) (S.state scratch.old) }
-    ensures agrees { IfSome result (λ longer. AgreesWith (lineage_in longer) (S.state scratch.new)) }
+/// The lineage of the three blocks, over a device in memory.
+fn lineage_of_draft(alloc: Global) -> Option<(MemScratch, Lineage)>
+    ensures agrees { IfSome result (λ made. AgreesWith made.1 (state_over made.0.bytes)) }
 {
-    match chain.judge(alloc, bytes) {
-        Ok(Judged::Next { block, digest }) => chain.replay(alloc, scratch, &block, digest).ok(),
-        _ => {
-            chain.give_up();
-            None
-        }
-    }
+    lineage_in_memory(alloc, &[], &pack(alloc, DRAFT).ok()?)
 }
 
-/// The lineage of the three blocks.
-fn lineage_of_blocks<S: Scratch>(alloc: Global, scratch: &mut S) -> Option<Lineage>
-    ensures agrees { IfSome result (λ lineage. AgreesWith lineage (S.state scratch.new)) }
-{
-    match LineageChain::start(alloc) {
-        Ok(chain) => {
-            let chain = longer(alloc, scratch, chain, &BLOCK_0)?;
-            let chain = longer(alloc, scratch, chain, &BLOCK_1)?;
-            let chain = longer(alloc, scratch, chain, &BLOCK_2)?;
-            Some(chain.into_lineage())
-        }
-        Err(_) => None,
+/// The versions of these keys, each in a block.
+fn versions(alloc: Global, places: &[(&[u8], u32)]) -> Option<DepList> {
+    let mut versions = DepList::new(alloc);
+    for (key, block) in places {
+        let key = Key::new(key).ok()?;
+        versions.push(Dep { key, block: *block }).ok()?;
     }
+    Some(versions)
 }
 
-/// The version of this key in a block.
-fn version(key: &[u8], block: u32) -> Option<Dep> {
+/// A question about a key.
+fn question(kind: Kind, key: &[u8], at: u32) -> Option<Query> {
     let key = Key::new(key).ok()?;
-    Some(Dep { key, block })
-}
-
-/// Whether an answer tells of this version and these others.
-fn has_versions(answer: &Answer, wanted: u32, others: &[Dep]) -> bool {
-    match answer {
-        Answer::Back { block, deps } => *block == wanted && deps.as_slice() == others,
-        Answer::Fwd { block, uses } => *block == wanted && uses.as_slice() == others,
-        Answer::Hist { .. } => false,
-        Answer::Nothing => false,
-    }
-}
-
-/// Whether an answer is an int, of the first transaction of this block.
-fn has_int(answer: &Answer, wanted: u32, number: i64) -> bool {
-    match answer {
-        Answer::Hist { block, tx, value } => {
-            *block == wanted && *tx == 0 && is_int(value, number)
-        }
-        Answer::Back { .. } => false,
-        Answer::Fwd { .. } => false,
-        Answer::Nothing => false,
-    }
-}
-
-fn is_int(value: &Value, wanted: i64) -> bool {
-    match value {
-        Value::Int(number) => *number == wanted,
-        Value::Text(_) => false,
-    }
+    Some(Query { kind, key, at })
 }
 
 /// Whether the uses of the first part are its two lots. One version is looked at.
@@ -145,14 +69,10 @@ fn tells_uses<S: Scratch>(alloc: Global, lineage: &mut Lineage, scratch: &mut S)
     ensures agrees { AgreesWith lineage.new (S.state scratch.new) }
 {
     let mut steps = Steps::new();
-    let key = Key::new(b"raw/part/p1").ok()?;
-    let lots = [version(b"raw/lot/l1", 1)?, version(b"raw/lot/l3", 2)?];
-    let kind = Kind::Fwd;
-    let query = Query { kind, key, at: 2 };
-    match ask(alloc, lineage, scratch, &query, &mut steps) {
-        Ok(answer) => Some(has_versions(&answer, 0, lots.as_slice()) && steps.count() == 1),
-        Err(_) => None,
-    }
+    let query = question(Kind::Fwd, b"raw/part/p1", 2)?;
+    let uses = versions(alloc, &[(b"raw/lot/l1", 1), (b"raw/lot/l3", 2)])?;
+    let answer = ask(alloc, lineage, scratch, &query, &mut steps).ok()?;
+    Some(is_same_answer(&answer, &Answer::Fwd { block: 0, uses }) && steps.count() == 1)
 }
 
 /// Whether a question past the last block is answered with its number, and looks at nothing.
@@ -161,9 +81,7 @@ fn tells_the_head<S: Scratch>(alloc: Global, lineage: &mut Lineage, scratch: &mu
     ensures agrees { AgreesWith lineage.new (S.state scratch.new) }
 {
     let mut steps = Steps::new();
-    let key = Key::new(b"raw/part/p1").ok()?;
-    let kind = Kind::Fwd;
-    let query = Query { kind, key, at: 3 };
+    let query = question(Kind::Fwd, b"raw/part/p1", 3)?;
     match ask(alloc, lineage, scratch, &query, &mut steps) {
         Ok(_) => None,
         Err(error) => Some(error == AskError::Beyond { head: Some(2) } && steps.count() == 0),
@@ -175,15 +93,10 @@ fn tells_parts<S: Scratch>(alloc: Global, lineage: &mut Lineage, scratch: &mut S
     requires agrees { AgreesWith lineage.old (S.state scratch.old) }
     ensures agrees { AgreesWith lineage.new (S.state scratch.new) }
 {
-    let mut steps = Steps::new();
-    let key = Key::new(b"raw/lot/l3").ok()?;
-    let parts = [version(b"raw/part/p1", 0)?, version(b"raw/part/p2", 0)?];
-    let kind = Kind::Back;
-    let query = Query { kind, key, at: 2 };
-    match answer(alloc, lineage, scratch, &query, &mut steps) {
-        Ok(answer) => Some(has_versions(&answer, 2, parts.as_slice())),
-        Err(_) => None,
-    }
+    let query = question(Kind::Back, b"raw/lot/l3", 2)?;
+    let deps = versions(alloc, &[(b"raw/part/p1", 0), (b"raw/part/p2", 0)])?;
+    let answer = answer(alloc, lineage, scratch, &query, &mut Steps::new()).ok()?;
+    Some(is_same_answer(&answer, &Answer::Back { block: 2, deps }))
 }
 
 /// Whether the lineage itself tells the number of the third lot, also past the last block.
@@ -191,36 +104,35 @@ fn tells_number<S: Scratch>(alloc: Global, lineage: &mut Lineage, scratch: &mut 
     requires agrees { AgreesWith lineage.old (S.state scratch.old) }
     ensures agrees { AgreesWith lineage.new (S.state scratch.new) }
 {
-    let mut steps = Steps::new();
-    let key = Key::new(b"raw/lot/l3").ok()?;
-    let kind = Kind::Hist;
-    let query = Query { kind, key, at: 9 };
-    match answer(alloc, lineage, scratch, &query, &mut steps) {
-        Ok(answer) => Some(has_int(&answer, 2, 200)),
-        Err(_) => None,
-    }
+    let query = question(Kind::Hist, b"raw/lot/l3", 9)?;
+    let number = Answer::Hist {
+        block: 2,
+        tx: 0,
+        value: Value::Int(200),
+    };
+    let answer = answer(alloc, lineage, scratch, &query, &mut Steps::new()).ok()?;
+    Some(is_same_answer(&answer, &number))
 }
 
-/// Whether the audit path of the last of the seven leaves, that of `raw/shop/s1`, is this.
-fn has_audit_path(lineage: &Lineage, wanted: &[Digest]) -> bool {
+/// Whether the audit path of the last of the seven leaves, that of `raw/shop/s1`, is of the tree
+/// hashes that are known.
+fn has_audit_path(lineage: &Lineage) -> Option<bool> {
     let tree = lineage.tree();
     if tree.count() != 7 {
-        return false;
+        return None;
     }
-    match tree.audit(6) {
-        Ok(path) => path.as_slice() == wanted,
-        Err(_) => false,
-    }
+    let path = tree.audit(6).ok()?;
+    let wanted = [
+        Digest(<[u8; 32] as FromHex>::from_hex(PAIR).ok()?),
+        Digest(<[u8; 32] as FromHex>::from_hex(FOUR).ok()?),
+    ];
+    Some(path.as_slice() == wanted.as_slice())
 }
 
 #[test]
 fn answers_of_a_lineage(rt: HostRuntime) {
     let alloc = rt.alloc();
-    let Ok(mut scratch) = MemScratch::new(alloc, ROOM, &[]) else {
-        assert!(rt; false);
-        return;
-    };
-    let Some(mut lineage) = lineage_of_blocks(alloc, &mut scratch) else {
+    let Some((mut scratch, mut lineage)) = lineage_of_draft(alloc) else {
         assert!(rt; false);
         return;
     };
@@ -228,6 +140,6 @@ fn answers_of_a_lineage(rt: HostRuntime) {
     assert!(rt; tells_the_head(alloc, &mut lineage, &mut scratch) == Some(true));
     assert!(rt; tells_parts(alloc, &mut lineage, &mut scratch) == Some(true));
     assert!(rt; tells_number(alloc, &mut lineage, &mut scratch) == Some(true));
-    assert!(rt; has_audit_path(&lineage, &[Digest(PAIR), Digest(FOUR)]));
+    assert!(rt; has_audit_path(&lineage) == Some(true));
     lineage.give_up();
 }

@@ -1,7 +1,14 @@
-//! Tests of calls over a history that the program doesn't make, or that can't fail under it.
+//! Tests of lineages that are read over scratch devices: what they answer, which bodies are read
+//! from the device, and that its faults are told.
 #![tactic(auto)]
 
 #[cfg(test)]
+mod alike;
+#[cfg(test)]
 mod asked;
 #[cfg(test)]
-mod faults;
+mod devices;
+#[cfg(test)]
+mod lineages;
+#[cfg(test)]
+mod long;

@@ -11,7 +11,7 @@ use std::io::Write;
 /// The calls of a case that fail: numbers with a comma between two.
 #[derive(Clone, Copy)]
 pub struct Failing<'a> {
-    /// Of the source; behind `pause ` those that give nothing.
+    /// Of the source; after `pause ` those that give nothing.
     pub pulls: &'a str,
     /// Of the machine, over its disk and its wire.
     pub calls: &'a str,
@@ -27,7 +27,7 @@ pub struct Case<'a> {
     pub failing: Option<Failing<'a>>,
     /// What the disk holds before.
     pub image: Option<&'a str>,
-    /// The calls of the scratch device that fail; behind a `/` its room.
+    /// The calls of the scratch device that fail; after a `/` its room.
     pub scratch: &'a str,
 }
 

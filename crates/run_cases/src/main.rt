@@ -20,11 +20,11 @@ const BLOCKS: &str = "blocks ";
 /// What the words of a case of a tree begin with.
 const TREE: &str = "tree ";
 
-/// What stands before the first `|`, and what stands behind it, where there is one.
+/// What stands before the first `|`, and what stands after it, where there is one.
 fn cut(text: &str) -> (&str, Option<&str>) {
     match text.split_once('|') {
         None => (text, None),
-        Some((before, behind)) => (before, Some(behind)),
+        Some((before, after)) => (before, Some(after)),
     }
 }
 

@@ -3,8 +3,7 @@
 ghost use Rattle.std.specs.Prelude.{◌<◌, ◌≤◌, length, None, IfOk, IsErr};
 ghost use Rattle.lc_base.specs.Faults.{HasCause};
 ghost use Rattle.lc_io.specs.Outside.{Pulls};
-ghost use Rattle.disk_model.specs.Disk.{IsSettled};
-ghost use Rattle.disk_model.specs.Machine.{disk_of, now_of};
+ghost use Rattle.disk_model.specs.{Disk.{IsSettled}, Machine.{disk_of, now_of}};
 
 use anyhow::{Context, Result};
 use disk_model::MemMachine;
@@ -127,7 +126,7 @@ pub fn machine_of(alloc: Global, image: &str, calls: &str) -> Result<MemMachine>
         .context("no memory for the machine")
 }
 
-/// A room: how many calls fit, and behind a `/` how many bytes.
+/// A room: how many calls fit, and after a `/` how many bytes.
 fn room_of(text: &str) -> Result<Room> {
     let (calls, bytes) = text.split_once('/').context("a room without bytes")?;
     Ok(Room {
@@ -136,7 +135,7 @@ fn room_of(text: &str) -> Result<Room> {
     })
 }
 
-/// A scratch device that keeps nothing yet, and of which the calls of these numbers fail; behind a `/`
+/// A scratch device that keeps nothing yet, and of which the calls of these numbers fail; after a `/`
 /// its room may stand.
 pub fn scratch_of(alloc: Global, text: &str) -> Result<MemScratch> {
     let (failing, room) = match text.split_once('/') {

@@ -6,13 +6,13 @@ use merkle_tree::{Levels, MAX_LEAVES, audit_length, leaf_hash, root_from_leaf, t
 use std::alloc::Global;
 use std::io::Write;
 
-/// Leaves: bytes in hex, with a comma behind each.
+/// Leaves: bytes in hex, with a comma after each.
 fn leaves_of(alloc: Global, text: &str) -> Result<Vec<Bytes>> {
     let mut leaves = Vec::new(alloc);
     for digits in text.split(',') {
         leaves.push(Bytes::from_vec(hex::decode(alloc, digits)?))?;
     }
-    // What stands behind the last comma is no leaf.
+    // What stands after the last comma is no leaf.
     leaves.pop();
     Ok(leaves)
 }
@@ -58,18 +58,6 @@ fn print_path<W: Write>(
     print_hash(alloc, out, "to", &root)
 }
 
-/// Prints the tree hash of leaves, by its definition and by levels.
-fn print_roots<W: Write>(
-    alloc: Global,
-    out: &mut W,
-    leaves: &[Bytes],
-    levels: &Levels,
-) -> Result<()> {
-    ensure!(leaves.len() <= MAX_LEAVES as usize, "too many leaves");
-    print_hash(alloc, out, "root", &tree_hash(leaves))?;
-    print_hash(alloc, out, "levels", &levels.root())
-}
-
 /// Prints the index of each leaf, its audit path, and the hash to which that leads.
 fn print_paths<W: Write>(
     alloc: Global,
@@ -84,11 +72,14 @@ fn print_paths<W: Write>(
     Ok(())
 }
 
-/// Prints the words of the case, the tree hash of leaves, and the audit path of each.
+/// Prints the words of the case, the tree hash of leaves, by its definition and by levels, and the
+/// audit path of each.
 pub fn run_tree<W: Write>(alloc: Global, out: &mut W, words: &str, leaves: &str) -> Result<()> {
     writeln!(out, "== {words}")?;
     let leaves = leaves_of(alloc, leaves)?;
     let levels = levels_of(alloc, leaves.as_slice())?;
-    print_roots(alloc, out, leaves.as_slice(), &levels)?;
+    ensure!(leaves.len() <= MAX_LEAVES as usize, "too many leaves");
+    print_hash(alloc, out, "root", &tree_hash(leaves.as_slice()))?;
+    print_hash(alloc, out, "levels", &levels.root())?;
     print_paths(alloc, out, leaves.as_slice(), &levels)
 }

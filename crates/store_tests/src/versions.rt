@@ -1,7 +1,9 @@
 //! The versions of one key, with their skip list.
 
-ghost use Rattle.std.specs.Prelude.{◌≡◌, ◌<◌, true, length, Some, IfOk, OnErr};
-ghost use Rattle.std.specs.Option.{option_map};
+ghost use Rattle.std.specs.{
+  Prelude.{◌≡◌, ◌<◌, true, length, Some, IfOk, OnErr},
+  Option.{option_map},
+};
 ghost use Rattle.lc_base.specs.declared.limits.TheConstants.{MAX_ROWS};
 ghost use Rattle.entry_store.specs.declared.entry.Hop.{Hop};
 ghost use Rattle.store_tests.specs.Versions.{HasVersions, IsAbove};

@@ -59,6 +59,17 @@ impl FailingHost {
         }
         Ok(())
     }
+
+    /// Tells that the version of a key is one of block 0, unless the call fails.
+    fn version_of(&mut self, key: &Key) -> Result<Option<Dep>, HostError>
+        ensures { HasCause self.old.faults self.new.faults (IsErrOf result HostError.Fault) }
+    {
+        self.call()?;
+        Ok(Some(Dep {
+            key: *key,
+            block: 0,
+        }))
+    }
 }
 
 impl Host for FailingHost {
@@ -79,52 +90,22 @@ impl Host for FailingHost {
         }))
     }
 
-    fn back_count(
-        &mut self,
-        _alloc: Global,
-        _key: &Key,
-        _at: u32,
-    ) -> Result<Option<u32>, HostError> {
+    fn back_count(&mut self, _key: &Key, _at: u32) -> Result<Option<u32>, HostError> {
         self.call()?;
         Ok(Some(1))
     }
 
-    fn back_at(
-        &mut self,
-        _alloc: Global,
-        key: &Key,
-        _at: u32,
-        _index: u32,
-    ) -> Result<Option<Dep>, HostError> {
-        self.call()?;
-        Ok(Some(Dep {
-            key: *key,
-            block: 0,
-        }))
+    fn back_at(&mut self, key: &Key, _at: u32, _index: u32) -> Result<Option<Dep>, HostError> {
+        self.version_of(key)
     }
 
-    fn fwd_count(
-        &mut self,
-        _alloc: Global,
-        _key: &Key,
-        _at: u32,
-    ) -> Result<Option<u64>, HostError> {
+    fn fwd_count(&mut self, _key: &Key, _at: u32) -> Result<Option<u64>, HostError> {
         self.call()?;
         Ok(Some(1))
     }
 
-    fn fwd_at(
-        &mut self,
-        _alloc: Global,
-        key: &Key,
-        _at: u32,
-        _index: u64,
-    ) -> Result<Option<Dep>, HostError> {
-        self.call()?;
-        Ok(Some(Dep {
-            key: *key,
-            block: 0,
-        }))
+    fn fwd_at(&mut self, key: &Key, _at: u32, _index: u64) -> Result<Option<Dep>, HostError> {
+        self.version_of(key)
     }
 
     ghost same_refl = { λ _. tt };

@@ -1,19 +1,15 @@
 //! Questions about each row of chains, answered by plain rows and by a lineage over a scratch
 //! device.
 
-ghost use Rattle.std.specs.Prelude.{IfSome};
 ghost use Rattle.merkle_dag.specs.Lineage.{AgreesWith};
-ghost use Rattle.rooted_chain.specs.Roots.{lineage_in};
 
-use crate::blocks::longer;
-use chain_gen::generated;
-use chain_replay::{Chain, Judged, Replay};
+use crate::lineages::{ROOM, chain_of, lineage_of};
+use chain_gen::blocks_of_seed;
+use chain_replay::{Chain, Replay};
 use entry_store::Steps;
-use lc_base::{Answer, Kind, Query, TextList, Value};
-use lc_io::Room;
+use lc_base::{Answer, Kind, Query, Value};
 use merkle_dag::Lineage;
 use prov_query::ask;
-use rooted_chain::LineageChain;
 use scratch_model::{MemScratch, Scratch};
 use std::alloc::Global;
 
@@ -22,55 +18,6 @@ const BLOCKS: u32 = 16;
 
 /// The seeds of the chains.
 const SEEDS: [u32; 3] = [1, 7, 2026];
-
-/// Room for all calls.
-const ROOM: Room = Room {
-    calls: 100_000,
-    bytes: 10_000_000,
-};
-
-/// The plain chain with one block more; `None` where these bytes aren't its next block.
-fn plainly_longer<S: Scratch>(
-    alloc: Global,
-    scratch: &mut S,
-    chain: Chain,
-    bytes: &[u8],
-) -> Option<Chain> {
-    match chain.judge(alloc, bytes) {
-        Ok(Judged::Next { block, digest }) => chain.replay(alloc, scratch, &block, digest).ok(),
-        _ => {
-            chain.give_up();
-            None
-        }
-    }
-}
-
-/// The plain chain of these blocks.
-fn plain_chain<S: Scratch>(alloc: Global, scratch: &mut S, blocks: &TextList) -> Option<Chain> {
-    let mut chain = Chain::new(alloc);
-    for block in blocks.as_slice() {
-        chain = plainly_longer(alloc, scratch, chain, block.as_bytes())?;
-    }
-    Some(chain)
-}
-
-/// The chain with the lineage of these blocks.
-fn rooted_chain<S: Scratch>(
-    alloc: Global,
-    scratch: &mut S,
-    blocks: &TextList,
-) -> Option<LineageChain>
-    ensures agrees { IfSome result (λ chain. AgreesWith (lineage_in chain) (S.state scratch.new)) }
-{
-    let mut chain = match LineageChain::start(alloc) {
-        Ok(chain) => chain,
-        Err(_) => return None,
-    };
-    for block in blocks.as_slice() {
-        chain = longer(alloc, scratch, chain, block.as_bytes())?;
-    }
-    Some(chain)
-}
 
 /// Whether two values are the same.
 fn is_same_value(one: &Value, other: &Value) -> bool {
@@ -82,7 +29,7 @@ fn is_same_value(one: &Value, other: &Value) -> bool {
 }
 
 /// Whether two answers are the same.
-fn is_same_answer(one: &Answer, other: &Answer) -> bool {
+pub(crate) fn is_same_answer(one: &Answer, other: &Answer) -> bool {
     match (one, other) {
         (Answer::Nothing, Answer::Nothing) => true,
         (
@@ -149,26 +96,11 @@ fn tell_row_alike<S: Scratch>(
     let facts = lineage.row_facts(index);
     let (key, block) = (facts.key, facts.block);
     for kind in [Kind::Hist, Kind::Back, Kind::Fwd] {
-        if !ask_alike(
-            alloc,
-            chain,
-            lineage,
-            scratch,
-            &Query {
-                kind,
-                key,
-                at: block,
-            },
-        ) {
-            return false;
-        }
-        let last = Query {
-            kind,
-            key,
-            at: BLOCKS - 1,
-        };
-        if !ask_alike(alloc, chain, lineage, scratch, &last) {
-            return false;
+        for at in [block, BLOCKS - 1] {
+            let query = Query { kind, key, at };
+            if !ask_alike(alloc, chain, lineage, scratch, &query) {
+                return false;
+            }
         }
     }
     true
@@ -194,11 +126,10 @@ fn tell_rows_alike<S: Scratch>(
 
 /// Whether a chain of a seed, which has rows, is told alike.
 fn tell_seed_alike(alloc: Global, seed: u32) -> Option<bool> {
-    let blocks = generated(alloc, BLOCKS, seed).ok()?;
+    let blocks = blocks_of_seed(alloc, BLOCKS, seed).ok()?;
     let mut scratch = MemScratch::new(alloc, ROOM, &[]).ok()?;
-    let mut plain = plain_chain(alloc, &mut scratch, &blocks)?;
-    let chain = rooted_chain(alloc, &mut scratch, &blocks)?;
-    let mut lineage = chain.into_lineage();
+    let mut plain: Chain = chain_of(alloc, &mut scratch, &blocks)?;
+    let mut lineage = lineage_of(alloc, &mut scratch, &blocks)?;
     let has_rows = lineage.row_count() > 0;
     let alike = tell_rows_alike(alloc, &mut plain, &mut lineage, &mut scratch);
     lineage.give_up();

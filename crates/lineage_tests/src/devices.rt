@@ -1,13 +1,15 @@
 //! A block of one row more than bodies are at hand, over devices in memory and over a file.
 
+ghost use Rattle.std.specs.Prelude.{IfSome};
+ghost use Rattle.scratch_model.specs.MemScratch.{state_over};
 ghost use Rattle.merkle_dag.specs.Lineage.{AgreesWith};
 
-use crate::blocks::{chain_of_one, numbered_key};
+use crate::lineages::{add_block, int_at, lineage_in_memory, lineage_of, set};
+use block_codec::TxList;
 use entry_store::Steps;
-use lc_base::{Answer, Kind, Query, Value};
-use lc_io::Room;
+use lc_base::{Key, TextList};
 use merkle_dag::Lineage;
-use prov_query::{AskError, ask};
+use prov_query::AskError;
 use scratch_model::{FileScratch, MemScratch, Scratch};
 use std::alloc::Global;
 use std::fs::OpenOptions;
@@ -22,13 +24,39 @@ const FIRST_GET: u64 = 1_025;
 /// The file of a device, in the present folder.
 const FILE: &str = "chain.scratch";
 
-/// Room for all calls.
-const ROOM: Room = Room {
-    calls: 10_000,
-    bytes: 100_000,
-};
+/// The key `raw/` with a number.
+fn numbered_key(alloc: Global, number: u32) -> Option<Key> {
+    let name = format!(in alloc; "raw/{number}").ok()?;
+    Key::new(name.as_bytes()).ok()
+}
 
-/// The int of the key `raw/` with a number, at block 0.
+/// One block, which writes the keys `raw/0`, `raw/1` and so on, each with the int 5.
+fn block_of_keys(alloc: Global) -> Option<TextList> {
+    let mut txs = TxList::new(alloc);
+    for number in 0..KEYS {
+        let key = numbered_key(alloc, number)?;
+        txs.push(set(alloc, key, 5)?).ok()?;
+    }
+    let mut blocks = TextList::new(alloc);
+    add_block(alloc, &mut blocks, txs)?;
+    Some(blocks)
+}
+
+/// The lineage of these keys.
+fn lineage_of_keys<S: Scratch>(alloc: Global, scratch: &mut S) -> Option<Lineage>
+    ensures agrees { IfSome result (λ lineage. AgreesWith lineage (S.state scratch.new)) }
+{
+    lineage_of(alloc, scratch, &block_of_keys(alloc)?)
+}
+
+/// The lineage of these keys over a device in memory of which the calls of these numbers fail.
+fn keys_in_memory(alloc: Global, failing: &[u64]) -> Option<(MemScratch, Lineage)>
+    ensures agrees { IfSome result (λ made. AgreesWith made.1 (state_over made.0.bytes)) }
+{
+    lineage_in_memory(alloc, failing, &block_of_keys(alloc)?)
+}
+
+/// The int of the key `raw/` with a number.
 fn int_of<S: Scratch>(
     alloc: Global,
     lineage: &mut Lineage,
@@ -41,45 +69,19 @@ fn int_of<S: Scratch>(
     let Some(key) = numbered_key(alloc, number) else {
         return Ok(None);
     };
-    let mut steps = Steps::new();
-    let kind = Kind::Hist;
-    match ask(
-        alloc,
-        lineage,
-        scratch,
-        &Query { kind, key, at: 0 },
-        &mut steps,
-    ) {
-        Ok(answer) => Ok(int_in(&answer)),
-        Err(error) => Err(error),
-    }
-}
-
-/// The int that an answer tells.
-fn int_in(answer: &Answer) -> Option<i64> {
-    match answer {
-        Answer::Hist { value, .. } => match value {
-            Value::Int(number) => Some(*number),
-            Value::Text(_) => None,
-        },
-        Answer::Back { .. } => None,
-        Answer::Fwd { .. } => None,
-        Answer::Nothing => None,
+    match int_at(alloc, lineage, scratch, key, 0, &mut Steps::new())? {
+        Some((_, int)) => Ok(Some(int)),
+        None => Ok(None),
     }
 }
 
 #[test]
 fn bodies_at_hand_are_not_read(rt: HostRuntime) {
     let alloc = rt.alloc();
-    let Ok(mut scratch) = MemScratch::new(alloc, ROOM, &[]) else {
+    let Some((mut scratch, mut lineage)) = keys_in_memory(alloc, &[]) else {
         assert!(rt; false);
         return;
     };
-    let Some(chain) = chain_of_one(alloc, &mut scratch, KEYS) else {
-        assert!(rt; false);
-        return;
-    };
-    let mut lineage = chain.into_lineage();
     // The first body is no longer at hand, and is from then on; the last one is.
     assert!(rt; scratch.gets() == 0);
     assert!(rt; int_of(alloc, &mut lineage, &mut scratch, 0) == Ok(Some(5)));
@@ -95,11 +97,10 @@ fn bodies_at_hand_are_not_read(rt: HostRuntime) {
 fn bodies_are_read_from_the_file(rt: HostRuntime) {
     let alloc = rt.alloc();
     let mut scratch = FileScratch::new(&rt, FILE);
-    let Some(chain) = chain_of_one(alloc, &mut scratch, KEYS) else {
+    let Some(mut lineage) = lineage_of_keys(alloc, &mut scratch) else {
         assert!(rt; false);
         return;
     };
-    let mut lineage = chain.into_lineage();
     // The body of the first row is the first ten bytes of the file; its int ends at the ninth.
     let file = OpenOptions::new().write(true).open(&rt, FILE);
     assert!(rt; matches!(file, Ok(file) if matches!(file.write_at(&[7], 8), Ok(1))));
@@ -112,15 +113,10 @@ fn bodies_are_read_from_the_file(rt: HostRuntime) {
 #[test]
 fn failed_get_is_a_fault(rt: HostRuntime) {
     let alloc = rt.alloc();
-    let Ok(mut scratch) = MemScratch::new(alloc, ROOM, &[FIRST_GET, FIRST_GET + 1]) else {
+    let Some((mut scratch, mut lineage)) = keys_in_memory(alloc, &[FIRST_GET, FIRST_GET + 1]) else {
         assert!(rt; false);
         return;
     };
-    let Some(chain) = chain_of_one(alloc, &mut scratch, KEYS) else {
-        assert!(rt; false);
-        return;
-    };
-    let mut lineage = chain.into_lineage();
     assert!(rt; int_of(alloc, &mut lineage, &mut scratch, 0) == Err(AskError::Fault));
     assert!(rt; int_of(alloc, &mut lineage, &mut scratch, KEYS - 1) == Ok(Some(5)));
     assert!(rt; int_of(alloc, &mut lineage, &mut scratch, 0) == Err(AskError::Fault));
@@ -131,10 +127,5 @@ fn failed_get_is_a_fault(rt: HostRuntime) {
 
 #[test]
 fn failed_put_ends_the_block(rt: HostRuntime) {
-    let alloc = rt.alloc();
-    let Ok(mut scratch) = MemScratch::new(alloc, ROOM, &[FIRST_GET - 1]) else {
-        assert!(rt; false);
-        return;
-    };
-    assert!(rt; chain_of_one(alloc, &mut scratch, KEYS).is_none());
+    assert!(rt; keys_in_memory(rt.alloc(), &[FIRST_GET - 1]).is_none());
 }

@@ -6,7 +6,7 @@ use prov_entry::{Header, LinkList, no_uses, write_header};
 use skip_links::links;
 use std::alloc::Global;
 
-/// Whether a header that is written is read again, with nothing behind it.
+/// Whether a header that is written is read again, with nothing after it.
 fn is_read_again(alloc: Global) -> bool {
     let Ok(key) = Key::new(b"raw/c") else {
         return false;

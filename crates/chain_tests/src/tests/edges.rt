@@ -2,7 +2,7 @@
 
 use disk_model::Disk;
 use file_machine::FileMachine;
-use lc_io::{Failed, HostSource, HostWire, Source, Wire};
+use lc_io::{Failed, HostStream, Source, Wire};
 use std::fs;
 use std::io::{self, ErrorKind, Read, Write};
 
@@ -35,7 +35,7 @@ impl Read for FailsOnce {
 fn edge_of_a_reader(rt: HostRuntime) {
     // A read that fails is not tried again, and what follows is still there.
     let mut buffer = [0; 2];
-    let mut source = HostSource::new(FailsOnce { reads: 0 });
+    let mut source = HostStream::new(FailsOnce { reads: 0 });
     assert!(rt; source.pull(&mut buffer) == Ok(1));
     assert!(rt; source.pull(&mut buffer) == Err(Failed));
     assert!(rt; buffer == [b'a', 0]);
@@ -67,7 +67,7 @@ impl Write for TakesOne {
 #[test]
 fn edge_of_a_writer(rt: HostRuntime) {
     // A write that fails is not tried again, and the next tell is taken.
-    let mut wire = HostWire::new(TakesOne { writes: 0 });
+    let mut wire = HostStream::new(TakesOne { writes: 0 });
     assert!(rt; wire.tell(b"ab") == Err(Failed));
     assert!(rt; wire.tell(b"cd") == Ok(()));
 }

@@ -1,0 +1,12 @@
+//! The tests, by what they are of.
+
+mod clashes;
+mod crashes;
+mod digests;
+mod edges;
+mod encoded;
+mod entries;
+mod limits;
+mod scratch;
+mod texts;
+mod written;

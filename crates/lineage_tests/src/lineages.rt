@@ -1,0 +1,144 @@
+//! Chains and lineages that are made of the bytes of their blocks.
+
+ghost use Rattle.std.specs.Prelude.{IfSome};
+ghost use Rattle.scratch_model.specs.MemScratch.{state_over};
+ghost use Rattle.merkle_dag.specs.Lineage.{AgreesWith};
+
+use block_codec::{Block, NO_PARENT, Tx, TxList, block_digest, encode};
+use chain_replay::{Judged, Replay};
+use entry_store::Steps;
+use lc_base::{Answer, Key, KeyList, Kind, Query, TextList, Value};
+use lc_io::Room;
+use merkle_dag::Lineage;
+use prov_query::{AskError, ask};
+use rooted_chain::LineageChain;
+use scratch_model::{MemScratch, Scratch};
+use std::alloc::Global;
+
+/// Room for the calls of each test.
+pub(crate) const ROOM: Room = Room {
+    calls: 100_000,
+    bytes: 10_000_000,
+};
+
+/// A transaction that writes an int, derived from nothing.
+pub(crate) fn set(alloc: Global, key: Key, number: i64) -> Option<Tx> {
+    Some(Tx::Set {
+        sender: Key::new(b"u").ok()?,
+        key,
+        value: Value::Int(number),
+        deps: KeyList::new(alloc),
+    })
+}
+
+/// Adds the bytes of the next block, which has these transactions.
+pub(crate) fn add_block(alloc: Global, blocks: &mut TextList, txs: TxList) -> Option<()> {
+    let number = u32::try_from(blocks.len()).ok()?;
+    let parent = match blocks.as_slice().last() {
+        Some(last) => block_digest(last.as_bytes()),
+        None => NO_PARENT,
+    };
+    let block = Block {
+        number,
+        parent,
+        txs,
+    };
+    let bytes = encode(alloc, &block).ok()?;
+    blocks.push(bytes).ok()
+}
+
+/// The chain with one block more; `None` where these bytes aren't its next block, and where the
+/// device fails.
+fn longer<C: Replay, S: Scratch>(
+    alloc: Global,
+    scratch: &mut S,
+    chain: C,
+    bytes: &[u8],
+) -> Option<C>
+    requires agrees { C.agrees chain (S.state scratch.old) }
+    ensures agrees { IfSome result (λ longer. C.agrees longer (S.state scratch.new)) }
+{
+    match chain.judge(alloc, bytes) {
+        Ok(Judged::Next { block, digest }) => chain.replay(alloc, scratch, &block, digest).ok(),
+        _ => {
+            chain.give_up();
+            None
+        }
+    }
+}
+
+/// The chain of these blocks.
+pub(crate) fn chain_of<C: Replay, S: Scratch>(
+    alloc: Global,
+    scratch: &mut S,
+    blocks: &TextList,
+) -> Option<C>
+    ensures agrees { IfSome result (λ chain. C.agrees chain (S.state scratch.new)) }
+{
+    let mut chain = match C::start(alloc) {
+        Ok(chain) => chain,
+        Err(_) => return None,
+    };
+    for block in blocks.as_slice() {
+        chain = longer(alloc, scratch, chain, block.as_bytes())?;
+    }
+    Some(chain)
+}
+
+/// The lineage of these blocks.
+pub(crate) fn lineage_of<S: Scratch>(
+    alloc: Global,
+    scratch: &mut S,
+    blocks: &TextList,
+) -> Option<Lineage>
+    ensures agrees { IfSome result (λ lineage. AgreesWith lineage (S.state scratch.new)) }
+{
+    let chain: LineageChain = chain_of(alloc, scratch, blocks)?;
+    Some(chain.into_lineage())
+}
+
+/// A device in memory of which the calls of these numbers fail, and the lineage of these blocks
+/// over it.
+pub(crate) fn lineage_in_memory(
+    alloc: Global,
+    failing: &[u64],
+    blocks: &TextList,
+) -> Option<(MemScratch, Lineage)>
+    ensures agrees { IfSome result (λ made. AgreesWith made.1 (state_over made.0.bytes)) }
+{
+    let mut scratch = MemScratch::new(alloc, ROOM, failing).ok()?;
+    let lineage = lineage_of(alloc, &mut scratch, blocks)?;
+    Some((scratch, lineage))
+}
+
+/// The int that an answer tells, and the block of its version.
+fn int_in(answer: &Answer) -> Option<(u32, i64)> {
+    match answer {
+        Answer::Hist {
+            block,
+            value: Value::Int(number),
+            ..
+        } => Some((*block, *number)),
+        _ => None,
+    }
+}
+
+/// The int of a key at a block, and the block of its version.
+pub(crate) fn int_at<S: Scratch>(
+    alloc: Global,
+    lineage: &mut Lineage,
+    scratch: &mut S,
+    key: Key,
+    at: u32,
+    steps: &mut Steps,
+) -> Result<Option<(u32, i64)>, AskError>
+    requires agrees { AgreesWith lineage.old (S.state scratch.old) }
+    ensures agrees { AgreesWith lineage.new (S.state scratch.new) }
+{
+    let kind = Kind::Hist;
+    let query = Query { kind, key, at };
+    match ask(alloc, lineage, scratch, &query, steps) {
+        Ok(answer) => Ok(int_in(&answer)),
+        Err(error) => Err(error),
+    }
+}
