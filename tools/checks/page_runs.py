@@ -2,9 +2,9 @@
 
 An indented line that begins with `$ ` is a command of a shell, and the lines below it, up to the next
 command or the end of the indented lines, are what it prints on standard output. The commands of a page
-are run by one shell, in one folder that has `lineage`, `examples`, `tools` and `verifiers`. Commands
-without a `$` are not run. These come from a tree whose `lineage` has its program already
-(tools/checks/wrapper_checks.py makes one).
+are run by one shell, in one folder that has `lineage`, `examples`, `tools` and `verifiers`; at the end
+of the page they must have left no file there but the log. Commands without a `$` are not run. These come
+from a tree whose `lineage` has its program already (tools/checks/wrapper_checks.py makes one).
 """
 import dataclasses
 import os
@@ -12,6 +12,7 @@ import shutil
 import subprocess
 import tempfile
 
+from checks.log_runs import LOG
 from places import TOP
 
 PAGES = ["README.md", "examples/README.md"]
@@ -52,8 +53,8 @@ def commands_of(text):
     return commands
 
 
-def outputs_of(commands, tree):
-    """What each of these commands prints, one after another."""
+def ran_page(commands, tree):
+    """What each of these commands prints, one after another, and the names of the files that they leave."""
     with tempfile.TemporaryDirectory() as folder:
         for name in COPIED:
             shutil.copytree(f"{tree}/{name}", f"{folder}/{name}")
@@ -68,17 +69,20 @@ def outputs_of(commands, tree):
             stderr=subprocess.DEVNULL,
             timeout=PAGE_LIMIT,
         )
-    return ran.stdout.decode(errors="backslashreplace").split(f"{END}\n")[:-1]
+        left = sorted(set(os.listdir(folder)) - {*COPIED, *LINKED, LOG})
+    return ran.stdout.decode(errors="backslashreplace").split(f"{END}\n")[:-1], left
 
 
 def wrong_commands(tree):
-    """How many commands the pages have, and a line for each that prints something else."""
+    """How many commands the pages have, and a line for each that prints something else, and each file that is
+    left."""
     count, wrong = 0, []
     for page in PAGES:
         with open(f"{TOP}/{page}", encoding="utf-8") as file:
             commands = commands_of(file.read())
-        outputs = outputs_of(commands, tree)
+        outputs, left = ran_page(commands, tree)
         count += len(commands)
+        wrong += [f"{page}: its commands leave {name}" for name in left]
         if len(outputs) != len(commands):
             wrong.append(f"{page}: the shell ended after {len(outputs)} of {len(commands)} commands")
         for command, output in zip(commands, outputs):

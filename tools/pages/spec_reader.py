@@ -33,12 +33,20 @@ class Scope:
     aliases: dict = dataclasses.field(default_factory=dict)
 
     def add_uses(self, text):
-        for path, names, alias in USE.findall(text):
-            if alias:
-                self.aliases[alias] = path
-            for entry in filter(None, re.split(r",\s+", names.strip())):
-                name, _, other = entry.strip().rstrip(",").partition(" as ")
-                self.names[other or name] = (path, name)
+        for match in USE.finditer(text):
+            self.add_use("", use_from(text, match.end()))
+
+    def add_use(self, path, text):
+        """What one `use` item brings: names, those in the braces behind a path, or an alias of a path."""
+        head, brace, inner = text.partition("{")
+        name, _, other = head.strip().partition(" as ")
+        if brace:
+            for entry in entries_of(inner.rpartition("}")[0]):
+                self.add_use(f"{path}{name}", entry)
+        elif "." not in name:
+            self.names[other or name] = (path.rstrip("."), name)
+        elif other:
+            self.aliases[other] = f"{path}{name}"
 
     @functools.cached_property
     def operators(self):
@@ -60,11 +68,35 @@ class Scope:
         return self.names.get(head)
 
 
-USE = re.compile(r"\buse (Rattle[\w.-]*?)(?:\.\{([^}]*)\})?(?: as (\w+))?;?[ ]*$", re.M)
+USE = re.compile(r"\buse (?=Rattle\.)")
 TOKEN = re.compile(r'"(?:[^"\\]|\\.)*"|--.*|//.*|[(){},;]|[^\s(){},;"]+')
 PLAIN = re.compile(r"[^\W\d][\w'-]*$")
 # The library's cases that are written small.
 CASES = ("zero", "suc", "true", "false", "pos", "negsuc")
+
+
+def use_from(text, start):
+    """The `use` item from here up to its end, outside of braces: a semicolon, or the end of the line."""
+    depth = 0
+    for match in re.compile(r"[{};\n]").finditer(text, start):
+        depth += (match[0] == "{") - (match[0] == "}")
+        if depth == 0 and match[0] in ";\n":
+            return text[start : match.start()]
+    return text[start:]
+
+
+def entries_of(text):
+    """The entries of a `use` item's braces, which may have braces of their own."""
+    depth, entry = 0, ""
+    for part in re.split(r"([{},])", text):
+        depth += (part == "{") - (part == "}")
+        if part == "," and depth == 0:
+            yield entry
+            entry = ""
+        else:
+            entry += part
+    if entry.strip():
+        yield entry
 
 
 def tokens_of(text):
