@@ -1,6 +1,5 @@
 -- Texts of the items of a list, added one item after another: what is still to come is said of
--- those
--- after an index.
+-- those after an index.
 use Rattle.std.proofs.Common.{◌≡◌, ◌∙◌, ℕ, zero, suc, ◌+◌, ◌<◌, ◌≤◌, List, [], ◌∷◌, ◌++◌, length}
 use Rattle.std.proofs.Common.{map, drop, slice_get, Some, refl, sym, ap, arith, append-nil}
 use Rattle.std.proofs.Common.{append_assoc}

@@ -37,10 +37,8 @@ TellsBeyond ledger root_at (Err errors.Fault) = root_at < length ledger.digests
 TellsBeyond ledger root_at (Err errors.Memory) = root_at < length ledger.digests
 
 -- A block of the ledger has the first clash of the proof's texts with those of the ledger at this
--- block,
--- unless the scratch device fails or there is no memory for it; one that is past the last is
--- refused, with
--- the number of the last block.
+-- block, unless the scratch device fails or there is no memory for it; one that is past the last is
+-- refused, with the number of the last block.
 abbrev pub IsExposed : Ledger → ℕ → Proof → Result (Option Clash) ExposeError → Type 0
 IsExposed ledger root_at proof (Ok found) = (root_at < length ledger.digests)
     × IsFound (proof_texts proof) (ledger_texts ledger.rows ledger.digests root_at) found
@@ -50,8 +48,7 @@ IsExposed ledger root_at proof (Err errors.Fault) = root_at < length ledger.dige
 IsExposed ledger root_at proof (Err errors.Memory) = root_at < length ledger.digests
 
 -- Where nothing was found, each answer with which the proof is accepted by one who has the root at
--- the
--- block is that of the rows up to it.
+-- the block is that of the rows up to it.
 abbrev pub Clears : Ledger → ℕ → Proof → Option Clash → Type 0
 Clears ledger root_at proof None =
     (query : Query) (answer : Answer) → IsProof proof

@@ -168,8 +168,7 @@ pub fn expose<S: Scratch>(
     ensures exposed { is_known (S.state scratch.old) ≡ true
         → IsExposed (ledger_in lineage.old) root_at view.now result }
     // Where there is none, each answer with which the proof is accepted by one who has the root at
-    // the block
-    // is that of the rows up to it.
+    // the block is that of the rows up to it.
     ensures clears { is_known (S.state scratch.old) ≡ true
         → IfOk result (Clears (ledger_in lineage.old) root_at view.now) }
     // Whether that is known or not:

@@ -27,8 +27,7 @@ use state_tree::Tree;
 use std::alloc::Global;
 
 /// Adds the texts of the leaves of a tree, of its nodes, and of the root over it at a block with
-/// this
-/// digest.
+/// this digest.
 fn push_tree(
     texts: &mut TextList,
     tree: &Tree,
@@ -57,12 +56,9 @@ fn push_lists(texts: &mut TextList, lineage: &Lineage) -> Result<(), Memory>
 }
 
 /// The texts of the ledger of a lineage at its last block, which has this number and this digest:
-/// those of
-/// the leaves over all keys, of the nodes over these, of the root, of the header and the body of
-/// each row,
-/// of the empty forward list, and of the uses of each row. The bytes of bodies are read from the
-/// scratch
-/// device. Only the bodies at hand may be others after it.
+/// those of the leaves over all keys, of the nodes over these, of the root, of the header and the
+/// body of each row, of the empty forward list, and of the uses of each row. The bytes of bodies
+/// are read from the scratch device. Only the bodies at hand may be others after it.
 pub fn ledger_texts<S: Scratch>(
     alloc: Global,
     lineage: &mut Lineage,

@@ -20,10 +20,8 @@ fn push_parts(texts: &mut TextList, left: &Digest, right: &Digest) -> Result<Dig
 }
 
 /// Adds the texts of the nodes over leaves with these bytes, in a tree of at most this height, and
-/// gives
-/// the hash at its top: each part's left side first, then its right side, then the node over both.
-/// There
-/// is at least one leaf.
+/// gives the hash at its top: each part's left side first, then its right side, then the node over
+/// both. There is at least one leaf.
 #[tactic(auto, using(merkle_tree::proofs::Steps::plain, crate::proofs::TreeTexts::nodes_upward))]
 pub(crate) fn push_nodes(
     texts: &mut TextList,

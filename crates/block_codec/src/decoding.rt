@@ -48,7 +48,7 @@ fn args(alloc: Global, reader: &mut Reader) -> Result<Seq<Value>, ReadError>
 fn tx(alloc: Global, reader: &mut Reader) -> Result<Tx, ReadError>
     ensures { Reads error_left result (tx_at reader.old) reader.new }
 {
-    let left = reader.left();
+    let left = reader.remaining();
     match reader.byte()? {
         SET => Ok(Tx::Set {
             sender: reader.key()?,
@@ -112,7 +112,7 @@ fn whole_block(alloc: Global, bytes: &[u8]) -> Result<Block, ReadError>
 {
     let mut reader = Reader::new(bytes);
     let block = block(alloc, &mut reader)?;
-    let left = reader.left();
+    let left = reader.remaining();
     if left > 0 {
         return Err(ReadError::Fault(Fault { left }));
     }

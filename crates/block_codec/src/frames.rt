@@ -70,7 +70,7 @@ impl Frames {
     }
 
     /// How many frames were taken, at most `MAX_FRAMES`.
-    pub fn taken(&self) -> u32
+    pub fn count(&self) -> u32
         ensures count { result ≡ self.now }
         ensures bound { result ≤ MAX_FRAMES }
     {

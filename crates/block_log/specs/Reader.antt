@@ -34,15 +34,15 @@ blank_log is_begun = record { gate = FIRST_GATE; count = 0; last = no_parent; is
 -- ---- blocks that are read one after another
 
 -- Whether the content is known or not, these blocks were read so far: they are a chain, each with its
--- digest, and the log is that of them, up to the next gate. What is told of the content stands for
+-- digest, and the log is that of them, up to the next gate. Where the content is known, it stands for
 -- what the records from that gate on stand for after them.
 pub record AreRead (log : LogState) (content : Option (List ℕ)) (stored : List Stored) : Type 0 where
   pub are_stored : AreStored stored
   pub held : HoldsBlocks log stored
   pub stands : (image : List ℕ) → content ≡ Some image → standing next_in_log image ≡ records_at next_in_log (MAX_BLOCKS + 1 - log.count) log.gate stored (drop log.gate image)
 
--- Whether the content is known or not, these blocks were read, and are all: the log agrees with what is
--- told of it.
+-- Whether the content is known or not, these blocks were read, and are all: the log agrees with the
+-- content where that is known.
 pub record AreAll (log : LogState) (content : Option (List ℕ)) (stored : List Stored) : Type 0 where
   pub are_stored : AreStored stored
   pub held : HoldsBlocks log stored
@@ -74,6 +74,7 @@ pub record IsOneMore (old new : LogState) (next : Stored) : Type 0 where
   pub count_is : new.count ≡ old.count + 1
   pub few : new.count ≤ MAX_BLOCKS
 
+-- Where a turn gave a block, the reader after it has read one block more.
 abbrev pub IfBlock : LogState → Turn → Type 0
 IfBlock old (turns.Block next reader) = IsOneMore old reader next
 IfBlock old (turns.End log) = Unit {0}
@@ -109,6 +110,7 @@ pub record IsNear (gate count : ℕ) (next : Stored) (after : ℕ) : Type 0 wher
   pub near : after ≤ gate + MAX_RECORD_BYTES
   pub few : count < MAX_BLOCKS
 
+-- Where a record was found, it is one that is near.
 abbrev pub IfNear : ℕ → ℕ → Found → Type 0
 IfNear gate count founds.Closed = Unit {0}
 IfNear gate count founds.Broken = Unit {0}

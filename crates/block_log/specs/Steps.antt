@@ -30,7 +30,7 @@ abbrev pub HasNoBlock : List ℕ → Type 0
 HasNoBlock image = (next : NextBlock) → chain_of next image ≡ Some []
 
 -- A step of making the head of a log. After `Ok` the content is so, with nothing pending, and the disk
--- is told as it was at entry. A crash at any moment of the step leaves no block.
+-- is known exactly where it was at entry. A crash at any moment of the step leaves no block.
 pub record MakesHead {D T E : Type 0} (now : D → ℕ) (disk : D → ℕ → Option DiskState)
     (IsHead : List ℕ → Type 0) (old new : D) (result : Result T E) : Type 0 where
   pub head : OnOk result (Rests (disk new (now new)) IsHead)

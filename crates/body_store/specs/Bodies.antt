@@ -17,6 +17,7 @@ pub record BodiesState : Type 0 where
 abbrev pub bodies_of : List KeptBody → List (List ℕ)
 bodies_of kept = map (λ (one : KeptBody). one.body) kept
 
+-- The bodies of a store.
 abbrev pub bodies_in : BodiesState → List (List ℕ)
 bodies_in bodies = bodies_of bodies.kept
 
@@ -24,5 +25,6 @@ bodies_in bodies = bodies_of bodies.kept
 abbrev pub body_at : List KeptBody → ℕ → Option (List ℕ)
 body_at kept index = option_map (λ (one : KeptBody). one.body) (slice_get kept index)
 
+-- The body of a store at an index; none past the last one.
 abbrev pub body_at_index : BodiesState → ℕ → Option (List ℕ)
 body_at_index bodies index = body_at bodies.kept index

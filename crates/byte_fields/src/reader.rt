@@ -62,7 +62,7 @@ impl<'a> Reader<'a> {
     }
 
     /// The number of bytes that are left.
-    pub fn left(&self) -> usize
+    pub fn remaining(&self) -> usize
         ensures { result ≡ length self.now }
     {
         self.rest.len()

@@ -1,4 +1,4 @@
--- Blocks that are told one after another, as they are first_blocks.
+-- Blocks that are told one after another, as they are made.
 use Rattle.std.proofs.Common.{◌≡◌, ℕ, zero, suc, ◌+◌, ◌-◌, ◌<◌, ◌≤◌, Bool, true, false, cond, eqb, List, [], ◌∷◌, ◌++◌, length, map, Option, Some, None, refl, sym, ap, ◌∙◌, subst, arith, append_assoc}
 use Rattle.std.proofs.lemmas.List.{append-nil, map-append, map_push, length-append}
 use Rattle.std.proofs.lemmas.Bool.Decides.{nat_tests}

@@ -127,7 +127,7 @@ pub fn run<I: Source, M: Disk + Wire, S: Scratch>(
     machine: &mut M,
     scratch: &mut S,
 ) -> Status
-    // Where the machine tells its disk, nothing is pending.
+    // Where the disk is known, nothing is pending.
     requires settled { IsSettled (M.disk machine.old (M.now machine.old)) }
     // The words are one command, or none.
     ensures command { (command : Option Commands) × IsOneCommand (map string_bytes words.now) command }
@@ -168,8 +168,8 @@ pub fn run<I: Source, M: Disk + Wire, S: Scratch>(
         → reads_input command ≡ false → source.new ≡ source.old }
     // and so does one that found no log that it could read;
     ensures no_log { found_no_log result ≡ true → source.new ≡ source.old }
-    // one that could not read, or that runs out of memory, told nothing, unless it tells lines while it
-    // makes others;
+    // one in which the source, the disk or the scratch device failed, or memory ran out, told nothing,
+    // unless it tells lines while it makes others;
     ensures silent { (command : Option Commands) → IsCommand (map string_bytes words.now) command
         → tells_as_it_goes command ≡ false → IsSilent result (M.told machine.old) (M.told machine.new) }
     // a status comes only of the commands that may end with it;

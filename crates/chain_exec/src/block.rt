@@ -19,7 +19,7 @@ ghost use Rattle.chain_exec.specs.{
 
 use crate::receipt::{Receipt, ReceiptList};
 use crate::staging::TxRun;
-use crate::transaction::transaction;
+use crate::transaction::run_transaction;
 use block_codec::{Block, Tx};
 use contract_check::Checked;
 use lc_base::{Host, HostError, Memory, RowList};
@@ -80,7 +80,7 @@ fn run_txs<H: Host>(
         receipts: ReceiptList::new(alloc),
     };
     for (at, tx) in txs.iter().enumerate() {
-        let done = transaction(alloc, host, world, number, at as u16, tx)?;
+        let done = run_transaction(alloc, host, world, number, at as u16, tx)?;
         run.add(done)?;
     }
     Ok(run)

@@ -43,7 +43,7 @@ pub(crate) fn stage(world: &mut World<Checked>, run: TxRun) -> Result<TxRun, Mem
     Ok(run)
 }
 
-/// The same, where only memory can fail.
+/// A run that only memory can stop, as one that a host can stop too.
 pub(crate) fn or_memory(run: Result<TxRun, Memory>) -> Result<TxRun, HostError>
     ensures same { IfOk result (λ given. run ≡ Ok given) }
     ensures no_fault { IsErrOf result HostError.Fault → ⊥ }

@@ -23,7 +23,7 @@ use world_state::World;
 
 /// Runs the transaction at the index `at` of a block, and stages in the world what it writes or
 /// deploys.
-pub(crate) fn transaction<H: Host>(
+pub(crate) fn run_transaction<H: Host>(
     alloc: Global,
     host: &mut H,
     world: &mut World<Checked>,

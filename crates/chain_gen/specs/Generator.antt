@@ -1,4 +1,4 @@
--- The blocks that are first_blocks from a seed.
+-- The blocks that are made from a seed.
 use Rattle.std.specs.Prelude.{◌≡◌, ℕ, zero, suc, ◌+◌, ◌<◌, ◌≤◌, ◌==◌, if◌then◌else◌, List, [], ◌∷◌, ◌++◌, map, Option, Some, None}
 use Rattle.std.specs.List.{concat}
 use Rattle.lc_base.specs.declared.digest.Digest.{Digest}
@@ -17,7 +17,7 @@ block_drawn number parent state =
     let txs = txs_drawn number state in
     (record { number = number; parent = parent; txs = txs.0 }, txs.1)
 
--- What was first_blocks so far: the blocks, the parent that the next one has, and where drawing stands.
+-- What was made so far: the blocks, the parent that the next one has, and where drawing stands.
 pub record MadeSoFar : Type 0 where
   pub blocks : List Block
   pub parent : Digest
@@ -29,9 +29,9 @@ none_made seed = record { blocks = []; parent = no_parent; state = seed }
 
 -- One more block, of this number: it is the parent of the next one.
 abbrev pub one_more_made : ℕ → MadeSoFar → MadeSoFar
-one_more_made number first_blocks =
-    let block = block_drawn number first_blocks.parent first_blocks.state in
-    record { blocks = first_blocks.blocks ++ block.0 ∷ []; parent = digest_of block.0; state = block.1 }
+one_more_made number made =
+    let block = block_drawn number made.parent made.state in
+    record { blocks = made.blocks ++ block.0 ∷ []; parent = digest_of block.0; state = block.1 }
 
 -- The first blocks of a seed, as many as that.
 unfoldable pub first_blocks : ℕ → ℕ → MadeSoFar

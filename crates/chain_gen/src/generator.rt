@@ -50,7 +50,7 @@ fn spell(alloc: Global, block: &Block) -> Result<Bytes, Memory>
 }
 
 /// The digest as it is. The prover learns of its length where its bytes are read.
-fn whole(digest: Digest) -> Digest
+fn with_known_length(digest: Digest) -> Digest
     ensures same { result ≡ digest }
     ensures whole { length digest.0 ≡ 32 }
 {
@@ -73,7 +73,7 @@ fn block_drawn(
     let txs = txs_drawn(alloc, draws, number)?;
     let block = Block {
         number,
-        parent: whole(parent),
+        parent: with_known_length(parent),
         txs,
     };
     spell(alloc, &block)

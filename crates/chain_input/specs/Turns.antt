@@ -17,8 +17,6 @@ use Rattle.chain_input.specs.declared.folding.Folded.{Folded}
 use Rattle.chain_input.specs.declared.folding.Folded.TheVariants as found
 use Rattle.chain_input.specs.declared.folding.Turn.{Turn}
 use Rattle.chain_input.specs.declared.folding.Turn.TheVariants as turns
-use Rattle.lc_base.specs.declared.host_error.HostError.{HostError}
-use Rattle.lc_base.specs.declared.host_error.HostError.TheVariants.{Fault, Memory}
 
 -- The fold is found where it ends, with a chain that stands for the blocks that it adds, and what
 -- follows is left.
@@ -32,13 +30,14 @@ abbrev pub IsTakenIn : List Block → Result ChainState Refusal → Result Taken
 IsTakenIn blocks (Ok kept) judgement = (frame : Taken) × (judgement ≡ Ok frame) × StandsFor kept (blocks ++ added_by frame)
 IsTakenIn blocks (Err refusal) judgement = judgement ≡ Err refusal
 
--- What an error of the frames says of the input, or that it says nothing.
-abbrev pub IsCauseOf : FrameError → Result Cause HostError → Type 0
-IsCauseOf frames.Truncated result = result ≡ Ok causes.Truncated
-IsCauseOf (frames.Length count) result = result ≡ Ok (causes.Length count)
-IsCauseOf frames.Many result = result ≡ Ok causes.Many
-IsCauseOf frames.Fault result = result ≡ Err Fault
-IsCauseOf frames.Memory result = result ≡ Err Memory
+-- What an error of the frames says of the input, or that it says nothing, by one of two errors: that
+-- reading failed, or that memory ran out.
+abbrev pub IsCauseOf : {E : Type 0} → E → E → FrameError → Result Cause E → Type 0
+IsCauseOf fault memory frames.Truncated result = result ≡ Ok causes.Truncated
+IsCauseOf fault memory (frames.Length count) result = result ≡ Ok (causes.Length count)
+IsCauseOf fault memory frames.Many result = result ≡ Ok causes.Many
+IsCauseOf fault memory frames.Fault result = result ≡ Err fault
+IsCauseOf fault memory frames.Memory result = result ≡ Err memory
 
 -- ---- one look at the start of an input
 

@@ -44,7 +44,7 @@ fn take_frame(alloc: Global, chain: Chain, frame: &[u8]) -> Result<Result<Chain,
     match chain.judge(alloc, frame) {
         Ok(Judged::Known { .. }) => Ok(Ok(chain)),
         Ok(Judged::Next { block, digest }) => {
-            let (chain, _) = chain.extended(alloc, &block, digest)?;
+            let (chain, _) = chain.with_block(alloc, &block, digest)?;
             Ok(Ok(chain))
         }
         Ok(Judged::Refused(refusal)) => {
@@ -58,16 +58,17 @@ fn take_frame(alloc: Global, chain: Chain, frame: &[u8]) -> Result<Result<Chain,
     }
 }
 
-/// Why no further frame could be taken: what it says of the input, or that it says nothing.
-fn cause_of(error: FrameError) -> Result<Cause, HostError>
-    ensures { IsCauseOf error result }
+/// Why no further frame could be taken: what it says of the input, or, where it says nothing of it,
+/// the first of these errors if reading failed, and the second out of memory.
+pub fn cause_of<E: Copy>(error: FrameError, fault: E, memory: E) -> Result<Cause, E>
+    ensures { IsCauseOf fault memory error result }
 {
     match error {
         FrameError::Truncated => Ok(Cause::Truncated),
         FrameError::Length(count) => Ok(Cause::Length(count)),
         FrameError::Many => Ok(Cause::Many),
-        FrameError::Fault => Err(HostError::Fault),
-        FrameError::Memory => Err(HostError::Memory),
+        FrameError::Fault => Err(fault),
+        FrameError::Memory => Err(memory),
     }
 }
 
@@ -90,7 +91,7 @@ fn look<I: Source>(
         },
         Err(error) => {
             chain.give_up();
-            Ok(Turn::Refused(cause_of(error)?))
+            Ok(Turn::Refused(cause_of(error, HostError::Fault, HostError::Memory)?))
         }
     }
 }
@@ -103,7 +104,7 @@ pub fn fold<I: Source>(alloc: Global, source: &mut I) -> Result<Folded, HostErro
     let mut chain = Chain::new(alloc);
     let mut frames = Frames::new();
     'turns: loop {
-        let frame = frames.taken();
+        let frame = frames.count();
         match look(alloc, chain, frames, source)? {
             Turn::Ended(whole) => return Ok(Folded::Whole(whole)),
             Turn::Taken(longer, more) => {

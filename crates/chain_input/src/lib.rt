@@ -5,4 +5,4 @@ mod cause;
 mod folding;
 
 pub use cause::Cause;
-pub use folding::{Folded, fold};
+pub use folding::{Folded, cause_of, fold};

@@ -10,7 +10,7 @@ use Rattle.chain_gen.specs.Draws.{draw_list}
 use Rattle.chain_gen.specs.Generator.{Progress, standing_at}
 use Rattle.chain_load.specs.Lookups.{Lookup, lookup_drawn, lookups_drawn, looked_at, greatest}
 use Rattle.chain_load.specs.Lookups.{lookup_counts}
-use Rattle.chain_load.specs.declared.looking.Looked.{Looked}
+use Rattle.chain_load.specs.declared.looking.LookupCounts.{LookupCounts}
 use Rattle.chain_load.proofs.Lengths.{path_few}
 
 -- ---- one number more
@@ -27,10 +27,10 @@ pub counted_more : (numbers : List ℕ) (number : ℕ)
     → lookup_counts (numbers ++ number ∷ []) ≡ record
     { entries = sum numbers + number; most = max (greatest numbers) number }
 counted_more numbers number =
-    ap (λ (n : ℕ). let looked : Looked = record
+    ap (λ (n : ℕ). let looked : LookupCounts = record
     { entries = n; most = greatest (numbers ++ number ∷ []) } in looked)
     (sum_more numbers number)
-    ∙ ap (λ (n : ℕ). let looked : Looked = record { entries = sum numbers + number; most = n } in
+    ∙ ap (λ (n : ℕ). let looked : LookupCounts = record { entries = sum numbers + number; most = n } in
     looked) (greatest_more numbers number)
 
 -- ---- one look-up more
@@ -49,7 +49,7 @@ count_few rows lookup count few is = let short = path_few rows lookup.key lookup
 
 -- So many look-ups were drawn from a state, and made.
 pub record IsLooking (rows : List Row) (blocks state made : ℕ) (generator : Progress)
-    (looked : Looked) : Type 0 where
+    (looked : LookupCounts) : Type 0 where
   pub state_is : generator.state ≡ (draw_list (lookup_drawn blocks) made state).1
   pub looked_is : looked ≡ lookup_counts (map (looked_at rows) (lookups_drawn blocks made state))
   pub few : looked.entries ≤ (2 ^ 32 - 1) * made
@@ -60,7 +60,7 @@ unfolding draw_list
 begins rows blocks generator = record { state_is = refl; looked_is = refl; few = omega arith }
 
 pub goes_on : (rows : List Row) (blocks state made count : ℕ) (generator after : Progress)
-    (looked more : Looked) → IsLooking rows blocks state made generator looked
+    (looked more : LookupCounts) → IsLooking rows blocks state made generator looked
     → length rows < 2 ^ 32
     → count ≡ looked_at rows (lookup_drawn blocks generator.state).0
     → after ≡ standing_at (lookup_drawn blocks generator.state).1 generator
@@ -73,8 +73,8 @@ goes_on rows blocks state made count generator after looked more so_far few_rows
     let drawn : lookup_drawn blocks generator.state ≡ last = ap (lookup_drawn blocks)
     so_far.state_is in
     let entries : looked.entries ≡ sum (map (looked_at rows) before.0) = ap
-    (λ (l : Looked). l.entries) so_far.looked_is in
-    let most : looked.most ≡ greatest (map (looked_at rows) before.0) = ap (λ (l : Looked). l.most)
+    (λ (l : LookupCounts). l.entries) so_far.looked_is in
+    let most : looked.most ≡ greatest (map (looked_at rows) before.0) = ap (λ (l : LookupCounts). l.most)
     so_far.looked_is in
     let count_last : count ≡ looked_at rows last.0 = count_is
     ∙ ap (λ d. looked_at rows d.0) drawn in
@@ -83,7 +83,7 @@ goes_on rows blocks state made count generator after looked more so_far few_rows
     ap (λ d. map (looked_at rows) d.0) (drawn_more blocks made state)
     ∙ map_push (looked_at rows) before.0 last.0
     ∙ ap (λ (n : ℕ). map (looked_at rows) before.0 ++ n ∷ []) (sym count_last) in
-    let more_entries : more.entries ≡ looked.entries + count = ap (λ (l : Looked). l.entries)
+    let more_entries : more.entries ≡ looked.entries + count = ap (λ (l : LookupCounts). l.entries)
     more_is in
     let few = so_far.few in
     let fits = count_few rows (lookup_drawn blocks generator.state).0 count few_rows count_is in
@@ -91,9 +91,9 @@ goes_on rows blocks state made count generator after looked more so_far few_rows
       state_is = ap (λ (p : Progress). p.state) after_is ∙ ap (λ d. d.1) drawn
           ∙ sym (ap (λ d. d.1) (drawn_more blocks made state));
       looked_is = more_is
-          ∙ ap (λ (n : ℕ). let l : Looked = record
+          ∙ ap (λ (n : ℕ). let l : LookupCounts = record
           { entries = n + count; most = max looked.most count } in l) entries
-          ∙ ap (λ (n : ℕ). let l : Looked = record
+          ∙ ap (λ (n : ℕ). let l : LookupCounts = record
           { entries = sum (map (looked_at rows) before.0) + count; most = max n count } in l)
           most
           ∙ sym (counted_more (map (looked_at rows) before.0) count) ∙ sym (ap lookup_counts counts);

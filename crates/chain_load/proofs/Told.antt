@@ -11,7 +11,7 @@ use Rattle.chain_gen.specs.Draws.{draw_list}
 use Rattle.chain_gen.specs.Generator.{Progress, first_blocks, progress}
 use Rattle.chain_load.specs.Lookups.{lookup_drawn, lookups_drawn, looked_at, lookup_counts}
 use Rattle.chain_load.specs.Loads.{blocks_of, rows_of, counts_of, load_of}
-use Rattle.chain_load.specs.declared.looking.Looked.{Looked}
+use Rattle.chain_load.specs.declared.looking.LookupCounts.{LookupCounts}
 use Rattle.chain_load.specs.declared.loading.Load.{Load}
 use Rattle.chain_load.proofs.Placed.{rows_are}
 
@@ -23,7 +23,7 @@ many_drawn blocks (suc count) state =
     let last = lookup_drawn blocks (draw_list (lookup_drawn blocks) count state).1 in
     omega (arith, before, length-append (lookups_drawn blocks count state) (last.0 ∷ []))
 
-abbrev load_with : ℕ → ℕ → Digest → ℕ → Looked → Load
+abbrev load_with : ℕ → ℕ → Digest → ℕ → LookupCounts → Load
 load_with blocks rows root lookups looked = record {
   blocks = blocks;
   rows = rows;
@@ -35,7 +35,7 @@ load_with blocks rows root lookups looked = record {
 }
 
 pub load_is : (chain : ChainState) (generator : Progress) (blocks seed count : ℕ) (rows : List Row)
-    (root : Digest) (looked : Looked) → StandsFor chain (blocks_of blocks seed)
+    (root : Digest) (looked : LookupCounts) → StandsFor chain (blocks_of blocks seed)
     → generator ≡ progress seed blocks blocks
     → rows ≡ chain.rows → count ≡ length rows
     → root.0 ≡ root_in compiled_in (blocks_of blocks seed) (blocks - 1)
@@ -63,6 +63,6 @@ load_is chain generator blocks seed count rows root looked stands generator_is k
     looked) digest
     ∙ ap (λ (n : ℕ). load_with blocks (length (rows_of compiled_in blocks seed))
     (record { 0 = root_in compiled_in (blocks_of blocks seed) (blocks - 1) }) n looked) many
-    ∙ ap (λ (l : Looked). load_with blocks (length (rows_of compiled_in blocks seed))
+    ∙ ap (λ (l : LookupCounts). load_with blocks (length (rows_of compiled_in blocks seed))
     (record { 0 = root_in compiled_in (blocks_of blocks seed) (blocks - 1) })
     (length (counts_of compiled_in blocks seed)) l) (looked_is ∙ ap lookup_counts counts)

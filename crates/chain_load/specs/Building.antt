@@ -8,14 +8,12 @@ use Rattle.chain_gen.specs.declared.limits.TheConstants.{MAX_TXS_MADE}
 use Rattle.chain_gen.specs.Generator.{Progress, first_blocks, progress}
 
 -- The chain holds the first blocks of a seed, so many, which the generator has given; the last of
--- them is
--- the parent of the next one. What these blocks did is known where it is known which bytes the
--- scratch
--- device holds.
-pub record HasAdded (told : Bool) (seed count added : ℕ) (chain : ChainState) (generator : Progress)
+-- them is the parent of the next one. What these blocks did is known where it is known which bytes
+-- the scratch device holds.
+pub record HasAdded (known : Bool) (seed count added : ℕ) (chain : ChainState) (generator : Progress)
     (parent : Digest) : Type 0 where
   pub digests_are : chain.digests ≡ map digest_of (first_blocks seed added).blocks
-  pub stands : told ≡ true → StandsFor chain (first_blocks seed added).blocks
+  pub stands : known ≡ true → StandsFor chain (first_blocks seed added).blocks
   pub few_rows : length chain.rows ≤ MAX_KEYS_PUT * MAX_TXS_MADE * added
   pub generator_is : generator ≡ progress seed count added
   pub parent_is : parent ≡ (first_blocks seed added).parent

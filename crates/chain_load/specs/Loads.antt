@@ -19,15 +19,14 @@ abbrev pub rows_of : Compiler → ℕ → ℕ → List Row
 rows_of compile blocks seed = (replay compile (blocks_of blocks seed)).rows
 
 -- How many versions each look-up looks at. There are as many of them as blocks, and they are drawn
--- after
--- the blocks.
+-- after the blocks.
 abbrev pub counts_of : Compiler → ℕ → ℕ → List ℕ
 counts_of compile blocks seed = map (looked_at (rows_of compile blocks seed))
     (lookups_drawn blocks blocks (first_blocks seed blocks).state)
 
 -- What a load of so many blocks of a seed tells: how many blocks and rows there are, and the root
--- at the
--- last block; how many look-ups, how many versions all of them look at, and the most that one does.
+-- at the last block; how many look-ups, how many versions all of them look at, and the most that
+-- one does.
 abbrev pub load_of : Compiler → ℕ → ℕ → Load
 load_of compile blocks seed =
     let counts = counts_of compile blocks seed in

@@ -5,14 +5,14 @@ use Rattle.lc_base.specs.declared.row.Row.{Row}
 use Rattle.skip_path.specs.Paths.{path}
 use Rattle.merkle_dag.specs.Lineage.{LineageState}
 use Rattle.chain_gen.specs.Draws.{number_below, key_drawn, draw_list}
-use Rattle.chain_load.specs.declared.looking.Looked.{Looked}
+use Rattle.chain_load.specs.declared.looking.LookupCounts.{LookupCounts}
 
 -- A look-up of the last version of a key in a block up to this one.
 pub record Lookup : Type 0 where
   pub key : List ℕ
   pub at : ℕ
 
--- Look-ups over so many blocks can be made of a lineage, and lookup_counts: there is such a block, the
+-- Look-ups over so many blocks can be made of a lineage, and counted: there is such a block, the
 -- lineage has all of them, and no count is too great.
 pub record CanBeLookedUp (lineage : LineageState) (blocks : ℕ) : Type 0 where
   pub some : 0 < blocks
@@ -39,6 +39,6 @@ abbrev pub greatest : List ℕ → ℕ
 greatest [] = 0
 greatest (number ∷ numbers) = max number (greatest numbers)
 
--- What was lookup_counts of look-ups: how many versions all of them looked at, and the most that one did.
-abbrev pub lookup_counts : List ℕ → Looked
+-- What was counted of look-ups: how many versions all of them looked at, and the most that one did.
+abbrev pub lookup_counts : List ℕ → LookupCounts
 lookup_counts counts = record { entries = sum counts; most = greatest counts }

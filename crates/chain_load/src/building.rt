@@ -27,8 +27,7 @@ use scratch_model::Scratch;
 use std::alloc::Global;
 
 /// The chain with its next block after the others, which these bytes spell. On an error the chain
-/// is
-/// given up.
+/// is given up.
 fn with_block<S: Scratch>(
     alloc: Global,
     scratch: &mut S,
@@ -55,7 +54,7 @@ fn with_block<S: Scratch>(
     match decode(alloc, bytes) {
         Ok(block) => {
             let digest = block_digest(bytes);
-            match chain.extended(alloc, scratch, &block, digest) {
+            match chain.with_block(alloc, scratch, &block, digest) {
                 Ok((longer, _, _)) => Ok(longer),
                 Err(error) => Err(error),
             }

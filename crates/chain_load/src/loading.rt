@@ -86,10 +86,8 @@ fn load_over<S: Scratch>(
 }
 
 /// Adds so many blocks of a seed to a chain in memory, whose bodies are on the scratch device, and
-/// makes
-/// as many look-ups of it, which are drawn after the blocks. What it tells is known where it is
-/// told
-/// which bytes the device holds.
+/// makes as many look-ups of it, which are drawn after the blocks. What the load is is known
+/// where it is known which bytes the device holds.
 pub fn load_chain<S: Scratch>(
     alloc: Global,
     scratch: &mut S,

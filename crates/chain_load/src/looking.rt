@@ -16,20 +16,20 @@ use std::alloc::Global;
 
 /// What was counted of look-ups.
 #[derive(Clone, Copy, Debug, PartialEq, Eq)]
-pub struct Looked {
+pub struct LookupCounts {
     /// How many versions all of them looked at.
     pub entries: u64,
     /// The most that one of them looked at.
     pub most: u64,
 }
 
-impl Looked {
+impl LookupCounts {
     /// With one look-up more, which looked at so many versions.
-    fn with(self, count: u64) -> Looked
+    fn with(self, count: u64) -> LookupCounts
         requires { self.entries + count < 2 ^ 64 }
         ensures { result ≡ record { entries = self.entries + count; most = max self.most count } }
     {
-        Looked {
+        LookupCounts {
             entries: self.entries + count,
             most: self.most.max(count),
         }
@@ -95,7 +95,7 @@ pub(crate) fn look_up_all<S: Scratch>(
     scratch: &mut S,
     generator: Gen,
     blocks: u32,
-) -> Result<Looked, HostError>
+) -> Result<LookupCounts, HostError>
     requires ready { CanBeLookedUp lineage.old blocks }
     requires agrees { AgreesWith lineage.old (S.state scratch.old) }
     ensures looked { IfOk result
@@ -105,7 +105,7 @@ pub(crate) fn look_up_all<S: Scratch>(
         scratch.new (IsErrOf result HostError.Fault) }
 {
     let mut generator = generator;
-    let mut looked = Looked {
+    let mut looked = LookupCounts {
         entries: 0,
         most: 0,
     };

@@ -1,4 +1,4 @@
--- Drafts, and the texts of the blocks that they are texts_of_draft into.
+-- Drafts, and the texts of the blocks that they are packed into.
 use Rattle.std.specs.Prelude.{ℕ, ◌+◌, nat_lt, if◌then◌else◌, List, [], ◌∷◌, length, Option, Some, None, Result, Ok, Err}
 use Rattle.std.specs.List.{concat}
 use Rattle.serde_json.specs.Data.{Data}

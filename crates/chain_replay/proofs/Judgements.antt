@@ -23,7 +23,7 @@ added_stands block other (Number want) is = absurd (cc is)
 added_stands block other (Parent want) is = absurd (cc is)
 added_stands block other (Budget sum) is = absurd (cc is)
 
--- a block that a chain tells to be next is so judgement_of, and stands so
+-- a block that a chain tells to be next is so judged, and stands so
 pub record IsAdded (compile : Compiler) (blocks : List Block) (kept : ChainState) (bytes : List ℕ) (block : Block) (digest : Digest) : Type 0 where
   pub judgement : judgement_of compile blocks (block_in bytes) ≡ Ok (Added block)
   pub stands : placement_in compile blocks block ≡ Next
@@ -40,7 +40,7 @@ added compile blocks kept bytes told block digest is is_judged next =
       given = given;
     }
 
--- a block that is judgement_of to be added is the next one
+-- a block that is judged to be added is the next one
 pub added_is_next : (compile : Compiler) (blocks : List Block) (decoded : Result Block ℕ) (block other : Block) → decoded ≡ Ok block → judgement_of compile blocks decoded ≡ Ok (Added other) → placement_in compile blocks block ≡ Next
 added_is_next compile blocks decoded block other is judgement = added_stands block other (placement_in compile blocks block) (sym (ap (judgement_of compile blocks) is) ∙ judgement)
 

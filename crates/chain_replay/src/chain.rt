@@ -102,7 +102,7 @@ impl Chain {
 
     /// The chain with the next block after the others, and what this block did. On `Memory` the
     /// chain is given up.
-    pub fn extended(
+    pub fn with_block(
         self,
         alloc: Global,
         block: &Block,
@@ -169,7 +169,7 @@ impl Replay for Chain {
         block: &Block,
         digest: Digest,
     ) -> Result<Chain, HostError> {
-        match self.extended(alloc, block, digest) {
+        match self.with_block(alloc, block, digest) {
             Ok((longer, _run)) => Ok(longer),
             Err(Memory) => Err(HostError::Memory),
         }

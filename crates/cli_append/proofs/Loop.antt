@@ -24,9 +24,11 @@ use Rattle.crash_promises.specs.Promises.{Line, plain, KeepsLines, IsPartly, Tel
 use Rattle.crash_promises.proofs.Tellings.{none_to_tell, join, longer, still}
 use Rattle.crash_promises.proofs.Sure.{AreSure, all_sure_more, sure_push, all_sure_kept, partly_more, partly_held, partly_longer}
 use Rattle.cli_append.specs.Appending.{IsKnown, line_of, lines_of, end_lines, fold_lines, fold_end, HasEnded, AppendsAll, GoesFrom}
-use Rattle.cli_append.specs.Steps.{IsCauseOf, lines_for, added_for, Takes}
+use Rattle.chain_input.specs.Turns.{IsCauseOf}
+use Rattle.cli_append.specs.Steps.{lines_for, added_for, Takes}
 use Rattle.cli_append.specs.declared.ending.AppendEnd.{AppendEnd}
 use Rattle.cli_append.specs.declared.ending.AppendEnd.TheVariants as ends
+use Rattle.cli_append.specs.declared.ending.RunStop.TheVariants as stops
 use Rattle.cli_append.specs.declared.ending.RunStop.{RunStop}
 use Rattle.cli_append.proofs.Promised.{line_sure, added_append, added_push, lines_append}
 use Rattle.cli_append.proofs.Frames.{rests_each, stands_at, still_known}
@@ -53,7 +55,7 @@ folded_turn count blocks rest bound =
     let t : MAX_FRAMES - m ≡ count = omega arith in
     ap (λ (n : ℕ). fold_from block_in compiled_in n blocks rest) e ∙ ap (λ (n : ℕ). fold_step block_in compiled_in (fold_from block_in compiled_in m) n blocks rest (frame_step n rest)) t
 
--- ---- one frame that was judgement_of
+-- ---- one frame that was judged
 
 partly_step : (first added blocks : List Block) (judgement : Result Taken Refusal) (image : List ℕ) → blocks ≡ first ++ added → IsStepOf blocks judgement image → IsPartly next_in_chain first (added ++ added_for judgement) image
 partly_step first added blocks (Ok frame) image same (inl is) = partly_held next_in_chain first added (added_by frame) blocks image same is
@@ -88,14 +90,14 @@ frames_end count blocks before left rest is answer =
     let a = subst (λ (o : Option (List ℕ)). IfSome o (λ input. IsFrameAnswer count input (Ok None) left)) is answer in
     record { after_it = []; left_is = a.1; is_end = λ next. ap (fold_step block_in compiled_in next count blocks rest) a.0 }
 
-error_ends : (count : ℕ) (blocks : List Block) (rest : List ℕ) (left : Option (List ℕ)) (error : FrameError) (cause : Cause) → IsFrameAnswer count rest (Err error) left → IsCauseOf error (Ok cause) → FoldEnds count blocks rest left (Refused count cause)
+error_ends : (count : ℕ) (blocks : List Block) (rest : List ℕ) (left : Option (List ℕ)) (error : FrameError) (cause : Cause) → IsFrameAnswer count rest (Err error) left → IsCauseOf stops.Unreadable stops.Memory error (Ok cause) → FoldEnds count blocks rest left (Refused count cause)
 error_ends count blocks rest left frames.Truncated cause a e = record { after_it = []; left_is = a.1; is_end = λ next. ap (fold_step block_in compiled_in next count blocks rest) a.0 ∙ ap (λ (c : Cause). ends_at (Refused count c) []) (sym (cc e)) }
 error_ends count blocks rest left (frames.Length size) cause a e = record { after_it = drop 4 rest; left_is = a.1; is_end = λ next. ap (fold_step block_in compiled_in next count blocks rest) a.0 ∙ ap (λ (c : Cause). ends_at (Refused count c) (drop 4 rest)) (sym (cc e)) }
 error_ends count blocks rest left frames.Many cause a e = record { after_it = drop 4 rest; left_is = a.1; is_end = λ next. ap (fold_step block_in compiled_in next count blocks rest) a.0 ∙ ap (λ (c : Cause). ends_at (Refused count c) (drop 4 rest)) (sym (cc e)) }
 error_ends count blocks rest left frames.Fault cause a e = absurd (cc e)
 error_ends count blocks rest left frames.Memory cause a e = absurd (cc e)
 
-frames_error : (count : ℕ) (blocks : List Block) (before left : Option (List ℕ)) (error : FrameError) (cause : Cause) (rest : List ℕ) → before ≡ Some rest → IfSome before (λ input. IsFrameAnswer count input (Err error) left) → IsCauseOf error (Ok cause)
+frames_error : (count : ℕ) (blocks : List Block) (before left : Option (List ℕ)) (error : FrameError) (cause : Cause) (rest : List ℕ) → before ≡ Some rest → IfSome before (λ input. IsFrameAnswer count input (Err error) left) → IsCauseOf stops.Unreadable stops.Memory error (Ok cause)
     → FoldEnds count blocks rest left (Refused count cause)
 frames_error count blocks before left error cause rest is answer because = error_ends count blocks rest left error cause (subst (λ (o : Option (List ℕ)). IfSome o (λ input. IsFrameAnswer count input (Err error) left)) is answer) because
 
@@ -105,7 +107,7 @@ frame_refused count blocks before left bytes more refusal rest is answer judgeme
     let a = subst (λ (o : Option (List ℕ)). IfSome o (λ input. IsFrameAnswer count input (Ok (Some (bytes, more))) left)) is answer in
     record { after_it = a.0; left_is = a.2; is_end = λ next. ap (fold_step block_in compiled_in next count blocks rest) a.1 ∙ ap (fold_after_frame next count blocks a.0) judgement }
 
--- what follows a frame that was judgement_of: its line and block, and then others
+-- what follows a frame that was judged: its line and block, and then others
 judged_lines : (next : List Block → List ℕ → Fold) (count : ℕ) (blocks : List Block) (rest : List ℕ) (judgement : Result Taken Refusal)
     → (more : List Line) × (fold_lines compiled_in blocks (fold_after_frame next count blocks rest judgement) ≡ lines_for blocks judgement ++ more)
 judged_lines next count blocks rest (Ok frame) =
@@ -277,7 +279,7 @@ module _ {D : Type 0} (now : D → ℕ) (disk : D → ℕ → Option DiskState) 
   -- the form of the frame is refused
   pub refused_form : (old mid new : D) (node : NodeState) (count frame : ℕ) (left_old left_mid left : Option (List ℕ)) (first : List Block) (input : List ℕ) (error : FrameError) (cause : Cause) (result : Result AppendEnd RunStop)
       → Progress old mid node count left_old left_mid first → count ≤ MAX_FRAMES
-      → frame ≡ count → left_old ≡ Some input → IfSome left_mid (λ input. IsFrameAnswer count input (Err error) left) → IsCauseOf error (Ok cause) → Stays now disk mid new
+      → frame ≡ count → left_old ≡ Some input → IfSome left_mid (λ input. IsFrameAnswer count input (Err error) left) → IsCauseOf stops.Unreadable stops.Memory error (Ok cause) → Stays now disk mid new
       → Telling next_in_chain now disk told mid new (plain (refused_line frame cause) ∷ []) (is_ok result) → IfOk result (λ answer. answer ≡ ends.Refused frame cause) → AppendsAll now disk told old new left first (fold_all first input) result
   refused_form old mid new node count frame left_old left_mid left first input error cause result p bound number is answer because stays line end =
       let l = p.leads input is in

@@ -46,7 +46,7 @@ abbrev pub fold_end : AppendEnd → FoldEnd
 fold_end ends.Whole = Whole
 fold_end (ends.Refused frame cause) = Refused frame cause
 
--- The disk tells what it holds.
+-- It is known what the disk holds.
 abbrev pub IsKnown : Option DiskState → Type 0
 IsKnown state = is_some state ≡ true
 

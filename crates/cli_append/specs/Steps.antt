@@ -4,13 +4,9 @@ use Rattle.lc_io.specs.Disk.{DiskState, Stays}
 use Rattle.lc_io.specs.Outside.{Tell}
 use Rattle.disk_model.specs.Disk.{Keeps, Rests}
 use Rattle.block_codec.specs.declared.block.Block.{Block}
-use Rattle.block_codec.specs.declared.error.FrameError.{FrameError}
-use Rattle.block_codec.specs.declared.error.FrameError.TheVariants as frames
 use Rattle.chain_exec.specs.Compiled.{compiled_in}
 use Rattle.chain_replay.specs.Judging.{Taken, added_by}
 use Rattle.chain_replay.specs.declared.refusal.Refusal.{Refusal}
-use Rattle.chain_input.specs.declared.cause.Cause.{Cause}
-use Rattle.chain_input.specs.declared.cause.Cause.TheVariants as causes
 use Rattle.recovery.specs.Node.{NodeState, IsNodeOf, IsStepOf, next_in_chain, chain_in}
 use Rattle.recovery.specs.declared.node.Appended.{Appended}
 use Rattle.recovery.specs.declared.node.Appended.TheVariants as appendeds
@@ -18,20 +14,11 @@ use Rattle.crash_promises.specs.Promises.{Line, Telling}
 use Rattle.cli_append.specs.Lines.{known_line, block_line}
 use Rattle.cli_append.specs.Appending.{IsKnown, line_of}
 use Rattle.cli_append.specs.declared.ending.RunStop.{RunStop}
-use Rattle.cli_append.specs.declared.ending.RunStop.TheVariants as stops
 
 -- The line of a block that was not refused.
 abbrev pub appended_text : Appended → List ℕ
 appended_text (appendeds.Known number) = known_line number
 appended_text (appendeds.Added number rows receipts root) = block_line number rows receipts root.0
-
--- What an error of the frames says of the input, or that it says nothing.
-abbrev pub IsCauseOf : FrameError → Result Cause RunStop → Type 0
-IsCauseOf frames.Truncated result = result ≡ Ok causes.Truncated
-IsCauseOf (frames.Length count) result = result ≡ Ok (causes.Length count)
-IsCauseOf frames.Many result = result ≡ Ok causes.Many
-IsCauseOf frames.Fault result = result ≡ Err stops.Unreadable
-IsCauseOf frames.Memory result = result ≡ Err stops.Memory
 
 -- ---- one frame
 

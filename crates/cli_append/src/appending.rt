@@ -15,10 +15,10 @@ ghost use Rattle.disk_model.specs.Disk.{Keeps};
 ghost use Rattle.cli_append.specs.Appending.{AppendsAll, GoesFrom, IsKnown};
 
 use crate::ending::{AppendEnd, RunStop};
-use crate::taking::{cause_of, take_frame};
+use crate::taking::take_frame;
 use crate::telling::refuse;
 use block_codec::Frames;
-use chain_input::Cause;
+use chain_input::{Cause, cause_of};
 use disk_model::Disk;
 use lc_io::{Source, Wire};
 use recovery::Node;
@@ -35,11 +35,12 @@ pub fn append<I: Source, M: Disk + Wire, S: Scratch>(
     node: Node,
 ) -> Result<AppendEnd, RunStop>
     requires ready { IsReady node (M.disk machine.old (M.now machine.old)) (S.state scratch.old) }
-    // Where the source tells what it has left, and the scratch device which bytes it holds, the frames
+    // Where it is known what the source has left, and which bytes the scratch device holds, the frames
     // are taken, and told, as they fold.
     ensures appends { is_known (S.state scratch.old) ≡ true → (blocks : List Block) (input : List ℕ) → IsNodeOf node (M.disk machine.old (M.now machine.old)) blocks → I.left source.old ≡ Some input
         → AppendsAll M.now M.disk M.told machine.old machine.new (I.left source.new) blocks (fold_from block_in compiled_in (MAX_FRAMES + 1) blocks input) result }
-    // Whether the source tells or not: a crash at any moment leaves the chain from before, and any blocks after it.
+    // Whether or not it is known what the source has left, where it is known which bytes the scratch
+    // device holds: a crash at any moment leaves the chain from before, and any blocks after it.
     ensures goes_on { is_known (S.state scratch.old) ≡ true → (blocks : List Block) → IsNodeOf node (M.disk machine.old (M.now machine.old)) blocks → IsKnown (M.disk machine.old (M.now machine.old)) → Keeps M.now M.disk machine.old machine.new (GoesFrom blocks) }
     // What was on the scratch device stays there.
     ensures retains { Retains (S.state scratch.old) (S.state scratch.new) }
@@ -52,7 +53,7 @@ pub fn append<I: Source, M: Disk + Wire, S: Scratch>(
     let mut node = node;
     let mut frames = Frames::new();
     'turns: loop {
-        let frame = frames.taken();
+        let frame = frames.count();
         match frames.next(alloc, source) {
             Ok(None) => {
                 node.give_up();
@@ -74,7 +75,7 @@ pub fn append<I: Source, M: Disk + Wire, S: Scratch>(
             },
             Err(error) => {
                 node.give_up();
-                match cause_of(error) {
+                match cause_of(error, RunStop::Unreadable, RunStop::Memory) {
                     Ok(cause) => return refuse(alloc, machine, frame, cause),
                     Err(stop) => return Err(stop),
                 }

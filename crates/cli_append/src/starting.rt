@@ -38,7 +38,7 @@ pub fn start<M: Disk, S: Scratch>(
     // content stands for, or it stands for none.
     ensures answer { is_known (S.state scratch.old) ≡ true → (content : List ℕ) → content_of (M.disk machine.old (M.now machine.old)) ≡ Some content
         → IsNodeStarted (M.disk machine.new (M.now machine.new)) (standing next_in_chain content) result }
-    // Whether the disk and the device tell what they hold or not, it is ready to take blocks.
+    // Whether or not it is known what the disk and the device hold, it is ready to take blocks.
     ensures ready { IfOk result (λ node. IsReady node (M.disk machine.new (M.now machine.new)) (S.state scratch.new)) }
     ensures machine { ReadsLog M.now M.disk M.disk_faults M.told M.wire_faults machine.old
         machine.new (IsErrOf result StartError.DiskFault) }

@@ -7,13 +7,11 @@ ghost use Rattle.chain_exec.specs.Compiled.{compiled_in};
 ghost use Rattle.chain_replay.specs.Judging.{judgement_of};
 ghost use Rattle.scratch_model.specs.Scratch.{is_known, Retains};
 ghost use Rattle.recovery.specs.Node.{IsNodeOf, IsReady};
-ghost use Rattle.cli_append.specs.Steps.{IsCauseOf, IfLonger, Takes};
+ghost use Rattle.cli_append.specs.Steps.{IfLonger, Takes};
 
 use crate::ending::RunStop;
 use crate::lines::appended_line;
 use crate::telling::tell_line;
-use block_codec::FrameError;
-use chain_input::Cause;
 use chain_replay::Refusal;
 use disk_model::Disk;
 use lc_base::Memory;
@@ -21,19 +19,6 @@ use lc_io::{Failed, Wire};
 use recovery::{AppendError, Node};
 use scratch_model::Scratch;
 use std::alloc::Global;
-
-/// Why no further frame could be taken: what it says of the input, or that it says nothing.
-pub fn cause_of(error: FrameError) -> Result<Cause, RunStop>
-    ensures { IsCauseOf error result }
-{
-    match error {
-        FrameError::Truncated => Ok(Cause::Truncated),
-        FrameError::Length(count) => Ok(Cause::Length(count)),
-        FrameError::Many => Ok(Cause::Many),
-        FrameError::Fault => Err(RunStop::Unreadable),
-        FrameError::Memory => Err(RunStop::Memory),
-    }
-}
 
 /// Ends the node that was handed back, if any.
 fn give_up(back: Option<Node>) {

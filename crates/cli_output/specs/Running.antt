@@ -74,19 +74,19 @@ pub record Meets {D : Type 0} (next : NextBlock) (now : D → ℕ) (disk : D →
   pub unwritten : came_to_end status ≡ true → appends_none output.change ≡ true → Stays now disk old new
   pub ended : came_to_end status ≡ true → HasEnded next (disk new (now new)) status left_old left_new content output
 
--- The bytes are those that are told; where none are told, any bytes, unless they are used.
+-- The bytes are those that are known; where none are known, any bytes, unless they are used.
 abbrev pub IsGiven : Bool → Option (List ℕ) → List ℕ → Type 0
-IsGiven uses (Some told) bytes = told ≡ bytes
+IsGiven uses (Some known) bytes = known ≡ bytes
 IsGiven true None bytes = ⊥
 IsGiven false None bytes = Unit {0}
 
--- A command that uses the scratch device is told which bytes it holds.
+-- Where the command uses the scratch device, it is known which bytes that holds.
 abbrev pub HeldIsGiven : Bool → Option Command → Type 0
 HeldIsGiven held command = uses_scratch command ≡ true → held ≡ true
 
--- Whatever the input and the content of the disk are, where a command that uses them is told them, and
--- one that uses the scratch device is told which bytes this holds, it did what an output says that it
--- wants of them. `held` is whether the device tells that.
+-- Whatever the input and the content of the disk are: where those that the command uses are known, and
+-- which bytes the scratch device holds where it uses that, it did what an output says that it wants of
+-- them. `held` is whether it is known which bytes the device holds.
 abbrev pub IsRun : {D : Type 0} → (D → ℕ) → (D → ℕ → Option DiskState) → (D → Option (List Tell)) → D → D → Status → Option (List ℕ) → Option (List ℕ) → Bool → Decoder → Compiler → Option Command → Type 0
 IsRun now disk told old new status left_old left_new held read compile command =
     HeldIsGiven held command → (input content : List ℕ) → IsGiven (reads_input command) left_old input → IsGiven (uses_disk command) (content_of (disk old (now old))) content

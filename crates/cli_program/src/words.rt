@@ -28,7 +28,7 @@ fn after_name(alloc: Global, args: Args) -> Result<Vec<String>, Memory>
     }
 }
 
-/// The status of a program that wasn't told its words, for want of memory; `None` where one of them
+/// The status of a program that did not get its words, for want of memory; `None` where one of them
 /// is no text.
 fn status_without_words(kind: ErrorKind) -> Option<Status>
     ensures { result ≡ status_without_words kind }

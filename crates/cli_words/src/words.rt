@@ -104,10 +104,10 @@ pub fn command_of(words: &[String]) -> Option<Command>
     ensures one { IsOneCommand (map string_bytes words.now) result }
     ensures given { IfSome result CanBeGiven }
 {
-    found(words)
+    parse_command(words)
 }
 
-fn found(words: &[String]) -> Option<Command>
+fn parse_command(words: &[String]) -> Option<Command>
     ensures { IsCommand (map string_bytes words.now) result }
 {
     if is_alone(words, "fmt") {

@@ -17,18 +17,18 @@ use Rattle.contract_check.specs.declared.expression.KindAt.{KindAt}
 use Rattle.contract_tree.specs.Builtins.{builtin_name, params_of, kind_given, builtins, is_named, builtin_of}
 use Rattle.contract_check.specs.Names.{Names, kind_in}
 use Rattle.contract_check.specs.WellKinded.{Operands, Numbers, Texts, Alike, operands_of, IsKinded, Number, Literal, Named, Called, Prefixed, OfNumbers, OfTexts, OfAlike, AreKinded, NoneLeft, OneMore}
-use Rattle.contract_check.specs.Faults.{and_then, kind_at, same_kind, require_kind, name_kind, first_wrong_argument, unless_wrong_argument, call_kind, prefix_kind, operation_kind, equality_kind, binary_kind, expression_kind, expression_kinds}
+use Rattle.contract_check.specs.Faults.{and_then, kind_at, is_same_kind, require_kind, name_kind, first_wrong_argument, unless_wrong_argument, call_kind, prefix_kind, operation_kind, equality_kind, binary_kind, expression_kind, expression_kinds}
 use Rattle.contract_check.proofs.Scopes.{and_then_ok}
 
 -- ---- kinds and builtins
 
-pub same_kind_is : (a c : ValueKind) → same_kind a c ≡ true → a ≡ c
+pub same_kind_is : (a c : ValueKind) → is_same_kind a c ≡ true → a ≡ c
 same_kind_is Int Int e = refl
 same_kind_is Int Text e = cc
 same_kind_is Text Int e = cc
 same_kind_is Text Text e = refl
 
-pub same_kind_same : (a : ValueKind) → same_kind a a ≡ true
+pub same_kind_same : (a : ValueKind) → is_same_kind a a ≡ true
 same_kind_same Int = refl
 same_kind_same Text = refl
 
@@ -39,7 +39,7 @@ cond_ok false x fault a e = cc
 
 pub require_kind_is : (wanted : ValueKind) (f g : KindAt) → require_kind wanted f ≡ Ok g → (f.kind ≡ wanted) × (g ≡ f)
 require_kind_is wanted f g e =
-    let p = cond_ok (same_kind f.kind wanted) (Ok f) _ g e in
+    let p = cond_ok (is_same_kind f.kind wanted) (Ok f) _ g e in
     (same_kind_is f.kind wanted p.0, (let k : Ok f ≡ Ok g = p.1 in let m : f ≡ g = cc in sym m))
 
 pub require_kind_good : (wanted : ValueKind) (f : KindAt) → f.kind ≡ wanted → require_kind wanted f ≡ Ok f
@@ -70,7 +70,7 @@ none_wrong [] [] l w = refl
 none_wrong [] (kind ∷ kinds) l w = absurd (omega arith)
 none_wrong (arg ∷ args) [] l w = absurd (omega arith)
 none_wrong (arg ∷ args) (kind ∷ kinds) l w =
-    elim (cases_Bool (same_kind arg.kind kind)) [
+    elim (cases_Bool (is_same_kind arg.kind kind)) [
       | inl h ↦ (
           let same = same_kind_is arg.kind kind h in
           let rest = none_wrong args kinds (omega arith) (subst (λ t. option_or (cond t None (Some arg.at)) (first_wrong_argument args kinds) ≡ None) h w) in

@@ -50,8 +50,8 @@ unless_fault a (Some fault) = Err fault
 -- ---- expressions
 
 -- Whether two kinds are the same, as `==` of the program says.
-abbrev pub same_kind : ValueKind → ValueKind → Bool
-same_kind = sameb the_type
+abbrev pub is_same_kind : ValueKind → ValueKind → Bool
+is_same_kind = sameb the_type
 
 -- A kind, and the offset of the expression that has it.
 abbrev pub kind_at : ℕ → ValueKind → KindAt
@@ -59,7 +59,7 @@ kind_at at kind = record { at = at; kind = kind }
 
 -- What has this kind, unchanged; else the fault is at its offset.
 abbrev pub require_kind : ValueKind → KindAt → Result KindAt Fault
-require_kind kind value = if same_kind value.kind kind then Ok value else fault_at value.at Kind
+require_kind kind value = if is_same_kind value.kind kind then Ok value else fault_at value.at Kind
 
 -- The kind of a name where it is visible, at the offset of the name.
 abbrev pub name_kind : ℕ → Option ValueKind → Result KindAt Fault
@@ -70,7 +70,7 @@ name_kind at (Some kind) = Ok (kind_at at kind)
 -- parameter.
 abbrev pub wrong_argument : Option ValueKind → KindAt → Option ℕ
 wrong_argument None arg = None
-wrong_argument (Some kind) arg = if same_kind arg.kind kind then None else Some arg.at
+wrong_argument (Some kind) arg = if is_same_kind arg.kind kind then None else Some arg.at
 
 -- The offset of the first argument that is not of its parameter's kind.
 abbrev pub first_wrong_argument : List KindAt → List ValueKind → Option ℕ

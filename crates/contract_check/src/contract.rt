@@ -15,7 +15,7 @@ ghost use Rattle.contract_tree.specs.Tree.{function_of, contract_of};
 use crate::fault::{CheckError, CheckKind};
 use crate::scope::Scope;
 use crate::statement::{declare, statements};
-use crate::used::Used;
+use crate::used::UsedNames;
 use contract_tree::{Contract, Function, Param};
 use lc_base::Name;
 use std::alloc::Global;
@@ -30,7 +30,7 @@ fn params(scope: &mut Scope, params: &[Param]) -> Result<(), CheckError>
     Ok(())
 }
 
-fn name_once(used: &mut Used, function: &Function) -> Result<(), CheckError>
+fn name_once(used: &mut UsedNames, function: &Function) -> Result<(), CheckError>
     ensures { Answers (λ _. used.new) fault_of result (used_after_name used.old (function_of function.now)) }
 {
     if used.add(&function.name)? {
@@ -54,7 +54,7 @@ fn function(alloc: Global, function: &Function) -> Result<(), CheckError>
 fn functions(alloc: Global, functions: &[Function]) -> Result<(), CheckError>
     ensures { Answers (λ done. done) fault_of result (unless_fault tt (check_fault (map function_of functions.now))) }
 {
-    let mut used = Used::new(alloc);
+    let mut used = UsedNames::new(alloc);
     for next in functions {
         name_once(&mut used, next)?;
         function(alloc, next)?;

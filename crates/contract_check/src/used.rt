@@ -13,11 +13,11 @@ use std::marker::Model;
 
 /// Names, oldest first.
 #[derive(Drop)]
-pub struct Used {
+pub struct UsedNames {
     names: NameTable<()>,
 }
 
-impl Model for Used {
+impl Model for UsedNames {
     ghost use Rattle.std.specs.Prelude.{ℕ, List};
     ghost use Rattle.std.specs.Map.{keys_of};
 
@@ -26,12 +26,12 @@ impl Model for Used {
     ghost view = { λ used. keys_of used.names };
 }
 
-impl Used {
+impl UsedNames {
     /// No name. It takes no memory.
-    pub fn new(alloc: Global) -> Used
+    pub fn new(alloc: Global) -> UsedNames
         ensures { result ≡ [] }
     {
-        Used {
+        UsedNames {
             names: NameTable::new(alloc),
         }
     }

@@ -4,12 +4,12 @@ use Rattle.lc_base.specs.declared.host_error.HostError.{HostError}
 use Rattle.lc_base.specs.declared.host_error.HostError.TheVariants as hosts
 use Rattle.lc_base.specs.declared.tx_status.TxStatus.{TxStatus}
 use Rattle.lc_base.specs.declared.tx_status.TxStatus.TheVariants as statuses
-use Rattle.contract_semantics.specs.declared.stop.Stop.{Stop}
-use Rattle.contract_semantics.specs.declared.stop.Stop.TheVariants as stops
+use Rattle.contract_semantics.specs.declared.stop.EvalStop.{EvalStop}
+use Rattle.contract_semantics.specs.declared.stop.EvalStop.TheVariants as stops
 use Rattle.eval_simple.specs.declared.flow.Flow.{Flow}
 
 -- The status of a function that ended so, or why it has none.
-abbrev pub IsStatusOf : Result Flow Stop → Result TxStatus HostError → Type 0
+abbrev pub IsStatusOf : Result Flow EvalStop → Result TxStatus HostError → Type 0
 IsStatusOf (Ok flow) answer = answer ≡ Ok statuses.Ok
 IsStatusOf (Err (stops.Status status)) answer = answer ≡ Ok status
 IsStatusOf (Err stops.Fault) answer = answer ≡ Err hosts.Fault

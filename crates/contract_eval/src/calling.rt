@@ -17,7 +17,7 @@ ghost use Rattle.contract_semantics.specs.{
 };
 
 use contract_check::Checked;
-use contract_semantics::{CallSite, Outcome, Stop};
+use contract_semantics::{CallSite, EvalStop, Outcome};
 use contract_tree::{Function, Param, ValueKind};
 use dep_capture::Capture;
 use eval_builtins::Run;
@@ -71,14 +71,14 @@ fn first_variables(alloc: Global, params: &[Param], args: &[Value]) -> Result<Va
 }
 
 /// How the statements of a function ended: its status, where neither the host nor memory failed.
-fn status_of(ended: Result<Flow, Stop>) -> Result<TxStatus, HostError>
+fn status_of(ended: Result<Flow, EvalStop>) -> Result<TxStatus, HostError>
     ensures { IsStatusOf ended result }
 {
     match ended {
         Ok(_) => Ok(TxStatus::Ok),
-        Err(Stop::Status(status)) => Ok(status),
-        Err(Stop::Fault) => Err(HostError::Fault),
-        Err(Stop::Memory) => Err(HostError::Memory),
+        Err(EvalStop::Status(status)) => Ok(status),
+        Err(EvalStop::Fault) => Err(HostError::Fault),
+        Err(EvalStop::Memory) => Err(HostError::Memory),
     }
 }
 

@@ -6,11 +6,11 @@ use Rattle.contract_tokens.specs.declared.token.Mark.TheVariants as m
 use Rattle.contract_tree.specs.Tree.{FunctionTree}
 use Rattle.contract_grammar.specs.declared.Obstacle.{Obstacle}
 use Rattle.contract_grammar.specs.declared.Obstacle.TheVariants.{Unfit, Surplus, Pending, Nesting, Height}
-use Rattle.contract_grammar.specs.Faults.{Fits, Allows, Allows_by, IsTooHigh, IsFault, pending_only, nesting_only, parameters_only, IsObstacle, KeepsLimit, KeepsLimits, AreWritable}
+use Rattle.contract_grammar.specs.Faults.{Fits, Allows, AllowsBy, IsTooHigh, IsFault, pending_only, nesting_only, parameters_only, IsObstacle, KeepsLimit, KeepsLimits, AreWritable}
 use Rattle.contract_grammar.specs.Grammar.{Within, limit_if, limits_of, limits, no_limits, IsContract, Limits}
 use Rattle.contract_grammar.specs.Marks.{is, has, is_end, is_no_end, name_of, opens, builtin_of}
 use Rattle.contract_grammar.specs.Reading.{function, contract}
-use Rattle.contract_grammar.specs.Rules.{Read, head_is, next, each, put, is_limit, Told}
+use Rattle.contract_grammar.specs.Rules.{Read, head_is, next, each, put, is_limit, IsLimitAt}
 use Rattle.contract_grammar.proofs.Laws.{Agrees, IsRule, has_end, err_is, no_ok, no_false, GoesBy}
 use Rattle.contract_grammar.proofs.Choice.{turns_end}
 use Rattle.contract_grammar.proofs.Parts.{IsFair}
@@ -70,7 +70,7 @@ fair_of p n h q = record {
 rule : (p n h q : Bool) → IsRule (Excused p n h q) (AllFree p n h q) contract (IsContract (limits_of p n h q)) is_end
 rule p n h q = contract_rule (fair_of p n h q)
 
-limit_no_end : (why : Obstacle) (t : Token) → is_limit why ≡ true → Told why t → is_end t ≡ false
+limit_no_end : (why : Obstacle) (t : Token) → is_limit why ≡ true → IsLimitAt why t → is_end t ≡ false
 limit_no_end Unfit t e h = absurd (no_false refl e)
 limit_no_end Surplus t e h = named_no_end t h
 limit_no_end Pending t e h = open_no_end t h
@@ -89,18 +89,18 @@ module _ (u y : List Token) (t : Token) (why : Obstacle) (e : contract (u ++ t �
       let same : u ≡ k.0 = append_cancel_right u k.0 (t ∷ y) k.3 in
       (k.1, k.2, subst (λ b. GoesBy b why (t ∷ y) k.1) soft k.5, subst (λ v. IsContract no_limits (v ++ k.1) k.2) (sym same) k.4)
 
-  limit_told : is_limit why ≡ true → Told why t × Allows no_limits u t
+  limit_told : is_limit why ≡ true → IsLimitAt why t × Allows no_limits u t
   limit_told soft =
       let k = (rule false false false false).viable (refl, refl, refl, refl) (u ++ t ∷ y) (t ∷ y) why e in
       let same : u ≡ k.0 = append_cancel_right u k.0 (t ∷ y) k.3 in
       let g = subst (λ b. GoesBy b why (t ∷ y) k.1) soft k.5 in
       let head : t ≡ g.0 = cc (g.3) in
-      let told : Told why t = subst (λ v. Told why v) (sym head) g.6 in
+      let told : IsLimitAt why t = subst (λ v. IsLimitAt why v) (sym head) g.6 in
       let more_is : k.0 ++ k.1 ≡ (u ++ t ∷ []) ++ g.2 = ap (λ v. v ++ k.1) (sym same) ∙ ap (λ v. u ++ v) g.4 ∙ ap (λ v. u ++ v ∷ g.2) (sym head) ∙ sym (append_assoc u (t ∷ []) g.2) in
       let fits : Fits no_limits (u ++ t ∷ []) = (g.2, k.2, g.5, subst (λ v. IsContract no_limits v k.2) more_is k.4) in
-      (told, subst (λ b. Allows_by b no_limits u t) (sym (limit_no_end why t soft told)) fits)
+      (told, subst (λ b. AllowsBy b no_limits u t) (sym (limit_no_end why t soft told)) fits)
 
-  not_allowed_by : (p n h q b : Bool) → (Excused p n h q why → ⊥) → is_end t ≡ b → Allows_by b (limits_of p n h q) u t → ⊥
+  not_allowed_by : (p n h q b : Bool) → (Excused p n h q why → ⊥) → is_end t ≡ b → AllowsBy b (limits_of p n h q) u t → ⊥
   not_allowed_by p n h q true not is (all, i) = clash (Excused p n h q) all (t ∷ y) (t ∷ y) why (contract (u ++ t ∷ y)) not e ((rule p n h q).again u (t ∷ y) all i is)
   not_allowed_by p n h q false not is (more, all, written, i) =
       let z = more ++ end_token ∷ [] in
@@ -155,7 +155,7 @@ module _ (u y : List Token) (t : Token) (why : Obstacle) (e : contract (u ++ t �
   keeps {l = l} limited about plain b a s path passes =
       let full = contract_full about (fair_of false false false false) (refl, refl, refl, refl) in
       let stopped : contract ((b ++ s ∷ a) ++ t ∷ y) ≡ (Err why, t ∷ y) = ap (λ v. contract (v ++ t ∷ y)) (sym path) ∙ e in
-      subst (λ v. Allows_by v l b s) (sym (plain s passes)) (passed_fits limited full b a y s t why passes stopped)
+      subst (λ v. AllowsBy v l b s) (sym (plain s passes)) (passed_fits limited full b a y s t why passes stopped)
 
   keeps_limits : KeepsLimits u
   keeps_limits = record {

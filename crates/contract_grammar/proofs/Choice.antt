@@ -4,7 +4,7 @@ use Rattle.std.proofs.lemmas.List.{append-nil, length_push}
 use Rattle.contract_tokens.specs.declared.token.Token.{Token}
 use Rattle.contract_grammar.specs.declared.Obstacle.{Obstacle}
 use Rattle.contract_grammar.specs.declared.Obstacle.TheVariants.{Unfit}
-use Rattle.contract_grammar.specs.Rules.{Read, Rule, head_is, ret, refusal, refuse, next, seq, either_by, either, turns_below, turns, each, is_limit, Told}
+use Rattle.contract_grammar.specs.Rules.{Read, Rule, head_is, ret, refusal, refuse, next, seq, either_by, either, turns_below, turns, each, is_limit, IsLimitAt}
 use Rattle.contract_grammar.proofs.Laws.{has_end, IsRet, Ret, ret_is, ret_rule, soft_goes, Agrees, GoesOn, IsRule, ok_is, err_is, no_ok, here_same, no_false, GoesBy, Takes, Begins}
 use Rattle.contract_grammar.proofs.Sequence.{IsSeq, Seq, Leads, seq_rule}
 use Rattle.contract_grammar.proofs.Writable.{no_words}
@@ -137,7 +137,7 @@ module _ (why : Obstacle) (test : Token → Bool) where
   refusal_first : (u y z : List Token) (t : Token) → refusal why (head_is test (u ++ t ∷ y)) ≡ refusal why (head_is test (u ++ t ∷ z))
   refusal_first u y z t = ap (refusal why) (head_same test u y z t)
 
-  closed_viable : is_limit why ≡ true → {B : Type 0} (Is : List Token → B → Type 0) → ((t : Token) → test t ≡ true → Told why t) → Begins Is [] → ((t : Token) → test t ≡ true → Begins Is (t ∷ [])) → (ts rest : List Token) (w : Obstacle) → ts ≡ rest → (w ≡ Unfit) ⊎ ((w ≡ why) × (head_is test ts ≡ true)) → (used : List Token) × (more : List Token) × (b : B) × (ts ≡ used ++ rest) × Is (used ++ more) b × GoesOn w rest more
+  closed_viable : is_limit why ≡ true → {B : Type 0} (Is : List Token → B → Type 0) → ((t : Token) → test t ≡ true → IsLimitAt why t) → Begins Is [] → ((t : Token) → test t ≡ true → Begins Is (t ∷ [])) → (ts rest : List Token) (w : Obstacle) → ts ≡ rest → (w ≡ Unfit) ⊎ ((w ≡ why) × (head_is test ts ≡ true)) → (used : List Token) × (more : List Token) × (b : B) × (ts ≡ used ++ rest) × Is (used ++ more) b × GoesOn w rest more
   closed_viable limit Is told some with_it ts rest w path (inl i) = ([], some.0, some.1, path, some.3, soft_goes w rest some.0 (ap is_limit i) some.2)
   closed_viable limit Is told some with_it [] rest w path (inr (e, h)) = absurd (no_false refl h)
   closed_viable limit Is told some with_it (t ∷ ts) rest w path (inr (e, h)) =
@@ -145,7 +145,7 @@ module _ (why : Obstacle) (test : Token → Bool) where
       let goes : GoesOn why rest (t ∷ k.0) = subst (λ b. GoesBy b why rest (t ∷ k.0)) (sym limit) (t, ts, k.0, sym path, refl, k.2, told t h) in
       ([], t ∷ k.0, k.1, path, k.3, subst (λ v. GoesOn v rest (t ∷ k.0)) (sym e) goes)
 
-pub closed_rule : {E : Obstacle → Type 0} {U : Type 0} {B : Type 0} {Is : List Token → B → Type 0} {S : Token → Bool} (why : Obstacle) (test : Token → Bool) → is_limit why ≡ true → ((t : Token) → test t ≡ true → Told why t) → (U → Begins Is []) → (U → (t : Token) → test t ≡ true → Begins Is (t ∷ [])) → Starts test Is → ((prefix : List Token) (b : B) → Is prefix b → E why) → IsRule E U (refuse why test) Is S
+pub closed_rule : {E : Obstacle → Type 0} {U : Type 0} {B : Type 0} {Is : List Token → B → Type 0} {S : Token → Bool} (why : Obstacle) (test : Token → Bool) → is_limit why ≡ true → ((t : Token) → test t ≡ true → IsLimitAt why t) → (U → Begins Is []) → (U → (t : Token) → test t ≡ true → Begins Is (t ∷ [])) → Starts test Is → ((prefix : List Token) (b : B) → Is prefix b → E why) → IsRule E U (refuse why test) Is S
 closed_rule {B = B} {Is = Is} why test limit told some with_it starts excused = record {
   takes = λ ts rest b e. absurd (no_ok e);
   leaves = λ ts rest w e. ([], (err_is e).1);

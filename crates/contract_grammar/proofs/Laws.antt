@@ -5,7 +5,7 @@ use Rattle.contract_tokens.specs.declared.token.Token.{Token}
 use Rattle.contract_grammar.specs.declared.Obstacle.{Obstacle}
 use Rattle.contract_grammar.specs.declared.Obstacle.TheVariants.{Unfit}
 use Rattle.contract_grammar.specs.Marks.{is_end}
-use Rattle.contract_grammar.specs.Rules.{Read, Rule, head_is, ret, guard, one_by, one, is_limit, Told}
+use Rattle.contract_grammar.specs.Rules.{Read, Rule, head_is, ret, guard, one_by, one, is_limit, IsLimitAt}
 use Rattle.contract_grammar.proofs.Writable.{no_words, one_word}
 use Rattle.contract_grammar.specs.Faults.{AreWritable, IsWritable}
 
@@ -15,7 +15,7 @@ Agrees E a rest r = (r ≡ (Ok a, rest)) ⊎ ((why : Obstacle) × (left : List T
 
 abbrev pub GoesBy : Bool → Obstacle → List Token → List Token → Type 0
 GoesBy true why rest more =
-    (t : Token) × (y : List Token) × (m : List Token) × (rest ≡ t ∷ y) × (more ≡ t ∷ m) × AreWritable m × Told why t
+    (t : Token) × (y : List Token) × (m : List Token) × (rest ≡ t ∷ y) × (more ≡ t ∷ m) × AreWritable m × IsLimitAt why t
 GoesBy false why rest more = AreWritable more
 
 -- what follows can be written; where a limit was met, it begins with the token that was refused

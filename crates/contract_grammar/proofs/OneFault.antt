@@ -4,7 +4,7 @@ use Rattle.contract_tokens.specs.declared.token.Token.{Token}
 use Rattle.contract_tokens.specs.declared.token.Mark.TheVariants as m
 use Rattle.contract_grammar.specs.declared.Obstacle.{Obstacle}
 use Rattle.contract_grammar.specs.declared.Obstacle.TheVariants.{Unfit, Surplus, Pending, Nesting, Height}
-use Rattle.contract_grammar.specs.Faults.{AreWritable, Fits, Allows, Allows_by, is_height, IsObstacle, KeepsLimits, IsFault, HasOneFault, IsWritable}
+use Rattle.contract_grammar.specs.Faults.{AreWritable, Fits, Allows, AllowsBy, is_height, IsObstacle, KeepsLimits, IsFault, HasOneFault, IsWritable}
 use Rattle.contract_grammar.specs.Grammar.{Limits, no_limits, IsContract}
 use Rattle.contract_grammar.specs.Marks.{is, has, is_end, name_of, opens}
 use Rattle.contract_grammar.proofs.Laws.{no_false}
@@ -36,10 +36,10 @@ fits_fewer : {l : Limits} (before w : List Token) → AreWritable w → Fits l (
 fits_fewer {l = l} before w h (more, all, i, c) = (w ++ more, all, all_words w more h i, subst (λ v. IsContract l v all) (append_assoc before w more) c)
 
 allows_from : {l : Limits} (before : List Token) (t : Token) → is_end t ≡ false → Fits l (before ++ t ∷ []) → Allows l before t
-allows_from {l = l} before t n h = subst (λ b. Allows_by b l before t) (sym n) h
+allows_from {l = l} before t n h = subst (λ b. AllowsBy b l before t) (sym n) h
 
 fits_from : {l : Limits} (before : List Token) (t : Token) → is_end t ≡ false → Allows l before t → Fits l (before ++ t ∷ [])
-fits_from {l = l} before t n h = subst (λ b. Allows_by b l before t) n h
+fits_from {l = l} before t n h = subst (λ b. AllowsBy b l before t) n h
 
 -- ---- an obstacle is one only
 

@@ -25,14 +25,14 @@ Fits l before =
     (more : List Token) × (all : List FunctionTree) × AreWritable more × IsContract l (before ++ more) all
 
 -- `Allows`, by whether the token is the end of the source.
-abbrev pub Allows_by : Bool → Limits → List Token → Token → Type 0
-Allows_by true l before t = (all : List FunctionTree) × IsContract l before all
-Allows_by false l before t = Fits l (before ++ t ∷ [])
+abbrev pub AllowsBy : Bool → Limits → List Token → Token → Type 0
+AllowsBy true l before t = (all : List FunctionTree) × IsContract l before all
+AllowsBy false l before t = Fits l (before ++ t ∷ [])
 
 -- After these tokens the token fits: a contract begins with them and it, or it is the end of the
 -- source, and they are a contract.
 abbrev pub Allows : Limits → List Token → Token → Type 0
-Allows l before t = Allows_by (is_end t) l before t
+Allows l before t = AllowsBy (is_end t) l before t
 
 -- The last of the tokens are an expression at this offset that is one higher than may be, in some
 -- contract that begins with them: whatever else is that expression could stand there, and the

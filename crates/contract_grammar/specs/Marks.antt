@@ -120,8 +120,8 @@ name_as n.Declared word = declared_in word
 name_as n.Builtin word = builtin_in word
 
 -- Such a name with its offset.
-abbrev pub named : NameKind → Token → Option (ℕ × List ℕ)
-named kind t = with_offset t.at (name_as kind t.word)
+abbrev pub name_with_offset : NameKind → Token → Option (ℕ × List ℕ)
+name_with_offset kind t = with_offset t.at (name_as kind t.word)
 
 -- What a parameter's values are.
 abbrev pub kind_in : Word → Option ValueKind

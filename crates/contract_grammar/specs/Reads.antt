@@ -2,17 +2,17 @@
 use Rattle.std.specs.Prelude.{◌≡◌, List, Result, Ok, Err}
 use Rattle.contract_tokens.specs.declared.token.Token.{Token}
 use Rattle.contract_grammar.specs.Rules.{Read}
-use Rattle.contract_grammar.specs.declared.stop.Stop.{Stop}
-use Rattle.contract_grammar.specs.declared.stop.Stop.TheVariants.{At, Memory}
+use Rattle.contract_grammar.specs.declared.stop.ParseStop.{ParseStop}
+use Rattle.contract_grammar.specs.declared.stop.ParseStop.TheVariants.{At, Memory}
 
 -- The answer is this outcome, seen through `view`, and the reader is left before these tokens,
 -- unless out of memory.
-abbrev pub Gives : {A B : Type 0} → (A → B) → Result A Stop → Read B → List Token → Type 0
+abbrev pub Gives : {A B : Type 0} → (A → B) → Result A ParseStop → Read B → List Token → Type 0
 Gives view (Ok a) read left = read ≡ (Ok (view a), left)
 Gives view (Err (At why)) read left = read ≡ (Err why, left)
 Gives view (Err Memory) read left = Unit {0}
 
 -- The answer is this outcome as it stands, and the reader is left before these tokens, unless out
 -- of memory.
-abbrev pub Reads : {A : Type 0} → Result A Stop → Read A → List Token → Type 0
+abbrev pub Reads : {A : Type 0} → Result A ParseStop → Read A → List Token → Type 0
 Reads = Gives (λ a. a)

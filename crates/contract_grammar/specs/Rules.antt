@@ -91,9 +91,9 @@ is_limit Nesting = true
 is_limit _ = false
 
 -- The token is one that the limit is about.
-abbrev pub Told : Obstacle → Token → Type 0
-Told Surplus t = has name_of t ≡ true
-Told Pending t = opens t ≡ true
-Told Nesting t = is BraceOpen t ≡ true
-Told Unfit t = Unit {0}
-Told (Height at) t = Unit {0}
+abbrev pub IsLimitAt : Obstacle → Token → Type 0
+IsLimitAt Surplus t = has name_of t ≡ true
+IsLimitAt Pending t = opens t ≡ true
+IsLimitAt Nesting t = is BraceOpen t ≡ true
+IsLimitAt Unfit t = Unit {0}
+IsLimitAt (Height at) t = Unit {0}

@@ -5,14 +5,14 @@ ghost use Rattle.std.specs.{
   Option.{option_copied},
 };
 ghost use Rattle.contract_grammar.specs.{
-  Marks.{the, is, is_not, has, is_no_end, int_of, text_of, named, kind_of, sign_of, prefix_of, with_offset},
+  Marks.{the, is, is_not, has, is_no_end, int_of, text_of, name_with_offset, kind_of, sign_of, prefix_of, with_offset},
   Rules.{head_is, one, refusal},
   Reads.{Reads},
 };
-ghost use Rattle.contract_grammar.specs.declared.stop.Stop.TheVariants as stops;
+ghost use Rattle.contract_grammar.specs.declared.stop.ParseStop.TheVariants as stops;
 
 use crate::Obstacle;
-use crate::stop::Stop;
+use crate::stop::ParseStop;
 use crate::word::{NameKind, int_in, is_end, is_mark, kind_in, prefix_in, sign_at, text_in};
 use contract_tokens::{Mark, Token, Tokens};
 use contract_tree::{Sign, ValueKind};
@@ -75,12 +75,12 @@ impl<'a> Cursor<'a> {
     }
 
     // Takes the next token, of which this was found.
-    fn take_found<A: Drop>(&mut self, found: Option<A>) -> Result<(u32, A), Stop>
+    fn take_found<A: Drop>(&mut self, found: Option<A>) -> Result<(u32, A), ParseStop>
         ensures read { Reads result (one (λ token. with_offset token.at found) self.old) self.new }
         ensures kept { IsErrOf result stops.Memory → self.new ≡ self.old }
     {
         let (Some(token), Some(a)) = (&self.next, found) else {
-            return Err(Stop::At(Obstacle::Unfit));
+            return Err(ParseStop::At(Obstacle::Unfit));
         };
         let at = token.at;
         self.advance()?;
@@ -114,7 +114,7 @@ impl<'a> Cursor<'a> {
 
     /// Whether the next token is a name of this kind.
     pub fn next_is_name(&self, kind: NameKind) -> bool
-        ensures { result ≡ head_is (has (named kind)) self.now }
+        ensures { result ≡ head_is (has (name_with_offset kind)) self.now }
     {
         self.next
             .as_ref()
@@ -149,13 +149,13 @@ impl<'a> Cursor<'a> {
     }
 
     /// Why a token is refused that would be one too many, or another one in its place.
-    pub fn refusal(&self, is_it: bool, why: Obstacle) -> Stop
+    pub fn refusal(&self, is_it: bool, why: Obstacle) -> ParseStop
         ensures { result ≡ stops.At (refusal why is_it) }
     {
         if is_it {
-            Stop::At(why)
+            ParseStop::At(why)
         } else {
-            Stop::At(Obstacle::Unfit)
+            ParseStop::At(Obstacle::Unfit)
         }
     }
 
@@ -165,7 +165,7 @@ impl<'a> Cursor<'a> {
     ///
     /// Here and below, `Unfit` where the next token is another one: it is not taken then. `Memory`,
     /// for the token after it.
-    pub fn take(&mut self, mark: Mark) -> Result<u32, Stop>
+    pub fn take(&mut self, mark: Mark) -> Result<u32, ParseStop>
         ensures read { Reads result (one (the mark) self.old) self.new }
         ensures kept { IsErrOf result stops.Memory → self.new ≡ self.old }
     {
@@ -175,7 +175,7 @@ impl<'a> Cursor<'a> {
     }
 
     /// Takes a number, and gives it with its offset.
-    pub fn int(&mut self) -> Result<(u32, i64), Stop>
+    pub fn int(&mut self) -> Result<(u32, i64), ParseStop>
         ensures read { Reads result (one int_of self.old) self.new }
         ensures kept { IsErrOf result stops.Memory → self.new ≡ self.old }
     {
@@ -184,7 +184,7 @@ impl<'a> Cursor<'a> {
     }
 
     /// Takes a text literal, and gives what it means with its offset.
-    pub fn text(&mut self) -> Result<(u32, Text), Stop>
+    pub fn text(&mut self) -> Result<(u32, Text), ParseStop>
         ensures read { Reads result (one text_of self.old) self.new }
         ensures kept { IsErrOf result stops.Memory → self.new ≡ self.old }
     {
@@ -196,8 +196,8 @@ impl<'a> Cursor<'a> {
     }
 
     /// Takes a name of this kind, and gives it with its offset.
-    pub fn name(&mut self, kind: NameKind) -> Result<(u32, Name), Stop>
-        ensures read { Reads result (one (named kind) self.old) self.new }
+    pub fn name(&mut self, kind: NameKind) -> Result<(u32, Name), ParseStop>
+        ensures read { Reads result (one (name_with_offset kind) self.old) self.new }
         ensures kept { IsErrOf result stops.Memory → self.new ≡ self.old }
     {
         let found = self.next.as_ref().and_then(|token| kind.name(&token.word));
@@ -205,7 +205,7 @@ impl<'a> Cursor<'a> {
     }
 
     /// Takes an operator of this level, and gives it with its offset.
-    pub fn sign(&mut self, level: u8) -> Result<(u32, Sign), Stop>
+    pub fn sign(&mut self, level: u8) -> Result<(u32, Sign), ParseStop>
         ensures read { Reads result (one (sign_of level) self.old) self.new }
         ensures kept { IsErrOf result stops.Memory → self.new ≡ self.old }
     {
@@ -217,7 +217,7 @@ impl<'a> Cursor<'a> {
     }
 
     /// Takes a prefix, and gives it with its offset.
-    pub fn prefix(&mut self) -> Result<(u32, Sign), Stop>
+    pub fn prefix(&mut self) -> Result<(u32, Sign), ParseStop>
         ensures read { Reads result (one prefix_of self.old) self.new }
         ensures kept { IsErrOf result stops.Memory → self.new ≡ self.old }
     {
@@ -226,7 +226,7 @@ impl<'a> Cursor<'a> {
     }
 
     /// Takes the keyword for a kind of values, and gives that kind.
-    pub fn kind(&mut self) -> Result<ValueKind, Stop>
+    pub fn kind(&mut self) -> Result<ValueKind, ParseStop>
         ensures read { Reads result (one kind_of self.old) self.new }
         ensures kept { IsErrOf result stops.Memory → self.new ≡ self.old }
     {

@@ -8,7 +8,7 @@ mod word;
 
 pub use cursor::Cursor;
 pub use limits::{COMPARISONS, MAX_HEIGHT, MAX_NESTING, MAX_PARAMETERS, MAX_PENDING, WHOLE};
-pub use stop::Stop;
+pub use stop::ParseStop;
 pub use word::{NameKind, is_end};
 
 /// What keeps a reader from going on.

@@ -6,39 +6,39 @@ use std::alloc::{AllocError, AllocFailed};
 
 /// Why a reader of tokens did not go on.
 #[derive(Clone, Copy, Debug)]
-pub enum Stop {
+pub enum ParseStop {
     /// An obstacle at the token before which the reader stands.
     At(Obstacle),
     /// Out of memory.
     Memory,
 }
 
-impl From<Memory> for Stop {
-    ghost use Rattle.contract_grammar.specs.declared.stop.Stop.TheVariants as stops;
+impl From<Memory> for ParseStop {
+    ghost use Rattle.contract_grammar.specs.declared.stop.ParseStop.TheVariants as stops;
 
     ghost from_gives = { λ _ error. error ≡ stops.Memory };
 
-    fn from(_error: Memory) -> Stop {
-        Stop::Memory
+    fn from(_error: Memory) -> ParseStop {
+        ParseStop::Memory
     }
 }
 
-impl From<AllocError> for Stop {
-    ghost use Rattle.contract_grammar.specs.declared.stop.Stop.TheVariants as stops;
+impl From<AllocError> for ParseStop {
+    ghost use Rattle.contract_grammar.specs.declared.stop.ParseStop.TheVariants as stops;
 
     ghost from_gives = { λ _ error. error ≡ stops.Memory };
 
-    fn from(_error: AllocError) -> Stop {
-        Stop::Memory
+    fn from(_error: AllocError) -> ParseStop {
+        ParseStop::Memory
     }
 }
 
-impl<T: Drop> From<AllocFailed<T>> for Stop {
-    ghost use Rattle.contract_grammar.specs.declared.stop.Stop.TheVariants as stops;
+impl<T: Drop> From<AllocFailed<T>> for ParseStop {
+    ghost use Rattle.contract_grammar.specs.declared.stop.ParseStop.TheVariants as stops;
 
     ghost from_gives = { λ _ error. error ≡ stops.Memory };
 
-    fn from(_error: AllocFailed<T>) -> Stop {
-        Stop::Memory
+    fn from(_error: AllocFailed<T>) -> ParseStop {
+        ParseStop::Memory
     }
 }

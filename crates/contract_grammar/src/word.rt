@@ -11,6 +11,7 @@ use contract_tokens::{Mark, Word};
 use contract_tree::{Builtin, Sign, ValueKind};
 use lc_base::{Name, Text};
 
+/// Whether this is that keyword or sign.
 pub fn is_mark(word: &Word, mark: Mark) -> bool
     ensures { result ≡ is_word mark word.now }
 {
@@ -20,6 +21,7 @@ pub fn is_mark(word: &Word, mark: Mark) -> bool
     }
 }
 
+/// The value of a number; `None` for other words.
 pub fn int_in(word: &Word) -> Option<i64>
     ensures { result ≡ int_in word.now }
 {
@@ -29,6 +31,7 @@ pub fn int_in(word: &Word) -> Option<i64>
     }
 }
 
+/// What the literal of a text means; `None` for other words.
 pub fn text_in(word: &Word) -> Option<&Text>
     ensures { option_copied result ≡ text_in word.now }
 {
@@ -45,6 +48,7 @@ pub fn is_end(word: &Word) -> bool
     matches!(word, Word::End)
 }
 
+/// The kind of values that a keyword names; `None` for other words.
 pub fn kind_in(word: &Word) -> Option<ValueKind>
     ensures { result ≡ kind_in word.now }
 {
@@ -75,6 +79,8 @@ fn mark_level(mark: Mark) -> u8
     }
 }
 
+/// How tight a word binds as an operator between two operands: the less, the tighter. What is no
+/// operator has a level after all others; a parenthesis that opens has 0, since it makes a call.
 pub fn level_in(word: &Word) -> u8
     ensures { result ≡ level_in word.now }
 {
@@ -115,6 +121,7 @@ fn sign_in(word: &Word) -> Option<Sign>
     }
 }
 
+/// The operator that a word is before an operand; `None` for other words.
 pub fn prefix_in(word: &Word) -> Option<Sign>
     ensures { result ≡ prefix_in word.now }
 {

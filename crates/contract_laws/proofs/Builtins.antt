@@ -22,7 +22,7 @@ use Rattle.dep_capture.specs.declared.access.Read.{Read}
 use Rattle.contract_semantics.specs.Charges.{charge_of}
 use Rattle.contract_semantics.specs.Scenes.{Scene}
 use Rattle.contract_semantics.specs.Steps.{and_so}
-use Rattle.contract_semantics.specs.Reading.{key_of_text, int_in, text_in, of_kind, getting, having}
+use Rattle.contract_semantics.specs.Reading.{key_of_text, int_in, text_in, of_kind, get_result, has_result}
 use Rattle.contract_semantics.specs.Asking.{block_before, answer_up_to, version_asked, list_asked, item_asked, item_part_of, list_told, value_told, count_told}
 use Rattle.contract_semantics.specs.Builtins.{one_text, one_int, text_and_int, text_and_ints, with_args, version_value, item_value, version_part, count_part, item_part, builtin_result, builtin_call, call_by_name}
 use Rattle.contract_laws.specs.Lookups.{Lookups, no_lookups, question_of, question_lookup, version_lookup, item_lookup, builtin_lookups, called_lookups, applied_lookups}
@@ -119,9 +119,9 @@ taken_item kind builtin bad args = taken_seen (λ s. item_part s.rows s.site.num
 -- ---- all builtins
 
 taken_built : (builtin : Builtin) (args : List Value) → TameTaken (λ s c. builtin_result s builtin args c) (λ s c. builtin_lookups s.site.number builtin args c)
-taken_built b.GetInt args = taken_args (one_text args) (λ text s c. of_kind int_in (getting s.place text c)) (taken_of_kind int_in int_fails)
-taken_built b.GetText args = taken_args (one_text args) (λ text s c. of_kind text_in (getting s.place text c)) (taken_of_kind text_in text_fails)
-taken_built b.Has args = taken_args (one_text args) (λ text s c. having s.place text c) taken_having
+taken_built b.GetInt args = taken_args (one_text args) (λ text s c. of_kind int_in (get_result s.place text c)) (taken_of_kind int_in int_fails)
+taken_built b.GetText args = taken_args (one_text args) (λ text s c. of_kind text_in (get_result s.place text c)) (taken_of_kind text_in text_fails)
+taken_built b.Has args = taken_args (one_text args) (λ text s c. has_result s.place text c) taken_having
 taken_built b.Caller args = taken_seen (λ s. Ok (values.Text s.site.sender)) (λ s. no_lookups) (λ s. tt) (λ s t reads a. (ap (λ k. Ok (values.Text k)) a.sender, refl)) (λ s. refl) no_questions
 taken_built b.Block args = taken_seen (λ s. Ok (values.Int (pos s.site.number))) (λ s. no_lookups) (λ s. tt) (λ s t reads a. (ap (λ n. Ok (values.Int (pos n))) a.number, refl)) (λ s. refl) no_questions
 taken_built b.Len args = taken_fixed (with_args (one_text args) (λ text. Ok (values.Int (pos (length text))))) (args_fails (one_text args) (λ text. Ok (values.Int (pos (length text)))) (λ text. tt))

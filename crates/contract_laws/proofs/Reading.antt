@@ -20,7 +20,7 @@ use Rattle.world_state.specs.declared.held.Held.{Held}
 use Rattle.contract_semantics.specs.Numbers.{truth}
 use Rattle.contract_semantics.specs.Scenes.{Scene}
 use Rattle.contract_semantics.specs.Steps.{Machine, after}
-use Rattle.contract_semantics.specs.Reading.{Taken, and_read, key_of_text, block_of, value_of_version, read_result, value_got, is_held, of_kind, getting, having}
+use Rattle.contract_semantics.specs.Reading.{BuiltinResult, and_read, key_of_text, block_of, value_of_version, read_result, value_got, is_held, of_kind, get_result, has_result}
 use Rattle.contract_semantics.specs.Builtins.{reading_args, taken_step}
 use Rattle.contract_laws.specs.Lookups.{Lookups, no_lookups, one_met, unput_lookup, key_lookup, read_lookup}
 use Rattle.contract_laws.proofs.Failures.{key_fails}
@@ -28,14 +28,14 @@ use Rattle.contract_laws.proofs.Tame.{AsksBefore, no_questions, IsBad, FailsBadl
 
 -- ---- what is taken, as a step
 
-abbrev pub ToldTaken : Scene → Captured → (Scene → Taken) → (Scene → Lookups) → Taken → Lookups → Type 0
+abbrev pub ToldTaken : Scene → Captured → (Scene → BuiltinResult) → (Scene → Lookups) → BuiltinResult → Lookups → Type 0
 ToldTaken s c again look taken lookups = Moves s c taken.1 × ((t : Scene) → Agree s t lookups taken.1.reads → (again t ≡ taken) × (look t ≡ lookups))
 
-abbrev pub TakenClear : Scene → Lookups → Taken → Type 0
+abbrev pub TakenClear : Scene → Lookups → BuiltinResult → Type 0
 TakenClear s lookups (Ok value, c) = AreClear s lookups c
 TakenClear s lookups (Err status, c) = Unit {0}
 
-pub record TameTaken (f : Scene → Captured → Taken) (look : Scene → Captured → Lookups) : Type 0 where
+pub record TameTaken (f : Scene → Captured → BuiltinResult) (look : Scene → Captured → Lookups) : Type 0 where
   pub told : (s : Scene) (c : Captured) → ToldTaken s c (λ t. f t c) (λ t. look t c) (f s c) (look s c)
   pub clear : (s : Scene) (c : Captured) → TakenClear s (look s c) (f s c)
   pub fails : (s : Scene) (c : Captured) → IsBad (f s c).0
@@ -45,27 +45,27 @@ pub clear_by : (s : Scene) (lookups : Lookups) (c : Captured) (r : Result Value 
 clear_by s lookups c (Ok value) h = h
 clear_by s lookups c (Err status) h = tt
 
-step_told : (s : Scene) (m : Machine) (again : Scene → Taken) (look : Scene → Lookups) (taken : Taken) (lookups : Lookups) → ToldTaken s m.capture again look taken lookups → Told s m (λ t. taken_step (again t) m) look (taken_step taken m) lookups
+step_told : (s : Scene) (m : Machine) (again : Scene → BuiltinResult) (look : Scene → Lookups) (taken : BuiltinResult) (lookups : Lookups) → ToldTaken s m.capture again look taken lookups → Told s m (λ t. taken_step (again t) m) look (taken_step taken m) lookups
 step_told s m again look (Ok value, c) lookups h = (h.0, λ t a. let k = h.1 t a in (ap (λ r. taken_step r m) k.0, k.1))
 step_told s m again look (Err status, c) lookups h = (h.0, λ t a. let k = h.1 t a in (ap (λ r. taken_step r m) k.0, k.1))
 
-step_lowers : (taken : Taken) (m : Machine) → (after (taken_step taken m)).left ≤ m.left
+step_lowers : (taken : BuiltinResult) (m : Machine) → (after (taken_step taken m)).left ≤ m.left
 step_lowers (Ok value, c) m = le_refl m.left
 step_lowers (Err status, c) m = le_refl m.left
 
-step_scales : (k : ℕ) (taken : Taken) (m : Machine) → taken_step taken (richer k m) ≡ raised k (taken_step taken m)
+step_scales : (k : ℕ) (taken : BuiltinResult) (m : Machine) → taken_step taken (richer k m) ≡ raised k (taken_step taken m)
 step_scales k (Ok value, c) m = refl
 step_scales k (Err status, c) m = refl
 
-step_clear : (s : Scene) (lookups : Lookups) (taken : Taken) (m : Machine) → TakenClear s lookups taken → EndsClear s lookups (taken_step taken m)
+step_clear : (s : Scene) (lookups : Lookups) (taken : BuiltinResult) (m : Machine) → TakenClear s lookups taken → EndsClear s lookups (taken_step taken m)
 step_clear s lookups (Ok value, c) m h = h
 step_clear s lookups (Err status, c) m h = tt
 
-step_fails : (taken : Taken) (m : Machine) → IsBad taken.0 → FailsBadly (taken_step taken m)
+step_fails : (taken : BuiltinResult) (m : Machine) → IsBad taken.0 → FailsBadly (taken_step taken m)
 step_fails (Ok value, c) m h = tt
 step_fails (Err status, c) m h = h
 
-pub tame_taken : {f : Scene → Captured → Taken} {look : Scene → Captured → Lookups} → TameTaken f look → Tame (λ s m. taken_step (f s m.capture) m) (λ s m. look s m.capture)
+pub tame_taken : {f : Scene → Captured → BuiltinResult} {look : Scene → Captured → Lookups} → TameTaken f look → Tame (λ s m. taken_step (f s m.capture) m) (λ s m. look s m.capture)
 tame_taken {f} {look} h = record {
   told = λ s m. step_told s m (λ t. f t m.capture) (λ t. look t m.capture) (f s m.capture) (look s m.capture) (h.told s m.capture);
   lowers = λ s m. step_lowers (f s m.capture) m;
@@ -112,7 +112,7 @@ moves_read s c key =
 
 -- ---- a read by what the scene says of its key, and what the capture says
 
-abbrev read_by : Bool → Bool → Bool → Option Held → List ℕ → (Option Held → Result Value TxStatus) → Captured → Taken
+abbrev read_by : Bool → Bool → Bool → Option Held → List ℕ → (Option Held → Result Value TxStatus) → Captured → BuiltinResult
 read_by written known full held key gives c =
     and_read (if written then Err Conflict else read_result (if known then Ok c else (if full then Err errors.TooMany else Ok (with_read c key held)))) c (λ c. (gives held, c))
 
@@ -184,36 +184,36 @@ unput_asks : (s : Scene) (key : List ℕ) (o : Option Value) → AsksBefore s (u
 unput_asks s key None = no_questions s
 unput_asks s key (Some value) = no_questions s
 
-taken_key : (r : Result (List ℕ) TxStatus) → IsBad r → (f : List ℕ → Scene → Captured → Taken) → ((key : List ℕ) → TameTaken (f key) (λ s c. unput_lookup key (pending c.puts key))) → TameTaken (λ s c. and_read r c (λ key. f key s c)) (λ s c. key_lookup r c)
+taken_key : (r : Result (List ℕ) TxStatus) → IsBad r → (f : List ℕ → Scene → Captured → BuiltinResult) → ((key : List ℕ) → TameTaken (f key) (λ s c. unput_lookup key (pending c.puts key))) → TameTaken (λ s c. and_read r c (λ key. f key s c)) (λ s c. key_lookup r c)
 taken_key (Ok key) bad f h = h key
 taken_key (Err status) bad f h = taken_fixed (Err status) bad
 
-taken_getting : (text : List ℕ) → TameTaken (λ s c. getting s.place text c) (λ s c. key_lookup (key_of_text text) c)
+taken_getting : (text : List ℕ) → TameTaken (λ s c. get_result s.place text c) (λ s c. key_lookup (key_of_text text) c)
 taken_getting text = taken_key (key_of_text text) (key_fails text) (λ key s c. value_got s.place key (pending c.puts key) c)
     (λ key. record { told = λ s c. got_told key s c (pending c.puts key); clear = λ s c. got_clear key s c (pending c.puts key); fails = λ s c. got_fails key s c (pending c.puts key); asks = λ s c. unput_asks s key (pending c.puts key) })
 
-pub taken_having : (text : List ℕ) → TameTaken (λ s c. having s.place text c) (λ s c. key_lookup (key_of_text text) c)
+pub taken_having : (text : List ℕ) → TameTaken (λ s c. has_result s.place text c) (λ s c. key_lookup (key_of_text text) c)
 taken_having text = taken_key (key_of_text text) (key_fails text) (λ key s c. is_held s.place key (pending c.puts key) c)
     (λ key. record { told = λ s c. held_told key s c (pending c.puts key); clear = λ s c. held_clear key s c (pending c.puts key); fails = λ s c. held_fails key s c (pending c.puts key); asks = λ s c. unput_asks s key (pending c.puts key) })
 
-kind_clear : (s : Scene) (lookups : Lookups) (kind : Value → Result Value TxStatus) (taken : Taken) → TakenClear s lookups taken → TakenClear s lookups (of_kind kind taken)
+kind_clear : (s : Scene) (lookups : Lookups) (kind : Value → Result Value TxStatus) (taken : BuiltinResult) → TakenClear s lookups taken → TakenClear s lookups (of_kind kind taken)
 kind_clear s lookups kind (Ok value, c) h = clear_by s lookups c (kind value) h
 kind_clear s lookups kind (Err status, c) h = tt
 
-kind_fails : (kind : Value → Result Value TxStatus) → ((value : Value) → IsBad (kind value)) → (taken : Taken) → IsBad taken.0 → IsBad (of_kind kind taken).0
+kind_fails : (kind : Value → Result Value TxStatus) → ((value : Value) → IsBad (kind value)) → (taken : BuiltinResult) → IsBad taken.0 → IsBad (of_kind kind taken).0
 kind_fails kind bad (Ok value, c) h = bad value
 kind_fails kind bad (Err status, c) h = h
 
-pub taken_of_kind : (kind : Value → Result Value TxStatus) → ((value : Value) → IsBad (kind value)) → (text : List ℕ) → TameTaken (λ s c. of_kind kind (getting s.place text c)) (λ s c. key_lookup (key_of_text text) c)
+pub taken_of_kind : (kind : Value → Result Value TxStatus) → ((value : Value) → IsBad (kind value)) → (text : List ℕ) → TameTaken (λ s c. of_kind kind (get_result s.place text c)) (λ s c. key_lookup (key_of_text text) c)
 taken_of_kind kind bad text =
     let h = taken_getting text in
     record {
       told = λ s c. let k = h.told s c in (k.0, λ t a. let l = k.1 t a in (ap (λ r. of_kind kind r) l.0, l.1));
-      clear = λ s c. kind_clear s (key_lookup (key_of_text text) c) kind (getting s.place text c) (h.clear s c);
-      fails = λ s c. kind_fails kind bad (getting s.place text c) (h.fails s c);
+      clear = λ s c. kind_clear s (key_lookup (key_of_text text) c) kind (get_result s.place text c) (h.clear s c);
+      fails = λ s c. kind_fails kind bad (get_result s.place text c) (h.fails s c);
       asks = h.asks;
     }
 
-pub taken_args : (o : Option (List ℕ)) (f : List ℕ → Scene → Captured → Taken) → ((text : List ℕ) → TameTaken (f text) (λ s c. key_lookup (key_of_text text) c)) → TameTaken (λ s c. reading_args o c (λ text. f text s c)) (λ s c. read_lookup o c)
+pub taken_args : (o : Option (List ℕ)) (f : List ℕ → Scene → Captured → BuiltinResult) → ((text : List ℕ) → TameTaken (f text) (λ s c. key_lookup (key_of_text text) c)) → TameTaken (λ s c. reading_args o c (λ text. f text s c)) (λ s c. read_lookup o c)
 taken_args None f h = taken_fixed (Err WrongKind) refl
 taken_args (Some text) f h = h text

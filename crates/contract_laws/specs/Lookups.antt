@@ -1,4 +1,4 @@
--- What an evaluation looks up beside its reads, told part by part beside what each part means.
+-- What an evaluation looks up beside its reads, given part by part beside what each part means.
 use Rattle.std.specs.Prelude.{ℕ, ℤ, ◌-◌, nat_le, if◌then◌else◌, List, [], ◌∷◌, ◌++◌, Option, Some, None, Result, Ok, Err}
 use Rattle.lc_base.specs.Parts.{question}
 use Rattle.lc_base.specs.declared.answer.Query.{Query}

@@ -10,8 +10,8 @@ use Rattle.contract_tree.specs.Tree.{Tree, tree_of, statement_of, statement_list
 use Rattle.contract_tree.proofs.Statements.{if_else_is}
 use Rattle.contract_tokens.specs.declared.token.Token.{Token}
 use Rattle.contract_tokens.specs.declared.token.Mark.TheVariants as m
-use Rattle.contract_grammar.specs.declared.stop.Stop.{Stop}
-use Rattle.contract_grammar.specs.declared.stop.Stop.TheVariants.{At, Memory}
+use Rattle.contract_grammar.specs.declared.stop.ParseStop.{ParseStop}
+use Rattle.contract_grammar.specs.declared.stop.ParseStop.TheVariants.{At, Memory}
 use Rattle.contract_grammar.specs.Marks.{the}
 use Rattle.contract_grammar.specs.Reading.{expression, else_part, if_statement}
 use Rattle.contract_grammar.specs.Reads.{Gives}
@@ -23,7 +23,7 @@ pub if_read : (block : Rule StatementTrees) (ts after_if after_test after_first 
 if_read block ts after_if after_test after_first at test first e f g = ap (next (λ at. seq expression (λ x. seq block (else_part block at x)))) e ∙ ap (next (λ x. seq block (else_part block at x))) f ∙ ap (next (else_part block at test)) g
 
 -- the same stop of an equal reader, whatever it would have given
-pub stops_by : {A B C : Type 0} (view : A → C) (other : B → C) (stop : Stop) (x y : Read C) (left : List Token) → x ≡ y → Gives other (Err stop) y left → Gives view (Err stop) x left
+pub stops_by : {A B C : Type 0} (view : A → C) (other : B → C) (stop : ParseStop) (x y : Read C) (left : List Token) → x ≡ y → Gives other (Err stop) y left → Gives view (Err stop) x left
 stops_by view other (At why) x y left e h = e ∙ h
 stops_by view other Memory x y left e h = tt
 

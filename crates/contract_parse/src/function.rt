@@ -11,24 +11,24 @@ ghost use Rattle.contract_grammar.specs.{
   declared.limits.TheConstants.{MAX_NESTING},
 };
 
-use crate::names::declared;
+use crate::names::declared_name;
 use crate::statement::block;
-use contract_grammar::{Cursor, MAX_NESTING, MAX_PARAMETERS, NameKind, Obstacle, Stop};
+use contract_grammar::{Cursor, MAX_NESTING, MAX_PARAMETERS, NameKind, Obstacle, ParseStop};
 use contract_tokens::Mark;
 use contract_tree::{Contract, Function, FunctionList, Param, ParamList};
 use lc_base::Name;
 
-fn param_name(cursor: &mut Cursor<'_>, count: usize) -> Result<(u32, Name), Stop>
+fn param_name(cursor: &mut Cursor<'_>, count: usize) -> Result<(u32, Name), ParseStop>
     ensures { Reads result (param_name count cursor.old) cursor.new }
 {
     if count < MAX_PARAMETERS {
-        declared(cursor)
+        declared_name(cursor)
     } else {
         Err(cursor.refusal(cursor.next_is_name(NameKind::Declared), Obstacle::Surplus))
     }
 }
 
-fn param(cursor: &mut Cursor<'_>, count: usize) -> Result<Param, Stop>
+fn param(cursor: &mut Cursor<'_>, count: usize) -> Result<Param, ParseStop>
     ensures { Reads result (param count cursor.old) cursor.new }
 {
     let (at, name) = param_name(cursor, count)?;
@@ -37,7 +37,7 @@ fn param(cursor: &mut Cursor<'_>, count: usize) -> Result<Param, Stop>
     Ok(Param { at, name, kind })
 }
 
-fn push_param(cursor: &mut Cursor<'_>, earlier: ParamList) -> Result<ParamList, Stop>
+fn push_param(cursor: &mut Cursor<'_>, earlier: ParamList) -> Result<ParamList, ParseStop>
     ensures { Gives (λ v. v.items) result
         (put (λ n. after_mark m.Comma (param n)) earlier.items cursor.old) cursor.new }
 {
@@ -49,7 +49,7 @@ fn push_param(cursor: &mut Cursor<'_>, earlier: ParamList) -> Result<ParamList, 
     Ok(all)
 }
 
-fn more_params(cursor: &mut Cursor<'_>, earlier: ParamList) -> Result<ParamList, Stop>
+fn more_params(cursor: &mut Cursor<'_>, earlier: ParamList) -> Result<ParamList, ParseStop>
     ensures { Gives (λ v. v.items) result
         (each (is m.Comma) (λ n. after_mark m.Comma (param n)) earlier.items cursor.old) cursor.new }
 {
@@ -60,7 +60,7 @@ fn more_params(cursor: &mut Cursor<'_>, earlier: ParamList) -> Result<ParamList,
     Ok(all)
 }
 
-fn params(cursor: &mut Cursor<'_>) -> Result<ParamList, Stop>
+fn params(cursor: &mut Cursor<'_>) -> Result<ParamList, ParseStop>
     ensures { Gives (λ v. v.items) result (params cursor.old) cursor.new }
 {
     cursor.take(Mark::ParenOpen)?;
@@ -76,11 +76,11 @@ fn params(cursor: &mut Cursor<'_>) -> Result<ParamList, Stop>
 }
 
 #[tactic(auto, unfolding(contract_grammar::specs::Reading::function))]
-fn function(cursor: &mut Cursor<'_>) -> Result<Function, Stop>
+fn function(cursor: &mut Cursor<'_>) -> Result<Function, ParseStop>
     ensures { Gives function_of result (function cursor.old) cursor.new }
 {
     cursor.take(Mark::Fn)?;
-    let (at, name) = declared(cursor)?;
+    let (at, name) = declared_name(cursor)?;
     let params = params(cursor)?;
     let body = block(cursor, MAX_NESTING)?;
     Ok(Function {
@@ -91,7 +91,7 @@ fn function(cursor: &mut Cursor<'_>) -> Result<Function, Stop>
     })
 }
 
-fn push_function(cursor: &mut Cursor<'_>, earlier: FunctionList) -> Result<FunctionList, Stop>
+fn push_function(cursor: &mut Cursor<'_>, earlier: FunctionList) -> Result<FunctionList, ParseStop>
     ensures { Gives (λ v. map function_of v.items) result
         (put (λ n. function) (map function_of earlier.items) cursor.old) cursor.new }
 {
@@ -101,7 +101,7 @@ fn push_function(cursor: &mut Cursor<'_>, earlier: FunctionList) -> Result<Funct
     Ok(all)
 }
 
-fn functions(cursor: &mut Cursor<'_>, earlier: FunctionList) -> Result<FunctionList, Stop>
+fn functions(cursor: &mut Cursor<'_>, earlier: FunctionList) -> Result<FunctionList, ParseStop>
     ensures { Gives (λ v. map function_of v.items) result
         (each is_no_end (λ n. function) (map function_of earlier.items) cursor.old) cursor.new }
 {
@@ -114,7 +114,7 @@ fn functions(cursor: &mut Cursor<'_>, earlier: FunctionList) -> Result<FunctionL
 
 /// A contract, up to the end of the source.
 #[tactic(auto, unfolding(contract_grammar::specs::Reading::contract))]
-pub fn contract(cursor: &mut Cursor<'_>) -> Result<Contract, Stop>
+pub fn contract(cursor: &mut Cursor<'_>) -> Result<Contract, ParseStop>
     ensures { Gives contract_of result (contract cursor.old) cursor.new }
 {
     let mut first = Vec::new(cursor.alloc());

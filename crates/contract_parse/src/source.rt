@@ -7,7 +7,7 @@ ghost use Rattle.contract_grammar.specs.{Marks.{is_end}, Reading.{contract}};
 ghost use Rattle.contract_parse.specs.Syntax.{refusal, unfit_kind, Outcome, IsOutcome, HasOneOutcome, HasOneObstacle, fault_of, token_kind, stop_fault, obstacle_fault, reading_outcome};
 
 use crate::function::contract;
-use contract_grammar::{Cursor, Obstacle, Stop, is_end};
+use contract_grammar::{Cursor, Obstacle, ParseStop, is_end};
 use contract_tokens::{Token, TokenError, TokenKind, Tokens};
 use contract_tree::Contract;
 use std::alloc::Global;
@@ -101,8 +101,8 @@ fn read(tokens: Tokens<'_>) -> Result<Contract, SyntaxError>
     };
     match contract(&mut cursor) {
         Ok(contract) => Ok(contract),
-        Err(Stop::Memory) => Err(SyntaxError::Memory),
-        Err(Stop::At(why)) => {
+        Err(ParseStop::Memory) => Err(SyntaxError::Memory),
+        Err(ParseStop::At(why)) => {
             let (at, kind) = stop_fault(why, &cursor);
             Err(SyntaxError::Refused { at, kind })
         }

@@ -12,14 +12,14 @@ ghost use Rattle.contract_grammar.specs.{
 };
 ghost use Rattle.contract_parse.specs.Blocks.{if_of};
 
-use crate::names::declared;
-use contract_grammar::{Cursor, NameKind, Obstacle, Stop};
+use crate::names::declared_name;
+use contract_grammar::{Cursor, NameKind, Obstacle, ParseStop};
 use contract_tokens::Mark;
 use contract_tree::{Expr, ExprList, Form, Statement, StatementList};
 use lc_base::Name;
 use parse_expression::{expression, expressions};
 
-fn end_statement(cursor: &mut Cursor<'_>, statement: Statement) -> Result<Statement, Stop>
+fn end_statement(cursor: &mut Cursor<'_>, statement: Statement) -> Result<Statement, ParseStop>
     ensures { Gives statement_of result (before_mark m.Semicolon (statement_of statement) cursor.old)
         cursor.new }
 {
@@ -27,11 +27,11 @@ fn end_statement(cursor: &mut Cursor<'_>, statement: Statement) -> Result<Statem
     Ok(statement)
 }
 
-fn let_statement(cursor: &mut Cursor<'_>) -> Result<Statement, Stop>
+fn let_statement(cursor: &mut Cursor<'_>) -> Result<Statement, ParseStop>
     ensures { Gives statement_of result (let_statement cursor.old) cursor.new }
 {
     let at = cursor.take(Mark::Let)?;
-    let (name_at, name) = declared(cursor)?;
+    let (name_at, name) = declared_name(cursor)?;
     cursor.take(Mark::Assign)?;
     let value = expression(cursor)?;
     let form = Form::Let {
@@ -42,7 +42,7 @@ fn let_statement(cursor: &mut Cursor<'_>) -> Result<Statement, Stop>
     end_statement(cursor, Statement { at, form })
 }
 
-fn assign_statement(cursor: &mut Cursor<'_>) -> Result<Statement, Stop>
+fn assign_statement(cursor: &mut Cursor<'_>) -> Result<Statement, ParseStop>
     ensures { Gives statement_of result (assign_statement cursor.old) cursor.new }
 {
     let (at, name) = cursor.name(NameKind::Plain)?;
@@ -52,7 +52,7 @@ fn assign_statement(cursor: &mut Cursor<'_>) -> Result<Statement, Stop>
     end_statement(cursor, Statement { at, form })
 }
 
-fn from_part(cursor: &mut Cursor<'_>) -> Result<Option<ExprList>, Stop>
+fn from_part(cursor: &mut Cursor<'_>) -> Result<Option<ExprList>, ParseStop>
     ensures { Gives parts_of result (from_part cursor.old) cursor.new }
 {
     if cursor.next_is(Mark::Semicolon) {
@@ -64,7 +64,7 @@ fn from_part(cursor: &mut Cursor<'_>) -> Result<Option<ExprList>, Stop>
     Ok(Some(parts))
 }
 
-fn put_statement(cursor: &mut Cursor<'_>) -> Result<Statement, Stop>
+fn put_statement(cursor: &mut Cursor<'_>) -> Result<Statement, ParseStop>
     ensures { Gives statement_of result (put_statement cursor.old) cursor.new }
 {
     let at = cursor.take(Mark::Put)?;
@@ -77,7 +77,7 @@ fn put_statement(cursor: &mut Cursor<'_>) -> Result<Statement, Stop>
 }
 
 /// A statement of nothing but a keyword.
-fn short_statement(cursor: &mut Cursor<'_>, mark: Mark, form: Form) -> Result<Statement, Stop>
+fn short_statement(cursor: &mut Cursor<'_>, mark: Mark, form: Form) -> Result<Statement, ParseStop>
     ensures { Gives statement_of result
         (short_statement mark (λ at. statement_of (record { at = at; form = form })) cursor.old)
         cursor.new }
@@ -86,7 +86,7 @@ fn short_statement(cursor: &mut Cursor<'_>, mark: Mark, form: Form) -> Result<St
     end_statement(cursor, Statement { at, form })
 }
 
-fn refuse_block(cursor: &mut Cursor<'_>) -> Result<StatementList, Stop>
+fn refuse_block(cursor: &mut Cursor<'_>) -> Result<StatementList, ParseStop>
     ensures { Gives (λ v. statement_list (map statement_of v.items)) result
         (refuse Nesting (is m.BraceOpen) cursor.old) cursor.new }
 {
@@ -95,7 +95,7 @@ fn refuse_block(cursor: &mut Cursor<'_>) -> Result<StatementList, Stop>
 
 /// The second block of an `if`, where it has one.
 #[cycle(block)]
-fn else_part(cursor: &mut Cursor<'_>, nesting: u32) -> Result<Option<StatementList>, Stop>
+fn else_part(cursor: &mut Cursor<'_>, nesting: u32) -> Result<Option<StatementList>, ParseStop>
     ensures { (at : ℕ) (test : Tree) (first : StatementTrees) → Gives (if_of at test first) result
         (else_part (block nesting) at test first cursor.old) cursor.new }
 {
@@ -108,7 +108,7 @@ fn else_part(cursor: &mut Cursor<'_>, nesting: u32) -> Result<Option<StatementLi
 }
 
 #[cycle(block)]
-fn if_statement(cursor: &mut Cursor<'_>, nesting: u32) -> Result<Statement, Stop>
+fn if_statement(cursor: &mut Cursor<'_>, nesting: u32) -> Result<Statement, ParseStop>
     ensures { Gives statement_of result (if_statement (block nesting) cursor.old) cursor.new }
 {
     let at = cursor.take(Mark::If)?;
@@ -124,7 +124,7 @@ fn if_statement(cursor: &mut Cursor<'_>, nesting: u32) -> Result<Statement, Stop
 }
 
 #[cycle(block)]
-fn while_statement(cursor: &mut Cursor<'_>, nesting: u32) -> Result<Statement, Stop>
+fn while_statement(cursor: &mut Cursor<'_>, nesting: u32) -> Result<Statement, ParseStop>
     ensures { Gives statement_of result (while_statement (block nesting) cursor.old) cursor.new }
 {
     let at = cursor.take(Mark::While)?;
@@ -135,7 +135,7 @@ fn while_statement(cursor: &mut Cursor<'_>, nesting: u32) -> Result<Statement, S
 }
 
 #[cycle(block)]
-fn statement(cursor: &mut Cursor<'_>, nesting: u32) -> Result<Statement, Stop>
+fn statement(cursor: &mut Cursor<'_>, nesting: u32) -> Result<Statement, ParseStop>
     ensures { Gives statement_of result (statement (block nesting) cursor.old) cursor.new }
 {
     if cursor.next_is(Mark::Let) {
@@ -164,7 +164,7 @@ fn push_statement(
     cursor: &mut Cursor<'_>,
     nesting: u32,
     earlier: StatementList,
-) -> Result<StatementList, Stop>
+) -> Result<StatementList, ParseStop>
     ensures { Gives (λ v. map statement_of v.items) result
         (put (λ n. statement (block nesting)) (map statement_of earlier.items) cursor.old)
         cursor.new }
@@ -176,7 +176,7 @@ fn push_statement(
 }
 
 #[cycle(block)]
-fn statements(cursor: &mut Cursor<'_>, nesting: u32) -> Result<StatementList, Stop>
+fn statements(cursor: &mut Cursor<'_>, nesting: u32) -> Result<StatementList, ParseStop>
     ensures { Gives (λ v. map statement_of v.items) result
         (each (is_not m.BraceClose) (λ n. statement (block nesting)) [] cursor.old) cursor.new }
 {
@@ -188,7 +188,7 @@ fn statements(cursor: &mut Cursor<'_>, nesting: u32) -> Result<StatementList, St
 }
 
 #[cycle(block)]
-fn block_rest(cursor: &mut Cursor<'_>, nesting: u32) -> Result<StatementList, Stop>
+fn block_rest(cursor: &mut Cursor<'_>, nesting: u32) -> Result<StatementList, ParseStop>
     ensures { Gives (λ v. statement_list (map statement_of v.items)) result
         (seq (each (is_not m.BraceClose) (λ n. statement (block nesting)) [])
         (λ ss. before_mark m.BraceClose (statement_list ss)) cursor.old)
@@ -200,7 +200,7 @@ fn block_rest(cursor: &mut Cursor<'_>, nesting: u32) -> Result<StatementList, St
 }
 
 #[cycle(block)]
-fn open_block(cursor: &mut Cursor<'_>, nesting: u32) -> Result<StatementList, Stop>
+fn open_block(cursor: &mut Cursor<'_>, nesting: u32) -> Result<StatementList, ParseStop>
     ensures { Gives (λ v. statement_list (map statement_of v.items)) result
         (block_of (block nesting) cursor.old) cursor.new }
 {
@@ -210,7 +210,7 @@ fn open_block(cursor: &mut Cursor<'_>, nesting: u32) -> Result<StatementList, St
 
 /// A block, where so many more may be nested, itself counted.
 #[cycle(block)]
-pub fn block(cursor: &mut Cursor<'_>, nesting: u32) -> Result<StatementList, Stop>
+pub fn block(cursor: &mut Cursor<'_>, nesting: u32) -> Result<StatementList, ParseStop>
     ensures { Gives (λ v. statement_list (map statement_of v.items)) result
         (block nesting cursor.old) cursor.new }
 {

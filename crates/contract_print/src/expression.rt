@@ -16,6 +16,7 @@ fn is_compound(x: &Expr) -> bool
     matches!(&x.node, ExprNode::Prefix { .. } | ExprNode::Binary { .. })
 }
 
+/// Appends an expression; operands that have operands themselves stand in parentheses.
 #[cycle(put)]
 pub fn put_expression(alloc: Global, out: &mut Vec<u8>, x: &Expr) -> Result<(), Memory>
     ensures { OnOk result (out.new.items ≡ out.old.items ++ expression_text (tree_of x.now)) }

@@ -87,6 +87,7 @@ fn put_body(
     Ok(())
 }
 
+/// Appends a statement on lines of its own, each after the margin.
 #[cycle(put_statement)]
 pub fn put_statement(
     alloc: Global,

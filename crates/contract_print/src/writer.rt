@@ -8,6 +8,7 @@ use contract_tree::{Sign, ValueKind};
 use lc_base::Memory;
 use std::alloc::Global;
 
+/// Appends the bytes.
 pub fn put(out: &mut Vec<u8>, bytes: &[u8]) -> Result<(), Memory>
     ensures { OnOk result (out.new.items ≡ out.old.items ++ bytes.now) }
 {
@@ -15,6 +16,7 @@ pub fn put(out: &mut Vec<u8>, bytes: &[u8]) -> Result<(), Memory>
     Ok(())
 }
 
+/// Appends a number in decimal digits, after a `-` where it is negative.
 pub fn put_int(alloc: Global, out: &mut Vec<u8>, value: i64) -> Result<(), Memory>
     ensures { OnOk result (out.new.items ≡ out.old.items ++ signed_decimal value) }
 {
@@ -32,6 +34,7 @@ fn put_escaped(out: &mut Vec<u8>, byte: u8) -> Result<(), Memory>
     Ok(())
 }
 
+/// Appends the literal of a text, without its quotes.
 pub fn put_text(out: &mut Vec<u8>, text: &[u8]) -> Result<(), Memory>
     ensures { OnOk result (out.new.items ≡ out.old.items ++ literal_body text.now) }
 {
@@ -63,12 +66,14 @@ fn sign_bytes(sign: Sign) -> &'static [u8]
     }
 }
 
+/// Appends an operator.
 pub fn put_sign(out: &mut Vec<u8>, sign: Sign) -> Result<(), Memory>
     ensures { OnOk result (out.new.items ≡ out.old.items ++ sign_text sign) }
 {
     put(out, sign_bytes(sign))
 }
 
+/// Appends the keyword of a kind of values.
 pub fn put_kind(out: &mut Vec<u8>, kind: ValueKind) -> Result<(), Memory>
     ensures { OnOk result (out.new.items ≡ out.old.items ++ kind_text kind) }
 {

@@ -13,9 +13,9 @@ use Rattle.lc_base.specs.declared.row.Row.{Row}
 use Rattle.contract_semantics.specs.declared.site.CallSite.{CallSite}
 use Rattle.contract_semantics.specs.Scenes.{Place, Scene}
 use Rattle.contract_semantics.specs.Steps.{Machine, Step, Done, Failed}
-use Rattle.contract_semantics.specs.Reading.{Taken, block_of}
-use Rattle.contract_semantics.specs.declared.stop.Stop.{Stop}
-use Rattle.contract_semantics.specs.declared.stop.Stop.TheVariants as stops
+use Rattle.contract_semantics.specs.Reading.{BuiltinResult, block_of}
+use Rattle.contract_semantics.specs.declared.stop.EvalStop.{EvalStop}
+use Rattle.contract_semantics.specs.declared.stop.EvalStop.TheVariants as stops
 
 -- What keys hold in a world.
 abbrev pub place_in : {C : Type 0} → Known C → Place
@@ -26,7 +26,7 @@ abbrev pub scene_in : {C : Type 0} → List Row → Known C → CallSite → Sce
 scene_in rows world site = record { rows = rows; place = place_in world; site = site }
 
 -- The answer is this result, unless it is out of memory, or the host failed.
-abbrev pub IsResultOf : {A B : Type 0} → (A → B) → Result B TxStatus → Result A Stop → Type 0
+abbrev pub IsResultOf : {A B : Type 0} → (A → B) → Result B TxStatus → Result A EvalStop → Type 0
 IsResultOf view wanted (Ok x) = wanted ≡ Ok (view x)
 IsResultOf view wanted (Err (stops.Status status)) = wanted ≡ Err status
 IsResultOf view wanted (Err stops.Fault) = Unit {0}
@@ -34,14 +34,14 @@ IsResultOf view wanted (Err stops.Memory) = Unit {0}
 
 -- The answer, and the machine after it, are those of the step, unless it is out of memory, or the
 -- host failed.
-abbrev pub Gives : {A B : Type 0} → (A → B) → Step B → Result A Stop → Machine → Type 0
+abbrev pub Gives : {A B : Type 0} → (A → B) → Step B → Result A EvalStop → Machine → Type 0
 Gives view step (Ok x) m = step ≡ Done (view x) m
 Gives view step (Err (stops.Status status)) m = step ≡ Failed status m
 Gives view step (Err stops.Fault) m = Unit {0}
 Gives view step (Err stops.Memory) m = Unit {0}
 
 -- The answer, and what was read and put by then, are those that were taken.
-abbrev pub Takes : Taken → Result Value Stop → Captured → Type 0
+abbrev pub Takes : BuiltinResult → Result Value EvalStop → Captured → Type 0
 Takes taken (Ok value) c = taken ≡ (Ok value, c)
 Takes taken (Err (stops.Status status)) c = taken ≡ (Err status, c)
 Takes taken (Err stops.Fault) c = Unit {0}
@@ -49,14 +49,14 @@ Takes taken (Err stops.Memory) c = Unit {0}
 
 -- What was read by then is what the read leaves; where it is refused or out of memory, it is as it
 -- was.
-abbrev pub ReadsOrRefuses : {T : Type 0} → Result Captured TxStatus → Captured → Result T Stop → Captured → Type 0
+abbrev pub ReadsOrRefuses : {T : Type 0} → Result Captured TxStatus → Captured → Result T EvalStop → Captured → Type 0
 ReadsOrRefuses wanted old (Ok _) new = wanted ≡ Ok new
 ReadsOrRefuses wanted old (Err (stops.Status status)) new = (wanted ≡ Err status) × (new ≡ old)
 ReadsOrRefuses wanted old (Err stops.Fault) new = ⊥
 ReadsOrRefuses wanted old (Err stops.Memory) new = new ≡ old
 
 -- No host failed.
-abbrev pub IsNoFault : {A : Type 0} → Result A Stop → Type 0
+abbrev pub IsNoFault : {A : Type 0} → Result A EvalStop → Type 0
 IsNoFault (Ok x) = Unit {0}
 IsNoFault (Err (stops.Status status)) = Unit {0}
 IsNoFault (Err stops.Fault) = ⊥
@@ -69,7 +69,7 @@ Charges left charge (Err status) new =
     (nat_le charge left ≡ false) × (status ≡ OutOfSteps) × (new ≡ left)
 
 -- Each read has the version that the key had, and no key was put that the block has written: true
--- whether the host tells its rows or not.
+-- whether the rows of the host are known or not.
 pub record IsFaithful (place : Place) (c : Captured) : Type 0 where
   pub reads : All (λ (read : Read). read.version ≡ block_of (place.newest read.key)) c.reads
   pub puts : All (λ (put : Put). place.written put.key ≡ false) c.puts
@@ -78,10 +78,3 @@ pub record IsFaithful (place : Place) (c : Captured) : Type 0 where
 abbrev pub IsAllowed : {T : Type 0} → Result (List ℕ) TxStatus → List ℕ → Result T TxStatus → Type 0
 IsAllowed wanted key (Ok _) = wanted ≡ Ok key
 IsAllowed wanted key (Err status) = wanted ≡ Err status
-
--- It fails only where it is out of memory.
-abbrev pub IsMemoryOnly : {A : Type 0} → Result A Stop → Type 0
-IsMemoryOnly (Ok x) = Unit {0}
-IsMemoryOnly (Err (stops.Status status)) = ⊥
-IsMemoryOnly (Err stops.Fault) = ⊥
-IsMemoryOnly (Err stops.Memory) = Unit {0}

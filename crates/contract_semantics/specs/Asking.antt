@@ -27,7 +27,7 @@ answer_up_to rows number kind text at =
     and_so (key_of_text text)
     (λ key. and_so (block_before number at) (λ block. Ok (scan rows (question kind key block))))
 
--- The version that is answer_up_to about, where there is one.
+-- The version that is asked about, where there is one.
 abbrev pub version_asked : List Row → ℕ → List ℕ → ℤ → Result (Option Version) TxStatus
 version_asked rows number text at =
     and_so (answer_up_to rows number Hist text at) (λ answer. Ok (version_in answer))
@@ -37,7 +37,7 @@ abbrev pub list_told : Option (List Dep) → Result (List Dep) TxStatus
 list_told None = Err NoKey
 list_told (Some deps) = Ok deps
 
--- The dependencies or the uses of the version that is answer_up_to about.
+-- The dependencies or the uses of the version that is asked about.
 abbrev pub list_asked : List Row → ℕ → Kind → List ℕ → ℤ → Result (List Dep) TxStatus
 list_asked rows number kind text at =
     and_so (answer_up_to rows number kind text at) (λ answer. list_told (list_in answer))
@@ -103,7 +103,7 @@ item_of deps (negsuc n) = Err BadIndex
 abbrev pub item_part_of : Answer → ℤ → Result Dep TxStatus
 item_part_of answer index = and_so (list_told (list_in answer)) (λ deps. item_of deps index)
 
--- The dependency or use at an index of the version that is answer_up_to about.
+-- The dependency or use at an index of the version that is asked about.
 abbrev pub item_asked : List Row → ℕ → Kind → List ℕ → ℤ → ℤ → Result Dep TxStatus
 item_asked rows number kind text at index =
     and_so (answer_up_to rows number kind text at) (λ answer. item_part_of answer index)

@@ -18,7 +18,7 @@ use Rattle.contract_semantics.specs.declared.site.CallSite.{CallSite}
 use Rattle.contract_semantics.specs.Charges.{charge_of}
 use Rattle.contract_semantics.specs.Steps.{Machine, Step, Done, Failed, after_charge, and_so}
 use Rattle.contract_semantics.specs.Scenes.{Scene}
-use Rattle.contract_semantics.specs.Reading.{Taken, int_in, text_in, of_kind, getting, having}
+use Rattle.contract_semantics.specs.Reading.{BuiltinResult, int_in, text_in, of_kind, get_result, has_result}
 use Rattle.contract_semantics.specs.Asking.{version_asked, list_asked, value_told, block_told, tx_told, seen_told, count_told, item_asked, key_value, block_value}
 
 -- ---- arguments
@@ -50,7 +50,7 @@ with_args None next = Err statuses.WrongKind
 with_args (Some x) next = next x
 
 -- The same of a builtin that may read.
-abbrev pub reading_args : {A : Type 0} → Option A → Captured → (A → Taken) → Taken
+abbrev pub reading_args : {A : Type 0} → Option A → Captured → (A → BuiltinResult) → BuiltinResult
 reading_args None c next = (Err statuses.WrongKind, c)
 reading_args (Some x) c next = next x
 
@@ -115,15 +115,15 @@ plain_value rows site b.GetText args = Err statuses.WrongKind
 plain_value rows site b.Has args = Err statuses.WrongKind
 
 -- What a builtin gives, and what was read and put by then.
-abbrev pub builtin_result : Scene → Builtin → List Value → Captured → Taken
-builtin_result s b.GetInt args c = reading_args (one_text args) c (λ text. of_kind int_in (getting s.place text c))
+abbrev pub builtin_result : Scene → Builtin → List Value → Captured → BuiltinResult
+builtin_result s b.GetInt args c = reading_args (one_text args) c (λ text. of_kind int_in (get_result s.place text c))
 builtin_result s b.GetText args c =
-    reading_args (one_text args) c (λ text. of_kind text_in (getting s.place text c))
-builtin_result s b.Has args c = reading_args (one_text args) c (λ text. having s.place text c)
+    reading_args (one_text args) c (λ text. of_kind text_in (get_result s.place text c))
+builtin_result s b.Has args c = reading_args (one_text args) c (λ text. has_result s.place text c)
 builtin_result s builtin args c = (plain_value s.rows s.site builtin args, c)
 
 -- What was taken, as a step.
-abbrev pub taken_step : Taken → Machine → Step Value
+abbrev pub taken_step : BuiltinResult → Machine → Step Value
 taken_step (Ok value, c) m = Done value (record m { capture = c })
 taken_step (Err status, c) m = Failed status (record m { capture = c })
 

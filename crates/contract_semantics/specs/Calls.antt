@@ -53,7 +53,7 @@ pub record CallResult : Type 0 where
   pub outcome : Outcome
   pub capture : Captured
 
--- A call that is refused_call before it begins costs nothing.
+-- A call that is refused before it begins costs nothing.
 abbrev pub refused_call : TxStatus → CallResult
 refused_call status =
     record { outcome = record { status = status; cost = 0 }; capture = captured_none }

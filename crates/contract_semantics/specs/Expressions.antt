@@ -59,7 +59,7 @@ abbrev mutual
       and_then (value_of s variables x m)
       (λ value m. values_of s variables (done ++ value ∷ []) xs m)
 
--- A call of a builtin by its name, once its own part is after_charge.
+-- A call of a builtin by its name, once its own part is charged.
 abbrev pub call_value : Scene → List Variable → List ℕ → Trees → Machine → Step Value
 call_value s variables name args m =
     and_then (values_of s variables [] args m) (λ args m. call_by_name s name args m)
@@ -71,7 +71,7 @@ right_value s variables sign first right m =
     (and_then (value_of s variables right m) (λ second m. step_of_result (binary_result sign first second) m))
     m
 
--- The value of an expression, once its own part is after_charge.
+-- The value of an expression, once its own part is charged.
 abbrev pub node_value : Scene → List Variable → Tree → Machine → Step Value
 node_value s variables (tree.Int at z) m = Done (values.Int z) m
 node_value s variables (tree.Text at text) m = Done (values.Text text) m

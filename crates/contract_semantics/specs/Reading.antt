@@ -16,11 +16,11 @@ use Rattle.contract_semantics.specs.Numbers.{truth}
 use Rattle.contract_semantics.specs.Scenes.{Place}
 
 -- What a builtin gives, or why it fails; and what was read and put by then.
-abbrev pub Taken : Type 0
-Taken = Result Value TxStatus × Captured
+abbrev pub BuiltinResult : Type 0
+BuiltinResult = Result Value TxStatus × Captured
 
 -- What goes on with a result, or the failure, with nothing read.
-abbrev pub and_read : {A : Type 0} → Result A TxStatus → Captured → (A → Taken) → Taken
+abbrev pub and_read : {A : Type 0} → Result A TxStatus → Captured → (A → BuiltinResult) → BuiltinResult
 and_read (Ok x) c next = next x
 and_read (Err status) c next = (Err status, c)
 
@@ -42,25 +42,25 @@ abbrev pub value_of_version : Option Held → Result Value TxStatus
 value_of_version None = Err NoKey
 value_of_version (Some held) = Ok held.value
 
--- A read that is read_result; it is one too many where it is refused.
+-- A read that is recorded; it is one too many where it is refused.
 abbrev pub read_result : Result Captured CaptureError → Result Captured TxStatus
 read_result (Ok c) = Ok c
 read_result (Err error) = Err TooMany
 
--- A read of a key that the block has not written, read_result with the version that the key had.
+-- A read of a key that the block has not written, recorded with the version that the key had.
 abbrev pub captured_by_read : Place → List ℕ → Captured → Result Captured TxStatus
 captured_by_read place key c =
     if place.written key then Err Conflict
     else read_result (captured_after_read c key (block_of (place.newest key)))
 
 -- What the key holds: what the transaction has put, which is no read, or else what is read.
-abbrev pub value_got : Place → List ℕ → Option Value → Captured → Taken
+abbrev pub value_got : Place → List ℕ → Option Value → Captured → BuiltinResult
 value_got place key (Some value) c = (Ok value, c)
 value_got place key None c =
     and_read (captured_by_read place key c) c (λ c. (value_of_version (place.newest key), c))
 
 -- Whether the key holds something.
-abbrev pub is_held : Place → List ℕ → Option Value → Captured → Taken
+abbrev pub is_held : Place → List ℕ → Option Value → Captured → BuiltinResult
 is_held place key (Some value) c = (Ok (values.Int (pos 1)), c)
 is_held place key None c =
     and_read (captured_by_read place key c) c
@@ -77,15 +77,15 @@ text_in (values.Int z) = Err WrongKind
 text_in (values.Text text) = Ok (values.Text text)
 
 -- What was taken, where it is of this kind.
-abbrev pub of_kind : (Value → Result Value TxStatus) → Taken → Taken
+abbrev pub of_kind : (Value → Result Value TxStatus) → BuiltinResult → BuiltinResult
 of_kind kind (result, c) = (and_so result kind, c)
 
 -- The value at the key that a text is.
-abbrev pub getting : Place → List ℕ → Captured → Taken
-getting place text c =
+abbrev pub get_result : Place → List ℕ → Captured → BuiltinResult
+get_result place text c =
     and_read (key_of_text text) c (λ key. value_got place key (pending c.puts key) c)
 
 -- Whether there is a value at the key that a text is.
-abbrev pub having : Place → List ℕ → Captured → Taken
-having place text c =
+abbrev pub has_result : Place → List ℕ → Captured → BuiltinResult
+has_result place text c =
     and_read (key_of_text text) c (λ key. is_held place key (pending c.puts key) c)

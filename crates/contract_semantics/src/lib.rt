@@ -8,5 +8,5 @@ mod variable;
 
 pub use charge::{CHARGE_HISTORY, CHARGE_NODE, CHARGE_PUT, CHARGE_READ, charge_of};
 pub use site::{CallSite, Outcome};
-pub use stop::Stop;
+pub use stop::EvalStop;
 pub use variable::Variable;

@@ -15,7 +15,7 @@ pub struct CallSite {
     pub budget: u32,
 }
 
-/// How a transaction ended, and what it cost.
+/// How a call ended, and what it cost.
 #[derive(Clone, Copy, Debug, PartialEq, Eq)]
 pub struct Outcome {
     /// How it ended.

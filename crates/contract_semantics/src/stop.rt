@@ -1,14 +1,14 @@
 //! Why an evaluation stops.
 
 ghost use Rattle.std.specs.Prelude.{◌≡◌};
-ghost use Rattle.contract_semantics.specs.declared.stop.Stop.TheVariants as stops;
+ghost use Rattle.contract_semantics.specs.declared.stop.EvalStop.TheVariants as stops;
 
 use lc_base::{Memory, TxStatus};
 use std::alloc::{AllocError, AllocFailed};
 
 /// Why an evaluation stopped before its end.
 #[derive(Clone, Copy, Debug, PartialEq, Eq)]
-pub enum Stop {
+pub enum EvalStop {
     /// The transaction fails, with this status.
     Status(TxStatus),
     /// The host failed.
@@ -17,34 +17,34 @@ pub enum Stop {
     Memory,
 }
 
-impl From<TxStatus> for Stop {
+impl From<TxStatus> for EvalStop {
     ghost from_gives = { λ status stop. stop ≡ stops.Status status };
 
-    fn from(status: TxStatus) -> Stop {
-        Stop::Status(status)
+    fn from(status: TxStatus) -> EvalStop {
+        EvalStop::Status(status)
     }
 }
 
-impl From<Memory> for Stop {
+impl From<Memory> for EvalStop {
     ghost from_gives = { λ _ stop. stop ≡ stops.Memory };
 
-    fn from(_memory: Memory) -> Stop {
-        Stop::Memory
+    fn from(_memory: Memory) -> EvalStop {
+        EvalStop::Memory
     }
 }
 
-impl From<AllocError> for Stop {
+impl From<AllocError> for EvalStop {
     ghost from_gives = { λ _ stop. stop ≡ stops.Memory };
 
-    fn from(_error: AllocError) -> Stop {
-        Stop::Memory
+    fn from(_error: AllocError) -> EvalStop {
+        EvalStop::Memory
     }
 }
 
-impl<T: Drop> From<AllocFailed<T>> for Stop {
+impl<T: Drop> From<AllocFailed<T>> for EvalStop {
     ghost from_gives = { λ _ stop. stop ≡ stops.Memory };
 
-    fn from(_error: AllocFailed<T>) -> Stop {
-        Stop::Memory
+    fn from(_error: AllocFailed<T>) -> EvalStop {
+        EvalStop::Memory
     }
 }

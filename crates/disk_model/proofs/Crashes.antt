@@ -1,4 +1,4 @@
--- What a crash leaves of a machine in memory is an image, and how the disk is new_machine again.
+-- What a crash leaves of a machine in memory is an image, and how the disk is made again.
 use Rattle.std.proofs.Common.{◌≡◌, ℕ, zero, suc, ◌+◌, ◌≤◌, List, [], ◌∷◌, length, take, drop, get_or, Bool, true, false, refl, sym, ◌∙◌, ap, subst, arith}
 use Rattle.std.specs.Prelude.{Result, Ok, Err, IfOk, IfSome, vec_len, vec_capacity}
 use Rattle.std.proofs.lemmas.List.{length-take-le, get_or-take}
@@ -78,7 +78,7 @@ total_len_take zero marks = omega arith
 total_len_take (suc n) [] = omega arith
 total_len_take (suc n) (mark ∷ marks) = omega (arith, total_len_take n marks)
 
--- the machine that is new_machine over what is left
+-- the machine that is made over what is left
 pub machine_left : (m : Inside) (moment keep fill : ℕ) (short : Bool) (now : MachineState) (first : List ℕ) (marks : List Mark) (bytes left : List ℕ) → machine_state m ≡ now
     → first ≡ m.first.items → marks ≡ m.marks.items → bytes ≡ m.bytes.items
     → left ≡ crash_image keep fill short (disk_after_calls (settled_disk first) (calls_of (take moment marks) bytes))
@@ -94,7 +94,7 @@ machine_image moment keep fill short now (Ok machine) is =
     subst (λ (m : MachineState). IsImage state (content_now m)) (sym is) (crashed_image keep fill short state (content_is_image now moment state refl))
 machine_image moment keep fill short now (Err e) is = tt
 
--- After some calls are new_machine again, the disk is one from which the calls that are left lead to the
+-- After some calls are made again, the disk is one from which the calls that are left lead to the
 -- last one, and there are bytes and memory for them.
 pub record IsPart (first : List ℕ) (marks : List Mark) (bytes : List ℕ) (number : ℕ) (rest : List ℕ) (disk : Replayed) : Type 0 where
   pub whole : total_len (drop number marks) ≤ length rest

@@ -34,7 +34,7 @@ content_push first calls new mark bytes is =
     ∙ ap (λ (s : DiskState). s.content) (replayed_push (settled_disk first) calls (call_of mark bytes))
     ∙ changed_content (disk_after_calls (settled_disk first) calls) mark bytes
 
--- bytes disk_after_write past the end stand at the end
+-- bytes written past the end stand at the end
 pub overwritten_past : (at : ℕ) (bytes content : List ℕ) → bytes_over (min at (length content)) bytes content ≡ bytes_over at bytes content
 overwritten_past at bytes content = elim (cases_lt (length content) at) [
   | inr within ↦ ap (λ (n : ℕ). bytes_over n bytes content) (omega arith)

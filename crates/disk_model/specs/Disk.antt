@@ -45,7 +45,7 @@ bytes_over at bytes content = take at content ++ bytes ++ drop (at + length byte
 abbrev pub with_pending : ℕ → ℕ → List ℕ → DiskState → DiskState
 with_pending at count content state = record { content = content; synced = state.synced; most = max state.most (at + count); pending = (at, count) ∷ state.pending }
 
--- The disk with these bytes disk_after_write.
+-- The disk with these bytes written at an offset.
 abbrev pub disk_after_write : ℕ → List ℕ → DiskState → DiskState
 disk_after_write at bytes state = with_pending at (length bytes) (bytes_over at bytes state.content) state
 

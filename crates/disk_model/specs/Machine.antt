@@ -7,7 +7,7 @@ use Rattle.disk_model.specs.Disk.{settled_disk, disk_after_write, with_pending}
 
 -- ---- the calls, and what they leave
 
--- A call that took a number, by what it did: bytes disk_after_write at an offset; a write that failed, of an
+-- A call that took a number, by what it did: bytes written at an offset; a write that failed, of an
 -- offset and a length; a sync; bytes told; or nothing, as of a read, or of a call that failed and is
 -- no write.
 pub data Call : Type 0 where
@@ -39,7 +39,7 @@ tells_from number (call ∷ calls) = tells_from (number + 1) calls
 -- ---- the machine
 
 -- A machine in memory: what its disk held at first, with nothing pending, the calls that took a
--- number, the bytes told or disk_after_write so far, the room for both, the numbers of the calls that fail,
+-- number, the bytes told or written so far, the room for both, the numbers of the calls that fail,
 -- and how many calls of the disk and how many tells failed.
 pub record MachineState : Type 0 where
   pub first : List ℕ
@@ -51,7 +51,7 @@ pub record MachineState : Type 0 where
   pub disk_faults : ℕ
   pub wire_faults : ℕ
 
--- A machine over these bytes, with nothing pending, no call new_machine, room for so many calls and bytes,
+-- A machine over these bytes, with nothing pending, no call made, room for so many calls and bytes,
 -- and these calls to fail.
 abbrev pub new_machine : List ℕ → ℕ → ℕ → List ℕ → MachineState
 new_machine first room_calls room_bytes failing = record { first = first; calls = []; bytes = 0; room_calls = room_calls; room_bytes = room_bytes; failing = failing; disk_faults = 0; wire_faults = 0 }
@@ -72,12 +72,13 @@ content_now m = (disk_after_calls (settled_disk m.first) m.calls).content
 abbrev pub tells_of : MachineState → List Tell
 tells_of m = tells_from 0 m.calls
 
+-- All that was told, which is known of a machine in memory.
 abbrev pub told_of : MachineState → Option (List Tell)
 told_of m = Some (tells_of m)
 
 -- ---- what a call does
 
--- Whether a call of so many bytes, told or disk_after_write, fits the room.
+-- Whether a call of so many bytes, told or written, fits the room.
 abbrev pub has_room : MachineState → ℕ → Bool
 has_room m count = nat_lt (length m.calls) m.room_calls && nat_le (m.bytes + count) m.room_bytes
 
@@ -85,7 +86,7 @@ has_room m count = nat_lt (length m.calls) m.room_calls && nat_le (m.bytes + cou
 abbrev pub is_next_failing : MachineState → Bool
 is_next_failing m = is_failing m.failing (length m.calls)
 
--- One more call, of so many bytes told or disk_after_write.
+-- One more call, of so many bytes told or written.
 abbrev pub with_call : Call → ℕ → MachineState → MachineState
 with_call call count m = record m { calls = m.calls ++ call ∷ []; bytes = m.bytes + count }
 
@@ -120,6 +121,7 @@ MakesRead old new result = Makes 0 Idle Idle with_disk_fault old new result
 abbrev pub MakesWrite : {T E : Type 0} → ℕ → List ℕ → MachineState → MachineState → Result T E → Type 0
 MakesWrite at bytes old new result = Makes (length bytes) (Wrote at bytes) (FailedWrite at (length bytes)) with_disk_fault old new result
 
+-- A sync that fails leaves pending what was pending.
 abbrev pub MakesSync : {T E : Type 0} → MachineState → MachineState → Result T E → Type 0
 MakesSync old new result = Makes 0 Synced Idle with_disk_fault old new result
 

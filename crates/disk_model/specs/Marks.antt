@@ -31,10 +31,12 @@ call_of marks.Synced bytes = Synced
 call_of (marks.Told len) bytes = Told bytes
 call_of marks.Idle bytes = Idle
 
+-- The calls that marks stand for, with the bytes of one after those of the other.
 abbrev pub calls_of : List Mark → List ℕ → List Call
 calls_of [] bytes = []
 calls_of (mark ∷ others) bytes = call_of mark (take (kept_len mark) bytes) ∷ calls_of others (drop (kept_len mark) bytes)
 
+-- How many bytes all calls have.
 abbrev pub total_len : List Mark → ℕ
 total_len [] = 0
 total_len (mark ∷ others) = kept_len mark + total_len others

@@ -3,7 +3,7 @@ use Rattle.std.specs.Prelude.{◌≡◌, reverse}
 use Rattle.lc_io.specs.Disk.{DiskState}
 use Rattle.disk_model.specs.declared.crash.Replayed.{Replayed}
 
--- The parts stand for this disk. The writes are kept with the last one after, and its greatest
+-- The parts stand for this disk. The writes are kept in turn, the last one at the end; its greatest
 -- length is not kept.
 pub record IsReplayed (disk : Replayed) (state : DiskState) : Type 0 where
   pub content : disk.content.items ≡ state.content

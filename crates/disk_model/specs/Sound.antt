@@ -31,6 +31,7 @@ all_calls : (state : DiskState) (calls : List Call) → IsImage state state.cont
 all_calls state [] image = image
 all_calls state (call ∷ calls) image = all_calls (after_call state call) calls (one_call state call image)
 
+-- At each moment a crash may leave the content itself.
 pub content_is_image : (m : MachineState) (t : ℕ) (state : DiskState) → disk_of m t ≡ Some state → IsImage state state.content
 content_is_image m t state told =
     let replay : DiskState = disk_after_calls (settled_disk m.first) (take t m.calls) in

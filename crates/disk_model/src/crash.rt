@@ -34,7 +34,7 @@ fn is_over(write: &(u64, usize), offset: u64) -> bool
     at <= offset && offset - at < len as u64
 }
 
-/// Whether any of these writes, the last one after, went over the byte at this offset.
+/// Whether any of these writes, the last one at the end, went over the byte at this offset.
 fn is_pending(pending: &[(u64, usize)], offset: u64) -> bool
     ensures { result ≡ is_pending (reverse pending.now) offset }
 {

@@ -1,5 +1,5 @@
-//! The trait of a disk. As in `lc_io`, a meaning is named by contracts alone, and where an
-//! object does not tell it, a clause on it says only that it stays untold.
+//! The trait of a disk. As in `lc_io`, a meaning is named by contracts alone, and where it is not
+//! known of an object, a clause on it says only that it stays unknown.
 
 ghost use Rattle.std.specs.Prelude.{◌≡◌, ◌≤◌, ◌<◌, ◌+◌, ◌^◌, ℕ, List, length, take, drop, Some, IfOk, IfSome, IsErr};
 ghost use Rattle.lc_base.specs.Faults.{HasCause};

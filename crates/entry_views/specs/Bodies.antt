@@ -15,6 +15,7 @@ use Rattle.entry_views.specs.ShortLists.{short_list_field}
 abbrev body_dep_parts : BodyDep → List ℕ × (ℕ × List ℕ)
 body_dep_parts dep = (dep.key, (dep.block, dep.digest.0))
 
+-- What is read as a dependency of a body is spelled so, and the other way round.
 pub body_dep_field : IsField body_dep_at body_dep_fields IsBodyDep
 unfolding body_dep_at
 body_dep_field =
@@ -24,6 +25,7 @@ body_dep_field =
 abbrev body_parts : Body → Value × List BodyDep
 body_parts body = (body.value, body.deps)
 
+-- What is read as a body is spelled so, and the other way round.
 pub body_field : IsField body_at body_fields IsBody
 unfolding body_at
 body_field =

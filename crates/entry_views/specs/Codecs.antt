@@ -3,6 +3,7 @@ use Rattle.std.specs.Prelude.{ℕ, List}
 use Rattle.byte_fields.specs.Reading.{Field}
 use Rattle.byte_fields.proofs.Laws.{IsField}
 
+-- The spelling of the values of a type, and reading them, which agree.
 pub record Codec (A : Type 0) : Type 1 where
   -- What a value is spelled as.
   pub fields : A → List (List ℕ)

@@ -14,6 +14,7 @@ use Rattle.entry_views.specs.ShortLists.{short_list_field}
 abbrev link_parts : Link → ℕ × List ℕ
 link_parts link = (link.block, link.digest.0)
 
+-- What is read as a link is spelled so, and the other way round.
 pub link_field : IsField link_at link_fields IsLink
 unfolding link_at
 link_field =
@@ -23,6 +24,7 @@ link_field =
 abbrev header_parts : Header → List ℕ × (ℕ × (ℕ × (List ℕ × (ℕ × (List ℕ × List Link)))))
 header_parts header = (header.key, (header.block, (header.tx, (header.body.0, (header.closed, (header.closed_digest.0, header.links))))))
 
+-- What is read as a header is spelled so, and the other way round.
 pub header_field : IsField header_at header_fields IsHeader
 unfolding header_at
 header_field =

@@ -97,6 +97,7 @@ same_nexts : (key : Option (List ℕ)) → (flag_of key ∷ []) ∷ after_flag k
 same_nexts None = refl
 same_nexts (Some key) = refl
 
+-- What is read as the next key of a leaf is spelled so, and the other way round.
 pub next_field : IsField next_at next_fields IsKeyIfAny
 unfolding next_at
 next_field =
@@ -108,6 +109,7 @@ next_field =
 abbrev leaf_parts : Leaf → Option (List ℕ) × (Option (List ℕ) × (ℕ × (List ℕ × (ℕ × List ℕ))))
 leaf_parts leaf = (leaf.key, (leaf.next, (leaf.newest_block, (leaf.newest.0, (leaf.open_count, leaf.open_digest.0)))))
 
+-- What is read as a leaf is spelled so, and the other way round.
 pub leaf_field : IsField leaf_at leaf_fields IsLeaf
 unfolding leaf_at
 leaf_field =

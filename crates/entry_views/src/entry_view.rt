@@ -75,7 +75,7 @@ impl<'p, F: ReadFields<'p>> EntryView<'p, F> {
     {
         let mut reader = Reader::new(tail(bytes, at));
         let fields = F::read(&mut reader);
-        placed(bytes, at, fields, &reader)
+        entry_of_fields(bytes, at, fields, &reader)
     }
 
     /// The entry where a reader stands, and the reader after it.
@@ -90,7 +90,7 @@ impl<'p, F: ReadFields<'p>> EntryView<'p, F> {
 }
 
 /// The entry whose fields a reader read from an offset on.
-fn placed<'p, F: EntryFields>(
+fn entry_of_fields<'p, F: EntryFields>(
     bytes: &'p [u8],
     at: usize,
     fields: Result<F, Fault>,
@@ -102,7 +102,7 @@ fn placed<'p, F: EntryFields>(
     let rest = tail(bytes, at);
     match fields {
         Ok(fields) => {
-            let length = rest.len() - reader.left();
+            let length = rest.len() - reader.remaining();
             Ok(EntryView {
                 fields,
                 bytes: &rest[..length],

@@ -33,6 +33,7 @@ impl<'p> Model for HeaderFields<'p> {
 pub type HeaderView<'p> = EntryView<'p, HeaderFields<'p>>;
 
 impl<'p> EntryView<'p, HeaderFields<'p>> {
+    /// The key of the version.
     pub fn key(&self) -> Key
         ensures { result ≡ self.now.value.key }
     {

@@ -12,7 +12,7 @@ use Rattle.contract_semantics.specs.Scenes.{Place}
 use Rattle.contract_semantics.specs.Reading.{block_of, read_result, captured_by_read}
 use Rattle.contract_semantics.specs.Answers.{IsFaithful}
 
--- what is read_result is one of two
+-- what is recorded is one of two
 of_two : (P : Captured → Type 0) (written known full : Bool) (old pushed new : Captured)
     → cond written (Err Conflict) (read_result (cond known (Ok old) (cond full (Err errors.TooMany) (Ok pushed)))) ≡ Ok new → P old → P pushed → P new
 of_two P true known full old pushed new e is also = absurd cc

@@ -2,8 +2,8 @@
 use Rattle.std.specs.Prelude.{◌≡◌, ◌≤◌, Result, IfSome, IsErrOf}
 use Rattle.lc_base.specs.Faults.{HasCause}
 use Rattle.lc_base.specs.declared.host.Host.{Ghosts as Host}
-use Rattle.contract_semantics.specs.declared.stop.Stop.{Stop}
-use Rattle.contract_semantics.specs.declared.stop.Stop.TheVariants as stops
+use Rattle.contract_semantics.specs.declared.stop.EvalStop.{EvalStop}
+use Rattle.contract_semantics.specs.declared.stop.EvalStop.TheVariants as stops
 use Rattle.contract_semantics.specs.Scenes.{Scene}
 use Rattle.contract_semantics.specs.Steps.{Machine, machine}
 use Rattle.contract_semantics.specs.Answers.{scene_in, place_in, IsFaithful}
@@ -16,15 +16,15 @@ pub record IsLent {C H : Type 0} (old new : Run C H) : Type 0 where
   pub host : new.host.ghost_name ≡ old.host.ghost_name
   pub capture : new.capture.ghost_name ≡ old.capture.ghost_name
 
--- Where the host tells its rows, a part of an evaluation means this: in the scene of these rows, from
+-- Where the rows of the host are known, a part of an evaluation means this: in their scene, from
 -- the machine before it to the machine after it.
 abbrev pub Tells : {C H : Type 0} → Host H → Run C H → Run C H → (Scene → Machine → Machine → Type 0) → Type 0
 Tells host old new Means = IfSome (host.rows old.host.now) (λ rows. Means (scene_in rows old.world.now old.site.now) (machine old.left old.capture.now) (machine new.left new.capture.now))
 
--- What holds whether it tells them or not: the host is the same as before, nothing of the budget is
+-- What holds whether they are known or not: the host is the same as before, nothing of the budget is
 -- paid back, what was read and put keeps to the world, and a fault is told exactly where the host
 -- failed.
-pub record KeepsRun {C H A : Type 0} (host : Host H) (old new : Run C H) (result : Result A Stop) : Type 0 where
+pub record KeepsRun {C H A : Type 0} (host : Host H) (old new : Run C H) (result : Result A EvalStop) : Type 0 where
   pub lent : IsLent old new
   pub same : host.same old.host.now new.host.now
   pub left : new.left ≤ old.left

@@ -14,7 +14,7 @@ use crate::arguments::{one_int, one_text, text_and_int, text_and_ints};
 use crate::reading::{get, has, in_kind};
 use crate::run::Run;
 use crate::wanted::Wanted;
-use contract_semantics::{CallSite, Stop, charge_of};
+use contract_semantics::{CallSite, EvalStop, charge_of};
 use contract_tree::{Builtin, ValueKind};
 use eval_history::{
     Side, block_before, block_told, block_value, count_asked, item_asked, key_of_text, key_value,
@@ -48,7 +48,7 @@ fn version_value(builtin: Builtin, version: Option<Version>) -> Result<Value, Tx
     }
 }
 
-fn item_value(alloc: Global, builtin: Builtin, dep: &Dep) -> Result<Value, Stop>
+fn item_value(alloc: Global, builtin: Builtin, dep: &Dep) -> Result<Value, EvalStop>
     ensures value { IsResultOf (λ value. value) (item_value builtin dep.now) result }
     ensures no_fault { IsNoFault result }
 {
@@ -57,7 +57,7 @@ fn item_value(alloc: Global, builtin: Builtin, dep: &Dep) -> Result<Value, Stop>
         Builtin::FwdKey => key_value(alloc, dep),
         Builtin::BackBlock => Ok(block_value(dep)),
         Builtin::FwdBlock => Ok(block_value(dep)),
-        _ => Err(Stop::Status(TxStatus::WrongKind)),
+        _ => Err(EvalStop::Status(TxStatus::WrongKind)),
     }
 }
 
@@ -68,12 +68,12 @@ fn version_told<H: Host>(
     host: &mut H,
     wanted: Wanted,
     args: &[Value],
-) -> Result<Value, Stop>
+) -> Result<Value, EvalStop>
     requires { H.ready host.old }
     ensures { Asks H.Host host.old host.new (λ value. value) (λ rows. version_told rows number wanted args.now) result }
 {
     let Some((text, at)) = text_and_int(args) else {
-        return Err(Stop::Status(TxStatus::WrongKind));
+        return Err(EvalStop::Status(TxStatus::WrongKind));
     };
     let key = key_of_text(text)?;
     let block = block_before(number, at)?;
@@ -94,12 +94,12 @@ fn item_part<H: Host>(
     side: Side,
     builtin: Builtin,
     args: &[Value],
-) -> Result<Value, Stop>
+) -> Result<Value, EvalStop>
     requires { H.ready host.old }
     ensures { Asks H.Host host.old host.new (λ value. value) (λ rows. item_part rows number (kind_of side) builtin args.now) result }
 {
     match text_and_ints(args) {
-        None => Err(Stop::Status(TxStatus::WrongKind)),
+        None => Err(EvalStop::Status(TxStatus::WrongKind)),
         Some((text, at, index)) => {
             let key = key_of_text(text)?;
             let block = block_before(number, at)?;
@@ -118,17 +118,17 @@ fn text_length(args: &[Value]) -> Result<Value, TxStatus>
     }
 }
 
-fn number_text(alloc: Global, args: &[Value]) -> Result<Value, Stop>
+fn number_text(alloc: Global, args: &[Value]) -> Result<Value, EvalStop>
     ensures value { IsResultOf (λ value. value) (with_args (one_int args.now) (λ z. Ok (values.Text (signed_decimal z)))) result }
     ensures no_fault { IsNoFault result }
 {
     match one_int(args) {
-        None => Err(Stop::Status(TxStatus::WrongKind)),
+        None => Err(EvalStop::Status(TxStatus::WrongKind)),
         Some(number) => Ok(Value::Text(Text::from_number(alloc, number)?)),
     }
 }
 
-fn sender_text(alloc: Global, site: &CallSite) -> Result<Value, Stop>
+fn sender_text(alloc: Global, site: &CallSite) -> Result<Value, EvalStop>
     ensures value { IsResultOf (λ value. value) (Ok (values.Text site.now.sender)) result }
     ensures no_fault { IsNoFault result }
 {
@@ -143,7 +143,7 @@ fn plain_value<H: Host>(
     host: &mut H,
     builtin: Builtin,
     args: &[Value],
-) -> Result<Value, Stop>
+) -> Result<Value, EvalStop>
     requires { H.ready host.old }
     ensures { Asks H.Host host.old host.new (λ value. value) (λ rows. plain_value rows site.now builtin args.now) result }
 {
@@ -169,9 +169,9 @@ fn plain_value<H: Host>(
         Builtin::FwdKey => item_part(alloc, site.number, host, Side::Fwd, builtin, args),
         Builtin::BackBlock => item_part(alloc, site.number, host, Side::Back, builtin, args),
         Builtin::FwdBlock => item_part(alloc, site.number, host, Side::Fwd, builtin, args),
-        Builtin::GetInt => Err(Stop::Status(TxStatus::WrongKind)),
-        Builtin::GetText => Err(Stop::Status(TxStatus::WrongKind)),
-        Builtin::Has => Err(Stop::Status(TxStatus::WrongKind)),
+        Builtin::GetInt => Err(EvalStop::Status(TxStatus::WrongKind)),
+        Builtin::GetText => Err(EvalStop::Status(TxStatus::WrongKind)),
+        Builtin::Has => Err(EvalStop::Status(TxStatus::WrongKind)),
     }
 }
 
@@ -180,7 +180,7 @@ fn builtin_result<C, H: Host>(
     run: &mut Run<C, H>,
     builtin: Builtin,
     args: &[Value],
-) -> Result<Value, Stop>
+) -> Result<Value, EvalStop>
     requires { H.ready run.old.host.now }
     ensures taken { Tells H.Host run.old run.new (λ s m k. Takes (builtin_result s builtin args.now m.capture) result k.capture) }
     ensures left { run.new.left ≡ run.old.left }
@@ -188,15 +188,15 @@ fn builtin_result<C, H: Host>(
 {
     match builtin {
         Builtin::GetInt => match one_text(args) {
-            None => Err(Stop::Status(TxStatus::WrongKind)),
+            None => Err(EvalStop::Status(TxStatus::WrongKind)),
             Some(text) => get(run.alloc, run.world, run.capture, ValueKind::Int, text),
         },
         Builtin::GetText => match one_text(args) {
-            None => Err(Stop::Status(TxStatus::WrongKind)),
+            None => Err(EvalStop::Status(TxStatus::WrongKind)),
             Some(text) => get(run.alloc, run.world, run.capture, ValueKind::Text, text),
         },
         Builtin::Has => match one_text(args) {
-            None => Err(Stop::Status(TxStatus::WrongKind)),
+            None => Err(EvalStop::Status(TxStatus::WrongKind)),
             Some(text) => has(run.world, run.capture, text),
         },
         _ => plain_value(run.alloc, run.site, run.host, builtin, args),
@@ -208,13 +208,13 @@ fn builtin_call<C, H: Host>(
     run: &mut Run<C, H>,
     builtin: Option<Builtin>,
     args: &[Value],
-) -> Result<Value, Stop>
+) -> Result<Value, EvalStop>
     requires { H.ready run.old.host.now }
     ensures step { Tells H.Host run.old run.new (λ s m k. Gives (λ value. value) (builtin_call s builtin args.now m) result k) }
     ensures keeps { KeepsRun H.Host run.old run.new result }
 {
     match builtin {
-        None => Err(Stop::Status(TxStatus::WrongKind)),
+        None => Err(EvalStop::Status(TxStatus::WrongKind)),
         Some(builtin) => {
             charge(&mut run.left, charge_of(builtin))?;
             builtin_result(run, builtin, args)
@@ -232,7 +232,7 @@ pub fn call_by_name<C, H: Host>(
     run: &mut Run<C, H>,
     name: &Name,
     args: &[Value],
-) -> Result<Value, Stop>
+) -> Result<Value, EvalStop>
     requires { H.ready run.old.host.now }
     ensures step { Tells H.Host run.old run.new (λ s m k. Gives (λ value. value) (call_by_name s name.now args.now m) result k) }
     ensures keeps { KeepsRun H.Host run.old run.new result }

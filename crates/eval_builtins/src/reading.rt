@@ -4,12 +4,12 @@ ghost use Rattle.std.specs.Prelude.{◌≡◌, Ok};
 ghost use Rattle.dep_capture.specs.Capture.{pending};
 ghost use Rattle.world_state.specs.World.{newest_of};
 ghost use Rattle.contract_semantics.specs.{
-  Reading.{block_of, value_of_version, captured_by_read, value_got, is_held, of_kind, getting, having},
+  Reading.{block_of, value_of_version, captured_by_read, value_got, is_held, of_kind, get_result, has_result},
   Answers.{place_in, IsResultOf, IsNoFault, Takes, ReadsOrRefuses, IsFaithful},
 };
 ghost use Rattle.eval_builtins.specs.Kinds.{in_kind};
 
-use contract_semantics::Stop;
+use contract_semantics::EvalStop;
 use contract_tree::ValueKind;
 use dep_capture::{Capture, CaptureError};
 use eval_history::key_of_text;
@@ -19,7 +19,7 @@ use std::alloc::Global;
 use world_state::World;
 
 /// The same value again.
-pub fn copy_of(alloc: Global, value: &Value) -> Result<Value, Stop>
+pub fn copy_of(alloc: Global, value: &Value) -> Result<Value, EvalStop>
     ensures value { IsResultOf (λ value. value) (Ok value.now) result }
     ensures no_fault { IsNoFault result }
 {
@@ -47,28 +47,28 @@ fn version_block<C>(world: &World<C>, key: &Key) -> Option<u32>
 }
 
 /// Records the read of a key that the block has not written.
-fn read<C>(world: &World<C>, capture: &mut Capture, key: &Key) -> Result<(), Stop>
+fn read<C>(world: &World<C>, capture: &mut Capture, key: &Key) -> Result<(), EvalStop>
     ensures taken { ReadsOrRefuses (captured_by_read (place_in world.now) key.now capture.old) capture.old result capture.new }
     ensures faithful { IsFaithful (place_in world.now) capture.old → IsFaithful (place_in world.now) capture.new }
     ensures no_fault { IsNoFault result }
 {
     if world.written(key) {
-        return Err(Stop::Status(TxStatus::Conflict));
+        return Err(EvalStop::Status(TxStatus::Conflict));
     }
     match capture.read(*key, version_block(world, key)) {
         Ok(()) => Ok(()),
-        Err(CaptureError::Memory) => Err(Stop::Memory),
-        Err(CaptureError::TooMany) => Err(Stop::Status(TxStatus::TooMany)),
-        Err(CaptureError::NotRead) => Err(Stop::Status(TxStatus::TooMany)),
+        Err(CaptureError::Memory) => Err(EvalStop::Memory),
+        Err(CaptureError::TooMany) => Err(EvalStop::Status(TxStatus::TooMany)),
+        Err(CaptureError::NotRead) => Err(EvalStop::Status(TxStatus::TooMany)),
     }
 }
 
-fn value_of_version<C>(alloc: Global, world: &World<C>, key: &Key) -> Result<Value, Stop>
+fn value_of_version<C>(alloc: Global, world: &World<C>, key: &Key) -> Result<Value, EvalStop>
     ensures value { IsResultOf (λ value. value) (value_of_version (newest_of world.now key.now)) result }
     ensures no_fault { IsNoFault result }
 {
     match world.value(key) {
-        None => Err(Stop::Status(TxStatus::NoKey)),
+        None => Err(EvalStop::Status(TxStatus::NoKey)),
         Some((_, value)) => copy_of(alloc, value),
     }
 }
@@ -78,7 +78,7 @@ fn value_got<C>(
     world: &World<C>,
     capture: &mut Capture,
     key: &Key,
-) -> Result<Value, Stop>
+) -> Result<Value, EvalStop>
     ensures taken { Takes (value_got (place_in world.now) key.now (pending capture.old.puts key.now) capture.old) result capture.new }
     ensures faithful { IsFaithful (place_in world.now) capture.old → IsFaithful (place_in world.now) capture.new }
     ensures no_fault { IsNoFault result }
@@ -92,7 +92,7 @@ fn value_got<C>(
     }
 }
 
-fn is_held<C>(world: &World<C>, capture: &mut Capture, key: &Key) -> Result<Value, Stop>
+fn is_held<C>(world: &World<C>, capture: &mut Capture, key: &Key) -> Result<Value, EvalStop>
     ensures taken { Takes (is_held (place_in world.now) key.now (pending capture.old.puts key.now) capture.old) result capture.new }
     ensures faithful { IsFaithful (place_in world.now) capture.old → IsFaithful (place_in world.now) capture.new }
     ensures no_fault { IsNoFault result }
@@ -113,8 +113,8 @@ pub(crate) fn get<C>(
     capture: &mut Capture,
     kind: ValueKind,
     text: &Text,
-) -> Result<Value, Stop>
-    ensures taken { Takes (of_kind (in_kind kind) (getting (place_in world.now) text.now capture.old)) result capture.new }
+) -> Result<Value, EvalStop>
+    ensures taken { Takes (of_kind (in_kind kind) (get_result (place_in world.now) text.now capture.old)) result capture.new }
     ensures faithful { IsFaithful (place_in world.now) capture.old → IsFaithful (place_in world.now) capture.new }
     ensures no_fault { IsNoFault result }
 {
@@ -124,8 +124,12 @@ pub(crate) fn get<C>(
 }
 
 /// Whether there is a value at the key that a text is: 1 or 0.
-pub(crate) fn has<C>(world: &World<C>, capture: &mut Capture, text: &Text) -> Result<Value, Stop>
-    ensures taken { Takes (having (place_in world.now) text.now capture.old) result capture.new }
+pub(crate) fn has<C>(
+    world: &World<C>,
+    capture: &mut Capture,
+    text: &Text,
+) -> Result<Value, EvalStop>
+    ensures taken { Takes (has_result (place_in world.now) text.now capture.old) result capture.new }
     ensures faithful { IsFaithful (place_in world.now) capture.old → IsFaithful (place_in world.now) capture.new }
     ensures no_fault { IsNoFault result }
 {

@@ -9,7 +9,7 @@ use Rattle.contract_tree.specs.declared.tree.ExprNode.TheOpen as o
 use Rattle.contract_tree.specs.declared.tree.ExprNode.TheVariants.{Binary, rolls-Binary}
 use Rattle.contract_tree.specs.Tree.{Tree, tree_of, node_tree}
 use Rattle.contract_tree.specs.Tree as tree
-use Rattle.contract_semantics.specs.declared.stop.Stop.{Stop}
+use Rattle.contract_semantics.specs.declared.stop.EvalStop.{EvalStop}
 use Rattle.contract_semantics.specs.declared.variable.Variable.{Variable}
 use Rattle.contract_semantics.specs.Scenes.{Scene}
 use Rattle.contract_semantics.specs.Steps.{Machine, Step, Done, and_then}
@@ -28,7 +28,7 @@ unfolding node_at
 binary_tree x sign left right e =
     at_node x ∙ ap (λ node. node_at node x.at) (e ∙ sym (rolls-Binary sign left right)) ∙ ap (λ g. g x.at) (fold-roll-ExprNode (ℕ → Tree) Tree node_tree (λ x. x.node x.at) (o.Binary sign left right))
 
-pub binary_gives : (s : Scene) (variables : List Variable) (x : Expr) (sign : Sign) (left right : Box Expr) (p q : Expr) (m n k : Machine) (first : Value) (result : Result Value Stop)
+pub binary_gives : (s : Scene) (variables : List Variable) (x : Expr) (sign : Sign) (left right : Box Expr) (p q : Expr) (m n k : Machine) (first : Value) (result : Result Value EvalStop)
     → x.node ≡ Binary sign left right → p ≡ left.value → q ≡ right.value
     → value_of s variables (tree_of p) m ≡ Done first n
     → Gives (λ value. value) (right_value s variables sign first (tree_of q) n) result k

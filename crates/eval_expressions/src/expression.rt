@@ -9,7 +9,7 @@ ghost use Rattle.contract_semantics.specs.{
 ghost use Rattle.eval_builtins.specs.Runs.{KeepsRun, Tells};
 ghost use Rattle.eval_expressions.specs.PlainNumbers.{number_found, plain_number};
 
-use contract_semantics::{CHARGE_NODE, Stop};
+use contract_semantics::{CHARGE_NODE, EvalStop};
 use contract_tree::{Expr, ExprNode, Sign};
 use eval_builtins::{Run, call_by_name, charge, copy_of};
 use eval_operators::{binary_result, left_decision, prefix_result};
@@ -18,12 +18,12 @@ use lc_base::{Duplicate, Host, Name, TxStatus, Value};
 use std::alloc::Global;
 
 #[tactic(auto, using(crate::proofs::PlainNumbers::found_is))]
-fn named_value(alloc: Global, variables: &Variables, name: &Name) -> Result<Value, Stop>
+fn named_value(alloc: Global, variables: &Variables, name: &Name) -> Result<Value, EvalStop>
     ensures value { IsResultOf (λ value. value) (value_found (variable_of variables.now name.now)) result }
     ensures no_fault { IsNoFault result }
 {
     match variables.get(name) {
-        None => Err(Stop::Status(TxStatus::WrongKind)),
+        None => Err(EvalStop::Status(TxStatus::WrongKind)),
         Some(value) => copy_of(alloc, value),
     }
 }
@@ -57,7 +57,7 @@ pub fn value<C, H: Host>(
     run: &mut Run<C, H>,
     variables: &Variables,
     x: &Expr,
-) -> Result<Value, Stop>
+) -> Result<Value, EvalStop>
     requires { H.ready run.old.host.now }
     ensures step { Tells H.Host run.old run.new (λ s m k. Gives (λ value. value) (value_of s variables.now (tree_of x.now) m) result k) }
     ensures keeps { KeepsRun H.Host run.old run.new result }
@@ -72,7 +72,7 @@ pub fn value<C, H: Host>(
 /// The value of an expression, once its own part is charged.
 #[cycle(value)]
 #[inline(never)]
-fn node<C, H: Host>(run: &mut Run<C, H>, variables: &Variables, x: &Expr) -> Result<Value, Stop>
+fn node<C, H: Host>(run: &mut Run<C, H>, variables: &Variables, x: &Expr) -> Result<Value, EvalStop>
     requires { H.ready run.old.host.now }
     ensures step { Tells H.Host run.old run.new (λ s m k. Gives (λ value. value) (node_value s variables.now (tree_of x.now) m) result k) }
     ensures keeps { KeepsRun H.Host run.old run.new result }
@@ -105,7 +105,7 @@ fn right<C, H: Host>(
     sign: Sign,
     first: Value,
     x: &Expr,
-) -> Result<Value, Stop>
+) -> Result<Value, EvalStop>
     requires { H.ready run.old.host.now }
     ensures step { Tells H.Host run.old run.new (λ s m k. Gives (λ value. value) (right_value s variables.now sign first (tree_of x.now) m) result k) }
     ensures keeps { KeepsRun H.Host run.old run.new result }
@@ -126,7 +126,7 @@ fn call<C, H: Host>(
     variables: &Variables,
     name: &Name,
     args: &[Expr],
-) -> Result<Value, Stop>
+) -> Result<Value, EvalStop>
     requires { H.ready run.old.host.now }
     ensures step { Tells H.Host run.old run.new (λ s m k. Gives (λ value. value) (call_value s variables.now name.now (trees (map tree_of args.now)) m) result k) }
     ensures keeps { KeepsRun H.Host run.old run.new result }
@@ -141,7 +141,7 @@ pub fn values<C, H: Host>(
     run: &mut Run<C, H>,
     variables: &Variables,
     xs: &[Expr],
-) -> Result<Vec<Value>, Stop>
+) -> Result<Vec<Value>, EvalStop>
     requires { H.ready run.old.host.now }
     ensures step { Tells H.Host run.old run.new (λ s m k. Gives (λ values. values.items) (values_of s variables.now [] (trees (map tree_of xs.now)) m) result k) }
     ensures keeps { KeepsRun H.Host run.old run.new result }

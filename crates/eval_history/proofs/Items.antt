@@ -12,7 +12,7 @@ use Rattle.lc_base.specs.declared.tx_status.TxStatus.{TxStatus}
 use Rattle.lc_base.specs.declared.tx_status.TxStatus.TheVariants.{NoKey, BadIndex}
 use Rattle.lc_base.specs.Parts.{list_in, count_in, item_at, item_in}
 use Rattle.contract_semantics.specs.Steps.{and_so}
-use Rattle.contract_semantics.specs.declared.stop.Stop.TheVariants as stops
+use Rattle.contract_semantics.specs.declared.stop.EvalStop.TheVariants as stops
 use Rattle.contract_semantics.specs.Answers.{IsResultOf}
 use Rattle.contract_semantics.specs.Asking.{list_told, count_told, count_value, index_told, index_found, item_told, item_of, item_part_of}
 

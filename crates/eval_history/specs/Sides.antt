@@ -4,8 +4,8 @@ use Rattle.lc_base.specs.declared.answer.Kind.{Kind}
 use Rattle.lc_base.specs.declared.answer.Kind.TheVariants as kinds
 use Rattle.lc_base.specs.declared.host_error.HostError.{HostError}
 use Rattle.lc_base.specs.declared.host_error.HostError.TheVariants as errors
-use Rattle.contract_semantics.specs.declared.stop.Stop.{Stop}
-use Rattle.contract_semantics.specs.declared.stop.Stop.TheVariants as stops
+use Rattle.contract_semantics.specs.declared.stop.EvalStop.{EvalStop}
+use Rattle.contract_semantics.specs.declared.stop.EvalStop.TheVariants as stops
 use Rattle.eval_history.specs.declared.side.Side.{Side}
 use Rattle.eval_history.specs.declared.side.Side.TheVariants.{Back, Fwd}
 
@@ -20,7 +20,7 @@ room_of Back = 2 ^ 32
 room_of Fwd = 2 ^ 63
 
 -- What a host gave, or why it gave nothing.
-abbrev pub host_answer : {A : Type 0} → Result A HostError → Result A Stop
+abbrev pub host_answer : {A : Type 0} → Result A HostError → Result A EvalStop
 host_answer (Ok told) = Ok told
 host_answer (Err errors.Fault) = Err stops.Fault
 host_answer (Err errors.Memory) = Err stops.Memory

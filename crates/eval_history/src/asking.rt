@@ -16,7 +16,7 @@ ghost use Rattle.contract_semantics.specs.{
 ghost use Rattle.eval_history.specs.Sides.{kind_of, room_of, host_answer};
 
 use crate::side::Side;
-use contract_semantics::Stop;
+use contract_semantics::EvalStop;
 use eval_operators::truth;
 use lc_base::{Dep, Host, HostError, Key, Text, TxStatus, Value, Version};
 use std::alloc::Global;
@@ -84,7 +84,7 @@ pub fn seen_told(version: Option<Version>) -> Value
 // ---- what is told of an item of a list
 
 /// Its key, as a text.
-pub fn key_value(alloc: Global, dep: &Dep) -> Result<Value, Stop>
+pub fn key_value(alloc: Global, dep: &Dep) -> Result<Value, EvalStop>
     ensures value { IsResultOf (λ value. value) (key_value dep.now) result }
     ensures no_fault { IsNoFault result }
 {
@@ -114,13 +114,13 @@ fn index_below(count: u64, index: i64) -> Option<u64>
 // ---- questions
 
 /// What a host gave, or why it gave nothing.
-fn host_answer<T>(given: Result<T, HostError>) -> Result<T, Stop>
+fn host_answer<T>(given: Result<T, HostError>) -> Result<T, EvalStop>
     ensures { result ≡ host_answer given }
 {
     match given {
         Ok(told) => Ok(told),
-        Err(HostError::Fault) => Err(Stop::Fault),
-        Err(HostError::Memory) => Err(Stop::Memory),
+        Err(HostError::Fault) => Err(EvalStop::Fault),
+        Err(HostError::Memory) => Err(EvalStop::Memory),
     }
 }
 
@@ -130,7 +130,7 @@ pub fn version_asked<H: Host>(
     host: &mut H,
     key: &Key,
     block: u32,
-) -> Result<Option<Version>, Stop>
+) -> Result<Option<Version>, EvalStop>
     requires { H.ready host.old }
     ensures { Asks H.Host host.old host.new (λ version. version) (λ rows. Ok (version_in (scan rows (question Hist key.now block)))) result }
 {
@@ -140,7 +140,12 @@ pub fn version_asked<H: Host>(
 // ---- how many dependencies or uses
 
 #[tactic(auto, unfolding(crate::specs::Sides::kind_of))]
-fn count_of<H: Host>(host: &mut H, side: Side, key: &Key, block: u32) -> Result<Option<u64>, Stop>
+fn count_of<H: Host>(
+    host: &mut H,
+    side: Side,
+    key: &Key,
+    block: u32,
+) -> Result<Option<u64>, EvalStop>
     requires { H.ready host.old }
     ensures asked { Asks H.Host host.old host.new (λ count. count) (λ rows. Ok (count_in (scan rows (question (kind_of side) key.now block)))) result }
     ensures bound { IfOk result (λ count. IfSome count (λ n. n < room_of side)) }
@@ -166,7 +171,12 @@ fn count_value(count: Option<u64>) -> Result<Value, TxStatus>
 
 /// The number of dependencies or of uses of the version of a key up to a block.
 #[tactic(auto, using(crate::proofs::Items::count_is))]
-pub fn count_asked<H: Host>(host: &mut H, side: Side, key: &Key, block: u32) -> Result<Value, Stop>
+pub fn count_asked<H: Host>(
+    host: &mut H,
+    side: Side,
+    key: &Key,
+    block: u32,
+) -> Result<Value, EvalStop>
     requires { H.ready host.old }
     ensures { Asks H.Host host.old host.new (λ value. value) (λ rows. and_so (list_told (list_in (scan rows (question (kind_of side) key.now block)))) count_told) result }
 {
@@ -183,7 +193,7 @@ fn item_at<H: Host>(
     key: &Key,
     block: u32,
     index: u64,
-) -> Result<Option<Dep>, Stop>
+) -> Result<Option<Dep>, EvalStop>
     requires ready { H.ready host.old }
     requires below { index < room_of side }
     ensures { Asks H.Host host.old host.new (λ dep. dep) (λ rows. Ok (item_in index (scan rows (question (kind_of side) key.now block)))) result }
@@ -223,13 +233,13 @@ pub fn item_asked<H: Host>(
     key: &Key,
     block: u32,
     index: i64,
-) -> Result<Dep, Stop>
+) -> Result<Dep, EvalStop>
     requires { H.ready host.old }
     ensures { Asks H.Host host.old host.new (λ dep. dep) (λ rows. item_part_of (scan rows (question (kind_of side) key.now block)) index) result }
 {
     let count = count_of(host, side, key, block)?;
     match index_told(count, index) {
-        Err(status) => Err(Stop::Status(status)),
+        Err(status) => Err(EvalStop::Status(status)),
         Ok(index) => {
             let dep = item_at(host, side, key, block, index)?;
             Ok(item_told(dep)?)

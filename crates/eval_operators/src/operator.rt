@@ -7,7 +7,7 @@ ghost use Rattle.contract_semantics.specs.{
 };
 
 use crate::number::{difference, negation, product, quotient, remainder, sum, truth};
-use contract_semantics::Stop;
+use contract_semantics::EvalStop;
 use contract_tree::Sign;
 use lc_base::{Memory, Text, TxStatus, Value};
 use std::alloc::Global;
@@ -43,7 +43,7 @@ fn on_ints(sign: Sign, a: i64, b: i64) -> Result<Value, TxStatus>
     }
 }
 
-fn on_texts(alloc: Global, sign: Sign, a: &Text, b: &Text) -> Result<Value, Stop>
+fn on_texts(alloc: Global, sign: Sign, a: &Text, b: &Text) -> Result<Value, EvalStop>
     ensures value { IsResultOf (λ value. value) (on_texts sign a.now b.now) result }
     ensures no_fault { IsNoFault result }
 {
@@ -52,10 +52,10 @@ fn on_texts(alloc: Global, sign: Sign, a: &Text, b: &Text) -> Result<Value, Stop
         Sign::NotEqual => Ok(Value::Int(truth(a.as_bytes() != b.as_bytes()))),
         Sign::Concat => match a.join(alloc, b) {
             Ok(Some(text)) => Ok(Value::Text(text)),
-            Ok(None) => Err(Stop::Status(TxStatus::TextTooLong)),
-            Err(Memory) => Err(Stop::Memory),
+            Ok(None) => Err(EvalStop::Status(TxStatus::TextTooLong)),
+            Err(Memory) => Err(EvalStop::Memory),
         },
-        _ => Err(Stop::Status(TxStatus::WrongKind)),
+        _ => Err(EvalStop::Status(TxStatus::WrongKind)),
     }
 }
 
@@ -70,14 +70,14 @@ pub fn binary_result(
     sign: Sign,
     first: &Value,
     second: &Value,
-) -> Result<Value, Stop>
+) -> Result<Value, EvalStop>
     ensures value { IsResultOf (λ value. value) (binary_result sign first.now second.now) result }
     ensures no_fault { IsNoFault result }
 {
     match (first, second) {
         (Value::Int(a), Value::Int(b)) => Ok(on_ints(sign, *a, *b)?),
         (Value::Text(a), Value::Text(b)) => on_texts(alloc, sign, a, b),
-        _ => Err(Stop::Status(TxStatus::WrongKind)),
+        _ => Err(EvalStop::Status(TxStatus::WrongKind)),
     }
 }
 

@@ -9,7 +9,7 @@ ghost use Rattle.contract_semantics.specs.{
   Answers.{place_in, IsResultOf, IsNoFault, IsAllowed, ReadsOrRefuses, IsFaithful},
 };
 
-use contract_semantics::Stop;
+use contract_semantics::EvalStop;
 use dep_capture::{Capture, CaptureError, MAX_KEYS_PUT};
 use eval_history::key_of_text;
 use lc_base::{Key, KeyList, Name, TxStatus, Value};
@@ -34,7 +34,7 @@ fn key_in(value: &Value) -> Result<Key, TxStatus>
     }
 }
 
-fn keys_in(alloc: Global, values: &[Value]) -> Result<KeyList, Stop>
+fn keys_in(alloc: Global, values: &[Value]) -> Result<KeyList, EvalStop>
     ensures keys { IsResultOf (λ keys. keys) (keys_in [] values.now) result }
     ensures no_fault { IsNoFault result }
 {
@@ -55,7 +55,7 @@ fn is_one_too_many(capture: &Capture, key: &Key) -> bool
     }
 }
 
-fn named_keys(alloc: Global, parts: Option<Vec<Value>>) -> Result<Option<KeyList>, Stop>
+fn named_keys(alloc: Global, parts: Option<Vec<Value>>) -> Result<Option<KeyList>, EvalStop>
     ensures keys { IsResultOf (λ keys. keys) (named_keys (option_map (λ values. values.items) parts)) result }
     ensures no_fault { IsNoFault result }
 {
@@ -93,16 +93,16 @@ fn record_put(
     key: &Key,
     value: Value,
     named: Option<&KeyList>,
-) -> Result<(), Stop>
+) -> Result<(), EvalStop>
     ensures put { ReadsOrRefuses (put_recorded (captured_after_put capture.old key.now value (option_copied named.entry))) capture.old result capture.new }
     ensures faithful { (place : Place) → place.written key.now ≡ false → IsFaithful place capture.old → IsFaithful place capture.new }
     ensures no_fault { IsNoFault result }
 {
     match capture.put(*key, value, named) {
         Ok(()) => Ok(()),
-        Err(CaptureError::NotRead) => Err(Stop::Status(TxStatus::NotRead)),
-        Err(CaptureError::TooMany) => Err(Stop::Status(TxStatus::TooMany)),
-        Err(CaptureError::Memory) => Err(Stop::Memory),
+        Err(CaptureError::NotRead) => Err(EvalStop::Status(TxStatus::NotRead)),
+        Err(CaptureError::TooMany) => Err(EvalStop::Status(TxStatus::TooMany)),
+        Err(CaptureError::Memory) => Err(EvalStop::Memory),
     }
 }
 
@@ -120,7 +120,7 @@ pub fn put<C>(
     key: &Value,
     value: Value,
     parts: Option<Vec<Value>>,
-) -> Result<(), Stop>
+) -> Result<(), EvalStop>
     ensures put { ReadsOrRefuses (captured_by_put contract.now (place_in world.now) key.now value (option_map (λ values. values.items) parts) capture.old) capture.old result capture.new }
     ensures faithful { IsFaithful (place_in world.now) capture.old → IsFaithful (place_in world.now) capture.new }
     ensures no_fault { IsNoFault result }

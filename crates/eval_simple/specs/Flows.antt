@@ -1,8 +1,8 @@
 -- What the statements of the program answer, for their definition.
 use Rattle.std.specs.Prelude.{◌≡◌, List, Result, Ok, Err}
 use Rattle.contract_semantics.specs.declared.variable.Variable.{Variable}
-use Rattle.contract_semantics.specs.declared.stop.Stop.{Stop}
-use Rattle.contract_semantics.specs.declared.stop.Stop.TheVariants as stops
+use Rattle.contract_semantics.specs.declared.stop.EvalStop.{EvalStop}
+use Rattle.contract_semantics.specs.declared.stop.EvalStop.TheVariants as stops
 use Rattle.contract_semantics.specs.Steps.{Machine, Step, Done, Failed}
 use Rattle.contract_semantics.specs.Statements.{Ending, Goes, Returns}
 use Rattle.eval_simple.specs.declared.flow.Flow.{Flow}
@@ -10,7 +10,7 @@ use Rattle.eval_simple.specs.declared.flow.Flow.TheVariants as flows
 
 -- The answer, and the variables and the machine after it, are those of the step, unless it is out
 -- of memory, or the host failed.
-abbrev pub Flows : Step Ending → Result Flow Stop → List Variable → Machine → Type 0
+abbrev pub Flows : Step Ending → Result Flow EvalStop → List Variable → Machine → Type 0
 Flows step (Ok flows.Goes) variables m = step ≡ Done (Goes variables) m
 Flows step (Ok flows.Returns) variables m = step ≡ Done Returns m
 Flows step (Err (stops.Status status)) variables m = step ≡ Failed status m

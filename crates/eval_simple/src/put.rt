@@ -11,7 +11,7 @@ ghost use Rattle.eval_builtins.specs.Runs.{KeepsRun, Tells};
 ghost use Rattle.eval_simple.specs.Flows.{Flows};
 
 use crate::flow::Flow;
-use contract_semantics::{CHARGE_NODE, CHARGE_PUT, Stop};
+use contract_semantics::{CHARGE_NODE, CHARGE_PUT, EvalStop};
 use contract_tree::{Expr, ExprList};
 use eval_builtins::{Run, charge};
 use eval_expressions::{value, values};
@@ -24,7 +24,7 @@ fn parts_values<C, H: Host>(
     run: &mut Run<C, H>,
     variables: &Variables,
     parts: &Option<ExprList>,
-) -> Result<Option<Vec<Value>>, Stop>
+) -> Result<Option<Vec<Value>>, EvalStop>
     requires { H.ready run.old.host.now }
     ensures step { Tells H.Host run.old run.new (λ s m k. Gives (option_map (λ values. values.items)) (parts_values s variables.now (parts_of parts.now) m) result k) }
     ensures keeps { KeepsRun H.Host run.old run.new result }
@@ -45,7 +45,7 @@ fn put_end<C, H: Host>(
     key: &Value,
     value: Value,
     parts: Option<Vec<Value>>,
-) -> Result<Flow, Stop>
+) -> Result<Flow, EvalStop>
     requires { H.ready run.old.host.now }
     ensures step { Tells H.Host run.old run.new (λ s m k. Flows (put_end s.site.contract s.place key.now value (option_map (λ values. values.items) parts) variables.now m) result variables.now k) }
     ensures keeps { KeepsRun H.Host run.old run.new result }
@@ -70,7 +70,7 @@ fn put_of_values<C, H: Host>(
     key: Value,
     value: Value,
     parts: &Option<ExprList>,
-) -> Result<Flow, Stop>
+) -> Result<Flow, EvalStop>
     requires { H.ready run.old.host.now }
     ensures step { Tells H.Host run.old run.new (λ s m k. Flows (put_of_values s key value (parts_of parts.now) variables.now m) result variables.now k) }
     ensures keeps { KeepsRun H.Host run.old run.new result }
@@ -86,7 +86,7 @@ fn put_of_key<C, H: Host>(
     key: Value,
     x: &Expr,
     parts: &Option<ExprList>,
-) -> Result<Flow, Stop>
+) -> Result<Flow, EvalStop>
     requires { H.ready run.old.host.now }
     ensures step { Tells H.Host run.old run.new (λ s m k. Flows (put_of_key s key (tree_of x.now) (parts_of parts.now) variables.now m) result variables.now k) }
     ensures keeps { KeepsRun H.Host run.old run.new result }
@@ -102,7 +102,7 @@ pub fn put_statement<C, H: Host>(
     key: &Expr,
     x: &Expr,
     parts: &Option<ExprList>,
-) -> Result<Flow, Stop>
+) -> Result<Flow, EvalStop>
     requires { H.ready run.old.host.now }
     ensures step { Tells H.Host run.old run.new (λ s m k. Flows (put_run s (tree_of key.now) (tree_of x.now) (parts_of parts.now) variables.now m) result variables.now k) }
     ensures keeps { KeepsRun H.Host run.old run.new result }

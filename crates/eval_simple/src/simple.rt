@@ -16,7 +16,7 @@ ghost use Rattle.eval_simple.specs.{Bindings.{bind_run}, Flows.{Flows}};
 
 use crate::binding::Binding;
 use crate::flow::Flow;
-use contract_semantics::{CHARGE_NODE, Stop};
+use contract_semantics::{CHARGE_NODE, EvalStop};
 use contract_tree::Expr;
 use eval_builtins::{Run, charge};
 use eval_expressions::value;
@@ -30,7 +30,7 @@ pub fn condition_step<C, H: Host>(
     run: &mut Run<C, H>,
     variables: &Variables,
     test: &Expr,
-) -> Result<bool, Stop>
+) -> Result<bool, EvalStop>
     requires { H.ready run.old.host.now }
     ensures step { Tells H.Host run.old run.new (λ s m k. Gives (λ holds. holds) (condition_step s (tree_of test.now) variables.now m) result k) }
     ensures keeps { KeepsRun H.Host run.old run.new result }
@@ -47,7 +47,7 @@ pub fn bind_statement<C, H: Host>(
     binding: Binding,
     name: &Name,
     x: &Expr,
-) -> Result<Flow, Stop>
+) -> Result<Flow, EvalStop>
     requires { H.ready run.old.host.now }
     ensures step { Tells H.Host run.old run.new (λ s m k. Flows (bind_run s binding name.now (tree_of x.now) variables.old m) result variables.new k) }
     ensures keeps { KeepsRun H.Host run.old run.new result }
@@ -62,17 +62,17 @@ pub fn bind_statement<C, H: Host>(
 }
 
 /// `fail;`
-pub fn fail_statement(left: &mut u32) -> Result<Flow, Stop>
+pub fn fail_statement(left: &mut u32) -> Result<Flow, EvalStop>
     ensures step { (variables : List Variable) (c : Captured) → Flows (after_charge CHARGE_NODE (machine left.old c) (λ m. Failed statuses.Failed m)) result variables (machine left.new c) }
     ensures left { left.new ≤ left.old }
     ensures no_fault { IsNoFault result }
 {
     charge(left, CHARGE_NODE)?;
-    Err(Stop::Status(TxStatus::Failed))
+    Err(EvalStop::Status(TxStatus::Failed))
 }
 
 /// `return;`
-pub fn return_statement(left: &mut u32) -> Result<Flow, Stop>
+pub fn return_statement(left: &mut u32) -> Result<Flow, EvalStop>
     ensures step { (variables : List Variable) (c : Captured) → Flows (after_charge CHARGE_NODE (machine left.old c) (λ m. Done Returns m)) result variables (machine left.new c) }
     ensures left { left.new ≤ left.old }
     ensures no_fault { IsNoFault result }

@@ -2,8 +2,8 @@
 use Rattle.std.proofs.Common.{◌≡◌, ℕ, suc, ◌+◌, ◌-◌, ◌<◌, ◌≤◌, List, Option, Some, Result, Ok, Err, refl, sym, ap, ◌∙◌, subst, arith}
 use Rattle.lc_base.specs.declared.tx_status.TxStatus.TheVariants.{OutOfSteps}
 use Rattle.contract_semantics.specs.declared.variable.Variable.{Variable}
-use Rattle.contract_semantics.specs.declared.stop.Stop.{Stop}
-use Rattle.contract_semantics.specs.declared.stop.Stop.TheVariants as kinds
+use Rattle.contract_semantics.specs.declared.stop.EvalStop.{EvalStop}
+use Rattle.contract_semantics.specs.declared.stop.EvalStop.TheVariants as kinds
 use Rattle.contract_semantics.specs.Scenes.{Scene}
 use Rattle.contract_semantics.specs.Steps.{Machine, Step, Done, Failed, and_then}
 use Rattle.contract_semantics.specs.Statements.{Ending, Turn, Again, turns, after_turn}
@@ -23,7 +23,7 @@ unfolding turns
 no_turn n i turn variables m le = let k : n - i ≡ 0 = omega arith in rw k refl
 
 -- a turn in a scene that is the same
-pub turn_moved : (turn : Scene → List Variable → Machine → Step Turn) (s t : Scene) (variables others : List Variable) (m k : Machine) (result : Result (Option Flow) Stop) → s ≡ t → Turns (turn s variables m) result others k → Turns (turn t variables m) result others k
+pub turn_moved : (turn : Scene → List Variable → Machine → Step Turn) (s t : Scene) (variables others : List Variable) (m k : Machine) (result : Result (Option Flow) EvalStop) → s ≡ t → Turns (turn s variables m) result others k → Turns (turn t variables m) result others k
 turn_moved turn s t variables others m k result same at = subst (λ (s : Scene). Turns (turn s variables m) result others k) same at
 
 -- what a turn means for the whole loop
@@ -31,7 +31,7 @@ pub one_more : (n i : ℕ) (turn : List Variable → Machine → Step Turn) (var
     → turns (n - (i + 1)) turn others k ≡ total
 one_more n i turn variables others m k total lt so_far at = sym (next_turn n i turn variables m lt ∙ ap (λ step. and_then step (after_turn (turns (n - (i + 1)) turn))) at) ∙ so_far
 
-pub stops : (n i : ℕ) (turn : List Variable → Machine → Step Turn) (variables others : List Variable) (m k : Machine) (total : Step Ending) (stop : Stop) → i < n → turns (n - i) turn variables m ≡ total → Turns (turn variables m) (Err stop) others k
+pub stops : (n i : ℕ) (turn : List Variable → Machine → Step Turn) (variables others : List Variable) (m k : Machine) (total : Step Ending) (stop : EvalStop) → i < n → turns (n - i) turn variables m ≡ total → Turns (turn variables m) (Err stop) others k
     → Flows total (Err stop) others k
 stops n i turn variables others m k total (kinds.Status s) lt so_far at = sym so_far ∙ next_turn n i turn variables m lt ∙ ap (λ step. and_then step (after_turn (turns (n - (i + 1)) turn))) at
 stops n i turn variables others m k total kinds.Fault lt so_far at = tt

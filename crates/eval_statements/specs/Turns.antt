@@ -1,8 +1,8 @@
 -- How turns of a loop end in the program, for their definition.
 use Rattle.std.specs.Prelude.{◌≡◌, List, Option, Some, None, Result, Ok, Err}
 use Rattle.contract_semantics.specs.declared.variable.Variable.{Variable}
-use Rattle.contract_semantics.specs.declared.stop.Stop.{Stop}
-use Rattle.contract_semantics.specs.declared.stop.Stop.TheVariants as stops
+use Rattle.contract_semantics.specs.declared.stop.EvalStop.{EvalStop}
+use Rattle.contract_semantics.specs.declared.stop.EvalStop.TheVariants as stops
 use Rattle.contract_semantics.specs.Steps.{Machine, Step, Done, Failed}
 use Rattle.contract_semantics.specs.Statements.{Goes, Returns, Turn, Again, Ended}
 use Rattle.eval_simple.specs.declared.flow.Flow.{Flow}
@@ -11,7 +11,7 @@ use Rattle.eval_simple.specs.declared.flow.Flow.TheVariants as flows
 -- The answer of a turn of a loop, and the variables and the machine after it, are those of the
 -- step, unless it is out of memory, or the host failed. Where no flow is answered, another turn
 -- comes.
-abbrev pub Turns : Step Turn → Result (Option Flow) Stop → List Variable → Machine → Type 0
+abbrev pub Turns : Step Turn → Result (Option Flow) EvalStop → List Variable → Machine → Type 0
 Turns step (Ok None) variables m = step ≡ Done (Again variables) m
 Turns step (Ok (Some flows.Goes)) variables m = step ≡ Done (Ended (Goes variables)) m
 Turns step (Ok (Some flows.Returns)) variables m = step ≡ Done (Ended Returns) m

@@ -7,7 +7,7 @@ ghost use Rattle.eval_builtins.specs.Runs.{KeepsRun, Tells};
 ghost use Rattle.eval_simple.specs.Flows.{Flows};
 ghost use Rattle.eval_statements.specs.Turns.{Turns};
 
-use contract_semantics::Stop;
+use contract_semantics::EvalStop;
 use contract_tree::{Expr, Form, Statement};
 use eval_builtins::Run;
 use eval_simple::{
@@ -22,7 +22,7 @@ fn statement<C, H: Host>(
     run: &mut Run<C, H>,
     variables: &mut Variables,
     x: &Statement,
-) -> Result<Flow, Stop>
+) -> Result<Flow, EvalStop>
     requires { H.ready run.old.host.now }
     ensures step { Tells H.Host run.old run.new (λ s m k. Flows (statement_run s (statement_of x.now) variables.old m) result variables.new k) }
     ensures keeps { KeepsRun H.Host run.old run.new result }
@@ -52,7 +52,7 @@ fn branch<C, H: Host>(
     variables: &mut Variables,
     x: &Statement,
     chosen: bool,
-) -> Result<Flow, Stop>
+) -> Result<Flow, EvalStop>
     requires { H.ready run.old.host.now }
     ensures step { Tells H.Host run.old run.new (λ s m k. Flows (branch_run s (statement_of x.now) chosen variables.old m) result variables.new k) }
     ensures keeps { KeepsRun H.Host run.old run.new result }
@@ -80,7 +80,7 @@ fn turn<C, H: Host>(
     variables: &mut Variables,
     body: &[Statement],
     test: &Expr,
-) -> Result<Option<Flow>, Stop>
+) -> Result<Option<Flow>, EvalStop>
     requires { H.ready run.old.host.now }
     ensures step { Tells H.Host run.old run.new (λ s m k. Turns (loop_turn s (tree_of test.now) (statements_run s (statement_list (map statement_of body.now))) variables.old m) result variables.new k) }
     ensures keeps { KeepsRun H.Host run.old run.new result }
@@ -102,7 +102,7 @@ fn turns<C, H: Host>(
     variables: &mut Variables,
     body: &[Statement],
     test: &Expr,
-) -> Result<Flow, Stop>
+) -> Result<Flow, EvalStop>
     requires { H.ready run.old.host.now }
     ensures step { Tells H.Host run.old run.new (λ s m k. Flows (loop_run s (tree_of test.now) (statement_list (map statement_of body.now)) m.left variables.old m) result variables.new k) }
     ensures keeps { KeepsRun H.Host run.old run.new result }
@@ -115,7 +115,7 @@ fn turns<C, H: Host>(
             Ok(None) => {}
         }
     }
-    Err(Stop::Status(TxStatus::OutOfSteps))
+    Err(EvalStop::Status(TxStatus::OutOfSteps))
 }
 
 /// A block: its statements, one after another, whose names end with it.
@@ -124,7 +124,7 @@ pub fn block<C, H: Host>(
     run: &mut Run<C, H>,
     variables: &mut Variables,
     body: &[Statement],
-) -> Result<Flow, Stop>
+) -> Result<Flow, EvalStop>
     requires { H.ready run.old.host.now }
     ensures step { Tells H.Host run.old run.new (λ s m k. Flows (block_run s (statement_list (map statement_of body.now)) variables.old m) result variables.new k) }
     ensures keeps { KeepsRun H.Host run.old run.new result }

@@ -1,5 +1,5 @@
 //! The edge over a real file and a writer. No contract can name what they hold, so what a machine
-//! over them holds and was told stays untold.
+//! over them holds and was told is not known.
 //! Of a writer whose bytes std knows, such as a vector in memory, the clause `writer` says what
 //! becomes of them.
 

@@ -10,6 +10,7 @@ use Rattle.lc_io.specs.declared.mem_wire.Mark.{Mark}
 abbrev pub piece_at : List ℕ → Mark → Tell
 piece_at bytes mark = record { at = mark.at; bytes = slice_range bytes mark.start mark.end }
 
+-- The pieces that marks name.
 abbrev pub pieces : List ℕ → List Mark → List Tell
 pieces bytes marks = map (piece_at bytes) marks
 

@@ -4,7 +4,7 @@ use Rattle.std.specs.List.{concat}
 
 -- ---- what a source has left, where that is known
 
--- These bytes, then what is told to be left.
+-- These bytes, then what is known to be left.
 abbrev pub prepend : List ℕ → Option (List ℕ) → Option (List ℕ)
 prepend bytes None = None
 prepend bytes (Some left) = Some (bytes ++ left)

@@ -1,5 +1,5 @@
 //! The edges over real streams, whose bytes no contract can name: what they are told and what is
-//! left stay untold.
+//! left is not known.
 //! Of a stream whose bytes std knows, such as a slice or a vector in memory, the clauses `reader`
 //! and `writer` say what becomes of them.
 

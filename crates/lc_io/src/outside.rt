@@ -1,7 +1,7 @@
 //! The traits of the outside. A meaning of an object is named by contracts alone; the program knows
 //! of it what calls answer.
-//! An optional meaning is `None` where the object does not tell it, and a clause on it then says
-//! only that it stays untold.
+//! An optional meaning is `None` where it is not known of the object, and a clause on it then says
+//! only that it stays unknown.
 
 ghost use Rattle.std.specs.Prelude.{◌≡◌, ℕ, ◌<◌, ◌≤◌, List, length, Option, IfOk, IsErr};
 ghost use Rattle.lc_io.specs.{Disk.{DiskState, Stays}, Outside.{Pulls, Tell, Tells}};

@@ -12,13 +12,13 @@ use Rattle.forward_links.specs.declared.open_list.OpenList.{OpenList}
 use Rattle.forward_links.specs.Lists.{open_of}
 use Rattle.lineage_index.specs.Growth.{list_after_rows, is_of_key}
 use Rattle.lineage_index.specs.Heads.{AreHeads, open_list}
-use Rattle.lineage_index.specs.Settling.{IsStoreOf, AreRenewing, settling, entry_or_fresh}
+use Rattle.lineage_index.specs.Settling.{IsStoreOf, AreRenewing, settled_states, entry_or_fresh}
 use Rattle.lineage_index.proofs.ByKey.{same_everywhere}
 use Rattle.lineage_front.specs.Front.{no_list, AreEmpty}
 
 pub heads_begun : (tree : List Leaf) (lists : List OpenList) (newest : List ℕ)
     → tree ≡ sentinel [] ∷ [] → lists ≡ [] → newest ≡ []
-    → AreHeads tree lists newest (settling [] no_list [])
+    → AreHeads tree lists newest (settled_states [] no_list [])
 heads_begun tree lists newest tree_is lists_are newest_are = record
     { apart = search rules; leaves_are = tree_is; lists_are = lists_are; newest_are = newest_are }
 
@@ -31,7 +31,7 @@ settled_empty rows key = elim (cases_Bool (list_any (is_of_key key) rows)) [
 pub lists_empty : (rows : List Row) (tree : List Leaf) (lists : List OpenList)
     (newest kept : List ℕ) (entries : List Entry) (index : RowsIndex) → IsStoreOf rows entries
     → AreUsesOf rows index
-    → AreHeads tree lists newest (settling [] no_list rows) → kept ≡ newest
+    → AreHeads tree lists newest (settled_states [] no_list rows) → kept ≡ newest
     → AreEmpty rows lists kept entries index
 lists_empty rows tree lists newest kept entries index store uses a same = record {
   store = store;
@@ -43,7 +43,7 @@ lists_empty rows tree lists newest kept entries index store uses a same = record
 
 pub renewing_begun : (rows : List Row) (tree : List Leaf) (before lists : List OpenList)
     (newest kept : List ℕ) (entries : List Entry) → IsStoreOf rows entries
-    → AreHeads tree before newest (settling [] no_list rows)
+    → AreHeads tree before newest (settled_states [] no_list rows)
     → lists ≡ map open_of (map (open_list rows) (keys_of rows)) → kept ≡ newest
     → AreRenewing rows (entry_or_fresh []) [] tree lists kept entries
 renewing_begun rows tree before lists newest kept entries store a are same = record {

@@ -2,7 +2,7 @@
 
 ghost use Rattle.std.specs.Prelude.{[], List, OnOk};
 ghost use Rattle.lc_base.specs.declared.row.Row.{Row};
-ghost use Rattle.lineage_index.specs.{Heads.{AreHeads}, Settling.{IsStoreOf, settling}};
+ghost use Rattle.lineage_index.specs.{Heads.{AreHeads}, Settling.{IsStoreOf, settled_states}};
 ghost use Rattle.lineage_front.specs.Front.{no_list};
 
 use entry_store::{EntryId, Store};
@@ -20,10 +20,10 @@ pub(crate) fn settle_entries(
     store: &Store,
 ) -> Result<(), Memory>
     requires { (rows : List Row) × IsStoreOf rows store.now
-        × AreHeads tree.old lists.old newest.old.items (settling [] no_list []) }
+        × AreHeads tree.old lists.old newest.old.items (settled_states [] no_list []) }
     ensures { (rows : List Row) → IsStoreOf rows store.now
-        → AreHeads tree.old lists.old newest.old.items (settling [] no_list [])
-        → OnOk result (AreHeads tree.new lists.new newest.new.items (settling [] no_list rows)) }
+        → AreHeads tree.old lists.old newest.old.items (settled_states [] no_list [])
+        → OnOk result (AreHeads tree.new lists.new newest.new.items (settled_states [] no_list rows)) }
 {
     for index in 0..store.count() {
         let facts = store.facts(EntryId(index));

@@ -22,7 +22,7 @@ use Rattle.lineage_store.proofs.Entries.{as_many}
 use Rattle.lineage_index.specs.Growth.{Grows, Entry, entry_of, open_uses, used_by, HaveDistinctKeys, entry_after, keys_touched, keys_of_row, is_of_key}
 use Rattle.lineage_index.specs.Heads.{AreHeads, AreLists, states_of, newest_at, open_list}
 use Rattle.lineage_index.specs.NewEntries.{AreUsing}
-use Rattle.lineage_index.specs.Settling.{entry_or_fresh, settling, renewing, AreRenewing}
+use Rattle.lineage_index.specs.Settling.{entry_or_fresh, settled_states, renewed_states, AreRenewing}
 use Rattle.lineage_index.specs.Blocks.{IsKeptIndex}
 use Rattle.lineage_index.proofs.Blocks.{IsOnNewest, new_deps, rows_before, rows_now, deps_on_newest}
 use Rattle.lineage_index.proofs.Using.{distinct_keys, all_uses, used_same, held_first}
@@ -69,7 +69,7 @@ entries_there rows = all_weaker (λ (key : List ℕ). is_among (keys_of rows) ke
     there : (key : List ℕ) → is_among (keys_of rows) key ≡ true → entry_of rows key ≡ entry_or_fresh rows key
     there key t = rw t refl
 
-pub settling_begins : (rows new : List Row) (n : ℕ) (tree : List Leaf) (lists : List OpenList) (newest_rows : List ℕ) → AreUsing rows new n tree lists newest_rows → AreHeads tree lists newest_rows (settling rows (open_uses rows new) [])
+pub settling_begins : (rows new : List Row) (n : ℕ) (tree : List Leaf) (lists : List OpenList) (newest_rows : List ℕ) → AreUsing rows new n tree lists newest_rows → AreHeads tree lists newest_rows (settled_states rows (open_uses rows new) [])
 settling_begins rows new n tree lists newest_rows a =
     let none : rows ≡ rows ++ [] = sym (append-nil rows) in
     let fresh : AreHeads tree lists newest_rows (record { keys = keys_of rows; entry = entry_or_fresh rows; list = open_uses rows new; index = newest_at rows }) = record {
@@ -78,17 +78,17 @@ settling_begins rows new n tree lists newest_rows a =
       lists_are = a.heads.lists_are;
       newest_are = a.heads.newest_are;
     } in
-    heads_same tree lists newest_rows (record { keys = keys_of rows; entry = entry_or_fresh rows; list = open_uses rows new; index = newest_at rows }) (settling rows (open_uses rows new) []) fresh
+    heads_same tree lists newest_rows (record { keys = keys_of rows; entry = entry_or_fresh rows; list = open_uses rows new; index = newest_at rows }) (settled_states rows (open_uses rows new) []) fresh
     (ap keys_of none) (λ key. refl) (λ key. refl) (λ key. ap (λ (rs : List Row). newest_at rs key) none)
 
 -- ---- the leaves
 
 pub renewing_begins : (rows new : List Row) (n : ℕ) (tree : List Leaf) (lists : List OpenList) (newest_rows : List ℕ) (entries : List StoreEntry) → Grows rows new n
-    → AreHeads tree lists newest_rows (settling rows (open_uses rows new) new) → entries ≡ entries_of (rows ++ new) (rows ++ new)
+    → AreHeads tree lists newest_rows (settled_states rows (open_uses rows new) new) → entries ≡ entries_of (rows ++ new) (rows ++ new)
     → AreRenewing (rows ++ new) (entry_or_fresh rows) [] tree lists newest_rows entries
 renewing_begins rows new n tree lists newest_rows entries g s are = record {
   store = record { lawful = g.lawful; entries_are = are };
-  heads = heads_same tree lists newest_rows (settling rows (open_uses rows new) new) (renewing (rows ++ new) (entry_or_fresh rows) []) s refl (λ key. refl) (λ key. settled_all rows new n key g) (λ key. refl);
+  heads = heads_same tree lists newest_rows (settled_states rows (open_uses rows new) new) (renewed_states (rows ++ new) (entry_or_fresh rows) []) s refl (λ key. refl) (λ key. settled_all rows new n key g) (λ key. refl);
 }
 
 touched_if_new : (new : List Row) (key : List ℕ) → list_any (is_of_key key) new ≡ true → is_among (keys_touched new) key ≡ true

@@ -28,7 +28,7 @@ changed_here f key other x t = rw t refl
 pub changed_there : {A : Type 0} (f : List ℕ → A) (key other : List ℕ) (x : A) → pointwise ◌==◌ key other ≡ false → changed_at f key x other ≡ f other
 changed_there f key other x t = rw t refl
 
--- a function that is changed_at at another key alone
+-- a function that is changed at another key alone
 unchanged : {A : Type 0} (f : List ℕ → A) (key : List ℕ) (x : A) (keys : List (List ℕ)) → AllByRecursion (λ (other : List ℕ). key ≢ other) keys → map (changed_at f key x) keys ≡ map f keys
 unchanged f key x keys apart = map_on (changed_at f key x) f keys (all_weaker (λ (other : List ℕ). key ≢ other) (λ (other : List ℕ). changed_at f key x other ≡ f other) (λ other a. rw (differ key other a) refl) keys apart)
 
@@ -73,7 +73,7 @@ push_key {A = A} f keys key x none =
 pub same_by_key : {A : Type 0} (f g : List ℕ → A) (keys : List (List ℕ)) → AllByRecursion (λ (key : List ℕ). f key ≡ g key) keys → map f keys ≡ map g keys
 same_by_key f g keys same = map_on f g keys same
 
--- a function that is changed_at at a key that is not among them
+-- a function that is changed at a key that is not among them
 pub changed_nowhere : {A : Type 0} (f : List ℕ → A) (key : List ℕ) (x : A) (keys : List (List ℕ)) → is_among keys key ≡ false → map (changed_at f key x) keys ≡ map f keys
 changed_nowhere f key x [] none = refl
 changed_nowhere {A = A} f key x (k ∷ keys) none =

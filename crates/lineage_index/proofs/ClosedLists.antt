@@ -35,7 +35,7 @@ newest_after rows new key row e = newest_append rows new key ∙ rw e refl
 pub newest_kept : (rows new : List Row) (key : List ℕ) → newest new key ≡ None → newest (rows ++ new) key ≡ newest rows key
 newest_kept rows new key e = newest_append rows new key ∙ rw e refl
 
--- all rows list_after_rows: the open lists of the longer history
+-- all rows settled: the open lists of the longer history
 pub settled_all : (rows new : List Row) (n : ℕ) (key : List ℕ) → Grows rows new n → list_after_rows (open_uses rows new) new key ≡ uses_of (rows ++ new) key (newest (rows ++ new) key)
 settled_all rows new n key g = elim (option_cases (newest new key)) [
   | inl none ↦

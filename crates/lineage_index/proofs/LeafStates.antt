@@ -1,4 +1,4 @@
--- Leaves that are state_of_entry the entries of their keys, in any order.
+-- Leaves that are given the entries of their keys, in any order.
 use Rattle.std.proofs.Common.{◌≡◌, ◌≢◌, ◌∙◌, ℕ, suc, ◌+◌, ◌-◌, ◌<◌, Bool, true, false, ◌==◌, ◌||◌, if◌then◌else◌, List, [], ◌∷◌, ◌++◌, length, get_or, map, Some, None, refl, sym, ap, subst, arith, inl, inr}
 use Rattle.std.specs.Prelude.{slice_set}
 use Rattle.std.specs.List.{All, AllPairs, AllByRecursion, Contains, list_any}
@@ -19,7 +19,7 @@ use Rattle.forward_links.specs.declared.open_list.OpenList.{OpenList}
 use Rattle.entry_store.specs.Entries.{Entry as StoreEntry}
 use Rattle.lineage_index.specs.Growth.{Entry, entry_of, leaf_with, changed_at, entry_after}
 use Rattle.lineage_index.specs.Heads.{leaves_with}
-use Rattle.lineage_index.specs.Settling.{renewing, AreRenewing}
+use Rattle.lineage_index.specs.Settling.{renewed_states, AreRenewing}
 use Rattle.lineage_index.specs.Leaves.{leaf_indexes, HaveSameItems, IsLeafIndex, key_at, state_of_entry, state_of, AreBesideLeaves}
 use Rattle.lineage_index.proofs.ByKey.{differ}
 use Rattle.lineage_index.proofs.KeyLeaves.{IsPlace, leaf_place, leaf_at, leaf_set, leaves_same, leaves_on}
@@ -94,7 +94,7 @@ entries_alike keys entry old new touched indexes same = leaves_on keys (entry_af
     alike : (key : List ℕ) → is_among keys key ≡ true → entry_after old new (map (key_at keys) indexes) key ≡ entry_after old new touched key
     alike key there = ap (λ (b : Bool). if b then new key else old key) (among key there)
 
--- ---- leaves that are state_of_entry entries
+-- ---- leaves that are given entries
 
 leaf_told : (keys : List (List ℕ)) (entry : List ℕ → Entry) (index : ℕ) (new : Entry) → AllPairs ◌≢◌ keys → IsLeafIndex keys index
     → with_state (leaves_with keys entry) (state_of_entry keys index new) ≡ leaves_with keys (changed_at entry (key_at keys index) new)
@@ -130,12 +130,12 @@ touched_within rows entry tree lists newest entries touched indexes a same =
     let there = subst (λ (leaves : List Leaf). HaveSameItems (leaf_indexes leaves touched) indexes) a.heads.leaves_are same in
     all_alike (IsLeafIndex (keys_of rows)) (leaf_indexes (leaves_with (keys_of rows) (entry_after entry (entry_of rows) [])) touched) indexes there (indexes_within (keys_of rows) (entry_after entry (entry_of rows) []) touched)
 
--- What is state_of_entry is for leaves of the tree.
+-- What is given is for leaves of the tree.
 pub states_within : (rows : List Row) (entry : List ℕ → Entry) (tree : List Leaf) (lists : List OpenList) (newest : List ℕ) (entries : List StoreEntry) (indexes : List ℕ) (states : List LeafState)
     → AreRenewing rows entry [] tree lists newest entries → All (IsLeafIndex (keys_of rows)) indexes → states ≡ map (state_of rows) indexes
     → All (λ (state : LeafState). 0 < state.index) states × All (λ (state : LeafState). state.index < length tree) states
 states_within rows entry tree lists newest entries indexes states a within is =
-    let many = as_many tree lists newest (renewing rows entry []) a.heads in
+    let many = as_many tree lists newest (renewed_states rows entry []) a.heads in
     let each = recursion_from_All (IsLeafIndex (keys_of rows)) indexes within in (
       subst (All (λ (state : LeafState). 0 < state.index)) (sym is) (All-from_recursion (λ (state : LeafState). 0 < state.index) (map (state_of rows) indexes)
           (all_map (λ (state : LeafState). 0 < state.index) (state_of rows) indexes
@@ -145,7 +145,7 @@ states_within rows entry tree lists newest entries indexes states a within is =
           (all_weaker (IsLeafIndex (keys_of rows)) (λ (index : ℕ). index < length tree) (λ index h. omega (arith, h.1, many.1, many.2)) indexes each))),
     )
 
--- Told what a history says, the leaves of the keys that are touched are made anew.
+-- Given what a history says, the leaves of the keys that are touched are made anew.
 pub leaves_renewed : (rows : List Row) (entry : List ℕ → Entry) (tree after : List Leaf) (lists : List OpenList) (newest : List ℕ) (entries : List StoreEntry) (touched : List (List ℕ)) (indexes : List ℕ)
     → AreRenewing rows entry [] tree lists newest entries → HaveSameItems (leaf_indexes tree touched) indexes → after ≡ with_states tree (map (state_of rows) indexes)
     → AreRenewing rows entry touched after lists newest entries

@@ -64,7 +64,7 @@ entry_is rows key row block digest list count list_digest newest_is block_is dig
 pub key_there : (keys : List (List ℕ)) (index : ℕ) → IsLeafIndex keys index → slice_get keys (index - 1) ≡ Some (key_at keys index)
 key_there keys index at = slice_get-get_or keys (index - 1) [] (omega (arith, at))
 
--- It is state_of_entry the entry of its key.
+-- It is given the entry of its key.
 pub state_told : (rows : List Row) (lists : List OpenList) (newest_rows : List ℕ) (entries : List StoreEntry) (index at : ℕ) (facts : Facts) (kept : OpenList)
     → AreBesideLeaves rows lists newest_rows entries → IsLeafIndex (keys_of rows) index → slice_get newest_rows (index - 1) ≡ Some at
     → option_map (λ (entry : StoreEntry). entry.facts) (slice_get entries at) ≡ Some facts → kept ≡ kept_at lists (index - 1)

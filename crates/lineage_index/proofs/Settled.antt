@@ -19,7 +19,7 @@ use Rattle.forward_links.specs.declared.open_list.OpenList.{OpenList}
 use Rattle.forward_links.specs.Lists.{open_of}
 use Rattle.lineage_index.specs.Growth.{changed_at}
 use Rattle.lineage_index.specs.Heads.{KeyStates, AreHeads, leaves_with, with_version, with_key_more, with_version_more, fresh_entry, newest_at, index_or_zero}
-use Rattle.lineage_index.specs.Settling.{entry_or_fresh, settling}
+use Rattle.lineage_index.specs.Settling.{entry_or_fresh, settled_states}
 use Rattle.lineage_index.proofs.ByKey.{same_everywhere}
 use Rattle.lineage_index.proofs.KeyLeaves.{leaves_same}
 use Rattle.lineage_index.proofs.KeptStates.{version_new, version_old, as_many}
@@ -101,25 +101,25 @@ index_more rows done row key =
       | inr f ↦ let is : newest_index (rows ++ (done ++ row ∷ [])) key ≡ newest_index (rows ++ done) key = more ∙ rw f refl in rw f (sym (ap index_or_zero is))
     ]
 
-states_more : (rows done : List Row) (list : List ℕ → List Dep) (row : Row) (tree : List Leaf) (lists : List OpenList) (newest : List ℕ) → AreHeads tree lists newest (with_version (settling rows list done) row.key (length (rows ++ done)))
-    → AreHeads tree lists newest (settling rows list (done ++ row ∷ []))
+states_more : (rows done : List Row) (list : List ℕ → List Dep) (row : Row) (tree : List Leaf) (lists : List OpenList) (newest : List ℕ) → AreHeads tree lists newest (with_version (settled_states rows list done) row.key (length (rows ++ done)))
+    → AreHeads tree lists newest (settled_states rows list (done ++ row ∷ []))
 states_more rows done list row tree lists newest a = elim (cases_Bool (is_among (keys_of (rows ++ done)) row.key)) [
-  | inl t ↦ heads_same tree lists newest (with_version_more (settling rows list done) row.key (length (rows ++ done))) (settling rows list (done ++ row ∷ []))
-      (subst (λ (s : KeyStates). AreHeads tree lists newest s) (version_old (settling rows list done) row.key (length (rows ++ done)) t) a)
+  | inl t ↦ heads_same tree lists newest (with_version_more (settled_states rows list done) row.key (length (rows ++ done))) (settled_states rows list (done ++ row ∷ []))
+      (subst (λ (s : KeyStates). AreHeads tree lists newest s) (version_old (settled_states rows list done) row.key (length (rows ++ done)) t) a)
       (sym (keys_more rows done row ∙ rw t refl)) (λ key. refl) (λ key. one_key_more list done row key) (λ key. index_more rows done row key)
-  | inr f ↦ heads_same tree lists newest (with_key_more (settling rows list done) row.key (length (rows ++ done))) (settling rows list (done ++ row ∷ []))
-      (subst (λ (s : KeyStates). AreHeads tree lists newest s) (version_new (settling rows list done) row.key (length (rows ++ done)) f) a)
+  | inr f ↦ heads_same tree lists newest (with_key_more (settled_states rows list done) row.key (length (rows ++ done))) (settled_states rows list (done ++ row ∷ []))
+      (subst (λ (s : KeyStates). AreHeads tree lists newest s) (version_new (settled_states rows list done) row.key (length (rows ++ done)) f) a)
       (sym (keys_more rows done row ∙ rw f refl)) (λ key. fresh_stays rows done row.key key f) (λ key. one_key_more list done row key) (λ key. index_more rows done row key)
 ]
 
 -- there are no more keys than rows
-pub settled_short : (rows done : List Row) (list : List ℕ → List Dep) (tree : List Leaf) (lists : List OpenList) (newest : List ℕ) → AreHeads tree lists newest (settling rows list done) → length newest ≤ length (rows ++ done)
+pub settled_short : (rows done : List Row) (list : List ℕ → List Dep) (tree : List Leaf) (lists : List OpenList) (newest : List ℕ) → AreHeads tree lists newest (settled_states rows list done) → length newest ≤ length (rows ++ done)
 settled_short rows done list tree lists newest a =
-    let many = as_many tree lists newest (settling rows list done) a in
+    let many = as_many tree lists newest (settled_states rows list done) a in
     let short = keys_short [] (rows ++ done) in
     omega (arith, many.1, short)
 
 pub settled_more : (rows done : List Row) (list : List ℕ → List Dep) (row : Row) (tree : List Leaf) (lists : List OpenList) (newest : List ℕ) (index : ℕ) → index ≡ length (rows ++ done)
-    → AreHeads tree lists newest (with_version (settling rows list done) row.key index) → AreHeads tree lists newest (settling rows list (done ++ row ∷ []))
+    → AreHeads tree lists newest (with_version (settled_states rows list done) row.key index) → AreHeads tree lists newest (settled_states rows list (done ++ row ∷ []))
 settled_more rows done list row tree lists newest index at heads =
-    states_more rows done list row tree lists newest (subst (λ (i : ℕ). AreHeads tree lists newest (with_version (settling rows list done) row.key i)) at heads)
+    states_more rows done list row tree lists newest (subst (λ (i : ℕ). AreHeads tree lists newest (with_version (settled_states rows list done) row.key i)) at heads)

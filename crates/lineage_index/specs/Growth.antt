@@ -22,7 +22,7 @@ pub record Grows (rows new : List Row) (n : ℕ) : Type 0 where
 
 -- ---- one value for each key
 
--- A function of keys, changed_at at one key.
+-- A function of keys, changed at one key.
 abbrev pub changed_at : {A : Type 0} → (List ℕ → A) → List ℕ → A → List ℕ → A
 changed_at f key x other = if pointwise ◌==◌ key other then x else f other
 

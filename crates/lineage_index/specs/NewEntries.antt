@@ -20,12 +20,13 @@ use Rattle.lineage_index.specs.Growth.{Grows, Entry, entry_of, open_uses}
 use Rattle.lineage_index.specs.Heads.{KeyStates, AreHeads, newest_at}
 
 -- The states of the keys of a history, with the uses of these rows after it.
-abbrev pub using : List Row → List Row → KeyStates
-using rows new = record { keys = keys_of rows; entry = entry_of rows; list = open_uses rows new; index = newest_at rows }
+abbrev pub states_with_uses : List Row → List Row → KeyStates
+states_with_uses rows new = record { keys = keys_of rows; entry = entry_of rows; list = open_uses rows new; index = newest_at rows }
 
+-- The parts of an index are those of a history with the uses of these rows of block n after it.
 pub record AreUsing (rows new : List Row) (n : ℕ) (tree : List Leaf) (lists : List OpenList) (newest : List ℕ) : Type 0 where
   pub grows : Grows rows new n
-  pub heads : AreHeads tree lists newest (using rows new)
+  pub heads : AreHeads tree lists newest (states_with_uses rows new)
 
 -- The entries are those of the first rows of a history that ends with this block, which are all rows before
 -- the block and some of its own; this row comes next.
@@ -51,6 +52,7 @@ abbrev pub newest_of_leaf : List Leaf → Option ℕ → Digest
 newest_of_leaf tree None = record { 0 = replicate 32 0 }
 newest_of_leaf tree (Some index) = (slice_index_or tree index (sentinel [])).newest
 
+-- The digest of the newest version of a key, as the leaf of the key has it.
 abbrev pub newest_in : List Leaf → List ℕ → Digest
 newest_in tree key = newest_of_leaf tree (index_of tree key)
 

@@ -18,8 +18,8 @@ entry_or_fresh rows key = if is_among (keys_of rows) key then entry_of rows key 
 
 -- The states of the keys after these rows, after others, became the newest versions of their keys.
 -- The leaves are as before.
-abbrev pub settling : List Row → (List ℕ → List Dep) → List Row → KeyStates
-settling rows list done = record {
+abbrev pub settled_states : List Row → (List ℕ → List Dep) → List Row → KeyStates
+settled_states rows list done = record {
   keys = keys_of (rows ++ done);
   entry = entry_or_fresh rows;
   list = list_after_rows list done;
@@ -27,8 +27,8 @@ settling rows list done = record {
 }
 
 -- The states of the keys of a history, where the leaves of these keys were made anew.
-abbrev pub renewing : List Row → (List ℕ → Entry) → List (List ℕ) → KeyStates
-renewing rows entry done = record {
+abbrev pub renewed_states : List Row → (List ℕ → Entry) → List (List ℕ) → KeyStates
+renewed_states rows entry done = record {
   keys = keys_of rows;
   entry = entry_after entry (entry_of rows) done;
   list = open_list rows;
@@ -44,4 +44,4 @@ pub record IsStoreOf (rows : List Row) (entries : List StoreEntry) : Type 0 wher
 -- anew.
 pub record AreRenewing (rows : List Row) (entry : List ℕ → Entry) (done : List (List ℕ)) (tree : List Leaf) (lists : List OpenList) (newest : List ℕ) (entries : List StoreEntry) : Type 0 where
   pub store : IsStoreOf rows entries
-  pub heads : AreHeads tree lists newest (renewing rows entry done)
+  pub heads : AreHeads tree lists newest (renewed_states rows entry done)

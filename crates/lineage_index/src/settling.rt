@@ -6,7 +6,7 @@ ghost use Rattle.lc_base.specs.{
   declared.row.Row.{Row},
   declared.row.Dep.{Dep},
 };
-ghost use Rattle.lineage_index.specs.{Heads.{AreHeads}, Settling.{settling}};
+ghost use Rattle.lineage_index.specs.{Heads.{AreHeads}, Settling.{settled_states}};
 
 use crate::heads::set_newest;
 use forward_links::OpenLists;
@@ -23,9 +23,9 @@ pub(crate) fn settle_rows(
     new: &[Row],
 ) -> Result<(), Memory>
     requires room { first + length new.now ≤ MAX_ROWS }
-    requires settled { (rows : List Row) × (list : List ℕ → List Dep) × AreHeads tree.old lists.old newest.old.items (settling rows list []) × (first ≡ length rows) }
-    ensures { (rows : List Row) (list : List ℕ → List Dep) → AreHeads tree.old lists.old newest.old.items (settling rows list []) → first ≡ length rows
-        → OnOk result (AreHeads tree.new lists.new newest.new.items (settling rows list new.now)) }
+    requires settled { (rows : List Row) × (list : List ℕ → List Dep) × AreHeads tree.old lists.old newest.old.items (settled_states rows list []) × (first ≡ length rows) }
+    ensures { (rows : List Row) (list : List ℕ → List Dep) → AreHeads tree.old lists.old newest.old.items (settled_states rows list []) → first ≡ length rows
+        → OnOk result (AreHeads tree.new lists.new newest.new.items (settled_states rows list new.now)) }
 {
     let mut index = first;
     for row in new {

@@ -5,6 +5,7 @@ use Rattle.scratch_model.proofs.Retaining.{retains_refl, retains_trans}
 use Rattle.body_store.proofs.Agreeing.{agrees_on}
 use Rattle.merkle_dag.specs.Lineage.{LineageState, StaysSame}
 
+-- A lineage and a device are the same as themselves.
 pub stays_refl : (l : LineageState) (s : ScratchState) → StaysSame l s l s
 stays_refl l s = record { rows = refl; digests = refl; agrees = λ a. a; retains = retains_refl s }
 
@@ -17,6 +18,7 @@ stays_beside l s t retains = record {
   retains = retains;
 }
 
+-- What stays the same over each of two calls does so over both.
 pub stays_trans : (k : LineageState) (r : ScratchState) (l : LineageState) (s : ScratchState)
     (m : LineageState) (t : ScratchState)
     → StaysSame k r l s → StaysSame l s m t → StaysSame k r m t

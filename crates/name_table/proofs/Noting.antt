@@ -1,4 +1,4 @@
--- Which indexes are noted_index, as entries come and go.
+-- Which indexes are noted, as entries come and go.
 use Rattle.std.proofs.Common.{◌≡◌, ◌∙◌, ◌<◌, ◌≤◌, ◌-◌, ◌+◌, ℕ, Bool, true, false, cond, ◌==◌, List, [], ◌∷◌, ◌++◌, length, take, get_or, Ordering, Less, Equal, Greater, Option, Some, None, is_some, inl, inr, refl, sym, ap, subst, arith}
 use Rattle.std.specs.Prelude.{IfSome}
 use Rattle.std.specs.Option.{option_or, option_eq}
@@ -54,7 +54,7 @@ at_code key name other false is n o differ = elim (cases_Bool (is_eq (nat_cmp ke
   | inr f ↦ f
 ]
 
--- What is noted_index after a key got this, or nothing.
+-- What is noted after a key got this, or nothing.
 abbrev pub Sets : BTreeMap ℕ ℕ → BTreeMap ℕ ℕ → ℕ → Option ℕ → Type 0
 Sets old new key o = (other : ℕ) → get nat_cmp new other ≡ cond (is_eq (nat_cmp key other)) o (get nat_cmp old other)
 

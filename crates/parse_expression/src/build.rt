@@ -1,7 +1,7 @@
 //! Expressions that are put together from their parts, with their heights.
 
 ghost use Rattle.std.specs.Prelude.{◌≡◌, ◌≤◌, ◌+◌, ℕ, List, map, max, Ok, Err, [], ◌∷◌, ◌++◌, IfOk, IfErr};
-ghost use Rattle.contract_grammar.specs.declared.stop.Stop.TheVariants as stops;
+ghost use Rattle.contract_grammar.specs.declared.stop.ParseStop.TheVariants as stops;
 ghost use Rattle.contract_tokens.specs.declared.token.Token.{Token};
 ghost use Rattle.contract_tree.specs.Tree.{tree_of, trees, heights, height as height_of};
 ghost use Rattle.contract_tree.specs.Tree as tree;
@@ -11,7 +11,7 @@ ghost use Rattle.contract_grammar.specs.{
   declared.limits.TheConstants.{MAX_HEIGHT},
 };
 
-use contract_grammar::{MAX_HEIGHT, Obstacle, Stop};
+use contract_grammar::{MAX_HEIGHT, Obstacle, ParseStop};
 use contract_tree::{Expr, ExprList, ExprNode, Sign};
 use lc_base::Name;
 use std::alloc::Global;
@@ -45,12 +45,13 @@ pub fn leaf(at: u32, node: ExprNode) -> Subtree
     }
 }
 
-pub fn call(at: u32, name: Name, args: Subtrees) -> Result<Subtree, Stop>
+/// A call of this name; `Height` where it is higher than an expression may be.
+pub fn call(at: u32, name: Name, args: Subtrees) -> Result<Subtree, ParseStop>
     ensures { (ts : List Token) → Gives (λ b. tree_of b.expr) result
         (node at (tree.Call at name (trees (map tree_of args.items.items))) ts) ts }
 {
     if args.height >= MAX_HEIGHT {
-        return Err(Stop::At(Obstacle::Height(at)));
+        return Err(ParseStop::At(Obstacle::Height(at)));
     }
     let height = args.height + 1;
     let node = ExprNode::Call {
@@ -63,12 +64,13 @@ pub fn call(at: u32, name: Name, args: Subtrees) -> Result<Subtree, Stop>
     })
 }
 
-pub fn prefix(alloc: Global, at: u32, sign: Sign, operand: Subtree) -> Result<Subtree, Stop>
+/// This operator before an operand; `Height` where that is too high.
+pub fn prefix(alloc: Global, at: u32, sign: Sign, operand: Subtree) -> Result<Subtree, ParseStop>
     ensures { (ts : List Token) → Gives (λ b. tree_of b.expr) result
         (node at (tree.Prefix at sign (tree_of operand.expr)) ts) ts }
 {
     if operand.height >= MAX_HEIGHT {
-        return Err(Stop::At(Obstacle::Height(at)));
+        return Err(ParseStop::At(Obstacle::Height(at)));
     }
     let height = operand.height + 1;
     let operand = Box::new(alloc, operand.expr)?;
@@ -81,19 +83,20 @@ pub fn prefix(alloc: Global, at: u32, sign: Sign, operand: Subtree) -> Result<Su
     })
 }
 
+/// This operator between two operands; `Height` where one is too high.
 pub fn binary(
     alloc: Global,
     at: u32,
     sign: Sign,
     left: Subtree,
     right: Subtree,
-) -> Result<Subtree, Stop>
+) -> Result<Subtree, ParseStop>
     ensures { (ts : List Token) → Gives (λ b. tree_of b.expr) result
         (node at (tree.Binary at sign (tree_of left.expr) (tree_of right.expr)) ts) ts }
 {
     let below = left.height.max(right.height);
     if below >= MAX_HEIGHT {
-        return Err(Stop::At(Obstacle::Height(at)));
+        return Err(ParseStop::At(Obstacle::Height(at)));
     }
     let left = Box::new(alloc, left.expr)?;
     let right = Box::new(alloc, right.expr)?;
@@ -107,6 +110,7 @@ pub fn binary(
 }
 
 impl Subtrees {
+    /// No expression.
     pub fn new(alloc: Global) -> Self
         ensures { result.items.items ≡ [] }
     {
@@ -116,7 +120,8 @@ impl Subtrees {
         }
     }
 
-    pub fn push(&mut self, item: Subtree) -> Result<(), Stop>
+    /// Appends an expression.
+    pub fn push(&mut self, item: Subtree) -> Result<(), ParseStop>
         ensures pushed { IfOk result
             (λ _. map tree_of self.new.items.items
             ≡ map tree_of self.old.items.items ++ tree_of item.expr ∷ []) }

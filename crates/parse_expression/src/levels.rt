@@ -14,11 +14,11 @@ ghost use Rattle.contract_grammar.specs.{
 };
 
 use crate::build::{self, Subtree, Subtrees};
-use contract_grammar::{COMPARISONS, Cursor, MAX_PENDING, NameKind, Obstacle, Stop, WHOLE};
+use contract_grammar::{COMPARISONS, Cursor, MAX_PENDING, NameKind, Obstacle, ParseStop, WHOLE};
 use contract_tokens::Mark;
 use contract_tree::{Expr, ExprList, ExprNode};
 
-fn literal(cursor: &mut Cursor<'_>) -> Result<Subtree, Stop>
+fn literal(cursor: &mut Cursor<'_>) -> Result<Subtree, ParseStop>
     ensures { Gives (λ b. tree_of b.expr) result (literal cursor.old) cursor.new }
 {
     if cursor.next_is_text() {
@@ -30,7 +30,7 @@ fn literal(cursor: &mut Cursor<'_>) -> Result<Subtree, Stop>
 }
 
 #[cycle(expression)]
-fn name_or_call(cursor: &mut Cursor<'_>, depth: u32) -> Result<Subtree, Stop>
+fn name_or_call(cursor: &mut Cursor<'_>, depth: u32) -> Result<Subtree, ParseStop>
     ensures { Gives (λ b. tree_of b.expr) result (name_or_call (arguments_in (inner_operand depth)) cursor.old)
         cursor.new }
 {
@@ -43,7 +43,7 @@ fn name_or_call(cursor: &mut Cursor<'_>, depth: u32) -> Result<Subtree, Stop>
 }
 
 #[cycle(expression)]
-fn builtin_call(cursor: &mut Cursor<'_>, depth: u32) -> Result<Subtree, Stop>
+fn builtin_call(cursor: &mut Cursor<'_>, depth: u32) -> Result<Subtree, ParseStop>
     ensures { Gives (λ b. tree_of b.expr) result (builtin_call (arguments_in (inner_operand depth)) cursor.old)
         cursor.new }
 {
@@ -53,7 +53,7 @@ fn builtin_call(cursor: &mut Cursor<'_>, depth: u32) -> Result<Subtree, Stop>
 }
 
 #[cycle(expression)]
-fn prefix_operand(cursor: &mut Cursor<'_>, depth: u32) -> Result<Subtree, Stop>
+fn prefix_operand(cursor: &mut Cursor<'_>, depth: u32) -> Result<Subtree, ParseStop>
     ensures { Gives (λ b. tree_of b.expr) result (prefix_operand_in (inner_operand depth) cursor.old)
         cursor.new }
 {
@@ -66,7 +66,7 @@ fn prefix_operand(cursor: &mut Cursor<'_>, depth: u32) -> Result<Subtree, Stop>
 }
 
 #[cycle(expression)]
-fn group(cursor: &mut Cursor<'_>, depth: u32) -> Result<Subtree, Stop>
+fn group(cursor: &mut Cursor<'_>, depth: u32) -> Result<Subtree, ParseStop>
     ensures { Gives (λ b. tree_of b.expr) result (group_in (inner_operand depth) cursor.old)
         cursor.new }
 {
@@ -80,14 +80,14 @@ fn group(cursor: &mut Cursor<'_>, depth: u32) -> Result<Subtree, Stop>
 }
 
 #[cycle(expression)]
-fn operand(cursor: &mut Cursor<'_>, depth: u32) -> Result<Subtree, Stop>
+fn operand(cursor: &mut Cursor<'_>, depth: u32) -> Result<Subtree, ParseStop>
     ensures { Gives (λ b. tree_of b.expr) result (operand depth cursor.old) cursor.new }
 {
     operand_by_start(cursor, depth)
 }
 
 #[cycle(expression)]
-fn operand_by_start(cursor: &mut Cursor<'_>, depth: u32) -> Result<Subtree, Stop>
+fn operand_by_start(cursor: &mut Cursor<'_>, depth: u32) -> Result<Subtree, ParseStop>
     ensures { Gives (λ b. tree_of b.expr) result (operand_in (inner_operand depth) cursor.old)
         cursor.new }
 {
@@ -107,7 +107,7 @@ fn operand_by_start(cursor: &mut Cursor<'_>, depth: u32) -> Result<Subtree, Stop
 }
 
 #[cycle(expression)]
-fn arguments(cursor: &mut Cursor<'_>, depth: u32) -> Result<Subtrees, Stop>
+fn arguments(cursor: &mut Cursor<'_>, depth: u32) -> Result<Subtrees, ParseStop>
     ensures { Gives (λ l. map tree_of l.items.items) result (arguments_in (inner_operand depth) cursor.old)
         cursor.new }
 {
@@ -129,7 +129,7 @@ fn more_items(
     depth: u32,
     mark: Mark,
     first: Subtree,
-) -> Result<Subtrees, Stop>
+) -> Result<Subtrees, ParseStop>
     ensures { Gives (λ l. map tree_of l.items.items) result
         (more_of (level_of (operand depth) WHOLE) mark (tree_of first.expr) cursor.old)
         cursor.new }
@@ -142,7 +142,7 @@ fn more_items(
 }
 
 #[cycle(expression)]
-fn items(cursor: &mut Cursor<'_>, depth: u32, earlier: Subtrees) -> Result<Subtrees, Stop>
+fn items(cursor: &mut Cursor<'_>, depth: u32, earlier: Subtrees) -> Result<Subtrees, ParseStop>
     ensures { Gives (λ l. map tree_of l.items.items) result
         (each (is m.Comma) (comma_then (level_of (operand depth) WHOLE))
         (map tree_of earlier.items.items) cursor.old)
@@ -156,7 +156,7 @@ fn items(cursor: &mut Cursor<'_>, depth: u32, earlier: Subtrees) -> Result<Subtr
 }
 
 #[cycle(expression)]
-fn item(cursor: &mut Cursor<'_>, depth: u32, earlier: Subtrees) -> Result<Subtrees, Stop>
+fn item(cursor: &mut Cursor<'_>, depth: u32, earlier: Subtrees) -> Result<Subtrees, ParseStop>
     ensures { Gives (λ l. map tree_of l.items.items) result
         (put (comma_then (level_of (operand depth) WHOLE)) (map tree_of earlier.items.items)
         cursor.old)
@@ -170,7 +170,12 @@ fn item(cursor: &mut Cursor<'_>, depth: u32, earlier: Subtrees) -> Result<Subtre
 }
 
 #[cycle(expression)]
-fn binary(cursor: &mut Cursor<'_>, depth: u32, level: u8, left: Subtree) -> Result<Subtree, Stop>
+fn binary(
+    cursor: &mut Cursor<'_>,
+    depth: u32,
+    level: u8,
+    left: Subtree,
+) -> Result<Subtree, ParseStop>
     requires { 0 < level }
     ensures { Gives (λ b. tree_of b.expr) result
         (binary level (level_of (operand depth) (level - 1)) (tree_of left.expr) cursor.old)
@@ -182,7 +187,12 @@ fn binary(cursor: &mut Cursor<'_>, depth: u32, level: u8, left: Subtree) -> Resu
 }
 
 #[cycle(expression)]
-fn chain(cursor: &mut Cursor<'_>, depth: u32, level: u8, first: Subtree) -> Result<Subtree, Stop>
+fn chain(
+    cursor: &mut Cursor<'_>,
+    depth: u32,
+    level: u8,
+    first: Subtree,
+) -> Result<Subtree, ParseStop>
     requires { 0 < level }
     ensures { Gives (λ b. tree_of b.expr) result
         (turns (has (sign_of level))
@@ -198,7 +208,12 @@ fn chain(cursor: &mut Cursor<'_>, depth: u32, level: u8, first: Subtree) -> Resu
 }
 
 #[cycle(expression)]
-fn rest(cursor: &mut Cursor<'_>, depth: u32, level: u8, first: Subtree) -> Result<Subtree, Stop>
+fn rest(
+    cursor: &mut Cursor<'_>,
+    depth: u32,
+    level: u8,
+    first: Subtree,
+) -> Result<Subtree, ParseStop>
     requires { 0 < level }
     ensures { Gives (λ b. tree_of b.expr) result
         (rest_of_level (is_chained level) level (level_of (operand depth) (level - 1))
@@ -215,7 +230,7 @@ fn rest(cursor: &mut Cursor<'_>, depth: u32, level: u8, first: Subtree) -> Resul
 }
 
 #[cycle(expression)]
-fn binary_level(cursor: &mut Cursor<'_>, depth: u32, level: u8) -> Result<Subtree, Stop>
+fn binary_level(cursor: &mut Cursor<'_>, depth: u32, level: u8) -> Result<Subtree, ParseStop>
     requires { 0 < level }
     ensures { Gives (λ b. tree_of b.expr) result
         (next
@@ -229,7 +244,7 @@ fn binary_level(cursor: &mut Cursor<'_>, depth: u32, level: u8) -> Result<Subtre
 }
 
 #[cycle(expression)]
-fn at_level(cursor: &mut Cursor<'_>, depth: u32, level: u8) -> Result<Subtree, Stop>
+fn at_level(cursor: &mut Cursor<'_>, depth: u32, level: u8) -> Result<Subtree, ParseStop>
     ensures { Gives (λ b. tree_of b.expr) result (level_of (operand depth) level cursor.old)
         cursor.new }
 {
@@ -241,7 +256,7 @@ fn at_level(cursor: &mut Cursor<'_>, depth: u32, level: u8) -> Result<Subtree, S
 
 /// A whole expression.
 #[tactic(auto, unfolding(contract_grammar::specs::Reading::expression))]
-pub fn expression(cursor: &mut Cursor<'_>) -> Result<Expr, Stop>
+pub fn expression(cursor: &mut Cursor<'_>) -> Result<Expr, ParseStop>
     ensures { Gives tree_of result (expression cursor.old) cursor.new }
 {
     let built = at_level(cursor, MAX_PENDING, WHOLE)?;
@@ -250,7 +265,7 @@ pub fn expression(cursor: &mut Cursor<'_>) -> Result<Expr, Stop>
 
 /// Whole expressions, at least one, with commas between them and the sign that closes them.
 #[tactic(auto, unfolding(contract_grammar::specs::Reading::expression))]
-pub fn expressions(cursor: &mut Cursor<'_>, mark: Mark) -> Result<ExprList, Stop>
+pub fn expressions(cursor: &mut Cursor<'_>, mark: Mark) -> Result<ExprList, ParseStop>
     ensures { Gives (λ v. map tree_of v.items) result
         (seq expression (more_of expression mark) cursor.old) cursor.new }
 {

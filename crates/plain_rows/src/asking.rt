@@ -51,7 +51,7 @@ pub(crate) fn version(
 
 /// The indexes that the answer about the row at a place has: those of the rows that it was derived
 /// from, or that were derived from it.
-fn listed_about<'a>(
+fn list_of_row<'a>(
     rows: &'a [KeptRow],
     index: &'a RowsIndex,
     query: &Query,
@@ -69,13 +69,13 @@ fn listed_about<'a>(
 }
 
 /// The indexes of the rows that the answer to a question lists.
-fn listed<'a>(rows: &'a [KeptRow], index: &'a RowsIndex, query: &Query) -> Option<&'a [u32]>
+fn list_of_answer<'a>(rows: &'a [KeptRow], index: &'a RowsIndex, query: &Query) -> Option<&'a [u32]>
     requires { Holds (rows_of rows.now) rows.now index.now }
     ensures { IsListAt (rows_of rows.now) (option_copied result) (list_in (scan (rows_of rows.now) query.now)) }
 {
     match index.latest(&query.key, query.at) {
         None => None,
-        Some(place) => listed_about(rows, index, query, place),
+        Some(place) => list_of_row(rows, index, query, place),
     }
 }
 
@@ -86,7 +86,7 @@ pub(crate) fn count(rows: &[KeptRow], index: &RowsIndex, query: &Query) -> Optio
     ensures bound { IfSome result (λ count. count < 2 ^ 63) }
     ensures few { query.now.kind ≡ Kind.Back → IfSome result (λ count. count ≤ MAX_DEPS) }
 {
-    match listed(rows, index, query) {
+    match list_of_answer(rows, index, query) {
         None => None,
         Some(list) => Some(list.len() as u64),
     }
@@ -97,7 +97,7 @@ pub(crate) fn item(rows: &[KeptRow], index: &RowsIndex, query: &Query, place: us
     requires { Holds (rows_of rows.now) rows.now index.now }
     ensures { result ≡ item_in place (scan (rows_of rows.now) query.now) }
 {
-    match listed(rows, index, query) {
+    match list_of_answer(rows, index, query) {
         None => None,
         Some(list) => nth_version(rows, list, place),
     }

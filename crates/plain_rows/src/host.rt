@@ -68,7 +68,7 @@ fn item_asked(
 }
 
 /// How many dependencies there are, of which a version has few.
-fn few(count: Option<u64>) -> Option<u32>
+fn dep_count(count: Option<u64>) -> Option<u32>
     requires { IfSome count (λ n. n ≤ MAX_DEPS) }
     ensures { result ≡ count }
 {
@@ -108,7 +108,7 @@ impl Host for PlainRows {
 
     fn back_count(&mut self, key: &Key, at: u32) -> Result<Option<u32>, HostError> {
         let query = question(Kind::Back, key, at);
-        Ok(few(count_asked(self.rows.as_slice(), &self.index, &query)?))
+        Ok(dep_count(count_asked(self.rows.as_slice(), &self.index, &query)?))
     }
 
     fn back_at(&mut self, key: &Key, at: u32, index: u32) -> Result<Option<Dep>, HostError> {

@@ -3,11 +3,8 @@
 
 mod adding;
 mod asking;
-mod block_rows;
 mod host;
 mod kept;
-mod places;
 mod rows;
 
-pub use kept::KeptRow;
 pub use rows::PlainRows;

@@ -1,19 +1,14 @@
 ghost use Rattle.std.specs.{
-  Prelude.{◌≡◌, ◌<◌, [], ◌++◌, length, filter, reverse, slice_get, Some, IfOk, OnOk, OnErr},
-  List.{find, All},
+  Prelude.{◌≡◌, [], ◌++◌, length, IfOk, OnOk, OnErr},
+  List.{All},
 };
-ghost use Rattle.lc_base.specs.{History.{IsLawful, scan, uses}, declared.row.Row.{Row}};
-ghost use Rattle.rows_index.specs.Places.{IsRowAt};
-ghost use Rattle.root_laws.specs.{Naming.{is_of_block}, WalkLaws.{is_version_in}};
+ghost use Rattle.lc_base.specs.History.{IsLawful, scan};
 ghost use Rattle.typed_ledger.specs.TypedLedger.{IsTypedRow};
-ghost use Rattle.plain_rows.specs.Kept.{IsKeptAs};
 
 use crate::adding::append;
 use crate::asking::answer;
-use crate::block_rows::rows_of_block;
 use crate::kept::KeptRow;
-use crate::places::{place, uses_of_row};
-use lc_base::{Answer, DepList, Key, Memory, Query, RowList};
+use lc_base::{Answer, Memory, Query, RowList};
 use rows_index::RowsIndex;
 use std::alloc::Global;
 use std::marker::Model;
@@ -67,41 +62,6 @@ impl PlainRows {
         ensures typed { All IsTypedRow self.now }
     {
         self.rows.len()
-    }
-
-    /// The index, from 0, of the row of the key in a block; `None` exactly where there is none.
-    pub fn row_index(&self, key: &Key, block: u32) -> Option<u32>
-        ensures { IsRowAt self.now result (find (is_version_in key.now block) (reverse self.now)) }
-    {
-        place(self.rows.as_slice(), &self.index, key, block)
-    }
-
-    /// What is kept of the row at an index.
-    pub fn row(&self, index: u32) -> &KeptRow
-        requires { index < length self.now }
-        ensures { (row : Row) → slice_get self.now index ≡ Some row → IsKeptAs self.now result.now row }
-    {
-        &self.rows[index as usize]
-    }
-
-    /// The versions that were derived from the row at an index, in order.
-    pub fn uses(&self, index: u32) -> Result<DepList, Memory>
-        requires { index < length self.now }
-        ensures { (row : Row) → slice_get self.now index ≡ Some row → IfOk result (λ list. list ≡ uses self.now row.key row.block) }
-    {
-        uses_of_row(
-            *self.rows.allocator(),
-            self.rows.as_slice(),
-            &self.index,
-            index,
-        )
-    }
-
-    /// The rows of a block, in order.
-    pub fn rows_of_block(&self, block: u32) -> Result<RowList, Memory>
-        ensures { IfOk result (λ list. list ≡ filter (is_of_block block) self.now) }
-    {
-        rows_of_block(*self.rows.allocator(), self.rows.as_slice(), block)
     }
 
     /// The answer to a question: that of scanning the rows.

@@ -23,7 +23,7 @@ use Rattle.root_laws.proofs.Headers.{only_row}
 use Rattle.root_laws.proofs.UpToBlock.{links_up_to}
 use Rattle.proof_checks.specs.declared.claim.Claim.{Claim}
 use Rattle.proof_checks.specs.declared.reject.Reject.{Reject}
-use Rattle.proof_checks.specs.Checks.{claim_of_header, header_fault, chosen, expected_after}
+use Rattle.proof_checks.specs.Checks.{claim_of_header, header_fault, next_link, expected_after}
 use Rattle.proof_checks.specs.Making.{header_in}
 use Rattle.proof_checks.proofs.Onward.{begun, StandsAt, GoesOn, onward}
 use Rattle.proof_checks.proofs.Walked.{walk_fault, Ends, one_before}
@@ -56,7 +56,7 @@ next_block at blocks = link_onward (λ (link : ℕ). link) at blocks
 abbrev pub link_in : List Row → Row → ℕ → Link
 link_in rows row block = link_among (named_before rows row.block) row.key block
 
-chosen_is : (rows : List Row) (row : Row) (at : ℕ) (blocks : List ℕ) → chosen at (map (link_in rows row) blocks) ≡ option_map (link_in rows row) (next_block at blocks)
+chosen_is : (rows : List Row) (row : Row) (at : ℕ) (blocks : List ℕ) → next_link at (map (link_in rows row) blocks) ≡ option_map (link_in rows row) (next_block at blocks)
 chosen_is rows row at blocks =
     let f : ℕ → Link = link_in rows row in
     let high : find (λ (link : Link). nat_lt at link.block) (reverse (map f blocks)) ≡ option_map f (find (λ block. nat_lt at block) (reverse blocks)) =
@@ -67,8 +67,8 @@ chosen_is rows row at blocks =
 
 pub expected_is : (rows : List Row) (row : Row) (at : ℕ) → nat_le row.block at ≡ false → expected_after at (header_of rows row) ≡ option_map (link_in rows row) (next_block at (links rows row.key row.block))
 expected_is rows row at late =
-    let chosen_among : chosen at (header_of rows row).links ≡ option_map (link_in rows row) (next_block at (links rows row.key row.block)) =
-    ap (λ (blocks : List ℕ). chosen at (map (link_in rows row) blocks)) (links_up_to rows row.key row.block) ∙ chosen_is rows row at (links rows row.key row.block) in
+    let chosen_among : next_link at (header_of rows row).links ≡ option_map (link_in rows row) (next_block at (links rows row.key row.block)) =
+    ap (λ (blocks : List ℕ). next_link at (map (link_in rows row) blocks)) (links_up_to rows row.key row.block) ∙ chosen_is rows row at (links rows row.key row.block) in
     rw late chosen_among
 
 pub no_block : (f : ℕ → Link) (o : Option ℕ) → option_map f o ≡ None → o ≡ None

@@ -43,12 +43,12 @@ unless false fault = Some fault
 -- ---- the query
 
 -- Whether a proof's own query is the one that is asked.
-abbrev pub same_query : Query → Query → Bool
-same_query asked own = kind_byte own.kind == kind_byte asked.kind && pointwise ◌==◌ own.key asked.key && own.at == asked.at
+abbrev pub is_same_query : Query → Query → Bool
+is_same_query asked own = kind_byte own.kind == kind_byte asked.kind && pointwise ◌==◌ own.key asked.key && own.at == asked.at
 
 -- It is of another query.
 abbrev pub query_fault : Query → Proof → Option Reject
-query_fault query proof = unless (same_query query proof.query) rejects.OtherQuery
+query_fault query proof = unless (is_same_query query proof.query) rejects.OtherQuery
 
 -- ---- the root
 
@@ -91,12 +91,12 @@ leaf_fault key proof = unless (covers key proof.leaf) rejects.LeafShape
 -- ---- the headers
 
 -- The link to follow: the highest one to a block after this, or else the lowest.
-abbrev pub chosen : ℕ → List Link → Option Link
-chosen at links = option_or (find (λ (link : Link). nat_lt at link.block) (reverse links)) (slice_get links 0)
+abbrev pub next_link : ℕ → List Link → Option Link
+next_link at links = option_or (find (λ (link : Link). nat_lt at link.block) (reverse links)) (slice_get links 0)
 
 -- The version whose header is to follow a header, where one is.
 abbrev pub expected_after : ℕ → Header → Option Link
-expected_after at header = if nat_le header.block at then None else chosen at header.links
+expected_after at header = if nat_le header.block at then None else next_link at header.links
 
 -- The version whose header is to be the first: the newest one of the leaf, where it is the key's.
 abbrev pub expected_first : List ℕ → Leaf → Option Link

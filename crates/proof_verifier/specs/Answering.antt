@@ -1,10 +1,10 @@
--- What is version_answer to one who has a root.
+-- What is answered to one who has a root.
 use Rattle.std.specs.Prelude.{ℕ, List, map, Option, Some, None, Result, Ok, Err}
 use Rattle.lc_base.specs.declared.answer.Kind.{Kind}
 use Rattle.lc_base.specs.declared.answer.Query.{Query}
 use Rattle.lc_base.specs.declared.row.Dep.{Dep}
 use Rattle.prov_entry.specs.declared.entry.Body.{Body}
-use Rattle.proof_verifier.specs.Walking.{Told, after}
+use Rattle.proof_verifier.specs.Walking.{HeaderClaim, after}
 use Rattle.lc_base.specs.declared.answer.Answer.{Answer}
 use Rattle.lc_base.specs.declared.answer.Answer.TheVariants as answers
 use Rattle.byte_fields.specs.Reader.{value_seen}
@@ -41,7 +41,7 @@ malformed_at (Malformed at) = Some at
 malformed_at fault = None
 
 -- What a version answers, or what is wrong with its body or its uses.
-abbrev pub version_answer : Kind → Told → Body → Option (List Dep) → Result Answer Reject
+abbrev pub version_answer : Kind → HeaderClaim → Body → Option (List Dep) → Result Answer Reject
 version_answer kind told body uses = after (fault_of_body (Some told.header) (Some body)) (after (fault_of_uses told.claim uses) (Ok (answer_by kind told.header body uses)))
 
 -- The fault of bytes that are no proof.

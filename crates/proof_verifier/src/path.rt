@@ -1,8 +1,8 @@
 //! The headers of a proof, one after another.
 
 ghost use Rattle.std.specs.Prelude.{◌≡◌, ◌≤◌, ◌+◌, None, length, Option};
-ghost use Rattle.proof_checks.specs.Checks.{chosen, expected_after, claim_of_header, header_fault};
-ghost use Rattle.proof_verifier.specs.Walking.{higher, walk_end, Told};
+ghost use Rattle.proof_checks.specs.Checks.{next_link, expected_after, claim_of_header, header_fault};
+ghost use Rattle.proof_verifier.specs.Walking.{higher, walk_end, HeaderClaim};
 
 use crate::hashing::header_digest;
 use entry_views::{HeaderView, LinkView};
@@ -20,9 +20,9 @@ pub(crate) struct ToldHeader<'p> {
 }
 
 impl<'p> Model for ToldHeader<'p> {
-    ghost use Rattle.proof_verifier.specs.Walking.{Told};
+    ghost use Rattle.proof_verifier.specs.Walking.{HeaderClaim};
 
-    ghost Value = { Told };
+    ghost Value = { HeaderClaim };
 
     ghost view = { λ told. record { header = told.header.value; claim = told.claim } };
 }
@@ -38,8 +38,8 @@ fn higher(at: u32, best: Option<Link>, link: Option<Link>) -> Option<Link>
 }
 
 /// The link to follow: the highest one to a block after this, or else the lowest.
-fn chosen(links: &LinkView, at: u32) -> Option<Link>
-    ensures { result ≡ chosen at links.now }
+fn next_link(links: &LinkView, at: u32) -> Option<Link>
+    ensures { result ≡ next_link at links.now }
 {
     let mut best = links.get(0);
     for i in 0..links.len() {
@@ -55,7 +55,7 @@ fn expected_after(at: u32, header: &HeaderView) -> Option<Link>
     if header.block() <= at {
         return None;
     }
-    chosen(&header.links(), at)
+    next_link(&header.links(), at)
 }
 
 fn claim_of_header(header: &HeaderView) -> Claim

@@ -15,7 +15,7 @@ ghost use Rattle.proof_codec.specs.{
 };
 ghost use Rattle.proof_views.specs.Viewing.{Spells};
 ghost use Rattle.proof_checks.specs.{
-  Checks.{same_query, verdict},
+  Checks.{is_same_query, verdict},
   ProofTexts.{proof_texts},
   Soundness.{AnswersOrClashes},
 };
@@ -32,8 +32,8 @@ use proof_codec::kind_byte;
 use proof_views::{ProofView, ViewError, view};
 
 /// Whether a proof is of the query.
-fn same_query(asked: &Query, own: &Query) -> bool
-    ensures { result ≡ same_query asked.now own.now }
+fn is_same_query(asked: &Query, own: &Query) -> bool
+    ensures { result ≡ is_same_query asked.now own.now }
 {
     if kind_byte(own.kind) != kind_byte(asked.kind) {
         return false;
@@ -58,7 +58,7 @@ fn judge<'p>(root: &Digest, query: &Query, proof: &ProofView<'p>) -> Result<Foun
     requires { IsProof proof.now }
     ensures { Answers answer_seen fault_told result (verdict root.now.0 query.now proof.now) }
 {
-    if !same_query(query, &proof.query()) {
+    if !is_same_query(query, &proof.query()) {
         return Err(Reject::OtherQuery);
     }
     let computed = root_of(proof);

@@ -46,7 +46,7 @@ fn query(reader: &mut Reader) -> Result<Query, Fault>
 fn magic<'p>(reader: &mut Reader<'p>) -> Result<&'p [u8], Fault>
     ensures { ReadsAs (λ bytes. bytes.now) fault_left result (magic_at reader.old) reader.new }
 {
-    let left = reader.left();
+    let left = reader.remaining();
     let bytes = reader.bytes(4)?;
     if bytes != MAGIC.as_slice() {
         return Err(Fault { left });
@@ -58,7 +58,7 @@ fn magic<'p>(reader: &mut Reader<'p>) -> Result<&'p [u8], Fault>
 fn u32_at_least(reader: &mut Reader, least: u32) -> Result<u32, Fault>
     ensures { Reads fault_left result (ruled_at (λ n. nat_le least n) (number_at w32) reader.old) reader.new }
 {
-    let left = reader.left();
+    let left = reader.remaining();
     let number = reader.u32()?;
     if number < least {
         return Err(Fault { left });
@@ -70,7 +70,7 @@ fn u32_at_least(reader: &mut Reader, least: u32) -> Result<u32, Fault>
 fn u32_below(reader: &mut Reader, limit: u32) -> Result<u32, Fault>
     ensures { Reads fault_left result (ruled_at (λ n. nat_lt n limit) (number_at w32) reader.old) reader.new }
 {
-    let left = reader.left();
+    let left = reader.remaining();
     let number = reader.u32()?;
     if number >= limit {
         return Err(Fault { left });

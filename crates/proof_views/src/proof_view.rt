@@ -62,6 +62,7 @@ impl<'p> Model for ProofView<'p> {
 }
 
 impl<'p> ProofView<'p> {
+    /// The question that it answers.
     pub fn query(&self) -> Query
         ensures { result ≡ self.now.query }
     {
@@ -207,7 +208,7 @@ fn proof_in<'p>(bytes: &'p [u8]) -> Result<ProofView<'p>, ViewError>
     let mut reader = Reader::new(bytes);
     match proof(&mut reader) {
         Ok(proof) => {
-            let left = reader.left();
+            let left = reader.remaining();
             if left > 0 {
                 return Err(ViewError::Malformed {
                     at: bytes.len() - left,

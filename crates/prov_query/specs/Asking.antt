@@ -10,10 +10,8 @@ use Rattle.prov_query.specs.declared.questions.AskError.{AskError}
 use Rattle.prov_query.specs.declared.questions.AskError.TheVariants as errors
 
 -- A question about a block of the ledger has the answer that its rows give, unless the scratch
--- device
--- fails, or there is no memory for it; one past the last block is refused, with the number of the
--- last
--- block.
+-- device fails, or there is no memory for it; one past the last block is refused, with the number
+-- of the last block.
 abbrev pub IsAnswered : Ledger → Query → Result Answer AskError → Type 0
 IsAnswered ledger query (Ok answer) = (query.at < length ledger.digests)
     × (answer ≡ scan ledger.rows query)
@@ -31,8 +29,7 @@ IsRefusedBeyond ledger query (Err errors.Fault) = query.at < length ledger.diges
 IsRefusedBeyond ledger query (Err errors.Memory) = query.at < length ledger.digests
 
 -- A count of the versions that lookups look at rises by the length of the path over the rows; it
--- stays
--- where the question is past the last block.
+-- stays where the question is past the last block.
 abbrev pub IsCounted : Ledger → Query → Result Answer AskError → ℕ → ℕ → Type 0
 IsCounted ledger query (Err (errors.Beyond head)) before after = after ≡ before
 IsCounted ledger query (Ok answer) before after = after ≡ raised_count before

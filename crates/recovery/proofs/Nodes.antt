@@ -25,7 +25,7 @@ use Rattle.recovery.specs.Node.{NodeState, AreOfBlocks, AreOfOneChain, HoldsChai
 use Rattle.recovery.specs.Node.{IsStepOf, chain_in}
 use Rattle.recovery.proofs.Placing.{stricter}
 
--- bytes that are judgement_of to be added are the next block after those that the content stands for
+-- bytes that are judged to be added are the next block after those that the content stands for
 pub next_after : (node : NodeState) (state : Option DiskState) (blocks : List Block)
     (content bytes : List ℕ) (block : Block) → IsNodeOf node state blocks
     → content_of state ≡ Some content → block_in bytes ≡ Ok block
@@ -63,7 +63,7 @@ still_only {D} now disk old new log same rests content told =
     (rests_keeps now disk old (λ (image : List ℕ). image ≡ content) content
     (rests_at (Agrees log) (disk old (now old)) content rests told).0 refl)
 
--- bytes that spell the next block of what is kept are judgement_of to be added
+-- bytes that spell the next block of what is kept are judged to be added
 pub is_added : (chain : ChainState) (bytes : List ℕ) (blocks : List Block) (block : Block)
     (digest : Digest) → IsNextBlock chain bytes block digest → StandsFor chain blocks
     → judgement_of compiled_in blocks (block_in bytes) ≡ Ok (Added block)

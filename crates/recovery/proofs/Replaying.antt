@@ -19,8 +19,7 @@ use Rattle.recovery.specs.Node.{next_in_chain}
 use Rattle.recovery.proofs.Placing.{stricter}
 
 -- These blocks have run, one after another; a placement that counts rows goes on after them,
--- whatever
--- blocks follow.
+-- whatever blocks follow.
 pub record AreRun (stored : List Stored) (chain : ChainState) : Type 0 where
   pub stands : StandsFor chain (blocks_in stored)
   pub same : (more : List Stored) (end : List Stored → Standing)

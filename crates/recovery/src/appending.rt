@@ -67,7 +67,7 @@ impl Node {
             (Blames is_scratch_fault result) }
     {
         let Node { chain, log } = self;
-        let (chain, run, root) = match chain.extended(alloc, scratch, block, digest) {
+        let (chain, run, root) = match chain.with_block(alloc, scratch, block, digest) {
             Ok(done) => done,
             Err(error) => return Err((None, run_error(error))),
         };

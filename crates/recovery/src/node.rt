@@ -80,7 +80,7 @@ impl Node {
             → content_of (M.disk machine.old (M.now machine.old)) ≡ Some content
             → IsNodeStarted (M.disk machine.new (M.now machine.new))
             (standing next_in_chain content) result }
-        // Whether that is known or not, and the disk.
+        // Whether or not that is known, and whether or not the disk is:
         ensures ready { IfOk result
             (λ node. IsReady node (M.disk machine.new (M.now machine.new)) (S.state scratch.new)) }
         ensures machine { ReadsLog M.now M.disk M.disk_faults M.told M.wire_faults machine.old

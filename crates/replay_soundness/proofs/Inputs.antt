@@ -66,7 +66,7 @@ module _ (read : Decoder) (compile : Compiler) (right : IsDecoder read) where
   same_chain : (blocks : List Block) → IsLawfulChain compile blocks → IsLawfulChain compile (blocks ++ [])
   same_chain blocks chain = subst (IsLawfulChain compile) (sym (append-nil blocks)) chain
 
-  -- the blocks of a chain and those that bytes add, which are judgement_of so
+  -- the blocks of a chain and those that bytes add, which are judged so
   by_placement : (blocks : List Block) (bytes : List ℕ) (block : Block) (frame : Taken) → IsBytes bytes → IsLawfulChain compile blocks → read bytes ≡ Ok block
       → (placement : Placement) → placement_in compile blocks block ≡ placement → judged_by_placement block placement ≡ Ok frame → IsLawfulChain compile (blocks ++ added_by frame)
   by_placement blocks bytes block frame fits chain spelled KnownBlock e is =

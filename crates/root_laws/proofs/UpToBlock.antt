@@ -11,7 +11,7 @@ use Rattle.lc_base.specs.declared.digest.Digest.{Digest}
 use Rattle.lc_base.specs.declared.row.Row.{Row}
 use Rattle.lc_base.specs.History.{below, up_to}
 use Rattle.skip_links.specs.Links.{is_older, are_close, is_at_level, height_to, is_linked, link, links}
-use Rattle.skip_links.specs.declared.limits.TheConstants.{MAX_HEIGHT}
+use Rattle.skip_links.specs.declared.limits.TheConstants.{MAX_LEVEL}
 use Rattle.root_laws.specs.Root.{root_of, root_text, digest_at, leaves}
 use Rattle.root_laws.specs.GrowthLaws.{AreFrom}
 use Rattle.root_laws.proofs.Lists.{any_filter, find_filter, find_on, filter_reverse}
@@ -59,8 +59,8 @@ some_on f g (x ∷ xs) h = let rest = some_on f g xs h in rw (h x, rest) refl
 links_of_part : (keeps : Row → Bool) (rows : List Row) (key : List ℕ) (block : ℕ) → KeepsOlder keeps block → links (filter keeps rows) key block ≡ links rows key block
 unfolding links
 links_of_part keeps rows key block all =
-    some_on (link (filter keeps rows) key block) (link rows key block) (range_with_len 0 (height_to MAX_HEIGHT (filter keeps rows) key block + 1)) (λ level. link_of_part keeps rows key block level all)
-    ∙ ap (λ (h : ℕ). filter_map (link rows key block) (range_with_len 0 (h + 1))) (height_of_part MAX_HEIGHT keeps rows key block all)
+    some_on (link (filter keeps rows) key block) (link rows key block) (range_with_len 0 (height_to MAX_LEVEL (filter keeps rows) key block + 1)) (λ level. link_of_part keeps rows key block level all)
+    ∙ ap (λ (h : ℕ). filter_map (link rows key block) (range_with_len 0 (h + 1))) (height_of_part MAX_LEVEL keeps rows key block all)
 
 pub links_up_to : (rows : List Row) (key : List ℕ) (block : ℕ) → links (up_to rows block) key block ≡ links rows key block
 links_up_to rows key block = links_of_part (λ (row : Row). nat_le row.block block) rows key block (λ row low. le-leb row.block block (omega (arith, low)))

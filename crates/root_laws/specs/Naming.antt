@@ -20,7 +20,7 @@ use Rattle.prov_entry.specs.ForwardLists.{uses_digest}
 abbrev pub digest_of_uses : List Dep → Digest
 digest_of_uses uses = record { 0 = uses_digest uses }
 
--- ---- closed_uses forward lists
+-- ---- closed forward lists
 
 -- The uses of a version among these rows; none where there is no version.
 abbrev pub uses_of : List Row → List ℕ → Option Row → List Dep

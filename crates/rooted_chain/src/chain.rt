@@ -146,7 +146,7 @@ impl Replay for LineageChain {
         block: &Block,
         digest: Digest,
     ) -> Result<LineageChain, HostError> {
-        match self.extended(alloc, scratch, block, digest) {
+        match self.with_block(alloc, scratch, block, digest) {
             Ok((longer, _run, _root)) => Ok(longer),
             Err(error) => Err(error),
         }

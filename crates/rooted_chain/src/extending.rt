@@ -25,7 +25,7 @@ use std::alloc::Global;
 impl LineageChain {
     /// The chain with the next block after the others, what this block did, and the root at it. On
     /// an error the chain is given up.
-    pub fn extended<S: Scratch>(
+    pub fn with_block<S: Scratch>(
         self,
         alloc: Global,
         scratch: &mut S,

@@ -2,6 +2,7 @@
 use Rattle.std.specs.Prelude.{ℕ, Bool, List, filter, nat_lt}
 use Rattle.rows_index.specs.declared.places.Place.{Place}
 
+-- Whether a number is below an end.
 abbrev pub is_below : ℕ → ℕ → Bool
 is_below end number = nat_lt number end
 
@@ -9,6 +10,7 @@ is_below end number = nat_lt number end
 abbrev pub numbers_below : ℕ → List ℕ → List ℕ
 numbers_below end numbers = filter (is_below end) numbers
 
+-- Whether the row of a place is below an end.
 abbrev pub stands_below : ℕ → Place → Bool
 stands_below end place = nat_lt place.row end
 

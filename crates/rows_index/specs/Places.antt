@@ -21,12 +21,15 @@ marks_of keep passes n (x ∷ xs) =
 abbrev pub is_of : List ℕ → Row → Bool
 is_of key row = pointwise ◌==◌ row.key key
 
+-- Where the row at this index stands.
 abbrev pub place_of : ℕ → Row → Place
 place_of n row = record { block = row.block; row = n }
 
+-- The block of a place.
 abbrev pub block_of : Place → ℕ
 block_of place = place.block
 
+-- The index of the row of a place.
 abbrev pub row_index : Place → ℕ
 row_index place = place.row
 
@@ -34,6 +37,7 @@ row_index place = place.row
 abbrev pub places : List Row → List ℕ → List Place
 places rows key = marks_of place_of (is_of key) 0 rows
 
+-- The list, or an empty one where there is none.
 abbrev pub list_or_empty : {A : Type 0} → Option (List A) → List A
 list_or_empty None = []
 list_or_empty (Some list) = list

@@ -11,6 +11,7 @@ use Rattle.lc_base.specs.History.{StandsBefore, depends_on, version_of}
 use Rattle.rows_index.specs.declared.places.Place.{Place}
 use Rattle.rows_index.specs.Places.{marks_of, ArePlaces, StandsAt}
 
+-- The index of a row, whatever the row is.
 abbrev pub number_of : ℕ → Row → ℕ
 number_of n row = n
 
@@ -31,6 +32,7 @@ pub record AreUsersWith (rows : List Row) (deps : List Dep) (n : ℕ) (lists : L
         slice_get lists index ≡ Some
         (if is_among deps row then users rows row ++ n ∷ [] else users rows row)
 
+-- Of each row the rows that were derived from it are kept.
 abbrev pub AreUsers : List Row → List (List ℕ) → Type 0
 AreUsers rows lists = AreUsersWith rows [] 0 lists
 
@@ -38,6 +40,7 @@ AreUsers rows lists = AreUsersWith rows [] 0 lists
 abbrev pub version_at : List Row → ℕ → Option Dep
 version_at rows index = option_map version_of (slice_get rows index)
 
+-- A version that is there.
 abbrev pub there : Dep → Option Dep
 there dep = Some dep
 

@@ -11,7 +11,7 @@ ghost use Rattle.rows_index.specs.{
   Index.{IsIndexOf, IsNext},
 };
 
-use crate::places::{Place, PlaceList, map_below, push_place, row_up_to};
+use crate::places::{Place, PlaceList, places_below_end, push_place, row_up_to};
 use crate::users::{IndexList, add_users, users_below};
 use lc_base::{Key, Memory, Row};
 use std::alloc::Global;
@@ -115,7 +115,7 @@ impl RowsIndex {
         let alloc = *self.users.allocator();
         let first = &self.users[..count as usize];
         Ok(RowsIndex {
-            places: map_below(alloc, &self.places, count)?,
+            places: places_below_end(alloc, &self.places, count)?,
             users: users_below(alloc, first, count)?,
         })
     }

@@ -110,7 +110,7 @@ fn put_places(kept: &mut BTreeMap<Key, PlaceList>, key: &Key, list: PlaceList) -
 }
 
 /// Of each key the places of rows below `end`.
-pub(crate) fn map_below(
+pub(crate) fn places_below_end(
     alloc: Global,
     places: &BTreeMap<Key, PlaceList>,
     end: u32,

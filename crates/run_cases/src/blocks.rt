@@ -33,7 +33,7 @@ fn run_next(alloc: Global, chain: Chain, block: &Block, digest: Digest) -> Resul
     ensures { IfOk result (λ done. IsAfter chain block.now digest done.0 done.1) }
 {
     match chain.place(block, digest) {
-        Placement::Next => match chain.extended(alloc, block, digest) {
+        Placement::Next => match chain.with_block(alloc, block, digest) {
             Ok(done) => Ok(done),
             Err(Memory) => bail!("no memory for what a block did"),
         },

@@ -120,5 +120,5 @@ pub fn run_command<W: Write>(alloc: Global, out: &mut W, case: &Case<'_>) -> Res
     let mut scratch = scratch_of(alloc, case.scratch)?;
     let words = words_of(alloc, case.words)?;
     let number = run(alloc, &words, &mut source, &mut machine, &mut scratch).number();
-    print_outcome(alloc, out, case, number, source.left(), &machine)
+    print_outcome(alloc, out, case, number, source.remaining(), &machine)
 }

@@ -27,7 +27,7 @@ const SCRATCH_ROOM: Room = Room {
 const PAUSE: &str = "pause ";
 
 /// A source that gives nothing at some of its pulls, as at the end of an input, and then goes on, as
-/// a terminal may. So what it has left isn't told.
+/// a terminal may. So what it has left isn't known.
 #[derive(Drop)]
 pub struct PausingSource {
     source: MemSource,
@@ -39,7 +39,7 @@ pub struct PausingSource {
 
 impl PausingSource {
     /// How many bytes are left.
-    pub fn left(&self) -> usize {
+    pub fn remaining(&self) -> usize {
         self.source.rest().len()
     }
 }

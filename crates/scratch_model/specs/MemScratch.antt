@@ -6,7 +6,7 @@ use Rattle.scratch_model.specs.Scratch.{ScratchState, Serves}
 
 -- The bytes that were put, one after another; the calls that took a number, and how many of them
 -- were gets; the room for calls and bytes; the numbers of the calls that fail, and how many
--- with_fault.
+-- failed.
 pub record MemScratchState : Type 0 where
   pub bytes : List ℕ
   pub calls : ℕ
@@ -35,7 +35,7 @@ with_call s = record s { calls = s.calls + 1 }
 abbrev pub with_get : MemScratchState → MemScratchState
 with_get s = record s { calls = s.calls + 1; gets = s.gets + 1 }
 
--- A call that with_fault.
+-- A call that failed.
 abbrev pub with_fault : MemScratchState → MemScratchState
 with_fault s = record s { faults = one_more s.faults }
 

@@ -4,7 +4,7 @@ use Rattle.std.specs.Option.{is_some}
 use Rattle.lc_base.specs.Faults.{HasCause}
 
 -- Whether so many bytes are kept at a place, and the bytes that are held there, so many, where
--- that is told.
+-- they are known.
 pub record ScratchState : Type 0 where
   pub kept : ℕ → ℕ → Bool
   pub held : Option (ℕ → ℕ → List ℕ)

@@ -1,4 +1,4 @@
-//! The edge over a real file. What the file holds no contract can name, so it stays untold.
+//! The edge over a real file. What the file holds no contract can name, so it is not known.
 
 ghost use Rattle.std.specs.Prelude.{◌≡◌, true, None, length, IfOk, OnOk, IsErr, IsOk};
 ghost use Rattle.lc_io.specs.Streams.{CountsFaults};

@@ -1,5 +1,5 @@
 //! The trait of a scratch device. As in `lc_io`, a meaning is named by contracts alone, and
-//! where an object does not tell it, a clause on it says only that it stays untold.
+//! where it is not known of an object, a clause on it says only that it stays unknown.
 
 ghost use Rattle.std.specs.Prelude.{◌≡◌, ℕ, true, length, IfOk, OnOk, IsErr};
 ghost use Rattle.lc_base.specs.Faults.{HasCause};
@@ -9,7 +9,7 @@ use lc_io::Failed;
 
 /// A device that keeps bytes for as long as the program runs.
 pub trait Scratch {
-    /// Whether so many bytes are kept at a place, which is always told, and which bytes are held
+    /// Whether so many bytes are kept at a place, which is always known, and which bytes are held
     /// there (optional).
     ghost state: { Self → ScratchState };
     /// How many calls failed, up to the last value of a `u64`.

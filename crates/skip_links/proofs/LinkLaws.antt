@@ -13,7 +13,7 @@ use Rattle.lc_base.specs.History.{IsLawful, below, newest}
 use Rattle.skip_links.specs.Links.{is_older, are_close, is_at_level, height, link, links}
 use Rattle.skip_links.specs.Falling.{older_blocks, IsFalling, is_first, from_level, first_block, last_at_level}
 use Rattle.skip_links.specs.Laws.{has_older, has_older_in}
-use Rattle.skip_links.specs.declared.limits.TheConstants.{MAX_HEIGHT}
+use Rattle.skip_links.specs.declared.limits.TheConstants.{MAX_LEVEL}
 use Rattle.skip_links.proofs.Falls.{from_first, from_past}
 use Rattle.skip_links.proofs.Towers.{any_reverse, blocks_fall, height_is, links_none, lawful_link, links_on}
 use Rattle.skip_links.proofs.Threads.{blocks_below}
@@ -127,7 +127,7 @@ height_is_difference rows key block version lawful few is =
         let top = leading_top 32 (bit_xor version.block block) (differ version.block block less)
         (xor_lt 32 version.block block (omega (arith, less, few)) few) in
         let high : bit_xor version.block block < 2 * 2 ^ top.0 = omega (arith, top.3, two-pow-succ top.0) in
-        let is_height = height_is MAX_HEIGHT top.0 rows key block version.block older falls blocks less top.2 high (omega (arith, top.1)) in
+        let is_height = height_is MAX_LEVEL top.0 rows key block version.block older falls blocks less top.2 high (omega (arith, top.1)) in
         rw is_height (top.2, high)
 
 -- ---- the first version alone

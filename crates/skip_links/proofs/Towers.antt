@@ -13,7 +13,7 @@ use Rattle.lc_base.specs.declared.row.Row.{Row}
 use Rattle.lc_base.specs.History.{IsLawful, StandsBefore, up_to, below}
 use Rattle.skip_links.specs.Links.{height_to, height, links, is_older, are_close, is_at_level, link}
 use Rattle.skip_links.specs.Falling.{older_blocks, IsFalling, is_first, from_level, last_at_level}
-use Rattle.skip_links.specs.declared.limits.TheConstants.{MAX_HEIGHT}
+use Rattle.skip_links.specs.declared.limits.TheConstants.{MAX_LEVEL}
 use Rattle.skip_links.proofs.Falls.{all_lower, none_in_interval, rest_falls}
 use Rattle.skip_links.proofs.Differing.{apart, together, higher}
 
@@ -241,7 +241,7 @@ links_of_blocks : (rows others : List Row) (key : List ℕ) (block : ℕ) → Is
 unfolding links
 links_of_blocks rows others key block lawful same =
     links_on (link others key block) (link rows key block) (range_with_len 0 (height others key block + 1)) (λ level. link_of_blocks rows others key block level lawful same)
-    ∙ ap (λ (h : ℕ). filter_map (link rows key block) (range_with_len 0 (h + 1))) (height_of_blocks MAX_HEIGHT rows others key block lawful same)
+    ∙ ap (λ (h : ℕ). filter_map (link rows key block) (range_with_len 0 (h + 1))) (height_of_blocks MAX_LEVEL rows others key block lawful same)
 
 pub links_up_to : (rows : List Row) (key : List ℕ) (block : ℕ) → IsLawful rows → links (up_to rows block) key block ≡ links rows key block
 links_up_to rows key block lawful = links_of_blocks rows (up_to rows block) key block lawful (older_up_to rows key block)

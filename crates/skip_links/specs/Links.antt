@@ -4,7 +4,7 @@ use Rattle.std.specs.List.{find, list_any, filter_map, range_with_len}
 use Rattle.std.specs.Option.{option_map}
 use Rattle.std.specs.Cmp.Lexicographic.{pointwise}
 use Rattle.lc_base.specs.declared.row.Row.{Row}
-use Rattle.skip_links.specs.declared.limits.TheConstants.{MAX_HEIGHT}
+use Rattle.skip_links.specs.declared.limits.TheConstants.{MAX_LEVEL}
 
 -- Whether a row is a version of the key in an earlier block.
 abbrev pub is_older : List ℕ → ℕ → Row → Bool
@@ -28,7 +28,7 @@ height_to (suc level) rows key block = if is_at_level rows key block (suc level)
 
 -- The height of a version of the key in this block that is not the key's first.
 abbrev pub height : List Row → List ℕ → ℕ → ℕ
-height rows key block = height_to MAX_HEIGHT rows key block
+height rows key block = height_to MAX_LEVEL rows key block
 
 -- Whether a row is a version of the key in an earlier block, and at this level.
 abbrev pub is_linked : List Row → List ℕ → ℕ → ℕ → Row → Bool

@@ -35,7 +35,7 @@ pub fn height_is_the_highest_difference()
 {}
 
 /// At a level whose first interval has the block, only the key's first version is. So no later
-/// version is at a level above `MAX_HEIGHT`.
+/// version is at a level above `MAX_LEVEL`.
 #[tactic(auto, using(crate::proofs::LinkLaws::first_alone))]
 pub fn first_version_alone_is_at_the_top()
     ensures { (rows : List Row) (key : List ℕ) (block level : ℕ) → block < 2 ^ level → is_at_level rows key block level ≡ not (has_older rows key block) }

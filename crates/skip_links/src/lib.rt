@@ -13,6 +13,6 @@ pub use laws::{
     links_are_of_rows_up_to_the_block, links_are_over_the_blocks_of_the_key,
     links_are_to_older_versions, newest_index_grows_row_by_row, newest_index_is_of_the_newest,
 };
-pub use limits::MAX_HEIGHT;
+pub use limits::MAX_LEVEL;
 pub use scanning::links;
 pub use versions::BlockList;

@@ -1,5 +1,6 @@
 //! How many levels there are.
 
-/// The greatest height of a version, since the numbers of blocks have 32 bits: at level 32 all
-/// blocks are in one interval, and only the first version of a key is at it.
-pub const MAX_HEIGHT: u32 = 31;
+/// The highest level of a link, which is the greatest height of a version: the numbers of blocks
+/// have 32 bits, so at level 32 all blocks are in one interval, and only the first version of a key
+/// is there.
+pub const MAX_LEVEL: u32 = 31;

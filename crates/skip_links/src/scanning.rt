@@ -7,10 +7,10 @@ ghost use Rattle.std.specs.{
 };
 ghost use Rattle.skip_links.specs.{
   Links.{is_older, are_close, is_at_level, height_to, is_linked, link, links},
-  declared.limits.TheConstants.{MAX_HEIGHT},
+  declared.limits.TheConstants.{MAX_LEVEL},
 };
 
-use crate::limits::MAX_HEIGHT;
+use crate::limits::MAX_LEVEL;
 use crate::versions::BlockList;
 use lc_base::{Key, Memory, Row};
 use std::alloc::Global;
@@ -22,21 +22,21 @@ fn is_older(row: &Row, key: &Key, block: u32) -> bool
 }
 
 fn are_close(level: u32, a: u32, b: u32) -> bool
-    requires { level ≤ MAX_HEIGHT }
+    requires { level ≤ MAX_LEVEL }
     ensures { result ≡ are_close level a b }
 {
     a >> level == b >> level
 }
 
 fn is_older_and_close(row: &Row, key: &Key, block: u32, level: u32) -> bool
-    requires { level ≤ MAX_HEIGHT }
+    requires { level ≤ MAX_LEVEL }
     ensures { result ≡ (is_older key.now block row.now && are_close level row.now.block block) }
 {
     is_older(row, key, block) && are_close(level, row.block, block)
 }
 
 fn has_older_close(rows: &[Row], key: &Key, block: u32, level: u32) -> bool
-    requires { level ≤ MAX_HEIGHT }
+    requires { level ≤ MAX_LEVEL }
     ensures { result ≡ list_any (λ row. is_older key.now block row && are_close level row.block block) rows.now }
 {
     rows.iter()
@@ -44,7 +44,7 @@ fn has_older_close(rows: &[Row], key: &Key, block: u32, level: u32) -> bool
 }
 
 fn is_at_level(rows: &[Row], key: &Key, block: u32, level: u32) -> bool
-    requires { level ≤ MAX_HEIGHT }
+    requires { level ≤ MAX_LEVEL }
     ensures { result ≡ is_at_level rows.now key.now block level }
 {
     !has_older_close(rows, key, block, level)
@@ -53,7 +53,7 @@ fn is_at_level(rows: &[Row], key: &Key, block: u32, level: u32) -> bool
 /// The greatest level up to this one at which the version is.
 #[tactic(auto, unfolding(crate::specs::Links::height_to))]
 fn height_to(level: u32, rows: &[Row], key: &Key, block: u32) -> u32
-    requires { level ≤ MAX_HEIGHT }
+    requires { level ≤ MAX_LEVEL }
     ensures height { result ≡ height_to level rows.now key.now block }
     ensures most { result ≤ level }
 {
@@ -67,14 +67,14 @@ fn height_to(level: u32, rows: &[Row], key: &Key, block: u32) -> u32
 }
 
 fn is_linked(rows: &[Row], key: &Key, block: u32, level: u32, row: &Row) -> bool
-    requires { level ≤ MAX_HEIGHT }
+    requires { level ≤ MAX_LEVEL }
     ensures { result ≡ is_linked rows.now key.now block level row.now }
 {
     is_older(row, key, block) && is_at_level(rows, key, row.block, level)
 }
 
 fn linked_row<'a>(rows: &'a [Row], key: &Key, block: u32, level: u32) -> Option<&'a Row>
-    requires { level ≤ MAX_HEIGHT }
+    requires { level ≤ MAX_LEVEL }
     ensures { option_copied result ≡ find (is_linked rows.now key.now block level) (reverse rows.now) }
 {
     rows.iter()
@@ -84,7 +84,7 @@ fn linked_row<'a>(rows: &'a [Row], key: &Key, block: u32, level: u32) -> Option<
 
 #[tactic(auto, unfolding(crate::specs::Links::link))]
 fn link(rows: &[Row], key: &Key, block: u32, level: u32) -> Option<u32>
-    requires { level ≤ MAX_HEIGHT }
+    requires { level ≤ MAX_LEVEL }
     ensures { result ≡ link rows.now key.now block level }
 {
     linked_row(rows, key, block, level).map(|row| row.block)
@@ -104,9 +104,9 @@ fn push_some(blocks: &mut BlockList, block: Option<u32>) -> Result<(), Memory>
 #[tactic(auto, unfolding(crate::specs::Links::links), using(crate::proofs::Levels::links_more, crate::proofs::Levels::length_more))]
 pub fn links(alloc: Global, rows: &[Row], key: &Key, block: u32) -> Result<BlockList, Memory>
     ensures blocks { IfOk result (λ blocks. blocks ≡ links rows.now key.now block) }
-    ensures few { IfOk result (λ blocks. length blocks ≤ MAX_HEIGHT + 1) }
+    ensures few { IfOk result (λ blocks. length blocks ≤ MAX_LEVEL + 1) }
 {
-    let height = height_to(MAX_HEIGHT, rows, key, block);
+    let height = height_to(MAX_LEVEL, rows, key, block);
     let mut blocks = BlockList::new(alloc);
     for level in 0..height + 1 {
         push_some(&mut blocks, link(rows, key, block, level))?;

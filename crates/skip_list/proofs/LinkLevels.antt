@@ -10,7 +10,7 @@ use Rattle.std.proofs.lemmas.Nat.{xor_lt, and_le_l, and_le_r, xor_shr, pow_pos, 
 use Rattle.std.proofs.Math.Nat.{div-eq_of_lt, two-pow-succ}
 use Rattle.std.proofs.Math.Pow.{pow_mono}
 use Rattle.skip_links.specs.Falling.{IsFalling, is_first, from_level}
-use Rattle.skip_links.specs.declared.limits.TheConstants.{MAX_HEIGHT}
+use Rattle.skip_links.specs.declared.limits.TheConstants.{MAX_LEVEL}
 use Rattle.skip_links.proofs.Differing.{apart, together, higher}
 use Rattle.skip_links.proofs.Falls.{not_higher}
 use Rattle.skip_path.specs.Towers.{height_up_to, height_over, from_last, last_at}
@@ -141,8 +141,8 @@ height_is (suc top) h u p rest less low high few = elim (cases_lt h (suc top)) [
       rw (apart (suc top) p u less (rw same at low)) (sym same)
 ]
 
-pub height_over_is : (h u p : ℕ) (rest : List ℕ) → p < u → 2 ^ h ≤ bit_xor p u → bit_xor p u < 2 * 2 ^ h → h ≤ MAX_HEIGHT → height_over u (p ∷ rest) ≡ h
-height_over_is h u p rest less low high few = height_is MAX_HEIGHT h u p rest less low high few
+pub height_over_is : (h u p : ℕ) (rest : List ℕ) → p < u → 2 ^ h ≤ bit_xor p u → bit_xor p u < 2 * 2 ^ h → h ≤ MAX_LEVEL → height_over u (p ∷ rest) ≡ h
+height_over_is h u p rest less low high few = height_is MAX_LEVEL h u p rest less low high few
 
 -- It is below the number of the block's binary digits.
 pub height_fits : (h p u : ℕ) → p < u → u < 2 ^ 32 → 2 ^ h ≤ bit_xor p u → h < binary_digits u

@@ -5,7 +5,7 @@ use Rattle.std.specs.List.{filter_map, range_with_len}
 use Rattle.std.proofs.lemmas.Bool.{cases_Bool, cases_lt, lt-ltb, le-ltb}
 use Rattle.std.proofs.lemmas.Option.{same_Some, none-some}
 use Rattle.skip_links.specs.Falling.{IsFalling, is_first}
-use Rattle.skip_links.specs.declared.limits.TheConstants.{MAX_HEIGHT}
+use Rattle.skip_links.specs.declared.limits.TheConstants.{MAX_LEVEL}
 use Rattle.skip_links.proofs.Falls.{rest_falls}
 use Rattle.skip_path.specs.Towers.{height_over, from_last, last_at, tower}
 use Rattle.skip_path.proofs.Levels.{at_bottom, levels_below}
@@ -80,7 +80,7 @@ stays entries versions level rung below none = record {
     on (previous ∷ older) is falling =
         let link = highest_link rung previous older is in
         let bottom = at_bottom rung.version.block (blocks_of (previous ∷ older)) falling in
-        let tall = at_height MAX_HEIGHT rung.version.block (blocks_of (previous ∷ older)) bottom in
+        let tall = at_height MAX_LEVEL rung.version.block (blocks_of (previous ∷ older)) bottom in
         elim (cases_lt level rung.levels) [
           | inl lt ↦ levels_below (height rung.version (previous ∷ older)) rung.version.block (blocks_of (previous ∷ older)) tall level (omega (arith, lt, link.0))
           | inr ge ↦
@@ -108,7 +108,7 @@ pub record Rises (entries : List Entry) (versions : List Hop) (level : ℕ) (hig
   pub above : 0 < level
 
 -- From a version that isn't at the level the highest link leads to it.
-pub rises : (entries : List Entry) (versions : List Hop) (level : ℕ) (rung : Rung) (higher : Hop) → IsAllBelow entries versions level rung → level ≤ MAX_HEIGHT
+pub rises : (entries : List Entry) (versions : List Hop) (level : ℕ) (rung : Rung) (higher : Hop) → IsAllBelow entries versions level rung → level ≤ MAX_LEVEL
     → Some higher ≡ beyond level rung → Rises entries versions level higher
 rises entries versions level rung higher below few some = on below.older below.is below.falling below.towers below.below below.reach
   where
@@ -125,14 +125,14 @@ rises entries versions level rung higher below few some = on below.older below.i
           | inl lt ↦ absurd (none-some higher (sym (rw (lt-ltb level rung.levels lt) at some)))
           | inr ge ↦
               let under = level - 1 in
-              let least = height_least MAX_HEIGHT under rung.version.block (blocks_of (previous ∷ older)) (low under (omega (arith, ge, link.0))) (omega (arith, few)) in
+              let least = height_least MAX_LEVEL under rung.version.block (blocks_of (previous ∷ older)) (low under (omega (arith, ge, link.0))) (omega (arith, few)) in
               let at : level ≡ suc h = omega (arith, ge, link.0, least) in
               let off : is_first (suc h) rung.version.block (blocks_of (previous ∷ older)) ≡ false = elim (cases_Bool (is_first (suc h) rung.version.block (blocks_of (previous ∷ older)))) [
-                | inl is_on ↦ absurd (omega (arith, height_least MAX_HEIGHT (suc h) rung.version.block (blocks_of (previous ∷ older)) is_on (omega (arith, few, at))))
+                | inl is_on ↦ absurd (omega (arith, height_least MAX_LEVEL (suc h) rung.version.block (blocks_of (previous ∷ older)) is_on (omega (arith, few, at))))
                 | inr is_off ↦ is_off
               ] in
               let bottom = at_bottom rung.version.block (blocks_of (previous ∷ older)) falling in
-              let tall = at_height MAX_HEIGHT rung.version.block (blocks_of (previous ∷ older)) bottom in
+              let tall = at_height MAX_LEVEL rung.version.block (blocks_of (previous ∷ older)) bottom in
               let highest : Some higher ≡ rung.highest = rw (le-ltb level rung.levels ge) at some in
               let found = split_first (from_last block_of h (previous ∷ older)) higher (sym link.1 ∙ sym highest) in
               let falls = from_keeps block_of (λ (vs : List Hop). IsFalling (blocks_of vs)) falls_back h (previous ∷ older) (falls_back rung.version (previous ∷ older) falling) in
@@ -208,7 +208,7 @@ newest_below entries id (version ∷ older) rung block towered before reads =
 -- The links up to the height are the tower.
 pub all_links : (entries : List Entry) (id : EntryId) (versions : List Hop) (rung : Rung) (block h : ℕ) (links : List Hop) → IsTowered entries id versions → AreOlder block versions
     → ((version : Hop) (older : List Hop) → version.id ≡ id → HaveTowers entries (version ∷ older) → rung ≡ rung_over version older)
-    → 2 ^ h ≤ bit_xor rung.version.block block → bit_xor rung.version.block block < 2 * 2 ^ h → h ≤ MAX_HEIGHT
+    → 2 ^ h ≤ bit_xor rung.version.block block → bit_xor rung.version.block block < 2 * 2 ^ h → h ≤ MAX_LEVEL
     → links ≡ filter_map (last_at block_of versions) (range_with_len 0 (h + 1)) → links ≡ links_over block versions
 unfolding tower
 all_links entries id [] rung block h links towered before reads low high few are = absurd (none-some id towered.newest)

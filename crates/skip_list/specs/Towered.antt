@@ -7,10 +7,11 @@ use Rattle.entry_store.specs.declared.entry.EntryId.{EntryId}
 use Rattle.entry_store.specs.declared.entry.Hop.{Hop}
 use Rattle.entry_store.specs.Entries.{Entry}
 
--- The blocks of versions.
+-- The block of a version.
 abbrev pub block_of : Hop → ℕ
 block_of version = version.block
 
+-- The blocks of versions.
 abbrev pub blocks_of : List Hop → List ℕ
 blocks_of versions = map block_of versions
 

@@ -4,7 +4,7 @@ ghost use Rattle.std.specs.{
   Prelude.{◌≡◌, ◌+◌, ◌*◌, ◌^◌, ◌<◌, ◌≤◌, List, length, IfOk, bit_xor},
   List.{All},
 };
-ghost use Rattle.skip_links.specs.declared.limits.TheConstants.{MAX_HEIGHT};
+ghost use Rattle.skip_links.specs.declared.limits.TheConstants.{MAX_LEVEL};
 ghost use Rattle.skip_path.specs.Paths.{binary_digits};
 ghost use Rattle.entry_store.specs.declared.entry.Hop.{Hop};
 ghost use Rattle.skip_list.specs.Towered.{links_over, AreVersions, AreOlder, LeadsToTowered};
@@ -17,7 +17,7 @@ use std::alloc::Global;
 /// The height of a version, where `previous` is the block of the version before it.
 fn height_over(previous: u32, block: u32) -> u32
     requires { previous < block }
-    ensures most { result ≤ MAX_HEIGHT }
+    ensures most { result ≤ MAX_LEVEL }
     ensures highest { (2 ^ result ≤ bit_xor previous block) × (bit_xor previous block < 2 * 2 ^ result) }
 {
     (previous ^ block).ilog2()
@@ -38,7 +38,7 @@ pub fn links_for(
     ensures never_less { steps.old ≤ steps.new }
     ensures count { steps.new ≤ steps.old + binary_digits block }
     ensures towered { IfOk result (λ hops. All (LeadsToTowered store.now) hops) }
-    ensures few { IfOk result (λ hops. length hops ≤ MAX_HEIGHT + 1) }
+    ensures few { IfOk result (λ hops. length hops ≤ MAX_LEVEL + 1) }
 {
     let Some(newest) = newest else {
         return Ok(HopList::new(alloc));

@@ -11,7 +11,7 @@ use Rattle.lc_base.specs.declared.row.Row.{Row}
 use Rattle.lc_base.specs.History.{IsLawful, StandsBefore, newest, latest}
 use Rattle.skip_links.specs.Links.{links, link, height, height_to, is_older}
 use Rattle.skip_links.specs.Falling.{IsFalling, first_block, from_level, last_at_level, older_blocks}
-use Rattle.skip_links.specs.declared.limits.TheConstants.{MAX_HEIGHT}
+use Rattle.skip_links.specs.declared.limits.TheConstants.{MAX_LEVEL}
 use Rattle.skip_links.proofs.Falls.{rest_falls}
 use Rattle.skip_links.proofs.Towers.{blocks_fall, ordered_fall, lawful_link, level_is, links_on, find_of_blocks}
 use Rattle.skip_path.specs.Towers.{tower, height_up_to, height_over, last_at}
@@ -41,7 +41,7 @@ links_tower rows key block lawful =
     links_on (link rows key block) (last_at (λ (b : ℕ). b) older) (range_with_len 0 (height rows key block + 1))
     (λ level. lawful_link rows key block level lawful ∙ level_link level older)
     ∙ ap (λ (h : ℕ). filter_map (last_at (λ (b : ℕ). b) older) (range_with_len 0 (h + 1)))
-    (height_is_over MAX_HEIGHT rows key block (blocks_fall rows key block lawful) ∙ ap (height_over block) (sym (map-id older)))
+    (height_is_over MAX_LEVEL rows key block (blocks_fall rows key block lawful) ∙ ap (height_over block) (sym (map-id older)))
 
 -- ---- the blocks of a key
 

@@ -7,7 +7,7 @@ use Rattle.std.specs.Cmp.Lexicographic.{pointwise}
 use Rattle.lc_base.specs.declared.row.Row.{Row}
 use Rattle.lc_base.specs.History.{newest}
 use Rattle.skip_links.specs.Links.{links}
-use Rattle.skip_links.specs.declared.limits.TheConstants.{MAX_HEIGHT}
+use Rattle.skip_links.specs.declared.limits.TheConstants.{MAX_LEVEL}
 use Rattle.skip_path.specs.Towers.{tower}
 
 -- ---- one turn
@@ -59,4 +59,4 @@ digits_up_to (suc digits) n = if nat_lt n (2 ^ suc digits) then digits_up_to dig
 
 -- The number of binary digits of a block; 0 has one.
 abbrev pub binary_digits : ℕ → ℕ
-binary_digits block = digits_up_to MAX_HEIGHT block
+binary_digits block = digits_up_to MAX_LEVEL block

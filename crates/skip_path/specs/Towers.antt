@@ -3,7 +3,7 @@
 use Rattle.std.specs.Prelude.{ℕ, zero, suc, ◌+◌, if◌then◌else◌, List, [], ◌∷◌, map, Option, slice_get}
 use Rattle.std.specs.List.{filter_map, range_with_len}
 use Rattle.skip_links.specs.Falling.{is_first}
-use Rattle.skip_links.specs.declared.limits.TheConstants.{MAX_HEIGHT}
+use Rattle.skip_links.specs.declared.limits.TheConstants.{MAX_LEVEL}
 
 -- The greatest level up to this one at which a version in this block is, where these are the blocks
 -- of the versions before it. Every version is at level 0.
@@ -13,7 +13,7 @@ height_up_to (suc level) block older = if is_first (suc level) block older then 
 
 -- The height of a version that is not the key's first.
 abbrev pub height_over : ℕ → List ℕ → ℕ
-height_over block older = height_up_to MAX_HEIGHT block older
+height_over block older = height_up_to MAX_LEVEL block older
 
 -- The versions from the last one on that is at a level.
 unfoldable pub from_last : {A : Type 0} → (A → ℕ) → ℕ → List A → List A

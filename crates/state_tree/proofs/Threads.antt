@@ -1,4 +1,4 @@
--- One more leaf, thread_leaves between the others, and a leaf that is set.
+-- One more leaf, threaded between the others, and a leaf that is set.
 use Rattle.std.proofs.Common.{◌≡◌, ◌≢◌, ℕ, suc, ◌+◌, ◌<◌, ◌≤◌, true, List, [], ◌∷◌, ◌++◌, length, get_or, map, Option, Some, None, refl, sym, ap, ap₂, subst, ◌∙◌, arith, inl, inr, ◌⊎◌}
 use Rattle.std.proofs.Math.ListN.{set}
 use Rattle.std.proofs.Math.Seq.{get_or-append_seam, map-set_same}
@@ -59,7 +59,7 @@ owns_threaded keys leaves = map_map (λ (leaf : Leaf). leaf.key) (with_next keys
 same_next : (keys other : List (List ℕ)) (leaf : Leaf) → next_key keys (leaf_key leaf) ≡ next_key other (leaf_key leaf) → with_next keys leaf ≡ with_next other leaf
 same_next keys other leaf e = ap (λ (next : Option (List ℕ)). record leaf { next = next }) e
 
--- Leaves that are thread_leaves stay so.
+-- Leaves that are threaded stay so.
 threads_again : (leaves : List Leaf) → thread_leaves leaves ≡ thread_leaves (thread_leaves leaves)
 threads_again leaves =
     sym (map_map (with_next (leaf_keys leaves)) (with_next (leaf_keys leaves)) leaves)

@@ -17,7 +17,7 @@ use Rattle.prov_entry.specs.declared.entry.Leaf.{Leaf}
 use Rattle.prov_entry.specs.Spelling.{leaf_bytes}
 use Rattle.root_laws.specs.Root.{sentinel}
 use Rattle.state_tree.specs.declared.states.LeafState.{LeafState}
-use Rattle.state_tree.specs.Leaves.{state_of_leaf, saying, with_state, with_states, indexes_of, leaf_texts, leaf_hashes}
+use Rattle.state_tree.specs.Leaves.{state_of_leaf, leaf_with_state, with_state, with_states, indexes_of, leaf_texts, leaf_hashes}
 use Rattle.state_tree.specs.Order.{AreInOrder, AreHashedBut, IsTree, no_hash, hash_at}
 use Rattle.state_tree.proofs.Threads.{same_items, map_map, order_set}
 
@@ -118,13 +118,13 @@ renews leaves hashes indexes but = record {
 
 pub states_long : (leaves : List Leaf) (states : List LeafState) → length (with_states leaves states) ≡ length leaves
 states_long leaves [] = refl
-states_long leaves (state ∷ states) = states_long (with_state leaves state) states ∙ length-set leaves state.index (saying (get_or leaves state.index (sentinel [])) state)
+states_long leaves (state ∷ states) = states_long (with_state leaves state) states ∙ length-set leaves state.index (leaf_with_state (get_or leaves state.index (sentinel [])) state)
 
 other_leaf : (leaves : List Leaf) (states : List LeafState) (i : ℕ) → (Contains (indexes_of states) i → ⊥) → get_or (with_states leaves states) i (sentinel []) ≡ get_or leaves i (sentinel [])
 other_leaf leaves [] i apart = refl
 other_leaf leaves (state ∷ states) i apart =
     other_leaf (with_state leaves state) states i (λ there. apart (suc there.0, omega (arith, there.1), there.2))
-    ∙ get_or-set_other leaves state.index i (saying (get_or leaves state.index (sentinel [])) state) (sentinel []) (λ e. apart (0, omega arith, sym e))
+    ∙ get_or-set_other leaves state.index i (leaf_with_state (get_or leaves state.index (sentinel [])) state) (sentinel []) (λ e. apart (0, omega arith, sym e))
 
 -- The leaves that say something new are stale.
 pub stale_states : (leaves : List Leaf) (hashes : List Digest) (stale indexes : List ℕ) (states : List LeafState) → AreHashedBut leaves hashes stale → All (λ (state : LeafState). state.index < length leaves) states
@@ -146,24 +146,24 @@ pub order_states : (leaves : List Leaf) (order : BTreeMap (List ℕ) ℕ) (state
 order_states leaves order [] tree own below = tree
 order_states leaves order (state ∷ states) tree own below =
     let before = get_or leaves state.index (sentinel []) in
-    let after = saying before state in
+    let after = leaf_with_state before state in
     let held = slice_get-get_or leaves state.index (sentinel []) (All-head (λ (one : LeafState). one.index < length leaves) state states below) in
     let one = order_set leaves order state.index before after tree held (All-head (λ (one : LeafState). 0 < one.index) state states own) refl refl in
     let rest : All (λ (one : LeafState). one.index < length (set leaves state.index after)) states = rw (length-set leaves state.index after) (All-tail (λ (one : LeafState). one.index < length leaves) state states below) in
     order_states (set leaves state.index after) order states one (All-tail (λ (one : LeafState). 0 < one.index) state states own) rest
 
--- Told what it state_of_leaf before, a leaf is as it was.
+-- Given what it said before, a leaf is as it was.
 pub said_again : (leaves : List Leaf) (state : LeafState) (before : Leaf) → state.index < length leaves → before ≡ get_or leaves state.index (sentinel []) → with_state (with_state leaves state) (state_of_leaf before state.index) ≡ leaves
 said_again leaves state before below is =
     let i = state.index in
-    let after = saying (get_or leaves i (sentinel [])) state in
-    ap (λ (leaf : Leaf). set (set leaves i after) i (saying leaf (state_of_leaf before i))) (get_or-set_same leaves i after (sentinel []) below)
-    ∙ set-set leaves i after (saying after (state_of_leaf before i)) ∙ ap (λ (leaf : Leaf). set leaves i leaf) same ∙ set-get_or leaves i (sentinel [])
+    let after = leaf_with_state (get_or leaves i (sentinel [])) state in
+    ap (λ (leaf : Leaf). set (set leaves i after) i (leaf_with_state leaf (state_of_leaf before i))) (get_or-set_same leaves i after (sentinel []) below)
+    ∙ set-set leaves i after (leaf_with_state after (state_of_leaf before i)) ∙ ap (λ (leaf : Leaf). set leaves i leaf) same ∙ set-get_or leaves i (sentinel [])
   where
-    same : saying (saying (get_or leaves state.index (sentinel [])) state) (state_of_leaf before state.index) ≡ get_or leaves state.index (sentinel [])
-    same = ap (λ (leaf : Leaf). saying (saying (get_or leaves state.index (sentinel [])) state) (state_of_leaf leaf state.index)) is
+    same : leaf_with_state (leaf_with_state (get_or leaves state.index (sentinel [])) state) (state_of_leaf before state.index) ≡ get_or leaves state.index (sentinel [])
+    same = ap (λ (leaf : Leaf). leaf_with_state (leaf_with_state (get_or leaves state.index (sentinel [])) state) (state_of_leaf leaf state.index)) is
 
--- One more is told what it state_of_leaf before, first of all.
+-- One more is given what it said before, first of all.
 pub back_more : (leaves last first : List Leaf) (before : List LeafState) (one : LeafState) → with_state last one ≡ leaves → with_states leaves (reverse before) ≡ first → with_states last (reverse (before ++ one ∷ [])) ≡ first
 back_more leaves last first before one is so =
     ap (with_states last) (reverse-append before (one ∷ [])) ∙ ap (λ (ls : List Leaf). with_states ls (reverse before)) is ∙ so
@@ -172,10 +172,10 @@ pub stale_same : (leaves leaves' : List Leaf) (hashes : List Digest) (stale stal
 stale_same leaves leaves' hashes stale stale' but same same' = rw (same, same') but
 
 pub said_back : (leaves : List Leaf) (state : LeafState) (before after : Leaf) (old : LeafState) → state.index < length leaves → before ≡ get_or leaves state.index (sentinel [])
-    → after ≡ saying before state → old ≡ state_of_leaf before state.index → with_state (set leaves state.index after) old ≡ leaves
+    → after ≡ leaf_with_state before state → old ≡ state_of_leaf before state.index → with_state (set leaves state.index after) old ≡ leaves
 said_back leaves state before after old below is after_is old_is =
     ap (λ (one : LeafState). with_state (set leaves state.index after) one) old_is
-    ∙ ap (λ (leaf : Leaf). with_state (set leaves state.index leaf) (state_of_leaf before state.index)) (after_is ∙ ap (λ (leaf : Leaf). saying leaf state) is)
+    ∙ ap (λ (leaf : Leaf). with_state (set leaves state.index leaf) (state_of_leaf before state.index)) (after_is ∙ ap (λ (leaf : Leaf). leaf_with_state leaf state) is)
     ∙ said_again leaves state before below is
 
 -- Where none is stale, a path by the hashes is one by the leaves.

@@ -1,4 +1,4 @@
--- Leaves that are thread_leaves: each names the next greater key.
+-- Leaves that are threaded: each names the next greater key.
 use Rattle.std.specs.Prelude.{◌≡◌, ◌==◌, ◌<◌, ℕ, Bool, false, List, [], ◌∷◌, ◌++◌, length, map, replicate, position, slice_index_or, slice_set, Option, Some, None}
 use Rattle.std.specs.List.{fold}
 use Rattle.std.specs.Cmp.Lexicographic.{pointwise}
@@ -52,8 +52,8 @@ abbrev pub with_leaf_of : List Leaf → List ℕ → List Leaf
 with_leaf_of leaves key = thread_leaves (leaves ++ fresh_leaf key ∷ [])
 
 -- A leaf that says this of the versions of its key.
-abbrev pub saying : Leaf → LeafState → Leaf
-saying leaf state = record leaf {
+abbrev pub leaf_with_state : Leaf → LeafState → Leaf
+leaf_with_state leaf state = record leaf {
   newest_block = state.newest_block;
   newest = state.newest;
   open_count = state.open_count;
@@ -76,7 +76,7 @@ indexes_of states = map (λ (state : LeafState). state.index) states
 
 -- Leaves, of which the one at the index says this.
 abbrev pub with_state : List Leaf → LeafState → List Leaf
-with_state leaves state = slice_set leaves state.index (saying (slice_index_or leaves state.index (sentinel [])) state)
+with_state leaves state = slice_set leaves state.index (leaf_with_state (slice_index_or leaves state.index (sentinel [])) state)
 
 -- Leaves after some of them say this, one after another.
 abbrev pub with_states : List Leaf → List LeafState → List Leaf

@@ -27,7 +27,7 @@ pub record IsLastUpTo (order : BTreeMap (List ℕ) ℕ) (key : List ℕ) (index 
   pub not_above : is_below key last ≡ false
   pub greatest : (other : List ℕ) → is_below key other ≡ false → IsSome (kept_for order other) → is_below last other ≡ false
 
--- The leaves begin with the sentinel, are thread_leaves, and have no key twice; the indexes that are kept
+-- The leaves begin with the sentinel, are threaded, and have no key twice; the indexes that are kept
 -- are theirs.
 pub record AreInOrder (leaves : List Leaf) (order : BTreeMap (List ℕ) ℕ) : Type 0 where
   pub sentinel : Leaf

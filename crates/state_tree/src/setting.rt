@@ -8,7 +8,7 @@ ghost use Rattle.prov_entry.specs.declared.entry.Leaf.{Leaf};
 ghost use Rattle.merkle_tree.specs.declared.limits.TheConstants.{MAX_LEAVES};
 ghost use Rattle.state_tree.specs.{
   declared.states.LeafState.{LeafState},
-  Leaves.{saying, state_of_leaf, with_state, with_states, indexes_of, leaf_hashes},
+  Leaves.{leaf_with_state, state_of_leaf, with_state, with_states, indexes_of, leaf_hashes},
   Order.{AreHashedBut},
 };
 
@@ -20,8 +20,8 @@ use prov_entry::Leaf;
 use std::alloc::Global;
 
 /// A leaf that says this of the versions of its key.
-fn saying(leaf: &Leaf, state: &LeafState) -> Leaf
-    ensures { result ≡ saying leaf.now state.now }
+fn leaf_with_state(leaf: &Leaf, state: &LeafState) -> Leaf
+    ensures { result ≡ leaf_with_state leaf.now state.now }
 {
     Leaf {
         newest_block: state.newest_block,
@@ -54,7 +54,7 @@ fn set_state(leaves: &mut [Leaf], state: &LeafState) -> LeafState
 {
     let index = state.index as usize;
     let before = leaves[index];
-    leaves[index] = saying(&before, state);
+    leaves[index] = leaf_with_state(&before, state);
     state_of_leaf(&before, state.index)
 }
 

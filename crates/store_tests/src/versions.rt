@@ -141,7 +141,7 @@ impl Versions {
     }
 
     /// The block of the last version up to a block, and how many entries were read to find it.
-    pub fn found(&self, at: u32) -> (Option<u32>, u64) {
+    pub fn find(&self, at: u32) -> (Option<u32>, u64) {
         let mut steps = Steps::new();
         match self.newest {
             None => (None, 0),

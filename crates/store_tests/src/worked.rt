@@ -29,7 +29,7 @@ fn adds(alloc: Global, versions: &mut Versions, block: u32, links: usize) -> Res
 
 fn looks_up(alloc: Global, versions: &Versions, lookup: Lookup) -> Result<bool, Memory> {
     let path = versions.path(alloc, lookup.at)?;
-    let (found, read) = versions.found(lookup.at);
+    let (found, read) = versions.find(lookup.at);
     Ok(found == lookup.found && read == lookup.path.len() as u64 && path.as_slice() == lookup.path)
 }
 
@@ -147,7 +147,7 @@ fn add_many(alloc: Global, versions: &mut Versions, blocks: u32) -> Result<Optio
 fn find_many(versions: &Versions, blocks: u32) -> Option<u64> {
     let mut most = 0;
     for block in 0..blocks {
-        let (found, read) = versions.found(block);
+        let (found, read) = versions.find(block);
         if found != Some(block) {
             return None;
         }

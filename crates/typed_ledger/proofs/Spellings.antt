@@ -13,7 +13,7 @@ use Rattle.lc_base.specs.declared.row.Row.{Row}
 use Rattle.lc_base.specs.declared.row.Dep.{Dep}
 use Rattle.lc_base.specs.History.{IsLawful, HasLawfulDeps, below, up_to, newest, uses, depends_on, version_of}
 use Rattle.skip_links.specs.Links.{height_to, height, is_at_level, link, links}
-use Rattle.skip_links.specs.declared.limits.TheConstants.{MAX_HEIGHT}
+use Rattle.skip_links.specs.declared.limits.TheConstants.{MAX_LEVEL}
 use Rattle.prov_entry.specs.declared.entry.Leaf.{Leaf}
 use Rattle.prov_entry.specs.Spelling.{IsLink, IsHeader, IsBodyDep, IsBody, IsKeyIfAny, IsLeaf, body_text}
 use Rattle.prov_entry.specs.ForwardLists.{start_text, no_uses, use_text, with_use, uses_digest}
@@ -64,7 +64,7 @@ few_links : (rows : List Row) (key : List ℕ) (block : ℕ) → length (links r
 unfolding links
 few_links rows key block =
     let short = map_short (link rows key block) (range_with_len 0 (height rows key block + 1)) in
-    let low = height_low MAX_HEIGHT rows key block in
+    let low = height_low MAX_LEVEL rows key block in
     omega (arith, short, low, range_length 0 (height rows key block + 1))
 
 -- ---- what is known of one row

@@ -43,7 +43,7 @@ use Rattle.contract_semantics.specs.Charges.{charge_of}
 use Rattle.contract_semantics.specs.Numbers.{truth}
 use Rattle.contract_semantics.specs.Scenes.{Scene}
 use Rattle.contract_semantics.specs.Steps.{Machine, and_so}
-use Rattle.contract_semantics.specs.Reading.{Taken, and_read, key_of_text, block_of, value_of_version, read_result, value_got, is_held, int_in, text_in, of_kind, getting, having}
+use Rattle.contract_semantics.specs.Reading.{BuiltinResult, and_read, key_of_text, block_of, value_of_version, read_result, value_got, is_held, int_in, text_in, of_kind, get_result, has_result}
 use Rattle.contract_semantics.specs.Asking.{block_before, answer_up_to, version_asked, list_asked, item_asked, item_part_of, list_told, value_told, block_told, tx_told, count_told, item_told, item_of}
 use Rattle.contract_semantics.specs.Builtins.{one_text, one_int, text_and_int, text_and_ints, with_args, reading_args, version_value, item_value, version_part, count_part, item_part, plain_value, builtin_result, taken_step, builtin_call, call_by_name}
 use Rattle.typed_ledger.specs.TypedLedger.{IsTypedRow, IsTypedHistory}
@@ -256,7 +256,7 @@ plain_typed s h b.Has args k = tt
 
 -- ---- what reads
 
-abbrev TypedTaken : Taken → Type 0
+abbrev TypedTaken : BuiltinResult → Type 0
 TypedTaken (Ok value, c) = IsValue value × IsTyped c
 TypedTaken (Err status, c) = Unit {0}
 
@@ -267,7 +267,7 @@ taken_of (Err status) c h t = tt
 abbrev with_read : Captured → List ℕ → Option Held → Captured
 with_read c key held = record c { reads = c.reads ++ record { key = key; version = block_of held } ∷ [] }
 
-abbrev read_by : Bool → Bool → Bool → Option Held → List ℕ → (Option Held → Result Value TxStatus) → Captured → Taken
+abbrev read_by : Bool → Bool → Bool → Option Held → List ℕ → (Option Held → Result Value TxStatus) → Captured → BuiltinResult
 read_by written known full held key gives c =
     and_read (if written then Err statuses.Conflict else read_result (if known then Ok c else (if full then Err errors.TooMany else Ok (with_read c key held)))) c (λ c. (gives held, c))
 
@@ -306,18 +306,18 @@ having_by : (s : Scene) (r : Result (List ℕ) TxStatus) (c : Captured) → IsTy
 having_by s (Ok key) c t = held_typed s key (pending c.puts key) c t
 having_by s (Err status) c t = tt
 
-kind_typed : (kind : Value → Result Value TxStatus) → ((value : Value) → IsValue value → IfOk (kind value) IsValue) → (taken : Taken) → TypedTaken taken → TypedTaken (of_kind kind taken)
+kind_typed : (kind : Value → Result Value TxStatus) → ((value : Value) → IsValue value → IfOk (kind value) IsValue) → (taken : BuiltinResult) → TypedTaken taken → TypedTaken (of_kind kind taken)
 kind_typed kind k (Ok value, c) h = taken_of (kind value) c (k value h.0) h.1
 kind_typed kind k (Err status, c) h = tt
 
-reading_typed : (o : Option (List ℕ)) (c : Captured) (next : List ℕ → Taken) → ((text : List ℕ) → TypedTaken (next text)) → TypedTaken (reading_args o c next)
+reading_typed : (o : Option (List ℕ)) (c : Captured) (next : List ℕ → BuiltinResult) → ((text : List ℕ) → TypedTaken (next text)) → TypedTaken (reading_args o c next)
 reading_typed None c next h = tt
 reading_typed (Some text) c next h = h text
 
 built_typed : (s : Scene) → IsTypedScene s → (builtin : Builtin) (args : List Value) (c : Captured) → All IsValue args → IsTyped c → TypedTaken (builtin_result s builtin args c)
-built_typed s h b.GetInt args c k t = reading_typed (one_text args) c (λ text. of_kind int_in (getting s.place text c)) (λ text. kind_typed int_in int_in_typed (getting s.place text c) (getting_by s h (key_of_text text) c t))
-built_typed s h b.GetText args c k t = reading_typed (one_text args) c (λ text. of_kind text_in (getting s.place text c)) (λ text. kind_typed text_in text_in_typed (getting s.place text c) (getting_by s h (key_of_text text) c t))
-built_typed s h b.Has args c k t = reading_typed (one_text args) c (λ text. having s.place text c) (λ text. having_by s (key_of_text text) c t)
+built_typed s h b.GetInt args c k t = reading_typed (one_text args) c (λ text. of_kind int_in (get_result s.place text c)) (λ text. kind_typed int_in int_in_typed (get_result s.place text c) (getting_by s h (key_of_text text) c t))
+built_typed s h b.GetText args c k t = reading_typed (one_text args) c (λ text. of_kind text_in (get_result s.place text c)) (λ text. kind_typed text_in text_in_typed (get_result s.place text c) (getting_by s h (key_of_text text) c t))
+built_typed s h b.Has args c k t = reading_typed (one_text args) c (λ text. has_result s.place text c) (λ text. having_by s (key_of_text text) c t)
 built_typed s h b.Caller args c k t = taken_of (plain_value s.rows s.site b.Caller args) c (plain_typed s h b.Caller args k) t
 built_typed s h b.Block args c k t = taken_of (plain_value s.rows s.site b.Block args) c (plain_typed s h b.Block args k) t
 built_typed s h b.Len args c k t = taken_of (plain_value s.rows s.site b.Len args) c (plain_typed s h b.Len args k) t
@@ -334,7 +334,7 @@ built_typed s h b.FwdKey args c k t = taken_of (plain_value s.rows s.site b.FwdK
 built_typed s h b.BackBlock args c k t = taken_of (plain_value s.rows s.site b.BackBlock args) c (plain_typed s h b.BackBlock args k) t
 built_typed s h b.FwdBlock args c k t = taken_of (plain_value s.rows s.site b.FwdBlock args) c (plain_typed s h b.FwdBlock args k) t
 
-step_typed : (taken : Taken) (m : Machine) → TypedTaken taken → Ends IsValue (taken_step taken m)
+step_typed : (taken : BuiltinResult) (m : Machine) → TypedTaken taken → Ends IsValue (taken_step taken m)
 step_typed (Ok value, c) m h = h
 step_typed (Err status, c) m h = tt
 

@@ -5,8 +5,8 @@ use Rattle.chain_gen.proofs.generator.block_drawn.Goals as goal
 
 pub spell-requires : goal.spell-requires
 unfolding block_drawn
-spell-requires c = rw (c.in_ok-txs.ensures.txs, c.whole.ensures.same) (drawn_is_spelled c.args.number c.args.draws.now c.args.parent (omega (arith, c.ranges.number)) c.whole.ensures.whole)
+spell-requires c = rw (c.in_ok-txs.ensures.txs, c.with_known_length.ensures.same) (drawn_is_spelled c.args.number c.args.draws.now c.args.parent (omega (arith, c.ranges.number)) c.with_known_length.ensures.whole)
 
 pub returns-clause-lawful : goal.returns-clause-lawful
 unfolding block_drawn
-returns-clause-lawful c = rw (← c.in_ok-txs.ensures.txs, ← c.whole.ensures.same) c.spell.ensures.lawful
+returns-clause-lawful c = rw (← c.in_ok-txs.ensures.txs, ← c.with_known_length.ensures.same) c.spell.ensures.lawful

@@ -18,4 +18,4 @@ returns-in-Ended-clause-fold g c =
 pub returns-in-Refused-clause-fold : goal.returns-in-Refused-clause-fold
 returns-in-Refused-clause-fold g c =
     stopped (g.I.Source.left c.args.source.now) (g.I.Source.left c.turns.source) (g.I.Source.left c.look.new.source) (g.I.Source.source_faults c.args.source.now) (g.I.Source.source_faults c.turns.source)
-    c.turns.frames c.taken-frame.result c.turns.chain c.in-Refused.cause c.in_ok-whole.field-0 c.turns.invariant c.taken-frame.ensures.count c.in-Refused.is c.in_ok-whole.ensures.turn
+    c.turns.frames c.count-frame.result c.turns.chain c.in-Refused.cause c.in_ok-whole.field-0 c.turns.invariant c.count-frame.ensures.count c.in-Refused.is c.in_ok-whole.ensures.turn

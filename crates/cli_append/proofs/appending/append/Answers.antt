@@ -30,11 +30,11 @@ pub returns-in-Ok-Err-clause-appends : goal.returns-in-Ok-Err-clause-appends
 returns-in-Ok-Err-clause-appends g c told first input is left =
     refused_block g.M.Clock.now g.M.Clock.disk g.M.Clock.told c.args.machine.now c.turns.machine
     c.take_frame.new.machine c.refuse.new.machine c.turns.node c.turns.frames c.in-Ok-Some.more
-    c.taken-frame.result
+    c.count-frame.result
     (g.I.Source.left c.args.source.now) (g.I.Source.left c.turns.source)
     (g.I.Source.left c.next.new.source) first input c.in-Ok-Some.bytes c.in-Ok-Err.refusal
     c.refuse.result
-    (c.turns.invariant.taken told first is) c.turns.invariant.bound c.taken-frame.ensures.count left
+    (c.turns.invariant.taken told first is) c.turns.invariant.bound c.count-frame.ensures.count left
     (rw c.in-Ok-Some.field-0-is at c.in-Ok-Some.ensures.answer)
     ((rw (c.as_bytes.ensures, c.in-Ok-Err.field-0-is) at c.in-Ok-Err.ensures.takes)
     (c.turns.invariant.retains.known ∙ told)) c.refuse.ensures.disk.stays
@@ -97,11 +97,11 @@ turns-preserved g c =
 pub returns-in-Ok-clause-appends : goal.returns-in-Ok-clause-appends
 returns-in-Ok-clause-appends g c told first input is left =
     refused_form g.M.Clock.now g.M.Clock.disk g.M.Clock.told c.args.machine.now c.turns.machine
-    c.refuse-in-Ok.new.machine c.turns.node c.turns.frames c.taken-frame.result
+    c.refuse-in-Ok.new.machine c.turns.node c.turns.frames c.count-frame.result
     (g.I.Source.left c.args.source.now) (g.I.Source.left c.turns.source)
     (g.I.Source.left c.next.new.source) first input c.in-Err.error c.in-Ok.cause
     c.refuse-in-Ok.result
-    (c.turns.invariant.taken told first is) c.turns.invariant.bound c.taken-frame.ensures.count left
+    (c.turns.invariant.taken told first is) c.turns.invariant.bound c.count-frame.ensures.count left
     c.in-Err.ensures.answer c.in-Ok.ensures c.refuse-in-Ok.ensures.disk.stays
     (c.refuse-in-Ok.ensures.lines next_in_chain) c.refuse-in-Ok.ensures.end
 

@@ -5,7 +5,7 @@ use Rattle.std.proofs.lemmas.Option.{get_or_from_slice_get}
 use Rattle.lc_base.specs.declared.row.Row.{Row}
 use Rattle.entry_store.specs.declared.entry.Facts.{Facts}
 use Rattle.lineage_index.specs.Heads.{AreHeads, with_version}
-use Rattle.lineage_index.specs.Settling.{settling}
+use Rattle.lineage_index.specs.Settling.{settled_states}
 use Rattle.lineage_index.proofs.BlockSteps.{as_many_entries}
 use Rattle.lineage_index.proofs.NewestRows.{row_at}
 use Rattle.lineage_index.proofs.Settled.{settled_short, settled_more}
@@ -51,12 +51,12 @@ loop-index-preserved c rows store heads =
     in
     let at : i ≡ length (take i rows) = sym (length-take-le i rows (omega (arith, within))) in
     subst (λ (done : List Row). AreHeads c.set_newest.new.tree c.set_newest.new.lists
-    c.set_newest.new.newest.items (settling [] no_list done)) (sym more)
+    c.set_newest.new.newest.items (settled_states [] no_list done)) (sym more)
     (settled_more [] (take i rows) no_list row.0 c.set_newest.new.tree c.set_newest.new.lists
     c.set_newest.new.newest.items i at
     (subst (λ k. AreHeads c.set_newest.new.tree c.set_newest.new.lists c.set_newest.new.newest.items
-    (with_version (settling [] no_list (take i rows)) k i)) key
-    (c.in_ok-set_newest.ensures (settling [] no_list (take i rows))
+    (with_version (settled_states [] no_list (take i rows)) k i)) key
+    (c.in_ok-set_newest.ensures (settled_states [] no_list (take i rows))
     (c.loop-index.invariant rows store heads))))
 
 pub returns : goal.returns
@@ -69,5 +69,5 @@ returns c rows store heads =
       c.loop-index-test.false,
     )) in
     subst (λ (done : List Row). AreHeads c.loop-index.tree c.loop-index.lists
-    c.loop-index.newest.items (settling [] no_list done)) all
+    c.loop-index.newest.items (settled_states [] no_list done)) all
     (c.loop-index.invariant rows store heads)

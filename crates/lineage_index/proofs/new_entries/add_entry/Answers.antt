@@ -3,7 +3,7 @@ use Rattle.std.proofs.lemmas.List.{append_assoc}
 use Rattle.root_laws.specs.Root.{keys_of}
 use Rattle.lineage_store.specs.Entries.{entries_of}
 use Rattle.lineage_index.specs.Growth.{entry_of, open_uses}
-use Rattle.lineage_index.specs.NewEntries.{using}
+use Rattle.lineage_index.specs.NewEntries.{states_with_uses}
 use Rattle.lineage_index.proofs.KeptStates.{lists_of_heads}
 use Rattle.lineage_index.proofs.NewEntries.{deps_of_new, row_has, next_version}
 use Rattle.lineage_index.proofs.new_entries.add_entry.Goals as goal
@@ -16,7 +16,7 @@ new_version-requires-clause-few c =
 pub new_version-requires-clause-lists : goal.new_version-requires-clause-lists
 new_version-requires-clause-lists c =
     let given = c.requires in
-    (keys_of given.0, open_uses given.0 given.1, lists_of_heads c.args.tree.now c.args.lists.now c.args.newest.now (using given.0 given.1) given.4.heads)
+    (keys_of given.0, open_uses given.0 given.1, lists_of_heads c.args.tree.now c.args.lists.now c.args.newest.now (states_with_uses given.0 given.1) given.4.heads)
 
 pub newest_entry_of-previous-requires : goal.newest_entry_of-previous-requires
 newest_entry_of-previous-requires c =
@@ -28,7 +28,7 @@ push_version-requires c =
     let given = c.requires in
     let rows = given.0 in
     let new = given.1 in
-    let lists = lists_of_heads c.args.tree.now c.args.lists.now c.args.newest.now (using rows new) given.4.heads in (
+    let lists = lists_of_heads c.args.tree.now c.args.lists.now c.args.newest.now (states_with_uses rows new) given.4.heads in (
       rows ++ new,
       rows ++ given.2,
       c.args.row.now,
@@ -40,7 +40,7 @@ push_version-requires c =
 pub returns : goal.returns
 returns c rows new done n a next =
     let row = c.args.row.now in
-    let lists = lists_of_heads c.args.tree.now c.args.lists.now c.args.newest.now (using rows new) a.heads in
+    let lists = lists_of_heads c.args.tree.now c.args.lists.now c.args.newest.now (states_with_uses rows new) a.heads in
     c.in_ok-push_version.ensures.ok (rows ++ new) (rows ++ done) row
     (next_version rows new done n c.args.tree.now c.args.lists.now c.args.newest.now row c.args.store.now c.newest_entry_of-previous.result c.in_ok-version.version a next
     (c.in_ok-version.ensures (keys_of rows) (open_uses rows new) lists)

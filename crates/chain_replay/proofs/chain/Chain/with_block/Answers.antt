@@ -10,7 +10,7 @@ use Rattle.world_state.specs.declared.held.Held.{Held}
 use Rattle.chain_replay.specs.Chain.{ChainState, IsKeptChain, StandsFor}
 use Rattle.chain_replay.proofs.Chains.{is_after, stands_after}
 use Rattle.chain_replay.proofs.Kept.{next_lawful, next_kept}
-use Rattle.chain_replay.proofs.chain.Chain.extended.Goals as goal
+use Rattle.chain_replay.proofs.chain.Chain.with_block.Goals as goal
 
 pub record-requires : goal.record-requires
 record-requires c =

@@ -6,7 +6,7 @@ use Rattle.rows_index.specs.declared.places.Place.{Place}
 use Rattle.rows_index.specs.Places.{places_in}
 use Rattle.rows_index.specs.First.{places_below}
 use Rattle.rows_index.proofs.First.{Entry, AreBelow, below_more, below_all}
-use Rattle.rows_index.proofs.places.map_below.Goals as goal
+use Rattle.rows_index.proofs.places.places_below_end.Goals as goal
 
 pub loop-key-preserved : goal.loop-key-preserved
 loop-key-preserved c =

@@ -15,9 +15,9 @@ use Rattle.merkle_dag.specs.Ledger.{Ledger}
 use Rattle.rooted_chain.specs.Roots.{RootedState, kept_in}
 use Rattle.rooted_chain.proofs.Rooted.{rooted}
 use Rattle.rooted_chain.proofs.HasRun.{rooted_of, run_lawful, run_kept}
-use Rattle.rooted_chain.proofs.chain.LineageChain.extended.Given.{Over}
-use Rattle.rooted_chain.proofs.chain.LineageChain.extended.Goals as goal
-use Rattle.rooted_chain.proofs.chain.LineageChain.extended.Goals.{In-Ok-add_block}
+use Rattle.rooted_chain.proofs.chain.LineageChain.with_block.Given.{Over}
+use Rattle.rooted_chain.proofs.chain.LineageChain.with_block.Goals as goal
+use Rattle.rooted_chain.proofs.chain.LineageChain.with_block.Goals.{In-Ok-add_block}
 
 pub add_block-requires-clause-lawful : goal.add_block-requires-clause-lawful
 add_block-requires-clause-lawful g c =

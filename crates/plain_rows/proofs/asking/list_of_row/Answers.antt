@@ -4,7 +4,7 @@ use Rattle.lc_base.specs.History.{uses}
 use Rattle.lc_base.specs.Parts.{list_in}
 use Rattle.plain_rows.specs.Kept.{rows_of}
 use Rattle.plain_rows.proofs.AnswerParts.{answer_found}
-use Rattle.plain_rows.proofs.asking.listed_about.Goals as goal
+use Rattle.plain_rows.proofs.asking.list_of_row.Goals as goal
 
 pub returns-in-Fwd : goal.returns-in-Fwd
 returns-in-Fwd c =

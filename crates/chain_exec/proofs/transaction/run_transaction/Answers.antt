@@ -1,5 +1,5 @@
 use Rattle.chain_exec.proofs.Told.{if_told, unless_memory}
-use Rattle.chain_exec.proofs.transaction.transaction.Goals as goal
+use Rattle.chain_exec.proofs.transaction.run_transaction.Goals as goal
 
 pub returns-in-Set-clause-effect : goal.returns-in-Set-clause-effect
 returns-in-Set-clause-effect g c =

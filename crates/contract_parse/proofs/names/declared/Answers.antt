@@ -1,4 +1,0 @@
-use Rattle.contract_parse.proofs.names.declared.Goals as goal
-
-pub returns : goal.returns
-returns c = c.name.ensures.read
