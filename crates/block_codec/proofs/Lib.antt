@@ -4,3 +4,5 @@ pub mod Txs
 pub mod Blocks
 pub mod WholeBlocks
 pub mod Decoders
+pub mod FrameBytes
+pub mod Placed

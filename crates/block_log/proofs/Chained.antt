@@ -13,7 +13,7 @@ use Rattle.block_codec.specs.declared.block.Block.{Block}
 use Rattle.block_codec.specs.declared.placement.Placement.{Placement}
 use Rattle.block_codec.specs.declared.placement.Placement.TheVariants.{Known, Next, Fork, Full, Number, Parent, Budget}
 use Rattle.block_log.specs.declared.layout.Stored.{Stored}
-use Rattle.block_log.specs.Standing.{Placer, if_next, next_decoded, blocks_in, records_at, standing}
+use Rattle.block_log.specs.Standing.{Placer, if_next, next_decoded, blocks_in}
 use Rattle.block_log.specs.Log.{AreStored, log_placement, next_in_log}
 use Rattle.block_log.specs.Reader.{AreRead, log_at, next_of, stored_at}
 use Rattle.block_log.specs.declared.reading.Record.TheVariants as records
@@ -36,7 +36,7 @@ pub none_given : (gate : ℕ) (found : Option Block) → None ≡ option_map (st
 none_given gate None is = refl
 none_given gate (Some block) is = absurd (cc is)
 
-placed : (decoded block : Block) (placement : Placement) → if_next decoded placement ≡ Some block → (placement ≡ Next) × (decoded ≡ block)
+pub placed : (decoded block : Block) (placement : Placement) → if_next decoded placement ≡ Some block → (placement ≡ Next) × (decoded ≡ block)
 placed decoded block Next is = (refl, cc is)
 placed decoded block Known is = absurd (cc is)
 placed decoded block (Fork have) is = absurd (cc is)

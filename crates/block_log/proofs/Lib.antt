@@ -6,4 +6,4 @@ pub mod Resting
 pub mod NextRecord
 mod Turns
 mod Heads
-mod Chained
+pub mod Chained

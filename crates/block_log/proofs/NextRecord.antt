@@ -1,6 +1,6 @@
 -- The record of the next block of a log, by the log's own placement and by each that is stricter.
 use Rattle.std.proofs.Common.{◌≡◌, ◌≢◌, ◌⊎◌, inl, inr, ℕ, ◌+◌, ◌-◌, ◌≤◌, ◌<◌, Bool, true, false, List, [], ◌∷◌, ◌++◌, length, length-append, map, refl, sym, ◌∙◌, ap, subst, arith}
-use Rattle.std.specs.Prelude.{Option, Some, None, ◌==◌, ◌||◌, not, nat_lt, MatchBool, if◌then◌else◌, slice_get, unwrap_or}
+use Rattle.std.specs.Prelude.{Option, Some, None, ◌==◌, ◌||◌, nat_lt, MatchBool, slice_get, unwrap_or}
 use Rattle.std.proofs.lemmas.List.{length-map, map-append}
 use Rattle.std.proofs.lemmas.Option.{slice_get_past, slice_get-get_or}
 use Rattle.std.proofs.Math.Seq.{get_or-append_seam}
@@ -14,9 +14,9 @@ use Rattle.block_codec.specs.Reading.{block_in}
 use Rattle.block_codec.specs.Placement.{bytes_digest, digest_of, no_parent, last_digest, is_same_digest, new_placement, placement}
 use Rattle.block_codec.specs.declared.limits.TheConstants.{MAX_BLOCK_BYTES, MAX_BLOCKS, MAX_ROWS_BEFORE_BLOCK}
 use Rattle.block_codec.specs.declared.block.Block.{Block}
-use Rattle.block_codec.specs.declared.placement.Placement.{Placement}
-use Rattle.block_codec.specs.declared.placement.Placement.TheVariants.{Known, Next, Fork, Full, Number}
+use Rattle.block_codec.specs.declared.placement.Placement.TheVariants.{Next}
 use Rattle.block_codec.proofs.WholeBlocks.{is_spelled}
+use Rattle.block_codec.proofs.Placed.{not_full, right_number, not_held}
 use Rattle.block_log.specs.declared.layout.TheConstants.{OPEN_GATE}
 use Rattle.block_log.specs.declared.layout.Stored.{Stored}
 use Rattle.block_log.specs.Standing.{Holds, Placer, NextBlock, next_decoded, if_next, next_block, blocks_in, blocks_of, standing, chain_of}
@@ -29,24 +29,11 @@ use Rattle.block_log.proofs.TornRecords.{within, staged_within, torn_after, torn
 
 -- ---- where the next block stands
 
--- the cases before the last
-not_full : (full : Bool) (other : Placement) → (if full then Full else other) ≡ Next → (full ≡ false) × (other ≡ Next)
-not_full true other is = absurd (cc is)
-not_full false other is = (refl, is)
-
-right_number : (same : Bool) (held : ℕ) (other : Placement) → (if not same then Number held else other) ≡ Next → same ≡ true
-right_number true held other is = refl
-right_number false held other is = absurd (cc is)
-
 pub new_next : (held rows : ℕ) (parent : Digest) (block : Block) → new_placement held rows parent block ≡ Next → (block.number ≡ held) × (held ≢ MAX_BLOCKS)
 new_next held rows parent block is =
     let room = not_full (held == MAX_BLOCKS || nat_lt MAX_ROWS_BEFORE_BLOCK rows) _ is in
     let same = right_number (block.number == held) held _ room.1 in
     (grind (arith, nat_tests, same), λ full. let test = room.0 in absurd (grind (arith, nat_tests, test, full)))
-
-not_held : (same : Bool) (have : Digest) → (if same then Known else Fork have) ≡ Next → ⊥
-not_held true have is = cc is
-not_held false have is = cc is
 
 pub new_of : (held rows : ℕ) (have : Option Digest) (parent : Digest) (block : Block) (digest : Digest) → placement held rows have parent block digest ≡ Next → new_placement held rows parent block ≡ Next
 new_of held rows (Some have) parent block digest is = absurd (not_held (is_same_digest have digest) have is)

@@ -2,15 +2,14 @@
 use Rattle.std.proofs.Common.{◌≡◌, ℕ, ◌-◌, ◌<◌, ◌≤◌, Bool, cond, ltb, List, [], ◌∷◌, length, Option, Some, None, Result, Ok, Err, refl, sym, ap, ◌∙◌, arith}
 use Rattle.std.specs.Prelude.{IfOk, unwrap_or}
 use Rattle.std.proofs.lemmas.Bool.{ne_eqb, eq-eqb, lt-ltb, le-ltb}
-use Rattle.std.proofs.lemmas.List.{length-map}
 use Rattle.lc_base.specs.declared.answer.Kind.{Kind}
 use Rattle.lc_base.specs.declared.digest.Digest.{Digest}
-use Rattle.block_codec.specs.Placement.{digest_of}
 use Rattle.block_codec.specs.declared.block.Block.{Block}
 use Rattle.chain_exec.specs.Compiled.{compiled_in}
 use Rattle.chain_replay.specs.Chain.{ChainState, StandsFor}
 use Rattle.merkle_dag.specs.Ledger.{IsHead}
 use Rattle.rooted_chain.specs.Roots.{root_in}
+use Rattle.rooted_chain.proofs.Rooted.{as_many}
 use Rattle.cli_lines.specs.Lines.{root_line}
 use Rattle.cli_lines.specs.Outcome.{outcome_with}
 use Rattle.cli_lines.specs.declared.outcome.Outcome.{Outcome}
@@ -38,9 +37,6 @@ told_beyond at blocks lines digests (Some head) last past count =
     ∙ ap (λ (n : ℕ). beyond_outcome (Some n)) (omega (arith, last, count))
 
 -- ---- of a chain that stands for blocks
-
-as_many : (kept : ChainState) (blocks : List Block) → StandsFor kept blocks → length kept.digests ≡ length blocks
-as_many kept blocks stands = ap (length {A = Digest}) stands.digests_are ∙ length-map blocks digest_of
 
 at_is : (kept : ChainState) (blocks : List Block) (at : Option ℕ) → StandsFor kept blocks → unwrap_or at (length kept.digests - 1) ≡ at_or_last at blocks
 at_is kept blocks None stands = ap (λ (n : ℕ). n - 1) (as_many kept blocks stands)

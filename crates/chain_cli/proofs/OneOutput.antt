@@ -1,5 +1,5 @@
 -- Of an input of bytes and a disk of bytes, a command wants one output.
-use Rattle.std.proofs.Common.{◌≡◌, ℕ, zero, suc, ◌+◌, ◌-◌, ◌<◌, ◌≤◌, Bool, true, false, cond, eqb, ltb, leb, ◌&&◌, List, [], ◌∷◌, ◌++◌, length, take, drop, Option, Some, None, Result, Ok, Err, refl, sym, ap, ◌∙◌, ◌⊎◌, inl, inr, subst, arith}
+use Rattle.std.proofs.Common.{◌≡◌, ℕ, zero, suc, ◌+◌, ◌-◌, ◌<◌, ◌≤◌, Bool, true, false, cond, eqb, ltb, leb, ◌&&◌, List, [], ◌∷◌, ◌++◌, length, take, drop, Option, Some, None, Result, Ok, Err, refl, sym, ap, ◌∙◌, inl, inr, subst, arith}
 use Rattle.std.specs.Int.{w32, from_be_bytes}
 use Rattle.std.proofs.lemmas.Bool.{cases_lt}
 use Rattle.byte_fields.specs.Spelling.{IsBytes}
@@ -11,7 +11,7 @@ use Rattle.block_log.specs.declared.layout.Stored.{Stored}
 use Rattle.block_log.specs.Standing.{Standing, Blank, NotALog, Damaged, Holds, Placer, next_decoded, next_block, blocks_in, after_record, record_at, records_at, is_log, is_blank, standing}
 use Rattle.chain_replay.specs.Chain.{placement_in}
 use Rattle.block_codec.specs.declared.block.Block.{Block}
-use Rattle.block_codec.specs.Frames.{FrameStep, End, Truncated, Length, Many, Frame, frame_of, sized_frame, frame_step}
+use Rattle.block_codec.specs.Frames.{FrameStep, End, Truncated, Length, Many, Frame, frame_step}
 use Rattle.block_codec.specs.Reading.{block_in}
 use Rattle.block_codec.specs.Spelling.{Decoder, IsDecoder}
 use Rattle.block_codec.proofs.Decoders.{decoders_agree}
@@ -19,6 +19,7 @@ use Rattle.block_codec.proofs.WholeBlocks.{decided}
 use Rattle.contract_parse.specs.Syntax.{Outcome as SourceOutcome, IsOutcome}
 use Rattle.contract_parse.proofs.Outcomes.{some_outcome, one_outcome}
 use Rattle.lc_base.specs.declared.answer.Query.{Query}
+use Rattle.block_codec.proofs.FrameBytes.{frame_bytes}
 use Rattle.proof_commands.specs.Verifying.{verification}
 use Rattle.proof_commands.specs.declared.verification.Verification.{Verification}
 use Rattle.proof_commands.proofs.Verified.{is_verification, one_answer}
@@ -34,48 +35,6 @@ use Rattle.cli_output.proofs.Exposed.{some_expose, one_expose}
 use Rattle.cli_output.proofs.Meets.{some_on_log, one_on_log}
 use Rattle.cli_words.specs.declared.words.Command.{Command}
 use Rattle.cli_words.specs.declared.words.Command.TheVariants.{Scan, Fmt, Pack, Gen, Load, Append, Root, Ask, Prove, Verify, Expose}
-
--- ---- the bytes of a frame
-
-one_of : (b : Bool) (s t : FrameStep) (step : FrameStep) → cond b s t ≡ step → (s ≡ step) ⊎ (t ≡ step)
-one_of true s t step e = inl e
-one_of false s t step e = inr e
-
--- a frame is the first bytes of what follows its length, and the rest are those after it
-taken_frame : (count : ℕ) (input frame rest : List ℕ) → IsBytes input → frame_of count input ≡ Frame frame rest → IsBytes frame × IsBytes rest
-taken_frame count input frame rest fits e =
-    elim (one_of (ltb (length input) count) Truncated (Frame (take count input) (drop count input)) (Frame frame rest) e) [
-      | inl wrong ↦ absurd cc
-      | inr is ↦
-          let frame_is : take count input ≡ frame = cc in
-          let rest_is : drop count input ≡ rest = cc in
-          (subst IsBytes frame_is (IsBytes-take count input fits), subst IsBytes rest_is (IsBytes-drop count input fits))
-    ]
-
-many_or_frame : (taken count : ℕ) (input frame rest : List ℕ) → IsBytes input → cond (eqb taken MAX_FRAMES) Many (frame_of count input) ≡ Frame frame rest → IsBytes frame × IsBytes rest
-many_or_frame taken count input frame rest fits e =
-    elim (one_of (eqb taken MAX_FRAMES) Many (frame_of count input) (Frame frame rest) e) [
-      | inl wrong ↦ absurd cc
-      | inr is ↦ taken_frame count input frame rest fits is
-    ]
-
-length_or_frame : (bad : Bool) (taken count : ℕ) (input frame rest : List ℕ) → IsBytes input
-    → cond bad (Length count) (cond (eqb taken MAX_FRAMES) Many (frame_of count input)) ≡ Frame frame rest → IsBytes frame × IsBytes rest
-length_or_frame true taken count input frame rest fits e = absurd cc
-length_or_frame false taken count input frame rest fits e = many_or_frame taken count input frame rest fits e
-
-header_or_frame : (empty short : Bool) (step : FrameStep) (frame rest : List ℕ) → cond empty End (cond short Truncated step) ≡ Frame frame rest → step ≡ Frame frame rest
-header_or_frame true short step frame rest e = absurd cc
-header_or_frame false true step frame rest e = absurd cc
-header_or_frame false false step frame rest e = e
-
--- of an input of bytes, a frame and what follows it are bytes
-frame_bytes : (taken : ℕ) (input frame rest : List ℕ) → IsBytes input → frame_step taken input ≡ Frame frame rest → IsBytes frame × IsBytes rest
-unfolding frame_step
-frame_bytes taken input frame rest fits e =
-    let count : ℕ = from_be_bytes w32 (take 4 input) in
-    let sized : sized_frame taken count (drop 4 input) ≡ Frame frame rest = header_or_frame (eqb (length input) 0) (ltb (length input) 4) (sized_frame taken count (drop 4 input)) frame rest e in
-    length_or_frame _ taken count (drop 4 input) frame rest (IsBytes-drop 4 input fits) sized
 
 -- ---- the fold, by two decoders that are right
 

@@ -4,6 +4,7 @@ use Rattle.std.specs.List.{AllByRecursion}
 use Rattle.std.specs.Result.{result_ok}
 use Rattle.std.proofs.Math.Seq.{drop-cons}
 use Rattle.std.proofs.lemmas.List.{append-nil, drop_all}
+use Rattle.byte_fields.proofs.WrittenItems.{all_more}
 use Rattle.chain_draft.specs.declared.read_error.ReadError.{ReadError}
 use Rattle.chain_draft.specs.declared.read_error.ReadError.TheVariants as errors
 use Rattle.chain_draft.specs.Reading.{Reads}
@@ -19,10 +20,6 @@ pub record Made {X D B : Type 0} (view : X → D) (make : D → Option B) (Is : 
   pub others : with_prefix made (each make count (map view (drop count items))) ≡ each make 0 (map view items)
   pub counted : length made ≡ count
   pub lawful : AllByRecursion Is made
-
-pub all_more : {A : Type 0} (Is : A → Type 0) (xs : List A) (x : A) → AllByRecursion Is xs → Is x → AllByRecursion Is (xs ++ x ∷ [])
-all_more Is [] x all is = (is, tt)
-all_more Is (y ∷ ys) x all is = (all.0, all_more Is ys x all.1 is)
 
 pub length_more : {A : Type 0} (xs : List A) (x : A) → length (xs ++ x ∷ []) ≡ length xs + 1
 length_more [] x = refl

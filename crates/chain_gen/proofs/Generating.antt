@@ -6,7 +6,7 @@ use Rattle.lc_base.specs.declared.digest.Digest.{Digest}
 use Rattle.block_codec.specs.Placement.{bytes_digest, no_parent}
 use Rattle.chain_gen.specs.Generator.{Progress, GoesOn, none_made, one_more_made, first_blocks, blocks_of_seed, spelling, block_drawn, given_block, progress}
 
-made_more : (seed count : ℕ) → first_blocks seed (count + 1) ≡ one_more_made count (first_blocks seed count)
+pub made_more : (seed count : ℕ) → first_blocks seed (count + 1) ≡ one_more_made count (first_blocks seed count)
 unfolding first_blocks
 made_more seed count = simp unary_clauses refl
 

@@ -1,17 +1,15 @@
 -- The keys that are drawn are keys.
-use Rattle.std.proofs.Common.{◌≡◌, ℕ, zero, suc, ◌^◌, ◌<◌, ◌≤◌, Bool, false, not, cond, eqb, ltb, List, ◌∷◌, length, get_or, None, Ok, Err, refl, ap, ◌∙◌, arith}
-use Rattle.std.specs.Prelude.{position}
-use Rattle.std.specs.List.{position_or_len}
+use Rattle.std.proofs.Common.{◌≡◌, ℕ, zero, suc, ◌^◌, ◌<◌, ◌≤◌, Bool, false, not, cond, eqb, ltb, List, ◌∷◌, length, get_or, Ok, Err, refl, ap, ◌∙◌, arith}
 use Rattle.std.specs.Fmt.{decimal}
 use Rattle.std.proofs.lemmas.Bool.{le-ltb, ne_eqb}
 use Rattle.std.proofs.lemmas.Bool.Decides.{nat_tests}
-use Rattle.std.proofs.lemmas.List.Sums.{position_or_len_is}
 use Rattle.std.proofs.lemmas.Str.Parse.{digit_at}
 use Rattle.std.proofs.lemmas.Fmt.{decimal_is_IsNumeral, length-decimal-le}
 use Rattle.lc_names.specs.declared.limits.TheConstants.{MAX_KEY_BYTES}
 use Rattle.lc_names.specs.KeyBytes.{IsKey, is_key_byte, bad_key_byte}
 use Rattle.lc_names.specs.Key.{key_of, all_good}
 use Rattle.lc_names.specs.declared.key.KeyError.TheVariants.{Empty, Long, Byte}
+use Rattle.lc_base.proofs.TextBytes.{none_found}
 use Rattle.chain_gen.specs.Draws.{raw_key}
 
 -- what is a key is taken for one
@@ -22,11 +20,6 @@ key_is_taken bytes is =
     ap (λ (b : Bool). cond b (Err Empty) (cond (ltb MAX_KEY_BYTES (length bytes)) (Err Long) (all_good Byte bytes (bad_key_byte bytes)))) some
     ∙ ap (λ (b : Bool). cond b (Err Long) (all_good Byte bytes (bad_key_byte bytes))) short
     ∙ ap (all_good Byte bytes) is.good
-
-none_found : (p : ℕ → Bool) (xs : List ℕ) → ((k : ℕ) → k < length xs → p (get_or xs k 0) ≡ false) → position p xs ≡ None
-none_found p xs good =
-    let whole : position_or_len p xs ≡ length xs = position_or_len_is p xs (length xs) 0 (omega arith) good (λ lt. absurd (omega (arith, lt))) in
-    rw (whole, le-ltb (length xs) (length xs) (omega arith)) refl
 
 digit_is_good : (byte : ℕ) → 48 ≤ byte → byte ≤ 57 → not (is_key_byte byte) ≡ false
 digit_is_good byte low high = grind (arith, nat_tests)

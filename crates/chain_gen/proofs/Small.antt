@@ -19,6 +19,7 @@ use Rattle.block_codec.specs.declared.limits.TheConstants.{MAX_BLOCKS, MAX_BLOCK
 use Rattle.block_codec.specs.declared.block.Tx.{Tx}
 use Rattle.block_codec.specs.declared.block.Tx.TheVariants.{Set}
 use Rattle.lc_base.specs.declared.value.Value.TheVariants.{Int}
+use Rattle.byte_fields.proofs.WrittenItems.{all_more}
 use Rattle.chain_gen.specs.Draws.{number_below, number_of_key, key_drawn, draw_list}
 use Rattle.chain_gen.specs.Transactions.{sender, contract, function, deploy, call_with, set_drawn, later_txs, txs_drawn}
 use Rattle.chain_gen.specs.Generator.{block_drawn, spelling, IsPlaced}
@@ -47,10 +48,6 @@ sender_is_key : IsKey sender
 sender_is_key = record { some = omega arith; short = omega arith; good = refl }
 
 -- ---- items
-
-all_more : {A : Type 0} (Is : A → Type 0) (xs : List A) (x : A) → AllByRecursion Is xs → Is x → AllByRecursion Is (xs ++ x ∷ [])
-all_more Is [] x all is = (is, tt)
-all_more Is (y ∷ ys) x all is = (all.0, all_more Is ys x all.1 is)
 
 length_repeated : {A : Type 0} (item : ℕ → A × ℕ) (count state : ℕ) → length (draw_list item count state).0 ≡ count
 unfolding draw_list

@@ -5,7 +5,6 @@ use Rattle.std.proofs.Common.{arith}
 use Rattle.std.specs.Prelude.{slice_get, unwrap_or}
 use Rattle.std.proofs.lemmas.List.{length-map, map_push, length-append}
 use Rattle.std.proofs.lemmas.Option.{slice_get_past}
-use native.Mathlib.Numerals.{unary_clauses}
 use Rattle.lc_base.specs.declared.digest.Digest.{Digest}
 use Rattle.block_codec.specs.Placement.{digest_of, last_digest, no_parent, placement}
 use Rattle.block_codec.specs.declared.block.Block.{Block}
@@ -17,15 +16,12 @@ use Rattle.chain_exec.specs.Effect.{History}
 use Rattle.chain_exec.specs.Replay.{replay}
 use Rattle.chain_replay.specs.Chain.{ChainState, HasRoom, StandsFor, nothing_kept, placement_in}
 use Rattle.chain_gen.specs.declared.limits.TheConstants.{MAX_TXS_MADE}
-use Rattle.chain_gen.specs.Generator.{Progress, block_drawn, first_blocks, one_more_made, progress}
+use Rattle.chain_gen.specs.Generator.{Progress, block_drawn, first_blocks, progress}
 use Rattle.chain_gen.specs.Generator.{IsPlaced}
+use Rattle.chain_gen.proofs.Generating.{made_more}
 use Rattle.chain_load.specs.Building.{HasAdded}
 
 -- ---- the first blocks of a seed
-
-made_more : (seed count : ℕ) → first_blocks seed (count + 1) ≡ one_more_made count (first_blocks seed count)
-unfolding first_blocks
-made_more seed count = simp unary_clauses refl
 
 pub made_count : (seed count : ℕ) → length (first_blocks seed count).blocks ≡ count
 unfolding first_blocks

@@ -41,6 +41,7 @@ use Rattle.proof_commands.specs.declared.verification.Verification.{Verification
 use Rattle.proof_commands.specs.declared.verification.Verification.TheVariants.{Accepted, Rejected}
 use Rattle.proof_commands.specs.declared.verification.Verification.TheVariants.{BadHex}
 use Rattle.proof_commands.proofs.Verified.{is_verification}
+use Rattle.rooted_chain.proofs.Rooted.{as_many}
 use Rattle.cli_words.specs.declared.words.Command.TheVariants.{Expose}
 use Rattle.cli_lines.specs.Whole.{IsWholeInput}
 use Rattle.cli_lines.specs.Outcome.{status_of, outcome_with, bad_input}
@@ -66,7 +67,6 @@ use Rattle.cli_output.proofs.Meets.{answer_since, start_met, is_on_log_blocks, s
 use Rattle.cli_output.proofs.Meets.{on_log_no_change}
 use Rattle.cli_proofs.specs.Exposing.{ledger_kept, reaches, IsHeld, Refused, Held, found_outcome}
 use Rattle.cli_proofs.specs.Exposing.{texts_kept}
-use Rattle.cli_proofs.proofs.Proves.{as_many}
 
 -- ---- an input that was read whole, against what is kept of a chain
 

@@ -4,7 +4,6 @@ use Rattle.std.proofs.Common.{length, map, Some, Result, Ok, Err, refl, sym, ap,
 use Rattle.std.specs.Prelude.{IfErr}
 use Rattle.std.specs.List.{concat}
 use Rattle.std.proofs.lemmas.Bool.Decides.{nat_tests}
-use Rattle.std.proofs.lemmas.List.{length-map}
 use Rattle.hex.specs.Hex.{encode_lower}
 use Rattle.lc_base.specs.declared.answer.Query.{Query}
 use Rattle.lc_base.specs.declared.digest.Digest.{Digest}
@@ -18,6 +17,7 @@ use Rattle.proof_codec.specs.declared.proof.Proof.{Proof}
 use Rattle.proof_codec.specs.Spelling.{proof_fields}
 use Rattle.proof_checks.specs.Making.{made_proof}
 use Rattle.answer_proof.specs.Proving.{IsWithin, IsProved}
+use Rattle.rooted_chain.proofs.Rooted.{as_many}
 use Rattle.cli_proofs.specs.Exposing.{ledger_kept}
 use Rattle.cli_lines.specs.Lines.{line}
 use Rattle.cli_lines.specs.Outcome.{outcome_with}
@@ -30,11 +30,6 @@ use Rattle.cli_output.specs.Telling.{status_of_stop, stop_of_outcome}
 use Rattle.cli_output.specs.declared.stop.OutcomeStop.{OutcomeStop}
 use Rattle.cli_output.specs.declared.stop.OutcomeStop.TheVariants as outcomes
 use Rattle.cli_output.specs.Proofs.{proof_line}
-
-pub as_many : (kept : ChainState) (blocks : List Block) → StandsFor kept blocks
-    → length kept.digests ≡ length blocks
-as_many kept blocks stands = ap (length {A = Digest}) stands.digests_are
-    ∙ length-map blocks digest_of
 
 -- what is told, by whether the chain has the block and the question is about no later one
 abbrev within : Bool → Query → ℕ → List Block → Outcome

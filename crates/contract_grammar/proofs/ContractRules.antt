@@ -23,7 +23,7 @@ use Rattle.contract_grammar.proofs.Parts.{IsFair, token, the_is, has_one, is_one
 use Rattle.contract_grammar.proofs.Operands.{IsAllowed}
 use Rattle.contract_grammar.proofs.Expressions.{allowed_rule}
 use Rattle.contract_grammar.proofs.Statements.{nothing_after, after_nothing}
-use Rattle.contract_grammar.proofs.StatementRules.{is_other, declared_no_end, declared_is, statement_rule}
+use Rattle.contract_grammar.proofs.StatementRules.{is_other, declared_no_end, declared_is, statement_rule, block_begins}
 use Rattle.contract_grammar.specs.declared.limits.TheConstants.{MAX_NESTING, MAX_PARAMETERS}
 use Rattle.contract_grammar.proofs.Writable.{no_words, one_word, more_words, name_writable, mark_writable}
 use Rattle.contract_grammar.specs.Faults.{AreWritable}
@@ -113,9 +113,6 @@ brace_told t h = h
 
 brace_at : (t : Token) → is m.BraceOpen t ≡ true → the m.BraceOpen t ≡ Some t.at
 brace_at t h = grind arith
-
-block_begins : {l : Limits} (d : ℕ) → Starts (is m.BraceOpen) (IsBlock l d)
-block_begins d f ss (Block _ o at z _ e may i) = the_is m.BraceOpen o at e
 
 block_may : {l : Limits} (d : ℕ) (f : List Token) (ss : StatementTrees) → IsBlock l d f ss → Within l.nesting d
 block_may d f ss (Block _ o at z _ e may i) = may

@@ -92,7 +92,7 @@ clear_one s key c w r k there = ⊎_elim
 
 -- ---- a read that is added, with the version that its key had
 
-abbrev with_read : Captured → List ℕ → Option Held → Captured
+abbrev pub with_read : Captured → List ℕ → Option Held → Captured
 with_read c key held = record c { reads = c.reads ++ record { key = key; version = block_of held } ∷ [] }
 
 last_read : (reads : List Read) (key : List ℕ) (version : Option ℕ) → was_read (reads ++ record { key = key; version = version } ∷ []) key ≡ true

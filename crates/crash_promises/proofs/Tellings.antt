@@ -1,22 +1,15 @@
 -- What was told, one part after another, and what it promised.
-use Rattle.std.proofs.Common.{◌≡◌, ◌⊎◌, inl, inr, ⊎_elim, ℕ, Bool, true, false, List, [], ◌∷◌, ◌++◌, take, drop, map, refl, sym, ◌∙◌, ap, subst, append_assoc}
-use Rattle.std.specs.Prelude.{Option, Some, None, Result, Ok, Err, is_ok}
-use Rattle.std.proofs.lemmas.List.{append-nil, take-append-drop, map-append}
+use Rattle.std.proofs.Common.{◌≡◌, ◌⊎◌, inl, inr, ⊎_elim, ℕ, Bool, true, false, List, [], ◌∷◌, ◌++◌, take, drop, map, refl, sym, ◌∙◌, ap, subst}
+use Rattle.std.specs.Prelude.{Option, Some, Result, Ok, Err, is_ok}
+use Rattle.std.proofs.lemmas.List.{take-append-drop, map-append}
 use Rattle.lc_io.specs.Disk.{DiskState, Stays}
 use Rattle.lc_io.specs.Outside.{Tell, Tells, with_tells}
+use Rattle.lc_io.proofs.Telling.{with_tells-with_tells, with_none}
 use Rattle.disk_model.specs.Disk.{IsImage, Keeps, LeftSince}
 use Rattle.disk_model.proofs.Moments.{started, since}
 use Rattle.disk_model.proofs.Calls.{stay_keeps}
 use Rattle.block_log.specs.Standing.{NextBlock}
 use Rattle.crash_promises.specs.Promises.{Promise, NoPromise, Line, plain, AreBegun, NoMore, Part, Full, AreLines, AreKept, IsPromiseKept, KeepsLines, IsKeptAt, Telling}
-
-with_two : (old : Option (List Tell)) (a b : List Tell) → with_tells (with_tells old a) b ≡ with_tells old (a ++ b)
-with_two None a b = refl
-with_two (Some told) a b = ap Some (append_assoc told a b)
-
-with_none : (old : Option (List Tell)) → old ≡ with_tells old []
-with_none None = refl
-with_none (Some told) = ap Some (sym (append-nil told))
 
 -- ---- lines that were begun, and more of them
 
@@ -69,7 +62,7 @@ module _ {D : Type 0} (next : NextBlock) (now : D → ℕ) (disk : D → ℕ →
       let same = first.whole refl in
       record {
         tells = first.tells ++ second.tells;
-        added = second.added ∙ ap (λ (o : Option (List Tell)). with_tells o second.tells) first.added ∙ with_two (told old) first.tells second.tells;
+        added = second.added ∙ ap (λ (o : Option (List Tell)). with_tells o second.tells) first.added ∙ with_tells-with_tells (told old) first.tells second.tells;
         begun = begun_join first.tells second.tells a b same second.begun;
         whole = λ e. map-append (λ (tell : Tell). tell.bytes) first.tells second.tells
             ∙ ap (λ (l : List (List ℕ)). l ++ map (λ (tell : Tell). tell.bytes) second.tells) same ∙ ap (λ (l : List (List ℕ)). map (λ (line : Line). line.text) a ++ l) (second.whole e)

@@ -1,2 +1,3 @@
 pub mod TextBytes
 pub mod Repeats
+pub mod Lists

@@ -24,7 +24,7 @@ none_passes p xs none k lt = elim (cases_lt (position_or_len p xs) (length xs)) 
   | inr past ↦ fails_before_first p xs k 0 (omega (arith, lt, past))
 ]
 
-none_found : (p : ℕ → Bool) (xs : List ℕ) → ((k : ℕ) → k < length xs → p (get_or xs k 0) ≡ false) → position p xs ≡ None
+pub none_found : (p : ℕ → Bool) (xs : List ℕ) → ((k : ℕ) → k < length xs → p (get_or xs k 0) ≡ false) → position p xs ≡ None
 none_found p xs good =
     let whole : position_or_len p xs ≡ length xs = position_or_len_is p xs (length xs) 0 (omega arith) good (λ lt. absurd (omega (arith, lt))) in
     rw (whole, le-ltb (length xs) (length xs) (omega arith)) refl

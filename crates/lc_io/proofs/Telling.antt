@@ -6,11 +6,11 @@ use Rattle.std.proofs.lemmas.List.Folds.{concat-append}
 use Rattle.lc_io.specs.Outside.{Tell, with_tells, bytes_told, Tells, Told, ToldPrefix}
 
 -- pieces after pieces
-with_tells-with_tells : (old : Option (List Tell)) (a b : List Tell) → with_tells (with_tells old a) b ≡ with_tells old (a ++ b)
+pub with_tells-with_tells : (old : Option (List Tell)) (a b : List Tell) → with_tells (with_tells old a) b ≡ with_tells old (a ++ b)
 with_tells-with_tells None a b = refl
 with_tells-with_tells (Some told) a b = ap Some (append_assoc told a b)
 
-with_none : (old : Option (List Tell)) → old ≡ with_tells old []
+pub with_none : (old : Option (List Tell)) → old ≡ with_tells old []
 with_none None = refl
 with_none (Some told) = ap Some (sym (append-nil told))
 

@@ -10,6 +10,7 @@ use Rattle.lc_base.specs.declared.row.Row.{Row}
 use Rattle.lc_base.specs.History.{IsLawful, StandsBefore, up_to}
 use Rattle.skip_links.specs.Links.{links}
 use Rattle.skip_links.proofs.Falls.{all_lower}
+use Rattle.skip_links.proofs.Towers.{links_up_to}
 use Rattle.skip_path.proofs.Towers.{tower_holds}
 use Rattle.prov_entry.specs.declared.entry.Header.{Header}
 use Rattle.prov_entry.specs.declared.entry.Link.{Link}
@@ -18,7 +19,6 @@ use Rattle.root_laws.specs.Naming.{closed_uses, digest_of_uses, digest_among, li
 use Rattle.root_laws.specs.NamingLaws.{digest_of_row}
 use Rattle.root_laws.proofs.Headers.{row_is_named}
 use Rattle.root_laws.proofs.Lists.{all_contained, all_front, all_both}
-use Rattle.root_laws.proofs.UpToBlock.{links_up_to}
 use Rattle.entry_store.specs.declared.entry.EntryId.{EntryId}
 use Rattle.entry_store.specs.declared.entry.Hop.{Hop}
 use Rattle.entry_store.specs.Entries.{Entry, LeadsBack, entry_digest, facts_of, named_link, new_header, new_entry}

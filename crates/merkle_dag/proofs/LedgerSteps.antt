@@ -13,6 +13,7 @@ use Rattle.sha2.specs.Sha256.{sha256}
 use Rattle.lc_base.specs.declared.digest.Digest.{Digest}
 use Rattle.lc_base.specs.declared.row.Row.{Row}
 use Rattle.lc_base.specs.History.{IsLawful}
+use Rattle.skip_links.proofs.Lists.{range_more}
 use Rattle.root_laws.specs.Root.{root_of, root_text, digest_at, leaves}
 use Rattle.root_laws.proofs.Lists.{all_weaker, all_append}
 use Rattle.root_laws.proofs.Growing.{up_to_now}
@@ -39,13 +40,6 @@ pub map_on_range : (f g : ℕ → List ℕ) (a m n : ℕ) → a + m ≡ n → ((
 map_on_range f g a zero n e h = refl
 map_on_range f g a (suc m) n e h = let rest = map_on_range f g (a + 1) m n (omega (arith, e)) h in
     rw (h a (omega (arith, e)), rest) refl
-
-range_more : (a n : ℕ) → range_with_len a (n + 1) ≡ range_with_len a n ++ (a + n) ∷ []
-range_more a zero = let e : a + 0 ≡ a = omega arith in rw e refl
-range_more a (suc n) =
-    let e : suc n + 1 ≡ suc (n + 1) = omega arith in
-    let f : a + suc n ≡ a + 1 + n = omega arith in
-    rw (e, f) (ap (λ (t : List ℕ). a ∷ t) (range_more (a + 1) n))
 
 pub root_now : (rows new : List Row) (digests : List Digest) (d : Digest) (n : ℕ) → Grows rows new n
     → n ≡ length digests → root_of (rows ++ new) (digests ++ d ∷ []) n ≡ sha256

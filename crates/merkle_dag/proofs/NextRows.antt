@@ -24,9 +24,6 @@ use Rattle.merkle_dag.specs.Adding.{IsNextRow, bytes_of}
 
 -- ---- versions at indexes stay where rows follow
 
-no_items : {A : Type 0} (x : A) (xs : List A) → [] ≡ x ∷ xs → ⊥
-no_items {A} x xs e = none-some x (ap (λ (l : List A). slice_get l 0) e)
-
 first_version : (rows : List Row) (i : ℕ) (is : List ℕ) (d : Dep) (ds : List Dep)
     → AreVersionsAt rows (i ∷ is) (d ∷ ds) → version_at rows i ≡ Some d
 first_version rows i is d ds at = same_Some (version_at rows i) (Some d)
@@ -46,7 +43,7 @@ versions_stay : (rows more : List Row) (indexes : List ℕ) (deps : List Dep)
     → AreVersionsAt rows indexes deps → AreVersionsAt (rows ++ more) indexes deps
 versions_stay rows more [] deps at = at
 versions_stay rows more (i ∷ is) [] at = absurd
-    (no_items (version_at rows i) (map (version_at rows) is) (sym at))
+    (cc at)
 versions_stay rows more (i ∷ is) (d ∷ ds) at =
     let here = version_stays rows more i d (first_version rows i is d ds at) in
     let rest = versions_stay rows more is ds (other_versions rows i is d ds at) in

@@ -8,9 +8,6 @@ use Rattle.lc_base.specs.declared.row.Row.{Row}
 use Rattle.lc_base.specs.declared.row.Dep.{Dep}
 use Rattle.rows_index.specs.Users.{version_at, there, AreVersionsAt}
 
-no_items : {A : Type 0} (x : A) (xs : List A) → [] ≡ x ∷ xs → ⊥
-no_items {A} x xs e = none-some x (ap (λ (l : List A). slice_get l 0) e)
-
 pub as_long : (rows : List Row) (indexes : List ℕ) (deps : List Dep) → AreVersionsAt rows indexes deps → length indexes ≡ length deps
 as_long rows indexes deps at = sym (length-map indexes (version_at rows)) ∙ ap length at ∙ length-map deps there
 
@@ -23,8 +20,8 @@ other_versions rows i is d ds at = ap (λ (l : List (Option Dep)). drop 1 l) at
 -- what is found at the indexes
 pub found_all : (rows : List Row) (indexes : List ℕ) (deps : List Dep) → AreVersionsAt rows indexes deps → filter_map (version_at rows) indexes ≡ deps
 found_all rows [] [] at = refl
-found_all rows [] (d ∷ ds) at = absurd (no_items (there d) (map there ds) at)
-found_all rows (i ∷ is) [] at = absurd (no_items (version_at rows i) (map (version_at rows) is) (sym at))
+found_all rows [] (d ∷ ds) at = absurd (cc at)
+found_all rows (i ∷ is) [] at = absurd (cc at)
 found_all rows (i ∷ is) (d ∷ ds) at =
     ap (λ (o : Option Dep). cons_option o (filter_map (version_at rows) is)) (first_version rows i is d ds at)
     ∙ ap (λ (l : List Dep). d ∷ l) (found_all rows is ds (other_versions rows i is d ds at))
@@ -41,7 +38,7 @@ version_stays (r ∷ rows) row (suc i) d at = version_stays rows row i d at
 
 pub versions_stay : (rows : List Row) (row : Row) (indexes : List ℕ) (deps : List Dep) → AreVersionsAt rows indexes deps → AreVersionsAt (rows ++ row ∷ []) indexes deps
 versions_stay rows row [] deps at = at
-versions_stay rows row (i ∷ is) [] at = absurd (no_items (version_at rows i) (map (version_at rows) is) (sym at))
+versions_stay rows row (i ∷ is) [] at = absurd (cc at)
 versions_stay rows row (i ∷ is) (d ∷ ds) at =
     let here = version_stays rows row i d (first_version rows i is d ds at) in
     let rest = versions_stay rows row is ds (other_versions rows i is d ds at) in

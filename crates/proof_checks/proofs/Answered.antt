@@ -50,6 +50,18 @@ deps_are : (named : List BodyDep) (deps : List Dep) → map dep_of (map (with_di
 deps_are named [] = refl
 deps_are named (dep ∷ deps) = ap (λ (t : List Dep). dep ∷ t) (deps_are named deps)
 
+-- ---- where there is no body
+
+pub no_body_fault : (last : Option Header) (body : Option Body) → body ≡ None → fault_of_body last body ≡ None
+no_body_fault None body e = refl
+no_body_fault (Some last) None e = refl
+no_body_fault (Some last) (Some body) e = absurd cc
+
+pub no_answer : (kind : Kind) (last : Option Header) (body : Option Body) (list : Option (List Dep)) → body ≡ None → answer_from kind last body list ≡ answers.Nothing
+no_answer kind None body list e = refl
+no_answer kind (Some last) None list e = refl
+no_answer kind (Some last) (Some body) list e = absurd cc
+
 -- ---- the uses
 
 uses_told_apart : (xs ys : List Dep) → AllByRecursion IsUse xs → AllByRecursion IsUse ys → AreToldApart use_text xs ys

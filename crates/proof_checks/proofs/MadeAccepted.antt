@@ -12,7 +12,6 @@ use Rattle.lc_base.specs.declared.row.Dep.{Dep}
 use Rattle.lc_base.specs.declared.answer.Kind.{Kind}
 use Rattle.lc_base.specs.declared.answer.Kind.TheVariants.{Hist, Back, Fwd}
 use Rattle.lc_base.specs.declared.answer.Answer.{Answer}
-use Rattle.lc_base.specs.declared.answer.Answer.TheVariants as answers
 use Rattle.lc_base.specs.History.{IsLawful, up_to, newest, latest, uses, answer_of, scan}
 use Rattle.merkle_tree.specs.Tree.{leaf_text, tree_hash, audit_path, Climb}
 use Rattle.merkle_tree.specs.Climbing.{top_of}
@@ -42,7 +41,7 @@ use Rattle.typed_ledger.proofs.Spellings.{leaf_cases, IsOneOf, newest_of_key}
 use Rattle.proof_checks.proofs.Beginning.{no_version_of, own_key, begins, stands}
 use Rattle.proof_checks.proofs.Onward.{claim_of_uses}
 use Rattle.proof_checks.proofs.Walked.{walk_fault, path_is, Ends}
-use Rattle.proof_checks.proofs.Answered.{answer_is}
+use Rattle.proof_checks.proofs.Answered.{answer_is, no_answer, no_body_fault}
 use Rattle.proof_checks.proofs.MadeWalks.{made_walk}
 
 abbrev climb_from : List ℕ → List (List ℕ) → Climb
@@ -116,24 +115,14 @@ module _ (rows : List Row) (block : ℕ) (digest : List ℕ) (proof : Proof) (la
   nothing passes none =
       let body : proof.body ≡ None = made.body_is ∙ ap (option_map (body_of rows)) none in
       let list : proof.uses ≡ None = made.uses_are ∙ ap (λ (o : Option Row). uses_if proof.query.kind (option_map (λ (row : Row). uses rows key row.block) o)) none ∙ no_list proof.query.kind in
-      let all = none_fails _ _ _ _ _ _ query_passes root_passes leaf_passes passes (no_fault (last_of proof.headers) proof.body body) (ap (fault_of_uses (claim_before (claim_of_leaf proof.leaf) proof.headers)) list) in
+      let all = none_fails _ _ _ _ _ _ query_passes root_passes leaf_passes passes (no_body_fault (last_of proof.headers) proof.body body) (ap (fault_of_uses (claim_before (claim_of_leaf proof.leaf) proof.headers)) list) in
       ap (λ (fault : Option Reject). verdict_of fault (answer_from proof.query.kind (last_of proof.headers) proof.body proof.uses)) all
-      ∙ ap (λ (answer : Answer). given answer) (no_answer (last_of proof.headers) proof.body body ∙ sym (ap (answer_of rows proof.query) none))
+      ∙ ap (λ (answer : Answer). given answer) (no_answer proof.query.kind (last_of proof.headers) proof.body proof.uses body ∙ sym (ap (answer_of rows proof.query) none))
     where
       no_list : (kind : Kind) → uses_if kind None ≡ None
       no_list Hist = refl
       no_list Back = refl
       no_list Fwd = refl
-
-      no_fault : (last : Option Header) (body : Option Body) → body ≡ None → fault_of_body last body ≡ None
-      no_fault None body e = refl
-      no_fault (Some last) None e = refl
-      no_fault (Some last) (Some body) e = absurd cc
-
-      no_answer : (last : Option Header) (body : Option Body) → body ≡ None → answer_from proof.query.kind last body proof.uses ≡ answers.Nothing
-      no_answer None body e = refl
-      no_answer (Some last) None e = refl
-      no_answer (Some last) (Some body) e = absurd cc
 
   -- where a version answers
   something : path_fault proof.query proof ≡ None → (row : Row) → latest rows key at ≡ Some row → last_of proof.headers ≡ Some (header_of rows row) → claim_before (claim_of_leaf proof.leaf) proof.headers ≡ claim_of_uses (uses rows key row.block)

@@ -3,24 +3,22 @@ use Rattle.std.proofs.Common.{◌≡◌, ◌∙◌, ℕ, zero, suc, ◌<◌, tru
 use Rattle.std.specs.List.{find, filter_map, Contains}
 use Rattle.std.specs.Option.{option_map, option_or}
 use Rattle.std.specs.Cmp.Lexicographic.{pointwise}
-use Rattle.std.proofs.lemmas.Bool.{cases_Bool, and_from, eq-eqb}
+use Rattle.std.proofs.lemmas.Bool.{cases_Bool, eq-eqb}
 use Rattle.std.proofs.lemmas.Option.{none-some, same_Some, slice_get-map}
-use Rattle.std.proofs.lemmas.List.Elements.{recursion_from_All}
-use Rattle.std.proofs.lemmas.List.Folds.{list_any_at}
 use Rattle.sha2.specs.Sha256.{sha256}
 use Rattle.lc_base.specs.declared.row.Row.{Row}
 use Rattle.lc_base.specs.History.{IsLawful}
 use Rattle.skip_links.specs.Links.{links}
+use Rattle.skip_links.proofs.Towers.{links_up_to}
 use Rattle.skip_path.specs.Paths.{onward as link_onward, path_from}
 use Rattle.skip_path.proofs.Walks.{ended}
 use Rattle.prov_entry.specs.declared.entry.Link.{Link}
 use Rattle.prov_entry.specs.declared.entry.Header.{Header}
 use Rattle.root_laws.specs.Naming.{header_of, named_before, link_among}
-use Rattle.root_laws.specs.WalkLaws.{is_version_in, text_of_row}
-use Rattle.root_laws.proofs.Lists.{find_map, map_reverse, last_only}
+use Rattle.root_laws.specs.WalkLaws.{text_of_row}
+use Rattle.root_laws.proofs.Lists.{find_map, map_reverse}
 use Rattle.root_laws.proofs.Keys.{key_is_key}
-use Rattle.root_laws.proofs.Headers.{only_row}
-use Rattle.root_laws.proofs.UpToBlock.{links_up_to}
+use Rattle.root_laws.proofs.Walking.{version_found}
 use Rattle.proof_checks.specs.declared.claim.Claim.{Claim}
 use Rattle.proof_checks.specs.declared.reject.Reject.{Reject}
 use Rattle.proof_checks.specs.Checks.{claim_of_header, header_fault, next_link, expected_after}
@@ -29,13 +27,6 @@ use Rattle.proof_checks.proofs.Onward.{begun, StandsAt, GoesOn, onward}
 use Rattle.proof_checks.proofs.Walked.{walk_fault, Ends, one_before}
 
 -- ---- the header of a row
-
-pub version_found : (rows : List Row) (row : Row) → IsLawful rows → Contains rows row → find (is_version_in row.key row.block) (reverse rows) ≡ Some row
-version_found rows row lawful has =
-    let P : Row → Type 0 = λ (y : Row). is_version_in row.key row.block y ≡ true → y ≡ row in
-    let own : is_version_in row.key row.block row ≡ true = and_from (pointwise ◌==◌ row.key row.key) (row.block == row.block) (key_is_key row.key) (eq-eqb row.block row.block refl) in
-    last_only (is_version_in row.key row.block) rows row (recursion_from_All P rows (only_row rows row lawful has))
-    (list_any_at (is_version_in row.key row.block) rows has.0 row has.1 (ap (is_version_in row.key row.block) has.2 ∙ own))
 
 pub header_found : (rows : List Row) (key : List ℕ) (row : Row) → IsLawful rows → Contains rows row → row.key ≡ key → header_in rows key row.block ≡ Some (header_of rows row)
 header_found rows key row lawful has k = ap (λ (x : List ℕ). header_in rows x row.block) (sym k) ∙ ap (option_map (header_of rows)) (version_found rows row lawful has)

@@ -1,13 +1,12 @@
 -- Rows up to a block, and what is found among them.
 use Rattle.std.proofs.Common.{◌≡◌, ◌∙◌, ℕ, ◌<◌, ◌≤◌, Bool, true, ◌&&◌, ◌==◌, nat_lt, nat_le, List, [], ◌∷◌, Some, None, refl, sym, ap, arith, filter, reverse, inl, inr}
-use Rattle.std.specs.List.{find, AllByRecursion, Contains}
+use Rattle.std.specs.List.{find}
 use Rattle.std.specs.Cmp.Lexicographic.{pointwise}
 use Rattle.std.proofs.lemmas.Bool.{cases_Bool, and_parts, and_from, lt-ltb, leb-true}
 use Rattle.std.proofs.lemmas.Option.{none-some, same_Some}
-use Rattle.std.proofs.lemmas.List.Elements.{recursion_from_All, All-from_recursion, All-filter}
 use Rattle.lc_base.specs.declared.row.Row.{Row}
 use Rattle.lc_base.specs.History.{below, newest, is_version, latest}
-use Rattle.root_laws.proofs.Lists.{not_both, all_contained, filter_reverse, found_passes}
+use Rattle.root_laws.proofs.Lists.{not_both, filter_reverse, found_passes}
 use Rattle.root_laws.proofs.Keys.{same_key}
 
 -- ---- what is found
@@ -94,7 +93,3 @@ pub latest_none_before : (rows : List Row) (key : List ℕ) (at block : ℕ) →
 latest_none_before rows key at block l e = none_within (is_before key block) (is_version key at) (reverse rows) (early_is_before key at block l) (sym (newest_before rows key block) ∙ e)
 
 -- ---- rows that were kept
-
--- They are rows.
-pub kept_rows : (rows : List Row) (p : Row → Bool) → AllByRecursion (Contains rows) (filter p rows)
-kept_rows rows p = recursion_from_All (Contains rows) (filter p rows) (All-filter p (Contains rows) rows (All-from_recursion (Contains rows) rows (all_contained rows)))

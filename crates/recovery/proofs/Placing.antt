@@ -9,19 +9,14 @@ use Rattle.block_codec.specs.declared.limits.TheConstants.{MAX_BLOCKS, MAX_BLOCK
 use Rattle.block_codec.specs.declared.limits.TheConstants.{MAX_ROWS_BEFORE_BLOCK}
 use Rattle.block_codec.specs.declared.block.Block.{Block}
 use Rattle.block_codec.specs.declared.placement.Placement.{Placement}
-use Rattle.block_codec.specs.declared.placement.Placement.TheVariants.{Known, Next, Fork, Full}
+use Rattle.block_codec.specs.declared.placement.Placement.TheVariants.{Next, Full}
 use Rattle.block_codec.specs.declared.placement.Placement.TheVariants.{Number, Parent, Budget}
+use Rattle.block_codec.proofs.Placed.{not_full, not_held}
 use Rattle.block_log.specs.Log.{LogState, IsStricter, IsNextOf}
 use Rattle.chain_exec.specs.Compiled.{Compiler}
 use Rattle.chain_replay.specs.Chain.{ChainState, placement_in}
 use Rattle.chain_replay.specs.Judging.{IsNextBlock}
 use Rattle.recovery.specs.Node.{AreOfOneChain}
-
--- a chain that is full has no next block
-not_full : (full : Bool) (rest : Placement) → (if full then Full else rest) ≡ Next → (full ≡ false)
-    × (rest ≡ Next)
-not_full true rest is = absurd (cc is)
-not_full false rest is = (refl, is)
 
 or_false : (a b : Bool) → (a || b) ≡ false → a ≡ false
 or_false true b e = e
@@ -40,23 +35,19 @@ fewer_rows held rows parent block is =
     ap (λ (full : Bool). if (full || nat_lt MAX_ROWS_BEFORE_BLOCK 0) then Full else rest) few
     ∙ open_ended.1
 
-never_next : (same : Bool) (have : Digest) → (if same then Known else Fork have) ≡ Next → ⊥
-never_next true have is = cc is
-never_next false have is = cc is
-
 -- a block that is next has a number that is not held
 pub new_one : (held rows : ℕ) (have : Option Digest) (parent : Digest) (block : Block)
     (digest : Digest) → placement held rows have parent block digest ≡ Next → (have ≡ None)
     × (new_placement held 0 parent block ≡ Next)
 new_one held rows (Some have) parent block digest is = absurd
-    (never_next (is_same_digest have digest) have is)
+    (not_held (is_same_digest have digest) have is)
 new_one held rows None parent block digest is = (refl, fewer_rows held rows parent block is)
 
 unrun : (held rows : ℕ) (have : Option Digest) (parent : Digest) (block : Block) (digest : Digest)
     → placement held rows have parent block digest ≡ Next
     → placement held 0 have parent block digest ≡ Next
 unrun held rows (Some have) parent block digest is = absurd
-    (never_next (is_same_digest have digest) have is)
+    (not_held (is_same_digest have digest) have is)
 unrun held rows None parent block digest is = fewer_rows held rows parent block is
 
 -- A placement that counts rows is stricter than that of the log.

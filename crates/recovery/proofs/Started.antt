@@ -1,10 +1,9 @@
 -- The node that a log is started with.
-use Rattle.std.proofs.Common.{◌≡◌, inl, inr, ℕ, Bool, eqb, List, [], length, Option, Some, None}
-use Rattle.std.proofs.Common.{Result, Ok, Err, refl, sym, ap, subst, ◌∙◌, true≢false}
-use Rattle.std.specs.Prelude.{IfOk, IsErrOf, MatchBool}
+use Rattle.std.proofs.Common.{◌≡◌, inl, inr, ℕ, Bool, List, [], length, Option, Some, None}
+use Rattle.std.proofs.Common.{Result, Ok, Err, refl, sym, ap, subst, ◌∙◌}
+use Rattle.std.specs.Prelude.{IfOk, MatchBool}
 use Rattle.std.proofs.lemmas.List.{length-map}
-use Rattle.std.proofs.lemmas.Bool.{cases_Bool, eqb-true, eq-eqb}
-use Rattle.lc_base.specs.Faults.{HasCause}
+use Rattle.std.proofs.lemmas.Bool.{cases_Bool}
 use Rattle.lc_base.specs.declared.digest.Digest.{Digest}
 use Rattle.lc_io.specs.Disk.{DiskState}
 use Rattle.disk_model.specs.Disk.{IsSettled, Rests, content_of}
@@ -186,15 +185,3 @@ failed_turn {C} kept content stored chain run failed error is turn = subst
         (stored, damaged_after stored chain run image at (turn image told))
     there logs.DiskFault turn = tt
     there logs.Memory turn = tt
-
--- A call that ends well leaves a count of faults as it was.
-pub unblamed : {T E : Type 0} {x : T} {e : E} (before now : ℕ)
-    → HasCause before now (IsErrOf (Ok x) e) → now ≡ before
-unblamed {T} {E} {x} {e} before now cause =
-    elim (cases_Bool (eqb now before)) [
-      | inl same ↦ eqb-true now before same
-      | inr differ ↦
-          let both : Ok x ≡ Err e = cause.told
-          (λ is. true≢false (sym (eq-eqb now before is) ∙ differ)) in
-          absurd cc
-    ]

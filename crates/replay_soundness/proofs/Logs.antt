@@ -8,25 +8,16 @@ use Rattle.block_codec.specs.Placement.{digest_of}
 use Rattle.block_codec.specs.Spelling.{Decoder, IsDecoder}
 use Rattle.block_codec.specs.declared.limits.TheConstants.{MAX_BLOCK_BYTES, MAX_BLOCKS}
 use Rattle.block_codec.specs.declared.block.Block.{Block}
-use Rattle.block_codec.specs.declared.placement.Placement.{Placement}
-use Rattle.block_codec.specs.declared.placement.Placement.TheVariants.{Known as KnownBlock, Next, Fork, Full, Number, Parent, Budget}
+use Rattle.block_codec.specs.declared.placement.Placement.TheVariants.{Next}
 use Rattle.block_log.specs.declared.layout.TheConstants.{OPEN_GATE, FIRST_GATE}
 use Rattle.block_log.specs.declared.layout.Stored.{Stored}
-use Rattle.block_log.specs.Standing.{Standing, Blank, NotALog, Damaged, Holds, NextBlock, if_next, next_decoded, next_block, blocks_in, after_record, record_at, records_at, is_log, is_blank, standing, blocks_of}
+use Rattle.block_log.specs.Standing.{Standing, Blank, NotALog, Damaged, Holds, NextBlock, next_decoded, next_block, blocks_in, after_record, record_at, records_at, is_log, is_blank, standing, blocks_of}
+use Rattle.block_log.proofs.Chained.{placed}
 use Rattle.chain_exec.specs.Compiled.{Compiler}
 use Rattle.chain_replay.specs.Chain.{placement_in}
 use Rattle.typed_replays.specs.Chains.{IsLawfulChain}
 use Rattle.replay_soundness.specs.Chains.{LogsHoldChains}
 use Rattle.replay_soundness.proofs.Longer.{no_blocks, longer_chain}
-
-placed : (decoded block : Block) (placement : Placement) → if_next decoded placement ≡ Some block → (placement ≡ Next) × (decoded ≡ block)
-placed decoded block Next is = (refl, cc is)
-placed decoded block KnownBlock is = absurd (cc is)
-placed decoded block (Fork have) is = absurd (cc is)
-placed decoded block Full is = absurd (cc is)
-placed decoded block (Number want) is = absurd (cc is)
-placed decoded block (Parent want) is = absurd (cc is)
-placed decoded block (Budget sum) is = absurd (cc is)
 
 module _ (read : Decoder) (compile : Compiler) (right : IsDecoder read) where
   abbrev next : NextBlock

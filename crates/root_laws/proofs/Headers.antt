@@ -104,7 +104,7 @@ block_found (Some row) block e = (row, refl, same_Some row.block block e)
 abbrev pub IsOlder : List Row → List ℕ → ℕ → ℕ → Type 0
 IsOlder rows key block c = (row : Row) × Contains rows row × (row.key ≡ key) × (row.block ≡ c) × (c < block)
 
-kept_rows : (rows : List Row) (p : Row → Bool) → AllByRecursion (Contains rows) (filter p rows)
+pub kept_rows : (rows : List Row) (p : Row → Bool) → AllByRecursion (Contains rows) (filter p rows)
 kept_rows rows p = recursion_from_All (Contains rows) (filter p rows) (All-filter p (Contains rows) rows (All-from_recursion (Contains rows) rows (all_contained rows)))
 
 links_are_older : (rows : List Row) (key : List ℕ) (block : ℕ) → AllByRecursion (IsOlder rows key block) (links (up_to rows block) key block)

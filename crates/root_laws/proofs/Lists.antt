@@ -2,15 +2,12 @@
 use Rattle.std.proofs.Common.{◌≡◌, ◌∙◌, ◌⊎◌, Bool, true, false, ◌||◌, suc, List, [], ◌∷◌, ◌++◌, Option, Some, None, refl, sym, ap, subst, arith, map, filter, reverse, inl, inr}
 use Rattle.std.specs.List.{find, list_any, filter_map, AllByRecursion, Contains}
 use Rattle.std.specs.Option.{option_map, option_or, is_some}
-use Rattle.std.proofs.lemmas.List.{map-append, append-nil, reverse-append}
-use Rattle.std.proofs.lemmas.List.Elements.{filter-append, All-from_recursion}
+use Rattle.std.proofs.lemmas.List.{map-append, reverse-append}
+use Rattle.std.proofs.lemmas.List.Elements.{All-from_recursion}
 use Rattle.std.proofs.lemmas.List.Folds.{find-append}
 use Rattle.std.proofs.lemmas.Bool.{cases_Bool}
 use Rattle.std.proofs.lemmas.Option.{none-some, same_Some}
-
-pub not_both : (b : Bool) → b ≡ true → b ≡ false → ⊥
-not_both true e f = cc
-not_both false e f = cc
+pub use Rattle.skip_links.proofs.Lists.{not_both, all_weaker, all_append, all_reverse, filter_reverse, find_on, find_filter, any_filter}
 
 pub or_false : (b : Bool) → (b || false) ≡ b
 or_false true = refl
@@ -30,17 +27,9 @@ option_cases (Some x) = inr (x, refl)
 
 -- ---- what holds of all items
 
-pub all_weaker : {X : Type 0} (P Q : X → Type 0) → ((x : X) → P x → Q x) → (xs : List X) → AllByRecursion P xs → AllByRecursion Q xs
-all_weaker P Q f [] h = tt
-all_weaker P Q f (x ∷ xs) h = (f x h.0, all_weaker P Q f xs h.1)
-
 pub all_both : {X : Type 0} (P Q : X → Type 0) (xs : List X) → AllByRecursion P xs → AllByRecursion Q xs → AllByRecursion (λ x. P x × Q x) xs
 all_both P Q [] h k = tt
 all_both P Q (x ∷ xs) h k = ((h.0, k.0), all_both P Q xs h.1 k.1)
-
-pub all_append : {X : Type 0} (P : X → Type 0) (xs ys : List X) → AllByRecursion P xs → AllByRecursion P ys → AllByRecursion P (xs ++ ys)
-all_append P [] ys h k = k
-all_append P (x ∷ xs) ys h k = (h.0, all_append P xs ys h.1 k)
 
 pub all_front : {X : Type 0} (P : X → Type 0) (xs ys : List X) → AllByRecursion P (xs ++ ys) → AllByRecursion P xs
 all_front P [] ys h = tt
@@ -49,10 +38,6 @@ all_front P (x ∷ xs) ys h = (h.0, all_front P xs ys h.1)
 pub all_back : {X : Type 0} (P : X → Type 0) (xs ys : List X) → AllByRecursion P (xs ++ ys) → AllByRecursion P ys
 all_back P [] ys h = h
 all_back P (x ∷ xs) ys h = all_back P xs ys h.1
-
-pub all_reverse : {X : Type 0} (P : X → Type 0) (xs : List X) → AllByRecursion P xs → AllByRecursion P (reverse xs)
-all_reverse P [] h = tt
-all_reverse P (x ∷ xs) h = rw (reverse-append (x ∷ []) xs) (all_append P (reverse xs) (x ∷ []) (all_reverse P xs h.1) (h.0, tt))
 
 pub all_map : {X Y : Type 0} (P : Y → Type 0) (f : X → Y) (xs : List X) → AllByRecursion (λ x. P (f x)) xs → AllByRecursion P (map f xs)
 all_map P f [] h = tt
@@ -82,15 +67,6 @@ pub keep_none : {X : Type 0} (p : X → Bool) (xs : List X) → AllByRecursion (
 keep_none p [] h = refl
 keep_none p (x ∷ xs) h = rw h.0 (keep_none p xs h.1)
 
-pub filter_reverse : {X : Type 0} (p : X → Bool) (xs : List X) → reverse (filter p xs) ≡ filter p (reverse xs)
-filter_reverse p [] = refl
-filter_reverse p (x ∷ xs) =
-    rw (reverse-append (x ∷ []) xs, filter-append p (reverse xs) (x ∷ []))
-    (elim (cases_Bool (p x)) [
-      | inl e ↦ rw (e, reverse-append (x ∷ []) (filter p xs), filter_reverse p xs) refl
-      | inr e ↦ rw (e, append-nil (filter p (reverse xs))) (filter_reverse p xs)
-    ])
-
 pub map_on : {X Y : Type 0} (f g : X → Y) (xs : List X) → AllByRecursion (λ x. f x ≡ g x) xs → map f xs ≡ map g xs
 map_on f g [] h = refl
 map_on f g (x ∷ xs) h = let rest = map_on f g xs h.1 in rw (h.0, rest) refl
@@ -112,38 +88,9 @@ find_map p f (x ∷ xs) = elim (cases_Bool (p (f x))) [
   | inr e ↦ rw e (find_map p f xs)
 ]
 
-pub find_on : {X : Type 0} (p q : X → Bool) (xs : List X) → AllByRecursion (λ x. p x ≡ q x) xs → find p xs ≡ find q xs
-find_on p q [] h = refl
-find_on p q (x ∷ xs) h = let rest = find_on p q xs h.1 in rw (h.0, rest) refl
-
 pub find_none : {X : Type 0} (p : X → Bool) (xs : List X) → AllByRecursion (λ y. p y ≡ false) xs → find p xs ≡ None
 find_none p [] h = refl
 find_none p (x ∷ xs) h = rw h.0 (find_none p xs h.1)
-
--- what passes the first test alone is found in what is left by the second
-pub find_filter : {X : Type 0} (p q : X → Bool) (xs : List X) → ((x : X) → p x ≡ true → q x ≡ true) → find p (filter q xs) ≡ find p xs
-find_filter p q [] f = refl
-find_filter p q (x ∷ xs) f =
-    let rest = find_filter p q xs f in
-    elim (cases_Bool (q x)) [
-      | inl t ↦ rw (t, rest) refl
-      | inr t ↦ elim (cases_Bool (p x)) [
-        | inl u ↦ absurd (not_both (q x) (f x u) t)
-        | inr u ↦ rw (t, u) rest
-      ]
-    ]
-
-pub any_filter : {X : Type 0} (p q : X → Bool) (xs : List X) → ((x : X) → p x ≡ true → q x ≡ true) → list_any p (filter q xs) ≡ list_any p xs
-any_filter p q [] f = refl
-any_filter p q (x ∷ xs) f =
-    let rest = any_filter p q xs f in
-    elim (cases_Bool (q x)) [
-      | inl t ↦ rw (t, rest) refl
-      | inr t ↦ elim (cases_Bool (p x)) [
-        | inl u ↦ absurd (not_both (q x) (f x u) t)
-        | inr u ↦ rw (t, u) rest
-      ]
-    ]
 
 -- what holds of all items holds of the one that is found
 pub found_has : {X : Type 0} (P : X → Type 0) (p : X → Bool) (xs : List X) (x : X) → AllByRecursion P xs → find p xs ≡ Some x → P x

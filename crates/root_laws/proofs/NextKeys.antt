@@ -13,7 +13,7 @@ use Rattle.root_laws.specs.KeyLaws.{IsNext}
 use Rattle.root_laws.proofs.Lists.{all_weaker, all_contained, contained, not_both}
 
 -- what the law says, by recursion on the keys
-abbrev Next : List (List ℕ) → List ℕ → Option (List ℕ) → Type 0
+abbrev pub Next : List (List ℕ) → List ℕ → Option (List ℕ) → Type 0
 Next keys key None = AllByRecursion (λ (other : List ℕ). is_below key other ≡ false) keys
 Next keys key (Some next) = Contains keys next × (is_below key next ≡ true) × AllByRecursion (λ (other : List ℕ). is_below key other ≡ true → is_below other next ≡ false) keys
 
@@ -36,7 +36,7 @@ below_trans a b c x y = ap is_lt (nat_list_cmp_total.trans a b c (less_from (sli
 pub not_itself : (a : List ℕ) → is_below a a ≡ false
 not_itself a = ap is_lt (tied_itself nat_list_cmp_total a)
 
-not_back : (a b : List ℕ) → is_below a b ≡ true → is_below b a ≡ false
+pub not_back : (a b : List ℕ) → is_below a b ≡ true → is_below b a ≡ false
 not_back a b x = elim (cases_Bool (is_below b a)) [
   | inr f ↦ f
   | inl t ↦ absurd (not_both (is_below a a) (below_trans a b a x t) (not_itself a))
@@ -76,7 +76,7 @@ first_lower : (x : List ℕ) (keys : List (List ℕ)) (key : List ℕ) (o : Opti
 first_lower x keys key None b h = (b, h)
 first_lower x keys key (Some m) b h = (later x keys m h.0, h.1, ((λ t. absurd (not_both (is_below key x) t b)), h.2))
 
-next_of : (keys : List (List ℕ)) (key : List ℕ) → Next keys key (next_key keys key)
+pub next_of : (keys : List (List ℕ)) (key : List ℕ) → Next keys key (next_key keys key)
 next_of [] key = tt
 next_of (x ∷ keys) key = elim (cases_Bool (is_below key x)) [
   | inl t ↦ rw t (first_greater x keys key (next_key keys key) t (next_of keys key))
@@ -86,7 +86,7 @@ next_of (x ∷ keys) key = elim (cases_Bool (is_below key x)) [
 pub next_is : (keys : List (List ℕ)) (key : List ℕ) → IsNext keys key (next_key keys key)
 next_is keys key = to_law keys key (next_key keys key) (next_of keys key)
 
-one_next : (keys : List (List ℕ)) (key : List ℕ) (o p : Option (List ℕ)) → Next keys key o → Next keys key p → o ≡ p
+pub one_next : (keys : List (List ℕ)) (key : List ℕ) (o p : Option (List ℕ)) → Next keys key o → Next keys key p → o ≡ p
 one_next keys key None None h k = refl
 one_next keys key None (Some m) h k = absurd (not_both (is_below key m) k.1 (contained (λ (other : List ℕ). is_below key other ≡ false) keys m h k.0))
 one_next keys key (Some n) None h k = absurd (not_both (is_below key n) h.1 (contained (λ (other : List ℕ). is_below key other ≡ false) keys n k h.0))

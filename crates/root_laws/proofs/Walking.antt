@@ -22,7 +22,7 @@ use Rattle.root_laws.proofs.Keys.{same_key, key_is_key}
 use Rattle.root_laws.proofs.Headers.{only_row, links_are_named}
 
 -- the version of a row's key in its block is the row
-version_found : (rows : List Row) (row : Row) → IsLawful rows → Contains rows row → find (is_version_in row.key row.block) (reverse rows) ≡ Some row
+pub version_found : (rows : List Row) (row : Row) → IsLawful rows → Contains rows row → find (is_version_in row.key row.block) (reverse rows) ≡ Some row
 version_found rows row lawful has =
     let P : Row → Type 0 = λ (y : Row). is_version_in row.key row.block y ≡ true → y ≡ row in
     let own : is_version_in row.key row.block row ≡ true = and_from (pointwise ◌==◌ row.key row.key) (row.block == row.block) (key_is_key row.key) (eq-eqb row.block row.block refl) in

@@ -1,6 +1,6 @@
 -- What is kept of the first rows.
 use Rattle.std.proofs.Common.{◌≡◌, ◌==◌, ℕ, zero, suc, ◌+◌, ◌<◌, ◌≤◌, ◌||◌, nat_lt, List, [], ◌∷◌}
-use Rattle.std.proofs.Common.{◌++◌, filter, take, map, get_or, length, slice_get, Bool, true, false}
+use Rattle.std.proofs.Common.{◌++◌, filter, take, map, get_or, length, Bool, true, false}
 use Rattle.std.proofs.Common.{cond, None, Some, refl, sym, ap, subst, ◌∙◌, inl, inr, arith}
 use Rattle.std.specs.List.{list_any, All}
 use Rattle.std.specs.Map.{lookup}
@@ -17,6 +17,7 @@ use Rattle.std.proofs.lemmas.Option.{slice_get_within, slice_get-map}
 use Rattle.std.proofs.lemmas.Slice.Eq.{bytes_eq-Decides}
 use Rattle.lc_base.specs.declared.row.Row.{Row}
 use Rattle.lc_base.specs.History.{depends_on}
+use Rattle.lc_base.proofs.Lists.{get_take}
 use Rattle.rows_index.specs.declared.places.Place.{Place}
 use Rattle.rows_index.specs.Places.{marks_of, places_in, list_or_empty, is_of, place_of, ArePlaces}
 use Rattle.rows_index.specs.Users.{AreUsers, number_of}
@@ -145,12 +146,6 @@ places_first rows kept below end are cut key =
     cut key ∙ ap (places_below end) (are key)
     ∙ marked_first place_of (is_of key) (stands_below end) end (λ m x. refl) 0 end rows
     (omega arith)
-
-get_take : {A : Type 0} (n i : ℕ) (xs : List A) → i < n → slice_get (take n xs) i ≡ slice_get xs i
-get_take zero i xs low = absurd (omega (arith, low))
-get_take (suc n) i [] low = refl
-get_take (suc n) zero (x ∷ xs) low = refl
-get_take (suc n) (suc i) (x ∷ xs) low = get_take n i xs (omega (arith, low))
 
 pub users_first : (rows : List Row) (lists : List (List ℕ)) (end : ℕ) → AreUsers rows lists
     → AreUsers (take end rows) (map (numbers_below end) (take end lists))

@@ -1,20 +1,14 @@
 -- Lists with one link for each level, where there is one.
-use Rattle.std.proofs.Common.{◌≡◌, ◌∙◌, ℕ, zero, suc, ◌+◌, ◌≤◌, List, [], ◌∷◌, ◌++◌, length, Option, Some, None, refl, ap, arith}
+use Rattle.std.proofs.Common.{◌≡◌, ◌∙◌, ℕ, ◌+◌, ◌≤◌, List, [], ◌∷◌, ◌++◌, length, Option, Some, None, refl, arith}
 use Rattle.std.specs.List.{filter_map, range_with_len}
 use Rattle.std.specs.Option.{option_to_list}
 use Rattle.std.proofs.lemmas.List.{length-append}
 use Rattle.std.proofs.lemmas.List.Elements.{filter_map-append}
+use Rattle.skip_links.proofs.Lists.{range_more}
 
 one : (h : ℕ → Option ℕ) (n : ℕ) (o : Option ℕ) → h n ≡ o → filter_map h (n ∷ []) ≡ option_to_list o
 one h n None e = rw e refl
 one h n (Some x) e = rw e refl
-
-range_more : (a n : ℕ) → range_with_len a (n + 1) ≡ range_with_len a n ++ (a + n) ∷ []
-range_more a zero = let e : a + 0 ≡ a = omega arith in rw e refl
-range_more a (suc n) =
-    let e : suc n + 1 ≡ suc (n + 1) = omega arith in
-    let f : a + suc n ≡ a + 1 + n = omega arith in
-    rw (e, f) (ap (λ (t : List ℕ). a ∷ t) (range_more (a + 1) n))
 
 pub links_more : (h : ℕ → Option ℕ) (n : ℕ) → filter_map h (range_with_len 0 (n + 1)) ≡ filter_map h (range_with_len 0 n) ++ option_to_list (h n)
 links_more h n = let e : 0 + n ≡ n = omega arith in rw (range_more 0 n, e) (filter_map-append h (range_with_len 0 n) (n ∷ []) ∙ rw (one h n (h n) refl) refl)

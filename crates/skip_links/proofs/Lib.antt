@@ -1,3 +1,4 @@
+pub mod Lists
 mod Levels
 pub mod Falls
 pub mod Differing

@@ -1,5 +1,5 @@
 -- Laws of heights and links.
-use Rattle.std.proofs.Common.{◌≡◌, ◌∙◌, ℕ, suc, ◌+◌, ◌*◌, ◌/◌, ◌^◌, ◌<◌, ◌≤◌, Bool, true, false, ◌&&◌, ◌||◌, ◌==◌, not, nat_lt, List, [], ◌∷◌, map, filter, reverse, Option, refl, sym, ap, arith, inl, inr}
+use Rattle.std.proofs.Common.{◌≡◌, ◌∙◌, ℕ, ◌+◌, ◌*◌, ◌/◌, ◌^◌, ◌<◌, ◌≤◌, Bool, true, false, ◌&&◌, ◌||◌, ◌==◌, not, nat_lt, List, [], ◌∷◌, map, filter, reverse, Option, refl, sym, ap, arith, inl, inr}
 use Rattle.std.specs.Prelude.{Some, None, slice_get, bit_xor}
 use Rattle.std.specs.List.{find, list_any, filter_map, range_with_len, AllByRecursion}
 use Rattle.std.specs.Option.{option_map}
@@ -15,8 +15,9 @@ use Rattle.skip_links.specs.Falling.{older_blocks, IsFalling, is_first, from_lev
 use Rattle.skip_links.specs.Laws.{has_older, has_older_in}
 use Rattle.skip_links.specs.declared.limits.TheConstants.{MAX_LEVEL}
 use Rattle.skip_links.proofs.Falls.{from_first, from_past}
-use Rattle.skip_links.proofs.Towers.{any_reverse, blocks_fall, height_is, links_none, lawful_link, links_on}
+use Rattle.skip_links.proofs.Towers.{any_reverse, blocks_fall, height_is, links_none, lawful_link}
 use Rattle.skip_links.proofs.Threads.{blocks_below}
+use Rattle.skip_links.proofs.Lists.{filter_map_on, filter_map_none, range_first}
 
 -- ---- the version before
 
@@ -48,10 +49,7 @@ links_over : (rows : List Row) (key : List ℕ) (block : ℕ) → IsLawful rows
     → links rows key block ≡ filter_map (last_at_level (older_blocks rows key block)) (range_with_len 0 (height rows key block + 1))
 unfolding links
 links_over rows key block lawful =
-    links_on (link rows key block) (last_at_level (older_blocks rows key block)) (range_with_len 0 (height rows key block + 1)) (λ level. lawful_link rows key block level lawful)
-
-range_first : (n : ℕ) → range_with_len 0 (n + 1) ≡ 0 ∷ range_with_len 1 n
-range_first n = let e : n + 1 ≡ suc n = omega arith in rw e refl
+    filter_map_on (link rows key block) (last_at_level (older_blocks rows key block)) (range_with_len 0 (height rows key block + 1)) (λ level. lawful_link rows key block level lawful)
 
 first_of_links : (f : ℕ → Option ℕ) (n previous : ℕ) → f 0 ≡ Some previous → slice_get (filter_map f (range_with_len 0 (n + 1))) 0 ≡ Some previous
 first_of_links f n previous e = rw (range_first n, e) refl
@@ -158,10 +156,6 @@ none_found p q (row ∷ rows) e = elim (cases_Bool (p row)) [
   | inr f ↦ rw f (none_found p q rows (rw f at e))
 ]
 
-none_mapped : (f : ℕ → Option ℕ) (levels : List ℕ) → ((level : ℕ) → f level ≡ None) → filter_map f levels ≡ []
-none_mapped f [] h = refl
-none_mapped f (level ∷ levels) h = rw (h level) (none_mapped f levels h)
-
 no_link : (rows : List Row) (key : List ℕ) (block level : ℕ) → has_older rows key block ≡ false → link rows key block level ≡ None
 unfolding link
 no_link rows key block level none =
@@ -171,7 +165,7 @@ no_link rows key block level none =
 pub first_has_none : (rows : List Row) (key : List ℕ) (block : ℕ) → has_older rows key block ≡ false → links rows key block ≡ []
 unfolding links
 first_has_none rows key block none =
-    none_mapped (link rows key block) (range_with_len 0 (height rows key block + 1)) (λ level. no_link rows key block level none)
+    filter_map_none (link rows key block) (range_with_len 0 (height rows key block + 1)) (λ level. no_link rows key block level none)
 
 found_any : (p q : Row → Bool) (rows : List Row) (found : ℕ) → option_map (λ (row : Row). row.block) (find (λ (row : Row). p row && q row) rows) ≡ Some found
     → list_any (λ (row : Row). p row && row.block == found) rows ≡ true

@@ -10,7 +10,7 @@ use Rattle.lc_base.specs.declared.row.Row.{Row}
 use Rattle.lc_base.specs.History.{StandsBefore, below, newest}
 use Rattle.skip_links.specs.Falling.{older_blocks}
 use Rattle.skip_links.specs.Versions.{index_in_reverse, newest_index}
-use Rattle.skip_links.proofs.Towers.{reverse_filter}
+use Rattle.skip_links.proofs.Lists.{filter_reverse}
 
 -- ---- their indexes
 
@@ -78,7 +78,7 @@ filter_both p q (x ∷ xs) =
 pub blocks_below : (rows : List Row) (key : List ℕ) (block : ℕ)
     → map (λ (row : Row). row.block) (filter (λ (row : Row). pointwise ◌==◌ row.key key) (reverse (below rows block))) ≡ older_blocks rows key block
 blocks_below rows key block =
-    ap (λ (all : List Row). map (λ (row : Row). row.block) (filter (λ (row : Row). pointwise ◌==◌ row.key key) all)) (reverse_filter (λ (row : Row). nat_lt row.block block) rows)
+    ap (λ (all : List Row). map (λ (row : Row). row.block) (filter (λ (row : Row). pointwise ◌==◌ row.key key) all)) (filter_reverse (λ (row : Row). nat_lt row.block block) rows)
     ∙ sym (ap (map (λ (row : Row). row.block)) (filter_both (λ (row : Row). pointwise ◌==◌ row.key key) (λ (row : Row). nat_lt row.block block) (reverse rows)))
 
 -- ---- with one row more

@@ -1,21 +1,22 @@
 -- Links over a history are those over the falling list of the key's blocks.
-use Rattle.std.proofs.Common.{zero, Option, ◌+◌, nat_le, ◌++◌, ltb-true, ◌≡◌, ◌∙◌, ℕ, suc, ◌<◌, ◌≤◌, ◌*◌, ◌^◌, Bool, true, false, ◌&&◌, ◌||◌, ◌==◌, not, nat_lt, List, [], ◌∷◌, map, filter, reverse, refl, sym, ap, arith, inl, inr}
+use Rattle.std.proofs.Common.{zero, ◌+◌, nat_le, ◌++◌, ltb-true, ◌≡◌, ◌∙◌, ℕ, suc, ◌<◌, ◌≤◌, ◌*◌, ◌^◌, Bool, true, false, ◌&&◌, ◌||◌, ◌==◌, not, nat_lt, List, [], ◌∷◌, map, filter, reverse, refl, sym, ap, arith, inl, inr}
 use Rattle.std.specs.Prelude.{None, bit_xor}
 use Rattle.std.specs.List.{filter_map, range_with_len, find, list_any, AllByRecursion, AllPairs}
 use Rattle.std.specs.Option.{option_map}
 use Rattle.std.specs.Cmp.Lexicographic.{pointwise}
-use Rattle.std.proofs.lemmas.List.{reverse-append, append-nil}
+use Rattle.std.proofs.lemmas.List.{reverse-append}
 use Rattle.std.proofs.lemmas.List.Folds.{list_any-append}
 use Rattle.std.proofs.lemmas.Bool.{le-leb, and_parts, cases_Bool, cases_lt, lt-ltb, le-ltb}
 use Rattle.std.proofs.lemmas.Slice.Eq.{bytes_eq-Decides}
-use Rattle.std.proofs.lemmas.List.Elements.{recursion_from_All, filter-append}
+use Rattle.std.proofs.lemmas.List.Elements.{recursion_from_All}
 use Rattle.lc_base.specs.declared.row.Row.{Row}
 use Rattle.lc_base.specs.History.{IsLawful, StandsBefore, up_to, below}
-use Rattle.skip_links.specs.Links.{height_to, height, links, is_older, are_close, is_at_level, link}
+use Rattle.skip_links.specs.Links.{height_to, height, links, is_older, are_close, is_at_level, link, is_linked}
 use Rattle.skip_links.specs.Falling.{older_blocks, IsFalling, is_first, from_level, last_at_level}
 use Rattle.skip_links.specs.declared.limits.TheConstants.{MAX_LEVEL}
 use Rattle.skip_links.proofs.Falls.{all_lower, none_in_interval, rest_falls}
 use Rattle.skip_links.proofs.Differing.{apart, together, higher}
+use Rattle.skip_links.proofs.Lists.{all_weaker, all_reverse, filter_reverse, filter_map_on, filter_map_none, not_both, any_filter, find_filter, find_on}
 
 -- ---- from rows to their blocks
 
@@ -113,18 +114,6 @@ link_is rows key b i h =
     begin [] e h = tt
     begin (c ∷ rest) e h = tail_of rows key b c rest h.0 e h.1
 
-all_reverse : {X : Type 0} (P : X → Type 0) (xs : List X) → AllByRecursion P xs → AllByRecursion P (reverse xs)
-all_reverse P [] h = tt
-all_reverse P (x ∷ xs) h = rw (reverse-append (x ∷ []) xs) (push P (reverse xs) x (all_reverse P xs h.1) h.0)
-  where
-    push : {X : Type 0} (P : X → Type 0) (xs : List X) (x : X) → AllByRecursion P xs → P x → AllByRecursion P (xs ++ x ∷ [])
-    push P [] x h k = (k, tt)
-    push P (y ∷ xs) x h k = (h.0, push P xs x h.1 k)
-
-all_weaker : {X : Type 0} (P Q : X → Type 0) → ((x : X) → P x → Q x) → (xs : List X) → AllByRecursion P xs → AllByRecursion Q xs
-all_weaker P Q f [] h = tt
-all_weaker P Q f (x ∷ xs) h = (f x h.0, all_weaker P Q f xs h.1)
-
 -- ---- in a lawful history the blocks fall
 
 abbrev AllFall : List Row → Type 0
@@ -173,8 +162,6 @@ blocks_fall rows key block lawful = ordered_fall rows key block lawful.ordered
 pub lawful_link : (rows : List Row) (key : List ℕ) (block level : ℕ) → IsLawful rows → link rows key block level ≡ last_at_level (older_blocks rows key block) level
 lawful_link rows key block level lawful = link_is rows key block level (blocks_fall rows key block lawful)
 
--- ---- the rows up to a block give the same links
-
 pub filter_twice : {X : Type 0} (t p : X → Bool) (xs : List X) → ((x : X) → t x ≡ true → p x ≡ true) → filter t (filter p xs) ≡ filter t xs
 filter_twice t p [] f = refl
 filter_twice t p (x ∷ xs) f =
@@ -182,72 +169,59 @@ filter_twice t p (x ∷ xs) f =
     elim (cases_Bool (p x)) [
       | inl e ↦ rw (e, rest) refl
       | inr e ↦ elim (cases_Bool (t x)) [
-        | inl u ↦ absurd (both (p x) (f x u) e)
+        | inl u ↦ absurd (not_both (p x) (f x u) e)
         | inr u ↦ rw (e, u) rest
       ]
     ]
-  where
-    both : (b : Bool) → b ≡ true → b ≡ false → ⊥
-    both true e f = cc
-    both false e f = cc
 
-pub reverse_filter : {X : Type 0} (p : X → Bool) (xs : List X) → reverse (filter p xs) ≡ filter p (reverse xs)
-reverse_filter p [] = refl
-reverse_filter p (x ∷ xs) =
-    rw (reverse-append (x ∷ []) xs, filter-append p (reverse xs) (x ∷ []))
-    (elim (cases_Bool (p x)) [
-      | inl e ↦ rw (e, reverse-append (x ∷ []) (filter p xs), reverse_filter p xs) refl
-      | inr e ↦ rw (e, append-nil (filter p (reverse xs))) (reverse_filter p xs)
-    ])
+-- ---- a part of the rows with all that are older gives the same links
 
-older_up_to : (rows : List Row) (key : List ℕ) (block : ℕ) → older_blocks (up_to rows block) key block ≡ older_blocks rows key block
-older_up_to rows key block = ap (map (λ (row : Row). row.block)) (
-    ap (filter (is_older key block)) (reverse_filter (λ (row : Row). nat_le row.block block) rows)
-    ∙ filter_twice (is_older key block) (λ (row : Row). nat_le row.block block) (reverse rows)
-    (λ row t. let low = ltb-true row.block block (and_parts (pointwise ◌==◌ row.key key) (nat_lt row.block block) t).1 in le-leb row.block block (omega (arith, low))))
+older_is_low : (key : List ℕ) (block : ℕ) (row : Row) → is_older key block row ≡ true → row.block < block
+older_is_low key block row t = ltb-true row.block block (and_parts (pointwise ◌==◌ row.key key) (nat_lt row.block block) t).1
 
-older_below : (rows : List Row) (key : List ℕ) (block : ℕ) → older_blocks (below rows block) key block ≡ older_blocks rows key block
-older_below rows key block = ap (map (λ (row : Row). row.block)) (
-    ap (filter (is_older key block)) (reverse_filter (λ (row : Row). nat_lt row.block block) rows)
-    ∙ filter_twice (is_older key block) (λ (row : Row). nat_lt row.block block) (reverse rows)
-    (λ row t. (and_parts (pointwise ◌==◌ row.key key) (nat_lt row.block block) t).1))
+-- a part of the rows that has all rows of blocks before this one
+abbrev pub KeepsOlder : (Row → Bool) → ℕ → Type 0
+KeepsOlder keeps block = (row : Row) → row.block < block → keeps row ≡ true
 
--- Where the older blocks are the same, so are the links.
-level_of_blocks : (rows others : List Row) (key : List ℕ) (block level : ℕ) → IsLawful rows → older_blocks others key block ≡ older_blocks rows key block
-    → is_at_level others key block level ≡ is_at_level rows key block level
-level_of_blocks rows others key block level lawful same =
-    let falls = blocks_fall rows key block lawful in
-    level_is others key block level (rw same falls) ∙ ap (is_first level block) same ∙ sym (level_is rows key block level falls)
+level_of_part : (keeps : Row → Bool) (rows : List Row) (key : List ℕ) (block c level : ℕ) → KeepsOlder keeps block → c ≤ block → is_at_level (filter keeps rows) key c level ≡ is_at_level rows key c level
+level_of_part keeps rows key block c level all l = ap not (any_filter (λ (row : Row). is_older key c row && are_close level row.block c) keeps rows
+    (λ row t. let low = older_is_low key c row (and_parts (is_older key c row) (are_close level row.block c) t).0 in all row (omega (arith, low, l))))
 
-height_of_blocks : (top : ℕ) (rows others : List Row) (key : List ℕ) (block : ℕ) → IsLawful rows → older_blocks others key block ≡ older_blocks rows key block
-    → height_to top others key block ≡ height_to top rows key block
+height_of_part : (top : ℕ) (keeps : Row → Bool) (rows : List Row) (key : List ℕ) (block : ℕ) → KeepsOlder keeps block → height_to top (filter keeps rows) key block ≡ height_to top rows key block
 unfolding height_to
-height_of_blocks zero rows others key block lawful same = refl
-height_of_blocks (suc top) rows others key block lawful same =
-    rw (level_of_blocks rows others key block (suc top) lawful same, height_of_blocks top rows others key block lawful same) refl
+height_of_part zero keeps rows key block all = refl
+height_of_part (suc top) keeps rows key block all = rw (level_of_part keeps rows key block block (suc top) all (omega arith), height_of_part top keeps rows key block all) refl
 
-link_of_blocks : (rows others : List Row) (key : List ℕ) (block level : ℕ) → IsLawful rows → older_blocks others key block ≡ older_blocks rows key block
-    → link others key block level ≡ link rows key block level
-link_of_blocks rows others key block level lawful same =
-    let falls = blocks_fall rows key block lawful in
-    link_is others key block level (rw same falls) ∙ ap (λ (bs : List ℕ). last_at_level bs level) same ∙ sym (link_is rows key block level falls)
+linked_of_part : (keeps : Row → Bool) (rows : List Row) (key : List ℕ) (block level : ℕ) (row : Row) → KeepsOlder keeps block → is_linked (filter keeps rows) key block level row ≡ is_linked rows key block level row
+linked_of_part keeps rows key block level row all = elim (cases_Bool (is_older key block row)) [
+  | inl t ↦ rw t (level_of_part keeps rows key block row.block level all (omega (arith, older_is_low key block row t)))
+  | inr t ↦ rw t refl
+]
 
-pub links_on : (f g : ℕ → Option ℕ) (xs : List ℕ) → ((x : ℕ) → f x ≡ g x) → filter_map f xs ≡ filter_map g xs
-links_on f g [] h = refl
-links_on f g (x ∷ xs) h = let rest = links_on f g xs h in rw (h x, rest) refl
+link_of_part : (keeps : Row → Bool) (rows : List Row) (key : List ℕ) (block level : ℕ) → KeepsOlder keeps block → link (filter keeps rows) key block level ≡ link rows key block level
+unfolding link
+link_of_part keeps rows key block level all = ap (option_map (λ (row : Row). row.block)) (
+    ap (find (is_linked (filter keeps rows) key block level)) (filter_reverse keeps rows)
+    ∙ find_filter (is_linked (filter keeps rows) key block level) keeps (reverse rows)
+    (λ row t. all row (older_is_low key block row (and_parts (is_older key block row) (is_at_level (filter keeps rows) key row.block level) t).0))
+    ∙ find_on (is_linked (filter keeps rows) key block level) (is_linked rows key block level) (reverse rows) (each (reverse rows)))
+  where
+    each : (xs : List Row) → AllByRecursion (λ (row : Row). is_linked (filter keeps rows) key block level row ≡ is_linked rows key block level row) xs
+    each [] = tt
+    each (row ∷ xs) = (linked_of_part keeps rows key block level row all, each xs)
 
-links_of_blocks : (rows others : List Row) (key : List ℕ) (block : ℕ) → IsLawful rows → older_blocks others key block ≡ older_blocks rows key block
-    → links others key block ≡ links rows key block
+-- Such a part gives the same links.
+links_of_part : (keeps : Row → Bool) (rows : List Row) (key : List ℕ) (block : ℕ) → KeepsOlder keeps block → links (filter keeps rows) key block ≡ links rows key block
 unfolding links
-links_of_blocks rows others key block lawful same =
-    links_on (link others key block) (link rows key block) (range_with_len 0 (height others key block + 1)) (λ level. link_of_blocks rows others key block level lawful same)
-    ∙ ap (λ (h : ℕ). filter_map (link rows key block) (range_with_len 0 (h + 1))) (height_of_blocks MAX_LEVEL rows others key block lawful same)
+links_of_part keeps rows key block all =
+    filter_map_on (link (filter keeps rows) key block) (link rows key block) (range_with_len 0 (height_to MAX_LEVEL (filter keeps rows) key block + 1)) (λ level. link_of_part keeps rows key block level all)
+    ∙ ap (λ (h : ℕ). filter_map (link rows key block) (range_with_len 0 (h + 1))) (height_of_part MAX_LEVEL keeps rows key block all)
 
-pub links_up_to : (rows : List Row) (key : List ℕ) (block : ℕ) → IsLawful rows → links (up_to rows block) key block ≡ links rows key block
-links_up_to rows key block lawful = links_of_blocks rows (up_to rows block) key block lawful (older_up_to rows key block)
+pub links_up_to : (rows : List Row) (key : List ℕ) (block : ℕ) → links (up_to rows block) key block ≡ links rows key block
+links_up_to rows key block = links_of_part (λ (row : Row). nat_le row.block block) rows key block (λ row low. le-leb row.block block (omega (arith, low)))
 
-pub links_below : (rows : List Row) (key : List ℕ) (block : ℕ) → IsLawful rows → links (below rows block) key block ≡ links rows key block
-links_below rows key block lawful = links_of_blocks rows (below rows block) key block lawful (older_below rows key block)
+pub links_below : (rows : List Row) (key : List ℕ) (block : ℕ) → links (below rows block) key block ≡ links rows key block
+links_below rows key block = links_of_part (λ (row : Row). nat_lt row.block block) rows key block (λ row low. lt-ltb row.block block low)
 
 -- ---- heights and links
 
@@ -264,10 +238,6 @@ height_is (suc top) h rows key block p older falls is less low high few =
           rw (level, apart (suc top) p block less (rw same at low)) (sym same)
     ]
 
-none_at_all : (f : ℕ → Option ℕ) (levels : List ℕ) → ((level : ℕ) → f level ≡ None) → filter_map f levels ≡ []
-none_at_all f [] h = refl
-none_at_all f (level ∷ levels) h = rw (h level) (none_at_all f levels h)
-
 first_at : (level : ℕ) (blocks : List ℕ) → blocks ≡ [] → last_at_level blocks level ≡ None
 unfolding from_level
 first_at level blocks e = rw e refl
@@ -276,5 +246,5 @@ first_at level blocks e = rw e refl
 pub links_none : (rows : List Row) (key : List ℕ) (block : ℕ) → IsLawful rows → older_blocks rows key block ≡ [] → links rows key block ≡ []
 unfolding links
 links_none rows key block lawful is =
-    none_at_all (link rows key block) (range_with_len 0 (height rows key block + 1))
+    filter_map_none (link rows key block) (range_with_len 0 (height rows key block + 1))
     (λ level. lawful_link rows key block level lawful ∙ first_at level (older_blocks rows key block) is)

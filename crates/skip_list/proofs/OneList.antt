@@ -1,11 +1,12 @@
 -- A store is towered at an entry with one list of versions.
-use Rattle.std.proofs.Common.{◌≡◌, ◌∙◌, ℕ, suc, ◌+◌, List, [], ◌∷◌, Option, Some, None, refl, sym, ap, subst, arith}
+use Rattle.std.proofs.Common.{◌≡◌, ◌∙◌, ℕ, ◌+◌, List, [], ◌∷◌, Option, Some, None, refl, sym, ap, subst}
 use Rattle.std.specs.Prelude.{slice_get, IsSomeAnd}
 use Rattle.std.specs.Option.{option_map}
 use Rattle.std.specs.List.{filter_map, range_with_len}
 use Rattle.std.proofs.lemmas.Option.{none-some, same_Some}
 use Rattle.skip_links.specs.Falling.{IsFalling}
 use Rattle.skip_links.proofs.Falls.{rest_falls}
+use Rattle.skip_links.proofs.Lists.{range_first}
 use Rattle.skip_path.specs.Towers.{height_over, last_at, tower}
 use Rattle.skip_path.proofs.Levels.{at_bottom}
 use Rattle.entry_store.specs.declared.entry.EntryId.{EntryId}
@@ -17,9 +18,6 @@ use Rattle.skip_list.proofs.LinkLevels.{from_here}
 use Rattle.skip_list.proofs.Rungs.{no_links}
 
 -- ---- the link of level 0 is to the version before
-
-range_first : (n : ℕ) → range_with_len 0 (n + 1) ≡ 0 ∷ range_with_len 1 n
-range_first n = let e : n + 1 ≡ suc n = omega arith in rw e refl
 
 first_kept : (f : ℕ → Option Hop) (n : ℕ) (hop : Hop) → f 0 ≡ Some hop → slice_get (filter_map f (range_with_len 0 (n + 1))) 0 ≡ Some hop
 first_kept f n hop e = rw (range_first n, e) refl

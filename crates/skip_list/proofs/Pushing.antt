@@ -8,7 +8,7 @@ use Rattle.entry_store.specs.Entries.{Entry}
 use Rattle.entry_store.proofs.Entries.{get_last}
 use Rattle.skip_list.specs.Towered.{links_over, HaveTowers, IsTowered, AreOlder}
 
-read_front : {A : Type 0} (P : A → Type 0) (xs more : List A) (i : ℕ) → IsSomeAnd (slice_get xs i) P → IsSomeAnd (slice_get (xs ++ more) i) P
+pub read_front : {A : Type 0} (P : A → Type 0) (xs more : List A) (i : ℕ) → IsSomeAnd (slice_get xs i) P → IsSomeAnd (slice_get (xs ++ more) i) P
 read_front P [] more i there = absurd there
 read_front P (x ∷ xs) more zero there = there
 read_front P (x ∷ xs) more (suc i) there = read_front P xs more i there

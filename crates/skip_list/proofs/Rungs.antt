@@ -6,7 +6,6 @@ use Rattle.std.proofs.lemmas.Bool.{cases_Bool, cases_lt, lt-ltb, le-ltb}
 use Rattle.std.proofs.lemmas.Option.{same_Some, none-some}
 use Rattle.skip_links.specs.Falling.{IsFalling, is_first}
 use Rattle.skip_links.specs.declared.limits.TheConstants.{MAX_LEVEL}
-use Rattle.skip_links.proofs.Falls.{rest_falls}
 use Rattle.skip_path.specs.Towers.{height_over, from_last, last_at, tower}
 use Rattle.skip_path.proofs.Levels.{at_bottom, levels_below}
 use Rattle.skip_path.proofs.Towers.{from_keeps, levels_more}
@@ -18,7 +17,7 @@ use Rattle.entry_store.specs.declared.entry.Links.{Links}
 use Rattle.entry_store.specs.Entries.{Entry}
 use Rattle.skip_list.specs.declared.rung.Rung.{Rung}
 use Rattle.skip_list.specs.Towered.{block_of, blocks_of, links_over, HaveTowers, IsTowered, AreOlder}
-use Rattle.skip_list.proofs.Turns.{links_of, reads_towers}
+use Rattle.skip_list.proofs.Turns.{links_of, reads_towers, towers_back, falls_back}
 use Rattle.skip_list.specs.Climbing.{rung_with, rung_over, beyond, IsAllBelow, IsLastAt}
 
 -- ---- the links of one version
@@ -46,13 +45,6 @@ unfolding tower
 no_links block = none_at_all (range_with_len 0 (height_over block [] + 1))
 
 -- ---- one rung
-
-towers_back : (entries : List Entry) (version : Hop) (older : List Hop) → HaveTowers entries (version ∷ older) → HaveTowers entries older
-unfolding HaveTowers
-towers_back entries version older towers = towers.1
-
-falls_back : (version : Hop) (older : List Hop) → IsFalling (blocks_of (version ∷ older)) → IsFalling (blocks_of older)
-falls_back version older falling = rest_falls version.block (blocks_of older) falling
 
 -- The highest link of a version that has one.
 highest_link : (rung : Rung) (previous : Hop) (older : List Hop) → rung ≡ rung_over rung.version (previous ∷ older)

@@ -13,7 +13,8 @@ use Rattle.skip_links.specs.Links.{links, link, height, height_to, is_older}
 use Rattle.skip_links.specs.Falling.{IsFalling, first_block, from_level, last_at_level, older_blocks}
 use Rattle.skip_links.specs.declared.limits.TheConstants.{MAX_LEVEL}
 use Rattle.skip_links.proofs.Falls.{rest_falls}
-use Rattle.skip_links.proofs.Towers.{blocks_fall, ordered_fall, lawful_link, level_is, links_on, find_of_blocks}
+use Rattle.skip_links.proofs.Towers.{blocks_fall, ordered_fall, lawful_link, level_is, find_of_blocks}
+use Rattle.skip_links.proofs.Lists.{filter_map_on}
 use Rattle.skip_path.specs.Towers.{tower, height_up_to, height_over, last_at}
 use Rattle.skip_path.specs.Paths.{path, path_from, path_over, onward, next_block, links_among, blocks_of_key, binary_digits}
 use Rattle.skip_path.proofs.Towers.{from_plain}
@@ -38,7 +39,7 @@ pub links_tower : (rows : List Row) (key : List ℕ) (block : ℕ) → IsLawful 
 unfolding links tower
 links_tower rows key block lawful =
     let older = older_blocks rows key block in
-    links_on (link rows key block) (last_at (λ (b : ℕ). b) older) (range_with_len 0 (height rows key block + 1))
+    filter_map_on (link rows key block) (last_at (λ (b : ℕ). b) older) (range_with_len 0 (height rows key block + 1))
     (λ level. lawful_link rows key block level lawful ∙ level_link level older)
     ∙ ap (λ (h : ℕ). filter_map (last_at (λ (b : ℕ). b) older) (range_with_len 0 (h + 1)))
     (height_is_over MAX_LEVEL rows key block (blocks_fall rows key block lawful) ∙ ap (height_over block) (sym (map-id older)))

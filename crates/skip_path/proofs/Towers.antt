@@ -9,6 +9,7 @@ use Rattle.std.proofs.lemmas.List.{append-nil, map-id, reverse-append}
 use Rattle.std.proofs.lemmas.List.Elements.{filter_map-append}
 use Rattle.skip_links.specs.Falling.{IsFalling, is_first, from_level}
 use Rattle.skip_links.proofs.Falls.{rest_falls}
+use Rattle.skip_links.proofs.Lists.{range_more}
 use Rattle.skip_path.specs.Towers.{height_up_to, height_over, from_last, last_at, tower}
 use Rattle.skip_path.specs.Paths.{onward}
 use Rattle.skip_path.proofs.Levels.{IsAt, at_bottom, levels_below, stays_low}
@@ -122,13 +123,6 @@ below_off block_of level u rest off = rw off refl
 one_link : {A : Type 0} (link_at : ℕ → Option A) (level : ℕ) (link : Option A) → link_at level ≡ link → filter_map link_at (level ∷ []) ≡ option_to_list link
 one_link link_at level None e = rw e refl
 one_link link_at level (Some version) e = rw e refl
-
-range_more : (first n : ℕ) → range_with_len first (n + 1) ≡ range_with_len first n ++ (first + n) ∷ []
-range_more first zero = let e : first + 0 ≡ first = omega arith in rw e refl
-range_more first (suc n) =
-    let e : suc n + 1 ≡ suc (n + 1) = omega arith in
-    let f : first + suc n ≡ first + 1 + n = omega arith in
-    rw (e, f) (ap (λ (levels : List ℕ). first ∷ levels) (range_more (first + 1) n))
 
 pub levels_more : {A : Type 0} (link_at : ℕ → Option A) (n : ℕ) → filter_map link_at (range_with_len 0 (n + 1)) ≡ filter_map link_at (range_with_len 0 n) ++ option_to_list (link_at n)
 levels_more {A = A} link_at n =

@@ -9,11 +9,13 @@ use Rattle.std.proofs.lemmas.Option.{slice_get_cases, get_or_from_slice_get}
 use Rattle.prov_entry.specs.declared.entry.Leaf.{Leaf}
 use Rattle.prov_entry.specs.Spelling.{key_or_empty}
 use Rattle.root_laws.specs.Root.{is_below}
+use Rattle.root_laws.proofs.Lists.{not_both}
+use Rattle.root_laws.proofs.NextKeys.{order}
 use Rattle.state_tree.specs.Leaves.{leaf_key, index_of}
 use Rattle.state_tree.specs.Covering.{Covers}
 use Rattle.state_tree.specs.Order.{NoneUpTo, IsLastUpTo, AreInOrder}
 use Rattle.state_tree.specs.Laws.{CoveringsAreUnique}
-use Rattle.state_tree.proofs.Keys.{both, order, none_below}
+use Rattle.state_tree.proofs.Keys.{none_below}
 use Rattle.state_tree.proofs.Positions.{index_found, none_found}
 
 -- A leaf is the sentinel, whose key is above nothing, or has an index.
@@ -40,9 +42,9 @@ covers_last leaves order key index tree last =
     greatest other among above = elim (cases_Bool (is_below key (leaf_key other))) [
       | inl t ↦ t
       | inr f ↦ elim (indexed leaves other among) [
-        | inl e ↦ absurd (both (is_below last.last (leaf_key other)) above (ap (is_below last.last) e ∙ none_below last.last))
+        | inl e ↦ absurd (not_both (is_below last.last (leaf_key other)) above (ap (is_below last.last) e ∙ none_below last.last))
         | inr (k, has, own, there) ↦
-            absurd (both (is_below last.last (leaf_key other)) above (ap (is_below last.last) own ∙ last.greatest k (rw own at f) (rw (tree.indexes k) there)))
+            absurd (not_both (is_below last.last (leaf_key other)) above (ap (is_below last.last) own ∙ last.greatest k (rw own at f) (rw (tree.indexes k) there)))
       ]
     ]
 
@@ -60,7 +62,7 @@ covers_first leaves order key tree none =
     greatest other among above = elim (cases_Bool (is_below key (leaf_key other))) [
       | inl t ↦ t
       | inr f ↦ elim (indexed leaves other among) [
-        | inl e ↦ absurd (both (is_below [] (leaf_key other)) above (ap (is_below []) e ∙ none_below []))
+        | inl e ↦ absurd (not_both (is_below [] (leaf_key other)) above (ap (is_below []) e ∙ none_below []))
         | inr (k, has, own, there) ↦ absurd (nothing (index_of leaves k) (sym (tree.indexes k) ∙ none k (rw own at f)) there)
       ]
     ]
@@ -86,8 +88,8 @@ coverings_are_unique leaves key i j apart one other =
     let at = stands leaves i one.leaf one.held in
     let at' = stands leaves j other.leaf other.held in
     elim (order (leaf_key one.leaf) (leaf_key other.leaf)) [
-      | inl below ↦ absurd (both (is_below key (leaf_key other.leaf)) (one.greatest other.leaf (j, at'.0, at'.1) below) other.not_above)
-      | inr (inr above) ↦ absurd (both (is_below key (leaf_key one.leaf)) (other.greatest one.leaf (i, at.0, at.1) above) one.not_above)
+      | inl below ↦ absurd (not_both (is_below key (leaf_key other.leaf)) (one.greatest other.leaf (j, at'.0, at'.1) below) other.not_above)
+      | inr (inr above) ↦ absurd (not_both (is_below key (leaf_key one.leaf)) (other.greatest one.leaf (i, at.0, at.1) above) one.not_above)
       | inr (inl same) ↦ apart i j (omega (arith, at.0, length-map leaves leaf_key)) (omega (arith, at'.0, length-map leaves leaf_key))
           (get_or-map leaf_key leaves i one.leaf [] at.0 ∙ ap leaf_key at.1 ∙ same ∙ sym (get_or-map leaf_key leaves j other.leaf [] at'.0 ∙ ap leaf_key at'.1))
     ]

@@ -9,8 +9,8 @@ use Rattle.std.proofs.lemmas.Option.{slice_get-get_or}
 use Rattle.std.proofs.lemmas.Iterator.Adapters.{position_from-zero}
 use Rattle.std.proofs.lemmas.Slice.Eq.{bytes_eq-Decides}
 use Rattle.prov_entry.specs.declared.entry.Leaf.{Leaf}
+use Rattle.root_laws.proofs.Lists.{not_both}
 use Rattle.state_tree.specs.Leaves.{is_this, index_of}
-use Rattle.state_tree.proofs.Keys.{both}
 
 -- ---- the first item that passes a test
 
@@ -60,7 +60,7 @@ is_this_other key other apart = elim (cases_Bool (is_this key (Some other))) [
 ]
 
 this_is : (key : List ℕ) (own : Option (List ℕ)) → is_this key own ≡ true → own ≡ Some key
-this_is key None t = absurd (both false t refl)
+this_is key None t = absurd (not_both false t refl)
 this_is key (Some other) t = ap (λ (k : List ℕ). Some k) (sym ((bytes_eq-Decides key other).0 t))
 
 -- ---- leaves
@@ -80,7 +80,7 @@ none_found leaves key leaf none (k, below, is) has =
     let own = map (λ (leaf : Leaf). leaf.key) leaves in
     let f = from_none (is_this key) 0 own (sym (position_is (is_this key) own) ∙ none) k None (omega (arith, length-map leaves (λ (leaf : Leaf). leaf.key))) in
     let at : get_or own k None ≡ leaf.key = get_or-map (λ (leaf : Leaf). leaf.key) leaves k leaf None below ∙ ap (λ (l : Leaf). l.key) is in
-    both (is_this key (Some key)) (is_this_itself key) (rw (at ∙ has) at f)
+    not_both (is_this key (Some key)) (is_this_itself key) (rw (at ∙ has) at f)
 
 pub index_other : (own : List (Option (List ℕ))) (key other : List ℕ) → (key ≡ other → ⊥) → position (is_this other) (own ++ Some key ∷ []) ≡ position (is_this other) own
 index_other own key other apart = position_is (is_this other) (own ++ Some key ∷ []) ∙ from_push_other (is_this other) 0 own (Some key) (is_this_other other key apart) ∙ sym (position_is (is_this other) own)
@@ -94,5 +94,5 @@ index_this own key none = position_is (is_this key) (own ++ Some key ∷ []) ∙
 pub equal_or_not : (a b : List ℕ) → (a ≡ b) ⊎ (a ≢ b)
 equal_or_not a b = elim (cases_Bool (is_this a (Some b))) [
   | inl t ↦ inl ((bytes_eq-Decides a b).0 t)
-  | inr f ↦ inr (λ e. both (is_this a (Some b)) (ap (λ (k : List ℕ). is_this a (Some k)) (sym e) ∙ is_this_itself a) f)
+  | inr f ↦ inr (λ e. not_both (is_this a (Some b)) (ap (λ (k : List ℕ). is_this a (Some k)) (sym e) ∙ is_this_itself a) f)
 ]

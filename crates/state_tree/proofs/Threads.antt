@@ -15,7 +15,9 @@ use Rattle.state_tree.specs.Leaves.{leaf_key, leaf_keys, is_this, index_of, with
 use Rattle.state_tree.specs.Covering.{Covers}
 use Rattle.state_tree.specs.Order.{kept_for, AreInOrder}
 use Rattle.merkle_tree.specs.declared.limits.TheConstants.{MAX_LEAVES}
-use Rattle.state_tree.proofs.Keys.{IsCovering, both, order, next_of_cover, next_of_new, next_stays}
+use Rattle.root_laws.proofs.Lists.{not_both}
+use Rattle.root_laws.proofs.NextKeys.{order}
+use Rattle.state_tree.proofs.Keys.{IsCovering, next_of_cover, next_of_new, next_stays}
 use Rattle.state_tree.proofs.Positions.{none_found, index_other, index_this, equal_or_not}
 use Rattle.state_tree.proofs.Covered.{stands}
 
@@ -93,7 +95,7 @@ covering_key leaves key cover c new =
       smaller = elim (order (leaf_key c.leaf) key) [
         | inl t ↦ t
         | inr (inl e) ↦ absurd (other_key leaves key c.leaf new (cover, at.0, at.1) e)
-        | inr (inr t) ↦ absurd (both (is_below key (leaf_key c.leaf)) t c.not_above)
+        | inr (inr t) ↦ absurd (not_both (is_below key (leaf_key c.leaf)) t c.not_above)
       ];
       greatest = λ other among above. greatest other among above;
     }

@@ -1,6 +1,6 @@
 -- One version more.
-use Rattle.std.proofs.Common.{◌≡◌, ◌∙◌, ℕ, zero, suc, ◌<◌, List, [], ◌∷◌, ◌++◌, length, Option, Some, None, refl, sym, ap, subst}
-use Rattle.std.specs.Prelude.{slice_get, IsSomeAnd}
+use Rattle.std.proofs.Common.{◌≡◌, ◌∙◌, ℕ, ◌<◌, List, [], ◌∷◌, ◌++◌, length, Option, Some, None, refl, sym, ap, subst}
+use Rattle.std.specs.Prelude.{slice_get}
 use Rattle.std.specs.List.{All, AllByRecursion}
 use Rattle.std.specs.Option.{option_map}
 use Rattle.std.proofs.lemmas.List.Elements.{All-from_recursion}
@@ -12,7 +12,7 @@ use Rattle.entry_store.specs.declared.entry.Hop.{Hop}
 use Rattle.entry_store.specs.Entries.{Entry, LeadsBack}
 use Rattle.entry_store.proofs.Entries.{get_last}
 use Rattle.skip_list.specs.Towered.{block_of, blocks_of, links_over, HaveTowers, IsTowered, AreVersions, AreOlder}
-use Rattle.skip_list.proofs.Pushing.{new_towered}
+use Rattle.skip_list.proofs.Pushing.{new_towered, read_front}
 use Rattle.store_tests.specs.Versions.{IsOfKey, IsAbove, HasVersions}
 
 -- ---- the versions before
@@ -47,11 +47,6 @@ links_lead_back entries key newest block hops has above are =
     (lead_back entries key block has.versions (all_lower block (blocks_of has.versions) (are_older entries key newest block has above)) has.keyed)))
 
 -- ---- with the new one
-
-read_front : {A : Type 0} (P : A → Type 0) (xs more : List A) (i : ℕ) → IsSomeAnd (slice_get xs i) P → IsSomeAnd (slice_get (xs ++ more) i) P
-read_front P [] more i there = absurd there
-read_front P (x ∷ xs) more zero there = there
-read_front P (x ∷ xs) more (suc i) there = read_front P xs more i there
 
 keyed_still : (entries more : List Entry) (key : List ℕ) (versions : List Hop) → AllByRecursion (IsOfKey entries key) versions → AllByRecursion (IsOfKey (entries ++ more) key) versions
 keyed_still entries more key [] keyed = tt

@@ -1,6 +1,6 @@
 -- The rows of a chain are a typed ledger, by induction on its blocks from the first one on.
-use Rattle.std.proofs.Common.{◌≡◌, ◌≢◌, ℕ, ◌+◌, ◌<◌, ◌≤◌, Bool, true, false, List, [], ◌∷◌, ◌++◌, length, get_or, map, Option, None, Some, sym, ap, subst, ◌∙◌, refl, arith}
-use Rattle.std.specs.Prelude.{◌==◌, ◌||◌, not, nat_lt, if◌then◌else◌, slice_get}
+use Rattle.std.proofs.Common.{◌≡◌, ◌≢◌, ℕ, ◌+◌, ◌<◌, ◌≤◌, List, [], ◌∷◌, ◌++◌, length, get_or, map, Option, None, Some, sym, ap, subst, ◌∙◌, arith}
+use Rattle.std.specs.Prelude.{◌==◌, ◌||◌, nat_lt, slice_get}
 use Rattle.std.specs.List.{All}
 use Rattle.std.proofs.Math.Seq.{get_or-append_seam, take-append_seam}
 use Rattle.std.proofs.lemmas.Bool.Decides.{nat_tests}
@@ -13,8 +13,8 @@ use Rattle.block_codec.specs.Spelling.{IsBlock}
 use Rattle.block_codec.specs.Placement.{digest_of, last_digest, is_same_digest, new_placement, placement}
 use Rattle.block_codec.specs.declared.limits.TheConstants.{MAX_BLOCKS, MAX_ROWS_BEFORE_BLOCK}
 use Rattle.block_codec.specs.declared.block.Block.{Block}
-use Rattle.block_codec.specs.declared.placement.Placement.{Placement}
-use Rattle.block_codec.specs.declared.placement.Placement.TheVariants.{Known, Next, Fork, Full, Number}
+use Rattle.block_codec.specs.declared.placement.Placement.TheVariants.{Next}
+use Rattle.block_codec.proofs.Placed.{not_full, right_number, not_held}
 use Rattle.chain_exec.specs.Compiled.{Compiler}
 use Rattle.chain_exec.specs.Replay.{history_after, replay}
 use Rattle.chain_exec.proofs.TheLaws.{replay_grows}
@@ -31,18 +31,6 @@ record HasRoom (held rows : ℕ) (block : Block) : Type 0 where
   number : block.number ≡ held
   room : held ≢ MAX_BLOCKS
   few_rows : rows ≤ MAX_ROWS_BEFORE_BLOCK
-
-not_full : (full : Bool) (other : Placement) → (if full then Full else other) ≡ Next → (full ≡ false) × (other ≡ Next)
-not_full true other is = absurd (cc is)
-not_full false other is = (refl, is)
-
-right_number : (same : Bool) (held : ℕ) (other : Placement) → (if not same then Number held else other) ≡ Next → same ≡ true
-right_number true held other is = refl
-right_number false held other is = absurd (cc is)
-
-not_held : (same : Bool) (have : Digest) → (if same then Known else Fork have) ≡ Next → ⊥
-not_held true have is = cc is
-not_held false have is = cc is
 
 new_room : (held rows : ℕ) (parent : Digest) (block : Block) → new_placement held rows parent block ≡ Next → HasRoom held rows block
 new_room held rows parent block is =

@@ -1,5 +1,5 @@
 -- What builtins give is a value.
-use Rattle.std.proofs.Common.{◌≡◌, ◌==◌, ℕ, ℤ, negsuc, pos, suc, zero, ◌<◌, ◌^◌, Bool, true, false, List, [], ◌∷◌, ◌++◌, length, reverse, filter, find, get_or, slice_get, Option, Some, None, Result, Ok, Err, refl, subst, if◌then◌else◌, cond, not, arith}
+use Rattle.std.proofs.Common.{◌≡◌, ◌==◌, ℕ, ℤ, negsuc, pos, suc, zero, ◌<◌, ◌^◌, Bool, true, false, List, [], ◌∷◌, length, reverse, filter, find, get_or, slice_get, Option, Some, None, Result, Ok, Err, refl, subst, if◌then◌else◌, cond, not, arith}
 use Rattle.std.specs.Prelude.{IfOk, IfSome, nat_le, nat_lt, is_some}
 use Rattle.std.specs.Option.{IsSomeAnd, option_map}
 use Rattle.std.specs.Int.{w64}
@@ -47,6 +47,7 @@ use Rattle.contract_semantics.specs.Reading.{BuiltinResult, and_read, key_of_tex
 use Rattle.contract_semantics.specs.Asking.{block_before, answer_up_to, version_asked, list_asked, item_asked, item_part_of, list_told, value_told, block_told, tx_told, count_told, item_told, item_of}
 use Rattle.contract_semantics.specs.Builtins.{one_text, one_int, text_and_int, text_and_ints, with_args, reading_args, version_value, item_value, version_part, count_part, item_part, plain_value, builtin_result, taken_step, builtin_call, call_by_name}
 use Rattle.typed_ledger.specs.TypedLedger.{IsTypedRow, IsTypedHistory}
+use Rattle.contract_laws.proofs.Reading.{with_read}
 use Rattle.typed_replays.proofs.Values.{small_fits, truth_fits}
 use Rattle.typed_replays.proofs.Keeping.{IsTypedPut, IsTyped, Ends, Keeps, keeps_failed, keeps_charged}
 
@@ -263,9 +264,6 @@ TypedTaken (Err status, c) = Unit {0}
 taken_of : (r : Result Value TxStatus) (c : Captured) → IfOk r IsValue → IsTyped c → TypedTaken (r, c)
 taken_of (Ok value) c h t = (h, t)
 taken_of (Err status) c h t = tt
-
-abbrev with_read : Captured → List ℕ → Option Held → Captured
-with_read c key held = record c { reads = c.reads ++ record { key = key; version = block_of held } ∷ [] }
 
 abbrev read_by : Bool → Bool → Bool → Option Held → List ℕ → (Option Held → Result Value TxStatus) → Captured → BuiltinResult
 read_by written known full held key gives c =
