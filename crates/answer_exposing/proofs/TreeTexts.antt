@@ -1,7 +1,7 @@
 -- The texts of a tree, where the height is counted down.
 use Rattle.std.proofs.Common.{◌≡◌, ℕ, zero, suc, ◌-◌, ◌^◌, ◌<◌, ◌≤◌, List, [], ◌∷◌, ◌++◌, length}
 use Rattle.std.proofs.Common.{take, drop, map, refl, sym, ap, ◌∙◌, arith, append_assoc}
-use Rattle.std.proofs.lemmas.List.{take-map, length-map}
+use Rattle.std.proofs.lemmas.List.{take-map, length-map, drop-map}
 use Rattle.merkle_tree.specs.Tree.{hash_to, node_texts_to, node_texts, node_text, leaf_text}
 use Rattle.merkle_tree.specs.declared.limits.TheConstants.{MAX_HEIGHT}
 use Rattle.merkle_tree.proofs.Sound.{texts-split, texts-low}
@@ -14,12 +14,6 @@ use Rattle.proof_checks.specs.LedgerTexts.{texts_of_leaves}
 
 abbrev Texts : Type 0
 Texts = List (List ℕ)
-
-drop-map : {A : Type 0} (f : A → List ℕ) (n : ℕ) (xs : List A)
-    → drop n (map f xs) ≡ map f (drop n xs)
-drop-map f zero xs = refl
-drop-map f (suc n) [] = refl
-drop-map f (suc n) (x ∷ xs) = drop-map f n xs
 
 pub nodes_none : {A : Type 0} (f : A → List ℕ) (j : ℕ) (xs : List A) → j ≡ 0
     → node_texts_to j (map f xs) ≡ []

@@ -32,7 +32,7 @@ pub told_before : (state new : Option DiskState) (at : ℕ) (bytes now : List �
 told_before None new at bytes now is told = absurd (cc (is, told))
 told_before (Some s) new at bytes now is told = (s.content, refl, cc (is, told))
 
-told_some : (state : Option DiskState) (content : List ℕ) → content_of state ≡ Some content → is_some state ≡ true
+pub told_some : (state : Option DiskState) (content : List ℕ) → content_of state ≡ Some content → is_some state ≡ true
 told_some None content told = absurd (cc told)
 told_some (Some s) content told = refl
 

@@ -1,5 +1,5 @@
 mod Compilers
-mod TxRows
+pub mod TxRows
 pub mod BlockSteps
 mod SameEffects
 mod Told

@@ -35,7 +35,7 @@ one_compiler = record { is_compiler = compiled_is; only = only_compiler }
 -- ---- one transaction
 
 -- a Set, by its two tests
-abbrev tested : Bool → Bool → Row → Effect
+abbrev pub tested : Bool → Bool → Row → Effect
 tested foreign conflict row =
     cond foreign (refused_effect statuses.Foreign) (cond conflict (refused_effect statuses.Conflict) (record { receipt = free statuses.Ok; rows = row ∷ []; codes = [] }))
 

@@ -30,7 +30,7 @@ not_full : (full : Bool) (rest : Placement) → Next ≡ cond full Full rest →
 not_full true rest next = absurd cc
 not_full false rest next = refl
 
-or_false : (a b : Bool) → (a || b) ≡ false → a ≡ false
+pub or_false : (a b : Bool) → (a || b) ≡ false → a ≡ false
 or_false true b e = e
 or_false false b e = refl
 

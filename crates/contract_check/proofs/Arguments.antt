@@ -6,6 +6,7 @@ use Rattle.std.proofs.lemmas.List.{drop_more, drop_all, length_push, append-nil}
 use Rattle.contract_tree.specs.declared.tree.Expr.{Expr}
 use Rattle.contract_tree.specs.declared.tree.ValueKind.{ValueKind}
 use Rattle.contract_tree.specs.Tree.{tree_of, trees}
+use Rattle.name_table.proofs.Noting.{or_none}
 use Rattle.contract_check.specs.declared.fault.Fault.{Fault}
 use Rattle.contract_check.specs.declared.expression.KindAt.{KindAt}
 use Rattle.contract_check.specs.Names.{Names}
@@ -31,10 +32,6 @@ begun names args params = record { seen = []; counted = refl; first = refl; whol
 one_seen : (seen : List KindAt) (f : KindAt) (rest : Result (List KindAt) Fault) → after_seen seen (and_then rest (λ kinds. Ok (f ∷ kinds))) ≡ after_seen (seen ++ f ∷ []) rest
 one_seen seen f (Ok kinds) = ap Ok (simp append_assoc)
 one_seen seen f (Err fault) = refl
-
-or_none : (o : Option ℕ) → option_or o None ≡ o
-or_none None = refl
-or_none (Some n) = refl
 
 or_assoc : (a b c : Option ℕ) → option_or a (option_or b c) ≡ option_or (option_or a b) c
 or_assoc None b c = refl

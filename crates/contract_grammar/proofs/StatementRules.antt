@@ -16,7 +16,7 @@ use Rattle.contract_tree.specs.Builtins.{is_builtin, builtin_of}
 use Rattle.contract_grammar.specs.Reading.{expression, value_of, let_statement, assign_statement, else_part, if_statement, while_statement, from_part, put_statement, short_statement, statement}
 use Rattle.contract_grammar.specs.Rules.{Rule}
 use Rattle.contract_grammar.proofs.Laws.{IsRule, IsRet, IsOne, ret_rule, one_rule}
-use Rattle.contract_grammar.proofs.MarkFacts.{name_no_end}
+use Rattle.contract_grammar.proofs.MarkFacts.{name_no_end, comma_stops}
 use Rattle.contract_grammar.proofs.Sequence.{IsSeq, seq_rule}
 use Rattle.contract_grammar.proofs.Choice.{Starts, Differs, head_not, seq_starts, ret_differs, renamed, IsEither, either_rule}
 use Rattle.contract_grammar.proofs.Parts.{IsFair, token, the_is, has_one, is_one, leads_any, leads_start, differs_start, differs_either, mark_rule, preceded_rule, terminated_rule, more_rule, IsMoreOfThem}
@@ -43,9 +43,6 @@ name_no_mark a t h = grind arith
 
 mark_stops : (t : Token) → (is m.Semicolon t ≡ true) ⊎ (is m.BraceOpen t ≡ true) ⊎ (is m.Assign t ≡ true) ⊎ (is m.From t ≡ true) → stops WHOLE t ≡ true
 mark_stops t h = grind arith
-
-comma_stops_here : (t : Token) → is m.Comma t ≡ true → stops WHOLE t ≡ true
-comma_stops_here t h = grind arith
 
 pub declared_no_end : (t : Token) (n : ℕ × List ℕ) → declared_of t ≡ Some n → is_end t ≡ false
 declared_no_end t n e = grind arith
@@ -112,8 +109,8 @@ module _ {l : Limits} {E : Obstacle → Type 0} {U : Type 0} (fair : IsFair l E 
 
   from_rule : {S : Token → Bool} → IsRule E U from_part (IsFrom l) S
   from_rule {S = S} =
-      let more = λ (x : Tree). seq_rule (more_rule fair {T = any} m.Semicolon expression_rule comma_stops_here semicolon_stops (is_other m.Comma m.Semicolon refl) x) (λ xs. ret_rule (Some (trees xs))) (leads_any (λ (xs : List Tree). IsRet (Some (trees xs))) S) in
-      let starts = λ (x : Tree). seq_starts {Q = λ (xs : List Tree). IsRet (Some (trees xs))} (stops WHOLE) (more_stops {P = IsExpression l} (stops WHOLE) m.Semicolon comma_stops_here semicolon_stops x) in
+      let more = λ (x : Tree). seq_rule (more_rule fair {T = any} m.Semicolon expression_rule comma_stops semicolon_stops (is_other m.Comma m.Semicolon refl) x) (λ xs. ret_rule (Some (trees xs))) (leads_any (λ (xs : List Tree). IsRet (Some (trees xs))) S) in
+      let starts = λ (x : Tree). seq_starts {Q = λ (xs : List Tree). IsRet (Some (trees xs))} (stops WHOLE) (more_stops {P = IsExpression l} (stops WHOLE) m.Semicolon comma_stops semicolon_stops x) in
       let listed = seq_rule expression_rule more (leads_start (stops WHOLE) (stops WHOLE) S (λ x. IsSeq (IsMoreOfThem (IsExpression l) m.Semicolon x) (λ xs. IsRet (Some (trees xs)))) starts (λ t e. e)) in
       let parts = preceded_rule m.From listed in
       let chosen = either_rule (is m.Semicolon) (terminated_rule m.Semicolon None) parts (seq_starts (is m.Semicolon) (is_one m.Semicolon)) (differs_start (is m.Semicolon) (is m.From) S (IsFromParts l) (seq_starts (is m.From) (is_one m.From)) (is_other m.Semicolon m.From refl)) in

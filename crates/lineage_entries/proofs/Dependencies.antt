@@ -4,47 +4,21 @@ use Rattle.std.proofs.Common.{Option, Some, None, refl, sym, ap, subst, arith}
 use Rattle.std.specs.Prelude.{slice_get}
 use Rattle.std.specs.List.{Contains}
 use Rattle.std.specs.Option.{option_map}
-use Rattle.std.proofs.lemmas.List.{length-map, map-append, take_more}
+use Rattle.std.proofs.lemmas.List.{map-append, take_more}
 use Rattle.std.proofs.lemmas.List.Elements.{recursion_from_All, All-from_recursion}
 use Rattle.std.proofs.lemmas.Option.{get_or_from_slice_get, slice_get-get_or, slice_get_within}
-use Rattle.std.proofs.lemmas.Option.{slice_get-map, none-some, same_Some}
+use Rattle.std.proofs.lemmas.Option.{none-some, same_Some}
 use Rattle.lc_base.specs.declared.digest.Digest.{Digest}
 use Rattle.lc_base.specs.declared.row.Row.{Row}
 use Rattle.lc_base.specs.declared.row.Dep.{Dep}
 use Rattle.lc_base.specs.History.{IsLawful, HasLawfulDeps, IsRecordedFrom, version_of}
-use Rattle.rows_index.specs.Users.{AreVersionsAt, there, version_at}
+use Rattle.rows_index.specs.Users.{AreVersionsAt, version_at}
 use Rattle.prov_entry.specs.declared.entry.BodyDep.{BodyDep}
 use Rattle.root_laws.specs.Naming.{named_before, with_digest}
 use Rattle.root_laws.proofs.Headers.{row_is_named, recorded_is_older}
 use Rattle.root_laws.proofs.Lists.{all_weaker, contained}
+use Rattle.rows_index.proofs.Lists.{as_long, version_there}
 use Rattle.lineage_entries.specs.Entries.{named_at, AreOlder}
-
--- ---- versions at indexes
-
-pub as_long : (rows : List Row) (indexes : List ℕ) (deps : List Dep)
-    → AreVersionsAt rows indexes deps → length indexes ≡ length deps
-as_long rows indexes deps at = sym (length-map indexes (version_at rows)) ∙ ap length at
-    ∙ length-map deps there
-
-same_place : (rows : List Row) (indexes : List ℕ) (deps : List Dep) (place : ℕ)
-    → AreVersionsAt rows indexes deps →
-    option_map (version_at rows) (slice_get indexes place) ≡ option_map there (slice_get deps place)
-same_place rows indexes deps place at =
-    sym (slice_get-map (version_at rows) indexes place)
-    ∙ ap (λ (l : List (Option Dep)). slice_get l place) at ∙ slice_get-map there deps place
-
-dep_there : (o : Option Dep) (version : Option Dep) → Some version ≡ option_map there o
-    → version ≡ o
-dep_there None version e = absurd (none-some version (sym e))
-dep_there (Some d) version e = same_Some version (Some d) e
-
--- the version at a place in the list
-pub version_there : (rows : List Row) (indexes : List ℕ) (deps : List Dep) (place i : ℕ)
-    → AreVersionsAt rows indexes deps → Some i ≡ slice_get indexes place
-    → version_at rows i ≡ slice_get deps place
-version_there rows indexes deps place i at is =
-    dep_there (slice_get deps place) (version_at rows i)
-    (ap (option_map (version_at rows)) is ∙ same_place rows indexes deps place at)
 
 -- ---- rows
 

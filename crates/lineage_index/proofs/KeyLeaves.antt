@@ -9,10 +9,11 @@ use Rattle.std.proofs.lemmas.List.{map-append, length-map, get_or-map}
 use Rattle.std.proofs.lemmas.Option.{slice_get-get_or}
 use Rattle.std.proofs.lemmas.Iterator.Adapters.{position_from-zero}
 use Rattle.prov_entry.specs.declared.entry.Leaf.{Leaf}
-use Rattle.root_laws.specs.Root.{is_among, sentinel, next_key, is_below}
+use Rattle.root_laws.specs.Root.{is_among, sentinel, next_key}
 use Rattle.root_laws.proofs.Lists.{map_map, map_on, not_both}
 use Rattle.root_laws.proofs.Keys.{same_key, key_is_key}
 use Rattle.state_tree.specs.Leaves.{index_of, is_this, leaf_key, leaf_keys, with_next, fresh_leaf, with_leaf_of}
+use Rattle.state_tree.proofs.Keys.{none_below}
 use Rattle.lineage_index.specs.Growth.{Entry, leaf_with, changed_at}
 use Rattle.lineage_index.specs.Heads.{leaves_with, fresh_entry, IsKeyIndex}
 use Rattle.lineage_index.proofs.ByKey.{set_at_key, push_key, differ, changed_here, changed_there}
@@ -73,10 +74,6 @@ leaf_set keys entry key j x d apart l at =
     )
 
 -- ---- one key more
-
-none_below : (key : List ℕ) → is_below key [] ≡ false
-none_below [] = refl
-none_below (x ∷ key) = refl
 
 next_past_empty : (keys : List (List ℕ)) (key : List ℕ) → next_key ([] ∷ keys) key ≡ next_key keys key
 next_past_empty keys key = rw (none_below key) refl

@@ -1,24 +1,18 @@
 -- The body of a row is read as the row has it.
-use Rattle.std.proofs.Common.{◌≡◌, ◌∙◌, ℕ, List, [], ◌∷◌, map, Some, refl, ap, subst}
+use Rattle.std.proofs.Common.{◌≡◌, ◌∙◌, ℕ, List, map, Some, ap, subst}
 use Rattle.std.specs.Prelude.{slice_get}
 use Rattle.std.specs.List.{concat}
 use Rattle.std.proofs.lemmas.Option.{get_or_from_slice_get, slice_get_within}
-use Rattle.lc_base.specs.declared.row.Dep.{Dep}
 use Rattle.lc_base.specs.declared.row.Row.{Row}
 use Rattle.prov_entry.specs.declared.entry.Body.{Body}
-use Rattle.prov_entry.specs.declared.entry.BodyDep.{BodyDep}
 use Rattle.prov_entry.specs.Spelling.{IsBody, body_fields}
-use Rattle.root_laws.specs.Naming.{with_digest, named_before, body_of}
+use Rattle.root_laws.specs.Naming.{named_before, body_of}
 use Rattle.entry_views.specs.Reading.{body_at}
 use Rattle.row_bodies.specs.Bodies.{body_read, dep_without_digest}
 use Rattle.row_bodies.proofs.Bodies.{body_back}
 use Rattle.typed_ledger.specs.TypedLedger.{IsTypedHistory}
 use Rattle.typed_ledger.proofs.Spellings.{bodies_spelled}
-
-deps_back : (named : List BodyDep) (deps : List Dep)
-    → map dep_without_digest (map (with_digest named) deps) ≡ deps
-deps_back named [] = refl
-deps_back named (dep ∷ deps) = ap (λ (rest : List Dep). dep ∷ rest) (deps_back named deps)
+use Rattle.lineage_store.proofs.ReadBack.{deps_back}
 
 -- the body of each row can be spelled
 is_body : (rows : List Row) (index : ℕ) (row : Row) → IsTypedHistory rows

@@ -12,7 +12,7 @@ use Rattle.row_bodies.proofs.Bodies.{body_back}
 use Rattle.lineage_store.specs.Entries.{entry_for, entries_after, entries_of}
 use Rattle.lineage_store.specs.ReadBack.{row_with, row_read, rows_read}
 
-deps_back : (named : List BodyDep) (deps : List Dep) → map dep_without_digest (map (with_digest named) deps) ≡ deps
+pub deps_back : (named : List BodyDep) (deps : List Dep) → map dep_without_digest (map (with_digest named) deps) ≡ deps
 deps_back named [] = refl
 deps_back named (dep ∷ deps) = ap (λ (rest : List Dep). dep ∷ rest) (deps_back named deps)
 

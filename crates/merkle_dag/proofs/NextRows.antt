@@ -1,53 +1,24 @@
 -- The next row of a block: what it was derived from, and its body.
-use Rattle.std.proofs.Common.{◌≡◌, ◌∙◌, ℕ, zero, suc, ◌+◌, ◌<◌, ◌≤◌, List, [], ◌∷◌, ◌++◌, length}
-use Rattle.std.proofs.Common.{get_or, take, drop, map, Contains, Option, Some, sym, ap, subst}
+use Rattle.std.proofs.Common.{◌≡◌, ◌∙◌, ℕ, ◌+◌, ◌<◌, ◌≤◌, List, [], ◌∷◌, ◌++◌, length}
+use Rattle.std.proofs.Common.{get_or, take, drop, map, Contains, sym, ap, subst}
 use Rattle.std.proofs.Common.{arith}
-use Rattle.std.specs.Prelude.{slice_get}
 use Rattle.std.specs.List.{All}
 use Rattle.std.proofs.lemmas.List.{append_assoc, length-append, length-map, map-append, take_more}
 use Rattle.std.proofs.lemmas.List.Elements.{All-append, All-cons, All-nil, recursion_from_All}
-use Rattle.std.proofs.lemmas.Option.{none-some, same_Some}
 use Rattle.std.proofs.Math.Seq.{get_or-append_seam}
 use Rattle.lc_base.specs.declared.limits.TheConstants.{MAX_DEPS}
 use Rattle.lc_base.specs.declared.row.Row.{Row}
-use Rattle.lc_base.specs.declared.row.Dep.{Dep}
 use Rattle.lc_base.specs.History.{IsLawful, HasLawfulDeps}
 use Rattle.body_store.specs.Bodies.{KeptBody, BodiesState, bodies_in}
 use Rattle.rows_index.specs.declared.index.RowsIndex.{RowsIndex}
 use Rattle.rows_index.specs.Index.{IsNext, IsIndexOf as IsUsesIndexOf}
-use Rattle.rows_index.specs.Users.{AreVersionsAt, version_at}
+use Rattle.rows_index.specs.Users.{AreVersionsAt}
 use Rattle.rows_index.proofs.OneRow.{split_at}
 use Rattle.root_laws.proofs.Lists.{contained}
+use Rattle.rows_index.proofs.Lists.{versions_stay}
 use Rattle.lineage_index.specs.Index.{IsIndexOf}
 use Rattle.lineage_index.specs.declared.index.LineageIndex.{LineageIndex}
 use Rattle.merkle_dag.specs.Adding.{IsNextRow, bytes_of}
-
--- ---- versions at indexes stay where rows follow
-
-first_version : (rows : List Row) (i : ℕ) (is : List ℕ) (d : Dep) (ds : List Dep)
-    → AreVersionsAt rows (i ∷ is) (d ∷ ds) → version_at rows i ≡ Some d
-first_version rows i is d ds at = same_Some (version_at rows i) (Some d)
-    (ap (λ (l : List (Option Dep)). slice_get l 0) at)
-
-other_versions : (rows : List Row) (i : ℕ) (is : List ℕ) (d : Dep) (ds : List Dep)
-    → AreVersionsAt rows (i ∷ is) (d ∷ ds) → AreVersionsAt rows is ds
-other_versions rows i is d ds at = ap (λ (l : List (Option Dep)). drop 1 l) at
-
-version_stays : (rows more : List Row) (i : ℕ) (d : Dep) → version_at rows i ≡ Some d
-    → version_at (rows ++ more) i ≡ Some d
-version_stays [] more i d at = absurd (none-some d at)
-version_stays (r ∷ rows) more zero d at = at
-version_stays (r ∷ rows) more (suc i) d at = version_stays rows more i d at
-
-versions_stay : (rows more : List Row) (indexes : List ℕ) (deps : List Dep)
-    → AreVersionsAt rows indexes deps → AreVersionsAt (rows ++ more) indexes deps
-versions_stay rows more [] deps at = at
-versions_stay rows more (i ∷ is) [] at = absurd
-    (cc at)
-versions_stay rows more (i ∷ is) (d ∷ ds) at =
-    let here = version_stays rows more i d (first_version rows i is d ds at) in
-    let rest = versions_stay rows more is ds (other_versions rows i is d ds at) in
-    λ k. here k ∷ rest k
 
 -- ---- the next row
 

@@ -22,7 +22,7 @@ pub true_or_false : (b : Bool) → b ≡ true → b ≡ false → ⊥
 true_or_false true e f = absurd cc
 true_or_false false e f = absurd cc
 
-or_none : (o : Option ℕ) → option_or o None ≡ o
+pub or_none : (o : Option ℕ) → option_or o None ≡ o
 or_none None = refl
 or_none (Some n) = refl
 

@@ -14,7 +14,7 @@ use Rattle.rows_index.proofs.UsedEnd.{at_front, get_front}
 use Rattle.typed_ledger.specs.TypedLedger.{IsTypedRow}
 use Rattle.plain_rows.specs.declared.kept.KeptRow.{KeptRow}
 use Rattle.plain_rows.specs.Kept.{row_of, rows_with, rows_of, IsKeptAs, AreKept, KeepsRows}
-use Rattle.plain_rows.proofs.Lists.{found_all, versions_stay}
+use Rattle.rows_index.proofs.Lists.{found_all, versions_stay}
 
 -- ---- no rows
 
@@ -70,7 +70,7 @@ stays rows new kept row so = record {
   block_is = so.block_is;
   tx_is = so.tx_is;
   value_is = so.value_is;
-  deps_are = versions_stay rows new kept.deps row.deps so.deps_are;
+  deps_are = versions_stay rows (new ∷ []) kept.deps row.deps so.deps_are;
 }
 
 pub kept_more : (rows : List Row) (kept : List KeptRow) (item : KeptRow) (row : Row) → AreKept rows kept → IsKeptAs rows item row → AreKept (rows ++ row ∷ []) (kept ++ item ∷ [])

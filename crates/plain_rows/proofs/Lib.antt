@@ -1,3 +1,2 @@
 pub mod AnswerParts
 pub mod Keeping
-pub mod Lists

@@ -1,11 +1,10 @@
--- Where the headers of a proof begin, by its leaf.
+-- Where the headers of a proof link_to, by its leaf.
 use Rattle.std.proofs.Common.{◌≡◌, ◌∙◌, ℕ, true, false, ◌&&◌, List, [], Option, Some, None, refl, sym, ap, inl, inr}
 use Rattle.std.specs.List.{All}
 use Rattle.std.proofs.lemmas.Bool.{and_parts}
 use Rattle.lc_base.specs.declared.digest.Digest.{Digest}
 use Rattle.lc_base.specs.declared.row.Row.{Row}
 use Rattle.lc_base.specs.History.{IsLawful, newest, uses}
-use Rattle.prov_entry.specs.declared.entry.Link.{Link}
 use Rattle.prov_entry.specs.declared.entry.Leaf.{Leaf}
 use Rattle.prov_entry.specs.Spelling.{key_or_empty}
 use Rattle.root_laws.specs.NamingLaws.{digest_of_row}
@@ -17,7 +16,7 @@ use Rattle.typed_ledger.specs.TypedLedger.{IsTypedRow}
 use Rattle.proof_checks.proofs.Rows.{latest_is_newest}
 use Rattle.typed_ledger.proofs.Spellings.{IsOneOf, newest_there, is_among_keys}
 use Rattle.proof_checks.proofs.Covering.{no_version}
-use Rattle.proof_checks.proofs.Onward.{begun, claim_of_uses, StandsAt}
+use Rattle.proof_checks.proofs.Onward.{begun, claim_of_uses, StandsAt, link_to}
 
 -- Where a leaf covers the key and is not the key's, the key has no version.
 pub no_version_of : (rows : List Row) (lawful : IsLawful rows) (are : All IsTypedRow rows) (key : List ℕ) (leaf : Leaf) → IsOneOf rows lawful are leaf → covers key leaf ≡ true → is_of_key key leaf.key ≡ false → newest rows key ≡ None
@@ -29,9 +28,6 @@ no_version_of rows lawful are key leaf one t f =
     by_one : IsOneOf rows lawful are leaf → is_below (key_or_empty leaf.key) key ≡ true → is_before_next key leaf.next ≡ true → newest rows key ≡ None
     by_one (inl first) low next = no_version rows [] key (ap (λ (leaf : Leaf). is_below (key_or_empty leaf.key) key) (sym first) ∙ low) (ap (λ (leaf : Leaf). is_before_next key leaf.next) (sym first) ∙ next)
     by_one (inr of_key) low next = no_version rows of_key.0 key (ap (λ (leaf : Leaf). is_below (key_or_empty leaf.key) key) (sym of_key.2) ∙ low) (ap (λ (leaf : Leaf). is_before_next key leaf.next) (sym of_key.2) ∙ next)
-
-abbrev begin : ℕ → Digest → Link
-begin block digest = record { block = block; digest = digest }
 
 -- Where the leaf is that of the key, the key has versions, and it is the history's.
 pub own_key : (rows : List Row) (lawful : IsLawful rows) (are : All IsTypedRow rows) (key : List ℕ) (leaf : Leaf) → IsOneOf rows lawful are leaf → is_of_key key leaf.key ≡ true → (is_among (keys_of rows) key ≡ true) × (leaf ≡ leaf_of rows key)
@@ -48,9 +44,9 @@ pub begins : (rows : List Row) (lawful : IsLawful rows) (are : All IsTypedRow ro
 begins rows lawful are key leaf row e is t =
     let named = leaf_is_named rows key row lawful e in
     let start : expected_first key leaf ≡ Some (record { block = leaf.newest_block; digest = leaf.newest }) = rw t refl in
-    start ∙ ap (λ (l : Leaf). Some (begin l.newest_block l.newest)) is ∙ same_start (leaf_of rows key).newest_block row.block (leaf_of rows key).newest (digest_of_row rows row) named.0 named.1
+    start ∙ ap (λ (l : Leaf). Some (link_to l.newest_block l.newest)) is ∙ same_start (leaf_of rows key).newest_block row.block (leaf_of rows key).newest (digest_of_row rows row) named.0 named.1
   where
-    same_start : (m n : ℕ) (d e : Digest) → m ≡ n → d ≡ e → Some (begin m d) ≡ Some (begin n e)
+    same_start : (m n : ℕ) (d e : Digest) → m ≡ n → d ≡ e → Some (link_to m d) ≡ Some (link_to n e)
     same_start m n d e block digest = rw (block, digest) refl
 
 -- It stands where it is expected, and the leaf tells of its uses.

@@ -1,6 +1,6 @@
 -- Storing a block where there was no log: it is created, and then the block is appended.
-use Rattle.std.proofs.Common.{◌≡◌, inl, ℕ, Bool, true, false, List, [], ◌∷◌, ◌++◌, Option, Some}
-use Rattle.std.proofs.Common.{None, Result, Ok, Err, refl, sym, ap, subst, ◌∙◌}
+use Rattle.std.proofs.Common.{◌≡◌, inl, ℕ, Bool, false, List, [], ◌∷◌, ◌++◌, Option, Some}
+use Rattle.std.proofs.Common.{Result, Ok, Err, sym, ap, subst, ◌∙◌}
 use Rattle.std.specs.Prelude.{MatchBool, IfOk}
 use Rattle.std.specs.Option.{is_some}
 use Rattle.lc_io.specs.Disk.{DiskState}
@@ -14,7 +14,7 @@ use Rattle.block_log.specs.Log.{LogState, Agrees, AgreesWithBlocks, AgreesWithBl
 use Rattle.block_log.specs.Log.{IsOldOrNew}
 use Rattle.block_log.specs.Stricter.{restanding}
 use Rattle.block_log.proofs.Stricter.{stands_stricter}
-use Rattle.block_log.proofs.Resting.{rests_at, rests_some}
+use Rattle.block_log.proofs.Resting.{rests_at, rests_some, told_some}
 
 -- bytes that are no log yet stand for no block
 pub no_block : (log : LogState) (state : Option DiskState) (place : Placer) (content bytes : List ℕ)
@@ -30,11 +30,6 @@ no_block log state place content bytes blocks block headless rests told next =
     next.stricter content ∙ ap (restanding place) blank.stands in
     let found : Some blocks ≡ Some [] = sym next.stands ∙ ap blocks_of stands in
     cc found
-
-told_some : (state : Option DiskState) (content : List ℕ) → content_of state ≡ Some content
-    → is_some state ≡ true
-told_some None content told = absurd (cc told)
-told_some (Some s) content told = refl
 
 HasNone : NextBlock → List ℕ → Type 0
 HasNone next image = chain_of next image ≡ Some []

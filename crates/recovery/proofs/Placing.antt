@@ -1,5 +1,5 @@
 -- A block that is next where rows are counted is next where none is.
-use Rattle.std.proofs.Common.{◌≡◌, ℕ, Bool, true, false, List, length, map, Option, Some, None}
+use Rattle.std.proofs.Common.{◌≡◌, ℕ, Bool, false, List, length, map, Option, Some, None}
 use Rattle.std.proofs.Common.{refl, ap, ◌∙◌}
 use Rattle.std.specs.Prelude.{◌||◌, ◌==◌, nat_lt, not, if◌then◌else◌, slice_get}
 use Rattle.lc_base.specs.declared.digest.Digest.{Digest}
@@ -16,11 +16,8 @@ use Rattle.block_log.specs.Log.{LogState, IsStricter, IsNextOf}
 use Rattle.chain_exec.specs.Compiled.{Compiler}
 use Rattle.chain_replay.specs.Chain.{ChainState, placement_in}
 use Rattle.chain_replay.specs.Judging.{IsNextBlock}
+use Rattle.chain_replay.proofs.Kept.{or_false}
 use Rattle.recovery.specs.Node.{AreOfOneChain}
-
-or_false : (a b : Bool) → (a || b) ≡ false → a ≡ false
-or_false true b e = e
-or_false false b e = refl
 
 fewer_rows : (held rows : ℕ) (parent : Digest) (block : Block)
     → new_placement held rows parent block ≡ Next → new_placement held 0 parent block ≡ Next

@@ -104,7 +104,7 @@ find_first test x xs = ap (find test) (reverse-append (x ∷ []) xs)
 some : {A : Type 0} → A → Option A
 some x = Some x
 
-abbrev up : ℕ → Place → Bool
+abbrev pub up : ℕ → Place → Bool
 up at place = nat_le place.block at
 
 map_cond : {A B : Type 0} (f : A → B) (c : Bool) (x : A)

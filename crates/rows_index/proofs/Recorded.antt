@@ -1,11 +1,11 @@
 -- The dependencies of a lawful row stand in the rows before it.
-use Rattle.std.proofs.Common.{◌≡◌, ◌==◌, ℕ, zero, suc, ◌<◌, ◌≤◌, nat_lt, List, [], ◌∷◌, ◌++◌}
+use Rattle.std.proofs.Common.{◌≡◌, ◌==◌, ℕ, zero, suc, ◌<◌, ◌≤◌, nat_lt, List, [], ◌∷◌, ◌++◌, nat_le}
 use Rattle.std.proofs.Common.{reverse, slice_get, Bool, true, Option, None, Some, refl, ap, subst}
 use Rattle.std.proofs.Common.{inl, inr, arith}
 use Rattle.std.specs.List.{find, All, AllPairs}
 use Rattle.std.specs.Option.{IsSomeAnd}
 use Rattle.std.specs.Cmp.Lexicographic.{pointwise}
-use Rattle.std.proofs.lemmas.Bool.{cases_Bool}
+use Rattle.std.proofs.lemmas.Bool.{cases_Bool, and_parts}
 use Rattle.std.proofs.lemmas.List.Elements.{All-filter}
 use Rattle.std.proofs.lemmas.List.Sorted.{All-permutation, IsPermutation-reverse}
 use Rattle.std.proofs.lemmas.Option.{same_Some, none-some, slice_get-get_or, slice_get_within}
@@ -13,7 +13,7 @@ use Rattle.std.proofs.lemmas.Option.{get_or_from_slice_get}
 use Rattle.std.proofs.lemmas.Slice.Eq.{bytes_eq-Decides}
 use Rattle.lc_base.specs.declared.row.Row.{Row}
 use Rattle.lc_base.specs.declared.row.Dep.{Dep}
-use Rattle.lc_base.specs.History.{IsLawful, HasLawfulDeps, IsRecordedFrom, StandsBefore, below}
+use Rattle.lc_base.specs.History.{IsLawful, HasLawfulDeps, IsRecordedFrom, StandsBefore, below, is_version, latest}
 use Rattle.lc_base.specs.History.{newest}
 use Rattle.rows_index.specs.Places.{StandsAt}
 use Rattle.rows_index.specs.Users.{IsUnused}
@@ -94,3 +94,11 @@ dep_stands rows rest row dep lawful recorded = go (newest (below all row.block) 
             h,
           ),
         )
+
+-- a version that is found is one of the key
+pub of_key : (rows : List Row) (key : List ℕ) (at : ℕ) (row : Row) → latest rows key at ≡ Some row
+    → row.key ≡ key
+of_key rows key at row is =
+    (bytes_eq-Decides row.key key).0
+    (and_parts (pointwise ◌==◌ row.key key) (nat_le row.block at)
+    (found_passes (is_version key at) (reverse rows) row is)).0

@@ -14,10 +14,7 @@ use Rattle.lc_base.specs.History.{StandsBefore}
 use Rattle.rows_index.specs.declared.places.Place.{Place}
 use Rattle.rows_index.specs.Places.{marks_of, is_of, place_of, row_index, places, last_up_to}
 use Rattle.rows_index.specs.Places.{index_up_to}
-use Rattle.rows_index.proofs.Marked.{find_first}
-
-abbrev up : ℕ → Place → Bool
-up at place = nat_le place.block at
+use Rattle.rows_index.proofs.Marked.{find_first, up}
 
 later_block : (x y : Row) → StandsBefore x y → y.key ≡ x.key → x.block < y.block
 later_block x y (inl less) e = less

@@ -28,17 +28,8 @@ use Rattle.contract_semantics.specs.Scenes.{Place}
 use Rattle.chain_exec.specs.BlockRows.{IsOnNewest, HasNewestDeps, AreTxRows, AreBlockRows}
 use Rattle.chain_exec.specs.Effect.{version_to_depend_on, deps_on, is_written}
 use Rattle.chain_exec.proofs.BlockSteps.{pairs_append}
+use Rattle.chain_exec.proofs.TxRows.{no_rows}
 use Rattle.typed_replays.proofs.Reading.{found_typed}
-
-pub no_rows : (place : Place) (number at : ℕ) → AreTxRows place number at []
-no_rows place number at = record {
-  few = omega arith;
-  of_block = All-nil (λ (row : Row). row.block ≡ number);
-  of_tx = All-nil (λ (row : Row). row.tx ≡ at);
-  once = λ i j d lt within. absurd (omega arith);
-  unwritten = All-nil (λ (row : Row). place.written row.key ≡ false);
-  deps = All-nil (HasNewestDeps place.newest);
-}
 
 -- ---- a Set
 

@@ -28,16 +28,17 @@ use Rattle.block_codec.specs.declared.limits.TheConstants.{MAX_TXS, MAX_ROWS_BEF
 use Rattle.block_codec.specs.Spelling.{IsTx, IsBlock}
 use Rattle.chain_exec.specs.BlockRows.{HasNewestDeps, AreTxRows, AreBlockRows}
 use Rattle.chain_exec.specs.Compiled.{Compiler}
-use Rattle.chain_exec.specs.Effect.{Codes, History, Effect, refused_effect, free, effect_of, is_written, meets_conflict, deps_on, is_taken_in, deploy_effect, code_in, call_effect}
+use Rattle.chain_exec.specs.Effect.{Codes, History, Effect, refused_effect, effect_of, is_written, meets_conflict, deps_on, is_taken_in, deploy_effect, code_in, call_effect}
 use Rattle.chain_exec.specs.Fold.{Staged, nothing_staged, with_effect, effects_after, block_effects}
 use Rattle.chain_exec.specs.Replay.{no_history, history_after}
 use Rattle.chain_exec.proofs.BlockSteps.{no_block_rows}
-use Rattle.chain_exec.proofs.TheLaws.{blocks_keep_lawful, blocks_keep_order}
+use Rattle.chain_exec.proofs.TheLaws.{blocks_keep_lawful, blocks_keep_order, tested}
 use Rattle.typed_ledger.specs.TypedLedger.{IsTypedRow, IsTypedHistory}
+use Rattle.chain_exec.proofs.TxRows.{no_rows}
 use Rattle.typed_replays.specs.Literals.{AreFunctionsOfValues}
 use Rattle.typed_replays.specs.Laws.{AreCodesOfValues, CompilesValues, IsTypedBefore, BlocksAddTypedRows}
 use Rattle.typed_replays.proofs.Calls.{calls_write_typed_rows}
-use Rattle.typed_replays.proofs.Blocks.{no_rows, set_deps, written_rows, more_rows}
+use Rattle.typed_replays.proofs.Blocks.{set_deps, written_rows, more_rows}
 
 abbrev CodeOfValues : List ℕ × List FunctionTree → Type 0
 CodeOfValues code = AreFunctionsOfValues code.1
@@ -50,10 +51,7 @@ record IsTypedEffect (place : Place) (number at : ℕ) (effect : Effect) : Type 
 nothing_typed : (place : Place) (number at : ℕ) (effect : Effect) → effect.rows ≡ [] → AreCodesOfValues effect.codes → IsTypedEffect place number at effect
 nothing_typed place number at effect e codes = record { lawful = subst (AreTxRows place number at) (sym e) (no_rows place number at); typed = subst (All IsTypedRow) (sym e) (All-nil IsTypedRow); codes = codes }
 
-abbrev the_set : Bool → Bool → Row → Effect
-the_set foreign conflict row = cond foreign (refused_effect statuses.Foreign) (cond conflict (refused_effect statuses.Conflict) (record { receipt = free statuses.Ok; rows = row ∷ []; codes = [] }))
-
-set_typed : (place : Place) (number at : ℕ) (foreign conflict : Bool) (row : Row) → row.block ≡ number → row.tx ≡ at → HasNewestDeps place.newest row → IsTypedRow row → (conflict ≡ false → place.written row.key ≡ false) → IsTypedEffect place number at (the_set foreign conflict row)
+set_typed : (place : Place) (number at : ℕ) (foreign conflict : Bool) (row : Row) → row.block ≡ number → row.tx ≡ at → HasNewestDeps place.newest row → IsTypedRow row → (conflict ≡ false → place.written row.key ≡ false) → IsTypedEffect place number at (tested foreign conflict row)
 set_typed place number at true conflict row b t d typed w = nothing_typed place number at (refused_effect statuses.Foreign) refl (All-nil CodeOfValues)
 set_typed place number at false true row b t d typed w = nothing_typed place number at (refused_effect statuses.Conflict) refl (All-nil CodeOfValues)
 set_typed place number at false false row b t d typed w = record {

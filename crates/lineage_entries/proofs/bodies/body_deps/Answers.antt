@@ -2,7 +2,8 @@ use Rattle.std.proofs.Common.{◌≡◌, ◌∙◌, length, get_or, take, map, a
 use Rattle.std.proofs.Math.Seq.{take-length}
 use Rattle.std.proofs.lemmas.Option.{slice_get-get_or, slice_get_within}
 use Rattle.root_laws.specs.Naming.{named_before, with_digest}
-use Rattle.lineage_entries.proofs.Dependencies.{as_long, one_more, version_row}
+use Rattle.rows_index.proofs.Lists.{as_long}
+use Rattle.lineage_entries.proofs.Dependencies.{one_more, version_row}
 use Rattle.lineage_entries.proofs.bodies.body_deps.Goals as goal
 
 pub body_dep-requires : goal.body_dep-requires

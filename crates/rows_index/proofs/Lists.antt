@@ -29,19 +29,21 @@ found_all rows (i ∷ is) (d ∷ ds) at =
 pub same_versions : (rows : List Row) (indexes : List ℕ) (deps others : List Dep) → AreVersionsAt rows indexes deps → AreVersionsAt rows indexes others → deps ≡ others
 same_versions rows indexes deps others at also = sym (found_all rows indexes deps at) ∙ found_all rows indexes others also
 
--- ---- a row more
+-- ---- more rows
 
-version_stays : (rows : List Row) (row : Row) (i : ℕ) (d : Dep) → version_at rows i ≡ Some d → version_at (rows ++ row ∷ []) i ≡ Some d
-version_stays [] row i d at = absurd (none-some d at)
-version_stays (r ∷ rows) row zero d at = at
-version_stays (r ∷ rows) row (suc i) d at = version_stays rows row i d at
+version_stays : (rows more : List Row) (i : ℕ) (d : Dep) → version_at rows i ≡ Some d
+    → version_at (rows ++ more) i ≡ Some d
+version_stays [] more i d at = absurd (none-some d at)
+version_stays (r ∷ rows) more zero d at = at
+version_stays (r ∷ rows) more (suc i) d at = version_stays rows more i d at
 
-pub versions_stay : (rows : List Row) (row : Row) (indexes : List ℕ) (deps : List Dep) → AreVersionsAt rows indexes deps → AreVersionsAt (rows ++ row ∷ []) indexes deps
-versions_stay rows row [] deps at = at
-versions_stay rows row (i ∷ is) [] at = absurd (cc at)
-versions_stay rows row (i ∷ is) (d ∷ ds) at =
-    let here = version_stays rows row i d (first_version rows i is d ds at) in
-    let rest = versions_stay rows row is ds (other_versions rows i is d ds at) in
+pub versions_stay : (rows more : List Row) (indexes : List ℕ) (deps : List Dep)
+    → AreVersionsAt rows indexes deps → AreVersionsAt (rows ++ more) indexes deps
+versions_stay rows more [] deps at = at
+versions_stay rows more (i ∷ is) [] at = absurd (cc at)
+versions_stay rows more (i ∷ is) (d ∷ ds) at =
+    let here = version_stays rows more i d (first_version rows i is d ds at) in
+    let rest = versions_stay rows more is ds (other_versions rows i is d ds at) in
     λ k. here k ∷ rest k
 
 -- ---- one of the versions
