@@ -13,20 +13,48 @@ use crate::words::words_of;
 use chain_cli::run::run;
 use cli_lines::Status;
 use file_machine::FileMachine;
+use file_scratch::FileScratch;
+use lc_base::Memory;
 use lc_io::HostSource;
-use scratch_model::FileScratch;
-use std::env::Args;
+use std::env::{self, Args, VarError};
 use std::io;
 
 /// The file of the log, in the present folder.
 const LOG_FILE: &str = "chain.log";
 
-/// The file of the scratch device, in the present folder. Each run makes its own.
-const SCRATCH_FILE: &str = "chain.scratch";
+/// The variable that names the folder for files of a run, as for other programs.
+const SCRATCH_FOLDER: &str = "TMPDIR";
 
-/// Runs on the words that the program was started with, its name left out, over standard input,
-/// standard output, the log and a scratch file. The name of the scratch file is removed at the end; where
-/// that fails, the next run that makes one removes it.
+/// The folder of the scratch file where the variable names none that is a text.
+const PRESENT_FOLDER: &str = ".";
+
+/// The scratch device of a run. It has touched no file.
+fn scratch_of(rt: &HostRuntime) -> Result<FileScratch<'_>, Memory> {
+    match env::var(rt, SCRATCH_FOLDER) {
+        Ok(folder) if !folder.is_empty() => FileScratch::new(rt.alloc(), rt, folder.as_str()),
+        Err(VarError::OutOfMemory) => Err(Memory),
+        _ => FileScratch::new(rt.alloc(), rt, PRESENT_FOLDER),
+    }
+}
+
+/// Runs on words over standard input, standard output, the log and a scratch file.
+fn run_on_words(rt: &HostRuntime, words: &[String]) -> Status
+    // Each status comes only of the commands that may end with it.
+    ensures ends { (command : Option Command) → IsCommand (map string_bytes words.now) command → MayEnd result command }
+{
+    let mut scratch = match scratch_of(rt) {
+        Ok(scratch) => scratch,
+        Err(Memory) => return Status::Memory,
+    };
+    let mut source = HostSource::new(rt.stdin());
+    let mut machine = FileMachine::new(rt, LOG_FILE, rt.stdout());
+    let status = run(rt.alloc(), words, &mut source, &mut machine, &mut scratch);
+    let _closed = scratch.close();
+    status
+}
+
+/// Runs on the words that the program was started with, its name left out. The scratch file has no name
+/// but for an instant; where the system leaves it one, that is removed at the end, as far as it can be.
 pub fn run_on_host(rt: &HostRuntime, args: io::Result<Args>) -> Status
     // Each status comes only of the commands that may end with it.
     ensures ends { IfOk args (λ args. (command : Option Command) → IsCommand (map string_bytes (drop 1 (into_iter_items args))) command → MayEnd result command) }
@@ -34,14 +62,7 @@ pub fn run_on_host(rt: &HostRuntime, args: io::Result<Args>) -> Status
     ensures memory { IfErr args (λ error. IfSome (status_without_words (error_kind error)) (λ status. result ≡ status)) }
 {
     match words_of(rt.alloc(), args) {
-        Ok(words) => {
-            let mut source = HostSource::new(rt.stdin());
-            let mut machine = FileMachine::new(rt, LOG_FILE, rt.stdout());
-            let mut scratch = FileScratch::new(rt, SCRATCH_FILE);
-            let status = run(rt.alloc(), &words, &mut source, &mut machine, &mut scratch);
-            let _closed = scratch.close();
-            status
-        }
+        Ok(words) => run_on_words(rt, &words),
         Err(status) => status,
     }
 }

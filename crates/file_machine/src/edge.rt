@@ -21,7 +21,7 @@ use lc_io::{Clock, Failed, Wire, one_more, write_whole};
 use std::fs;
 use std::fs::{File, OpenOptions};
 use std::io::{ErrorKind, Write};
-use std::os::unix::fs::FileExt;
+use std::os::unix::fs::{FileExt, MetadataExt};
 use std::path::Path;
 
 /// The folder of a path that names none.
@@ -36,12 +36,15 @@ enum Found {
 }
 
 /// A file at a path, which need not be there: it then has length 0. It is looked for at the first
-/// call, and made by the first write.
+/// call, and made by the first write. The first sync or write takes its lock.
 #[derive(Drop)]
 struct HostFile<'a> {
     rt: &'a HostRuntime,
     path: &'a str,
     found: Found,
+    // Its length, by the last answer and what was written since; not known before that.
+    len: Option<u64>,
+    is_locked: bool,
     is_folder_synced: bool,
     has_failed: bool,
 }
@@ -92,6 +95,24 @@ fn create_file(rt: &HostRuntime, path: &str) -> Result<Found, Failed> {
     match File::create_new(rt, path) {
         Ok(file) => apart_from_streams(file),
         Err(_) => Err(Failed),
+    }
+}
+
+/// Takes the lock of a file (`flock`), which is held until the file is closed. Where another program
+/// holds it, or the file system has no locks, that is a fault; nothing waits.
+fn take_lock(file: &File) -> Result<(), Failed> {
+    file.try_lock().map_err(|_| Failed)
+}
+
+/// Whether a path leads to this file, and the file has this length, where that is known. Another program
+/// may have removed, replaced, cut or extended it.
+fn is_in_place(rt: &HostRuntime, path: &str, file: &File, len: Option<u64>) -> bool {
+    match (file.metadata(), fs::metadata(rt, path)) {
+        (Ok(opened), Ok(named)) => {
+            let is_named = opened.dev() == named.dev() && opened.ino() == named.ino();
+            is_named && len.unwrap_or(opened.len()) == opened.len()
+        }
+        _ => false,
     }
 }
 
@@ -151,13 +172,15 @@ impl<'a> HostFile<'a> {
         ensures failed { self.new.has_failed ≡ self.old.has_failed }
     {
         self.look()?;
-        match &self.found {
+        let len = match &self.found {
             Found::Open(file) => match file.metadata() {
-                Ok(metadata) => Ok(metadata.len()),
-                Err(_) => Err(Failed),
+                Ok(metadata) => metadata.len(),
+                Err(_) => return Err(Failed),
             },
-            _ => Ok(0),
-        }
+            _ => 0,
+        };
+        self.len = Some(len);
+        Ok(len)
     }
 
     fn read_at(&mut self, at: u64, buffer: &mut [u8]) -> Result<usize, Failed>
@@ -171,21 +194,41 @@ impl<'a> HostFile<'a> {
         }
     }
 
-    /// Writes, and makes the file where it is absent.
+    /// Takes the file's lock, the first time.
+    fn lock(&mut self) -> Result<(), Failed> {
+        if self.is_locked {
+            return Ok(());
+        }
+        if let Found::Open(file) = &self.found {
+            take_lock(file)?;
+            self.is_locked = true;
+        }
+        Ok(())
+    }
+
+    /// Writes to the file that was opened, where it is still in its place. It is made where it is absent.
     fn write_now(&mut self, at: u64, bytes: &[u8]) -> Result<(), Failed> {
         self.look()?;
         if let Found::Absent = self.found {
             self.found = create_file(self.rt, self.path)?;
         }
+        self.lock()?;
         match &self.found {
-            Found::Open(file) => write_whole_at(file, at, bytes),
-            _ => Err(Failed),
+            Found::Open(file) if is_in_place(self.rt, self.path, file, self.len) => {
+                write_whole_at(file, at, bytes)?;
+            }
+            _ => return Err(Failed),
         }
+        let end = at.saturating_add(bytes.len() as u64);
+        self.len = self.len.map(|len| len.max(end));
+        Ok(())
     }
 
-    /// Syncs the file's bytes and its length, and the first time the folder that holds it, too.
+    /// Syncs the file's bytes and its length, and the first time the folder that holds it, too. The file
+    /// must then be in its place.
     fn sync_now(&mut self) -> Result<(), Failed> {
         self.look()?;
+        self.lock()?;
         match &self.found {
             Found::Open(file) => file.sync_data().map_err(|_| Failed)?,
             _ => return Ok(()),
@@ -194,7 +237,10 @@ impl<'a> HostFile<'a> {
             sync_folder(self.rt, self.path)?;
             self.is_folder_synced = true;
         }
-        Ok(())
+        match &self.found {
+            Found::Open(file) if is_in_place(self.rt, self.path, file, self.len) => Ok(()),
+            _ => Err(Failed),
+        }
     }
 
     fn write_at(&mut self, at: u64, bytes: &[u8]) -> Result<(), Failed>
@@ -224,7 +270,10 @@ impl<'a> HostFile<'a> {
 
 /// A machine whose disk is the file at a path, and whose wire is a writer, such as standard output.
 /// The file is touched at the first call of the disk. One that is not there has length 0, and the
-/// first write makes it. Where a write or a sync has failed, each later one fails: a system that
+/// first write makes it. The first sync or write takes the file's lock, which is held for as long as
+/// the machine is there: where another program holds it, the call fails. Before each write, and after
+/// each sync, the path must lead to the file that was opened, which must be as long as its owner was
+/// told; else the call fails. Where a write or a sync has failed, each later one fails: a system that
 /// could not write once may answer the next sync though the bytes are lost.
 #[derive(Drop)]
 pub struct FileMachine<'a, W> {
@@ -240,6 +289,8 @@ impl<'a, W> FileMachine<'a, W> {
     pub fn new(rt: &'a HostRuntime, path: &'a str, writer: W) -> FileMachine<'a, W>
         ensures path { result.file.path.now ≡ path.now }
         ensures file { result.file.found ≡ Found.NotLooked }
+        ensures len { result.file.len ≡ None }
+        ensures lock { result.file.is_locked ≡ false }
         ensures folder { result.file.is_folder_synced ≡ false }
         ensures failed { result.file.has_failed ≡ false }
         ensures writer { result.writer ≡ writer }
@@ -251,6 +302,8 @@ impl<'a, W> FileMachine<'a, W> {
                 rt,
                 path,
                 found: Found::NotLooked,
+                len: None,
+                is_locked: false,
                 is_folder_synced: false,
                 has_failed: false,
             },

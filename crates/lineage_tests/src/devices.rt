@@ -7,12 +7,14 @@ ghost use Rattle.merkle_dag.specs.Lineage.{AgreesWith};
 use crate::lineages::{add_block, int_at, lineage_in_memory, lineage_of, set};
 use block_codec::TxList;
 use entry_store::Steps;
+use file_scratch::FileScratch;
 use lc_base::{Key, TextList};
 use merkle_dag::Lineage;
 use prov_query::AskError;
-use scratch_model::{FileScratch, MemScratch, Scratch};
+use scratch_model::{MemScratch, Scratch};
 use std::alloc::Global;
-use std::fs::OpenOptions;
+use std::fs;
+use std::fs::File;
 use std::os::unix::fs::FileExt;
 
 /// One more than there are bodies at hand.
@@ -22,7 +24,7 @@ const KEYS: u32 = 1_025;
 const FIRST_GET: u64 = 1_025;
 
 /// The file of a device, in the present folder.
-const FILE: &str = "chain.scratch";
+const FILE: &str = "lineage_tests.scratch";
 
 /// The key `raw/` with a number.
 fn numbered_key(alloc: Global, number: u32) -> Option<Key> {
@@ -93,21 +95,28 @@ fn bodies_at_hand_are_not_read(rt: HostRuntime) {
     lineage.give_up();
 }
 
+/// The ints of the first and the last of these keys over a file, in which the first one was changed.
+fn ints_of_changed_file(rt: &HostRuntime) -> Option<(i64, i64)> {
+    let alloc = rt.alloc();
+    let file = File::create_new(rt, FILE).ok()?;
+    let changed = file.try_clone().ok()?;
+    let mut scratch = FileScratch::over(alloc, rt, file);
+    let mut lineage = lineage_of_keys(alloc, &mut scratch)?;
+    // The body of the first row is the first ten bytes of the file; its int ends at the ninth.
+    let written = changed.write_at(&[7], 8);
+    let first = int_of(alloc, &mut lineage, &mut scratch, 0);
+    let last = int_of(alloc, &mut lineage, &mut scratch, KEYS - 1);
+    lineage.give_up();
+    match (written, first, last) {
+        (Ok(1), Ok(Some(first)), Ok(Some(last))) => Some((first, last)),
+        _ => None,
+    }
+}
+
 #[test]
 fn bodies_are_read_from_the_file(rt: HostRuntime) {
-    let alloc = rt.alloc();
-    let mut scratch = FileScratch::new(&rt, FILE);
-    let Some(mut lineage) = lineage_of_keys(alloc, &mut scratch) else {
-        assert!(rt; false);
-        return;
-    };
-    // The body of the first row is the first ten bytes of the file; its int ends at the ninth.
-    let file = OpenOptions::new().write(true).open(&rt, FILE);
-    assert!(rt; matches!(file, Ok(file) if matches!(file.write_at(&[7], 8), Ok(1))));
-    assert!(rt; int_of(alloc, &mut lineage, &mut scratch, 0) == Ok(Some(7)));
-    assert!(rt; int_of(alloc, &mut lineage, &mut scratch, KEYS - 1) == Ok(Some(5)));
-    lineage.give_up();
-    assert!(rt; scratch.close().is_ok());
+    assert!(rt; ints_of_changed_file(&rt) == Some((7, 5)));
+    assert!(rt; fs::remove_file(&rt, FILE).is_ok());
 }
 
 #[test]

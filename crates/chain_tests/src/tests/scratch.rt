@@ -1,15 +1,19 @@
 //! Scratch devices: in memory, and over files.
 
+use file_scratch::FileScratch;
 use lc_io::{Failed, Room};
-use scratch_model::{FileScratch, MemScratch, Scratch};
+use scratch_model::{MemScratch, Scratch};
 use std::fs;
+use std::fs::File;
 
-/// A file of the present folder, which is not there before the tests and after them. Each test
-/// has a name of its own.
-const FILE: &str = "chain_tests.scratch";
+/// The name at which a device makes its file, in the present folder.
+const FILE: &str = "chain.scratch";
 
-/// A second one.
+/// A file of the tests' own, which is not there before them and after them.
 const SHORT_FILE: &str = "chain_tests.short";
+
+/// What a file of a user's holds.
+const KEPT: &[u8] = b"a file of the same name";
 
 /// Puts two texts, and gets the first one back.
 fn put_two<S: Scratch>(scratch: &mut S, got: &mut [u8; 3]) -> Result<(u64, u64), Failed> {
@@ -55,47 +59,70 @@ fn is_there(rt: &HostRuntime, name: &str) -> bool {
 }
 
 #[test]
-fn scratch_files_of_one_name(rt: HostRuntime) {
-    assert!(rt; fs::write(&rt, FILE, b"left by a run that was cut off").is_ok());
-    let mut one = FileScratch::new(&rt, FILE);
-    let mut other = FileScratch::new(&rt, FILE);
-    // The other device makes a file of its own, and the first one goes on with the one that it
-    // made.
+fn scratch_files_without_names(rt: HostRuntime) {
+    let alloc = rt.alloc();
+    // A file that has the name of the scratch file stays as it is.
+    assert!(rt; fs::write(&rt, FILE, KEPT).is_ok());
+    let (Ok(mut one), Ok(mut other)) = (
+        FileScratch::new(alloc, &rt, "."),
+        FileScratch::new(alloc, &rt, "."),
+    ) else {
+        assert!(rt; false);
+        return;
+    };
+    // Each device has a file of its own.
     let (mut got_one, mut got_other) = ([0; 3], [0; 3]);
     assert!(rt; put_on_both(&mut one, &mut other, &mut got_one, &mut got_other) == Ok(()));
     assert!(rt; got_one == *b"abc");
     assert!(rt; got_other == *b"xyz");
+    // While they are open, none of them has a name.
+    assert!(rt; !is_there(&rt, "chain.scratch_"));
+    assert!(rt; !is_there(&rt, "chain.scratch__"));
+    assert!(rt; one.close() == Ok(()));
+    assert!(rt; other.close() == Ok(()));
     match fs::read(&rt, FILE) {
-        Ok(bytes) => assert!(rt; bytes.as_slice() == b"xyz".as_slice()),
+        Ok(bytes) => assert!(rt; bytes.as_slice() == KEPT),
         Err(_) => assert!(rt; false),
     }
-    assert!(rt; one.close() == Ok(()));
-    assert!(rt; !is_there(&rt, FILE));
-    assert!(rt; other.close() == Ok(()));
+    assert!(rt; fs::remove_file(&rt, FILE).is_ok());
 }
 
-/// Puts a text, cuts the file, and answers what getting the text back does.
-fn get_from_short(rt: &HostRuntime, scratch: &mut FileScratch) -> Result<(), Failed> {
-    let place = scratch.put(b"abc")?;
-    if fs::write(rt, SHORT_FILE, b"ab").is_err() {
+/// Puts two texts on a device over a file, and gets the second one, of which the file is cut to `len`
+/// bytes before that.
+fn get_from_short(rt: &HostRuntime, len: u64, got: &mut [u8; 2]) -> Result<(), Failed> {
+    let Ok(file) = File::create_new(rt, SHORT_FILE) else {
+        return Ok(());
+    };
+    let Ok(cut) = file.try_clone() else {
+        return Ok(());
+    };
+    let mut scratch = FileScratch::over(rt.alloc(), rt, file);
+    scratch.put(b"abc")?;
+    let second = scratch.put(b"de")?;
+    if cut.set_len(len).is_err() {
         return Ok(());
     }
-    let mut got = [0; 3];
-    scratch.get(place, &mut got)
+    let done = scratch.get(second, got);
+    let _removed = fs::remove_file(rt, SHORT_FILE);
+    done
 }
 
 #[test]
 fn scratch_file_that_was_cut(rt: HostRuntime) {
-    let mut scratch = FileScratch::new(&rt, SHORT_FILE);
-    assert!(rt; get_from_short(&rt, &mut scratch) == Err(Failed));
-    assert!(rt; scratch.close() == Ok(()));
+    let mut got = [0; 2];
+    assert!(rt; get_from_short(&rt, 4, &mut got) == Err(Failed));
+    assert!(rt; get_from_short(&rt, 5, &mut got) == Ok(()));
+    assert!(rt; got == *b"de");
     assert!(rt; !is_there(&rt, SHORT_FILE));
 }
 
 #[test]
 fn scratch_that_makes_no_file(rt: HostRuntime) {
-    // A folder in place of the file is a fault, and a device that was not used removes nothing.
-    let mut folder = FileScratch::new(&rt, ".");
-    assert!(rt; folder.put(b"a") == Err(Failed));
-    assert!(rt; folder.close() == Ok(()));
+    // Where there is no such folder each put is a fault.
+    let Ok(mut nowhere) = FileScratch::new(rt.alloc(), &rt, "no such folder") else {
+        assert!(rt; false);
+        return;
+    };
+    assert!(rt; nowhere.put(b"a") == Err(Failed));
+    assert!(rt; nowhere.close() == Ok(()));
 }

@@ -1,7 +1,7 @@
 -- The scratch device over a file.
 use Rattle.std.specs.Prelude.{◌≡◌, ℕ, ◌+◌, nat_le, None, Result, Ok, Err}
 use Rattle.scratch_model.specs.Scratch.{ScratchState, Serves}
-use Rattle.scratch_model.specs.declared.edge.FileScratch.{FileScratch}
+use Rattle.file_scratch.specs.declared.edge.FileScratch.{FileScratch}
 
 -- All bytes up to this end are kept, and it is not known which they are.
 abbrev pub unknown_up_to : ℕ → ScratchState
