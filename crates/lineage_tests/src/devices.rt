@@ -95,7 +95,8 @@ fn bodies_at_hand_are_not_read(rt: HostRuntime) {
     lineage.give_up();
 }
 
-/// The ints of the first and the last of these keys over a file, in which the first one was changed.
+/// The ints of the first and the last of these keys over a file, in which the first one was
+/// changed.
 fn ints_of_changed_file(rt: &HostRuntime) -> Option<(i64, i64)> {
     let alloc = rt.alloc();
     let file = File::create_new(rt, FILE).ok()?;
