@@ -1,7 +1,9 @@
 #!/usr/bin/env python3
 """Checks a proof of LineageChain, and prints the answer that it proves or why it is refused.
 
-    verify.py ROOT KIND KEY BLOCK < PROOF
+    verify.py ROOT KIND KEY BLOCK < PROOF    checks the proof
+    verify.py --show < PROOF                 prints what the proof holds, and checks nothing
+    verify.py --help                         prints this
 
 ROOT is the root of a block, 64 hex digits, which has to come from elsewhere; KIND is hist, back or fwd;
 PROOF is in hex. docs/proofs.md has the bytes of a proof, the checks in their order, and what is printed.
@@ -103,6 +105,7 @@ class Header(NamedTuple):
 class Body(NamedTuple):
     text: bytes
     value: str
+    # The key, the block and the digest of the header of each.
     deps: list
 
 
@@ -183,9 +186,7 @@ class Fields:
         return self.key(), self.number(4)
 
     def dependency(self):
-        place = self.place()
-        self.digest()
-        return place
+        return (*self.place(), self.digest())
 
     def body(self):
         start = self.offset
@@ -331,14 +332,68 @@ def answer(proof, root, question):
     return told(proof)
 
 
+def place_text(key, block):
+    return f"{key.decode('ascii')} {block}"
+
+
 def told(proof):
     version = proof.headers[-1]
     kind = proof.question.kind
     if kind == HIST:
         return [f"block {version.block} tx {version.tx} {proof.body.value}"]
-    word, places = ("deps", proof.body.deps) if kind == BACK else ("uses", proof.uses)
-    lines = [f"{key.decode('ascii')} {block}" for key, block in places]
+    word, places = ("deps", [dep[:2] for dep in proof.body.deps]) if kind == BACK else ("uses", proof.uses)
+    lines = [place_text(*place) for place in places]
     return [f"block {version.block} {word} {len(places)}", *lines]
+
+
+# ---- what a proof holds, for a person
+
+
+def question_text(question):
+    return f"{KINDS[question.kind]} {question.key.decode('ascii')} {question.block}"
+
+
+def uses_text(uses):
+    return f"{uses.count} {uses.digest.hex()}"
+
+
+def named_text(named):
+    return f"{named.block} {named.digest.hex()}"
+
+
+def leaf_lines(leaf):
+    next_key = leaf.next_key.decode("ascii") if leaf.next_key else "none"
+    yield f"leaf key {leaf.key.decode('ascii') or 'none'} next {next_key}"
+    yield f"leaf newest {named_text(leaf.newest)}"
+    yield f"leaf uses {uses_text(leaf.uses)}"
+
+
+def header_lines(number, header):
+    yield f"header {number} key {header.key.decode('ascii')} block {header.block} tx {header.tx}"
+    yield f"header {number} body {header.body.hex()}"
+    yield f"header {number} closed {uses_text(header.closed)}"
+    for link in header.links:
+        yield f"header {number} link {named_text(link)}"
+
+
+def shown(proof):
+    """What a proof holds, in its order, a field a line; and the root that it leads to."""
+    yield f"question {question_text(proof.question)}"
+    yield f"root block {proof.root_block}"
+    yield f"block digest {proof.block_digest.hex()}"
+    yield f"leaf {proof.leaf_index} of {proof.leaf_count}"
+    yield from leaf_lines(proof.leaf)
+    for digest in proof.audit:
+        yield f"audit {digest.hex()}"
+    for number, header in enumerate(proof.headers):
+        yield from header_lines(number, header)
+    if proof.body:
+        yield f"body {proof.body.value}"
+        for key, block, digest in proof.body.deps:
+            yield f"body dep {place_text(key, block)} {digest.hex()}"
+    for use in proof.uses or []:
+        yield f"use {place_text(*use)}"
+    yield f"leads to root {root_of(proof).hex()}"
 
 
 # ---- words and streams
@@ -384,14 +439,28 @@ def read_hex(source):
 
 def outcome(words):
     """The lines that are printed, and the status."""
+    if words in (["--help"], ["-h"]):
+        return __doc__.rstrip().split("\n"), DONE
     try:
-        root, question = read_words(words)
+        root, question = (None, None) if words == ["--show"] else read_words(words)
         proof = Fields(read_hex(read_input())).whole_proof()
+        if question is None:
+            return list(shown(proof)), DONE
+        if proof.question != question:
+            say(f"the proof is of {question_text(proof.question)}")
         return answer(proof, root, question), DONE
     except Stop as stop:
         return [stop.line] if stop.line else [], stop.status
     except MemoryError:
         return [], OUT_OF_MEMORY
+
+
+def say(text):
+    """Writes on standard error, where there is one."""
+    try:
+        os.write(2, f"verify.py: {text}\n".encode())
+    except OSError:
+        pass
 
 
 def write(lines):
