@@ -6,8 +6,8 @@ ghost use Rattle.merkle_dag.specs.Lineage.{AgreesWith};
 
 use crate::lineages::{add_block, int_at, lineage_in_memory, lineage_of, set};
 use block_codec::TxList;
-use entry_store::Steps;
 use lc_base::{Key, TextList};
+use lineage_store::Steps;
 use merkle_dag::Lineage;
 use prov_query::AskError;
 use scratch_model::{FileScratch, MemScratch, Scratch};
