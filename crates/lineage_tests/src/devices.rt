@@ -6,9 +6,9 @@ ghost use Rattle.merkle_dag.specs.Lineage.{AgreesWith};
 
 use crate::lineages::{add_block, int_at, lineage_in_memory, lineage_of, set};
 use block_codec::TxList;
-use entry_store::Steps;
 use file_scratch::FileScratch;
 use lc_base::{Key, TextList};
+use lineage_store::Steps;
 use merkle_dag::Lineage;
 use prov_query::AskError;
 use scratch_model::{MemScratch, Scratch};
