@@ -3,6 +3,7 @@ on standard error, its lock, and that the pages list the commands that there are
 
 It is run in a tree of its own, which has the program and what says that it is built.
 """
+import errno
 import fcntl
 import os
 import re
@@ -11,7 +12,7 @@ import subprocess
 import tempfile
 import time
 
-from cases.log_cases import CLOSED, NOT_A_LOG, REFUSED, SET_FILE, SET_LINE, SET_LOG
+from cases.log_cases import CLOSED, CLOSED_HEAD, NOT_A_LOG, REFUSED, SET_FILE, SET_LINE, SET_LOG
 from checks import disk_calls, page_runs
 from checks.log_runs import LOG
 from checks.program_cases import CASES, RAW_A_PROOF, RAW_A_ROOT, RECALL_FILE
@@ -24,7 +25,11 @@ PAUSE = 1
 # After so many seconds a file that was read is known to stand.
 TICK = 2
 NOT_BUILT = 70
+ZEROED_STATUS = 71
 COPIED = ["lineage", "crates.txt", "HANDLES", "tools", "examples", "verifiers"]
+# A log whose first byte was zeroed, and a file that begins so and is none.
+ZEROED_LOG = CLOSED + SET_LOG[1:]
+ZEROED_FILE = bytes(29)
 # Words, input, log before, and a part of what is said.
 SAID = [
     ("", b"", None, "the commands are"),
@@ -75,6 +80,10 @@ SAID = [
     (f"expose {RAW_A_ROOT} hist raw/a 0 0", b"abc", SET_LOG, "the number of digits is odd"),
     ("hist raw/a", b"", b"hello", "something else than a log"),
     ("hist raw/a", b"", SET_LOG[:40], "was changed or cut"),
+    ("root", b"", ZEROED_LOG, f"has {len(SET_LOG)} bytes and begins with a zero"),
+    ("hist raw/a", b"", ZEROED_LOG, "its first byte was a5"),
+    ("prove hist raw/a 0 0", b"", ZEROED_FILE, "has 29 bytes and begins with a zero"),
+    ("hist raw/a", b"", CLOSED_HEAD + CLOSED, "has no block yet"),
 ]
 
 
@@ -239,6 +248,65 @@ def lock(checks, wrapper):
         checks.same("and then goes on", waiting.wait(RUN_LIMIT), 0)
 
 
+def locked_log(checks):
+    """Of a log that can't be used it is said who has it locked, where that can be known."""
+    with tempfile.TemporaryDirectory() as folder, open(os.path.join(folder, LOG), "wb") as log:
+        fcntl.flock(log, fcntl.LOCK_EX)
+        holder = f"process {os.getpid()} ("
+        told = disk_sentence_in(folder, lambda: None)
+        checks.holds(f"{told!r} names the holder", holder in told and f"has {LOG} locked" in told)
+        fcntl.flock(log, fcntl.LOCK_UN)
+        told = disk_sentence_in(folder, lambda: None)
+        is_open = "had chain.log locked, and has ended since" in told
+        checks.holds(f"{told!r} names no holder", is_open and holder not in told)
+        told = disk_sentence_in(folder, take_locks)
+        checks.holds(f"{told!r} says that there are no locks", f"of {LOG} has no locks" in told)
+
+
+def take_locks():
+    """Takes locks from this process, as a file system without any does."""
+
+    def refuse(*_):
+        raise OSError(errno.ENOLCK, "no locks")
+
+    fcntl.flock = refuse
+
+
+# The logs that begin with a zero, and what is said of an `append`.
+ZEROED = [
+    (ZEROED_LOG, "its first byte was a5"),
+    (CLOSED + SET_LOG[1:10], "its first byte was a5"),
+    (ZEROED_FILE, "it is no log"),
+    (CLOSED * 10, "it is no log"),
+]
+
+
+def zeroed_log(checks, wrapper):
+    """A log whose first byte was zeroed is not written over, and what is said restores it; what a crash may
+    leave is gone on with."""
+    for log, said in ZEROED:
+        with tempfile.TemporaryDirectory() as folder:
+            path = os.path.join(folder, LOG)
+            with open(path, "wb") as file:
+                file.write(log)
+            printed, status, told = run(wrapper, "append", SET_FILE, folder)
+            checks.same(f"append over {log!r}", (printed, status), (b"", ZEROED_STATUS))
+            checks.holds(f"{told!r} has {said!r}", said in told)
+            with open(path, "rb") as file:
+                checks.same(f"the log after append over {log!r}", file.read(), log)
+            if log == ZEROED_LOG:
+                [line] = [line.strip() for line in told.split("\n") if "dd of=" in line]
+                subprocess.run(["sh", "-c", line], cwd=folder, check=True, stderr=subprocess.DEVNULL)
+                with open(path, "rb") as file:
+                    checks.same("the log that was restored", file.read(), SET_LOG)
+    for log in (CLOSED, CLOSED_HEAD, CLOSED_HEAD + CLOSED, CLOSED * 9):
+        with tempfile.TemporaryDirectory() as folder:
+            with open(os.path.join(folder, LOG), "wb") as file:
+                file.write(log)
+            printed = run(wrapper, "append", SET_FILE, folder)[:2]
+            checks.same(f"append over {log!r}", printed, (SET_LINE.encode(), 0))
+
+
 # What stands in for the toolchain: it notes how it was called, and proves nothing.
 FAKE_RT = """#!/bin/sh
 echo "$*" >> "{folder}/calls"
@@ -358,6 +426,8 @@ def check(checks, program, folder):
     what_of_the_disk(checks, wrapper)
     what_of_rights(checks)
     lock(checks, wrapper)
+    locked_log(checks)
+    zeroed_log(checks, wrapper)
     listed_commands(checks, program)
     pages(checks, tree)
     building(checks, tree, folder)

@@ -4,13 +4,14 @@ It looks at the words, the folder and the input again, and runs the program agai
 reads; nothing here decides what the program prints or how it ends.
 """
 import contextlib
+import fcntl
 import os
 import re
 import resource
 import stat
 import subprocess
 
-from lineage import commands, draft_faults
+from lineage import commands, draft_faults, locks
 
 LOG_FILE = "chain.log"
 MAX_SOURCE_BYTES = 67_108_864
@@ -21,6 +22,9 @@ MAX_AGAIN_BYTES = 1 << 28
 # The offset of the first record's gate in a log, and an open gate.
 FIRST_GATE = 8
 OPEN = b"\xa5"
+MAGIC = b"LCLOG1\n"
+# What a crash leaves of a log that is being made has at most a head: two gates and the magic.
+HEAD_BYTES = 9
 EXAMPLE = "./lineage scan hist raw/a 0 < examples/one-set.blocks"
 HELP = ([], ["--help"], ["-h"], ["help"])
 PACK_FIRST = "the input looks like a draft, which is JSON: pack it first, ./lineage pack < DRAFT > BLOCKS"
@@ -31,9 +35,13 @@ SENTENCES = {
     6: "chain.log holds something else than a log",
     7: "chain.log was changed or cut: at the offset that was printed stands no record of the next\n"
     "block; docs/log.md says what to do",
-    12: "chain.scratch, the file of a run for bodies of versions, can't be made, written or read here;\n"
-    "docs/log.md says what to do",
+    12: "the scratch file of the run can't be made, written or read, in the folder that TMPDIR names, or in\n"
+    "the present one where that isn't set; docs/log.md says what to do",
 }
+OTHER_CAUSES = (
+    f"a call of the disk failed, see `dmesg`; or another `append` had {LOG_FILE} locked, and has ended since;\n"
+    "or another program made, changed, moved or removed it meanwhile"
+)
 TOO_LONG = "the input is longer than 67,108,864 bytes"
 BAD_CONTRACT = "the input is no contract"
 CONTRACT_FAULTS = {
@@ -125,11 +133,48 @@ def beyond_sentence(words):
     command = commands.command_of(words)
     if command and command.uses_log and not os.path.exists(LOG_FILE):
         return f"there is no log here: {os.getcwd()} has no {LOG_FILE}, which `append` makes"
+    if command and command.uses_log and is_zeroed():
+        return zeroed_sentence()
     if command and command.uses_log and log_frames_end() == FIRST_GATE:
         return f"{LOG_FILE} has no block yet"
     if words[0] in ("prove", "expose") and int(words[-2]) > int(words[-1]):
         return "BLOCK is past ROOTBLOCK, and a root says nothing of later blocks"
     return "there is no such block: the chain ends before it"
+
+
+# ---- a log whose first byte was zeroed
+
+
+def first_bytes():
+    """How many bytes the log has, and the first of them; none where it is no file that can be read."""
+    with contextlib.suppress(OSError):
+        # So that opening a pipe doesn't wait.
+        log = os.open(LOG_FILE, os.O_RDONLY | os.O_NONBLOCK)
+        with os.fdopen(log, "rb") as file:
+            found = os.fstat(log)
+            if stat.S_ISREG(found.st_mode):
+                return found.st_size, file.read(HEAD_BYTES)
+    return 0, b""
+
+
+def is_zeroed():
+    """Whether the log begins with a zero, so that it stands for no block and `append` writes over it, and
+    yet has more than a crash leaves of a log that is being made."""
+    size, head = first_bytes()
+    return size > HEAD_BYTES and head[:1] == b"\0"
+
+
+def zeroed_sentence():
+    size, head = first_bytes()
+    found = f"{LOG_FILE} has {size:,} bytes and begins with a zero, as no crash leaves it; it stands for no block"
+    if head[1:].startswith(MAGIC):
+        done = (
+            "its first byte was a5, and what follows is whole; take a copy, and restore that byte:\n"
+            f"printf '\\245' | dd of={LOG_FILE} bs=1 count=1 conv=notrunc"
+        )
+    else:
+        done = "it is no log whose first byte alone was changed: see where it comes from, and move it away"
+    return "\n".join([f"{found}, and `append` would write over it", done])
 
 
 # ---- the disk
@@ -138,10 +183,29 @@ def beyond_sentence(words):
 def disk_sentence(words):
     """What of the log, its folder or the space is in the way, as far as it can be seen."""
     writes = words == ["append"]
-    causes = [*log_causes(writes), *folder_causes(writes), *space_causes(writes)]
-    causes = causes or ["a call of the disk failed, or another program made the log meanwhile; see `dmesg`"]
+    causes = [*log_causes(writes), *folder_causes(writes), *space_causes(writes), *lock_causes(writes)]
+    causes = causes or [OTHER_CAUSES if writes else "a call of the disk failed; see `dmesg`"]
     stored = "what was told of is stored, and docs/log.md says what to do"
     return "\n".join([f"the log can't be opened, read, written or synced; {stored}", *causes])
+
+
+def lock_causes(writes):
+    """Who has the log locked, which `append` does as long as it runs."""
+    if not writes:
+        return
+    with contextlib.suppress(OSError):
+        log = os.open(LOG_FILE, os.O_RDONLY | os.O_NONBLOCK)
+        try:
+            holder = locks.holder_of(os.fstat(log))
+            if holder:
+                yield f"{holder} has {LOG_FILE} locked, as another `append` does as long as it runs"
+            else:
+                # This takes no lock, and fails where there can be none.
+                fcntl.flock(log, fcntl.LOCK_UN)
+        except OSError:
+            yield f"the file system of {LOG_FILE} has no locks, and `append` takes one"
+        finally:
+            os.close(log)
 
 
 def log_causes(writes):
