@@ -1,5 +1,6 @@
 """Checks of ./lineage over the built program: that it prints and ends as the program does, what it says
-on standard error, its lock, and that the pages list the commands that there are and show what they print.
+on standard error, its lock, when it builds the program (tools/checks/build_checks.py), and that the pages list
+the commands that there are and show what they print.
 
 It is run in a tree of its own, which has the program and what says that it is built.
 """
@@ -10,22 +11,17 @@ import re
 import shutil
 import subprocess
 import tempfile
-import time
 
 from cases.log_cases import CLOSED, CLOSED_HEAD, NOT_A_LOG, REFUSED, SET_FILE, SET_LINE, SET_LOG
-from checks import disk_calls, page_runs
+from checks import build_checks, disk_calls, page_runs
 from checks.log_runs import LOG
 from checks.program_cases import CASES, RAW_A_PROOF, RAW_A_ROOT, RECALL_FILE
 from checks.program_runs import TOP, check_case, take_rights
-from lineage import commands, lineage_input, lineage_messages
+from lineage import commands, lineage_input, lineage_messages, statuses
 
 # How long a run may take, and how long one waits for another, in seconds.
 RUN_LIMIT = 60
 PAUSE = 1
-# After so many seconds a file that was read is known to stand.
-TICK = 2
-NOT_BUILT = 70
-ZEROED_STATUS = 71
 COPIED = ["lineage", "crates.txt", "HANDLES", "tools", "examples", "verifiers"]
 # A log whose first byte was zeroed, and a file that begins so and is none.
 ZEROED_LOG = CLOSED + SET_LOG[1:]
@@ -290,7 +286,7 @@ def zeroed_log(checks, wrapper):
             with open(path, "wb") as file:
                 file.write(log)
             printed, status, told = run(wrapper, "append", SET_FILE, folder)
-            checks.same(f"append over {log!r}", (printed, status), (b"", ZEROED_STATUS))
+            checks.same(f"append over {log!r}", (printed, status), (b"", statuses.ZEROED_LOG))
             checks.holds(f"{told!r} has {said!r}", said in told)
             with open(path, "rb") as file:
                 checks.same(f"the log after append over {log!r}", file.read(), log)
@@ -305,59 +301,6 @@ def zeroed_log(checks, wrapper):
                 file.write(log)
             printed = run(wrapper, "append", SET_FILE, folder)[:2]
             checks.same(f"append over {log!r}", printed, (SET_LINE.encode(), 0))
-
-
-# What stands in for the toolchain: it notes how it was called, and proves nothing.
-FAKE_RT = """#!/bin/sh
-echo "$*" >> "{folder}/calls"
-[ -e "{folder}/fails" ] && exit 1
-echo "== crate"
-echo "logic=proved functions=3"
-"""
-PROVING = ["all check", "run -- scan hist raw/a 0"]
-
-
-def building(checks, tree, folder):
-    """The program is taken as it is while no source changes, proved and built where one did, and not run
-    where that fails."""
-    tools = os.path.join(folder, "bin")
-    os.mkdir(tools)
-    for name in ("bash", "python3", "dirname", "readlink"):
-        os.symlink(shutil.which(name), f"{tools}/{name}")
-    source = f"{tree}/crates/lineage/src/main.rt"
-    os.mkdir(os.path.dirname(source))
-
-    def ask(name, status, wanted):
-        calls = f"{folder}/calls"
-        with open(calls, "w"):
-            pass
-        words = [f"{tree}/lineage", "gen", "1", "0"]
-        streams = {"stdout": subprocess.DEVNULL, "stderr": subprocess.DEVNULL}
-        ran = subprocess.run(words, env={**os.environ, "PATH": tools}, **streams)
-        with open(calls) as file:
-            made = [line.split(" --jobs")[0].rstrip("\n") for line in file]
-        checks.same(f"status and calls where {name}", (ran.returncode, made), (status, wanted))
-
-    ask("nothing changed", 0, [])
-    with open(source, "w") as file:
-        file.write("one\n")
-    ask("a source is new and there is no toolchain", NOT_BUILT, [])
-    with open(f"{tools}/rt", "w") as file:
-        file.write(FAKE_RT.format(folder=folder))
-    os.chmod(f"{tools}/rt", 0o755)
-    with open(f"{folder}/fails", "w"):
-        ask("a proof fails", NOT_BUILT, PROVING[:1])
-    os.remove(f"{folder}/fails")
-    ask("a source is new", 0, PROVING)
-    ask("it was built since", 0, [])
-    time.sleep(TICK + 0.5)
-    ask("it was built long since", 0, [])
-    ask("what was read then is kept", 0, [])
-    with open(source, "w") as file:
-        file.write("two\n")
-    ask("a source changed and not its size", 0, PROVING)
-    os.remove(source)
-    ask("a source is gone", 0, PROVING)
 
 
 # ---- pages
@@ -430,4 +373,4 @@ def check(checks, program, folder):
     zeroed_log(checks, wrapper)
     listed_commands(checks, program)
     pages(checks, tree)
-    building(checks, tree, folder)
+    build_checks.check(checks, tree, folder)
