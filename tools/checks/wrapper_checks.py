@@ -22,6 +22,7 @@ from lineage import commands, lineage_input, lineage_messages, statuses
 # How long a run may take, and how long one waits for another, in seconds.
 RUN_LIMIT = 60
 PAUSE = 1
+QUIET = {"stdin": subprocess.DEVNULL, "stdout": subprocess.DEVNULL, "stderr": subprocess.DEVNULL}
 COPIED = ["lineage", "crates.txt", "HANDLES", "tools", "examples", "verifiers"]
 # A log whose first byte was zeroed, and a file that begins so and is none.
 ZEROED_LOG = CLOSED + SET_LOG[1:]
@@ -30,7 +31,8 @@ ZEROED_FILE = bytes(29)
 SAID = [
     ("", b"", None, "the commands are"),
     ("hits raw/a", b"", None, "`hits` is no command"),
-    ("hist", b"", None, "`KIND KEY` or `KIND KEY BLOCK`"),
+    ("hist", b"", None, "this is one word, and the command is `KIND KEY [BLOCK]`"),
+    ("scan", b"", None, "`./lineage help scan` says more"),
     ("hist RAW 0", b"", None, "word 2, `RAW`, is not KEY"),
     ("root 00", b"", None, "word 2, `00`, is not BLOCK"),
     ("gen 100001 1", b"", None, "word 2, `100001`, is not N: a number from 1 to 100000"),
@@ -306,36 +308,71 @@ def zeroed_log(checks, wrapper):
 # ---- pages
 
 
+# What stands for the words in capitals of a form.
+FOR_WORDS = {"KEY": "raw/a", "BLOCK": "0", "N": "1", "SEED": "0", "ROOT": RAW_A_ROOT, "ROOTBLOCK": "0"}
+
+
 def listed_commands(checks, program):
-    """The program takes the words of each command, and README.md and docs/formats.md list these."""
-    with open(f"{TOP}/README.md", encoding="utf-8") as file:
-        readme = file.read()
+    """The program takes the words of each command and ends with one of its statuses; docs/formats.md has the
+    same commands, each with its lines, and README.md shows their list."""
     with open(f"{TOP}/docs/formats.md", encoding="utf-8") as file:
         formats = file.read().split("\n## Commands\n")[1].split("\n## ")[0]
-    words = {"KIND": commands.KINDS, "KEY": ["raw/a"], "BLOCK": ["0"], "N": ["1"], "SEED": ["0"]}
-    words |= {"ROOT": [RAW_A_ROOT], "ROOTBLOCK": ["0"]}
-    forms = []
+    made = []
     for command in commands.COMMANDS:
-        given = [words.get(word, [word])[0] for word in command.words()]
-        with tempfile.TemporaryDirectory() as folder:
-            printed = run(program, " ".join(given), b"", folder)[0]
-        checks.holds(f"{given} are a command", printed != b"usage\n")
-        checks.holds(f"docs/formats.md lists `{command.form}`", f"`{command.form}`" in formats)
-        kinds = commands.KINDS if "KIND" in command.form else [""]
-        forms += [command.form.replace("KIND", kind) for kind in kinds]
+        for form in command.forms():
+            kinds = commands.KINDS if "KIND" in form else ["none"]
+            for kind in kinds:
+                given = " ".join({**FOR_WORDS, "KIND": kind}.get(word, word) for word in form)
+                with tempfile.TemporaryDirectory() as folder:
+                    printed = run(program, given, b"", folder)[0]
+                checks.holds(f"{given} are a command", printed != b"usage\n")
+            made.append(" ".join(form))
+        for lines, _ in command.lines:
+            for line in lines.replace(" CAUSE", "").split(", "):
+                has_line = re.search(rf"`{re.escape(line)}[`,]|^\| {re.escape(line)} in", formats, re.M)
+                checks.holds(f"docs/formats.md has `{line}` of `{command.form}`", has_line is not None)
     rows = re.findall(r"(?m)^\| (`[^|]*`) \| [^|]* \| ", formats)
     told = [form for row in rows for form in re.findall(r"`([^`]*)`", row)]
-    made = [command.form for command in commands.COMMANDS]
     checks.same("commands that docs/formats.md lists", sorted(set(told)), sorted(made))
-    # README.md has them in an indented list, with what may be left out in brackets.
-    listed = re.findall(r"(?m)^    ((?:%s)\b.*?)  +\S" % "|".join(commands.first_words()), readme)
-    spelled = []
-    for form in listed:
-        kinds = commands.KINDS if "KIND" in form else [""]
-        for kind in kinds:
-            each = form.replace("KIND", kind)
-            spelled += [re.sub(r" \[(\w+)\]", "", each), re.sub(r"\[(\w+)\]", r"\1", each)]
-    checks.same("commands that README.md lists", sorted(set(spelled)), sorted(set(forms)))
+    with open(f"{TOP}/README.md", encoding="utf-8") as file:
+        checks.holds("README.md shows the list", f"\n{page_runs.PROMPT}./lineage --help\n" in file.read())
+    for case in CASES:
+        command = commands.command_of(case.words.decode(errors="replace").split())
+        if command and case.status != statuses.USAGE:
+            name = f"{case.words} may end with {case.status}"
+            checks.holds(name, case.status in command.statuses())
+
+
+def help_texts(checks, wrapper):
+    """Help is asked for in three ways, says of each command what there is to know, and its examples run."""
+    with tempfile.TemporaryDirectory() as folder:
+        listed = run(wrapper, "--help", b"", folder)
+        checks.same("the status of --help, and what it says", listed[1:], (0, ""))
+        for words in ("-h", "help"):
+            checks.same(words, run(wrapper, words, b"", folder), listed)
+        for form, _ in commands.OWN_FORMS:
+            checks.holds(f"--help lists {form}", f"\n{form} " in listed[0].decode())
+            checks.same(f"help of {form}", run(wrapper, f"help {form.split()[0]}", b"", folder)[1:], (0, ""))
+        for command in commands.COMMANDS:
+            checks.holds(f"--help lists {command.form}", f"{command.form} " in listed[0].decode())
+            first = command.form.split()[0].replace("KIND", "back")
+            printed, status, told = run(wrapper, f"help {first}", b"", folder)
+            shown = [command.form, command.example, *(line for line, _ in command.lines), "    0: done"]
+            checks.same(f"help of {first}", (status, told), (0, ""))
+            for line in shown:
+                checks.holds(f"help of {first} has {line!r}", line in printed.decode())
+        checks.same("help of the words of `root`", run(wrapper, "help root 1", b"", folder)[:2], (b"", 1))
+        checks.same("help of no command", run(wrapper, "help me", b"", folder)[:2], (b"", 1))
+        shutil.copytree(f"{TOP}/examples", f"{folder}/examples")
+        os.symlink(wrapper, f"{folder}/lineage")
+        lines = [command.example for command in commands.COMMANDS]
+        # The log of the examples comes first, and `expose` compares with that of its proof.
+        for text in sorted(lines, key=lambda line: "append" not in line):
+            if " expose " in text:
+                os.remove(f"{folder}/{LOG}")
+                run(wrapper, "append", SET_FILE, folder)
+            ran = subprocess.run(["bash", "-c", text], cwd=folder, **QUIET)
+            checks.same(f"the status of {text}", ran.returncode, 0)
 
 
 def files_of(tree):
@@ -372,5 +409,6 @@ def check(checks, program, folder):
     locked_log(checks)
     zeroed_log(checks, wrapper)
     listed_commands(checks, program)
+    help_texts(checks, wrapper)
     pages(checks, tree)
     build_checks.check(checks, tree, folder)

@@ -11,7 +11,7 @@ import resource
 import stat
 import subprocess
 
-from lineage import commands, draft_faults, locks
+from lineage import commands, locks
 
 LOG_FILE = "chain.log"
 MAX_SOURCE_BYTES = 67_108_864
@@ -26,7 +26,6 @@ MAGIC = b"LCLOG1\n"
 # What a crash leaves of a log that is being made has at most a head: two gates and the magic.
 HEAD_BYTES = 9
 EXAMPLE = "./lineage scan hist raw/a 0 < examples/one-set.blocks"
-HELP = ([], ["--help"], ["-h"], ["help"])
 PACK_FIRST = "the input looks like a draft, which is JSON: pack it first, ./lineage pack < DRAFT > BLOCKS"
 SENTENCES = {
     2: "standard input can't be read",
@@ -122,11 +121,11 @@ def usage_sentence(words):
     """What is wrong with words, and what the commands are, where not even the first word is one's."""
     wrong = commands.what_is_wrong(words)
     shown = commands.beginning_with(words)
-    lines = [] if words in HELP or not wrong else [wrong]
-    lines += ["the commands are"] * (not shown)
-    for command in shown or commands.COMMANDS:
-        lines += [command.form, *(f"    {line}" for line in command.meaning.split("\n"))]
-    return "\n".join(lines + [f"for example: {EXAMPLE}"] * (not shown))
+    lines = [wrong] if wrong else []
+    if shown:
+        lines += [f"{command.form}: {command.meaning}" for command in shown]
+        return "\n".join([*lines, f"`./lineage help {words[0]}` says more"])
+    return "\n".join([*lines, "the commands are", commands.listed(), f"for example: {EXAMPLE}"])
 
 
 def beyond_sentence(words):
@@ -353,6 +352,8 @@ def hex_sentence(printed):
 
 def input_sentence(program, words, start):
     """What is wrong with an input."""
+    from lineage import draft_faults
+
     if start is None:
         return {"fmt": BAD_CONTRACT, "verify": NO_HEX, "expose": NO_HEX}.get(words[0], draft_faults.NO_DRAFT)
     printed = printed_again(program, words, start)

@@ -6,7 +6,7 @@ import os
 import shutil
 import subprocess
 
-from lineage import lineage_build, programs
+from lineage import commands, lineage_build, programs
 from lineage.lineage_messages import say
 from lineage.programs import PROVED, UNPROVED
 from lineage.statuses import DONE, NOT_BUILT, NOT_INSTALLED, NOT_PROVED, UNTOLD, USAGE
@@ -98,7 +98,21 @@ def commit():
     return "unknown"
 
 
+def show_help(words):
+    """Lists the commands, or says all of those that begin with a word."""
+    if not words:
+        return print_out(commands.listed())
+    shown = commands.beginning_with(words)
+    own = [f"{form}\n  {meaning}" for form, meaning in commands.OWN_FORMS if form.split()[0] == words[0]]
+    if len(words) > 1 or not shown and not own:
+        return wrong_words("help [WORD]")
+    return print_out("\n\n".join([*map(commands.described, shown), *own]))
+
+
+OWN = {"--prove": prove, "--install": install, "--version": version}
+OWN |= dict.fromkeys(("help", "--help", "-h"), show_help)
+
+
 def take(words):
     """Does what these words say, if they are the wrapper's own, and answers the status; none else."""
-    own = {"--prove": prove, "--install": install, "--version": version}
-    return own[words[0]](words[1:]) if words and words[0] in own else None
+    return OWN[words[0]](words[1:]) if words[0] in OWN else None
