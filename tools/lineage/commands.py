@@ -204,6 +204,7 @@ OWN_FORMS = [
     ("--prove", "proves the program and builds it over its proofs; it answers from then on"),
     ("--proved WORDS..", "a command, by the proved program or not at all"),
     ("--install [DIR]", "copies the proved program to DIR, or to /usr/local/bin"),
+    ("--test", "runs the tests that need no proof, and says last how many passed and failed"),
     ("--version", "what the program was built from, and whether it is proved"),
 ]
 FORM_COLUMNS = 38

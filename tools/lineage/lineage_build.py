@@ -64,23 +64,26 @@ def has_changed(sources):
 
 def ensure_program():
     """The program that answers, which is built without its proofs where none does; none where that fails."""
-    return programs.present() or (build_unproved() if has_toolchain() else None)
+    found = programs.present()
+    if found or not has_toolchain():
+        return found
+    why = "the sources are others than those that were proved" if PROVED.words() else "nothing is proved here"
+    say(f"{why}; building the program without its proofs, which takes some two minutes")
+    return build_unproved(UNPROVED)
 
 
-def build_unproved():
-    folder = os.path.dirname(UNPROVED.path)
+def build_unproved(program):
+    """Builds a program without its proofs, if another build hasn't meanwhile; none where that fails."""
+    folder = os.path.dirname(program.path)
     with one_at_a_time(f"{folder}/lock"):
-        found = programs.present()
-        if found:
-            return found
-        why = "the sources are others than those that were proved" if PROVED.words() else "nothing is proved here"
-        say(f"{why}; building the program without its proofs, which takes some two minutes")
+        if programs.is_current(program):
+            return program
         sources = programs.digest_of_sources()
         room, built = f"{folder}/room", f"{folder}/new"
         shutil.rmtree(room, ignore_errors=True)
         os.mkdir(room)
         try:
-            build_quickly(f"{TOP}/crates/{CRATE}", room, built)
+            build_quickly(f"{TOP}/crates/{program.crate}", room, built)
         except quick_build.NotBuilt as error:
             say(f"the program wasn't built: {error}")
             return None
@@ -88,9 +91,9 @@ def build_unproved():
             shutil.rmtree(room, ignore_errors=True)
         if has_changed(sources):
             return None
-        os.replace(built, UNPROVED.path)
-        UNPROVED.take_mark(sources, kit())
-        return UNPROVED
+        os.replace(built, program.path)
+        program.take_mark(sources, kit())
+        return program
 
 
 def build_quickly(crate, room, program):

@@ -98,6 +98,18 @@ def commit():
     return "unknown"
 
 
+def test(words):
+    """Runs all tests that need no proof over the program that answers."""
+    if words:
+        return wrong_words("--test")
+    program = programs.present() or lineage_build.ensure_program()
+    if not program:
+        return NOT_BUILT
+    if program is not PROVED:
+        say("the program is tested as it is built without its proofs, which weren't checked")
+    return subprocess.run([f"{TOP}/tools/checks/run-tests", program.path]).returncode
+
+
 def show_help(words):
     """Lists the commands, or says all of those that begin with a word."""
     if not words:
@@ -109,7 +121,7 @@ def show_help(words):
     return print_out("\n\n".join([*map(commands.described, shown), *own]))
 
 
-OWN = {"--prove": prove, "--install": install, "--version": version}
+OWN = {"--prove": prove, "--install": install, "--version": version, "--test": test}
 OWN |= dict.fromkeys(("help", "--help", "-h"), show_help)
 
 

@@ -17,10 +17,13 @@ NONE = "-"
 
 
 class Program:
-    """A program, by its path, and its mark."""
+    """The program of a crate, proved or built without its proofs, and its mark. The one never stands where the
+    other does."""
 
-    def __init__(self, path, mark):
-        self.path, self.mark = path, mark
+    def __init__(self, crate, is_proved):
+        self.crate, self.is_proved = crate, is_proved
+        self.path = f"{TOP}/crates/{crate}/out/{crate}" if is_proved else f"{TOP}/out/unproved/{crate}"
+        self.mark = f"{TOP}/out/{crate}.built" if is_proved else f"{self.path}.built"
 
     def words(self):
         """The digest of the sources that it was built from, its own, and the toolchain; nothing where it has
@@ -41,9 +44,7 @@ class Program:
 
 
 SOURCES = "sources"
-PROVED = Program(f"{TOP}/crates/lineage/out/lineage", f"{TOP}/out/lineage.built")
-# Never where the proved one stands.
-UNPROVED = Program(f"{TOP}/out/unproved/lineage", f"{TOP}/out/unproved/lineage.built")
+PROVED, UNPROVED = (Program("lineage", is_proved) for is_proved in (True, False))
 
 
 def source_files():
@@ -88,8 +89,8 @@ def stamp_of(file):
 
 
 def digests():
-    """The digests of the sources and of each program, by its path, by content. Where no file has changed since
-    they were worked out last, they are those that were kept."""
+    """The digests of the sources and of PROVED and UNPROVED, by their paths, by content. Where no file has changed
+    since they were worked out last, they are those that were kept."""
     programs = [program.path for program in (PROVED, UNPROVED)]
     stamps = [stamp_of(file) for file in [*source_files(), *filter(os.path.exists, programs)]]
     text = "".join(line for _, _, line in stamps)
@@ -111,6 +112,13 @@ def keep(text):
         with open(part, "w", encoding="utf-8") as file:
             file.write(text)
         os.replace(part, KEPT)
+
+
+def is_current(program):
+    """Whether any program is that of the sources as they are."""
+    if not program.words() or not os.path.exists(program.path):
+        return False
+    return program.is_of({SOURCES: digest_of_sources(), program.path: digest_of(program.path)})
 
 
 def present():
