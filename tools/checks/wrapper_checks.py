@@ -13,7 +13,7 @@ import subprocess
 import tempfile
 
 from cases.log_cases import CLOSED, CLOSED_HEAD, NOT_A_LOG, REFUSED, SET_FILE, SET_LINE, SET_LOG
-from checks import build_checks, disk_calls, page_runs
+from checks import build_checks, disk_calls, page_runs, word_checks
 from checks.log_runs import LOG
 from checks.program_cases import CASES, RAW_A_PROOF, RAW_A_ROOT, RECALL_FILE
 from checks.program_runs import TOP, check_case, take_rights
@@ -408,6 +408,7 @@ def check(checks, program, folder):
     lock(checks, wrapper)
     locked_log(checks)
     zeroed_log(checks, wrapper)
+    word_checks.check(checks, wrapper)
     listed_commands(checks, program)
     help_texts(checks, wrapper)
     pages(checks, tree)

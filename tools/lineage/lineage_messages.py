@@ -369,12 +369,12 @@ def input_sentence(program, words, start):
     return draft_faults.sentence(source, printed.decode("ascii", "replace").split())
 
 
-def contract_sentence(source, printed):
+def contract_sentence(source, printed, name="the input"):
     """What is wrong with a contract, with line and column."""
     fault = re.match(rb"badinput (?:syntax|check) (\d+) (\w+)\n$", printed)
     if not fault:
-        return BAD_CONTRACT
+        return f"{name} is no contract"
     offset = int(fault[1])
     line = source.count(b"\n", 0, offset) + 1
     column = offset - source.rfind(b"\n", 0, offset)
-    return f"line {line}, column {column} of the input: {CONTRACT_FAULTS[fault[2].decode()]}"
+    return f"line {line}, column {column} of {name}: {CONTRACT_FAULTS[fault[2].decode()]}"

@@ -1,0 +1,162 @@
+"""Checks of what ./lineage says of things that are not wrong words or a wrong input: how transactions ended, and
+for what a file was taken. What is expected was written from docs/language.md and docs/formats.md.
+"""
+import os
+import pty
+import re
+import select
+import subprocess
+import tempfile
+import time
+
+from cases.block_files import (
+    BAD_ARGS,
+    BAD_SOURCE,
+    CONFLICT,
+    FOREIGN,
+    NO_CONTRACT,
+    NO_FUNCTION,
+    NO_KEY,
+    OK,
+    OUT_OF_STEPS,
+    TAKEN,
+    block_file,
+    calls,
+    deploys,
+    sets,
+)
+from checks.log_runs import LOG
+from lineage.statuses import DONE, UNTOLD
+from lineage.told_statuses import STATUSES
+from places import TOP
+
+RUN_LIMIT = 60
+ADD = 'fn add(d: int) { put "bank/n" = get_int("bank/n") + d; }'
+OTHERS = 'fn put_other() { put "shop/n" = 1; }'
+FAULTY = "fn f() {\n  a = 1;\n}"
+BLOCKS = [
+    [
+        sets("shop/x", 1, status=FOREIGN),
+        deploys("bank", ADD),
+        deploys("raw", ADD, TAKEN),
+        deploys("bad", FAULTY, BAD_SOURCE),
+        deploys("other", OTHERS),
+    ],
+    [
+        calls("nobody", "f", ["x", 1], 10, NO_CONTRACT, 0),
+        calls("bank", "nothing", [], 10, NO_FUNCTION, 0),
+        calls("bank", "add", [], 10, BAD_ARGS, 0),
+        calls("bank", "add", [1], 5, OUT_OF_STEPS, 5),
+        calls("bank", "add", [1], 1_000, NO_KEY, 0),
+        calls("other", "put_other", [], 1_000, FOREIGN, 0),
+    ],
+    [sets("raw/a", 1), sets("raw/a", "text", ["raw/b"], CONFLICT), sets("raw/c", 2)],
+]
+# What is said of them.
+SAID = """\
+lineage: block 0 tx 0: Foreign (3): a Set writes keys under raw/ alone, and not `shop/x`
+lineage: block 0 tx 2: Taken (15): the name `raw` is raw, or was deployed before
+lineage: block 0 tx 3: BadSource (16): its source is no contract: line 2, column 3 of its source: no such name is \
+visible here, or there is no such builtin
+lineage: block 1 tx 0: NoContract (4): no contract `nobody` was deployed in an earlier block
+lineage: block 1 tx 1: NoFunction (5): the contract `bank` has no function `nothing`
+lineage: block 1 tx 2: BadArgs (6): the function `add` takes other arguments, by number or kind
+lineage: block 1 tx 3: OutOfSteps (7): its budget of 5 steps is too small
+lineage: block 1 tx 4: NoKey (2): a key that it reads or asks about has no version there
+lineage: block 1 tx 5: Foreign (3): the contract `other` puts keys under other/ alone
+lineage: block 2 tx 1: Conflict (1): an earlier transaction of the block wrote `raw/a`, or one of the keys that it \
+is derived from
+"""
+
+
+def told_statuses():
+    """The status lists that `append` tells of the blocks."""
+    return [",".join(str(tx.status) for tx in block) for block in BLOCKS]
+
+
+def statuses_in(printed):
+    return re.findall(r"block \d+ rows \d+ status (\S+) root", printed)
+
+
+def append(wrapper, folder, output):
+    """What `append` of the blocks says, and its status; its standard output is a file or a pipe."""
+    streams = {"input": block_file(BLOCKS), "stdout": output, "stderr": subprocess.PIPE, "timeout": RUN_LIMIT}
+    return subprocess.run([wrapper, "append"], cwd=folder, **streams)
+
+
+def words_for_statuses(checks, wrapper):
+    """Of each status above 0 a line says what it means, wherever standard output leads, but nowhere."""
+    with open(f"{TOP}/docs/language.md", encoding="utf-8") as file:
+        rows = re.findall(r"(?m)^\| (\d+) \| (\w+) \|", file.read().split("\n## Statuses\n")[1].split("\n## ")[0])
+    listed = [(str(number), name) for number, (name, _) in STATUSES.items()]
+    checks.same("the statuses that have words", listed, rows)
+    with tempfile.TemporaryDirectory() as folder:
+        ran = append(wrapper, folder, subprocess.PIPE)
+        checks.same("the statuses that are printed", statuses_in(ran.stdout.decode()), told_statuses())
+        checks.same("what is said of them", (ran.returncode, ran.stderr.decode()), (DONE, SAID))
+        again = append(wrapper, folder, subprocess.PIPE)
+        checks.same("what is said of known blocks", (again.stdout, again.stderr), (b"known 0\nknown 1\nknown 2\n", b""))
+        printed = ran.stdout
+    for mode in ("wb", "ab"):
+        with tempfile.TemporaryDirectory() as folder, open(f"{folder}/told", "wb") as before:
+            before.write(b"block 7 rows 0 status 3 root of another run\n")
+            before.flush()
+            size = os.fstat(before.fileno()).st_size
+            with open(f"{folder}/told", mode) as told:
+                ran = append(wrapper, folder, told)
+            with open(f"{folder}/told", "rb") as told:
+                told.seek(size if mode == "ab" else 0)
+                checks.same(f"what is printed to a file, {mode}", told.read(), printed)
+            checks.same(f"what is said of a file, {mode}", (ran.returncode, ran.stderr.decode()), (DONE, SAID))
+    with tempfile.TemporaryDirectory() as folder:
+        ran = append(wrapper, folder, subprocess.DEVNULL)
+        checks.same("what is said where nothing is kept", (ran.returncode, ran.stderr), (DONE, b""))
+
+
+def output_that_ends(checks, wrapper):
+    """Where a pipe takes no more, `append` ends with the status of that, and the log has what was told of."""
+    with tempfile.TemporaryDirectory() as folder:
+        blocks = block_file([[sets(f"raw/{n}", n)] for n in range(400)])
+        command = f"set -o pipefail; {wrapper} append | head -n 1; exit ${{PIPESTATUS[0]}}"
+        streams = {"input": blocks, "stdout": subprocess.PIPE, "stderr": subprocess.DEVNULL, "timeout": RUN_LIMIT}
+        ran = subprocess.run(["bash", "-c", command], cwd=folder, **streams)
+        checks.same("the status where the output ends", ran.returncode, UNTOLD)
+        checks.holds("what was told by then", ran.stdout.startswith(b"block 0 rows 1 status 0 root "))
+        checks.holds("what was told of is stored", os.path.getsize(f"{folder}/{LOG}") > 0)
+
+
+def on_terminal(wrapper, words, folder, source=subprocess.DEVNULL):
+    """What a terminal shows of a run, and its status."""
+    shown, terminal = pty.openpty()
+    ran = subprocess.Popen([wrapper, *words], cwd=folder, stdin=source, stdout=terminal, stderr=terminal)
+    os.close(terminal)
+    text, end = b"", time.monotonic() + RUN_LIMIT
+    while time.monotonic() < end and select.select([shown], [], [], RUN_LIMIT)[0]:
+        try:
+            text += os.read(shown, 1 << 16)
+        except OSError:
+            break
+    os.close(shown)
+    return text.decode().replace("\r\n", "\n"), ran.wait(RUN_LIMIT)
+
+
+def words_on_terminal(checks, wrapper):
+    """On a terminal the words of a block stand below its line."""
+    with tempfile.TemporaryDirectory() as folder:
+        with open(f"{folder}/blocks", "wb") as file:
+            file.write(block_file(BLOCKS))
+        with open(f"{folder}/blocks", "rb") as file:
+            text, status = on_terminal(wrapper, ["append"], folder, file)
+        lines = text.replace("\r\x1b[K", "").split("\n")
+        checks.same("the statuses on a terminal", (statuses_in(text), status), (told_statuses(), DONE))
+        said = SAID.split("\n")[:-1]
+        checks.same("the words on a terminal", [line for line in lines if line.startswith("lineage:")], said)
+        order = [line.split()[:2] if line.startswith("block") else line.split()[1:3] for line in lines if line]
+        checks.same("their order", order, sorted(order, key=lambda it: int(it[1])))
+
+
+def check(checks, wrapper):
+    """Makes all these checks."""
+    words_for_statuses(checks, wrapper)
+    output_that_ends(checks, wrapper)
+    words_on_terminal(checks, wrapper)
