@@ -6,6 +6,7 @@ import pty
 import re
 import select
 import subprocess
+import sys
 import tempfile
 import time
 
@@ -25,8 +26,10 @@ from cases.block_files import (
     deploys,
     sets,
 )
+from cases.log_cases import CLOSED, CLOSED_HEAD, HEAD, OPEN, SET_FILE, SET_LOG
 from checks.log_runs import LOG
-from lineage.statuses import DONE, UNTOLD
+from checks.program_cases import RECALL_FILE, RECALL_LOG
+from lineage.statuses import DAMAGED, DISK_FAULT, DONE, NOT_A_LOG, UNTOLD
 from lineage.told_statuses import STATUSES
 from places import TOP
 
@@ -155,8 +158,83 @@ def words_on_terminal(checks, wrapper):
         checks.same("their order", order, sorted(order, key=lambda it: int(it[1])))
 
 
-def check(checks, wrapper):
-    """Makes all these checks."""
+# What reads a part of the log, waits, and prints in place of the program.
+SLOW_PROGRAM = f"""\
+#!{sys.executable}
+import time
+with open("{LOG}", "rb", buffering=0) as log:
+    log.read(30_000_000)
+    time.sleep(2.5)
+    log.read()
+    time.sleep(1.5)
+print("root 0 " + "0" * 64)
+"""
+
+
+def progress_on_terminal(checks, make_tree):
+    """On a terminal it is shown how much of a log was read, and what is shown is gone before a line is printed;
+    elsewhere nothing is said of it."""
+    with tempfile.TemporaryDirectory() as folder:
+        program = f"{folder}/program"
+        with open(program, "w", encoding="utf-8") as file:
+            file.write(SLOW_PROGRAM)
+        os.chmod(program, 0o755)
+        with open(f"{folder}/{LOG}", "wb") as log:
+            log.truncate(40_000_000)
+        wrapper = f"{make_tree(folder, program)}/lineage"
+        text, status = on_terminal(wrapper, ["root"], folder)
+        line = f"root 0 {'0' * 64}"
+        shown = re.findall(r"\r\x1b\[Klineage: read 3\d\.\d of 40\.0 MB of chain\.log, [78]\d percent", text)
+        checks.same("the status on a terminal", status, DONE)
+        checks.holds(f"{text!r} shows how far it is", 1 <= len(shown) <= 3)
+        checks.same("what is left on the terminal", re.sub(r"[^\n]*\r\x1b\[K", "", text), f"{line}\n")
+        ran = subprocess.run([wrapper, "root"], cwd=folder, capture_output=True, text=True, timeout=RUN_LIMIT)
+        checks.same("what is said elsewhere", (ran.stdout, ran.stderr), (f"{line}\n", ""))
+
+
+# Logs, and what is exported of each: the blocks, the status, and a part of what is said.
+EXPORTS = [
+    (SET_LOG, SET_FILE, DONE, ""),
+    (RECALL_LOG, RECALL_FILE, DONE, ""),
+    (SET_LOG + b"junk", SET_FILE, DONE, ""),
+    (HEAD + CLOSED + SET_FILE, b"", DONE, ""),
+    (b"", b"", DONE, ""),
+    (CLOSED, b"", DONE, ""),
+    (CLOSED_HEAD + CLOSED, b"", DONE, ""),
+    (b"hello", b"", NOT_A_LOG, "not a log"),
+    (SET_FILE, b"", NOT_A_LOG, "begins with a zero"),
+    (CLOSED + SET_LOG[1:], b"", NOT_A_LOG, "begins with a zero"),
+    (SET_LOG[:40], b"", DAMAGED, "damaged at 8"),
+    (SET_LOG[:-1], b"", DAMAGED, "damaged at 8"),
+    (SET_LOG[:-1] + OPEN + bytes(4), SET_FILE, DAMAGED, f"damaged at {len(SET_LOG) - 1}"),
+    (None, b"", DISK_FAULT, "No such file"),
+]
+
+
+def exports(checks, wrapper):
+    """The blocks of a log are exported as a block file, which another node takes."""
+    for log, blocks, status, said in EXPORTS:
+        with tempfile.TemporaryDirectory() as folder:
+            if log is not None:
+                with open(f"{folder}/{LOG}", "wb") as file:
+                    file.write(log)
+            ran = subprocess.run([f"{TOP}/tools/export-blocks"], cwd=folder, capture_output=True, timeout=RUN_LIMIT)
+            name = f"what is exported of {str(log)[:60]}"
+            checks.same(name, (ran.stdout, ran.returncode), (blocks, status))
+            checks.holds(f"{ran.stderr!r} has {said!r}", said in ran.stderr.decode() and bool(said) == bool(ran.stderr))
+    with tempfile.TemporaryDirectory() as folder:
+        with open(f"{folder}/other.log", "wb") as file:
+            file.write(RECALL_LOG)
+        command = f"{TOP}/tools/export-blocks other.log | {wrapper} append"
+        ran = subprocess.run(["bash", "-c", command], cwd=folder, capture_output=True, timeout=RUN_LIMIT)
+        with open(f"{folder}/{LOG}", "rb") as file:
+            checks.same("the log of another node", (ran.returncode, file.read()), (DONE, RECALL_LOG))
+
+
+def check(checks, wrapper, make_tree):
+    """Makes all these checks; `make_tree` makes a tree with a program, in a folder."""
+    progress_on_terminal(checks, make_tree)
+    exports(checks, wrapper)
     words_for_statuses(checks, wrapper)
     output_that_ends(checks, wrapper)
     words_on_terminal(checks, wrapper)

@@ -78,6 +78,20 @@ SAID = [
     (f"expose {RAW_A_ROOT} hist raw/a 0 0", b"abc", SET_LOG, "the number of digits is odd"),
     ("hist raw/a", b"", b"hello", "something else than a log"),
     ("hist raw/a", b"", SET_LOG[:40], "was changed or cut"),
+    ("scan hist raw/a 0", SET_LOG, None, "looks like a log: ask `hist`"),
+    ("append", SET_LOG, None, "tools/export-blocks LOG > BLOCKS"),
+    ("append", RAW_A_PROOF, None, "looks like a proof in hex"),
+    ("append", b"# One.\nfn f() {}", SET_LOG, "looks like a contract"),
+    ("scan hist raw/a 0", b'{"set": {}}', None, "looks like a draft"),
+    ("fmt", SET_FILE, None, "looks like a block file"),
+    ("fmt", b" [[]]", None, "looks like a draft"),
+    ("fmt", b"hello", None, "line 1, column 1 of the input: this doesn't fit"),
+    ("pack", SET_FILE, None, "looks like a block file"),
+    ("pack", b"fn f() {}", None, "looks like a contract"),
+    (f"verify {RAW_A_ROOT} hist raw/a 0", bytes.fromhex(RAW_A_PROOF.decode()), None, "xxd -p < PROOF"),
+    (f"expose {RAW_A_ROOT} hist raw/a 0 0", SET_LOG, SET_LOG, "looks like a log"),
+    ("hist raw/a", b"", SET_FILE, "it looks like a block file"),
+    ("append", SET_FILE, b"fn f() {}", f"{LOG} looks like a contract"),
     ("root", b"", ZEROED_LOG, f"has {len(SET_LOG)} bytes and begins with a zero"),
     ("hist raw/a", b"", ZEROED_LOG, "its first byte was a5"),
     ("prove hist raw/a 0 0", b"", ZEROED_FILE, "has 29 bytes and begins with a zero"),
@@ -275,6 +289,7 @@ ZEROED = [
     (ZEROED_LOG, "its first byte was a5"),
     (CLOSED + SET_LOG[1:10], "its first byte was a5"),
     (ZEROED_FILE, "it is no log"),
+    (SET_FILE, "it looks like a block file"),
     (CLOSED * 10, "it is no log"),
 ]
 
@@ -408,7 +423,7 @@ def check(checks, program, folder):
     lock(checks, wrapper)
     locked_log(checks)
     zeroed_log(checks, wrapper)
-    word_checks.check(checks, wrapper)
+    word_checks.check(checks, wrapper, make_tree)
     listed_commands(checks, program)
     help_texts(checks, wrapper)
     pages(checks, tree)

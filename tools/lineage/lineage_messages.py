@@ -11,7 +11,7 @@ import resource
 import stat
 import subprocess
 
-from lineage import commands, locks
+from lineage import commands, kinds, locks
 
 LOG_FILE = "chain.log"
 MAX_SOURCE_BYTES = 67_108_864
@@ -26,12 +26,11 @@ MAGIC = b"LCLOG1\n"
 # What a crash leaves of a log that is being made has at most a head: two gates and the magic.
 HEAD_BYTES = 9
 EXAMPLE = "./lineage scan hist raw/a 0 < examples/one-set.blocks"
-PACK_FIRST = "the input looks like a draft, which is JSON: pack it first, ./lineage pack < DRAFT > BLOCKS"
+PACK_FIRST = kinds.advice(b"[", kinds.BLOCK_FILE)
 SENTENCES = {
     2: "standard input can't be read",
     3: "standard output can't be written",
     5: "out of memory",
-    6: "chain.log holds something else than a log",
     7: "chain.log was changed or cut: at the offset that was printed stands no record of the next\n"
     "block; docs/log.md says what to do",
     12: "the scratch file of the run can't be made, written or read, in the folder that TMPDIR names, or in\n"
@@ -41,6 +40,7 @@ OTHER_CAUSES = (
     f"a call of the disk failed, see `dmesg`; or another `append` had {LOG_FILE} locked, and has ended since;\n"
     "or another program made, changed, moved or removed it meanwhile"
 )
+NO_LOG = "chain.log holds something else than a log"
 TOO_LONG = "the input is longer than 67,108,864 bytes"
 BAD_CONTRACT = "the input is no contract"
 CONTRACT_FAULTS = {
@@ -100,6 +100,8 @@ def explain(program, status, words, start):
         say(usage_sentence(words))
     elif status == 4:
         say(disk_sentence(words))
+    elif status == 6:
+        say(no_log_sentence())
     elif status == 8:
         say(refused_sentence(program, words, start))
     elif status == 9:
@@ -152,27 +154,37 @@ def first_bytes():
         with os.fdopen(log, "rb") as file:
             found = os.fstat(log)
             if stat.S_ISREG(found.st_mode):
-                return found.st_size, file.read(HEAD_BYTES)
+                return found.st_size, file.read(kinds.FIRST_BYTES)
     return 0, b""
 
 
 def is_zeroed():
     """Whether the log begins with a zero, so that it stands for no block and `append` writes over it, and
     yet has more than a crash leaves of a log that is being made."""
-    size, head = first_bytes()
-    return size > HEAD_BYTES and head[:1] == b"\0"
+    size, first = first_bytes()
+    return size > HEAD_BYTES and first[:1] == b"\0"
+
+
+def no_log_sentence():
+    """What stands in the place of the log."""
+    with contextlib.suppress(OSError), open(LOG_FILE, "rb") as file:
+        advice = kinds.advice(file.read(kinds.FIRST_BYTES), kinds.LOG, LOG_FILE)
+        if advice:
+            return f"{NO_LOG}; move it away\n{advice}"
+    return f"{NO_LOG}; docs/log.md says what to do"
 
 
 def zeroed_sentence():
-    size, head = first_bytes()
+    size, first = first_bytes()
     found = f"{LOG_FILE} has {size:,} bytes and begins with a zero, as no crash leaves it; it stands for no block"
-    if head[1:].startswith(MAGIC):
+    if first[1:].startswith(MAGIC):
         done = (
             "its first byte was a5, and what follows is whole; take a copy, and restore that byte:\n"
             f"printf '\\245' | dd of={LOG_FILE} bs=1 count=1 conv=notrunc"
         )
     else:
-        done = "it is no log whose first byte alone was changed: see where it comes from, and move it away"
+        done = kinds.advice(first, kinds.LOG, "it") or "it is no log whose first byte alone was changed"
+        done = f"{done}\nsee where it comes from, and move it away"
     return "\n".join([f"{found}, and `append` would write over it", done])
 
 
@@ -257,14 +269,14 @@ def refused_sentence(program, words, start):
             lines.append(f"{' '.join([cause, letter]).strip()}: {text.format(letter)}")
         return "\n".join([*lines, f"where {PACK_FIRST}"])
     cause, number = refused[1], refused[2]
-    if cause == "length" and looks_like_json(int(number).to_bytes(LENGTH_BYTES, "big")):
-        return PACK_FIRST
-    return f"{REFUSED}: {CAUSES[cause][1].format(number)}"
+    return kind_advice(words, start) or f"{REFUSED}: {CAUSES[cause][1].format(number)}"
 
 
-def looks_like_json(first_bytes):
-    """Whether so begins an array or an object, with what may stand before it and in it."""
-    return re.match(rb"\s*[\[{][\s\[{\"\]}]*$|\s+$", first_bytes) is not None
+def kind_advice(words, start):
+    """What the input is, where it is of another kind than the command reads, and what to do then."""
+    with contextlib.suppress(OSError):
+        return kinds.advice(os.pread(0, kinds.FIRST_BYTES, start), kinds.READS.get(words[0]))
+    return ""
 
 
 def refused_line(program, words, start):
@@ -359,6 +371,9 @@ def input_sentence(program, words, start):
     printed = printed_again(program, words, start)
     if printed == b"badinput long\n":
         return TOO_LONG
+    advice = kind_advice(words, start)
+    if advice:
+        return advice
     if words[0] in ("verify", "expose"):
         return hex_sentence(printed)
     with open("/proc/self/fd/0", "rb") as file:

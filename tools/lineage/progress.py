@@ -18,12 +18,14 @@ def minutes(seconds):
 
 
 class Progress:
-    """What is said meanwhile: `text` is asked for it each time, and may answer nothing."""
+    """What is said meanwhile: `text` is asked for it each time, until it answers nothing."""
 
     def __init__(self, text, say, plain_period=PLAIN_PERIOD):
         self.text, self.say = text, say
         self.start = time.monotonic()
         self.is_terminal = os.isatty(2)
+        # Whether the line of a terminal has it now.
+        self.is_shown = False
         self.period = TERMINAL_PERIOD if self.is_terminal else plain_period
 
     def __enter__(self):
@@ -36,17 +38,21 @@ class Progress:
 
     def end(self):
         signal.setitimer(signal.ITIMER_REAL, 0)
-        if self.is_terminal:
+        if self.is_shown:
             renew("")
+            self.is_shown = False
 
     def seconds(self):
         return time.monotonic() - self.start
 
     def show(self):
         text = self.text()
-        if text and self.is_terminal:
+        if not text:
+            self.end()
+        elif self.is_terminal:
             renew(f"lineage: {text}")
-        elif text:
+            self.is_shown = True
+        else:
             self.say(text)
 
 
