@@ -29,7 +29,7 @@ from cases.block_files import (
 from cases.log_cases import CLOSED, CLOSED_HEAD, HEAD, OPEN, SET_FILE, SET_LOG
 from checks.log_runs import LOG
 from checks.program_cases import RECALL_FILE, RECALL_LOG
-from lineage.statuses import DAMAGED, DISK_FAULT, DONE, NOT_A_LOG, UNTOLD
+from lineage.statuses import BAD_INPUT, DAMAGED, DISK_FAULT, DONE, NOT_A_LOG, UNTOLD
 from lineage.told_statuses import STATUSES
 from places import TOP
 
@@ -231,10 +231,72 @@ def exports(checks, wrapper):
             checks.same("the log of another node", (ran.returncode, file.read()), (DONE, RECALL_LOG))
 
 
+# Texts of a source, and whether a block may have them.
+SOURCES = [
+    (ADD.encode(), True),
+    (b"", True),
+    ('fn f() {\n\tput "a\\b" = "\u00e4";\r\n}\n# {"source_file": "x"}\x7f'.encode(), True),
+    (b"x" * 16_384, True),
+    (b"x" * 16_385, False),
+    (b"\xff", False),
+    (None, False),
+]
+NAMED = b'[[{"deploy": {"sender": "u", "name": "bank", "source":\n { "source_file" : "a \\"\\u0062\\".contract"\n} }}]]'
+FILE = 'a "b".contract'
+# Drafts that name no file, though they have the word, and what is printed of them.
+OTHER_DRAFTS = [
+    (b'[[{"set":{"sender":"u","key":"raw/a","value":"{\\"source_file\\": \\"x\\"}"}}]]', None),
+    (b'[[{"set":{"sender":"u","key":"raw/a","value":{"source_file":"x"}}}]]', b"badinput draft 0 0\n"),
+    (b'[[{"deploy":{"sender":"u","name":"b","source":{"source_file":1}}}]]', b"badinput draft 0 0\n"),
+    (b'[[{"deploy":{"sender":"u","name":"b","source_file":"x"}}]]', b"badinput draft 0 0\n"),
+    (b'[["source":{"source_file":"x"}', b"badinput json\n"),
+]
+
+
+def pack(wrapper, folder, draft, is_pipe):
+    """What `pack` prints of a draft, its status, what it says, and whether it took all of its input."""
+    streams = {"stdout": subprocess.PIPE, "stderr": subprocess.PIPE, "timeout": RUN_LIMIT}
+    with tempfile.TemporaryFile() as source:
+        source.write(draft)
+        source.flush()
+        source.seek(0)
+        how = {"input": draft} if is_pipe else {"stdin": source}
+        ran = subprocess.run([wrapper, "pack"], cwd=folder, **how, **streams)
+        is_read = is_pipe or os.lseek(source.fileno(), 0, os.SEEK_CUR) == len(draft)
+    return ran.stdout, ran.returncode, ran.stderr.decode(), is_read
+
+
+def sources_of_drafts(checks, wrapper):
+    """A draft may name the file of a source, whose text stands in the block then."""
+    for source, is_good in SOURCES:
+        with tempfile.TemporaryDirectory() as folder:
+            if source is not None:
+                with open(f"{folder}/{FILE}", "wb") as file:
+                    file.write(source)
+            for is_pipe in (False, True):
+                printed, status, said, is_read = pack(wrapper, folder, NAMED, is_pipe)
+                name = f"a source of {str(source)[:40]}"
+                if is_good:
+                    blocks = block_file([[deploys("bank", source.decode())]])
+                    checks.same(name, (printed, status, said), (blocks, DONE, ""))
+                else:
+                    checks.same(name, (printed, status), (b"badinput draft 0 0\n", BAD_INPUT))
+                    is_said = "can't be read" in said or len(source or b"") > 16_384
+                    checks.holds(f"{said!r} says why", is_said and "`source` of `deploy` must be" in said)
+                checks.holds(f"{name} leaves nothing of the input", is_read)
+    for draft, printed in OTHER_DRAFTS:
+        with tempfile.TemporaryDirectory() as folder:
+            with open(f"{folder}/x", "w", encoding="utf-8") as file:
+                file.write("fn f() {}")
+            wanted = printed or block_file([[sets("raw/a", '{"source_file": "x"}')]])
+            checks.same(f"what is packed of {draft}", pack(wrapper, folder, draft, False)[0], wanted)
+
+
 def check(checks, wrapper, make_tree):
     """Makes all these checks; `make_tree` makes a tree with a program, in a folder."""
     progress_on_terminal(checks, make_tree)
     exports(checks, wrapper)
+    sources_of_drafts(checks, wrapper)
     words_for_statuses(checks, wrapper)
     output_that_ends(checks, wrapper)
     words_on_terminal(checks, wrapper)
