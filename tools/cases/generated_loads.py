@@ -1,6 +1,8 @@
 """What `load` prints, worked out from docs/formats.md: the paths of its look-ups by the levels of the
 versions, as they are defined.
 """
+import bisect
+
 from cases.generated_chain import Generated
 from cases.growing_roots import growing_roots
 from cases.log_cases import frames_of
@@ -23,7 +25,8 @@ def load_line(count, seed):
 
 
 def path(blocks, at):
-    """The blocks of the versions that a look-up looks at, where these are those of the key's versions."""
+    """The blocks of the versions that a look-up looks at, where these are those of the key's versions, in
+    order."""
     looked = []
     block = blocks[-1] if blocks else None
     while block is not None:
@@ -42,13 +45,14 @@ def next_block(blocks, block, at):
 
 def links(blocks, block):
     """The blocks that the version in a block links to, one for each level from 0 to its height."""
-    older = [other for other in blocks if other < block]
+    older = blocks[: bisect.bisect_left(blocks, block)]
     if not older:
         return []
-    height = max(level for level in range(LEVELS) if is_at_level(older, block, level))
-    return [max(b for b in older if is_at_level(blocks, b, level)) for level in range(height + 1)]
+    height = max(level for level in range(LEVELS) if is_at_level(blocks, block, level))
+    last_first = older[::-1]
+    return [next(b for b in last_first if is_at_level(blocks, b, level)) for level in range(height + 1)]
 
 
 def is_at_level(blocks, block, level):
-    """Whether no older version is in the block's interval of 2^level blocks."""
-    return not any(b < block and b >> level == block >> level for b in blocks)
+    """Whether no older version is in the block's interval of 2^level blocks: the first one there is the block's."""
+    return blocks[bisect.bisect_left(blocks, block >> level << level)] == block
