@@ -28,8 +28,8 @@ from cases.block_files import (
 )
 from cases.log_cases import CLOSED, CLOSED_HEAD, HEAD, OPEN, SET_FILE, SET_LOG
 from checks.log_runs import LOG
-from checks.program_cases import RECALL_FILE, RECALL_LOG
-from lineage.statuses import BAD_INPUT, DAMAGED, DISK_FAULT, DONE, NOT_A_LOG, UNTOLD
+from checks.program_cases import RAW_A_PROOF, RAW_A_ROOT, RECALL_FILE, RECALL_LOG, RECALL_ROOTS
+from lineage.statuses import BAD_INPUT, DAMAGED, DISK_FAULT, DONE, NOT_A_LOG, REJECTED, UNTOLD
 from lineage.told_statuses import STATUSES
 from places import TOP
 
@@ -292,11 +292,64 @@ def sources_of_drafts(checks, wrapper):
             checks.same(f"what is packed of {draft}", pack(wrapper, folder, draft, False)[0], wanted)
 
 
+def verifier_words(checks, wrapper):
+    """The second verifier shows its help and what a proof holds, and says of which question one is."""
+    verifier = [sys.executable, f"{TOP}/verifiers/verify.py"]
+    streams = {"capture_output": True, "timeout": RUN_LIMIT}
+    ran = subprocess.run([*verifier, "--help"], **streams)
+    checks.same("the status of its help", (ran.returncode, ran.stderr), (DONE, b""))
+    checks.holds("its help has its words", b"verify.py ROOT KIND KEY BLOCK < PROOF" in ran.stdout)
+    words = [RAW_A_ROOT, "fwd", "raw/a", "0"]
+    ran = subprocess.run([*verifier, *words], input=RAW_A_PROOF, **streams)
+    checks.same("what is printed of another question", (ran.stdout, ran.returncode), (b"rejected query\n", REJECTED))
+    checks.same("what is said of it", ran.stderr, b"verify.py: the proof is of another question: hist raw/a 0\n")
+    for source, printed, status in [
+        (b"", b"rejected malformed 0\n", REJECTED),
+        (RAW_A_PROOF[:546], b"rejected malformed 273\n", REJECTED),
+        (b"zz", b"badinput at 0\n", BAD_INPUT),
+    ]:
+        ran = subprocess.run([*verifier, "--show"], input=source, **streams)
+        checks.same(f"what is shown of {source[:20]}", (ran.stdout, ran.returncode), (printed, status))
+    with tempfile.TemporaryDirectory() as folder:
+        with open(f"{folder}/{LOG}", "wb") as log:
+            log.write(RECALL_LOG)
+        for question, shown in SHOWN:
+            made = subprocess.run([wrapper, "prove", *question.split(), "2"], cwd=folder, **streams).stdout
+            ran = subprocess.run([*verifier, "--show"], input=made, **streams)
+            lines = ran.stdout.decode().split("\n")
+            checks.same(f"the status where {question} is shown", (ran.returncode, ran.stderr), (DONE, b""))
+            checks.same(f"the first line of {question}", lines[0], f"question {question}")
+            for line in [*shown, f"leads to the root {RECALL_ROOTS[2]}"]:
+                checks.holds(f"what is shown of {question} has {line!r}", line in lines)
+
+
+# Questions about the recall log, and lines that are shown of their proofs under the root of its last block.
+SHOWN = [
+    (
+        "fwd raw/part/p1 2",
+        [
+            "body: text batch 17, derived from 0 versions",
+            "uses: 2 versions were derived from it",
+            "  raw/lot/l1 1",
+            "  raw/lot/l3 2",
+        ],
+    ),
+    (
+        "back raw/lot/l3 2",
+        ["body: int 200, derived from 2 versions", "  raw/part/p1 0", "  raw/part/p2 0"],
+    ),
+    # Keys are in the order of their first rows, and the leaf before all keys has the index 0.
+    ("hist raw/none 1", ["leaf 5 of 7, from 0: key raw/lot/l3, next key raw/part/p1"]),
+    ("hist raw/a 1", ["leaf 0 of 7, from 0: before all keys, next key raw/lot/l1"]),
+]
+
+
 def check(checks, wrapper, make_tree):
     """Makes all these checks; `make_tree` makes a tree with a program, in a folder."""
     progress_on_terminal(checks, make_tree)
     exports(checks, wrapper)
     sources_of_drafts(checks, wrapper)
+    verifier_words(checks, wrapper)
     words_for_statuses(checks, wrapper)
     output_that_ends(checks, wrapper)
     words_on_terminal(checks, wrapper)

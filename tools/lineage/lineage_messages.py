@@ -78,6 +78,10 @@ REJECTED = {
     "body": "the body of the proof has another digest than its header names",
     "list": "the uses of the proof are others than those that are told of",
 }
+# Where the key of the question begins in a proof, after the magic, the kind and its length; and how many bytes a
+# question and these take at most.
+QUESTION_FRONT = 7
+MAX_QUESTION_BYTES = QUESTION_FRONT + 64 + 4
 NOT_ACCEPTED = "the proof is not accepted; docs/proofs.md has the checks"
 HEX_FAULTS = {
     "odd": "a proof is in hex, two digits a byte, and the number of digits is odd",
@@ -350,7 +354,19 @@ def rejected_sentence(program, words, start):
     rejected = re.match(r"rejected (\w+) ?(\w*)", printed.decode("ascii", "replace"))
     if not rejected or rejected[1] not in REJECTED:
         return NOT_ACCEPTED
+    if rejected[1] == "query":
+        return f"{NOT_ACCEPTED}: {REJECTED['query']}{question_of(start)}"
     return f"{NOT_ACCEPTED}: {REJECTED[rejected[1]].format(rejected[2])}"
+
+
+def question_of(start):
+    """Of which question a proof is, by its first fields (docs/proofs.md); the input has one, in hex."""
+    with contextlib.suppress(OSError, ValueError, LookupError):
+        proof = bytes.fromhex(os.pread(0, 2 * MAX_QUESTION_BYTES, start).decode("ascii").strip())
+        end = QUESTION_FRONT + int.from_bytes(proof[QUESTION_FRONT - 2 : QUESTION_FRONT], "big")
+        key, block = proof[QUESTION_FRONT:end].decode("ascii"), int.from_bytes(proof[end : end + 4], "big")
+        return f": {commands.KINDS[proof[4]]} {key} {block}"
+    return ""
 
 
 def hex_sentence(printed):
