@@ -1,9 +1,9 @@
 #!/usr/bin/env python3
 """Checks a proof of LineageChain, and prints the answer that it proves or why it is refused.
 
-    verify.py ROOT KIND KEY BLOCK < PROOF    checks the proof
-    verify.py --show < PROOF                 prints what the proof holds, and checks nothing
-    verify.py --help                         prints this
+    verify.py ROOT KIND KEY BLOCK < PROOF     checks a proof
+    verify.py --show < PROOF                  shows what a proof holds, and checks nothing of it
+    verify.py --help                          prints this
 
 ROOT is the root of a block, 64 hex digits, which has to come from elsewhere; KIND is hist, back or fwd;
 PROOF is in hex. docs/proofs.md has the bytes of a proof, the checks in their order, and what is printed.
@@ -105,7 +105,6 @@ class Header(NamedTuple):
 class Body(NamedTuple):
     text: bytes
     value: str
-    # The key, the block and the digest of the header of each.
     deps: list
 
 
@@ -186,7 +185,9 @@ class Fields:
         return self.key(), self.number(4)
 
     def dependency(self):
-        return (*self.place(), self.digest())
+        place = self.place()
+        self.digest()
+        return place
 
     def body(self):
         start = self.offset
@@ -332,68 +333,46 @@ def answer(proof, root, question):
     return told(proof)
 
 
-def place_text(key, block):
-    return f"{key.decode('ascii')} {block}"
-
-
 def told(proof):
     version = proof.headers[-1]
     kind = proof.question.kind
     if kind == HIST:
         return [f"block {version.block} tx {version.tx} {proof.body.value}"]
-    word, places = ("deps", [dep[:2] for dep in proof.body.deps]) if kind == BACK else ("uses", proof.uses)
-    lines = [place_text(*place) for place in places]
+    word, places = ("deps", proof.body.deps) if kind == BACK else ("uses", proof.uses)
+    lines = [f"{key.decode('ascii')} {block}" for key, block in places]
     return [f"block {version.block} {word} {len(places)}", *lines]
 
 
-# ---- what a proof holds, for a person
+# ---- what a proof holds
 
 
 def question_text(question):
     return f"{KINDS[question.kind]} {question.key.decode('ascii')} {question.block}"
 
 
-def uses_text(uses):
-    return f"{uses.count} {uses.digest.hex()}"
-
-
-def named_text(named):
-    return f"{named.block} {named.digest.hex()}"
-
-
-def leaf_lines(leaf):
-    next_key = leaf.next_key.decode("ascii") if leaf.next_key else "none"
-    yield f"leaf key {leaf.key.decode('ascii') or 'none'} next {next_key}"
-    yield f"leaf newest {named_text(leaf.newest)}"
-    yield f"leaf uses {uses_text(leaf.uses)}"
-
-
-def header_lines(number, header):
-    yield f"header {number} key {header.key.decode('ascii')} block {header.block} tx {header.tx}"
-    yield f"header {number} body {header.body.hex()}"
-    yield f"header {number} closed {uses_text(header.closed)}"
-    for link in header.links:
-        yield f"header {number} link {named_text(link)}"
-
-
 def shown(proof):
-    """What a proof holds, in its order, a field a line; and the root that it leads to."""
-    yield f"question {question_text(proof.question)}"
-    yield f"root block {proof.root_block}"
-    yield f"block digest {proof.block_digest.hex()}"
-    yield f"leaf {proof.leaf_index} of {proof.leaf_count}"
-    yield from leaf_lines(proof.leaf)
-    for digest in proof.audit:
-        yield f"audit {digest.hex()}"
-    for number, header in enumerate(proof.headers):
-        yield from header_lines(number, header)
+    """What a proof holds, line by line."""
+    leaf, question = proof.leaf, question_text(proof.question)
+    key = f"key {leaf.key.decode('ascii')}" if leaf.key else "before all keys"
+    following = f"next key {leaf.next_key.decode('ascii')}" if leaf.next_key else "no next key"
+    lines = [f"question {question}", f"root block {proof.root_block}, digest {proof.block_digest.hex()}"]
+    lines.append(f"leaf {proof.leaf_index} of {proof.leaf_count}, from 0: {key}, {following}")
+    lines.append(f"  newest version in block {leaf.newest.block}, header {leaf.newest.digest.hex()}")
+    lines.append(f"  its uses {leaf.uses.count}, digest {leaf.uses.digest.hex()}")
+    lines += [f"audit hash {digest.hex()}" for digest in proof.audit]
+    for header in proof.headers:
+        lines.append(f"header of block {header.block} tx {header.tx}: {sha256(HEADER, header.text).hex()}")
+        lines.append(f"  body {header.body.hex()}")
+        lines.append(f"  closes {header.closed.count} uses, digest {header.closed.digest.hex()}")
+        lines += [f"  links to block {link.block}, header {link.digest.hex()}" for link in header.links]
     if proof.body:
-        yield f"body {proof.body.value}"
-        for key, block, digest in proof.body.deps:
-            yield f"body dep {place_text(key, block)} {digest.hex()}"
-    for use in proof.uses or []:
-        yield f"use {place_text(*use)}"
-    yield f"leads to root {root_of(proof).hex()}"
+        lines.append(f"body: {proof.body.value}, derived from {len(proof.body.deps)} versions")
+        lines += [f"  {key.decode('ascii')} {block}" for key, block in proof.body.deps]
+    if proof.uses is not None:
+        lines.append(f"uses: {len(proof.uses)} versions were derived from it")
+        lines += [f"  {key.decode('ascii')} {block}" for key, block in proof.uses]
+    lines.append(f"leads to the root {root_of(proof).hex()}")
+    return [*lines, f"nothing of this was checked: verify.py ROOT {question} does that"]
 
 
 # ---- words and streams
@@ -439,15 +418,15 @@ def read_hex(source):
 
 def outcome(words):
     """The lines that are printed, and the status."""
-    if words in (["--help"], ["-h"]):
-        return __doc__.rstrip().split("\n"), DONE
+    if words == ["--help"]:
+        return __doc__.rstrip("\n").split("\n"), DONE
     try:
-        root, question = (None, None) if words == ["--show"] else read_words(words)
+        if words == ["--show"]:
+            return shown(Fields(read_hex(read_input())).whole_proof()), DONE
+        root, question = read_words(words)
         proof = Fields(read_hex(read_input())).whole_proof()
-        if question is None:
-            return list(shown(proof)), DONE
         if proof.question != question:
-            say(f"the proof is of {question_text(proof.question)}")
+            note(f"the proof is of another question: {question_text(proof.question)}")
         return answer(proof, root, question), DONE
     except Stop as stop:
         return [stop.line] if stop.line else [], stop.status
@@ -455,10 +434,10 @@ def outcome(words):
         return [], OUT_OF_MEMORY
 
 
-def say(text):
-    """Writes on standard error, where there is one."""
+def note(text):
+    """Says something on standard error, where there is one: what is printed is fixed."""
     try:
-        os.write(2, f"verify.py: {text}\n".encode())
+        os.write(2, f"verify.py: {text}\n".encode("ascii"))
     except OSError:
         pass
 
