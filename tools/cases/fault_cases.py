@@ -141,9 +141,9 @@ def stored(frame, gate, left):
 
 
 def append_calls(image):
-    """All calls of an append of the three blocks, in order."""
-    yield from [Call(READ, len(FILE))] * reads_of(image)
+    """All calls of an append of the three blocks, in order: it syncs what it finds before it reads it."""
     yield Call(SYNC, len(FILE))
+    yield from [Call(READ, len(FILE))] * reads_of(image)
     gate, left, held = FIRST_GATE, len(FILE), held_by(image)
     for at, frame in enumerate(FRAMES):
         left -= len(frame)

@@ -431,8 +431,8 @@ def failing_calls():
         "append", b"", SET_LINE, UNTOLD, two, file, left=len(third), calls=f"{tell + 5}"
     )
     yield LogCase("append", SET_LOG, "", UNREADABLE, file=SET_FILE, left=size, pulls="0")
-    # Over a log of a block four reads open it: of the head, of the gate and the length of the record,
-    # of the block, and of the closed gate. Then the disk is synced, before anything is read or told.
+    # The disk is synced first. Then, over a log of a block, four reads open it: of the head, of the gate
+    # and the length of the record, of the block, and of the closed gate.
     opened = 4
     for call in range(opened + 1):
         yield LogCase(

@@ -8,11 +8,14 @@ use Rattle.lc_io.specs.Outside.{Tell}
 use Rattle.disk_model.specs.Disk.{IsSettled, Keeps, Rests, content_of}
 use Rattle.disk_model.proofs.Moments.{then_keeps, weaker, stays_on}
 use Rattle.block_codec.specs.declared.block.Block.{Block}
-use Rattle.block_log.specs.Standing.{standing}
+use Rattle.block_log.specs.Standing.{NextBlock, standing}
+use Rattle.block_log.specs.Log.{LogState, Agrees, next_in_log}
 use Rattle.recovery.specs.Node.{NodeState, IsNodeOf, IsNodeStarted, next_in_chain}
 use Rattle.crash_promises.specs.Promises.{NoChange, Appends, MayLeaveAny}
+use Rattle.crash_promises.specs.Laws.{GoesOn}
 use Rattle.crash_promises.proofs.Tellings.{still}
 use Rattle.cli_append.specs.Appending.{IsKnown, GoesFrom}
+use Rattle.cli_append.proofs.ByLog.{log_stands}
 use Rattle.cli_append.proofs.Frames.{rests_each}
 
 rests_told : (state : Option DiskState) (content : List ℕ) → IsSettled state → content_of state ≡ Some content → Rests state (λ c. c ≡ content)
@@ -25,15 +28,15 @@ is_told (Some s) content told = refl
 
 module _ {D : Type 0} (now : D → ℕ) (disk : D → ℕ → Option DiskState) (told : D → Option (List Tell)) where
   -- the disk is left as it is
-  pub stays_any : (old new : D) (content : List ℕ) → IsSettled (disk old (now old)) → content_of (disk old (now old)) ≡ Some content → Stays now disk old new → Keeps now disk old new (MayLeaveAny next_in_chain content)
-  stays_any old new content settled here stays =
-      weaker now disk old new (λ c. c ≡ content) (MayLeaveAny next_in_chain content)
-      (still next_in_chain now disk told old new (λ c. c ≡ content) (rests_each (disk old (now old)) (λ c. c ≡ content) (rests_told (disk old (now old)) content settled here)) stays)
+  pub stays_any : (next : NextBlock) (old new : D) (content : List ℕ) → IsSettled (disk old (now old)) → content_of (disk old (now old)) ≡ Some content → Stays now disk old new → Keeps now disk old new (MayLeaveAny next content)
+  stays_any next old new content settled here stays =
+      weaker now disk old new (λ c. c ≡ content) (MayLeaveAny next content)
+      (still next now disk told old new (λ c. c ≡ content) (rests_each (disk old (now old)) (λ c. c ≡ content) (rests_told (disk old (now old)) content settled here)) stays)
       (λ c same. (NoChange, same))
 
   -- in two steps
-  pub stays_twice : (old mid new : D) → IsSettled (disk old (now old)) → Stays now disk old mid → Stays now disk mid new → (content : List ℕ) → content_of (disk old (now old)) ≡ Some content → Keeps now disk old new (MayLeaveAny next_in_chain content)
-  stays_twice old mid new settled begins stays content here = stays_any old new content settled here (stays_on now disk old mid new begins stays)
+  pub stays_twice : (next : NextBlock) (old mid new : D) → IsSettled (disk old (now old)) → Stays now disk old mid → Stays now disk mid new → (content : List ℕ) → content_of (disk old (now old)) ≡ Some content → Keeps now disk old new (MayLeaveAny next content)
+  stays_twice next old mid new settled begins stays content here = stays_any next old new content settled here (stays_on now disk old mid new begins stays)
 
   -- `append`, over the node that it started with
   pub append_any : (old mid new : D) (node : NodeState) → IsSettled (disk old (now old)) → Stays now disk old mid
@@ -44,13 +47,27 @@ module _ {D : Type 0} (now : D → ℕ) (disk : D → ℕ → Option DiskState) 
       let s = started content here in
       let blocks : List Block = s.0 in
       let still_known : IsKnown (disk mid (now mid)) = ap is_some begins.last ∙ is_told (disk old (now old)) content here in
-      then_keeps now disk old mid new (MayLeaveAny next_in_chain content) (stays_any old mid content settled here begins)
+      then_keeps now disk old mid new (MayLeaveAny next_in_chain content) (stays_any next_in_chain old mid content settled here begins)
       (weaker now disk mid new (GoesFrom blocks) (MayLeaveAny next_in_chain content) (goes blocks s.2 still_known)
       (λ c more. (Appends more.0, (blocks, s.1, (length more.0, more.1 ∙ ap (λ (b : List Block). Some (blocks ++ b)) (sym (take-length more.0)))))))
 
+  -- and so by the log alone, over any node that is ready
+  pub append_log : (old mid new : D) (log : LogState) → IsSettled (disk old (now old)) → Stays now disk old mid → Rests (disk mid (now mid)) (Agrees log)
+      → ((content : List ℕ) → content_of (disk mid (now mid)) ≡ Some content → Keeps now disk mid new (GoesOn next_in_log content))
+      → (content : List ℕ) → content_of (disk old (now old)) ≡ Some content → Keeps now disk old new (MayLeaveAny next_in_log content)
+  append_log old mid new log settled begins rests goes content here =
+      let there : content_of (disk mid (now mid)) ≡ Some content = ap content_of begins.last ∙ here in
+      let stands = log_stands log (disk mid (now mid)) content rests there in
+      let blocks : List Block = stands.0 in
+      then_keeps now disk old mid new (MayLeaveAny next_in_log content) (stays_any next_in_log old mid content settled here begins)
+      (weaker now disk mid new (GoesOn next_in_log content) (MayLeaveAny next_in_log content) (goes content there)
+      (λ c on.
+      let more = on blocks stands.1 in
+      (Appends more.0, (blocks, stands.1, (length more.0, more.1 ∙ ap (λ (b : List Block). Some (blocks ++ b)) (sym (take-length more.0)))))))
+
   -- a command that changes the log or does not
-  pub any_command : (changes held : Bool) (old new : D) → IsSettled (disk old (now old)) → (changes ≡ false → Stays now disk old new)
-      → (changes ≡ true → held ≡ true → (content : List ℕ) → content_of (disk old (now old)) ≡ Some content → Keeps now disk old new (MayLeaveAny next_in_chain content))
-      → held ≡ true → (content : List ℕ) → content_of (disk old (now old)) ≡ Some content → Keeps now disk old new (MayLeaveAny next_in_chain content)
-  any_command false held old new settled stays goes told content here = stays_any old new content settled here (stays refl)
-  any_command true held old new settled stays goes told content here = goes refl told content here
+  pub any_command : (next : NextBlock) (changes : Bool) (old new : D) → IsSettled (disk old (now old)) → (changes ≡ false → Stays now disk old new)
+      → (changes ≡ true → (content : List ℕ) → content_of (disk old (now old)) ≡ Some content → Keeps now disk old new (MayLeaveAny next content))
+      → (content : List ℕ) → content_of (disk old (now old)) ≡ Some content → Keeps now disk old new (MayLeaveAny next content)
+  any_command next false old new settled stays goes content here = stays_any next old new content settled here (stays refl)
+  any_command next true old new settled stays goes content here = goes refl content here

@@ -6,6 +6,7 @@ ghost use Rattle.lc_io.specs.Disk.{Stays};
 ghost use Rattle.disk_model.specs.Disk.{IsSettled, Keeps, content_of};
 ghost use Rattle.byte_fields.specs.Spelling.{IsBytes};
 ghost use Rattle.block_codec.specs.{Reading.{block_in}, Spelling.{Decoder, IsDecoder}};
+ghost use Rattle.block_log.specs.Log.{next_in_log};
 ghost use Rattle.chain_exec.specs.Compiled.{Compiler, IsCompiler, compiled_in};
 ghost use Rattle.cli_words.specs.{
   declared.words.Command.{Command as Commands},
@@ -15,7 +16,7 @@ ghost use Rattle.scratch_model.specs.Scratch.{is_known};
 ghost use Rattle.recovery.specs.Node.{next_in_chain};
 ghost use Rattle.crash_promises.specs.Promises.{MayLeaveAny};
 ghost use Rattle.cli_output.specs.{
-  Output.{FormatsAgain, IsWanted, IsOneOutput, next_by, reads_input, uses_disk, uses_scratch, changes_log, tells_as_it_goes},
+  Output.{FormatsAgain, IsWanted, IsOneOutput, log_next_by, next_by, reads_input, uses_disk, uses_scratch, changes_log, tells_as_it_goes},
   Running.{IsRun, IsSilent, MayEnd, found_no_log},
   Showing.{VerifiedAnswersHold, WrongAnswersAreTold},
   Telling.{status_of_result},
@@ -52,6 +53,8 @@ fn run_command<I: Source, M: Disk + Wire, S: Scratch>(
     ensures unread { reads_input (Some command.now) ≡ false → source.new ≡ source.old }
     ensures goes_on { changes_log (Some command.now) ≡ true → is_known (S.state scratch.old) ≡ true → (content : List ℕ) → content_of (M.disk machine.old (M.now machine.old)) ≡ Some content
         → Keeps M.now M.disk machine.old machine.new (MayLeaveAny next_in_chain content) }
+    ensures log_goes_on { changes_log (Some command.now) ≡ true → (content : List ℕ) → content_of (M.disk machine.old (M.now machine.old)) ≡ Some content
+        → Keeps M.now M.disk machine.old machine.new (MayLeaveAny next_in_log content) }
     ensures unused { uses_disk (Some command.now) ≡ false → M.disk_faults machine.new ≡ M.disk_faults machine.old }
     ensures unused_scratch { uses_scratch (Some command.now) ≡ false → scratch.new ≡ scratch.old }
     ensures ends { MayEnd (status_of_result result) (Some command.now) }
@@ -96,6 +99,8 @@ fn run_words<I: Source, M: Disk + Wire, S: Scratch>(
     ensures unread { reads_input command ≡ false → source.new ≡ source.old }
     ensures goes_on { changes_log command ≡ true → is_known (S.state scratch.old) ≡ true → (content : List ℕ) → content_of (M.disk machine.old (M.now machine.old)) ≡ Some content
         → Keeps M.now M.disk machine.old machine.new (MayLeaveAny next_in_chain content) }
+    ensures log_goes_on { changes_log command ≡ true → (content : List ℕ) → content_of (M.disk machine.old (M.now machine.old)) ≡ Some content
+        → Keeps M.now M.disk machine.old machine.new (MayLeaveAny next_in_log content) }
     ensures unused { uses_disk command ≡ false → M.disk_faults machine.new ≡ M.disk_faults machine.old }
     ensures unused_scratch { uses_scratch command ≡ false → scratch.new ≡ scratch.old }
     ensures ends { MayEnd result command }
@@ -153,6 +158,11 @@ pub fn run<I: Source, M: Disk + Wire, S: Scratch>(
     ensures goes_on { (read : Decoder) × IsDecoder read × ((compile : Compiler) × IsCompiler compile
         × (is_known (S.state scratch.old) ≡ true → (content : List ℕ) → content_of (M.disk machine.old (M.now machine.old)) ≡ Some content
         → Keeps M.now M.disk machine.old machine.new (MayLeaveAny (next_by read compile) content))) }
+    // The same whatever the scratch device gives, rows not counted: the blocks from before stay, and what
+    // follows them is blocks, each placed by its digest, its number and its budget.
+    ensures log_goes_on { (read : Decoder) × IsDecoder read
+        × ((content : List ℕ) → content_of (M.disk machine.old (M.now machine.old)) ≡ Some content
+        → Keeps M.now M.disk machine.old machine.new (MayLeaveAny (log_next_by read) content)) }
     // Whatever the source has left and the disk holds: a command that does not change the log leaves
     // the disk as it is;
     ensures untouched { (command : Option Commands) → IsCommand (map string_bytes words.now) command

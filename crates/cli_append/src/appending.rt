@@ -7,11 +7,13 @@ ghost use Rattle.block_codec.specs.{
   declared.block.Block.{Block},
   declared.limits.TheConstants.{MAX_FRAMES},
 };
+ghost use Rattle.block_log.specs.Log.{next_in_log};
 ghost use Rattle.chain_exec.specs.Compiled.{compiled_in};
 ghost use Rattle.chain_input.specs.Folding.{fold_from};
 ghost use Rattle.scratch_model.specs.Scratch.{is_known, Retains};
 ghost use Rattle.recovery.specs.Node.{IsNodeOf, IsReady};
-ghost use Rattle.disk_model.specs.Disk.{Keeps};
+ghost use Rattle.disk_model.specs.Disk.{Keeps, content_of};
+ghost use Rattle.crash_promises.specs.Laws.{GoesOn};
 ghost use Rattle.cli_append.specs.Appending.{AppendsAll, GoesFrom, IsKnown};
 
 use crate::ending::{AppendEnd, RunStop};
@@ -42,6 +44,9 @@ pub fn append<I: Source, M: Disk + Wire, S: Scratch>(
     // Whether or not it is known what the source has left, where it is known which bytes the scratch
     // device holds: a crash at any moment leaves the chain from before, and any blocks after it.
     ensures goes_on { is_known (S.state scratch.old) ≡ true → (blocks : List Block) → IsNodeOf node (M.disk machine.old (M.now machine.old)) blocks → IsKnown (M.disk machine.old (M.now machine.old)) → Keeps M.now M.disk machine.old machine.new (GoesFrom blocks) }
+    // Whatever the source has left and the scratch device gives, where the disk is known: a crash at any
+    // moment leaves the chain from before, and any blocks after it, rows not counted.
+    ensures log_goes_on { (content : List ℕ) → content_of (M.disk machine.old (M.now machine.old)) ≡ Some content → Keeps M.now M.disk machine.old machine.new (GoesOn next_in_log content) }
     // What was on the scratch device stays there.
     ensures retains { Retains (S.state scratch.old) (S.state scratch.new) }
     // A source, a disk, a scratch device or a wire is blamed only where it failed.

@@ -10,6 +10,7 @@ use Rattle.block_codec.specs.Spelling.{Decoder, IsDecoder}
 use Rattle.block_codec.specs.declared.block.Block.{Block}
 use Rattle.block_codec.specs.declared.limits.TheConstants.{MAX_FRAMES}
 use Rattle.block_log.specs.Standing.{Standing, Blank, NotALog, Damaged, Holds, NextBlock, next_block, blocks_in, standing}
+use Rattle.block_log.specs.Log.{log_placement}
 use Rattle.contract_tree.specs.Tree.{FunctionTree}
 use Rattle.contract_parse.specs.Syntax.{Outcome as SourceOutcome, IsOutcome}
 use Rattle.contract_check.specs.Faults.{check_fault}
@@ -167,6 +168,10 @@ load_output compile generation input = output_of (load_outcome compile generatio
 -- The next block of a chain, by a decoder and a compiler.
 abbrev pub next_by : Decoder → Compiler → NextBlock
 next_by read compile = next_block read (placement_in compile)
+
+-- The next block of a log by itself, which runs none and so counts no row, by a decoder.
+abbrev pub log_next_by : Decoder → NextBlock
+log_next_by read = next_block read log_placement
 
 -- What is told where the bytes on the disk are something else than a log. The input stays as it is.
 abbrev pub not_a_log_output : List ℕ → Output

@@ -12,7 +12,7 @@ use Rattle.block_codec.specs.Placement.{last_digest}
 use Rattle.block_codec.specs.declared.block.Block.{Block}
 use Rattle.block_log.specs.Standing.{Standing, NotALog, Damaged, NextBlock, next_block, blocks_of}
 use Rattle.block_log.specs.Standing.{chain_of}
-use Rattle.block_log.specs.Log.{LogState, Agrees}
+use Rattle.block_log.specs.Log.{LogState, Agrees, IsOldOrNew, next_in_log}
 use Rattle.block_log.specs.declared.layout.Stored.{Stored}
 use Rattle.chain_exec.specs.Compiled.{compiled_in}
 use Rattle.chain_exec.specs.Fold.{block_effects}
@@ -111,6 +111,12 @@ abbrev pub IsStepOf : List Block → Result Taken Refusal → List ℕ → Type 
 IsStepOf blocks (Ok frame) image = (chain_in image ≡ Some blocks)
     ⊎ (chain_in image ≡ Some (blocks ++ added_by frame))
 IsStepOf blocks (Err refusal) image = chain_in image ≡ Some blocks
+
+-- What a crash may leave of the log by itself, rows not counted, while bytes that spell so are taken:
+-- the chain from before, or that with the block that they spell.
+abbrev pub IsLogStepOf : List Block → Result Block ℕ → List ℕ → Type 0
+IsLogStepOf blocks (Ok block) image = IsOldOrNew next_in_log blocks block image
+IsLogStepOf blocks (Err offset) image = chain_of next_in_log image ≡ Some blocks
 
 -- What is told of bytes that are judged so. A block that is held already leaves the node as it was;
 -- of one that was added the rows, the receipts, and the root at it are told.

@@ -5,9 +5,10 @@ ghost use Rattle.lc_base.specs.Faults.{HasCause};
 ghost use Rattle.scratch_model.specs.Scratch.{is_known, Serves};
 ghost use Rattle.disk_model.specs.{Disk.{Keeps, content_of}, Leaving.{LeavesWire}};
 ghost use Rattle.block_codec.specs.{Reading.{block_in}, declared.block.Block.{Block as Blocks}};
+ghost use Rattle.block_log.specs.{Standing.{chain_of}, Log.{next_in_log}};
 ghost use Rattle.chain_exec.specs.Compiled.{compiled_in};
 ghost use Rattle.chain_replay.specs.Judging.{Added, judgement_of, IsNextBlock};
-ghost use Rattle.recovery.specs.Node.{IsNodeOf, IsReady, IsStepOf, IsAppendAnswer, append_error, Blames, HandsBack, IfNode, is_disk_fault, is_scratch_fault, reaches_disk};
+ghost use Rattle.recovery.specs.Node.{IsNodeOf, IsReady, IsStepOf, IsLogStepOf, IsAppendAnswer, append_error, Blames, HandsBack, IfNode, is_disk_fault, is_scratch_fault, reaches_disk};
 
 use crate::errors::AppendError;
 use crate::node::{Appended, Node};
@@ -56,6 +57,10 @@ impl Node {
             → judgement_of compiled_in blocks (block_in bytes.now) ≡ Ok (Added block.now)
             → Keeps M.now M.disk machine.old machine.new
             (IsStepOf blocks (Ok (Added block.now))) }
+        ensures log_images { (blocks : List Blocks) (content : List ℕ)
+            → content_of (M.disk machine.old (M.now machine.old)) ≡ Some content
+            → chain_of next_in_log content ≡ Some blocks
+            → Keeps M.now M.disk machine.old machine.new (IsLogStepOf blocks (block_in bytes.now)) }
         ensures ready { IfNode (λ node. IsReady node (M.disk machine.new (M.now machine.new))
             (S.state scratch.new)) result }
         ensures handed { HandsBack result }
@@ -115,8 +120,15 @@ impl Node {
             → content_of (M.disk machine.old (M.now machine.old)) ≡ Some content
             → Keeps M.now M.disk machine.old machine.new
             (IsStepOf blocks (judgement_of compiled_in blocks (block_in bytes.now))) }
-        // Whether that is known or not: a node that is given, or handed back, is ready for the next
-        // block; and it is handed back exactly where the bytes are refused.
+        // Whether that is known or not, and so whatever the device gives: a crash at any moment leaves
+        // the chain from before the call, or that with the block that the bytes spell, rows not
+        // counted. The rows are all that hangs on the device, and they can but refuse a block.
+        ensures log_images { (blocks : List Blocks) (content : List ℕ)
+            → content_of (M.disk machine.old (M.now machine.old)) ≡ Some content
+            → chain_of next_in_log content ≡ Some blocks
+            → Keeps M.now M.disk machine.old machine.new (IsLogStepOf blocks (block_in bytes.now)) }
+        // A node that is given, or handed back, is ready for the next block; and it is handed back
+        // exactly where the bytes are refused.
         ensures ready { IfNode (λ node. IsReady node (M.disk machine.new (M.now machine.new))
             (S.state scratch.new)) result }
         ensures handed { HandsBack result }

@@ -1,7 +1,7 @@
 //! Storing a block in a log.
 
 ghost use Rattle.std.specs.{
-  Prelude.{◌≡◌, ◌+◌, ℕ, List, [], ◌∷◌, ◌++◌, Some, IfOk, IsErr},
+  Prelude.{◌≡◌, ◌+◌, ℕ, List, [], ◌∷◌, ◌++◌, Some, Ok, IfOk, IsErr},
   Option.{is_some},
 };
 ghost use Rattle.lc_base.specs.Faults.{HasCause};
@@ -13,7 +13,7 @@ ghost use Rattle.block_codec.specs.{
 };
 ghost use Rattle.block_log.specs.{
   Standing.{Placer, chain_of, next_block},
-  Log.{Agrees, IsNextAfter, IsNextOf, IsOldOrNew},
+  Log.{Agrees, IsNextAfter, IsNextOf, IsOldOrNew, next_in_log},
 };
 
 use block_log::{DiskFault, Log};
@@ -32,6 +32,11 @@ pub fn store<M: Disk>(log: Log, machine: &mut M, bytes: &[u8]) -> Result<Log, Di
         → IsNextAfter place content bytes.now blocks block
         → Keeps M.now M.disk machine.old machine.new
         (IsOldOrNew (next_block block_in place) blocks block) }
+    // By the placement of the log, which counts no row, the bytes are its next block.
+    ensures log_images { (content : List ℕ) (blocks : List Block) (block : Block)
+        → content_of (M.disk machine.old (M.now machine.old)) ≡ Some content
+        → chain_of next_in_log content ≡ Some blocks → block_in bytes.now ≡ Ok block
+        → Keeps M.now M.disk machine.old machine.new (IsOldOrNew next_in_log blocks block) }
     ensures added { IfOk result
         (λ longer. (place : Placer) (content : List ℕ) (blocks : List Block) (block : Block)
         → content_of (M.disk machine.old (M.now machine.old)) ≡ Some content

@@ -1,29 +1,38 @@
 use Rattle.std.proofs.Common.{Some, refl, ◌∙◌}
 use Rattle.scratch_model.specs.Scratch.{is_known}
 use Rattle.cli_words.specs.declared.words.Command.TheVariants.{Append}
+use Rattle.block_log.specs.Log.{next_in_log}
 use Rattle.recovery.specs.Node.{next_in_chain}
 use Rattle.chain_cli.proofs.Runs.{append_run_is, append_refused}
 use Rattle.chain_cli.proofs.Ends.{answer_ends, answer_has_log}
-use Rattle.chain_cli.proofs.Moments.{stays_twice, append_any}
+use Rattle.chain_cli.proofs.Moments.{stays_twice, append_any, append_log}
 use Rattle.chain_cli.proofs.over_log.append.Goals as goal
 
 pub returns-in-Ok-clause-run : goal.returns-in-Ok-clause-run
 returns-in-Ok-clause-run g c =
     append_run_is g.M.Clock.now g.M.Clock.disk g.M.Clock.told c.args.machine.now c.start.new.machine c.append.new.machine c.in-Ok.node c.append.result c.append_answer.result (g.I.Source.left c.args.source.now) (g.I.Source.left c.append.new.source) (is_known (g.S.Scratch.state c.args.scratch.now))
-    c.append_answer.ensures c.requires.settled c.start.ensures.machine.stays c.start.ensures.machine.wire.told c.in-Ok.ensures.answer (λ told. c.append.ensures.appends (c.start.ensures.scratch.retains.known ∙ told))
+    c.append_answer.ensures c.requires.settled (c.start.ensures.stays c.requires.settled) c.start.ensures.wire.told c.in-Ok.ensures.answer (λ told. c.append.ensures.appends (c.start.ensures.scratch.retains.known ∙ told))
 
 pub returns-in-Err-clause-run : goal.returns-in-Err-clause-run
 returns-in-Err-clause-run g c =
     append_refused g.M.Clock.now g.M.Clock.disk g.M.Clock.told c.args.machine.now c.start.new.machine c.tell_start.new.machine c.in-Err.error c.tell_start.result (g.I.Source.left c.args.source.now) (is_known (g.S.Scratch.state c.args.scratch.now))
-    c.requires.settled c.start.ensures.machine.stays c.start.ensures.machine.wire.told c.in-Err.ensures.answer c.tell_start.ensures.disk.stays (c.tell_start.ensures.says next_in_chain)
+    c.requires.settled (c.start.ensures.stays c.requires.settled) c.start.ensures.wire.told c.in-Err.ensures.answer c.tell_start.ensures.disk.stays (c.tell_start.ensures.says next_in_chain)
 
 pub returns-in-Ok-clause-goes_on : goal.returns-in-Ok-clause-goes_on
 returns-in-Ok-clause-goes_on g c told =
-    append_any g.M.Clock.now g.M.Clock.disk g.M.Clock.told c.args.machine.now c.start.new.machine c.append.new.machine c.in-Ok.node c.requires.settled c.start.ensures.machine.stays (c.in-Ok.ensures.answer told) (c.append.ensures.goes_on (c.start.ensures.scratch.retains.known ∙ told))
+    append_any g.M.Clock.now g.M.Clock.disk g.M.Clock.told c.args.machine.now c.start.new.machine c.append.new.machine c.in-Ok.node c.requires.settled (c.start.ensures.stays c.requires.settled) (c.in-Ok.ensures.answer told) (c.append.ensures.goes_on (c.start.ensures.scratch.retains.known ∙ told))
 
 pub returns-in-Err-clause-goes_on : goal.returns-in-Err-clause-goes_on
 returns-in-Err-clause-goes_on g c told =
-    stays_twice g.M.Clock.now g.M.Clock.disk g.M.Clock.told c.args.machine.now c.start.new.machine c.tell_start.new.machine c.requires.settled c.start.ensures.machine.stays c.tell_start.ensures.disk.stays
+    stays_twice g.M.Clock.now g.M.Clock.disk g.M.Clock.told next_in_chain c.args.machine.now c.start.new.machine c.tell_start.new.machine c.requires.settled (c.start.ensures.stays c.requires.settled) c.tell_start.ensures.disk.stays
+
+pub returns-in-Ok-clause-log_goes_on : goal.returns-in-Ok-clause-log_goes_on
+returns-in-Ok-clause-log_goes_on g c =
+    append_log g.M.Clock.now g.M.Clock.disk g.M.Clock.told c.args.machine.now c.start.new.machine c.append.new.machine c.in-Ok.node.log c.requires.settled (c.start.ensures.stays c.requires.settled) c.in-Ok.ensures.ready.log c.append.ensures.log_goes_on
+
+pub returns-in-Err-clause-log_goes_on : goal.returns-in-Err-clause-log_goes_on
+returns-in-Err-clause-log_goes_on g c =
+    stays_twice g.M.Clock.now g.M.Clock.disk g.M.Clock.told next_in_log c.args.machine.now c.start.new.machine c.tell_start.new.machine c.requires.settled (c.start.ensures.stays c.requires.settled) c.tell_start.ensures.disk.stays
 
 pub returns-in-Ok-clause-ends : goal.returns-in-Ok-clause-ends
 returns-in-Ok-clause-ends g c = rw c.append_answer.ensures (answer_ends c.append.result)

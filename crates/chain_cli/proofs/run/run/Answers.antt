@@ -1,9 +1,11 @@
 use Rattle.std.proofs.Common.{refl}
 use Rattle.block_codec.specs.Reading.{block_in}
+use Rattle.block_log.specs.Log.{next_in_log}
 use Rattle.scratch_model.specs.Scratch.{is_known}
 use Rattle.block_codec.proofs.WholeBlocks.{decided}
 use Rattle.chain_exec.specs.Compiled.{compiled_in}
 use Rattle.chain_exec.proofs.TheLaws.{one_compiler}
+use Rattle.recovery.specs.Node.{next_in_chain}
 use Rattle.cli_output.specs.Output.{changes_log}
 use Rattle.chain_cli.proofs.Runs.{with_status}
 use Rattle.chain_cli.proofs.Moments.{any_command}
@@ -28,6 +30,13 @@ returns-clause-goes_on g c = (
   (
     compiled_in,
     one_compiler.is_compiler,
-    any_command g.M.Clock.now g.M.Clock.disk g.M.Clock.told (changes_log c.command_of-command.result) (is_known (g.S.Scratch.state c.args.scratch.now)) c.args.machine.now c.run_words.new.machine c.requires.settled c.run_words.ensures.untouched c.run_words.ensures.goes_on,
+    λ held. any_command g.M.Clock.now g.M.Clock.disk g.M.Clock.told next_in_chain (changes_log c.command_of-command.result) c.args.machine.now c.run_words.new.machine c.requires.settled c.run_words.ensures.untouched (λ changes. c.run_words.ensures.goes_on changes held),
   ),
+)
+
+pub returns-clause-log_goes_on : goal.returns-clause-log_goes_on
+returns-clause-log_goes_on g c = (
+  block_in,
+  decided,
+  any_command g.M.Clock.now g.M.Clock.disk g.M.Clock.told next_in_log (changes_log c.command_of-command.result) c.args.machine.now c.run_words.new.machine c.requires.settled c.run_words.ensures.untouched c.run_words.ensures.log_goes_on,
 )

@@ -1,8 +1,12 @@
 use Rattle.std.proofs.Common.{Ok, Err, refl, arith, ◌∙◌}
 use Rattle.scratch_model.proofs.Retaining.{retains_refl, retains_trans}
+use Rattle.disk_model.proofs.Calls.{stay_keeps}
+use Rattle.block_log.specs.Log.{next_in_log}
 use Rattle.recovery.specs.Node.{next_in_chain}
+use Rattle.crash_promises.specs.Laws.{GoesOn}
 use Rattle.cli_append.proofs.Loop.{begun, goes_on, whole_input, refused_form, refused_block}
 use Rattle.cli_append.proofs.Loop.{stopped_before, stopped_at, goes_from, goes_still, goes_step}
+use Rattle.cli_append.proofs.ByLog.{log_begun, log_more}
 use Rattle.cli_append.proofs.appending.append.Goals as goal
 
 pub turns-init : goal.turns-init
@@ -16,6 +20,8 @@ turns-init g c = rw c.new-frames.ensures (record {
   retains = retains_refl (g.S.Scratch.state c.args.scratch.now);
   taken = λ told first is. begun g.M.Clock.now g.M.Clock.disk g.M.Clock.told c.args.machine.now
       c.args.node _ first is;
+  log_goes_on = log_begun g.M.Clock.now g.M.Clock.disk c.args.machine.now c.args.node.log
+      c.requires.ready.log;
 })
 
 pub returns-in-Ok-None-clause-appends : goal.returns-in-Ok-None-clause-appends
@@ -92,6 +98,10 @@ turns-preserved g c =
           (rw c.in-Ok-Some.field-0-is at c.in-Ok-Some.ensures.answer)
           ((rw (c.as_bytes.ensures, c.in-Ok-Ok.field-0-is) at c.in-Ok-Ok.ensures.takes)
           (c.turns.invariant.retains.known ∙ told));
+      log_goes_on = λ content told. log_more g.M.Clock.now g.M.Clock.disk c.args.machine.now
+          c.turns.machine c.take_frame.new.machine c.turns.node.log content told
+          (c.turns.invariant.log_goes_on content told) c.turns.invariant.ready.log
+          c.take_frame.ensures.log_goes_on;
     }
 
 pub returns-in-Ok-clause-appends : goal.returns-in-Ok-clause-appends
@@ -149,3 +159,22 @@ returns-in-Err-take_frame-clause-goes_on g c told first is is_told = goes_step g
     first c.in-Ok-Some.bytes (Err c.in-Err-take_frame.stop) (c.turns.invariant.taken told first is)
     ((rw c.as_bytes.ensures at c.in-Err-take_frame.ensures.takes)
     (c.turns.invariant.retains.known ∙ told)) is_told
+
+pub returns-in-Ok-clause-log_goes_on : goal.returns-in-Ok-clause-log_goes_on
+returns-in-Ok-clause-log_goes_on g c content told = stay_keeps g.M.Clock.now g.M.Clock.disk
+    c.args.machine.now c.turns.machine c.refuse-in-Ok.new.machine (GoesOn next_in_log content)
+    (c.turns.invariant.log_goes_on content told) c.refuse-in-Ok.ensures.disk.stays
+
+pub returns-in-Ok-Err-clause-log_goes_on : goal.returns-in-Ok-Err-clause-log_goes_on
+returns-in-Ok-Err-clause-log_goes_on g c content told = stay_keeps g.M.Clock.now g.M.Clock.disk
+    c.args.machine.now c.take_frame.new.machine c.refuse.new.machine (GoesOn next_in_log content)
+    (log_more g.M.Clock.now g.M.Clock.disk c.args.machine.now c.turns.machine
+    c.take_frame.new.machine c.turns.node.log content told
+    (c.turns.invariant.log_goes_on content told) c.turns.invariant.ready.log
+    c.take_frame.ensures.log_goes_on) c.refuse.ensures.disk.stays
+
+pub returns-in-Err-take_frame-clause-log_goes_on : goal.returns-in-Err-take_frame-clause-log_goes_on
+returns-in-Err-take_frame-clause-log_goes_on g c content told = log_more g.M.Clock.now
+    g.M.Clock.disk c.args.machine.now c.turns.machine c.take_frame.new.machine c.turns.node.log
+    content told (c.turns.invariant.log_goes_on content told) c.turns.invariant.ready.log
+    c.take_frame.ensures.log_goes_on

@@ -6,6 +6,7 @@ use Rattle.recovery.specs.Node.{next_in_chain}
 use Rattle.cli_append.proofs.Causes.{carried, kept}
 use Rattle.cli_append.proofs.Frames.{takes_whole, takes_part, takes_none, takes_refusal}
 use Rattle.cli_append.proofs.Frames.{images_told}
+use Rattle.cli_append.proofs.ByLog.{log_taken, log_told}
 use Rattle.cli_append.proofs.taking.take_frame.Goals as goal
 
 pub returns-in-Ok-tell_line-clause-takes : goal.returns-in-Ok-tell_line-clause-takes
@@ -107,3 +108,40 @@ returns-in-Ok-appended_line-clause-disk_fault g c =
     kept (g.M.Clock.disk_faults c.args.machine.now) (g.M.Clock.disk_faults c.append.new.machine)
     (g.M.Clock.disk_faults c.tell_line.new.machine) _ _ c.tell_line.ensures.disk.faults
     c.in-Ok.ensures.disk_cause (λ b. absurd b) (λ b. absurd (cc b))
+
+pub returns-in-Ok-tell_line-clause-log_goes_on : goal.returns-in-Ok-tell_line-clause-log_goes_on
+returns-in-Ok-tell_line-clause-log_goes_on g c content told = log_told g.M.Clock.now g.M.Clock.disk
+    c.args.machine.now c.append.new.machine c.tell_line.new.machine c.args.node.log content
+    (block_in c.args.frame.now) c.requires.ready.log told c.append.ensures.log_images
+    c.tell_line.ensures.disk.stays
+
+pub returns-in-Ok-appended_line-clause-log_goes_on : goal.returns-in-Ok-appended_line-clause-log_goes_on
+returns-in-Ok-appended_line-clause-log_goes_on g c content told = log_told g.M.Clock.now g.M.Clock.disk
+    c.args.machine.now c.append.new.machine c.tell_line.new.machine c.args.node.log content
+    (block_in c.args.frame.now) c.requires.ready.log told c.append.ensures.log_images
+    c.tell_line.ensures.disk.stays
+
+pub returns-in-Ok-clause-log_goes_on : goal.returns-in-Ok-clause-log_goes_on
+returns-in-Ok-clause-log_goes_on g c content told = log_taken g.M.Clock.now g.M.Clock.disk
+    c.args.machine.now c.append.new.machine c.args.node.log content
+    (block_in c.args.frame.now) c.requires.ready.log told c.append.ensures.log_images
+
+pub returns-in-Refused-clause-log_goes_on : goal.returns-in-Refused-clause-log_goes_on
+returns-in-Refused-clause-log_goes_on g c content told = log_taken g.M.Clock.now g.M.Clock.disk
+    c.args.machine.now c.append.new.machine c.args.node.log content
+    (block_in c.args.frame.now) c.requires.ready.log told c.append.ensures.log_images
+
+pub returns-in-DiskFault-clause-log_goes_on : goal.returns-in-DiskFault-clause-log_goes_on
+returns-in-DiskFault-clause-log_goes_on g c content told = log_taken g.M.Clock.now g.M.Clock.disk
+    c.args.machine.now c.append.new.machine c.args.node.log content
+    (block_in c.args.frame.now) c.requires.ready.log told c.append.ensures.log_images
+
+pub returns-in-ScratchFault-clause-log_goes_on : goal.returns-in-ScratchFault-clause-log_goes_on
+returns-in-ScratchFault-clause-log_goes_on g c content told = log_taken g.M.Clock.now g.M.Clock.disk
+    c.args.machine.now c.append.new.machine c.args.node.log content
+    (block_in c.args.frame.now) c.requires.ready.log told c.append.ensures.log_images
+
+pub returns-clause-log_goes_on : goal.returns-clause-log_goes_on
+returns-clause-log_goes_on g c content told = log_taken g.M.Clock.now g.M.Clock.disk
+    c.args.machine.now c.append.new.machine c.args.node.log content
+    (block_in c.args.frame.now) c.requires.ready.log told c.append.ensures.log_images

@@ -15,6 +15,7 @@ use Rattle.rooted_chain.specs.Roots.{kept_in}
 use Rattle.recovery.specs.Node.{NodeState, AreOfBlocks, IsNodeOf}
 use Rattle.recovery.specs.contracts.node.Node.{the_view}
 use Rattle.recovery.proofs.Placing.{next_of_log}
+use Rattle.recovery.proofs.ByLog.{still_log, spelled_log}
 use Rattle.recovery.proofs.Nodes.{is_added, still, next_after, longer_node, one_more}
 use Rattle.recovery.proofs.node.Node.add.Given.{Over}
 use Rattle.recovery.proofs.node.Node.add.Goals as goal
@@ -134,3 +135,22 @@ returns-in-Err-store-clause-images g c told blocks content is shown judgement =
     c.store.ensures.images (placement_in compiled_in) content blocks c.args.block.now shown
     (next_after c.args.self (g.M.Clock.disk c.args.machine.now (g.M.Clock.now c.args.machine.now))
     blocks content c.args.bytes.now c.args.block.now is shown c.requires.next.decoded judgement)
+
+pub returns-in-Err-clause-log_images : goal.returns-in-Err-clause-log_images
+returns-in-Err-clause-log_images g c blocks content told stands = still_log g.M.Clock.now
+    g.M.Clock.disk c.args.machine.now c.args.self.log content blocks (block_in c.args.bytes.now)
+    c.requires.ready.log told stands
+
+pub returns-in-Ok-store-clause-log_images : goal.returns-in-Ok-store-clause-log_images
+returns-in-Ok-store-clause-log_images g c blocks content told stands = spelled_log g.M.Clock.now
+    g.M.Clock.disk c.args.machine.now c.store.new.machine blocks c.args.block.now
+    (block_in c.args.bytes.now) c.requires.next.decoded
+    (c.store.ensures.log_images content blocks c.args.block.now told stands
+    c.requires.next.decoded)
+
+pub returns-in-Err-store-clause-log_images : goal.returns-in-Err-store-clause-log_images
+returns-in-Err-store-clause-log_images g c blocks content told stands = spelled_log g.M.Clock.now
+    g.M.Clock.disk c.args.machine.now c.store.new.machine blocks c.args.block.now
+    (block_in c.args.bytes.now) c.requires.next.decoded
+    (c.store.ensures.log_images content blocks c.args.block.now told stands
+    c.requires.next.decoded)

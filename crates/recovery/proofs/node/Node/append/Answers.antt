@@ -8,6 +8,7 @@ use Rattle.chain_replay.specs.declared.refusal.Refusal.{Refusal}
 use Rattle.chain_replay.proofs.Judgements.{added}
 use Rattle.rooted_chain.specs.Roots.{kept_in}
 use Rattle.recovery.specs.Node.{NodeState, IsStepOf}
+use Rattle.recovery.proofs.ByLog.{still_log}
 use Rattle.recovery.proofs.Nodes.{still, still_only}
 use Rattle.recovery.proofs.node.Node.append.Goals as goal
 
@@ -57,3 +58,18 @@ pub returns-in-Err-clause-only_image : goal.returns-in-Err-clause-only_image
 returns-in-Err-clause-only_image g c unreached content shown = still_only g.M.Clock.now
     g.M.Clock.disk c.args.machine.now c.args.machine.now c.args.self.log refl c.requires.ready.log
     content shown
+
+pub returns-in-Ok-Known-clause-log_images : goal.returns-in-Ok-Known-clause-log_images
+returns-in-Ok-Known-clause-log_images g c blocks content told stands = still_log g.M.Clock.now
+    g.M.Clock.disk c.args.machine.now c.args.self.log content blocks (block_in c.args.bytes.now)
+    c.requires.ready.log told stands
+
+pub returns-in-Ok-Refused-clause-log_images : goal.returns-in-Ok-Refused-clause-log_images
+returns-in-Ok-Refused-clause-log_images g c blocks content told stands = still_log g.M.Clock.now
+    g.M.Clock.disk c.args.machine.now c.args.self.log content blocks (block_in c.args.bytes.now)
+    c.requires.ready.log told stands
+
+pub returns-in-Err-clause-log_images : goal.returns-in-Err-clause-log_images
+returns-in-Err-clause-log_images g c blocks content told stands = still_log g.M.Clock.now
+    g.M.Clock.disk c.args.machine.now c.args.self.log content blocks (block_in c.args.bytes.now)
+    c.requires.ready.log told stands
