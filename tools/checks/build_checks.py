@@ -26,6 +26,7 @@ version) echo "{KIT}"; exit ;;
 doc) echo FOLDER/kit/page; exit ;;
 esac
 [ -e FOLDER/fails ] && exit 1
+if [ -e FOLDER/hangs ]; then echo $$ > FOLDER/hangs; exec sleep 60; fi
 case $1 in
 try) mkdir -p $TMPDIR/try; echo module > $TMPDIR/try/module.bc; echo > $TMPDIR/try/next; sleep 60 ;;
 run) cp FOLDER/proved TREE/crates/lineage/out/lineage ;;
@@ -49,6 +50,11 @@ while [ "$1" != -o ]; do shift; done
 PROVING = ["all check", "run -- scan hist raw/a 0", "version"]
 BUILDING = ["try", "doc", "clang", "link", "version"]
 GEN = ["gen", "1", "0"]
+# How long a run may take, and how often it is looked how far one is, in seconds.
+RUN_LIMIT = 60
+PERIOD = 0.1
+# The status of a run that was asked to end.
+ENDED = 143
 NOT_YET = "not proved: this clone has not checked the proofs"
 NOT_ANY_MORE = "not proved any more"
 
@@ -144,10 +150,38 @@ def check(checks, tree, folder):
     put(source, "one\n")
     ask("the proved program was changed", GEN, 0, BUILDING, NOT_ANY_MORE)
     shutil.rmtree(f"{tree}/out")
+    builds_that_end(clone)
+    shutil.rmtree(f"{tree}/out")
     ask("nothing was built here", GEN, 0, BUILDING, NOT_YET)
     ask("it was built here without proofs", GEN, 0, [], NOT_YET)
     refuse_unproved(clone, "no proved program here")
     ask("the input is none", ["scan", "hist", "raw/a", "0"], 9, [], NOT_YET, b"beyond empty\n")
+
+
+def builds_that_end(clone):
+    """A build that is ended leaves nothing behind, and one that waited for it goes on."""
+    hangs, environment = f"{clone.folder}/hangs", {**os.environ, "PATH": clone.tools}
+    put(hangs, "")
+    how = {"env": environment, "cwd": clone.folder, "stdin": subprocess.DEVNULL}
+    streams = {"stdout": subprocess.PIPE, "stderr": subprocess.PIPE, "text": True, "errors": "replace"}
+    first = subprocess.Popen([f"{clone.tree}/lineage", *GEN], **how, **streams)
+    while not (started := text_of(hangs)):
+        time.sleep(PERIOD)
+    second = subprocess.Popen([f"{clone.tree}/lineage", *GEN], **how, **streams)
+    said = [second.stderr.readline() for _ in range(2)]
+    clone.checks.holds(f"{said} says that it waits", "waiting for another build to end" in said[1])
+    os.remove(hangs)
+    first.terminate()
+    clone.checks.same("the status of a build that is ended", first.wait(RUN_LIMIT), ENDED)
+    clone.checks.holds("the toolchain is ended with it", not os.path.exists(f"/proc/{started.strip()}"))
+    clone.checks.same("the status of one that waited", second.wait(RUN_LIMIT), 0)
+    left = sorted(os.listdir(f"{clone.tree}/out/unproved"))
+    clone.checks.same("what builds leave", left, ["lineage", "lineage.built", "lock"])
+
+
+def text_of(path):
+    with open(path, encoding="utf-8") as file:
+        return file.read()
 
 
 def same_bytes(clone, path, name):

@@ -3,8 +3,8 @@
 An indented line that begins with `$ ` is a command of a shell, and the lines below it, up to the next
 command or the end of the indented lines, are what it prints on standard output. The commands of a page
 are run by one shell, in one folder that has `lineage`, `examples`, `tools` and `verifiers`; at the end
-of the page they must have left no file there but the log. Commands without a `$` are not run. These come
-from a tree whose `lineage` has its program already (tools/checks/wrapper_checks.py makes one).
+of the page they must have left no file there, so that the pages can be walked one after the other.
+Commands without a `$` are not run. These come from a tree whose `lineage` has its program already (tools/checks/wrapper_checks.py makes one).
 """
 import dataclasses
 import os
@@ -12,7 +12,6 @@ import shutil
 import subprocess
 import tempfile
 
-from checks.log_runs import LOG
 from places import TOP
 
 PAGES = ["README.md", "examples/README.md"]
@@ -69,7 +68,7 @@ def ran_page(commands, tree):
             stderr=subprocess.DEVNULL,
             timeout=PAGE_LIMIT,
         )
-        left = sorted(set(os.listdir(folder)) - {*COPIED, *LINKED, LOG})
+        left = sorted(set(os.listdir(folder)) - {*COPIED, *LINKED})
     return ran.stdout.decode(errors="backslashreplace").split(f"{END}\n")[:-1], left
 
 

@@ -379,8 +379,8 @@ def help_texts(checks, wrapper):
                 checks.holds(f"help of {first} has {line!r}", line in printed.decode())
         with open(f"{TOP}/tools/lineage-completion.bash", encoding="utf-8") as file:
             completed = re.search(r'-W "([^"]*)"', file.read())[1].replace("\\", " ").split()
-        own = {form.split()[0] for form, _ in commands.OWN_FORMS}
-        checks.same("words that a shell completes", sorted(completed), sorted({*commands.first_words(), *own, "--help"}))
+        first = {*commands.first_words(), *(form.split()[0] for form, _ in commands.OWN_FORMS), "--help"}
+        checks.same("words that a shell completes", sorted(completed), sorted(first))
         checks.same("help of the words of `root`", run(wrapper, "help root 1", b"", folder)[:2], (b"", 1))
         checks.same("help of no command", run(wrapper, "help me", b"", folder)[:2], (b"", 1))
         shutil.copytree(f"{TOP}/examples", f"{folder}/examples")

@@ -214,8 +214,9 @@ def listed():
     """All commands, each with what it does."""
     rows = [(command.form, command.meaning) for command in COMMANDS] + OWN_FORMS
     lines = [f"{form:{FORM_COLUMNS}}{meaning}" for form, meaning in rows]
-    kinds = "KIND is hist, the value of KEY; back, what it was derived from; or fwd, what was derived from it."
-    return "\n".join([*lines, kinds, "BLOCK left out is the last one. A command reads standard input, where it reads one."])
+    lines.append("KIND is hist, the value of KEY; back, what it was derived from; or fwd, what was derived from it.")
+    lines.append("BLOCK left out is the last one. A command reads standard input, where it reads one.")
+    return "\n".join(lines)
 
 
 def described(command):

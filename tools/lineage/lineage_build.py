@@ -68,7 +68,8 @@ def ensure_program():
     if found or not has_toolchain():
         return found
     why = "the sources are others than those that were proved" if PROVED.words() else "nothing is proved here"
-    say(f"{why}; building the program without its proofs, which takes some two minutes")
+    slower = "it is some five times slower than the proved one"
+    say(f"{why}; building the program without its proofs, which takes some two minutes; {slower}")
     return build_unproved(UNPROVED)
 
 
