@@ -80,7 +80,9 @@ more_rows start old number at rows more newest staged so_far new =
 
 -- ---- receipts
 
-receipts_push : (txs : List Tx) (receipts : List Receipt) (tx : Tx) (receipt : Receipt) → AreWithinBudgets txs receipts → IsWithinBudget tx receipt → AreWithinBudgets (txs ++ tx ∷ []) (receipts ++ receipt ∷ [])
+pub receipts_push : (txs : List Tx) (receipts : List Receipt) (tx : Tx) (receipt : Receipt)
+    → AreWithinBudgets txs receipts → IsWithinBudget tx receipt
+    → AreWithinBudgets (txs ++ tx ∷ []) (receipts ++ receipt ∷ [])
 receipts_push [] [] tx receipt all new = (new, tt)
 receipts_push [] (r ∷ rs) tx receipt all new = absurd all
 receipts_push (t ∷ ts) [] tx receipt all new = absurd all

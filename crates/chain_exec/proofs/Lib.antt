@@ -4,3 +4,4 @@ pub mod BlockSteps
 mod SameEffects
 mod Told
 pub mod TheLaws
+mod Costs

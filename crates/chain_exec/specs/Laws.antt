@@ -1,15 +1,19 @@
 -- Laws of what transactions and blocks do.
 use Rattle.std.specs.Prelude.{◌≡◌, ◌≢◌, ℕ, ◌+◌, ◌<◌, ◌≤◌, List, [], ◌∷◌, ◌++◌, length, Option}
-use Rattle.std.specs.List.{All}
+use Rattle.std.specs.List.{All, sum_by}
 use Rattle.lc_base.specs.History.{IsLawful}
 use Rattle.lc_base.specs.declared.row.Row.{Row}
 use Rattle.lc_base.specs.declared.tx_status.TxStatus.TheVariants as statuses
 use Rattle.world_state.specs.Rows.{held_in}
 use Rattle.world_state.specs.declared.held.Held.{Held}
-use Rattle.block_codec.specs.declared.limits.TheConstants.{MAX_ROWS_BEFORE_BLOCK, MAX_TXS}
+use Rattle.block_codec.specs.declared.limits.TheConstants.{MAX_BLOCK_BUDGET, MAX_TXS}
+use Rattle.block_codec.specs.declared.limits.TheConstants.{MAX_ROWS_BEFORE_BLOCK}
+use Rattle.block_codec.specs.Placement.{placement_after}
 use Rattle.block_codec.specs.declared.block.Tx.{Tx}
 use Rattle.block_codec.specs.declared.block.Block.{Block}
-use Rattle.chain_exec.specs.BlockRows.{AreBlockRows}
+use Rattle.block_codec.specs.declared.placement.Placement.TheVariants.{Next}
+use Rattle.chain_exec.specs.declared.receipt.Receipt.{Receipt}
+use Rattle.chain_exec.specs.BlockRows.{AreBlockRows, AreWithinBudgets}
 use Rattle.chain_exec.specs.Compiled.{Compiler, IsCompiler, compiled_in}
 use Rattle.chain_exec.specs.Effect.{Codes, History, effect_of}
 use Rattle.chain_exec.specs.Fold.{block_effects}
@@ -36,6 +40,23 @@ FailuresLeaveNothing =
     → (effect_of compile history rows codes number at tx).receipt.status ≢ statuses.Ok
     → ((effect_of compile history rows codes number at tx).rows ≡ [])
     × ((effect_of compile history rows codes number at tx).codes ≡ [])
+
+-- A block has one receipt for each transaction, whose cost is at most the transaction's budget.
+abbrev pub CostsAreWithinBudgets : Type 0
+CostsAreWithinBudgets =
+    (compile : Compiler) (history : History) (block : Block)
+    → AreWithinBudgets block.txs (block_effects compile history block).receipts
+
+-- The costs of some receipts, together.
+abbrev pub cost_of : List Receipt → ℕ
+cost_of receipts = sum_by (λ (receipt : Receipt). receipt.cost) receipts
+
+-- A block that is placed as the next one costs at most MAX_BLOCK_BUDGET, whatever the history.
+abbrev pub NextBlocksAreWithinBudget : Type 0
+NextBlocksAreWithinBudget =
+    (compile : Compiler) (history : History) (rows : ℕ) (blocks : List Block) (block : Block)
+    → placement_after rows blocks block ≡ Next
+    → cost_of (block_effects compile history block).receipts ≤ MAX_BLOCK_BUDGET
 
 -- One more block adds to a replay what it does on the history of the blocks before it, and changes
 -- nothing of theirs.

@@ -4,7 +4,7 @@ ghost use Rattle.std.specs.Prelude.{List};
 ghost use Rattle.block_codec.specs.declared.block.Block.{Block};
 ghost use Rattle.chain_exec.specs.{
   Compiled.{Compiler},
-  Laws.{OneCompiler, ReceiptsIgnoreIndexes, FailuresLeaveNothing, ReplayGrows, BlocksKeepLawful, BlocksKeepOrder},
+  Laws.{OneCompiler, ReceiptsIgnoreIndexes, FailuresLeaveNothing, CostsAreWithinBudgets, NextBlocksAreWithinBudget, ReplayGrows, BlocksKeepLawful, BlocksKeepOrder},
 };
 
 /// There is one compiler, so each source is deployed as one contract or none.
@@ -20,6 +20,13 @@ pub fn receipts_ignore_indexes()
 /// A transaction that fails leaves no row and no code.
 pub fn failures_leave_nothing()
     ensures { FailuresLeaveNothing }
+{}
+
+/// A transaction costs at most its budget, and a block that is placed as the next one at most
+/// `MAX_BLOCK_BUDGET` in all.
+pub fn costs_are_within_budgets()
+    ensures each { CostsAreWithinBudgets }
+    ensures block { NextBlocksAreWithinBudget }
 {}
 
 /// One more block changes nothing of what was replayed before it.
