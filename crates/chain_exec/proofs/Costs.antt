@@ -1,0 +1,175 @@
+-- What transactions and blocks cost.
+use Rattle.std.proofs.Common.{◌≡◌, ℕ, ◌+◌, ◌≤◌, Bool, true, false, List, [], ◌∷◌, ◌++◌}
+use Rattle.std.proofs.Common.{Option, Some, None, refl, sym, subst, arith}
+use Rattle.std.specs.Prelude.{not, ◌||◌, ◌==◌, nat_lt, if◌then◌else◌, codes}
+use Rattle.std.specs.Prelude.{length, map, slice_get}
+use Rattle.std.specs.List.{starts_with, sum_by}
+use Rattle.std.proofs.lemmas.Bool.{ltb-false}
+use Rattle.std.proofs.lemmas.List.{append_assoc, append-nil}
+use Rattle.std.proofs.lemmas.List.Sums.{sum_by-cons, sum_by_push}
+use Rattle.lc_base.specs.declared.digest.Digest.{Digest}
+use Rattle.lc_base.specs.declared.row.Row.{Row}
+use Rattle.lc_base.specs.declared.tx_status.TxStatus.TheVariants as statuses
+use Rattle.lc_base.specs.declared.value.Value.{Value}
+use Rattle.contract_tree.specs.Tree.{FunctionTree}
+use Rattle.contract_semantics.specs.Calls.{refused_call, call_ended, call_result, function_run}
+use Rattle.contract_semantics.specs.Calls.{function_called, function_of_name, are_arguments}
+use Rattle.contract_semantics.specs.Scenes.{Scene, scene_of}
+use Rattle.contract_semantics.specs.Statements.{Ending}
+use Rattle.contract_semantics.specs.Steps.{Step, Done, Failed}
+use Rattle.block_codec.specs.declared.limits.TheConstants.{MAX_BLOCK_BUDGET, MAX_BLOCKS}
+use Rattle.block_codec.specs.declared.limits.TheConstants.{MAX_ROWS_BEFORE_BLOCK}
+use Rattle.block_codec.specs.declared.block.Tx.{Tx}
+use Rattle.block_codec.specs.declared.block.Tx.TheVariants.{Set, Deploy, Call}
+use Rattle.block_codec.specs.declared.block.Block.{Block}
+use Rattle.block_codec.specs.declared.placement.Placement.{Placement}
+use Rattle.block_codec.specs.declared.placement.Placement.TheVariants as places
+use Rattle.block_codec.specs.Placement.{is_same_digest, placement, tx_budget, block_budget}
+use Rattle.block_codec.specs.Placement.{digest_of, last_digest}
+use Rattle.block_codec.proofs.Placed.{not_full, not_held}
+use Rattle.chain_exec.specs.BlockRows.{IsWithinBudget, AreWithinBudgets}
+use Rattle.chain_exec.specs.Compiled.{Compiler}
+use Rattle.chain_exec.specs.Effect.{Codes, History, is_written, meets_conflict, deps_on, code_in}
+use Rattle.chain_exec.specs.Effect.{is_taken_in, deploy_effect, call_effect, effect_of}
+use Rattle.chain_exec.specs.Fold.{Staged, nothing_staged, with_effect, effects_after}
+use Rattle.chain_exec.specs.Laws.{CostsAreWithinBudgets, NextBlocksAreWithinBudget, cost_of}
+use Rattle.chain_exec.specs.declared.receipt.Receipt.{Receipt}
+use Rattle.chain_exec.proofs.BlockSteps.{receipts_push}
+use Rattle.chain_exec.proofs.TheLaws.{tested}
+
+-- ---- one transaction
+
+set_is_free : (foreign conflict : Bool) (row : Row) → (tested foreign conflict row).receipt.cost ≤ 0
+set_is_free true conflict row = omega arith
+set_is_free false true row = omega arith
+set_is_free false false row = omega arith
+
+deploy_is_free : (taken : Bool) (name : List ℕ) (code : Option (List FunctionTree))
+    → (deploy_effect taken name code).receipt.cost ≤ 0
+deploy_is_free true name code = omega arith
+deploy_is_free false name None = omega arith
+deploy_is_free false name (Some functions) = omega arith
+
+ended_within : (budget : ℕ) (step : Step Ending) → (call_ended budget step).outcome.cost ≤ budget
+ended_within budget (Done ending m) = omega arith
+ended_within budget (Failed status m) = omega arith
+
+module _ (s : Scene) (args : List Value) where
+  run_within : (function : FunctionTree) (fit : Bool)
+      → (if fit then function_run s function args else refused_call statuses.BadArgs).outcome.cost
+      ≤ s.site.budget
+  run_within function true = ended_within s.site.budget _
+  run_within function false = omega arith
+
+  called_within : (found : Option FunctionTree)
+      → (function_called s args found).outcome.cost ≤ s.site.budget
+  called_within None = omega arith
+  called_within (Some function) = run_within function (are_arguments function.params args)
+
+  result_within : (functions : List FunctionTree)
+      → (call_result functions s args).outcome.cost ≤ s.site.budget
+  unfolding call_result
+  result_within functions = called_within (function_of_name functions s.site.function)
+
+  call_within : (code : Option (List FunctionTree)) (at : ℕ)
+      → (call_effect code s args at).receipt.cost ≤ s.site.budget
+  call_within None at = omega arith
+  call_within (Some functions) at = result_within functions
+
+-- ---- the transactions of a block
+
+module _ (compile : Compiler) (history : History) (number : ℕ) where
+  cost_within : (rows : List Row) (staged : Codes) (at : ℕ) (tx : Tx)
+      → IsWithinBudget tx (effect_of compile history rows staged number at tx).receipt
+  cost_within rows staged at (Set sender key value deps) =
+      let deps_of_row = deps_on history.rows deps in
+      set_is_free (not (starts_with ◌==◌ key (codes "raw/")))
+      (meets_conflict (is_written rows) key deps)
+      (record { key = key; block = number; tx = at; value = value; deps = deps_of_row })
+  cost_within rows staged at (Deploy sender name source) =
+      deploy_is_free (is_taken_in history.codes staged name) name (compile source)
+  cost_within rows staged at (Call sender contract function args budget) =
+      call_within
+      (scene_of history.rows (is_written rows)
+      (record {
+        contract = contract;
+        function = function;
+        sender = sender;
+        number = number;
+        budget = budget;
+      }))
+      args (code_in history.codes contract) at
+
+  each_within : (before : List Tx) (at : ℕ) (done : Staged) (txs : List Tx)
+      → AreWithinBudgets before done.receipts
+      → AreWithinBudgets (before ++ txs) (effects_after compile history number at done txs).receipts
+  each_within before at done [] all =
+      subst (λ (ts : List Tx). AreWithinBudgets ts done.receipts) (sym (append-nil before)) all
+  each_within before at done (tx ∷ txs) all =
+      let effect = effect_of compile history done.rows done.codes number at tx in
+      let within = cost_within done.rows done.codes at tx in
+      let more = with_effect done effect in
+      let after = effects_after compile history number (at + 1) more txs in
+      let P : List Tx → Type 0 = λ ts. AreWithinBudgets ts after.receipts in
+      subst P (append_assoc before (tx ∷ []) txs)
+      (each_within (before ++ tx ∷ []) (at + 1) more txs
+      (receipts_push before done.receipts tx effect.receipt all within))
+
+  sum_within : (at : ℕ) (done : Staged) (txs : List Tx)
+      → cost_of (effects_after compile history number at done txs).receipts
+      ≤ cost_of done.receipts + sum_by tx_budget txs
+  sum_within at done [] = omega arith
+  sum_within at done (tx ∷ txs) =
+      let effect = effect_of compile history done.rows done.codes number at tx in
+      let cost : Receipt → ℕ = λ receipt. receipt.cost in
+      omega (
+        arith,
+        sum_within (at + 1) (with_effect done effect) txs,
+        sum_by_push cost done.receipts effect.receipt,
+        sum_by-cons tx_budget tx txs,
+        cost_within done.rows done.codes at tx,
+      )
+
+pub costs_are_within_budgets : CostsAreWithinBudgets
+costs_are_within_budgets compile history block =
+    each_within compile history block.number [] 0 nothing_staged block.txs tt
+
+-- ---- a block that is next
+
+not_number : (same : Bool) (held : ℕ) (other : Placement)
+    → (if not same then places.Number held else other) ≡ places.Next → other ≡ places.Next
+not_number true held other is = is
+not_number false held other is = absurd (cc is)
+
+not_parent : (same : Bool) (parent : Digest) (other : Placement)
+    → (if not same then places.Parent parent else other) ≡ places.Next → other ≡ places.Next
+not_parent true parent other is = is
+not_parent false parent other is = absurd (cc is)
+
+not_over : (over : Bool) (budget : ℕ)
+    → (if over then places.Budget budget else places.Next) ≡ places.Next → over ≡ false
+not_over true budget is = absurd (cc is)
+not_over false budget is = refl
+
+next_within : (held rows : ℕ) (have : Option Digest) (parent : Digest) (block : Block)
+    (digest : Digest)
+    → placement held rows have parent block digest ≡ places.Next
+    → block_budget block ≤ MAX_BLOCK_BUDGET
+next_within held rows (Some have) parent block digest is =
+    absurd (not_held (is_same_digest have digest) have is)
+next_within held rows None parent block digest is =
+    let has_room = not_full (held == MAX_BLOCKS || nat_lt MAX_ROWS_BEFORE_BLOCK rows) _ is in
+    let numbered = not_number (block.number == held) held _ has_room.1 in
+    let joined = not_parent (is_same_digest block.parent parent) parent _ numbered in
+    ltb-false MAX_BLOCK_BUDGET (block_budget block) (not_over _ _ joined)
+
+pub next_blocks_are_within_budget : NextBlocksAreWithinBudget
+next_blocks_are_within_budget compile history rows blocks block is =
+    let digests = map digest_of blocks in
+    let have = slice_get digests block.number in
+    let parent = last_digest digests in
+    omega (
+      arith,
+      sum_within compile history block.number 0 nothing_staged block.txs,
+      next_within (length blocks) rows have parent block (digest_of block) is,
+    )
