@@ -5,7 +5,7 @@ import resource
 import subprocess
 import tempfile
 
-from checks.log_runs import LOG, without_roots
+from checks.log_runs import LOG, environment, without_roots
 from places import TOP
 
 # A user without rights of its own.
@@ -110,7 +110,7 @@ def run_in(folder, program, case):
     streams = {"stdin": source, "stdout": subprocess.PIPE, "stderr": subprocess.DEVNULL}
     try:
         ran = subprocess.run(
-            words, **streams, cwd=folder, preexec_fn=lambda: limit(case), timeout=120
+            words, **streams, cwd=folder, preexec_fn=lambda: limit(case), timeout=120, env=environment()
         )
     except subprocess.TimeoutExpired:
         return b"", "none within 120 seconds"
