@@ -101,11 +101,12 @@ class Disk:
 
 
 class Watched:
-    """A program that is run so."""
+    """A program that is run so, each run for so many seconds at most."""
 
-    def __init__(self, program, shim):
+    def __init__(self, program, shim, limit=RUN_LIMIT):
         self.program = program
         self.shim = shim
+        self.limit = limit
 
     def run(self, words, source=b"", log=None, **settings):
         """Runs words over an input and a log, as bytes, or none where there is no such file; the settings are those of
@@ -165,10 +166,10 @@ class Watched:
                 stderr=subprocess.DEVNULL,
                 env={**environment(), **settings, "LD_PRELOAD": self.shim},
                 preexec_fn=prepare,
-                timeout=RUN_LIMIT,
+                timeout=self.limit,
             )
         except subprocess.TimeoutExpired:
-            return "", f"none within {RUN_LIMIT} seconds"
+            return "", f"none within {self.limit} seconds"
         return ran.stdout.decode("latin-1"), ran.returncode
 
 

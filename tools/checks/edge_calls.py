@@ -34,8 +34,8 @@ IN_PLACE = ["length", "path"]
 # The lock is taken once, before anything is read or written; how long the file is then is noted.
 LOCKED = ["lock", "length"]
 # What is found is locked and synced before a byte of it is read: an earlier run may have ended before its sync.
-FOUND = ["path", "open", *LOCKED, "sync log", "sync folder", *IN_PLACE, "read"]
-MADE = ["path", "make", *LOCKED]
+FOUND = ["path", "open", "apart", *LOCKED, "sync log", "sync folder", *IN_PLACE, "read"]
+MADE = ["path", "make", "apart", *LOCKED]
 
 
 def stored(at, size, *folder):
@@ -62,12 +62,14 @@ def blocks_stored(gate, frames):
 
 KNOWN_APPEND = [*FOUND, "tell"]
 WORDS = {"pwrite": "write {0.at} {0.size}", "write": "tell", "ftruncate": "truncate", "fchmod": "mode {0.size}"}
-WORDS |= {"pread": "read", "fstat": "length", "statx": "path", "unlink": "unlink", **dict.fromkeys(SYNCS, "sync {0.what}")}
+# A second descriptor is made, since the first one may be that of a standard stream that was closed.
+WORDS |= {"dup": "apart", "pread": "read", "fstat": "length", "statx": "path", "unlink": "unlink"}
+WORDS |= dict.fromkeys(SYNCS, "sync {0.what}")
 
 
 def word_of(call):
-    """A call as words; nothing of one that is no step: of the input, of a second descriptor, or the opening of a
-    folder, of which its sync tells."""
+    """A call as words; nothing of one that is no step: of the input, or the opening of a folder, of which its sync
+    tells."""
     if call.name == "open" and call.what == "log":
         return "make" if call.at & (CREATE | NEW) == CREATE | NEW else "open"
     if call.name == "flock":
@@ -100,7 +102,7 @@ def order_of_calls(checks, watched):
     checks.same("calls of an append of a known block", steps(known.calls), KNOWN_APPEND)
     asked = watched.run(QUESTION, log=RECALL_LOG)
     checks.same("a question", (asked.told, asked.status), (USED, DONE))
-    wanted = ["path", "open", "read", *["tell"] * len(USED_LINES)]
+    wanted = ["path", "open", "apart", "read", *["tell"] * len(USED_LINES)]
     checks.same("calls of a question", steps(asked.calls), wanted)
     for ran in [first, known, asked]:
         flags = [call.at for call in ran.calls if call.name == "open" and call.what == "log"]

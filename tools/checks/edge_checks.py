@@ -9,11 +9,15 @@ from checks.lock_checks import changes_at_each_call, changes_between_frames, loc
 from checks.scratch_checks import bodies_read_back, folder_of_the_scratch_file, names_that_are_taken, nothing_is_left
 from checks.scratch_checks import scratch_calls
 
-PARTS = [
-    order_of_calls, order_of_long_runs, lock_of_another, lock_of_a_run, changes_between_frames, changes_at_each_call,
-    pairs_in_gate, failing_calls, log_made_meanwhile, pipe_for_log, limit_of_a_file, rest_of_input, scratch_calls,
-    bodies_read_back, folder_of_the_scratch_file, names_that_are_taken, nothing_is_left, no_memory,
+# Those of the log and the streams, and those of the scratch file; of each the short ones come first.
+LOG_PARTS = [
+    order_of_calls, order_of_long_runs, lock_of_another, lock_of_a_run, changes_between_frames, pairs_in_gate,
+    log_made_meanwhile, rest_of_input, pipe_for_log, limit_of_a_file, no_memory, failing_calls, changes_at_each_call,
 ]
+SCRATCH_PARTS = [
+    bodies_read_back, folder_of_the_scratch_file, names_that_are_taken, nothing_is_left, scratch_calls,
+]
+PARTS = LOG_PARTS + SCRATCH_PARTS
 
 
 def check(checks, program, folder, parts=PARTS):

@@ -34,7 +34,11 @@ def imports_of(program):
     return {name.removesuffix("64") for name in names}
 
 
+def unknown_to_checks(program):
+    """Those of its calls that are none of these."""
+    return sorted(imports_of(program) - TOLD - GIVING - HARMLESS - STARTING)
+
+
 def check(checks, program):
     """Whether each call is one that is known."""
-    unknown = imports_of(program) - TOLD - GIVING - HARMLESS - STARTING
-    checks.same("calls of the C library that no check knows", sorted(unknown), [])
+    checks.same("calls of the C library that no check knows", unknown_to_checks(program), [])

@@ -93,7 +93,7 @@ def lock_of_another(checks, watched):
                 ran = watched.run_over(folder, "append", source)
                 name = f"append over a log whose lock {kind} another program holds"
                 checks.same(name, (ran.told, ran.status, ran.log), ("", DISK_FAULT, RECALL_LOG))
-                checks.same(f"calls of {name}", steps(ran.calls), ["path", "open", "lock"])
+                checks.same(f"calls of {name}", steps(ran.calls), ["path", "open", "apart", "lock"])
                 checks.same(f"input of {name}", ran.read, 0)
             for words, told in QUESTIONS:
                 checks.same(f"{words} meanwhile", ask(watched.program, folder, *words.split()), (told, DONE))
