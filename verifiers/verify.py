@@ -1,7 +1,9 @@
 #!/usr/bin/env python3
 """Checks a proof of LineageChain, and prints the answer that it proves or why it is refused.
 
-    verify.py ROOT KIND KEY BLOCK < PROOF
+    verify.py ROOT KIND KEY BLOCK < PROOF     checks a proof
+    verify.py --show < PROOF                  shows what a proof holds, and checks nothing of it
+    verify.py --help                          prints this
 
 ROOT is the root of a block, 64 hex digits, which has to come from elsewhere; KIND is hist, back or fwd;
 PROOF is in hex. docs/proofs.md has the bytes of a proof, the checks in their order, and what is printed.
@@ -341,6 +343,38 @@ def told(proof):
     return [f"block {version.block} {word} {len(places)}", *lines]
 
 
+# ---- what a proof holds
+
+
+def question_text(question):
+    return f"{KINDS[question.kind]} {question.key.decode('ascii')} {question.block}"
+
+
+def shown(proof):
+    """What a proof holds, line by line."""
+    leaf, question = proof.leaf, question_text(proof.question)
+    key = f"key {leaf.key.decode('ascii')}" if leaf.key else "before all keys"
+    following = f"next key {leaf.next_key.decode('ascii')}" if leaf.next_key else "no next key"
+    lines = [f"question {question}", f"root block {proof.root_block}, digest {proof.block_digest.hex()}"]
+    lines.append(f"leaf {proof.leaf_index} of {proof.leaf_count}, from 0: {key}, {following}")
+    lines.append(f"  newest version in block {leaf.newest.block}, header {leaf.newest.digest.hex()}")
+    lines.append(f"  its uses {leaf.uses.count}, digest {leaf.uses.digest.hex()}")
+    lines += [f"audit hash {digest.hex()}" for digest in proof.audit]
+    for header in proof.headers:
+        lines.append(f"header of block {header.block} tx {header.tx}: {sha256(HEADER, header.text).hex()}")
+        lines.append(f"  body {header.body.hex()}")
+        lines.append(f"  closes {header.closed.count} uses, digest {header.closed.digest.hex()}")
+        lines += [f"  links to block {link.block}, header {link.digest.hex()}" for link in header.links]
+    if proof.body:
+        lines.append(f"body: {proof.body.value}, derived from {len(proof.body.deps)} versions")
+        lines += [f"  {key.decode('ascii')} {block}" for key, block in proof.body.deps]
+    if proof.uses is not None:
+        lines.append(f"uses: {len(proof.uses)} versions were derived from it")
+        lines += [f"  {key.decode('ascii')} {block}" for key, block in proof.uses]
+    lines.append(f"leads to the root {root_of(proof).hex()}")
+    return [*lines, f"nothing of this was checked: verify.py ROOT {question} does that"]
+
+
 # ---- words and streams
 
 
@@ -384,14 +418,28 @@ def read_hex(source):
 
 def outcome(words):
     """The lines that are printed, and the status."""
+    if words == ["--help"]:
+        return __doc__.rstrip("\n").split("\n"), DONE
     try:
+        if words == ["--show"]:
+            return shown(Fields(read_hex(read_input())).whole_proof()), DONE
         root, question = read_words(words)
         proof = Fields(read_hex(read_input())).whole_proof()
+        if proof.question != question:
+            note(f"the proof is of another question: {question_text(proof.question)}")
         return answer(proof, root, question), DONE
     except Stop as stop:
         return [stop.line] if stop.line else [], stop.status
     except MemoryError:
         return [], OUT_OF_MEMORY
+
+
+def note(text):
+    """Says something on standard error, where there is one: what is printed is fixed."""
+    try:
+        os.write(2, f"verify.py: {text}\n".encode("ascii"))
+    except OSError:
+        pass
 
 
 def write(lines):

@@ -35,6 +35,22 @@ FILLS = [CLOSED, OPEN, b"\x5a"]
 KEPT = [0, 1, 4, 1_048_576]
 
 
+class Crash(NamedTuple):
+    """How a crash leaves a disk: how many of the bytes that are not synced it keeps, what stands in place of the
+    others, and whether no more is left than the length that was synced."""
+
+    kept: int
+    fill: bytes
+    is_short: bool
+
+    def field(self, moment):
+        """Such a crash at a moment, as a case has it."""
+        return f"{moment} {self.kept} {self.fill.hex()} {'short' if self.is_short else 'whole'}"
+
+
+CRASHES = [Crash(*crash) for crash in itertools.product(KEPT, FILLS, [False, True])]
+
+
 class Call(NamedTuple):
     """A call of a machine: what it writes and where, or what it tells; and what is left of the input by then."""
 
@@ -68,15 +84,18 @@ class Disk:
             self.pending.clear()
             self.synced_length = len(self.content)
 
+    def left_by(self, crash):
+        """What a crash leaves: of the pending bytes the first ones, and others in place of the rest; with all of
+        the length, or with what was synced of it."""
+        image = bytearray(self.content)
+        lost = sorted(offset for offset in self.pending if offset < len(image))[crash.kept :]
+        for offset in lost:
+            image[offset : offset + 1] = crash.fill
+        return bytes(image[: self.synced_length] if crash.is_short else image)
+
     def images(self):
-        """What a crash may leave: of the pending bytes the first ones, and others in place of the rest; with
-        all of the length, or with what was synced of it."""
-        for kept, fill, is_short in itertools.product(KEPT, FILLS, [False, True]):
-            image = bytearray(self.content)
-            lost = sorted(offset for offset in self.pending if offset < len(image))[kept:]
-            for offset in lost:
-                image[offset : offset + 1] = fill
-            yield bytes(image[: self.synced_length] if is_short else image)
+        """What each crash leaves."""
+        return map(self.left_by, CRASHES)
 
 
 # ---- an append of three blocks
@@ -203,6 +222,50 @@ def failing_pulls():
         yield LogCase(
             "append", b"", told, status, log_of_first(held), FILE, left=left, pulls=f"{pull}", piece=1
         )
+
+
+# ---- crashes of the machine that run_cases stops
+
+
+class CrashCase(NamedTuple):
+    """An append over a disk, of which the call of a number fails, or none; and each crash at some of its moments."""
+
+    image: bytes
+    moments: list
+    failing: int = None
+
+    def case(self):
+        """As a LogCase gives its own."""
+        calls = list(append_calls(self.image))
+        made = calls[: self.failing]
+        failed = None if self.failing is None else calls[self.failing]
+        status = failed.status() if failed else DONE
+        told = [f"at {at} {call.piece}" for at, call in enumerate(made) if call.kind == TELL]
+        last = len(made) + bool(failed)
+        lines = [f"== {status} crash append\n", *told, f"moment {last}\n"]
+        before = self.image
+        for moment in self.moments:
+            disk = disk_after(self.image, made[:moment], failed if moment > len(made) else None)
+            # Each line that was begun by then.
+            begun = len(told_by(calls[: min(moment, len(made)) + 1]))
+            for left in disk.images():
+                assert held_by(left) >= max(begun, held_by(self.image))
+                lines.append(f"image {'same' if left == before else left.hex()}\n")
+                before = left
+        crashes = [crash.field(moment) for moment in self.moments for crash in CRASHES]
+        calls_field = "" if self.failing is None else f"{self.failing}"
+        fields = [FILE.hex(), "", calls_field, self.image.hex(), ",".join(crashes)]
+        return "crash append", "".join(lines), "|".join(fields), None
+
+
+def crash_cases():
+    """What crashes leave of an append to an empty disk, and to a log of two blocks: at each of its moments, and
+    after each of its calls failed."""
+    for image in [log_of_first(0), log_of_first(2)]:
+        count = len(list(append_calls(image)))
+        yield CrashCase(image, list(range(count + 1))).case()
+        for failing in range(count):
+            yield CrashCase(image, [failing + 1], failing).case()
 
 
 # ---- other commands

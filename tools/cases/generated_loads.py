@@ -14,21 +14,23 @@ def load_line(count, seed):
     blocks = {}
     for row in made.rows:
         blocks.setdefault(row.key, []).append(row.block)
+    linked = {key: growing_links(versions) for key, versions in blocks.items()}
     paths = []
     for _ in range(count):
         key = made.draws.key()
-        paths.append(len(path(blocks.get(key, []), made.draws.below(count))))
+        paths.append(len(path(linked.get(key, {}), made.draws.below(count))))
     counts = f"lookups {count} entries {sum(paths)} most {max(paths)}"
     return f"blocks {count} rows {len(made.rows)} root {root} {counts}\n"
 
 
-def path(blocks, at):
-    """The blocks of the versions that a look-up looks at, where these are those of the key's versions."""
+def path(linked, at):
+    """The blocks of the versions that a look-up looks at, where these are those of the key's versions, each with
+    those to which it links."""
     looked = []
-    block = blocks[-1] if blocks else None
+    block = max(linked, default=None)
     while block is not None:
         looked.append(block)
-        block = next_block(links(blocks, block), block, at)
+        block = next_block(linked[block], block, at)
     return looked
 
 
@@ -38,6 +40,19 @@ def next_block(blocks, block, at):
         return None
     above = [link for link in blocks if link > at]
     return above[-1] if above else blocks[0]
+
+
+def growing_links(blocks):
+    """Of the version in each block, in rising order, the blocks to which it links, from what is kept of those
+    before it: `links` goes over all of them, which takes too long for a long chain; tools/checks/size_runs.py holds
+    the two against each other over a short one."""
+    linked, last_at = {}, []
+    for older, block in zip([None, *blocks], blocks):
+        # Intervals lie within one another: no older version is in one where the newest of them isn't.
+        at = [level for level in range(LEVELS) if older is None or older >> level != block >> level]
+        linked[block] = last_at[: len(at)]
+        last_at = [block] * len(at) + last_at[len(at) :]
+    return linked
 
 
 def links(blocks, block):

@@ -34,6 +34,8 @@ class Case:
     after: object = None
     # Whether the roots that it must print are known; where they are not, `NO_ROOT` stands for each.
     has_roots: bool = True
+    # How long it may take.
+    seconds: int = 120
 
 
 def open_source(source):
@@ -110,10 +112,10 @@ def run_in(folder, program, case):
     streams = {"stdin": source, "stdout": subprocess.PIPE, "stderr": subprocess.DEVNULL}
     try:
         ran = subprocess.run(
-            words, **streams, cwd=folder, preexec_fn=lambda: limit(case), timeout=120, env=environment()
+            words, **streams, cwd=folder, preexec_fn=lambda: limit(case), timeout=case.seconds, env=environment()
         )
     except subprocess.TimeoutExpired:
-        return b"", "none within 120 seconds"
+        return b"", f"none within {case.seconds} seconds"
     finally:
         if source != subprocess.DEVNULL:
             source.close()

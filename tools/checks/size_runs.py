@@ -8,7 +8,7 @@ import json
 
 from cases.block_files import NO_CONTRACT, OK, block_digest, block_file, calls, deploys, number, sets, string
 from cases.generated_chain import Generated, spelled
-from cases.generated_loads import load_line
+from cases.generated_loads import growing_links, links, load_line
 from cases.growing_roots import growing_roots
 from cases.log_cases import BEYOND, DONE, REFUSED, frames_of, log_of
 from cases.root_cases import Row, roots
@@ -28,8 +28,8 @@ FRONT_BYTES = 39
 COUNT_OFFSET = 37
 
 
-def run(words, source, printed, status=DONE, **logs):
-    return Case(words, source, printed, status, **logs)
+def run(words, source, printed, status=DONE, **fields):
+    return Case(words, source, printed, status, **fields)
 
 
 class Chain:
@@ -120,13 +120,27 @@ def compare_roots():
         raise ValueError("the roots of a generated chain differ")
 
 
+def compare_links():
+    """Fails where the links of the versions of a short chain are others than those that are worked out from all of
+    them."""
+    blocks = {}
+    for row in Generated(200, 7).rows:
+        blocks.setdefault(row.key, []).append(row.block)
+    for versions in blocks.values():
+        if growing_links(versions) != {block: links(versions, block) for block in versions}:
+            raise ValueError("the links of a generated chain differ")
+
+
 def generated_runs():
-    """`gen 2000 7`, what becomes of it, `load 2000 7`, and the same chain as a draft."""
+    """`gen 2000 7`, what becomes of it, `load 2000 7`, and the same chain as a draft; and `load 20000 7`, which may
+    take a minute."""
     compare_roots()
+    compare_links()
     made = Generated(2_000, 7)
     chain = Chain(made.file, made.rows, made.plain_lines())
     yield run(b"gen 2000 7", b"", made.file)
     yield run(b"load 2000 7", b"", load_line(2_000, 7))
+    yield run(b"load 20000 7", b"", load_line(20_000, 7), seconds=60)
     yield run(b"pack", json.dumps(made.draft).encode(), made.file)
     yield from chain.append_runs()
     yield from chain.root_runs(0, 1_000)

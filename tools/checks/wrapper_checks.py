@@ -1,35 +1,38 @@
 """Checks of ./lineage over the built program: that it prints and ends as the program does, what it says
-on standard error, its lock, and that the pages list the commands that there are and show what they print.
+on standard error, its lock, when it builds the program (tools/checks/build_checks.py), and that the pages list
+the commands that there are and show what they print.
 
 It is run in a tree of its own, which has the program and what says that it is built.
 """
+import errno
 import fcntl
 import os
 import re
 import shutil
 import subprocess
 import tempfile
-import time
 
-from cases.log_cases import CLOSED, NOT_A_LOG, REFUSED, SET_FILE, SET_LINE, SET_LOG
-from checks import disk_calls, page_runs
+from cases.log_cases import CLOSED, CLOSED_HEAD, NOT_A_LOG, REFUSED, SET_FILE, SET_LINE, SET_LOG
+from checks import build_checks, disk_calls, page_runs, word_checks
 from checks.log_runs import LOG
 from checks.program_cases import CASES, RAW_A_PROOF, RAW_A_ROOT, RECALL_FILE
 from checks.program_runs import TOP, check_case, take_rights
-from lineage import commands, lineage_input, lineage_messages
+from lineage import commands, lineage_input, lineage_messages, statuses
 
 # How long a run may take, and how long one waits for another, in seconds.
 RUN_LIMIT = 60
 PAUSE = 1
-# After so many seconds a file that was read is known to stand.
-TICK = 2
-NOT_BUILT = 70
+QUIET = {"stdin": subprocess.DEVNULL, "stdout": subprocess.DEVNULL, "stderr": subprocess.DEVNULL}
 COPIED = ["lineage", "crates.txt", "HANDLES", "tools", "examples", "verifiers"]
+# A log whose first byte was zeroed, and a file that begins so and is none.
+ZEROED_LOG = CLOSED + SET_LOG[1:]
+ZEROED_FILE = bytes(29)
 # Words, input, log before, and a part of what is said.
 SAID = [
     ("", b"", None, "the commands are"),
     ("hits raw/a", b"", None, "`hits` is no command"),
-    ("hist", b"", None, "`KIND KEY` or `KIND KEY BLOCK`"),
+    ("hist", b"", None, "this is one word, and the command is `KIND KEY [BLOCK]`"),
+    ("scan", b"", None, "`./lineage help scan` says more"),
     ("hist RAW 0", b"", None, "word 2, `RAW`, is not KEY"),
     ("root 00", b"", None, "word 2, `00`, is not BLOCK"),
     ("gen 100001 1", b"", None, "word 2, `100001`, is not N: a number from 1 to 100000"),
@@ -63,7 +66,8 @@ SAID = [
     (f"verify {RAW_A_ROOT} hist raw/a", b"", None, "`verify ROOT KIND KEY BLOCK`"),
     (f"verify {RAW_A_ROOT.upper()} hist raw/a 0", b"", None, "is not ROOT: a root"),
     (f"verify {RAW_A_ROOT} hist raw/a 0", b"", None, "the first invalid field is at offset 0"),
-    (f"verify {RAW_A_ROOT} hist raw/b 0", RAW_A_PROOF, None, "of another question"),
+    (f"verify {RAW_A_ROOT} hist raw/b 0", RAW_A_PROOF, None, "of another question: hist raw/a 0\n"),
+    (f"verify {RAW_A_ROOT} hist raw/a 1", RAW_A_PROOF.upper(), None, "of another question: hist raw/a 0\n"),
     (f"verify {'0' * 64} hist raw/a 0", RAW_A_PROOF, None, f"to another root, {RAW_A_ROOT}"),
     (f"verify {RAW_A_ROOT} hist raw/a 0", b"abc", None, "the number of digits is odd"),
     (f"verify {RAW_A_ROOT} hist raw/a 0", b"zz", None, "the byte at offset 0 of the input"),
@@ -75,6 +79,24 @@ SAID = [
     (f"expose {RAW_A_ROOT} hist raw/a 0 0", b"abc", SET_LOG, "the number of digits is odd"),
     ("hist raw/a", b"", b"hello", "something else than a log"),
     ("hist raw/a", b"", SET_LOG[:40], "was changed or cut"),
+    ("scan hist raw/a 0", SET_LOG, None, "looks like a log: ask `hist`"),
+    ("append", SET_LOG, None, "tools/export-blocks LOG > BLOCKS"),
+    ("append", RAW_A_PROOF, None, "looks like a proof in hex"),
+    ("append", b"# One.\nfn f() {}", SET_LOG, "looks like a contract"),
+    ("scan hist raw/a 0", b'{"set": {}}', None, "looks like a draft"),
+    ("fmt", SET_FILE, None, "looks like a block file"),
+    ("fmt", b" [[]]", None, "looks like a draft"),
+    ("fmt", b"hello", None, "line 1, column 1 of the input: this doesn't fit"),
+    ("pack", SET_FILE, None, "looks like a block file"),
+    ("pack", b"fn f() {}", None, "looks like a contract"),
+    (f"verify {RAW_A_ROOT} hist raw/a 0", bytes.fromhex(RAW_A_PROOF.decode()), None, "xxd -p < PROOF"),
+    (f"expose {RAW_A_ROOT} hist raw/a 0 0", SET_LOG, SET_LOG, "looks like a log"),
+    ("hist raw/a", b"", SET_FILE, "it looks like a block file"),
+    ("append", SET_FILE, b"fn f() {}", f"{LOG} looks like a contract"),
+    ("root", b"", ZEROED_LOG, f"has {len(SET_LOG)} bytes and begins with a zero"),
+    ("hist raw/a", b"", ZEROED_LOG, "its first byte was a5"),
+    ("prove hist raw/a 0 0", b"", ZEROED_FILE, "has 29 bytes and begins with a zero"),
+    ("hist raw/a", b"", CLOSED_HEAD + CLOSED, "has no block yet"),
 ]
 
 
@@ -239,92 +261,138 @@ def lock(checks, wrapper):
         checks.same("and then goes on", waiting.wait(RUN_LIMIT), 0)
 
 
-# What stands in for the toolchain: it notes how it was called, and proves nothing.
-FAKE_RT = """#!/bin/sh
-echo "$*" >> "{folder}/calls"
-[ -e "{folder}/fails" ] && exit 1
-echo "== crate"
-echo "logic=proved functions=3"
-"""
-PROVING = ["all check", "run -- scan hist raw/a 0"]
+def locked_log(checks):
+    """Of a log that can't be used it is said who has it locked, where that can be known."""
+    with tempfile.TemporaryDirectory() as folder, open(os.path.join(folder, LOG), "wb") as log:
+        fcntl.flock(log, fcntl.LOCK_EX)
+        holder = f"process {os.getpid()} ("
+        told = disk_sentence_in(folder, lambda: None)
+        checks.holds(f"{told!r} names the holder", holder in told and f"has {LOG} locked" in told)
+        fcntl.flock(log, fcntl.LOCK_UN)
+        told = disk_sentence_in(folder, lambda: None)
+        is_open = "had chain.log locked, and has ended since" in told
+        checks.holds(f"{told!r} names no holder", is_open and holder not in told)
+        told = disk_sentence_in(folder, take_locks)
+        checks.holds(f"{told!r} says that there are no locks", f"of {LOG} has no locks" in told)
 
 
-def building(checks, tree, folder):
-    """The program is taken as it is while no source changes, proved and built where one did, and not run
-    where that fails."""
-    tools = os.path.join(folder, "bin")
-    os.mkdir(tools)
-    for name in ("bash", "python3", "dirname", "readlink"):
-        os.symlink(shutil.which(name), f"{tools}/{name}")
-    source = f"{tree}/crates/lineage/src/main.rt"
-    os.mkdir(os.path.dirname(source))
+def take_locks():
+    """Takes locks from this process, as a file system without any does."""
 
-    def ask(name, status, wanted):
-        calls = f"{folder}/calls"
-        with open(calls, "w"):
-            pass
-        words = [f"{tree}/lineage", "gen", "1", "0"]
-        streams = {"stdout": subprocess.DEVNULL, "stderr": subprocess.DEVNULL}
-        ran = subprocess.run(words, env={**os.environ, "PATH": tools}, **streams)
-        with open(calls) as file:
-            made = [line.split(" --jobs")[0].rstrip("\n") for line in file]
-        checks.same(f"status and calls where {name}", (ran.returncode, made), (status, wanted))
+    def refuse(*_):
+        raise OSError(errno.ENOLCK, "no locks")
 
-    ask("nothing changed", 0, [])
-    with open(source, "w") as file:
-        file.write("one\n")
-    ask("a source is new and there is no toolchain", NOT_BUILT, [])
-    with open(f"{tools}/rt", "w") as file:
-        file.write(FAKE_RT.format(folder=folder))
-    os.chmod(f"{tools}/rt", 0o755)
-    with open(f"{folder}/fails", "w"):
-        ask("a proof fails", NOT_BUILT, PROVING[:1])
-    os.remove(f"{folder}/fails")
-    ask("a source is new", 0, PROVING)
-    ask("it was built since", 0, [])
-    time.sleep(TICK + 0.5)
-    ask("it was built long since", 0, [])
-    ask("what was read then is kept", 0, [])
-    with open(source, "w") as file:
-        file.write("two\n")
-    ask("a source changed and not its size", 0, PROVING)
-    os.remove(source)
-    ask("a source is gone", 0, PROVING)
+    fcntl.flock = refuse
+
+
+# The logs that begin with a zero, and what is said of an `append`.
+ZEROED = [
+    (ZEROED_LOG, "its first byte was a5"),
+    (CLOSED + SET_LOG[1:10], "its first byte was a5"),
+    (ZEROED_FILE, "it is no log"),
+    (SET_FILE, "it looks like a block file"),
+    (CLOSED * 10, "it is no log"),
+]
+
+
+def zeroed_log(checks, wrapper):
+    """A log whose first byte was zeroed is not written over, and what is said restores it; what a crash may
+    leave is gone on with."""
+    for log, said in ZEROED:
+        with tempfile.TemporaryDirectory() as folder:
+            path = os.path.join(folder, LOG)
+            with open(path, "wb") as file:
+                file.write(log)
+            printed, status, told = run(wrapper, "append", SET_FILE, folder)
+            checks.same(f"append over {log!r}", (printed, status), (b"", statuses.ZEROED_LOG))
+            checks.holds(f"{told!r} has {said!r}", said in told)
+            with open(path, "rb") as file:
+                checks.same(f"the log after append over {log!r}", file.read(), log)
+            if log == ZEROED_LOG:
+                [line] = [line.strip() for line in told.split("\n") if "dd of=" in line]
+                subprocess.run(["sh", "-c", line], cwd=folder, check=True, stderr=subprocess.DEVNULL)
+                with open(path, "rb") as file:
+                    checks.same("the log that was restored", file.read(), SET_LOG)
+    for log in (CLOSED, CLOSED_HEAD, CLOSED_HEAD + CLOSED, CLOSED * 9):
+        with tempfile.TemporaryDirectory() as folder:
+            with open(os.path.join(folder, LOG), "wb") as file:
+                file.write(log)
+            printed = run(wrapper, "append", SET_FILE, folder)[:2]
+            checks.same(f"append over {log!r}", printed, (SET_LINE.encode(), 0))
 
 
 # ---- pages
 
 
+# What stands for the words in capitals of a form.
+FOR_WORDS = {"KEY": "raw/a", "BLOCK": "0", "N": "1", "SEED": "0", "ROOT": RAW_A_ROOT, "ROOTBLOCK": "0"}
+
+
 def listed_commands(checks, program):
-    """The program takes the words of each command, and README.md and docs/formats.md list these."""
-    with open(f"{TOP}/README.md", encoding="utf-8") as file:
-        readme = file.read()
+    """The program takes the words of each command and ends with one of its statuses; docs/formats.md has the
+    same commands, each with its lines, and README.md shows their list."""
     with open(f"{TOP}/docs/formats.md", encoding="utf-8") as file:
         formats = file.read().split("\n## Commands\n")[1].split("\n## ")[0]
-    words = {"KIND": commands.KINDS, "KEY": ["raw/a"], "BLOCK": ["0"], "N": ["1"], "SEED": ["0"]}
-    words |= {"ROOT": [RAW_A_ROOT], "ROOTBLOCK": ["0"]}
-    forms = []
+    made = []
     for command in commands.COMMANDS:
-        given = [words.get(word, [word])[0] for word in command.words()]
-        with tempfile.TemporaryDirectory() as folder:
-            printed = run(program, " ".join(given), b"", folder)[0]
-        checks.holds(f"{given} are a command", printed != b"usage\n")
-        checks.holds(f"docs/formats.md lists `{command.form}`", f"`{command.form}`" in formats)
-        kinds = commands.KINDS if "KIND" in command.form else [""]
-        forms += [command.form.replace("KIND", kind) for kind in kinds]
+        for form in command.forms():
+            kinds = commands.KINDS if "KIND" in form else ["none"]
+            for kind in kinds:
+                given = " ".join({**FOR_WORDS, "KIND": kind}.get(word, word) for word in form)
+                with tempfile.TemporaryDirectory() as folder:
+                    printed = run(program, given, b"", folder)[0]
+                checks.holds(f"{given} are a command", printed != b"usage\n")
+            made.append(" ".join(form))
+        for lines, _ in command.lines:
+            for line in lines.replace(" CAUSE", "").split(", "):
+                has_line = re.search(rf"`{re.escape(line)}[`,]|^\| {re.escape(line)} in", formats, re.M)
+                checks.holds(f"docs/formats.md has `{line}` of `{command.form}`", has_line is not None)
     rows = re.findall(r"(?m)^\| (`[^|]*`) \| [^|]* \| ", formats)
     told = [form for row in rows for form in re.findall(r"`([^`]*)`", row)]
-    made = [command.form for command in commands.COMMANDS]
     checks.same("commands that docs/formats.md lists", sorted(set(told)), sorted(made))
-    # README.md has them in an indented list, with what may be left out in brackets.
-    listed = re.findall(r"(?m)^    ((?:%s)\b.*?)  +\S" % "|".join(commands.first_words()), readme)
-    spelled = []
-    for form in listed:
-        kinds = commands.KINDS if "KIND" in form else [""]
-        for kind in kinds:
-            each = form.replace("KIND", kind)
-            spelled += [re.sub(r" \[(\w+)\]", "", each), re.sub(r"\[(\w+)\]", r"\1", each)]
-    checks.same("commands that README.md lists", sorted(set(spelled)), sorted(set(forms)))
+    with open(f"{TOP}/README.md", encoding="utf-8") as file:
+        checks.holds("README.md shows the list", f"\n{page_runs.PROMPT}./lineage --help\n" in file.read())
+    for case in CASES:
+        command = commands.command_of(case.words.decode(errors="replace").split())
+        if command and case.status != statuses.USAGE:
+            name = f"{case.words} may end with {case.status}"
+            checks.holds(name, case.status in command.statuses())
+
+
+def help_texts(checks, wrapper):
+    """Help is asked for in three ways, says of each command what there is to know, and its examples run."""
+    with tempfile.TemporaryDirectory() as folder:
+        listed = run(wrapper, "--help", b"", folder)
+        checks.same("the status of --help, and what it says", listed[1:], (0, ""))
+        for words in ("-h", "help"):
+            checks.same(words, run(wrapper, words, b"", folder), listed)
+        for form, _ in commands.OWN_FORMS:
+            checks.holds(f"--help lists {form}", f"\n{form} " in listed[0].decode())
+            checks.same(f"help of {form}", run(wrapper, f"help {form.split()[0]}", b"", folder)[1:], (0, ""))
+        for command in commands.COMMANDS:
+            checks.holds(f"--help lists {command.form}", f"{command.form} " in listed[0].decode())
+            first = command.form.split()[0].replace("KIND", "back")
+            printed, status, told = run(wrapper, f"help {first}", b"", folder)
+            shown = [command.form, command.example, *(line for line, _ in command.lines), "    0: done"]
+            checks.same(f"help of {first}", (status, told), (0, ""))
+            for line in shown:
+                checks.holds(f"help of {first} has {line!r}", line in printed.decode())
+        with open(f"{TOP}/tools/lineage-completion.bash", encoding="utf-8") as file:
+            completed = re.search(r'-W "([^"]*)"', file.read())[1].replace("\\", " ").split()
+        own = {form.split()[0] for form, _ in commands.OWN_FORMS}
+        checks.same("words that a shell completes", sorted(completed), sorted({*commands.first_words(), *own, "--help"}))
+        checks.same("help of the words of `root`", run(wrapper, "help root 1", b"", folder)[:2], (b"", 1))
+        checks.same("help of no command", run(wrapper, "help me", b"", folder)[:2], (b"", 1))
+        shutil.copytree(f"{TOP}/examples", f"{folder}/examples")
+        os.symlink(wrapper, f"{folder}/lineage")
+        lines = [command.example for command in commands.COMMANDS]
+        # The log of the examples comes first, and `expose` compares with that of its proof.
+        for text in sorted(lines, key=lambda line: "append" not in line):
+            if " expose " in text:
+                os.remove(f"{folder}/{LOG}")
+                run(wrapper, "append", SET_FILE, folder)
+            ran = subprocess.run(["bash", "-c", text], cwd=folder, **QUIET)
+            checks.same(f"the status of {text}", ran.returncode, 0)
 
 
 def files_of(tree):
@@ -358,6 +426,10 @@ def check(checks, program, folder):
     what_of_the_disk(checks, wrapper)
     what_of_rights(checks)
     lock(checks, wrapper)
+    locked_log(checks)
+    zeroed_log(checks, wrapper)
+    word_checks.check(checks, wrapper, make_tree)
     listed_commands(checks, program)
+    help_texts(checks, wrapper)
     pages(checks, tree)
-    building(checks, tree, folder)
+    build_checks.check(checks, tree, folder)

@@ -3,10 +3,25 @@ docs/formats.md and the program to it. What a word may be is defined in crates/c
 """
 import re
 
+from lineage.statuses import (
+    BAD_INPUT,
+    BEYOND,
+    DAMAGED,
+    DISK_FAULT,
+    MEANINGS,
+    NOT_A_LOG,
+    REFUSED,
+    REJECTED,
+    SCRATCH_FAULT,
+    UNREADABLE,
+    USAGE,
+)
+
 KINDS = ("hist", "back", "fwd")
 # What a word in capitals stands for: what it may be, for a person, and as a pattern.
 MAX_NUMBER = 4_294_967_295
 MAX_GENERATED_BLOCKS = 100_000
+EXAMPLE_ROOT = "41f6c6fc6bc756e479b796f7f09689670bee66ffad0189a20e5bf0574966869d"
 DECIMAL = "0|[1-9][0-9]{0,9}"
 WORDS = {
     "KIND": ("hist, back or fwd", "hist|back|fwd"),
@@ -26,68 +41,194 @@ RANGES = {
 
 
 class Command:
-    """A command: its words, of which those in capitals stand for others, and what it does."""
+    """A command: its words, of which those in capitals stand for others, and those in brackets may be left out; and
+    what it does."""
 
-    def __init__(self, form, meaning, reads_input=False, reads_whole=False, uses_log=False):
-        self.form, self.meaning = form, meaning
-        self.reads_input, self.uses_log = reads_input or reads_whole, uses_log
+    def __init__(self, form, meaning, lines, example, **uses):
+        self.form, self.meaning, self.lines, self.example = form, meaning, lines, example
+        # What it reads, for a person; nothing where it reads nothing.
+        self.input = uses.get("input")
+        self.reads_input = self.input is not None
         # Whether it reads its whole input before it prints anything.
-        self.reads_whole = reads_whole
+        self.reads_whole = self.reads_input and self.input is not BLOCKS
+        self.takes_frames = self.input is BLOCKS
+        self.uses_log = uses.get("uses_log", False)
+        self.uses_scratch = uses.get("uses_scratch", False)
+        self.checks_proof = self.input is PROOF
+        self.asks_for_block = "BLOCK" in form
 
-    def words(self):
-        return self.form.split()
+    def forms(self):
+        """Its words, as lists: with what may be left out, and without."""
+        long = self.form.replace("[", "").replace("]", "").split()
+        short = [word for word in self.form.split() if not word.startswith("[")]
+        return [short] if short == long else [short, long]
+
+    def statuses(self):
+        """With which statuses it may end."""
+        may_be = {
+            UNREADABLE: self.reads_input,
+            DISK_FAULT: self.uses_log,
+            NOT_A_LOG: self.uses_log,
+            DAMAGED: self.uses_log,
+            REFUSED: self.takes_frames,
+            BEYOND: self.asks_for_block,
+            REJECTED: self.checks_proof,
+            BAD_INPUT: self.reads_whole,
+            SCRATCH_FAULT: self.uses_scratch,
+        }
+        return [status for status in MEANINGS if may_be.get(status, status != USAGE)]
 
 
+BLOCKS = "a block file"
+PROOF = "a proof in hex digits"
+BAD_FRAME = ("refused frame I CAUSE", "the frame with number I of the input, from 0, is refused")
+NO_BLOCK = ("beyond empty, beyond head H", "there is no block, or BLOCK is past the last one, H")
+NO_LOG = ("not a log, damaged at P", "what the bytes of chain.log are, at the offset P")
+ANSWERS = [
+    ("none", "there is no version of KEY up to BLOCK"),
+    ("block B tx T int V, block B tx T text V", "hist: the version's block, its transaction, and its value"),
+    ("block B deps N", "back: the version's block, and N lines KEY BLOCK, what it was derived from"),
+    ("block B uses N", "fwd: the version's block, and N lines KEY BLOCK, what was derived from it"),
+]
+BAD_PROOF = [
+    ("rejected CAUSE", "the first check of the proof that fails, and what it tells"),
+    ("badinput long, badinput odd, badinput at P", "the input is too long, or no hex"),
+]
+LOAD_LINE = "blocks N rows R root H lookups L entries E most M"
 COMMANDS = [
     Command(
         "scan KIND KEY BLOCK",
-        "what KEY was at BLOCK, by the block file on standard input; KIND is\n"
-        "hist (its value), back (what it was derived from) or fwd (what was derived from it)",
-        reads_input=True,
+        "what KEY was at BLOCK, by a block file",
+        [*ANSWERS, NO_BLOCK, BAD_FRAME],
+        "./lineage scan fwd raw/part/p1 2 < examples/recall.blocks",
+        input=BLOCKS,
     ),
     Command(
         "append",
-        "stores the blocks of the block file on standard input in chain.log, in this folder,\n"
-        "and tells of each once it is stored",
-        reads_input=True,
+        "stores the blocks of a block file in chain.log, and tells of each",
+        [
+            ("block N rows R status S root H", "block N is stored and wrote R rows; S are its transactions' statuses"),
+            ("known N", "the log has this block already"),
+            BAD_FRAME,
+            NO_LOG,
+        ],
+        "./lineage append < examples/recall.blocks",
+        input=BLOCKS,
+        uses_log=True,
+        uses_scratch=True,
+    ),
+    Command(
+        "root [BLOCK]",
+        "the root at BLOCK, a digest over all versions up to it, by chain.log",
+        [("root N H", "H is the root at block N"), NO_BLOCK, NO_LOG],
+        "./lineage root 1",
+        uses_log=True,
+        uses_scratch=True,
+    ),
+    Command(
+        "KIND KEY [BLOCK]",
+        "what KEY was at BLOCK, by chain.log",
+        [*ANSWERS, NO_BLOCK, NO_LOG],
+        "./lineage fwd raw/part/p1",
         uses_log=True,
     ),
-    Command("root", "the root at the last block of chain.log", uses_log=True),
-    Command("root BLOCK", "the root at BLOCK of chain.log", uses_log=True),
-    Command("KIND KEY", "what KEY is at the last block of chain.log", uses_log=True),
-    Command("KIND KEY BLOCK", "what KEY was at BLOCK, by chain.log", uses_log=True),
     Command(
         "prove KIND KEY BLOCK ROOTBLOCK",
-        "a proof, in hex, of what KEY was at BLOCK, by chain.log, for one who has the root at\n"
-        "ROOTBLOCK",
+        "a proof of that, for one who has the root at ROOTBLOCK",
+        [("hex digits", "the bytes of the proof"), NO_BLOCK, NO_LOG],
+        "./lineage prove hist raw/part/p1 2 2 > p1.proof",
         uses_log=True,
+        uses_scratch=True,
     ),
     Command(
         "verify ROOT KIND KEY BLOCK",
-        "what KEY was at BLOCK, by the proof on standard input, which is in hex, for one who has\n"
-        "ROOT; or which check of the proof fails",
-        reads_whole=True,
+        "what KEY was at BLOCK, by a proof, for one who has the root",
+        [*ANSWERS, *BAD_PROOF],
+        f"./lineage verify {EXAMPLE_ROOT} hist raw/a 0 < examples/raw-a.proof",
+        input=PROOF,
     ),
     Command(
         "expose ROOT KIND KEY BLOCK ROOTBLOCK",
-        "two texts with one digest, one of the proof on standard input, if `verify` accepts it, and\n"
-        "one of chain.log up to ROOTBLOCK; or that there are none",
-        reads_whole=True,
+        "where a proof that is accepted and chain.log up to ROOTBLOCK clash",
+        [
+            ("no clash", "there is no clash"),
+            ("clash P C", "P is a text of the proof and C one of the chain, which differ and have one digest"),
+            *BAD_PROOF,
+            NO_BLOCK,
+            NO_LOG,
+        ],
+        f"./lineage expose {EXAMPLE_ROOT} hist raw/a 0 0 < examples/raw-a.proof",
+        input=PROOF,
         uses_log=True,
+        uses_scratch=True,
     ),
     Command(
         "fmt",
-        "the canonical text of the contract on standard input, or its first fault",
-        reads_whole=True,
+        "the canonical text of a contract, or its first fault",
+        [
+            ("badinput syntax P K", "the input is no contract; its first fault, of the sort K, is at offset P"),
+            ("badinput check P K", "the same of the contract's names and kinds"),
+            ("badinput long", "the input is too long"),
+        ],
+        "./lineage fmt < examples/shop.contract",
+        input="a contract",
     ),
     Command(
         "pack",
-        "the block file of the draft on standard input, which is JSON, or its first fault",
-        reads_whole=True,
+        "the block file of a draft, which is JSON, or its first fault",
+        [
+            ("badinput json, badinput top", "the input is no JSON, or no array"),
+            ("badinput block B, badinput draft B T", "the first fault is in block B, or its transaction T"),
+            ("badinput long", "the input is too long"),
+        ],
+        "./lineage pack < examples/supply-chain.json > supply-chain.blocks",
+        input="a draft",
     ),
-    Command("gen N SEED", "a block file of N blocks, drawn from the number SEED"),
-    Command("load N SEED", "how many versions look-ups look at, over these blocks in memory"),
+    Command(
+        "gen N SEED",
+        "a block file of N blocks, drawn from the number SEED",
+        [],
+        "./lineage gen 100 7 > drawn.blocks",
+    ),
+    Command(
+        "load N SEED",
+        "how many versions look-ups look at, over these blocks in memory",
+        [(LOAD_LINE, "there are N blocks and R rows; L look-ups looked at E versions, and one at M at most")],
+        "./lineage load 100 7",
+        uses_scratch=True,
+    ),
 ]
+# What ./lineage does itself.
+OWN_FORMS = [
+    ("help [WORD]", "this list, or more about the commands that begin with WORD; --help does the same"),
+    ("--prove", "proves the program and builds it over its proofs; it answers from then on"),
+    ("--proved WORDS..", "a command, by the proved program or not at all"),
+    ("--install [DIR]", "copies the proved program to DIR, or to /usr/local/bin"),
+    ("--test", "runs the tests that need no proof, and says last how many passed and failed"),
+    ("--version", "what the program was built from, and whether it is proved"),
+]
+FORM_COLUMNS = 38
+
+
+def listed():
+    """All commands, each with what it does."""
+    rows = [(command.form, command.meaning) for command in COMMANDS] + OWN_FORMS
+    lines = [f"{form:{FORM_COLUMNS}}{meaning}" for form, meaning in rows]
+    kinds = "KIND is hist, the value of KEY; back, what it was derived from; or fwd, what was derived from it."
+    return "\n".join([*lines, kinds, "BLOCK left out is the last one. A command reads standard input, where it reads one."])
+
+
+def described(command):
+    """What there is to know of a command."""
+    lines = [command.form, f"  {command.meaning}"]
+    names = [name for name in WORDS if name in re.findall(r"\w+", command.form)]
+    lines += [f"  {name} is {WORDS[name][0]}" for name in names]
+    lines.append(f"  reads {command.input or 'no input'}" + (", and chain.log in this folder" * command.uses_log))
+    lines.append("  prints" if command.lines else "  prints a block file")
+    lines += [f"    {line}: {meaning}" for line, meaning in command.lines]
+    lines.append("  ends with status")
+    lines += [f"    {status}: {MEANINGS[status]}" for status in command.statuses()]
+    return "\n".join([*lines, "  for example", f"    {command.example}"])
 
 
 def may_be(name, word):
@@ -109,19 +250,24 @@ def has_form(words):
 def command_of(words):
     """The command whose form the words have."""
     for command in beginning_with(words):
-        if len(command.words()) == len(words):
+        if form_of(command, words):
             return command
     return None
 
 
+def form_of(command, words):
+    """The words of a command that are as many as these; none where it has no such form."""
+    return next((form for form in command.forms() if len(form) == len(words)), None)
+
+
 def beginning_with(words):
     """The commands that may begin with the first of the words."""
-    return [command for command in COMMANDS if words and may_be(command.words()[0], words[0])]
+    return [command for command in COMMANDS if words and may_be(command.form.split()[0], words[0])]
 
 
 def first_words():
     """What the first word may be."""
-    names = [command.words()[0] for command in COMMANDS]
+    names = [command.form.split()[0] for command in COMMANDS]
     return sorted(set(KINDS).union(names) - {"KIND"})
 
 
@@ -135,8 +281,9 @@ def what_is_wrong(words):
     command = command_of(words)
     if not command:
         forms = " or ".join(f"`{each.form}`" for each in commands)
-        return f"these are {len(words)} words, and the command is {forms}"
-    for number, (name, word) in enumerate(zip(command.words(), words), 1):
+        count = "this is one word" if len(words) == 1 else f"these are {len(words)} words"
+        return f"{count}, and the command is {forms}"
+    for number, (name, word) in enumerate(zip(form_of(command, words), words), 1):
         if not may_be(name, word):
             return f"word {number}, `{word}`, is not {name}: {WORDS[name][0]}"
     return None

@@ -1,117 +1,114 @@
-"""Proves and builds the program where it must be, for ./lineage, and tells whether it must be.
-
-out/lineage.built says what the built program was built from, and what it was then.
+"""Builds the program for ./lineage where it must be: without its proofs where none is there, which is quick, and
+over its proofs by `--prove`.
 """
 import contextlib
 import fcntl
-import hashlib
-import json
 import os
 import re
 import shutil
-import signal
 import subprocess
-import time
 
+from lineage import programs, quick_build
 from lineage.lineage_messages import say
+from lineage.programs import PROVED, UNPROVED
+from lineage.progress import Progress, minutes
 from places import TOP
 
-PROGRAM = f"{TOP}/crates/lineage/out/lineage"
 LOG = f"{TOP}/out/lineage.log"
-BUILT = f"{TOP}/out/lineage.built"
-# The files that were read last, each by what would change with it, and what was made of them.
-KEPT = f"{TOP}/out/lineage.kept"
-# A file that changed so shortly before it was read may change again within one tick of its clock.
-TICK_NANOSECONDS = 2_000_000_000
+CRATE = "lineage"
 # A crate's check from nothing takes up to so many bytes of memory.
 CHECK_BYTES = 4 << 30
-# How often it is said how far the proofs are, in seconds: on a terminal, and elsewhere.
-TERMINAL_PERIOD = 1
-PLAIN_PERIOD = 60
+# How often it is said how far a quick build is where there is no terminal, in seconds.
+QUICK_PERIOD = 20
 
 
-# ---- what was built from what
+def has_toolchain():
+    """Whether the toolchain is there, which is said if not."""
+    if shutil.which("rt"):
+        return True
+    say("the Rattle toolchain isn't there to build the program: no `rt` on the path")
+    return False
 
 
-def source_files():
-    """All files that are proved, and those that say what is proved."""
-    files = [file for file in (f"{TOP}/crates.txt", f"{TOP}/HANDLES") if os.path.isfile(file)]
+def kit():
+    """Which toolchain this is, in its own words."""
+    words = {"stdin": subprocess.DEVNULL, "capture_output": True, "text": True}
     with contextlib.suppress(OSError):
-        for crate in os.listdir(f"{TOP}/crates"):
-            for part in ("src", "specs", "proofs"):
-                files += files_below(f"{TOP}/crates/{crate}/{part}")
-    return sorted(files)
+        return subprocess.run(["rt", "version"], **words).stdout.strip() or "unknown"
+    return "unknown"
 
 
-def files_below(folder):
-    """The files of a folder that may be there, and of those in it."""
-    with contextlib.suppress(FileNotFoundError):
-        for entry in os.scandir(folder):
-            if entry.is_dir():
-                yield from files_below(entry.path)
-            else:
-                yield entry.path
+@contextlib.contextmanager
+def one_at_a_time(path):
+    """The file of this path, for writing, which is locked: another build has ended then."""
+    os.makedirs(os.path.dirname(path), exist_ok=True)
+    with open(path, "a+", encoding="utf-8", errors="replace") as file:
+        try:
+            fcntl.flock(file, fcntl.LOCK_EX | fcntl.LOCK_NB)
+        except BlockingIOError:
+            say("waiting for another build to end")
+            fcntl.flock(file, fcntl.LOCK_EX)
+        yield file
 
 
-def digest_of(file):
-    with open(file, "rb") as it:
-        return hashlib.sha256(it.read()).hexdigest()
-
-
-def digest_of_all(files):
-    lines = [f"{os.path.relpath(file, TOP)} {digest_of(file)}" for file in files]
-    return hashlib.sha256("\n".join(lines).encode()).hexdigest()
-
-
-def stamp_of(file):
-    """What changes where a file does: its size, its times and its number."""
-    it = os.stat(file)
-    return [file, it.st_size, it.st_mtime_ns, it.st_ctime_ns, it.st_ino]
-
-
-def digests():
-    """The digests of the sources and of the program, by content. Where no file has changed since they
-    were worked out last, they are those that were kept."""
-    files = [*source_files(), PROGRAM]
-    stamps = [stamp_of(file) for file in files]
-    with contextlib.suppress(OSError, ValueError, KeyError):
-        with open(KEPT, encoding="utf-8") as file:
-            kept = json.load(file)
-        if kept["stamps"] == stamps:
-            return kept["digests"]
-    found = [digest_of_all(files[:-1]), digest_of(PROGRAM)]
-    newest = max(max(changed, made) for _, _, changed, made, _ in stamps)
-    if newest + TICK_NANOSECONDS < time.time_ns():
-        keep({"stamps": stamps, "digests": found})
-    return found
-
-
-def keep(what):
-    """Keeps what was worked out, where it can be."""
-    with contextlib.suppress(OSError):
-        part = f"{KEPT}.{os.getpid()}"
-        with open(part, "w", encoding="utf-8") as file:
-            json.dump(what, file)
-        os.replace(part, KEPT)
-
-
-def is_built():
-    """Whether the program is the one that was built from these sources."""
-    try:
-        with open(BUILT, encoding="utf-8") as file:
-            return file.read().split() == digests()
-    except OSError:
+def has_changed(sources):
+    """Whether the sources are others than those of this digest, which is said."""
+    if programs.digest_of_sources() == sources:
         return False
+    say("the sources changed meanwhile; start again")
+    return True
 
 
-def mark_built(sources):
-    """Notes that the program was built from sources of this digest."""
-    os.makedirs(os.path.dirname(BUILT), exist_ok=True)
-    with open(BUILT, "w", encoding="utf-8") as file:
-        file.write(f"{sources} {digest_of(PROGRAM)}\n")
+# ---- without proofs
 
 
-# ---- building
+def ensure_program():
+    """The program that answers, which is built without its proofs where none does; none where that fails."""
+    found = programs.present()
+    if found or not has_toolchain():
+        return found
+    why = "the sources are others than those that were proved" if PROVED.words() else "nothing is proved here"
+    say(f"{why}; building the program without its proofs, which takes some two minutes")
+    return build_unproved(UNPROVED)
+
+
+def build_unproved(program):
+    """Builds a program without its proofs, if another build hasn't meanwhile; none where that fails."""
+    folder = os.path.dirname(program.path)
+    with one_at_a_time(f"{folder}/lock"):
+        if programs.is_current(program):
+            return program
+        sources = programs.digest_of_sources()
+        room, built = f"{folder}/room", f"{folder}/new"
+        shutil.rmtree(room, ignore_errors=True)
+        os.mkdir(room)
+        try:
+            build_quickly(f"{TOP}/crates/{program.crate}", room, built)
+        except quick_build.NotBuilt as error:
+            say(f"the program wasn't built: {error}")
+            return None
+        finally:
+            shutil.rmtree(room, ignore_errors=True)
+        if has_changed(sources):
+            return None
+        os.replace(built, program.path)
+        program.take_mark(sources, kit())
+        return program
+
+
+def build_quickly(crate, room, program):
+    """Builds a program without its proofs, and says how far it is."""
+    steps = ["before the first step"]
+
+    def text():
+        return f"building, {steps[-1]}, after {minutes(progress.seconds())}"
+
+    with Progress(text, say, QUICK_PERIOD) as progress:
+        quick_build.build(crate, room, program, steps.append)
+    say(f"built it in {minutes(progress.seconds())}")
+
+
+# ---- over proofs
 
 
 def jobs():
@@ -120,48 +117,55 @@ def jobs():
     return max(1, min(len(os.sched_getaffinity(0)), memory // CHECK_BYTES))
 
 
-class Progress:
-    """How far the proofs are: on a terminal a line that is renewed, else a line a minute."""
+def crates_below(name):
+    """A crate and those that it stands on: of each how many bytes its sources and proofs have."""
+    with open(f"{TOP}/crates.txt", encoding="utf-8") as file:
+        lines = re.findall(r"(?m)^(\w+)\b[^:\n#]*:([^\n#]*)", file.read())
+    below = {crate: deps.split() for crate, deps in lines}
+    found, waiting = {}, [name]
+    while waiting:
+        crate = waiting.pop()
+        if crate in below and crate not in found:
+            files = [
+                file
+                for part in ("src", "specs", "proofs")
+                for file in programs.files_below(f"{TOP}/crates/{crate}/{part}")
+            ]
+            found[crate] = sum(map(os.path.getsize, files))
+            waiting += below[crate]
+    return found
 
-    def __init__(self):
-        with open(f"{TOP}/crates.txt", encoding="utf-8") as file:
-            self.crates = sum(bool(re.match(r"\w+\b.*:", line)) for line in file)
+
+class Proofs:
+    """How far the proofs are, by the lines of their log."""
+
+    def __init__(self, sizes):
+        self.sizes = sizes
+        self.crates = len(sizes)
         self.done = self.functions = 0
-        self.start = time.monotonic()
-        self.is_terminal = os.isatty(2)
-
-    def __enter__(self):
-        period = TERMINAL_PERIOD if self.is_terminal else PLAIN_PERIOD
-        signal.signal(signal.SIGALRM, lambda *_: self.show())
-        signal.setitimer(signal.ITIMER_REAL, period, period)
-        return self
-
-    def __exit__(self, *_):
-        signal.setitimer(signal.ITIMER_REAL, 0)
-        if self.is_terminal:
-            self.renew("")
+        self.left = sum(sizes.values())
+        # The bytes of the crates that were proved since the start, and not kept from before, and the last crate.
+        self.proved, self.last = 0, None
 
     def read(self, line):
         """Takes a line of the log. A crate's lines come when it is proved, first its name, and last
         how many functions it has, unless its proof was kept from before."""
         functions = re.match(r"logic=proved functions=(\d+)", line)
+        crate = re.match(r"== (\w+)$", line)
         if functions:
             self.functions += int(functions[1])
-        elif line.startswith("== ") and line != "== summary\n":
-            self.done += 1
+            self.proved += self.sizes.get(self.last, 0)
+        elif crate and crate[1] != "summary":
+            self.done, self.last = self.done + 1, crate[1]
+            self.left -= self.sizes.get(self.last, 0)
 
-    def show(self):
-        minutes, seconds = divmod(int(time.monotonic() - self.start), 60)
-        text = f"proved {self.done} of {self.crates} crates, {self.functions} functions"
-        text = f"{text}, after {minutes} min {seconds} s"
-        if self.is_terminal:
-            self.renew(f"lineage: {text}")
-        else:
-            say(text)
+    def text(self, seconds):
+        text = f"proved {self.done} of {self.crates} crates, {self.functions} functions, after {minutes(seconds)}"
+        return text + (f"; some {self.minutes_left(seconds)} min are left" if self.proved else "")
 
-    def renew(self, text):
-        with contextlib.suppress(OSError):
-            os.write(2, f"\r\x1b[K{text}".encode())
+    def minutes_left(self, seconds):
+        """How long the others take, if they go on as those that were proved since the start."""
+        return max(1, round(seconds * max(self.left, 0) / self.proved / 60))
 
 
 def run_logged(words, folder, log, read=len, source=subprocess.DEVNULL):
@@ -179,53 +183,43 @@ def run_logged(words, folder, log, read=len, source=subprocess.DEVNULL):
         child.wait()
 
 
-def build(log):
-    """Proves all crates, and builds the program over their proofs."""
-    say(f"proving and building the program; the first time this takes many minutes. Log: {LOG}")
-    with Progress() as progress:
-        if run_logged(["rt", "all", "check", "--jobs", str(jobs())], TOP, log, progress.read):
+def build_proved(log):
+    """Proves the program and the crates that it stands on, and builds it over their proofs."""
+    proofs, crate = Proofs(crates_below(CRATE)), f"{TOP}/crates/{CRATE}"
+    say(f"proving {proofs.crates} crates; from nothing this takes many minutes. Log: {LOG}")
+    with Progress(lambda: proofs.text(progress.seconds()), say) as progress:
+        if run_logged(["rt", "all", "check", "--jobs", str(jobs())], crate, log, proofs.read):
             return False
-    say(f"proved {progress.crates} crates; building the program")
+    say(f"proved {proofs.crates} crates in {minutes(progress.seconds())}; building the program")
     with open(f"{TOP}/examples/one-set.blocks", "rb") as example:
         words = ["rt", "run", "--", "scan", "hist", "raw/a", "0"]
-        return run_logged(words, f"{TOP}/crates/lineage", log, source=example) == 0
+        return run_logged(words, crate, log, source=example) == 0
 
 
 def report_failure(log):
     """Says that the program wasn't built, and how the log ends."""
     log.seek(0)
     lines = [line.rstrip("\n") for line in log][-12:]
-    say("\n".join(["the program wasn't built. The log ends so:", *lines, f"all of it: {LOG}"]))
+    say("\n".join(["the program wasn't proved and built. The log ends so:", *lines, f"all of it: {LOG}"]))
     return False
 
 
-def ensure_built():
-    """Whether the program is there, built from the sources as they are."""
-    if is_built():
+def prove():
+    """Whether there is a proved program of the sources as they are: proves and builds it where there is none."""
+    if programs.present() is PROVED:
+        say("the program that is there is that of these sources, and proved")
         return True
-    if not shutil.which("rt"):
-        say("the Rattle toolchain isn't there to prove and build the program: no `rt` on the path")
+    if not has_toolchain():
         return False
-    os.makedirs(os.path.dirname(LOG), exist_ok=True)
-    with open(LOG, "a+", encoding="utf-8", errors="replace") as log:
-        wait_for(log)
-        if is_built():
+    with one_at_a_time(LOG) as log:
+        if programs.present() is PROVED:
             return True
         log.truncate(0)
-        sources = digest_of_all(source_files())
-        if not build(log) or not os.path.exists(PROGRAM):
+        sources = programs.digest_of_sources()
+        if not build_proved(log) or not os.path.exists(PROVED.path):
             return report_failure(log)
-        if digest_of_all(source_files()) != sources:
-            say("the sources changed meanwhile; start again")
+        if has_changed(sources):
             return False
-    mark_built(sources)
+        PROVED.take_mark(sources, kit())
+    say("proved; from now on `./lineage` runs the proved program")
     return True
-
-
-def wait_for(log):
-    """Waits while another one builds."""
-    try:
-        fcntl.flock(log, fcntl.LOCK_EX | fcntl.LOCK_NB)
-    except BlockingIOError:
-        say("waiting for another build to end")
-        fcntl.flock(log, fcntl.LOCK_EX)

@@ -4,13 +4,14 @@ It looks at the words, the folder and the input again, and runs the program agai
 reads; nothing here decides what the program prints or how it ends.
 """
 import contextlib
+import fcntl
 import os
 import re
 import resource
 import stat
 import subprocess
 
-from lineage import commands, draft_faults
+from lineage import commands, kinds, locks
 
 LOG_FILE = "chain.log"
 MAX_SOURCE_BYTES = 67_108_864
@@ -21,19 +22,25 @@ MAX_AGAIN_BYTES = 1 << 28
 # The offset of the first record's gate in a log, and an open gate.
 FIRST_GATE = 8
 OPEN = b"\xa5"
+MAGIC = b"LCLOG1\n"
+# What a crash leaves of a log that is being made has at most a head: two gates and the magic.
+HEAD_BYTES = 9
 EXAMPLE = "./lineage scan hist raw/a 0 < examples/one-set.blocks"
-HELP = ([], ["--help"], ["-h"], ["help"])
-PACK_FIRST = "the input looks like a draft, which is JSON: pack it first, ./lineage pack < DRAFT > BLOCKS"
+PACK_FIRST = kinds.advice(b"[", kinds.BLOCK_FILE)
 SENTENCES = {
     2: "standard input can't be read",
     3: "standard output can't be written",
     5: "out of memory",
-    6: "chain.log holds something else than a log",
     7: "chain.log was changed or cut: at the offset that was printed stands no record of the next\n"
     "block; docs/log.md says what to do",
-    12: "chain.scratch, the file of a run for bodies of versions, can't be made, written or read here;\n"
-    "docs/log.md says what to do",
+    12: "the scratch file of the run can't be made, written or read, in the folder that TMPDIR names, or in\n"
+    "the present one where that isn't set; docs/log.md says what to do",
 }
+OTHER_CAUSES = (
+    f"a call of the disk failed, see `dmesg`; or another `append` had {LOG_FILE} locked, and has ended since;\n"
+    "or another program made, changed, moved or removed it meanwhile"
+)
+NO_LOG = "chain.log holds something else than a log"
 TOO_LONG = "the input is longer than 67,108,864 bytes"
 BAD_CONTRACT = "the input is no contract"
 CONTRACT_FAULTS = {
@@ -71,6 +78,10 @@ REJECTED = {
     "body": "the body of the proof has another digest than its header names",
     "list": "the uses of the proof are others than those that are told of",
 }
+# Where the key of the question begins in a proof, after the magic, the kind and its length; and how many bytes a
+# question and these take at most.
+QUESTION_FRONT = 7
+MAX_QUESTION_BYTES = QUESTION_FRONT + 64 + 4
 NOT_ACCEPTED = "the proof is not accepted; docs/proofs.md has the checks"
 HEX_FAULTS = {
     "odd": "a proof is in hex, two digits a byte, and the number of digits is odd",
@@ -93,6 +104,8 @@ def explain(program, status, words, start):
         say(usage_sentence(words))
     elif status == 4:
         say(disk_sentence(words))
+    elif status == 6:
+        say(no_log_sentence())
     elif status == 8:
         say(refused_sentence(program, words, start))
     elif status == 9:
@@ -114,22 +127,69 @@ def usage_sentence(words):
     """What is wrong with words, and what the commands are, where not even the first word is one's."""
     wrong = commands.what_is_wrong(words)
     shown = commands.beginning_with(words)
-    lines = [] if words in HELP or not wrong else [wrong]
-    lines += ["the commands are"] * (not shown)
-    for command in shown or commands.COMMANDS:
-        lines += [command.form, *(f"    {line}" for line in command.meaning.split("\n"))]
-    return "\n".join(lines + [f"for example: {EXAMPLE}"] * (not shown))
+    lines = [wrong] if wrong else []
+    if shown:
+        lines += [f"{command.form}: {command.meaning}" for command in shown]
+        return "\n".join([*lines, f"`./lineage help {words[0]}` says more"])
+    return "\n".join([*lines, "the commands are", commands.listed(), f"for example: {EXAMPLE}"])
 
 
 def beyond_sentence(words):
     command = commands.command_of(words)
     if command and command.uses_log and not os.path.exists(LOG_FILE):
         return f"there is no log here: {os.getcwd()} has no {LOG_FILE}, which `append` makes"
+    if command and command.uses_log and is_zeroed():
+        return zeroed_sentence()
     if command and command.uses_log and log_frames_end() == FIRST_GATE:
         return f"{LOG_FILE} has no block yet"
     if words[0] in ("prove", "expose") and int(words[-2]) > int(words[-1]):
         return "BLOCK is past ROOTBLOCK, and a root says nothing of later blocks"
     return "there is no such block: the chain ends before it"
+
+
+# ---- a log whose first byte was zeroed
+
+
+def first_bytes():
+    """How many bytes the log has, and the first of them; none where it is no file that can be read."""
+    with contextlib.suppress(OSError):
+        # So that opening a pipe doesn't wait.
+        log = os.open(LOG_FILE, os.O_RDONLY | os.O_NONBLOCK)
+        with os.fdopen(log, "rb") as file:
+            found = os.fstat(log)
+            if stat.S_ISREG(found.st_mode):
+                return found.st_size, file.read(kinds.FIRST_BYTES)
+    return 0, b""
+
+
+def is_zeroed():
+    """Whether the log begins with a zero, so that it stands for no block and `append` writes over it, and
+    yet has more than a crash leaves of a log that is being made."""
+    size, first = first_bytes()
+    return size > HEAD_BYTES and first[:1] == b"\0"
+
+
+def no_log_sentence():
+    """What stands in the place of the log."""
+    with contextlib.suppress(OSError), open(LOG_FILE, "rb") as file:
+        advice = kinds.advice(file.read(kinds.FIRST_BYTES), kinds.LOG, LOG_FILE)
+        if advice:
+            return f"{NO_LOG}; move it away\n{advice}"
+    return f"{NO_LOG}; docs/log.md says what to do"
+
+
+def zeroed_sentence():
+    size, first = first_bytes()
+    found = f"{LOG_FILE} has {size:,} bytes and begins with a zero, as no crash leaves it; it stands for no block"
+    if first[1:].startswith(MAGIC):
+        done = (
+            "its first byte was a5, and what follows is whole; take a copy, and restore that byte:\n"
+            f"printf '\\245' | dd of={LOG_FILE} bs=1 count=1 conv=notrunc"
+        )
+    else:
+        done = kinds.advice(first, kinds.LOG, "it") or "it is no log whose first byte alone was changed"
+        done = f"{done}\nsee where it comes from, and move it away"
+    return "\n".join([f"{found}, and `append` would write over it", done])
 
 
 # ---- the disk
@@ -138,10 +198,29 @@ def beyond_sentence(words):
 def disk_sentence(words):
     """What of the log, its folder or the space is in the way, as far as it can be seen."""
     writes = words == ["append"]
-    causes = [*log_causes(writes), *folder_causes(writes), *space_causes(writes)]
-    causes = causes or ["a call of the disk failed, or another program made the log meanwhile; see `dmesg`"]
+    causes = [*log_causes(writes), *folder_causes(writes), *space_causes(writes), *lock_causes(writes)]
+    causes = causes or [OTHER_CAUSES if writes else "a call of the disk failed; see `dmesg`"]
     stored = "what was told of is stored, and docs/log.md says what to do"
     return "\n".join([f"the log can't be opened, read, written or synced; {stored}", *causes])
+
+
+def lock_causes(writes):
+    """Who has the log locked, which `append` does as long as it runs."""
+    if not writes:
+        return
+    with contextlib.suppress(OSError):
+        log = os.open(LOG_FILE, os.O_RDONLY | os.O_NONBLOCK)
+        try:
+            holder = locks.holder_of(os.fstat(log))
+            if holder:
+                yield f"{holder} has {LOG_FILE} locked, as another `append` does as long as it runs"
+            else:
+                # This takes no lock, and fails where there can be none.
+                fcntl.flock(log, fcntl.LOCK_UN)
+        except OSError:
+            yield f"the file system of {LOG_FILE} has no locks, and `append` takes one"
+        finally:
+            os.close(log)
 
 
 def log_causes(writes):
@@ -194,14 +273,14 @@ def refused_sentence(program, words, start):
             lines.append(f"{' '.join([cause, letter]).strip()}: {text.format(letter)}")
         return "\n".join([*lines, f"where {PACK_FIRST}"])
     cause, number = refused[1], refused[2]
-    if cause == "length" and looks_like_json(int(number).to_bytes(LENGTH_BYTES, "big")):
-        return PACK_FIRST
-    return f"{REFUSED}: {CAUSES[cause][1].format(number)}"
+    return kind_advice(words, start) or f"{REFUSED}: {CAUSES[cause][1].format(number)}"
 
 
-def looks_like_json(first_bytes):
-    """Whether so begins an array or an object, with what may stand before it and in it."""
-    return re.match(rb"\s*[\[{][\s\[{\"\]}]*$|\s+$", first_bytes) is not None
+def kind_advice(words, start):
+    """What the input is, where it is of another kind than the command reads, and what to do then."""
+    with contextlib.suppress(OSError):
+        return kinds.advice(os.pread(0, kinds.FIRST_BYTES, start), kinds.READS.get(words[0]))
+    return ""
 
 
 def refused_line(program, words, start):
@@ -275,7 +354,19 @@ def rejected_sentence(program, words, start):
     rejected = re.match(r"rejected (\w+) ?(\w*)", printed.decode("ascii", "replace"))
     if not rejected or rejected[1] not in REJECTED:
         return NOT_ACCEPTED
+    if rejected[1] == "query":
+        return f"{NOT_ACCEPTED}: {REJECTED['query']}{question_of(start)}"
     return f"{NOT_ACCEPTED}: {REJECTED[rejected[1]].format(rejected[2])}"
+
+
+def question_of(start):
+    """Of which question a proof is, by its first fields (docs/proofs.md); the input has one, in hex."""
+    with contextlib.suppress(OSError, ValueError, LookupError):
+        proof = bytes.fromhex(os.pread(0, 2 * MAX_QUESTION_BYTES, start).decode("ascii").strip())
+        end = QUESTION_FRONT + int.from_bytes(proof[QUESTION_FRONT - 2 : QUESTION_FRONT], "big")
+        key, block = proof[QUESTION_FRONT:end].decode("ascii"), int.from_bytes(proof[end : end + 4], "big")
+        return f": {commands.KINDS[proof[4]]} {key} {block}"
+    return ""
 
 
 def hex_sentence(printed):
@@ -289,11 +380,16 @@ def hex_sentence(printed):
 
 def input_sentence(program, words, start):
     """What is wrong with an input."""
+    from lineage import draft_faults
+
     if start is None:
         return {"fmt": BAD_CONTRACT, "verify": NO_HEX, "expose": NO_HEX}.get(words[0], draft_faults.NO_DRAFT)
     printed = printed_again(program, words, start)
     if printed == b"badinput long\n":
         return TOO_LONG
+    advice = kind_advice(words, start)
+    if advice:
+        return advice
     if words[0] in ("verify", "expose"):
         return hex_sentence(printed)
     with open("/proc/self/fd/0", "rb") as file:
@@ -304,12 +400,12 @@ def input_sentence(program, words, start):
     return draft_faults.sentence(source, printed.decode("ascii", "replace").split())
 
 
-def contract_sentence(source, printed):
+def contract_sentence(source, printed, name="the input"):
     """What is wrong with a contract, with line and column."""
     fault = re.match(rb"badinput (?:syntax|check) (\d+) (\w+)\n$", printed)
     if not fault:
-        return BAD_CONTRACT
+        return f"{name} is no contract"
     offset = int(fault[1])
     line = source.count(b"\n", 0, offset) + 1
     column = offset - source.rfind(b"\n", 0, offset)
-    return f"line {line}, column {column} of the input: {CONTRACT_FAULTS[fault[2].decode()]}"
+    return f"line {line}, column {column} of {name}: {CONTRACT_FAULTS[fault[2].decode()]}"

@@ -17,7 +17,8 @@ pub(crate) fn keep(
     index: BodyIndex,
     body: RcSlice<u8>,
 )
-    ensures { (pair : ℕ × List ℕ) → Contains (pairs_of cache.new.entries) pair
+    ensures capacity { cache.new.cap ≡ cache.old.cap }
+    ensures at_hand { (pair : ℕ × List ℕ) → Contains (pairs_of cache.new.entries) pair
         → Contains (pairs_of cache.old.entries) pair ⊎ (pair ≡ (index.0, rc_slice_items body)) }
 {
     match cache.put(index, body) {
@@ -32,7 +33,8 @@ pub(crate) fn keep_shared(
     index: BodyIndex,
     body: &RcSlice<u8>,
 )
-    ensures { (pair : ℕ × List ℕ) → Contains (pairs_of cache.new.entries) pair
+    ensures capacity { cache.new.cap ≡ cache.old.cap }
+    ensures at_hand { (pair : ℕ × List ℕ) → Contains (pairs_of cache.new.entries) pair
         → Contains (pairs_of cache.old.entries) pair ⊎ (pair ≡ (index.0, rc_slice_items body.now)) }
 {
     match body.clone() {
@@ -46,6 +48,7 @@ pub(crate) fn body_at_hand(
     cache: &mut LruCache<BodyIndex, RcSlice<u8>>,
     index: BodyIndex,
 ) -> Result<Option<RcSlice<u8>>, Memory>
+    ensures capacity { cache.new.cap ≡ cache.old.cap }
     ensures kept { (pair : ℕ × List ℕ) → Contains (pairs_of cache.new.entries) pair
         → Contains (pairs_of cache.old.entries) pair }
     ensures found { IfOk result

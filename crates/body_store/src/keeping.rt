@@ -58,6 +58,7 @@ pub(crate) fn body_from<S: Scratch>(
     ensures body { IfOk result
         (λ body. is_known (S.state scratch.old) ≡ true
         → body_at kept.now index.0 ≡ Some (rc_slice_items body)) }
+    ensures capacity { cache.new.cap ≡ cache.old.cap }
     ensures agrees { Agrees (record { kept = kept.now; cached = pairs_of cache.new.entries })
         (S.state scratch.new) }
     ensures retains { Retains (S.state scratch.old) (S.state scratch.new) }
@@ -87,6 +88,7 @@ pub(crate) fn push_to<S: Scratch>(
         (bodies_of kept.new ≡ bodies_of kept.old ++ rc_slice_items body ∷ []) }
     ensures kept { OnErr result (kept.new ≡ kept.old) }
     ensures cache { OnErr result (cache.new ≡ cache.old) }
+    ensures capacity { cache.new.cap ≡ cache.old.cap }
     ensures agrees { Agrees (record { kept = kept.new; cached = pairs_of cache.new.entries })
         (S.state scratch.new) }
     ensures retains { Retains (S.state scratch.old) (S.state scratch.new) }

@@ -6,7 +6,11 @@ ghost use Rattle.std.specs.{
 };
 ghost use Rattle.lc_base.specs.{Faults.{HasCause}, declared.limits.TheConstants.{MAX_ROWS}};
 ghost use Rattle.scratch_model.specs.Scratch.{ScratchState, is_known, Retains};
-ghost use Rattle.body_store.specs.{Bodies.{bodies_in, body_at_index}, Agreement.{Agrees}};
+ghost use Rattle.body_store.specs.{
+  declared.limits.TheConstants.{CACHED_BODIES},
+  Bodies.{bodies_in, body_at_index},
+  Agreement.{Agrees},
+};
 
 use crate::keeping::{body_from, push_to};
 use crate::kept::{BodyIndex, Kept};
@@ -28,8 +32,9 @@ pub struct Bodies {
 }
 
 impl Model for Bodies {
-    ghost use Rattle.std.specs.Prelude.{◌≤◌, length};
+    ghost use Rattle.std.specs.Prelude.{◌≡◌, ◌≤◌, length};
     ghost use Rattle.lc_base.specs.declared.limits.TheConstants.{MAX_ROWS};
+    ghost use Rattle.body_store.specs.declared.limits.TheConstants.{CACHED_BODIES};
     ghost use Rattle.body_store.specs.Bodies.{BodiesState};
     ghost use Rattle.body_store.specs.Cached.{pairs_of};
 
@@ -37,12 +42,13 @@ impl Model for Bodies {
 
     ghost view = { λ bodies. record { kept = bodies.kept; cached = pairs_of bodies.cache.entries } };
 
-    ghost invariant = { λ bodies. length bodies.kept ≤ MAX_ROWS };
+    ghost invariant = { λ bodies. (length bodies.kept ≤ MAX_ROWS) × (bodies.cache.cap ≡ CACHED_BODIES) };
 }
 
 /// A cache with no body at hand.
 fn empty_cache(alloc: Global) -> Result<LruCache<BodyIndex, RcSlice<u8>>, AllocError>
-    ensures { IfOk result (λ cache. cache.entries ≡ []) }
+    ensures none { IfOk result (λ cache. cache.entries ≡ []) }
+    ensures capacity { IfOk result (λ cache. cache.cap ≡ CACHED_BODIES) }
 {
     LruCache::sparse(alloc, NonZeroUsize::new(CACHED_BODIES).unwrap())
 }

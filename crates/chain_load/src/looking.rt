@@ -7,8 +7,8 @@ ghost use Rattle.chain_gen.specs.Generator.{standing_at};
 ghost use Rattle.chain_load.specs.Lookups.{CanBeLookedUp, lookup_drawn, lookups_drawn, looked_at, lookup_counts};
 
 use chain_gen::Gen;
-use entry_store::Steps;
 use lc_base::{HostError, Kind, Query};
+use lineage_store::Steps;
 use merkle_dag::Lineage;
 use prov_query::{AskError, ask};
 use scratch_model::Scratch;

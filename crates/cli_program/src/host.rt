@@ -40,7 +40,8 @@ fn scratch_of(rt: &HostRuntime) -> Result<FileScratch<'_>, Memory> {
 /// Runs on words over standard input, standard output, the log and a scratch file.
 fn run_on_words(rt: &HostRuntime, words: &[String]) -> Status
     // Each status comes only of the commands that may end with it.
-    ensures ends { (command : Option Command) → IsCommand (map string_bytes words.now) command → MayEnd result command }
+    ensures ends { (command : Option Command) → IsCommand (map string_bytes words.now) command
+        → MayEnd result command }
 {
     let mut scratch = match scratch_of(rt) {
         Ok(scratch) => scratch,
@@ -53,13 +54,17 @@ fn run_on_words(rt: &HostRuntime, words: &[String]) -> Status
     status
 }
 
-/// Runs on the words that the program was started with, its name left out. The scratch file has no name
-/// but for an instant; where the system leaves it one, that is removed at the end, as far as it can be.
+/// Runs on the words that the program was started with, its name left out. The scratch file has no
+/// name but for an instant; where the system leaves it one, that is removed at the end, as far as
+/// it can be.
 pub fn run_on_host(rt: &HostRuntime, args: io::Result<Args>) -> Status
     // Each status comes only of the commands that may end with it.
-    ensures ends { IfOk args (λ args. (command : Option Command) → IsCommand (map string_bytes (drop 1 (into_iter_items args))) command → MayEnd result command) }
+    ensures ends { IfOk args (λ args. (command : Option Command)
+        → IsCommand (map string_bytes (drop 1 (into_iter_items args))) command
+        → MayEnd result command) }
     // Where there is no memory for the words, the program ends with the status of that.
-    ensures memory { IfErr args (λ error. IfSome (status_without_words (error_kind error)) (λ status. result ≡ status)) }
+    ensures memory { IfErr args
+        (λ error. IfSome (status_without_words (error_kind error)) (λ status. result ≡ status)) }
 {
     match words_of(rt.alloc(), args) {
         Ok(words) => run_on_words(rt, &words),

@@ -16,7 +16,7 @@ ghost use Rattle.entry_store.specs.{
 use crate::entry::{EntryId, Facts, Hop, HopList, Links};
 use crate::facts::{body_digest, facts_of, links_of};
 use crate::kept::Kept;
-use crate::steps::Steps;
+use crate::steps::{Counter, Steps};
 use lc_base::{Bytes, Digest, Key, Memory};
 use prov_entry::{Header, LinkList};
 use shared_list::Shared;
@@ -89,7 +89,7 @@ impl Store {
     }
 
     /// Reads the links of an entry, and counts it. No other call reads links.
-    pub fn entry(&self, id: EntryId, steps: &mut Steps) -> &Links
+    pub fn entry<C: Counter>(&self, id: EntryId, steps: &mut Steps<C>) -> &Links
         requires { id.0 < length self.now }
         ensures links { option_map (λ (entry : Entry). entry.links) (slice_get self.now id.0) ≡ Some result.now }
         ensures back { All (λ (hop : Hop). hop.id.0 < id.0) result.now.hops }

@@ -4,7 +4,7 @@
 //! becomes of them.
 
 ghost use Rattle.std.{
-  specs.Prelude.{◌≡◌, ◌+◌, ◌^◌, ◌<◌, ◌≤◌, ℕ, true, false, Some, None, List, length, take, drop, IfOk, IfSome, IsErr, is_err},
+  specs.Prelude.{◌≡◌, ◌+◌, ◌^◌, ◌<◌, ◌≤◌, ℕ, true, false, Some, None, List, length, take, drop, IfOk, IfSome, OnOk, IsErr, is_err},
   proofs.Common.{rules},
 };
 ghost use Rattle.lc_base.specs.Faults.{HasCause};
@@ -14,7 +14,7 @@ ghost use Rattle.lc_io.specs.{
   Streams.{CountsFaults, Writes as WritesThrough},
 };
 ghost use Rattle.disk_model.specs.Disk.{Writes, Syncs, content_of};
-ghost use Rattle.file_machine.specs.Calls.{CallsDisk};
+ghost use Rattle.file_machine.specs.Calls.{CallsDisk, IsHeld};
 
 use disk_model::Disk;
 use lc_io::{Clock, Failed, Wire, one_more, write_whole};
@@ -91,7 +91,8 @@ fn find_file(rt: &HostRuntime, path: &str) -> Result<Found, Failed> {
     }
 }
 
-/// Makes the file at a path. Where there is one by now, another program made it, and that is a fault.
+/// Makes the file at a path. Where there is one by now, another program made it, and that is a
+/// fault.
 fn create_file(rt: &HostRuntime, path: &str) -> Result<Found, Failed> {
     match File::create_new(rt, path) {
         Ok(file) => apart_from_streams(file),
@@ -99,8 +100,8 @@ fn create_file(rt: &HostRuntime, path: &str) -> Result<Found, Failed> {
     }
 }
 
-/// Takes the lock of a file (`flock`), which is held until the file is closed. Where another program
-/// holds it, or the file system has no locks, that is a fault; nothing waits.
+/// Takes the lock of a file (`flock`), which is held until the file is closed. Where another
+/// program holds it, or the file system has no locks, that is a fault; nothing waits.
 fn take_lock(file: &File) -> Result<(), Failed> {
     file.try_lock().map_err(|_| Failed)
 }
@@ -113,8 +114,8 @@ fn len_of(file: &File) -> Result<u64, Failed> {
     }
 }
 
-/// Whether a path leads to this file, and the file has this length, where that is known. Another program
-/// may have removed, replaced, cut or extended it.
+/// Whether a path leads to this file, and the file has this length, where that is known. Another
+/// program may have removed, replaced, cut or extended it.
 fn is_in_place(rt: &HostRuntime, path: &str, file: &File, len: Option<u64>) -> bool {
     match (file.metadata(), fs::metadata(rt, path)) {
         (Ok(opened), Ok(named)) => {
@@ -200,9 +201,12 @@ impl<'a> HostFile<'a> {
         }
     }
 
-    /// Takes the file's lock, the first time, and looks how long the file is: from then on this machine alone
-    /// may change that.
-    fn lock(&mut self) -> Result<(), Failed> {
+    /// Takes the file's lock, the first time, and looks how long the file is: from then on this
+    /// machine alone may change that.
+    fn lock(&mut self) -> Result<(), Failed>
+        ensures found { self.new.found ≡ self.old.found }
+        ensures held { OnOk result (IsHeld self.new.found self.new.is_locked) }
+    {
         if self.is_locked {
             return Ok(());
         }
@@ -214,8 +218,11 @@ impl<'a> HostFile<'a> {
         Ok(())
     }
 
-    /// Writes to the file that was opened, where it is still in its place. It is made where it is absent.
-    fn write_now(&mut self, at: u64, bytes: &[u8]) -> Result<(), Failed> {
+    /// Writes to the file that was opened, where it is still in its place. It is made where it is
+    /// absent.
+    fn write_now(&mut self, at: u64, bytes: &[u8]) -> Result<(), Failed>
+        ensures held { OnOk result (self.new.is_locked ≡ true) }
+    {
         self.look()?;
         if let Found::Absent = self.found {
             self.found = create_file(self.rt, self.path)?;
@@ -232,9 +239,11 @@ impl<'a> HostFile<'a> {
         Ok(())
     }
 
-    /// Syncs the file's bytes and its length, and the first time the folder that holds it, too. The file
-    /// must then be in its place.
-    fn sync_now(&mut self) -> Result<(), Failed> {
+    /// Syncs the file's bytes and its length, and the first time the folder that holds it, too. The
+    /// file must then be in its place.
+    fn sync_now(&mut self) -> Result<(), Failed>
+        ensures held { OnOk result (IsHeld self.new.found self.new.is_locked) }
+    {
         self.look()?;
         self.lock()?;
         match &self.found {
@@ -254,6 +263,7 @@ impl<'a> HostFile<'a> {
     fn write_at(&mut self, at: u64, bytes: &[u8]) -> Result<(), Failed>
         ensures stuck { self.old.has_failed ≡ true → IsErr result }
         ensures failed { self.new.has_failed ≡ is_err result }
+        ensures held { OnOk result (self.new.is_locked ≡ true) }
     {
         if self.has_failed {
             return Err(Failed);
@@ -266,6 +276,7 @@ impl<'a> HostFile<'a> {
     fn sync(&mut self) -> Result<(), Failed>
         ensures stuck { self.old.has_failed ≡ true → IsErr result }
         ensures failed { self.new.has_failed ≡ is_err result }
+        ensures held { OnOk result (IsHeld self.new.found self.new.is_locked) }
     {
         if self.has_failed {
             return Err(Failed);
@@ -278,11 +289,12 @@ impl<'a> HostFile<'a> {
 
 /// A machine whose disk is the file at a path, and whose wire is a writer, such as standard output.
 /// The file is touched at the first call of the disk. One that is not there has length 0, and the
-/// first write makes it. The first sync or write takes the file's lock, which is held for as long as
-/// the machine is there: where another program holds it, the call fails. Before each write, and after
-/// each sync, the path must lead to the file that was opened, which must be as long as it was when it
-/// was locked, or as its owner was told since, and as it has written; else the call fails. Where a write or a sync has failed, each later one fails: a system that
-/// could not write once may answer the next sync though the bytes are lost.
+/// first write makes it. The first sync or write takes the file's lock, which is held for as long
+/// as the machine is there: where another program holds it, the call fails. Before each write, and
+/// after each sync, the path must lead to the file that was opened, which must be as long as it was
+/// when the lock was taken, or as its owner was told since, and as the writes since have it; else
+/// the call fails. Where a write or a sync has failed, each later one fails: a system that could
+/// not write once may answer the next sync though the bytes are lost.
 #[derive(Drop)]
 pub struct FileMachine<'a, W> {
     file: HostFile<'a>,
@@ -399,6 +411,7 @@ impl<'a, W> Disk for FileMachine<'a, W> {
         ensures calls { CallsDisk self.old self.new result }
         ensures stuck { self.old.file.has_failed ≡ true → IsErr result }
         ensures failed { self.new.file.has_failed ≡ is_err result }
+        ensures held { OnOk result (self.new.file.is_locked ≡ true) }
     {
         match self.file.write_at(at, bytes) {
             Ok(()) => Ok(()),
@@ -409,13 +422,14 @@ impl<'a, W> Disk for FileMachine<'a, W> {
         }
     }
 
-    /// Syncs the file's bytes and its length, and the first time the folder that holds it, too. Nothing
-    /// where there is no file.
+    /// Syncs the file's bytes and its length, and the first time the folder that holds it, too.
+    /// Nothing where there is no file.
     fn sync(&mut self) -> Result<(), Failed>
         ensures disk { Syncs (λ _. 0) (λ _ _. None) self.old self.new result }
         ensures calls { CallsDisk self.old self.new result }
         ensures stuck { self.old.file.has_failed ≡ true → IsErr result }
         ensures failed { self.new.file.has_failed ≡ is_err result }
+        ensures held { OnOk result (IsHeld self.new.file.found self.new.file.is_locked) }
     {
         match self.file.sync() {
             Ok(()) => Ok(()),

@@ -45,8 +45,8 @@ fn create_file(rt: &HostRuntime, path: &str) -> io::Result<File> {
     options.open(rt, path)
 }
 
-/// Makes a file at the path, or at the first one with marks after it where nothing is there; the path
-/// has them then.
+/// Makes a file at the path, or at the first one with marks after it where nothing is there; the
+/// path has them then.
 fn create_named(rt: &HostRuntime, path: &mut String) -> Result<File, Failed> {
     for _ in 0..NAMES {
         match create_file(rt, path.as_str()) {
@@ -62,8 +62,8 @@ fn create_named(rt: &HostRuntime, path: &mut String) -> Result<File, Failed> {
 
 /// A scratch device over a file of its own, in which what is put stands one after the other. The
 /// first call makes the file, which no other run has, and removes its name, so that nothing is left
-/// of it when the program ends, however it ends. Where the system lets no open file lose its name, the
-/// name stays until the device is closed.
+/// of it when the program ends, however it ends. Where the system lets no open file lose its name,
+/// the name stays until the device is closed.
 #[derive(Drop)]
 pub struct FileScratch<'a> {
     rt: &'a HostRuntime,
@@ -119,8 +119,8 @@ impl<'a> FileScratch<'a> {
         Ok(())
     }
 
-    /// Makes the file, and removes its name. The descriptor is 3 or more, as a clone's is: a standard
-    /// stream that was closed when the program started leaves its descriptor free.
+    /// Makes the file, and removes its name. The descriptor is 3 or more, as a clone's is: a
+    /// standard stream that was closed when the program started leaves its descriptor free.
     fn make(&mut self) -> Result<File, Failed>
         ensures len { self.new.len ≡ self.old.len }
         ensures faults { self.new.faults ≡ self.old.faults }

@@ -5,10 +5,10 @@ ghost use Rattle.lc_base.specs.declared.row.Row.{Row};
 ghost use Rattle.root_laws.specs.Naming.{header_of};
 ghost use Rattle.lineage_index.specs.Index.{IsIndexOf};
 
-use entry_store::{EntryId, Steps};
+use entry_store::EntryId;
 use lc_base::Memory;
 use lineage_index::LineageIndex;
-use lineage_store::entry_header;
+use lineage_store::{Steps, entry_header};
 use prov_entry::Header;
 use std::alloc::Global;
 

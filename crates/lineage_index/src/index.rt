@@ -12,10 +12,10 @@ ghost use Rattle.lineage_index.specs.{Growth.{Grows}, Blocks.{IsKeptIndex}, Inde
 
 use crate::advancing::advance;
 use crate::newest_row::{newest_entry_of, newest_row_of};
-use entry_store::{EntryId, EntryList, Steps, Store};
+use entry_store::{EntryId, EntryList, Store};
 use forward_links::OpenLists;
 use lc_base::{Digest, Key, Memory, Row};
-use lineage_store::{entries_on_path, latest_entry};
+use lineage_store::{Steps, entries_on_path, latest_entry};
 use state_tree::Tree;
 use std::alloc::Global;
 

@@ -19,10 +19,10 @@ ghost use Rattle.lineage_index.specs.{
 
 use crate::heads::index_of;
 use crate::newest_row::newest_entry_of;
-use entry_store::{Steps, Store};
+use entry_store::Store;
 use forward_links::{OpenList, OpenLists};
 use lc_base::{Bytes, Dep, Digest, Duplicate, Key, Memory, Row};
-use lineage_store::{NewVersion, push_version};
+use lineage_store::{NewVersion, Steps, push_version};
 use prov_entry::{Body, BodyDep, BodyDepList, write_body};
 use state_tree::Tree;
 use std::alloc::Global;

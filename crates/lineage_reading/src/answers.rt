@@ -8,8 +8,8 @@ ghost use Rattle.scratch_model.specs.Scratch.{is_known};
 ghost use Rattle.merkle_dag.specs.Lineage.{AgreesWith, LeavesLineage};
 
 use crate::found::Found;
-use entry_store::Steps;
 use lc_base::{Answer, HostError, Kind, Query};
+use lineage_store::Steps;
 use merkle_dag::Lineage;
 use row_bodies::{deps_of_bytes, value_of_bytes};
 use scratch_model::Scratch;

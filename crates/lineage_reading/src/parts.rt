@@ -3,8 +3,8 @@
 ghost use Rattle.std.specs.Prelude.{◌≡◌, ◌<◌, ◌^◌, IfSome};
 ghost use Rattle.lc_base.specs.{History.{scan}, Parts.{question, count_in, item_in}};
 
-use entry_store::Steps;
 use lc_base::{Dep, Key, Kind};
+use lineage_store::Steps;
 use merkle_dag::Lineage;
 
 /// How many versions were derived from the version of the key in the blocks up to `at`.

@@ -6,7 +6,8 @@ ghost use Rattle.skip_path.specs.Paths.{binary_digits};
 ghost use Rattle.entry_store.specs.declared.entry.EntryId.{EntryId};
 ghost use Rattle.lineage_store.specs.{Entries.{entries_of}, Growing.{IsNextVersion}};
 
-use entry_store::{EntryId, Steps, Store};
+use crate::counter::Steps;
+use entry_store::{EntryId, Store};
 use lc_base::{Bytes, Digest, Key, Memory};
 use skip_list::links_for;
 use std::alloc::Global;

@@ -9,7 +9,8 @@ ghost use Rattle.root_laws.specs.Naming.{header_of};
 ghost use Rattle.entry_store.specs.Steps.{raised_count};
 ghost use Rattle.lineage_store.specs.{Entries.{entries_of}, Headers.{header_made}};
 
-use entry_store::{EntryId, Steps, Store};
+use crate::counter::Steps;
+use entry_store::{EntryId, Store};
 use lc_base::Memory;
 use prov_entry::Header;
 use std::alloc::Global;

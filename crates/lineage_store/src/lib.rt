@@ -2,11 +2,13 @@
 //! each key.
 #![tactic(auto)]
 
+mod counter;
 mod growing;
 mod headers;
 mod laws;
 mod lookups;
 
+pub use counter::{LookupCounter, Steps};
 pub use growing::{NewVersion, push_version};
 pub use headers::entry_header;
 pub use laws::{

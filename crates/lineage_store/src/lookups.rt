@@ -6,7 +6,8 @@ ghost use Rattle.skip_path.specs.Paths.{path};
 ghost use Rattle.entry_store.specs.{declared.entry.EntryId.{EntryId}, Steps.{raised_count}};
 ghost use Rattle.lineage_store.specs.{Entries.{IsNewestOf}, OnPath.{AreEntriesIn}};
 
-use entry_store::{EntryId, EntryList, Steps, Store};
+use crate::counter::Steps;
+use entry_store::{EntryId, EntryList, Store};
 use lc_base::Memory;
 use skip_list::{find, path_entries};
 use std::alloc::Global;

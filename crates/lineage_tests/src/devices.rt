@@ -6,9 +6,9 @@ ghost use Rattle.merkle_dag.specs.Lineage.{AgreesWith};
 
 use crate::lineages::{add_block, int_at, lineage_in_memory, lineage_of, set};
 use block_codec::TxList;
-use entry_store::Steps;
 use file_scratch::FileScratch;
 use lc_base::{Key, TextList};
+use lineage_store::Steps;
 use merkle_dag::Lineage;
 use prov_query::AskError;
 use scratch_model::{MemScratch, Scratch};
@@ -95,7 +95,8 @@ fn bodies_at_hand_are_not_read(rt: HostRuntime) {
     lineage.give_up();
 }
 
-/// The ints of the first and the last of these keys over a file, in which the first one was changed.
+/// The ints of the first and the last of these keys over a file, in which the first one was
+/// changed.
 fn ints_of_changed_file(rt: &HostRuntime) -> Option<(i64, i64)> {
     let alloc = rt.alloc();
     let file = File::create_new(rt, FILE).ok()?;

@@ -6,9 +6,9 @@ ghost use Rattle.merkle_dag.specs.Lineage.{AgreesWith};
 
 use block_codec::{Block, NO_PARENT, Tx, TxList, block_digest, encode};
 use chain_replay::{Judged, Replay};
-use entry_store::Steps;
 use lc_base::{Answer, Key, KeyList, Kind, Query, TextList, Value};
 use lc_io::Room;
+use lineage_store::Steps;
 use merkle_dag::Lineage;
 use prov_query::{AskError, ask};
 use rooted_chain::LineageChain;

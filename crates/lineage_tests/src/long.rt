@@ -5,8 +5,8 @@ ghost use Rattle.merkle_dag.specs.Lineage.{AgreesWith};
 
 use crate::lineages::{add_block, int_at, lineage_in_memory, set};
 use block_codec::TxList;
-use entry_store::Steps;
 use lc_base::{Key, TextList};
+use lineage_store::Steps;
 use merkle_dag::Lineage;
 use scratch_model::Scratch;
 use std::alloc::Global;

@@ -5,9 +5,9 @@ ghost use Rattle.scratch_model.specs.Scratch.{is_known};
 ghost use Rattle.merkle_dag.specs.Lineage.{ledger_in, AgreesWith, LeavesLineage};
 ghost use Rattle.prov_query.specs.Asking.{IsAnswered, IsRefusedBeyond, IsCounted};
 
-use entry_store::Steps;
 use lc_base::{Answer, HostError, Query};
 use lineage_reading::answer;
+use lineage_store::Steps;
 use merkle_dag::Lineage;
 use scratch_model::Scratch;
 use std::alloc::Global;

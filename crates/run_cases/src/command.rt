@@ -31,8 +31,18 @@ pub struct Case<'a> {
     pub scratch: &'a str,
 }
 
+/// A command that has ended.
+#[derive(Drop)]
+pub struct Ended {
+    /// The number of its status.
+    pub number: u8,
+    /// How many bytes of its input are left.
+    pub left: usize,
+    pub machine: MemMachine,
+}
+
 /// The words of a text with a blank between them.
-fn words_of(alloc: Global, text: &str) -> Result<Vec<String>> {
+pub fn words_of(alloc: Global, text: &str) -> Result<Vec<String>> {
     let mut words = Vec::new(alloc);
     if !text.is_empty() {
         for word in text.split(' ') {
@@ -50,7 +60,7 @@ fn is_line(piece: &[u8]) -> bool {
 }
 
 /// Prints a line as it is, and another piece, which is a frame, in hex.
-fn print_piece<W: Write>(alloc: Global, out: &mut W, piece: &[u8]) -> Result<()> {
+pub fn print_piece<W: Write>(alloc: Global, out: &mut W, piece: &[u8]) -> Result<()> {
     if is_line(piece) {
         out.write_all(piece)?;
     } else {
@@ -69,20 +79,19 @@ fn print_told<W: Write>(alloc: Global, out: &mut W, machine: &MemMachine) -> Res
     Ok(())
 }
 
-/// Prints what the disk of a machine holds, in hex, or that it is the image that it held before.
-fn print_log<W: Write>(
+/// Prints what a disk holds, in hex, or that it is what it held before.
+pub fn print_held<W: Write>(
     alloc: Global,
     out: &mut W,
-    image: &str,
-    machine: &MemMachine,
+    what: &str,
+    before: &[u8],
+    after: &[u8],
 ) -> Result<()> {
-    let before = bytes_of(alloc, image)?;
-    let after = machine.image();
-    if after == before.as_slice() {
-        writeln!(out, "log same")?;
+    if after == before {
+        writeln!(out, "{what} same")?;
     } else {
         let digits = hex::encode(alloc, after)?;
-        writeln!(out, "log {digits}")?;
+        writeln!(out, "{what} {digits}")?;
     }
     Ok(())
 }
@@ -94,23 +103,27 @@ fn print_outcome<W: Write>(
     alloc: Global,
     out: &mut W,
     case: &Case<'_>,
-    number: u8,
-    left: usize,
-    machine: &MemMachine,
+    ended: &Ended,
 ) -> Result<()> {
+    let Ended {
+        number,
+        left,
+        machine,
+    } = ended;
     writeln!(out, "== {number} {}", case.words)?;
     print_told(alloc, out, machine)?;
     if case.failing.is_some() {
         writeln!(out, "left {left}")?;
     }
     if let Some(image) = case.image {
-        print_log(alloc, out, image, machine)?;
+        let before = bytes_of(alloc, image)?;
+        print_held(alloc, out, "log", before.as_slice(), machine.image())?;
     }
     Ok(())
 }
 
-/// Runs a command, and prints what became of it.
-pub fn run_command<W: Write>(alloc: Global, out: &mut W, case: &Case<'_>) -> Result<()> {
+/// Runs the command of a case.
+pub fn run_case(alloc: Global, case: &Case<'_>) -> Result<Ended> {
     let (pulls, calls) = match case.failing {
         None => ("", ""),
         Some(Failing { pulls, calls }) => (pulls, calls),
@@ -120,5 +133,15 @@ pub fn run_command<W: Write>(alloc: Global, out: &mut W, case: &Case<'_>) -> Res
     let mut scratch = scratch_of(alloc, case.scratch)?;
     let words = words_of(alloc, case.words)?;
     let number = run(alloc, &words, &mut source, &mut machine, &mut scratch).number();
-    print_outcome(alloc, out, case, number, source.remaining(), &machine)
+    Ok(Ended {
+        number,
+        left: source.remaining(),
+        machine,
+    })
+}
+
+/// Runs a command, and prints what became of it.
+pub fn run_command<W: Write>(alloc: Global, out: &mut W, case: &Case<'_>) -> Result<()> {
+    let ended = run_case(alloc, case)?;
+    print_outcome(alloc, out, case, &ended)
 }

@@ -3,12 +3,14 @@
 
 mod blocks;
 mod command;
+mod crashes;
 mod scanning;
 mod streams;
 mod trees;
 
 use crate::blocks::run_blocks;
 use crate::command::{Case, Failing, run_command};
+use crate::crashes::run_crashes;
 use crate::trees::run_tree;
 use anyhow::{Context, Result};
 use std::alloc::Global;
@@ -16,6 +18,9 @@ use std::io::{self, BufRead, BufReader, BufWriter, Write};
 
 /// What the words of a case begin with whose blocks are run one by one.
 const BLOCKS: &str = "blocks ";
+
+/// What the words of a case begin with whose command is stopped by crashes.
+const CRASH: &str = "crash ";
 
 /// What the words of a case of a tree begin with.
 const TREE: &str = "tree ";
@@ -65,6 +70,10 @@ fn run_line<W: Write>(alloc: Global, out: &mut W, line: &str) -> Result<()> {
     let (piece, rest) = rest.split_once('|').context("a case without an input")?;
     if words.starts_with(BLOCKS) {
         return run_blocks(alloc, out, words, piece, rest);
+    }
+    if let Some(words) = words.strip_prefix(CRASH) {
+        let (rest, crashes) = rest.rsplit_once('|').context("a case without crashes")?;
+        return run_crashes(alloc, out, &case_of(words, piece, rest)?, crashes);
     }
     run_command(alloc, out, &case_of(words, piece, rest)?)
 }

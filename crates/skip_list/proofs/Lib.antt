@@ -6,3 +6,4 @@ pub mod Rungs
 pub mod PathTurns
 pub mod LinkTowers
 pub mod OneList
+pub mod Counting

@@ -1,10 +1,11 @@
 -- Climbing, rung by rung.
 use Rattle.std.proofs.Common.{◌≡◌, ◌∙◌, ℕ, suc, ◌+◌, ◌-◌, ◌*◌, ◌^◌, ◌<◌, ◌≤◌, true, false, List, [], ◌∷◌, ◌++◌, length, Some, None, refl, sym, ap, subst, arith, inl, inr}
 use Rattle.std.specs.Prelude.{slice_get, nat_lt, bit_xor}
-use Rattle.std.specs.List.{filter_map, range_with_len}
+use Rattle.std.specs.List.{filter_map, range_with_len, AllByRecursion}
 use Rattle.std.proofs.lemmas.Bool.{cases_Bool, cases_lt, lt-ltb, le-ltb}
 use Rattle.std.proofs.lemmas.Option.{same_Some, none-some}
 use Rattle.skip_links.specs.Falling.{IsFalling, is_first}
+use Rattle.skip_links.proofs.Falls.{all_lower}
 use Rattle.skip_links.specs.declared.limits.TheConstants.{MAX_LEVEL}
 use Rattle.skip_path.specs.Towers.{height_over, from_last, last_at, tower}
 use Rattle.skip_path.proofs.Levels.{at_bottom, levels_below}
@@ -91,22 +92,26 @@ split_first : {A : Type 0} (xs : List A) (x : A) → slice_get xs 0 ≡ Some x �
 split_first [] x e = absurd (none-some x e)
 split_first {A = A} (y ∷ xs) x e = (xs, ap (λ (z : A). z ∷ xs) (same_Some y x e))
 
--- The last version at a level, and those before it.
-pub record Rises (entries : List Entry) (versions : List Hop) (level : ℕ) (higher : Hop) : Type 0 where
+-- The last version at a level, and those before it, seen from a version in this block.
+pub record Rises (entries : List Entry) (versions : List Hop) (level : ℕ) (higher : Hop) (from : ℕ) : Type 0 where
   pub older : List Hop
   pub falling : IsFalling (blocks_of (higher ∷ older))
   pub towers : HaveTowers entries (higher ∷ older)
   pub last : from_last block_of level versions ≡ higher ∷ older
   pub above : 0 < level
+  pub lower : higher.block < from
 
 -- From a version that isn't at the level the highest link leads to it.
 pub rises : (entries : List Entry) (versions : List Hop) (level : ℕ) (rung : Rung) (higher : Hop) → IsAllBelow entries versions level rung → level ≤ MAX_LEVEL
-    → Some higher ≡ beyond level rung → Rises entries versions level higher
+    → Some higher ≡ beyond level rung → Rises entries versions level higher rung.version.block
 rises entries versions level rung higher below few some = on below.older below.is below.falling below.towers below.below below.reach
   where
+    IsLower : List Hop → Type 0
+    IsLower vs = AllByRecursion (λ (q : ℕ). q < rung.version.block) (blocks_of vs)
+
     on : (older : List Hop) → rung ≡ rung_over rung.version older → IsFalling (blocks_of (rung.version ∷ older)) → HaveTowers entries (rung.version ∷ older)
         → ((k : ℕ) → k < level → is_first k rung.version.block (blocks_of older) ≡ true)
-        → from_last block_of level (rung.version ∷ older) ≡ from_last block_of level versions → Rises entries versions level higher
+        → from_last block_of level (rung.version ∷ older) ≡ from_last block_of level versions → Rises entries versions level higher rung.version.block
     on [] is falling towers low reach =
         let none : rung ≡ rung_with rung.version [] = is ∙ ap (rung_with rung.version) (no_links rung.version.block) in
         absurd (none-some higher (sym (beyond_none level rung.version) ∙ sym (some ∙ ap (beyond level) none)))
@@ -138,12 +143,14 @@ rises entries versions level rung higher below few some = on below.older below.i
                     ∙ from_older block_of (suc h) rung.version (previous ∷ older) off
                     ∙ sym (highest_is_higher block_of h rung.version.block (previous ∷ older) falling tall off) ∙ found.1;
                 above = omega (arith, at);
+                lower = (subst IsLower found.1 (from_keeps block_of IsLower (λ (v : Hop) (vs : List Hop) each. each.1) h (previous ∷ older)
+                    (all_lower rung.version.block (blocks_of (previous ∷ older)) falling))).0;
               }
         ]
 
 -- What was read of it is the rung there.
-pub risen : (entries : List Entry) (versions : List Hop) (level : ℕ) (higher : Hop) (rung : Rung) (r : Rises entries versions level higher) → rung ≡ rung_over higher r.older → IsLastAt entries versions level rung
-risen entries versions level higher rung r is =
+pub risen : (entries : List Entry) (versions : List Hop) (level : ℕ) (higher : Hop) (from : ℕ) (rung : Rung) (r : Rises entries versions level higher from) → rung ≡ rung_over higher r.older → IsLastAt entries versions level rung
+risen entries versions level higher from rung r is =
     let same : higher ≡ rung.version = sym (ap (λ (x : Rung). x.version) is) in
     record {
       older = r.older;

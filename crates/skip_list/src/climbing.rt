@@ -6,11 +6,14 @@ ghost use Rattle.std.specs.{
 };
 ghost use Rattle.skip_links.specs.declared.limits.TheConstants.{MAX_LEVEL};
 ghost use Rattle.skip_path.specs.Paths.{binary_digits};
-ghost use Rattle.entry_store.specs.declared.entry.Hop.{Hop};
-ghost use Rattle.skip_list.specs.Towered.{links_over, AreVersions, AreOlder, LeadsToTowered};
+ghost use Rattle.entry_store.specs.{declared.entry.Hop.{Hop}, Steps.{raised_count}};
+ghost use Rattle.skip_list.specs.{
+  Climbing.{entries_climbed},
+  Towered.{links_over, AreVersions, AreOlder, LeadsToTowered},
+};
 
 use crate::rung::{read, rung_at};
-use entry_store::{EntryId, HopList, Steps, Store};
+use entry_store::{Counter, EntryId, HopList, Steps, Store};
 use lc_base::Memory;
 use std::alloc::Global;
 
@@ -24,22 +27,25 @@ fn height_over(previous: u32, block: u32) -> u32
 }
 
 /// The links of a new version of a key in this block, one for each level from 0 to its height; none
-/// for a first version. It reads the newest version, and one more for each level at most that the
-/// ones before are not at.
-pub fn links_for(
+/// for a first version. It reads the newest version, and each other one that a link leads to, once.
+pub fn links_for<C: Counter>(
     alloc: Global,
     store: &Store,
     newest: Option<EntryId>,
     block: u32,
-    steps: &mut Steps,
+    steps: &mut Steps<C>,
 ) -> Result<HopList, Memory>
     requires { (versions : List Hop) × AreVersions store.now newest versions × AreOlder block versions }
     ensures links { (versions : List Hop) → AreVersions store.now newest versions → AreOlder block versions → IfOk result (λ hops. hops ≡ links_over block versions) }
+    ensures read { (versions : List Hop) → AreVersions store.now newest versions → AreOlder block versions
+        → IfOk result (λ _. steps.new ≡ raised_count steps.old (entries_climbed versions (links_over block versions))) }
     ensures never_less { steps.old ≤ steps.new }
     ensures count { steps.new ≤ steps.old + binary_digits block }
     ensures towered { IfOk result (λ hops. All (LeadsToTowered store.now) hops) }
     ensures few { IfOk result (λ hops. length hops ≤ MAX_LEVEL + 1) }
 {
+    // So that the count is known to be one that a u64 has.
+    let _count = steps.count();
     let Some(newest) = newest else {
         return Ok(HopList::new(alloc));
     };

@@ -16,7 +16,7 @@ ghost use Rattle.skip_list.specs.{
   Lookups.{turn_at, IsTurnTowered, IsBack, latest_version, most_steps},
 };
 
-use entry_store::{EntryId, Hop, Steps, Store};
+use entry_store::{Counter, EntryId, Hop, Steps, Store};
 
 /// What a look at a version says.
 #[derive(Clone, Copy, Debug, PartialEq, Eq)]
@@ -47,7 +47,7 @@ fn onward(hops: &[Hop], at: u32) -> Option<Hop>
 }
 
 /// Looks at one version on the way to the last one in a block up to `at`.
-pub fn path_next(store: &Store, id: EntryId, at: u32, steps: &mut Steps) -> Turn
+pub fn path_next<C: Counter>(store: &Store, id: EntryId, at: u32, steps: &mut Steps<C>) -> Turn
     requires towered { (versions : List Hop) × IsTowered store.now id versions }
     ensures turn { (versions : List Hop) → IsTowered store.now id versions → result ≡ turn_at at versions }
     ensures towered { IsTurnTowered store.now result }
@@ -67,7 +67,12 @@ pub fn path_next(store: &Store, id: EntryId, at: u32, steps: &mut Steps) -> Turn
 
 /// The last version in a block up to `at`, from the newest one on; `None` exactly where there is
 /// none.
-pub fn find(store: &Store, newest: EntryId, at: u32, steps: &mut Steps) -> Option<EntryId>
+pub fn find<C: Counter>(
+    store: &Store,
+    newest: EntryId,
+    at: u32,
+    steps: &mut Steps<C>,
+) -> Option<EntryId>
     requires towered { (versions : List Hop) × IsTowered store.now newest versions }
     ensures found { (versions : List Hop) → IsTowered store.now newest versions → result ≡ latest_version at versions }
     ensures count { (versions : List Hop) → IsTowered store.now newest versions → steps.new ≡ raised_count steps.old (length (path_over (blocks_of versions) at)) }

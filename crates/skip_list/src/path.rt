@@ -9,7 +9,7 @@ ghost use Rattle.skip_list.specs.{
 };
 
 use crate::lookup::{Turn, path_next};
-use entry_store::{EntryId, EntryList, Steps, Store};
+use entry_store::{Counter, EntryId, EntryList, Steps, Store};
 use lc_base::Memory;
 use std::alloc::Global;
 
@@ -25,12 +25,12 @@ fn next_entry(turn: Turn) -> Option<EntryId>
 
 /// The versions that a lookup from the newest one looks at, in this order: their blocks are the path,
 /// and what is said of all versions is true of them. The count rises by their number.
-pub fn path_entries(
+pub fn path_entries<C: Counter>(
     alloc: Global,
     store: &Store,
     newest: EntryId,
     at: u32,
-    steps: &mut Steps,
+    steps: &mut Steps<C>,
 ) -> Result<EntryList, Memory>
     requires towered { (versions : List Hop) × IsTowered store.now newest versions }
     ensures path { (versions : List Hop) → IsTowered store.now newest versions

@@ -8,11 +8,23 @@ ghost use Rattle.lc_base.specs.declared.limits.TheConstants.{MAX_ROWS};
 ghost use Rattle.entry_store.specs.declared.entry.Hop.{Hop};
 ghost use Rattle.store_tests.specs.Versions.{HasVersions, IsAbove};
 
-use entry_store::{EntryId, Hop, Steps, Store};
+use entry_store::{Counter, EntryId, Hop, Store};
 use lc_base::{Bytes, Digest, Key, MAX_ROWS, Memory};
 use skip_list::{find, links_for, path_entries};
 use std::alloc::Global;
 use std::marker::Model;
+
+/// Who counts the entries that are read here.
+pub struct TestCounter;
+
+impl Counter for TestCounter {
+    ghost use Rattle.std.specs.Prelude.{true};
+
+    ghost may_begin = { true };
+}
+
+/// How many entries were read.
+pub type Steps = entry_store::Steps<TestCounter>;
 
 /// The versions of one key, the newest of which is in the highest block.
 #[derive(Drop)]

@@ -110,8 +110,8 @@ fn scratch_files_without_names(rt: HostRuntime) {
     assert!(rt; fs::remove_file(&rt, FILE).is_ok());
 }
 
-/// Puts two texts on a device over a file, and gets the second one, of which the file is cut to `len`
-/// bytes before that.
+/// Puts two texts on a device over a file, and gets the second one, of which the file is cut to
+/// `len` bytes before that.
 fn get_from_short(rt: &HostRuntime, len: u64, got: &mut [u8; 2]) -> Result<(), Failed> {
     let Ok(file) = File::create_new(rt, SHORT_FILE) else {
         return Ok(());

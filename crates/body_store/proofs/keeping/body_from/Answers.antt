@@ -39,7 +39,7 @@ returns-clause-body g c = body_is g c
 
 pub returns-clause-agrees : goal.returns-clause-agrees
 returns-clause-agrees g c =
-    agrees_more (kept g c) _ _ _ _ c.keep_shared.ensures
+    agrees_more (kept g c) _ _ _ _ c.keep_shared.ensures.at_hand
     (λ told. body_is g c (sym c.read.ensures.retains.known ∙ told))
     (agrees_on _ (before g c) _ c.read.ensures.retains
     (agrees_fewer (kept g c) _ _ _ c.body_at_hand.ensures.kept c.requires.agrees))

@@ -34,7 +34,7 @@ module _ (g : Over) (c : goal.After-keep g) where
       after
   agrees =
       agrees_more (old ++ one ∷ []) (pairs_of c.args.cache.now.entries) _
-      (c.len.result, rc_slice_items c.args.body) after c.keep.ensures (λ told. last)
+      (c.len.result, rc_slice_items c.args.body) after c.keep.ensures.at_hand (λ told. last)
       (agrees_pushed _ one after is_kept
       (agrees_on _ _ after c.in_ok-place.ensures.retains c.requires.agrees))
 

@@ -9,7 +9,7 @@ pub returns-clause-agrees : goal.returns-clause-agrees
 returns-clause-agrees c scratch agrees =
     let kept : c.in_ok-kept.kept ≡ take c.args.count c.args.self.now.kept = c.in_ok-kept.ensures
     ∙ ap (λ (s : BodiesState). take c.args.count s.kept) c.self.view_is in
-    let cached : pairs_of c.in_ok-cache.cache.entries ≡ [] = ap pairs_of c.in_ok-cache.ensures in
+    let cached : pairs_of c.in_ok-cache.cache.entries ≡ [] = ap pairs_of c.in_ok-cache.ensures.none in
     subst (λ (ks : List KeptBody). Agrees
     (record { kept = ks; cached = pairs_of c.in_ok-cache.cache.entries }) scratch) (sym kept)
     (subst (λ (ps : List (ℕ × List ℕ)). Agrees

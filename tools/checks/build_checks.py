@@ -1,0 +1,191 @@
+"""Checks of when ./lineage proves or builds the program, which program answers then, and what it says of that.
+
+In place of the toolchain stands one that notes how it was called, proves nothing, and gives the program that is
+there as what it builds. The program is changed by a byte at its end, so that a proved one and one that was built
+without proofs differ.
+"""
+import os
+import shutil
+import stat
+import subprocess
+import time
+
+from checks.program_cases import GENERATED
+from lineage.statuses import NOT_BUILT, NOT_INSTALLED, NOT_PROVED, USAGE
+
+# After so many seconds a file that was read is known to stand.
+TICK = 2
+# What the wrapper needs, and what stands in for the toolchain.
+TOOLS = ["bash", "sh", "python3", "dirname", "readlink", "cp", "mkdir", "sleep", "cat", "git"]
+KIT = "a toolchain of these checks"
+FAKE_RT = f"""\
+#!/bin/sh
+echo "$*" >> FOLDER/calls
+case $1 in
+version) echo "{KIT}"; exit ;;
+doc) echo FOLDER/kit/page; exit ;;
+esac
+[ -e FOLDER/fails ] && exit 1
+case $1 in
+try) mkdir -p $TMPDIR/try; echo module > $TMPDIR/try/module.bc; echo > $TMPDIR/try/next; sleep 60 ;;
+run) cp FOLDER/proved TREE/crates/lineage/out/lineage ;;
+esac
+echo "== crate"
+echo "logic=proved functions=3"
+"""
+# The compiler writes its last word from its fifth; the linker what follows -o, from the word after that.
+FAKE_CLANG = """\
+#!/bin/sh
+echo clang >> FOLDER/calls
+for word; do last=$word; done
+cp "$5" "$last"
+"""
+FAKE_LINK = """\
+#!/bin/sh
+echo link >> FOLDER/calls
+while [ "$1" != -o ]; do shift; done
+[ "$(cat "$3")" = module ] && cp FOLDER/unproved "$2"
+"""
+PROVING = ["all check", "run -- scan hist raw/a 0", "version"]
+BUILDING = ["try", "doc", "clang", "link", "version"]
+GEN = ["gen", "1", "0"]
+NOT_YET = "not proved: this clone has not checked the proofs"
+NOT_ANY_MORE = "not proved any more"
+
+
+def put(path, text, mode=0o644):
+    os.makedirs(os.path.dirname(path), exist_ok=True)
+    with open(path, "w", encoding="utf-8") as file:
+        file.write(text)
+    os.chmod(path, mode)
+
+
+class Clone:
+    """A tree with ./lineage, and a toolchain that stands in for the true one."""
+
+    def __init__(self, checks, tree, folder):
+        self.checks, self.tree, self.folder = checks, tree, folder
+        self.tools, self.proved = f"{folder}/bin", f"{tree}/crates/lineage/out/lineage"
+        self.source = f"{tree}/crates/lineage/src/main.rt"
+        os.mkdir(self.tools)
+        for name in TOOLS:
+            os.symlink(shutil.which(name), f"{self.tools}/{name}")
+        for name, last in ("proved", b"\0"), ("unproved", b"\1"):
+            shutil.copy(self.proved, f"{folder}/{name}")
+            with open(f"{folder}/{name}", "ab") as file:
+                file.write(last)
+        self.fake(f"{folder}/kit/toolchain/bin/clang", FAKE_CLANG)
+        self.fake(f"{folder}/kit/bin/rattle-link", FAKE_LINK)
+
+    def fake(self, path, text):
+        put(path, text.replace("FOLDER", self.folder).replace("TREE", self.tree), 0o755)
+
+    def take_toolchain(self):
+        self.fake(f"{self.tools}/rt", FAKE_RT)
+
+    def run(self, words):
+        """What is printed, the status, what is said, and how the toolchain was called."""
+        put(f"{self.folder}/calls", "")
+        streams = {"stdin": subprocess.DEVNULL, "stdout": subprocess.PIPE, "stderr": subprocess.PIPE}
+        environment = {**os.environ, "PATH": self.tools}
+        ran = subprocess.run([f"{self.tree}/lineage", *words], env=environment, cwd=self.folder, **streams)
+        with open(f"{self.folder}/calls", encoding="utf-8") as file:
+            calls = [line.split(" --jobs")[0].rstrip("\n") for line in file]
+        return ran.stdout, ran.returncode, ran.stderr.decode(), calls
+
+    def ask(self, name, words, status, calls, said="", printed=None):
+        """Whether a run ends so, calls the toolchain so, and says this, or nothing of a proof. What it prints is
+        that of the program where it ends well, unless it is another's."""
+        out, ended, told, made = self.run(words)
+        self.checks.same(f"status and calls where {name}", (ended, made), (status, calls))
+        if printed is None:
+            printed = b"" if status else GENERATED
+        if printed is not Ellipsis:
+            self.checks.same(f"what is printed where {name}", out, printed)
+        is_said = said in told if said else "proved" not in told
+        self.checks.holds(f"what is said where {name}: {told!r} has {said!r}", is_said)
+        return out.decode(errors="replace")
+
+
+def check(checks, tree, folder):
+    """Makes these checks in a tree whose program is there, and marked as proved."""
+    clone = Clone(checks, tree, folder)
+    ask, source, fails = clone.ask, clone.source, f"{folder}/fails"
+    ask("nothing changed", GEN, 0, [])
+    ask("nothing changed and it must be proved", ["--proved", *GEN], 0, [])
+    ask("it must be proved and the words are none", ["--proved"], USAGE, [], "the commands are", b"usage\n")
+    put(source, "one\n")
+    ask("a source is new and there is no toolchain", GEN, NOT_BUILT, [], "no `rt` on the path")
+    clone.take_toolchain()
+    put(fails, "")
+    ask("a quick build fails", GEN, NOT_BUILT, ["try"], "the program wasn't built: rt try")
+    ask("a proof fails", ["--prove"], NOT_BUILT, PROVING[:1], "wasn't proved and built")
+    os.remove(fails)
+    ask("a source is new", GEN, 0, BUILDING, NOT_ANY_MORE)
+    ask("it was built without proofs since", GEN, 0, [], NOT_ANY_MORE)
+    same_bytes(clone, "out/unproved/lineage", "unproved")
+    refuse_unproved(clone, "the sources are others")
+    ask("it is proved", ["--prove"], 0, PROVING, "from now on `./lineage` runs the proved program", b"")
+    ask("it was proved since", GEN, 0, [])
+    same_bytes(clone, "crates/lineage/out/lineage", "proved")
+    ask("it is proved again", ["--prove"], 0, [], "is that of these sources, and proved", b"")
+    time.sleep(TICK + 0.5)
+    ask("it was proved long since", GEN, 0, [])
+    ask("what was read then is kept", GEN, 0, [])
+    take_proved(clone)
+    put(source, "two\n")
+    ask("a source changed and not its size", GEN, 0, BUILDING, NOT_ANY_MORE)
+    put(source, "one\n")
+    ask("it is as it was when it was proved", GEN, 0, [])
+    os.remove(source)
+    ask("a source is gone", GEN, 0, BUILDING, NOT_ANY_MORE)
+    with open(clone.proved, "ab") as file:
+        file.write(b"\0")
+    put(source, "one\n")
+    ask("the proved program was changed", GEN, 0, BUILDING, NOT_ANY_MORE)
+    shutil.rmtree(f"{tree}/out")
+    ask("nothing was built here", GEN, 0, BUILDING, NOT_YET)
+    ask("it was built here without proofs", GEN, 0, [], NOT_YET)
+    refuse_unproved(clone, "no proved program here")
+    ask("the input is none", ["scan", "hist", "raw/a", "0"], 9, [], NOT_YET, b"beyond empty\n")
+
+
+def same_bytes(clone, path, name):
+    """The program at a path of the tree is what the toolchain gave."""
+    with open(f"{clone.tree}/{path}", "rb") as built, open(f"{clone.folder}/{name}", "rb") as given:
+        clone.checks.holds(f"{path} is the {name} program", built.read() == given.read())
+
+
+def refuse_unproved(clone, why):
+    """Where no program is proved, `--proved` and `--install` end with a status of their own."""
+    empty = f"{clone.folder}/empty"
+    os.makedirs(empty, exist_ok=True)
+    for words in (["--proved", *GEN], ["--proved", "no", "command"], ["--install", "empty"], ["--install"]):
+        clone.ask(f"it isn't proved, by {' '.join(words)}", words, NOT_PROVED, [], why)
+    clone.checks.same("what is installed where it isn't proved", os.listdir(empty), [])
+    said = clone.ask("it isn't proved, by --version", ["--version"], 0, [], printed=...)
+    clone.checks.holds(f"{said!r} says so", "\nproved no\n" in said and f"\nkit {KIT}\n" in said)
+
+
+def take_proved(clone):
+    """A proved program is installed alone, and `--version` says that it is proved."""
+    folder = f"{clone.folder}/installed"
+    clone.ask("it can't be installed", ["--install", "installed"], NOT_INSTALLED, [], "can't be copied")
+    os.mkdir(folder)
+    printed = b"installed/lineage\n"
+    clone.ask("it is installed", ["--install", "installed"], 0, [], printed=printed)
+    clone.ask("it is installed again", ["--install", "installed"], 0, [], printed=printed)
+    clone.checks.same("what is installed", os.listdir(folder), ["lineage"])
+    mode = stat.S_IMODE(os.stat(f"{folder}/lineage").st_mode)
+    clone.checks.same("the mode of what is installed", mode, 0o755)
+    ran = subprocess.run([f"{folder}/lineage", *GEN], stdout=subprocess.PIPE)
+    clone.checks.same("what is installed prints", ran.stdout, GENERATED)
+    with open(clone.proved, "rb") as file, open(f"{folder}/lineage", "rb") as copy:
+        clone.checks.holds("what is installed is the proved program", file.read() == copy.read())
+    digest = subprocess.run(["sha256sum", clone.proved], stdout=subprocess.PIPE, text=True).stdout.split()[0]
+    said = clone.ask("it is proved, by --version", ["--version"], 0, [], printed=...)
+    is_so = "\nproved yes\n" in said and f"\nkit {KIT}\n" in said and f"\nprogram {digest}\n" in said
+    clone.checks.holds(f"{said!r} says so", is_so)
+    clone.ask("--version has a word too many", ["--version", "1"], USAGE, [], "not the words")
+    clone.ask("the words are none", ["--prove", "1"], USAGE, [], "not the words")
+    clone.ask("the word is none", ["--proven"], USAGE, [], "is no command", b"usage\n")

@@ -1,0 +1,60 @@
+"""What a file is, by how it begins, and what to do with one that was given to another command or as the log."""
+import re
+
+# So much of a file is looked at.
+FIRST_BYTES = 4_096
+MAX_BLOCK_BYTES = 1_048_576
+MAGIC_OF_LOG = b"LCLOG1\n"
+MAGIC_OF_PROOF = b"LCP1"
+# The versions of blocks, which stand in the first byte of each.
+VERSIONS = range(1, 8)
+LOG, DRAFT, PROOF, BYTES_OF_PROOF, BLOCK_FILE, CONTRACT = range(6)
+# What each is, and what to do with it.
+WHAT_TO_DO = {
+    LOG: (
+        "a log",
+        "ask `hist`, `back` or `fwd` in its folder, where it is named chain.log; or make a block file of it:\n"
+        "tools/export-blocks LOG > BLOCKS",
+    ),
+    DRAFT: ("a draft, which is JSON", "pack it first, ./lineage pack < DRAFT > BLOCKS"),
+    PROOF: ("a proof in hex", "`./lineage verify ROOT KIND KEY BLOCK` reads it"),
+    BYTES_OF_PROOF: ("the bytes of a proof", "a proof is read in hex: xxd -p < PROOF | tr -d '\\n'"),
+    BLOCK_FILE: ("a block file", "`./lineage append` and `./lineage scan KIND KEY BLOCK` read it"),
+    CONTRACT: ("a contract", "`./lineage fmt` reads it; to deploy it, name it in a draft, and pack that"),
+}
+# What a command reads, by its first word.
+READS = {
+    "scan": BLOCK_FILE,
+    "append": BLOCK_FILE,
+    "verify": PROOF,
+    "expose": PROOF,
+    "fmt": CONTRACT,
+    "pack": DRAFT,
+}
+
+
+def kind_of(first):
+    """What a file is that begins so; none where it is nothing of these."""
+    length = int.from_bytes(first[:4], "big")
+    if first[1:].startswith(MAGIC_OF_LOG):
+        return LOG
+    if first.startswith(MAGIC_OF_PROOF):
+        return BYTES_OF_PROOF
+    if re.match(MAGIC_OF_PROOF.hex().encode(), first):
+        return PROOF
+    if 1 <= length <= MAX_BLOCK_BYTES and len(first) > 4 and first[4] in VERSIONS:
+        return BLOCK_FILE
+    if re.match(rb"\s*[\[{]", first):
+        return DRAFT
+    if re.match(rb"(\s*#[^\n]*\n)*\s*fn\s", first):
+        return CONTRACT
+    return None
+
+
+def advice(first, wanted, name="the input"):
+    """What a file is that begins so, and what to do with it; nothing where it is what is wanted, or isn't known."""
+    kind = kind_of(first)
+    if kind is None or kind == wanted:
+        return ""
+    what, done = WHAT_TO_DO[kind]
+    return f"{name} looks like {what}: {done}"
