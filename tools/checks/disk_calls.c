@@ -4,7 +4,8 @@
  *
  * The environment says what is done; a number counts such calls from 0.
  *
- *     CALLS_LOG=NAME     the log is the file of that name; `chain.log` where it is left out
+ *     CALLS_LOG=NAME     the log is the file of that name; `chain.log` where it is left out. An open file is still
+ *                        the log once its name is removed
  *     CALLS_FILE=PATH    a line for each call is written there:
  *                        NUMBER NAME WHAT OFFSET SIZE RESULT, RESULT being -1 where it failed
  *     CALLS_FAIL=N       call N is not made, and fails with EIO, or with the error CALLS_ERROR
@@ -13,14 +14,18 @@
  *     CALLS_NO_MEMORY=N  the request for memory of that number, from 0, fails
  *     CALLS_NO_MORE=N    so does each from that number on
  *     CALLS_REQUESTS=PATH  how many requests there were is written there at the end
- *     CALLS_BEFORE=N     before call N the file CALLS_OTHER is put where the log is to be
+ *     CALLS_BEFORE=N     before call N the log is changed, as CALLS_CHANGE says: `make` (or nothing said) puts the
+ *                        file CALLS_OTHER there where there is none, `remove` takes its name away, `replace` puts
+ *                        CALLS_OTHER in its place, `cut` takes its last byte away, `extend` puts a byte behind it.
+ *                        What was opened is CALLS_KEPT then, too
  *     CALLS_KILL=N       before call N the program is killed
  *     CALLS_DISK=PATH    what the disk is sure to hold is read there, and written there at the end: a byte,
  *                        1 where the folder is sure to name the log, else 0; a byte, how many writes are not
  *                        synced; of each its offset and its size, in four bytes each, and its bytes; then
  *                        the bytes of the log that were synced. Numbers are in the order of the machine
  *
- * Of `open`, OFFSET has the flags, in octal. */
+ * Of `open`, OFFSET has the flags, in octal, and SIZE the mode of a file that it makes; of `flock`, OFFSET has what is
+ * asked. A look at a path is `statx`, and one at an open file `fstat`. */
 #define _GNU_SOURCE
 #include <errno.h>
 #include <fcntl.h>
@@ -30,6 +35,7 @@
 #include <stdio.h>
 #include <stdlib.h>
 #include <string.h>
+#include <sys/file.h>
 #include <sys/mman.h>
 #include <sys/stat.h>
 #include <sys/syscall.h>
@@ -44,7 +50,7 @@ static long calls, allocations;
 static long failing = NEVER, shorter = NEVER, nothing = NEVER, before = NEVER;
 static long no_memory = NEVER, no_more = NEVER;
 static long killing = NEVER, error = EIO;
-static const char *other, *disk, *requests;
+static const char *other, *change, *kept_as, *disk, *requests;
 
 static void read_disk(void);
 
@@ -68,6 +74,8 @@ __attribute__((constructor)) static void begin(void)
     killing = number_of("CALLS_KILL");
     error = getenv("CALLS_ERROR") ? number_of("CALLS_ERROR") : EIO;
     other = getenv("CALLS_OTHER");
+    change = getenv("CALLS_CHANGE") ? getenv("CALLS_CHANGE") : "make";
+    kept_as = getenv("CALLS_KEPT");
     disk = getenv("CALLS_DISK");
     /* Out of the way of the program's own descriptors. */
     long file = syscall(SYS_openat, AT_FDCWD, path, O_WRONLY | O_APPEND | O_CREAT, 0666);
@@ -87,6 +95,17 @@ static int is_log(const char *path)
 {
     const char *slash = strrchr(path, '/');
     return !strcmp(slash ? slash + 1 : path, log_name);
+}
+
+/* What the system puts behind the path of an open file whose name was removed. */
+static const char removed[] = " (deleted)";
+
+/* Takes that away from a path of so many bytes. */
+static void without_mark(char *path, size_t size)
+{
+    size_t mark = sizeof removed - 1;
+    if (size > mark && !strcmp(path + size - mark, removed))
+        path[size - mark] = 0;
 }
 
 /* Whether a path is that of the log's folder, which is the present one. */
@@ -110,6 +129,7 @@ static const char *at_file(int file)
     if (size < 0)
         return file == STDIN_FILENO ? "input" : file == STDOUT_FILENO ? "output" : NULL;
     path[size] = 0;
+    without_mark(path, size);
     if (is_log(path))
         return "log";
     if (file <= STDERR_FILENO)
@@ -218,6 +238,29 @@ __attribute__((destructor)) static void end(void)
     }
 }
 
+/* ---- what another program does to the log */
+
+static void add_to_size(int bytes)
+{
+    struct stat found;
+    if (stat(log_name, &found) || syscall(SYS_truncate, log_name, found.st_size + bytes))
+        die("disk_calls: the log's size");
+}
+
+static void change_log(void)
+{
+    if (kept_as)
+        syscall(SYS_linkat, AT_FDCWD, log_name, AT_FDCWD, kept_as, 0);
+    if (!strcmp(change, "make"))
+        syscall(SYS_linkat, AT_FDCWD, other, AT_FDCWD, log_name, 0);
+    else if (!strcmp(change, "remove"))
+        syscall(SYS_unlink, log_name);
+    else if (!strcmp(change, "replace"))
+        syscall(SYS_rename, other, log_name);
+    else
+        add_to_size(strcmp(change, "cut") ? 1 : -1);
+}
+
 /* ---- telling, and deciding */
 
 static enum action next(const char *what)
@@ -229,7 +272,7 @@ static enum action next(const char *what)
         syscall(SYS_kill, syscall(SYS_getpid), SIGKILL);
     }
     if (calls == before)
-        syscall(SYS_linkat, AT_FDCWD, other, AT_FDCWD, log_name, 0);
+        change_log();
     return calls == failing ? FAIL : calls == shorter ? SHORT : calls == nothing ? NOTHING : MAKE;
 }
 
@@ -332,7 +375,7 @@ int openat(int folder, const char *path, int flags, ...)
     va_end(rest);
     const char *what = at_path(path);
     long result = next(what) == FAIL ? fail() : syscall(SYS_openat, folder, path, flags, mode);
-    return tell("open", what, "%lo", flags, 0, result);
+    return tell("open", what, "%lo", flags, mode, result);
 }
 
 int open(const char *path, int flags, ...)
@@ -348,7 +391,7 @@ int statx(int folder, const char *path, int flags, unsigned mask, struct statx *
 {
     const char *what = *path ? at_path(path) : at_file(folder);
     long result = next(what) == FAIL ? fail() : syscall(SYS_statx, folder, path, flags, mask, found);
-    return tell("statx", what, "%ld", 0, 0, result);
+    return tell(*path ? "statx" : "fstat", what, "%ld", 0, 0, result);
 }
 
 int fcntl(int file, int command, ...)
@@ -360,6 +403,18 @@ int fcntl(int file, int command, ...)
     const char *what = command == F_DUPFD_CLOEXEC ? at_file(file) : NULL;
     long result = next(what) == FAIL ? fail() : syscall(SYS_fcntl, file, command, word);
     return tell("dup", what, "%ld", 0, 0, result);
+}
+
+int fchmod(int file, mode_t mode)
+{
+    return file_call(SYS_fchmod, "fchmod", file, mode);
+}
+
+int flock(int file, int asked)
+{
+    const char *what = at_file(file);
+    long result = next(what) == FAIL ? fail() : syscall(SYS_flock, file, asked);
+    return tell("flock", what, "%ld", asked, 0, result);
 }
 
 int unlink(const char *path)

@@ -2,6 +2,7 @@
 fail; tools/checks/disk_calls.c stands between.
 """
 import dataclasses
+import fcntl
 import os
 import resource
 import signal
@@ -10,7 +11,7 @@ import subprocess
 import tempfile
 
 from c_builds import built_library
-from checks.log_runs import LOG
+from checks.log_runs import LOG, environment
 
 # How long a run may take, in seconds.
 RUN_LIMIT = 60
@@ -19,11 +20,14 @@ SYNCS = ("fsync", "fdatasync")
 CREATE = 0o100
 NEW = 0o200
 TRUNCATE = 0o1000
+# What `flock` is asked for: a lock that nobody else may have, and an answer at once.
+LOCK = fcntl.LOCK_EX | fcntl.LOCK_NB
 
 
 @dataclasses.dataclass
 class Call:
-    """A call: its name, what it touched, where and of how many bytes, and what it answered."""
+    """A call: its name, what it touched, where and of how many bytes, and what it answered. Of `open`, `at` has the
+    flags, and `size` the mode; of `flock`, `at` has what is asked."""
 
     name: str
     what: str
@@ -45,7 +49,9 @@ class Call:
 @dataclasses.dataclass
 class Ran:
     """What a run told, its exit status, the calls that it made, the log after it, and what the disk is sure to
-    hold then, where that was asked for; how many requests for memory there were, none where a signal ended it."""
+    hold then, where that was asked for; how many requests for memory there were, none where a signal ended it; how
+    much of the input it has read; what the log held that was opened, where another program changed it; and the names
+    of the files in the folder."""
 
     told: str
     status: object
@@ -53,6 +59,9 @@ class Ran:
     log: object
     disk: object = None
     requests: object = None
+    read: object = None
+    kept: object = None
+    names: object = None
 
 
 def build(folder):
@@ -92,32 +101,37 @@ class Disk:
 
 
 class Watched:
-    """A program that is run so."""
+    """A program that is run so, each run for so many seconds at most."""
 
-    def __init__(self, program, shim):
+    def __init__(self, program, shim, limit=RUN_LIMIT):
         self.program = program
         self.shim = shim
+        self.limit = limit
 
-    def run(self, words, source=b"", log=None, file_limit=None, other=None, disk=None, **numbers):
-        """Runs words over an input and a log, as bytes, or none where there is no such file. A number
-        FAIL, ERROR, SHORT, NOTHING, NO_MEMORY, NO_MORE, BEFORE or KILL is that of tools/checks/disk_calls.c; `other`
-        are the bytes of CALLS_OTHER, and `disk` those of CALLS_DISK. With `file_limit`, the greatest size of a file,
-        no calls are told."""
+    def run(self, words, source=b"", log=None, **settings):
+        """Runs words over an input and a log, as bytes, or none where there is no such file; the settings are those of
+        `run_over`."""
+        with tempfile.TemporaryDirectory() as folder:
+            put(os.path.join(folder, LOG), log)
+            return self.run_over(folder, words, source, **settings)
+
+    def run_over(self, ledger, words, source=b"", file_limit=None, other=None, disk=None, **settings):
+        """Runs words over an input, as bytes, in a folder. FAIL, ERROR, SHORT, NOTHING, NO_MEMORY, NO_MORE, BEFORE,
+        CHANGE, KILL and LOG are settings of tools/checks/disk_calls.c; `other` are the bytes of CALLS_OTHER, and
+        `disk` those of CALLS_DISK. With `file_limit`, the greatest size of a file, no calls are told."""
         with tempfile.TemporaryDirectory() as folder, tempfile.TemporaryFile() as given:
-            ledger = os.path.join(folder, "ledger")
-            os.mkdir(ledger)
-            settings = {f"CALLS_{name}": str(number) for name, number in numbers.items()}
+            settings = {f"CALLS_{name}": str(setting) for name, setting in settings.items()}
             calls = os.path.join(folder, "calls")
             settings["CALLS_REQUESTS"] = os.path.join(folder, "requests")
             # The limit would be that of this file too.
             if file_limit is None:
                 settings["CALLS_FILE"] = calls
             settings["CALLS_OTHER"] = os.path.join(folder, "other")
+            settings["CALLS_KEPT"] = os.path.join(folder, "kept")
             put(settings["CALLS_OTHER"], other)
             if disk is not None:
                 settings["CALLS_DISK"] = os.path.join(folder, "disk")
                 put(settings["CALLS_DISK"], disk)
-            put(os.path.join(ledger, LOG), log)
             put(calls, b"")
             given.write(source)
             given.seek(0)
@@ -126,7 +140,9 @@ class Watched:
                 calls = [read_call(line) for line in lines]
             requests = get(settings["CALLS_REQUESTS"])
             log, disk = get(os.path.join(ledger, LOG)), get(os.path.join(folder, "disk"))
-            return Ran(told, status, calls, log, disk, int(requests) if requests else None)
+            requests = int(requests) if requests else None
+            kept = get(settings["CALLS_KEPT"])
+            return Ran(told, status, calls, log, disk, requests, offset_of(given), kept, os.listdir(ledger))
 
     def run_plain(self, words, source=b"", log=None):
         """What a run tells with nothing between, its exit status, and the log after it."""
@@ -134,7 +150,8 @@ class Watched:
             put(os.path.join(folder, LOG), log)
             words = [self.program, *words.split()]
             ran = subprocess.run(
-                words, cwd=folder, input=source, stdout=subprocess.PIPE, timeout=RUN_LIMIT, check=False
+                words, cwd=folder, input=source, stdout=subprocess.PIPE, timeout=RUN_LIMIT, check=False,
+                env=environment(),
             )
             return ran.stdout.decode("latin-1"), ran.returncode, get(os.path.join(folder, LOG))
 
@@ -147,13 +164,18 @@ class Watched:
                 stdin=source,
                 stdout=subprocess.PIPE,
                 stderr=subprocess.DEVNULL,
-                env={**os.environ, **settings, "LD_PRELOAD": self.shim},
+                env={**environment(), **settings, "LD_PRELOAD": self.shim},
                 preexec_fn=prepare,
-                timeout=RUN_LIMIT,
+                timeout=self.limit,
             )
         except subprocess.TimeoutExpired:
-            return "", f"none within {RUN_LIMIT} seconds"
+            return "", f"none within {self.limit} seconds"
         return ran.stdout.decode("latin-1"), ran.returncode
+
+
+def offset_of(file):
+    """Where the next byte of a file is read, also by another process that has it open."""
+    return os.lseek(file.fileno(), 0, os.SEEK_CUR)
 
 
 def limit_files(size):

@@ -12,11 +12,21 @@ from cases.block_files import sets
 from cases.log_cases import FIRST_GATE, HEAD, OPEN
 
 LOG = "chain.log"
+# The name of the scratch file, and the variable that names its folder; else that is the present one.
+SCRATCH = "chain.scratch"
+SCRATCH_FOLDER = "TMPDIR"
 # How long a run may take, and how long a line is waited for, in seconds.
 RUN_LIMIT = 600
 LINE_LIMIT = 60
 # What stands for a root that is left out.
 NO_ROOT = bytes(32).hex()
+
+
+def environment(**settings):
+    """What a run finds in its environment: that of the tool with further settings, and no folder for the scratch file
+    but one that they name."""
+    kept = {name: value for name, value in os.environ.items() if name != SCRATCH_FOLDER}
+    return {**kept, **settings}
 
 
 def plain_chain(count):
@@ -47,16 +57,16 @@ def read_log(folder):
 
 def append(program, folder, file):
     """Runs `append` over the bytes of a file: what it told, and its exit status."""
-    ran = subprocess.run(
-        [program, "append"], cwd=folder, input=file, stdout=subprocess.PIPE, timeout=RUN_LIMIT
-    )
+    words = [program, "append"]
+    streams = {"input": file, "stdout": subprocess.PIPE}
+    ran = subprocess.run(words, cwd=folder, timeout=RUN_LIMIT, env=environment(), **streams)
     return without_roots(ran.stdout.decode("ascii")), ran.returncode
 
 
 def start_append(program, folder, source):
     """Starts `append` over a source; what it tells is read line by line."""
     streams = {"stdin": source, "stdout": subprocess.PIPE}
-    return subprocess.Popen([program, "append"], cwd=folder, bufsize=0, **streams)
+    return subprocess.Popen([program, "append"], cwd=folder, bufsize=0, env=environment(), **streams)
 
 
 def read_line(process):
@@ -78,6 +88,7 @@ def ask(program, folder, *words):
         stdin=subprocess.DEVNULL,
         stdout=subprocess.PIPE,
         timeout=RUN_LIMIT,
+        env=environment(),
     )
     return ran.stdout.decode("ascii"), ran.returncode
 

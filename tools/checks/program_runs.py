@@ -5,7 +5,7 @@ import resource
 import subprocess
 import tempfile
 
-from checks.log_runs import LOG, without_roots
+from checks.log_runs import LOG, environment, without_roots
 from places import TOP
 
 # A user without rights of its own.
@@ -112,7 +112,7 @@ def run_in(folder, program, case):
     streams = {"stdin": source, "stdout": subprocess.PIPE, "stderr": subprocess.DEVNULL}
     try:
         ran = subprocess.run(
-            words, **streams, cwd=folder, preexec_fn=lambda: limit(case), timeout=case.seconds
+            words, **streams, cwd=folder, preexec_fn=lambda: limit(case), timeout=case.seconds, env=environment()
         )
     except subprocess.TimeoutExpired:
         return b"", f"none within {case.seconds} seconds"

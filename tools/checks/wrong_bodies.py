@@ -1,7 +1,7 @@
 """The wrong bodies of tools/wrong-bodies, and the copy of the working tree that they are tried on.
 
 Each is an edit in the format of crates/CRATE/must-fail/*.edit. The prover must refuse those of
-tools/wrong-bodies/CRATE, which tools/checks/try-wrong-bodies tries. Those of tools/wrong-bodies/edge no
+tools/wrong-bodies/CRATE, which tools/checks/try-wrong-bodies tries. Those of tools/wrong-bodies/edge/CRATE no
 clause refuses, since none says what a file holds; the runs of tools/checks/edge_checks.py must, and
 tools/checks/try-edge tries that.
 """
@@ -13,8 +13,6 @@ from places import TOP
 
 BODIES = "tools/wrong-bodies"
 EDGE = "edge"
-# The crate of whose lines over a real file those of EDGE are wrong bodies.
-EDGE_CRATE = "file_machine"
 
 
 class BadEdit(Exception):
@@ -36,6 +34,30 @@ def copy_tree(scratch):
         if os.path.isfile(f"{TOP}/{name}"):
             os.makedirs(os.path.dirname(f"{scratch}/{name}"), exist_ok=True)
             shutil.copy2(f"{TOP}/{name}", f"{scratch}/{name}")
+
+
+def edge_edits():
+    """The edits of each crate that has lines over the outside: the paths by their names, CRATE/NAME."""
+    folder = f"{TOP}/{BODIES}/{EDGE}"
+    crates = sorted(os.listdir(folder))
+    edits = [f"{crate}/{edit}" for crate in crates for edit in edits_of(f"{EDGE}/{crate}")]
+    return {edit.removesuffix(".edit"): f"{folder}/{edit}" for edit in edits}
+
+
+def edited_file(edit, crate):
+    """The file of a crate that an edit names, and what it makes of it, where it changes one alone."""
+    with open(edit, encoding="utf-8") as lines:
+        [file] = [line.split()[1] for line in lines if line.startswith("file:")]
+    path = f"{crate}/{file}"
+    with open(path, encoding="utf-8") as file:
+        before = file.read()
+    try:
+        apply(edit, crate)
+        with open(path, encoding="utf-8") as file:
+            return path, file.read()
+    finally:
+        with open(path, "w", encoding="utf-8") as file:
+            file.write(before)
 
 
 def apply(edit, crate):

@@ -65,14 +65,14 @@ def take_module(folder, module):
     return False
 
 
-def build(crate, room, program, begin=lambda step: None):
-    """Builds the program of a crate's folder; what it takes meanwhile stands in the room, an empty folder. `begin`
-    is told of each step."""
+def build(crate, room, program, begin=lambda step: None, further=()):
+    """Builds the program of a crate's folder; what it takes meanwhile stands in the room, a folder that has none of
+    that. `begin` is told of each step, and further objects are linked with it."""
     begin("reading the sources")
     module, made = module_of(crate, room), f"{room}/program.o"
     begin("compiling")
     kit = toolchain()
     call(f"{kit}/toolchain/bin/clang", "-O2", "-c", "-x", "ir", module, "-o", made)
     begin("linking")
-    words = ["--target", TARGET, "--toolchain", f"{kit}/toolchain", "-o", program, made]
+    words = ["--target", TARGET, "--toolchain", f"{kit}/toolchain", "-o", program, made, *further]
     call(f"{kit}/bin/rattle-link", *words, f"{kit}/c/libos_c.a", f"{kit}/c/liblibc_c.a")

@@ -42,7 +42,8 @@ struct HostFile<'a> {
     rt: &'a HostRuntime,
     path: &'a str,
     found: Found,
-    // Its length, by the last answer and what was written since; not known before that.
+    // Its length, as its lock was taken or by the last answer, and by what was written since; not known
+    // before that.
     len: Option<u64>,
     is_locked: bool,
     is_folder_synced: bool,
@@ -103,6 +104,14 @@ fn create_file(rt: &HostRuntime, path: &str) -> Result<Found, Failed> {
 /// program holds it, or the file system has no locks, that is a fault; nothing waits.
 fn take_lock(file: &File) -> Result<(), Failed> {
     file.try_lock().map_err(|_| Failed)
+}
+
+/// How long a file is.
+fn len_of(file: &File) -> Result<u64, Failed> {
+    match file.metadata() {
+        Ok(metadata) => Ok(metadata.len()),
+        Err(_) => Err(Failed),
+    }
 }
 
 /// Whether a path leads to this file, and the file has this length, where that is known. Another
@@ -174,10 +183,7 @@ impl<'a> HostFile<'a> {
     {
         self.look()?;
         let len = match &self.found {
-            Found::Open(file) => match file.metadata() {
-                Ok(metadata) => metadata.len(),
-                Err(_) => return Err(Failed),
-            },
+            Found::Open(file) => len_of(file)?,
             _ => 0,
         };
         self.len = Some(len);
@@ -195,7 +201,8 @@ impl<'a> HostFile<'a> {
         }
     }
 
-    /// Takes the file's lock, the first time.
+    /// Takes the file's lock, the first time, and looks how long the file is: from then on this
+    /// machine alone may change that.
     fn lock(&mut self) -> Result<(), Failed>
         ensures found { self.new.found ≡ self.old.found }
         ensures held { OnOk result (IsHeld self.new.found self.new.is_locked) }
@@ -205,6 +212,7 @@ impl<'a> HostFile<'a> {
         }
         if let Found::Open(file) = &self.found {
             take_lock(file)?;
+            self.len = Some(len_of(file)?);
             self.is_locked = true;
         }
         Ok(())
@@ -283,9 +291,10 @@ impl<'a> HostFile<'a> {
 /// The file is touched at the first call of the disk. One that is not there has length 0, and the
 /// first write makes it. The first sync or write takes the file's lock, which is held for as long
 /// as the machine is there: where another program holds it, the call fails. Before each write, and
-/// after each sync, the path must lead to the file that was opened, which must be as long as its
-/// owner was told; else the call fails. Where a write or a sync has failed, each later one fails: a
-/// system that could not write once may answer the next sync though the bytes are lost.
+/// after each sync, the path must lead to the file that was opened, which must be as long as it was
+/// when the lock was taken, or as its owner was told since, and as the writes since have it; else
+/// the call fails. Where a write or a sync has failed, each later one fails: a system that could
+/// not write once may answer the next sync though the bytes are lost.
 #[derive(Drop)]
 pub struct FileMachine<'a, W> {
     file: HostFile<'a>,

@@ -4,6 +4,7 @@ use disk_model::Disk;
 use file_machine::FileMachine;
 use lc_io::{Failed, HostStream, Source, Wire};
 use std::fs;
+use std::fs::File;
 use std::io::{self, ErrorKind, Read, Write};
 
 /// A reader of the bytes `ab`, one at each read, of which the second read fails.
@@ -122,4 +123,73 @@ fn folder_in_place_of_a_file(rt: HostRuntime) {
     let mut machine = FileMachine::new(&rt, ".", &mut told);
     assert!(rt; machine.len() == Err(Failed));
     assert!(rt; machine.write_at(0, b"a") == Err(Failed));
+}
+
+/// A file of the present folder, which is not there before the test and after it.
+const LONG_FILE: &str = "chain_tests.long";
+
+/// Its length, past the last offset of 32 bits. Nothing is written of it, so it takes no space.
+const LONG_LEN: u64 = 0x1_0000_0005;
+
+/// The place in the first four gigabytes that the last byte of the file has by its last 32 bits.
+const SHORT_PLACE: u64 = 4;
+
+fn make_long_file(rt: &HostRuntime) -> Result<(), Failed> {
+    let file = File::create_new(rt, LONG_FILE).map_err(|_| Failed)?;
+    file.set_len(LONG_LEN).map_err(|_| Failed)
+}
+
+/// Writes behind the end of the long file, and then over its last byte; answers its length before.
+fn write_long_file(rt: &HostRuntime, told: &mut Vec<u8>) -> Result<u64, Failed> {
+    let mut machine = FileMachine::new(rt, LONG_FILE, told);
+    machine.sync()?;
+    let before = machine.len()?;
+    machine.write_at(LONG_LEN, b"xyz")?;
+    machine.sync()?;
+    machine.write_at(LONG_LEN - 1, b"w")?;
+    machine.sync()?;
+    Ok(before)
+}
+
+/// The length of the long file; and how many bytes were read into the buffer from a place.
+fn read_long_file(rt: &HostRuntime, at: u64, buffer: &mut [u8]) -> Result<(u64, usize), Failed> {
+    let mut told: Vec<u8> = Vec::new(rt.alloc());
+    let mut machine = FileMachine::new(rt, LONG_FILE, &mut told);
+    let len = machine.len()?;
+    let count = machine.read_at(at, buffer)?;
+    Ok((len, count))
+}
+
+#[test]
+fn file_past_four_gigabytes(rt: HostRuntime) {
+    let mut told = Vec::new(rt.alloc());
+    assert!(rt; make_long_file(&rt) == Ok(()));
+    assert!(rt; write_long_file(&rt, &mut told) == Ok(LONG_LEN));
+    let mut buffer = [1; 6];
+    assert!(rt; read_long_file(&rt, LONG_LEN - 1, &mut buffer) == Ok((LONG_LEN + 3, 4)));
+    assert!(rt; buffer == [b'w', b'x', b'y', b'z', 1, 1]);
+    assert!(rt; read_long_file(&rt, SHORT_PLACE, &mut buffer) == Ok((LONG_LEN + 3, 6)));
+    assert!(rt; buffer == [0; 6]);
+    assert!(rt; fs::remove_file(&rt, LONG_FILE).is_ok());
+}
+
+#[test]
+fn lock_of_a_file(rt: HostRuntime) {
+    // Of two machines over one file, the first one that syncs or writes has it; the other may read.
+    let mut told = Vec::new(rt.alloc());
+    assert!(rt; write_file(&rt, &mut told) == Ok(0));
+    let mut one_told: Vec<u8> = Vec::new(rt.alloc());
+    let mut other_told: Vec<u8> = Vec::new(rt.alloc());
+    let mut one = FileMachine::new(&rt, FILE, &mut one_told);
+    let mut other = FileMachine::new(&rt, FILE, &mut other_told);
+    assert!(rt; one.sync() == Ok(()));
+    assert!(rt; other.len() == Ok(7));
+    assert!(rt; other.sync() == Err(Failed));
+    assert!(rt; other.write_at(7, b"!") == Err(Failed));
+    assert!(rt; one.write_at(7, b".") == Ok(()));
+    assert!(rt; other.len() == Ok(8));
+    assert!(rt; fs::remove_file(&rt, FILE).is_ok());
+    // Once it isn't there any more, nothing is written to it.
+    assert!(rt; one.sync() == Err(Failed));
+    assert!(rt; !fs::exists(&rt, FILE).unwrap_or(true));
 }

@@ -23,6 +23,29 @@ fn put_two<S: Scratch>(scratch: &mut S, got: &mut [u8; 3]) -> Result<(u64, u64),
     Ok((first, second))
 }
 
+/// Puts three texts on a device over a file, and gets the last two back, the third one first.
+fn get_later_ones(
+    rt: &HostRuntime,
+    second: &mut [u8; 2],
+    third: &mut [u8; 4],
+) -> Result<(), Failed> {
+    let mut scratch = FileScratch::new(rt.alloc(), rt, ".").map_err(|_| Failed)?;
+    let _first = scratch.put(b"abc")?;
+    let second_place = scratch.put(b"de")?;
+    let third_place = scratch.put(b"fghi")?;
+    scratch.get(third_place, third)?;
+    scratch.get(second_place, second)?;
+    scratch.close()
+}
+
+#[test]
+fn scratch_file_at_later_places(rt: HostRuntime) {
+    let (mut second, mut third) = ([0; 2], [0; 4]);
+    assert!(rt; get_later_ones(&rt, &mut second, &mut third) == Ok(()));
+    assert!(rt; second == *b"de");
+    assert!(rt; third == *b"fghi");
+}
+
 /// Puts a text on each of two devices, and then gets both back.
 fn put_on_both<A: Scratch, B: Scratch>(
     one: &mut A,

@@ -1,0 +1,110 @@
+"""Two appends of different chains to one log, which run at the same time.
+
+Each is given its frames by a pipe, and neither is given the last of them before both have begun, which is seen by
+that they read, or have ended. The log is then the chain of the one that ends with status 0, whole, and what that told
+is what an append of the chain alone tells; the other ends with status 4, and has told nothing.
+"""
+import contextlib
+import fcntl
+import itertools
+import os
+import struct
+import subprocess
+import tempfile
+import termios
+import time
+
+from cases.block_files import block_file, sets
+from cases.log_cases import DISK_FAULT, DONE, frames_of, log_of
+from checks.disk_calls import get, put
+from checks.log_runs import LINE_LIMIT, LOG, environment, known_lines, plain_chain, without_roots
+
+# How many blocks each chain has, and how many of them stand in a log that is there before.
+BLOCKS = 12
+HELD = 3
+# How many bytes are given before both have begun: some of a frame, the first frame, and almost all.
+GIVEN_FIRST = [2, 80, 900]
+ROUNDS_IN_GATE = 6
+PERIOD = 0.001
+
+
+def two_chains(first):
+    """Two block files that begin with the same blocks, and what `append` tells of the blocks of each, but for the
+    roots."""
+    chain, lines = plain_chain(BLOCKS)
+    blocks = [[sets(f"raw/{at}", at, [f"raw/{at - 1}"] if at else [])] for at in range(first)]
+    blocks += [[sets(f"raw/{at}", at + 1_000, [f"raw/{at - 1}"] if at else [])] for at in range(first, BLOCKS)]
+    return (chain, block_file(blocks)), lines
+
+
+def start(program, folder):
+    words = {"stdin": subprocess.PIPE, "stdout": subprocess.PIPE, "cwd": folder, "env": environment()}
+    return subprocess.Popen([program, "append"], **words)
+
+
+def give(running, source):
+    """Gives a program some bytes, where it still takes any."""
+    with contextlib.suppress(BrokenPipeError):
+        running.stdin.write(source)
+        running.stdin.flush()
+
+
+def has_begun(running):
+    """Whether a program has read what it was given, or has ended."""
+    waiting = fcntl.ioctl(running.stdin, termios.FIONREAD, bytes(4))
+    return struct.unpack("i", waiting) == (0,) or running.poll() is not None
+
+
+def wait_for(running):
+    until = time.monotonic() + LINE_LIMIT
+    while not has_begun(running) and time.monotonic() < until:
+        time.sleep(PERIOD)
+
+
+def close(running):
+    with contextlib.suppress(BrokenPipeError):
+        running.stdin.close()
+
+
+def answer(running):
+    """What a program tells that was given all, but for the roots, and its status."""
+    with running.stdout:
+        told = running.stdout.read()
+    return without_roots(told.decode("latin-1")), running.wait(LINE_LIMIT)
+
+
+def pair(checks, program, held, given):
+    """Two appends onto a log of so many blocks, each with so many bytes given before both run; which of them stored."""
+    files, lines = two_chains(held)
+    lines = known_lines(held) + lines[held:]
+    with tempfile.TemporaryDirectory() as folder:
+        before = log_of(b"".join(frames_of(files[0])[:held])) if held else None
+        put(os.path.join(folder, LOG), before)
+        both = [start(program, folder) for _ in files]
+        for running, file in zip(both, files):
+            give(running, file[:given])
+        for running in both:
+            wait_for(running)
+        for running, file in zip(both, files):
+            give(running, file[given:])
+            close(running)
+        answers = [answer(running) for running in both]
+        name = f"two appends onto {held} blocks, {given} bytes of which are given first"
+        stored = [status == DONE for _, status in answers]
+        alone, other = ("".join(lines), DONE), ("", DISK_FAULT)
+        checks.same(name, sorted(answers), sorted([alone, other]))
+        wanted = [log_of(file) for file, is_stored in zip(files, stored) if is_stored]
+        checks.same(f"log after {name}", [get(os.path.join(folder, LOG))], wanted)
+        checks.same(f"files after {name}", os.listdir(folder), [LOG])
+        return stored
+
+
+def pairs(checks, program, times):
+    """So many pairs, with and without a log before; how often each of the two was the one that stored."""
+    rounds = itertools.cycle(itertools.product([0, HELD], GIVEN_FIRST))
+    stored = [pair(checks, program, held, given) for held, given in itertools.islice(rounds, times)]
+    return [sum(column) for column in zip(*stored)]
+
+
+def pairs_in_gate(checks, watched):
+    pairs(checks, watched.program, ROUNDS_IN_GATE)

@@ -1,0 +1,225 @@
+"""The lock of the log, which `append` holds from before its first read to its end, and a log that another program
+removes, replaces, cuts or extends meanwhile.
+
+What is expected was written from docs/log.md.
+"""
+import contextlib
+import fcntl
+import os
+import subprocess
+import tempfile
+import time
+
+from cases.log_cases import DISK_FAULT, DONE, SET_LOG, log_of
+from checks.disk_calls import get, put
+from checks.edge_calls import FRAMES, LINES, changes, steps
+from checks.log_runs import LINE_LIMIT, LOG, append, ask, held_frames, known_lines, read_line, start_append
+from checks.log_runs import without_roots
+from checks.program_cases import EXPOSE, RAW_A_PROOF, RECALL_FILE, RECALL_LOG, RECALL_ROOTS, USED
+
+PERIOD = 0.01
+PLAIN_LINES = list(map(without_roots, LINES))
+# Questions over the log of three blocks, and what they tell.
+QUESTIONS = [
+    ("fwd raw/part/p1", USED),
+    ("hist raw/lot/l1", "block 1 tx 0 int 120\n"),
+    ("root 1", f"root 1 {RECALL_ROOTS[1]}\n"),
+]
+
+
+@contextlib.contextmanager
+def folder_of(log):
+    """A folder with a log, or with none."""
+    with tempfile.TemporaryDirectory() as folder:
+        put(os.path.join(folder, LOG), log)
+        yield folder
+
+
+def is_locked(folder):
+    """Whether somebody holds the lock of the log; so not where there is none."""
+    with contextlib.suppress(FileNotFoundError), open(os.path.join(folder, LOG), "rb") as file:
+        try:
+            fcntl.flock(file, fcntl.LOCK_EX | fcntl.LOCK_NB)
+        except BlockingIOError:
+            return True
+    return False
+
+
+def comes_true(condition):
+    """Whether a condition holds within a while."""
+    until = time.monotonic() + LINE_LIMIT
+    while not condition() and time.monotonic() < until:
+        time.sleep(PERIOD)
+    return condition()
+
+
+@contextlib.contextmanager
+def running_append(watched, folder):
+    """An `append` whose input is a pipe that stays open; it is killed at the end, where it runs still."""
+    running = start_append(watched.program, folder, subprocess.PIPE)
+    try:
+        yield running
+    finally:
+        running.kill()
+        running.wait()
+        running.stdout.close()
+        with contextlib.suppress(BrokenPipeError):
+            running.stdin.close()
+
+
+def give(running, frame):
+    """Gives a frame; the line that is told of it."""
+    running.stdin.write(frame)
+    return read_line(running)
+
+
+def end(running):
+    """Ends the input; what is told then, and the status."""
+    running.stdin.close()
+    told = without_roots(running.stdout.read().decode("latin-1"))
+    return told, running.wait(LINE_LIMIT)
+
+
+# ---- the lock
+
+
+def lock_of_another(checks, watched):
+    """Where another program holds the lock, also one that shares it, `append` ends before it has read, written or told
+    anything; questions are answered."""
+    for kind in [fcntl.LOCK_EX, fcntl.LOCK_SH]:
+        with folder_of(RECALL_LOG) as folder, open(os.path.join(folder, LOG), "rb") as file:
+            fcntl.flock(file, kind)
+            for source in [RECALL_FILE, b""]:
+                ran = watched.run_over(folder, "append", source)
+                name = f"append over a log whose lock {kind} another program holds"
+                checks.same(name, (ran.told, ran.status, ran.log), ("", DISK_FAULT, RECALL_LOG))
+                checks.same(f"calls of {name}", steps(ran.calls), ["path", "open", "apart", "lock"])
+                checks.same(f"input of {name}", ran.read, 0)
+            for words, told in QUESTIONS:
+                checks.same(f"{words} meanwhile", ask(watched.program, folder, *words.split()), (told, DONE))
+    with folder_of(SET_LOG) as folder, open(os.path.join(folder, LOG), "rb") as file:
+        fcntl.flock(file, fcntl.LOCK_EX)
+        proof = RAW_A_PROOF.decode("ascii")
+        checks.same("prove meanwhile", ask(watched.program, folder, *"prove hist raw/a 0 0".split()), (proof, DONE))
+        ran = watched.run_over(folder, EXPOSE.decode("ascii"), RAW_A_PROOF)
+        checks.same("expose meanwhile", (ran.told, ran.status), ("no clash\n", DONE))
+
+
+def lock_of_a_run(checks, watched):
+    """`append` holds the lock until it ends, also by a kill, over a log that it finds, from before it was given
+    anything, and one that it makes; another one ends at once meanwhile."""
+    for held in [0, 1]:
+        log = log_of(b"".join(FRAMES[:held])) if held else None
+        with folder_of(log) as folder, running_append(watched, folder) as running:
+            if held:
+                checks.holds("the lock is taken before a frame is given", comes_true(lambda: is_locked(folder)))
+            lines = known_lines(held) + PLAIN_LINES[held:]
+            for number, frame in enumerate(FRAMES[:2]):
+                checks.same(f"line {number} of one that runs", give(running, frame), lines[number])
+                checks.holds("the lock is held", is_locked(folder))
+            before = get(os.path.join(folder, LOG))
+            checks.same("a second append", append(watched.program, folder, RECALL_FILE), ("", DISK_FAULT))
+            checks.same("log after that", get(os.path.join(folder, LOG)), before)
+            words = "hist raw/lot/l1".split()
+            wanted = "block 1 tx 0 int 120\n", DONE
+            checks.same("a question meanwhile", ask(watched.program, folder, *words), wanted)
+            checks.holds("the lock is held still", is_locked(folder))
+            running.kill()
+            running.wait()
+            wanted = "".join(known_lines(2) + PLAIN_LINES[2:]), DONE
+            checks.same("append after a kill", append(watched.program, folder, RECALL_FILE), wanted)
+            checks.holds("no lock is left", not is_locked(folder))
+            checks.same("log after that", get(os.path.join(folder, LOG)), RECALL_LOG)
+
+
+# ---- a log that another program changes
+
+
+# What stands in place of a log that was replaced.
+OTHER = SET_LOG
+
+
+def remove(folder):
+    os.unlink(os.path.join(folder, LOG))
+
+
+def replace(folder):
+    put(os.path.join(folder, "other"), OTHER)
+    os.rename(os.path.join(folder, "other"), os.path.join(folder, LOG))
+
+
+def resize(folder, bytes_):
+    path = os.path.join(folder, LOG)
+    os.truncate(path, os.path.getsize(path) + bytes_)
+
+
+def cut(folder):
+    resize(folder, -1)
+
+
+def extend(folder):
+    resize(folder, 1)
+
+
+CHANGES = [remove, replace, cut, extend]
+
+
+def changes_between_frames(checks, watched):
+    """Once the log isn't the file that was opened, or another program has changed its length, nothing is written to it
+    and no further block is told of. What was told of stands in the file that was opened."""
+    for held in [0, 1]:
+        for change in CHANGES:
+            log = log_of(b"".join(FRAMES[:held])) if held else None
+            with folder_of(log) as folder, running_append(watched, folder) as running:
+                lines = known_lines(held) + PLAIN_LINES[held:]
+                name = f"append over {held} blocks to which somebody does `{change.__name__}`"
+                for number, frame in enumerate(FRAMES[:2]):
+                    checks.same(f"line {number} of {name}", give(running, frame), lines[number])
+                kept, path = os.path.join(folder, "kept"), os.path.join(folder, LOG)
+                os.link(path, kept)
+                change(folder)
+                before = get(path), get(kept)
+                running.stdin.write(FRAMES[2])
+                checks.same(name, end(running), ("", DISK_FAULT))
+                checks.same(f"files after {name}", (get(path), get(kept)), before)
+                checks.same(f"blocks after {name}", held_frames(get(kept)), FRAMES[:2])
+
+
+def changes_at_each_call(checks, watched):
+    """The same, with the change before each call from the first write on, or from the last read of what was found: the
+    next look at what was changed ends the run."""
+    for log in [None, log_of(FRAMES[0])]:
+        good = watched.run("append", RECALL_FILE, log)
+        names = [(call.name, call.what) for call in good.calls]
+        first = names.index(("flock", "log")) + 2
+        if log is not None:
+            first = len(names) - names[::-1].index(("pread", "log"))
+        for change in CHANGES:
+            look = ("statx" if change in (remove, replace) else "fstat"), "log"
+            for number in range(first, len(names)):
+                seen = (names + [look]).index(look, number)
+                if names[number][1] != "input" and not is_written_over(change, log, good.calls[:seen], number):
+                    changed_call(checks, watched, log, good, change, number, seen)
+
+
+def is_written_over(change, log, calls, number):
+    """Whether what follows puts a length right that is changed before a call, since it writes past the end; or whether
+    there is nothing to cut."""
+    is_empty = log is None and not any(call.name == "pwrite" for call in calls[:number])
+    is_past = any(call.name == "pwrite" and call.size > 1 for call in calls[number:])
+    return change in (cut, extend) and (is_past or is_empty)
+
+
+def changed_call(checks, watched, log, good, change, number, look):
+    """A run to which a change is made before a call, and which looks at what was changed before another."""
+    ran = watched.run("append", RECALL_FILE, log, other=OTHER, BEFORE=number, CHANGE=change.__name__)
+    name = f"append over {len(log or b'')} bytes to which somebody does `{change.__name__}` before call {number}"
+    status = DISK_FAULT if look < len(good.calls) else DONE
+    told = "".join(good.told.splitlines(keepends=True)[: sum(call.what == "output" for call in good.calls[:look])])
+    checks.same(name, (ran.told, ran.status), (told, status))
+    # The path is looked at right after the file, whatever that tells.
+    checks.same(f"calls after {name}", changes(ran.calls[look + 1 :]), [])
+    sure = told.count("\n")
+    checks.same(f"blocks after {name}", held_frames(ran.kept)[:sure], FRAMES[:sure])
+    if change is replace:
+        checks.same(f"what stands in its place after {name}", ran.log, OTHER)

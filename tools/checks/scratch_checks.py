@@ -1,0 +1,276 @@
+"""What the built program does with its scratch file: its calls, each of them failing, moving one byte, or taking nothing;
+what is read back from it; where it is made, under which name, and what is left of it.
+
+What is expected was written from docs/log.md. Which bodies are put is worked out from the rows of the chain, and
+what is made of those that are read back by tools/cases/growing_roots.py and tools/cases/proof_cases.py.
+"""
+import errno
+import os
+import subprocess
+import tempfile
+
+from cases.block_files import OK, block_file, calls, deploys, sets
+from cases.growing_roots import growing_roots
+from cases.log_cases import DONE, SCRATCH_FAULT, frames_of, log_of
+from cases.proof_cases import proof_of
+from cases.root_cases import History, Row, block_digests
+from checks.disk_calls import CREATE, NEW, TRUNCATE, get, put
+from checks.edge_calls import ERRORS, FRAMES, LINES, goes_on, one_of_each_kind
+from checks.log_runs import LOG, SCRATCH, SCRATCH_FOLDER, held_frames, known_lines, read_line, start_append
+from checks.program_cases import RECALL_FILE, RECALL_LOG, RECALL_ROOTS, RECALL_ROWS
+from checks.program_runs import take_rights
+
+# The owner alone may open it.
+MODE = 0o600
+# What is put after its name where there is a file of that name, and how many names are tried.
+MARK = "_"
+NAMES = 32
+
+
+def body_size(history, row):
+    """How many bytes a body has; the first byte of its text says what is hashed."""
+    return len(history.body_text(row)) - 1
+
+
+def earlier_proof(rows, frames, key):
+    """What is told of `prove hist KEY 0 0`."""
+    first = [row for row in rows if row.block == 0]
+    return proof_of(History(first), block_digests(frames)[0], "hist", key, 0, 0).hex() + "\n"
+
+
+# The lineage of the first block, of which these proofs are made, has no body at hand: one is read back, the first
+# or another.
+PROVED = {f"prove hist {row.key} 0 0": row for row in RECALL_ROWS if row.block == 0}
+# Runs that use the scratch file: the words, the input, the log before, and what is told.
+RUNS = [
+    ("append", RECALL_FILE, None, "".join(LINES)),
+    ("append", RECALL_FILE, log_of(FRAMES[0]), "".join(known_lines(1) + LINES[1:])),
+    *[(words, b"", RECALL_LOG, earlier_proof(RECALL_ROWS, FRAMES, row.key)) for words, row in PROVED.items()],
+]
+
+
+# ---- its calls
+
+
+def scratch_calls(checks, watched):
+    """What is done with the scratch file, in which order; and each of these calls failing, moving one byte, or taking
+    nothing."""
+    for words, source, log, told in RUNS:
+        good = watched.run(words, source, log, LOG=SCRATCH)
+        checks.same(f"{words} with its scratch file", (good.told, good.status), (told, DONE))
+        numbered = [(number, call) for number, call in enumerate(good.calls) if call.what == "log"]
+        made = [call for _, call in numbered]
+        checks.same(f"calls of the scratch file, {words}", list(scratch_steps(made)), wanted_steps(words))
+        for number, call in numbered:
+            settings = ["FAIL"] + ["NOTHING", "SHORT"] * call.moves_bytes()
+            for setting in settings:
+                scratch_call(checks, watched, (words, source, log), good, {setting: number})
+        for number in one_of_each_kind(good.calls):
+            for error in ERRORS * (good.calls[number].what == "log"):
+                scratch_call(checks, watched, (words, source, log), good, {"FAIL": number, "ERROR": error})
+
+
+def wanted_steps(words):
+    """The calls of the scratch file: it is made anew, its name is taken away, and the bodies are put one after
+    another."""
+    history, at, steps = History(RECALL_ROWS), 0, [f"made anew {MODE:o}", "unlink", "dup"]
+    for row in RECALL_ROWS:
+        size = body_size(history, row)
+        steps.append(f"pwrite {at} {size}")
+        if row is PROVED.get(words):
+            read_back = [f"pread {at} {size}"]
+        at += size
+    return steps + read_back if words in PROVED else steps
+
+
+def scratch_steps(calls):
+    """The same, of calls that were made."""
+    for call in calls:
+        if call.name == "open":
+            is_new = call.at & (CREATE | NEW) == CREATE | NEW and not call.at & TRUNCATE
+            yield f"made anew {call.size:o}" if is_new else "opened"
+        elif call.moves_bytes():
+            yield f"{call.name} {call.at} {call.size}"
+        else:
+            yield call.name
+
+
+def scratch_call(checks, watched, run, good, settings):
+    """A run of which one call of the scratch file was made to fail, or to move fewer bytes. Where its name can't be
+    taken away, that is done at the end; a call that was interrupted may be made again. No run leaves it."""
+    words, source, log = run
+    number = next(iter(settings.values()))
+    call = good.calls[number]
+    ran = watched.run(words, source, log, LOG=SCRATCH, **settings)
+    name = f"{words} over {len(log or b'')} bytes, {settings} {call} of the scratch file"
+    checks.same(f"files after {name}", [file for file in ran.names if file != LOG], [])
+    is_made_again = settings.get("ERROR") == errno.EINTR and ran.status == DONE
+    if "SHORT" in settings or call.name == "unlink" or is_made_again:
+        checks.same(name, (ran.told, ran.status, ran.log), (good.told, good.status, good.log))
+        return
+    lines = good.told.splitlines(keepends=True)
+    before = sum(other.what == "output" for other in good.calls[:number])
+    checks.same(f"status of {name}", ran.status, SCRATCH_FAULT)
+    checks.same(f"lines of {name}", ran.told, "".join(lines[:before]))
+    if words == "append":
+        held = max(before, len(held_frames(log or b"")))
+        checks.same(f"blocks after {name}", held_frames(ran.log or b""), FRAMES[:held])
+        goes_on(checks, watched, ran.log, name)
+    else:
+        checks.same(f"log after {name}", ran.log, log)
+
+
+# ---- what is read back
+
+
+# How many rows the first block of a chain has, more than have their bodies at hand; and a text of them.
+ROWS = 1_100
+TEXT = "{:0400}"
+# Of these the bodies are read back: the first, one near it, and some behind more than 20,000 bytes.
+READ_BACK = [0, 3, 50, 60, 75]
+# And of these proofs are made, too.
+PROVED_KEYS = ["raw/3", "raw/60"]
+
+
+class ReadBack:
+    """A chain whose last block asks for values of its first one of which the bodies are not at hand."""
+
+    def __init__(self):
+        self.rows = [Row(f"raw/{at}", 0, at, TEXT.format(at), []) for at in range(ROWS)]
+        puts = "".join(f' put "ask/{at}" = hist_text("raw/{at}", 0);' for at in READ_BACK)
+        blocks = [
+            [sets(row.key, row.value) for row in self.rows],
+            [deploys("ask", f"fn old() {{{puts} }}")],
+            [calls("ask", "old", [], 10_000, OK, 0)],
+        ]
+        self.rows += [Row(f"ask/{at}", 2, 0, TEXT.format(at), []) for at in READ_BACK]
+        self.file = block_file(blocks)
+        self.frames = frames_of(self.file)
+
+    def lines(self):
+        statuses = [",".join(["0"] * ROWS), "0", "0"]
+        for at, root in enumerate(growing_roots(self.frames, self.rows)):
+            count = sum(row.block == at for row in self.rows)
+            yield f"block {at} rows {count} status {statuses[at]} root {root}\n"
+
+
+def bodies_read_back(checks, watched):
+    """The bodies that are read back are those that were put, wherever they stand in the file: by the roots of what a
+    contract makes of them, and by proofs."""
+    chain = ReadBack()
+    ran = watched.run("append", chain.file, LOG=SCRATCH)
+    lines = list(chain.lines())
+    checks.same("an append that reads bodies back", (ran.told, ran.status), ("".join(lines), DONE))
+    history = History(chain.rows)
+    sizes = [body_size(history, row) for row in chain.rows]
+    reads = [(call.at, call.size) for call in ran.calls if call.name == "pread"]
+    checks.same("what is read back", reads, [(sum(sizes[:at]), sizes[at]) for at in READ_BACK])
+    log = log_of(chain.file)
+    checks.same("the log of that", ran.log, log)
+    known = watched.run("append", chain.file, log)
+    checks.same("the same again", (known.told, known.status), ("".join(known_lines(3)), DONE))
+    last = watched.run("root", log=log)
+    checks.same("its root", (last.told, last.status), (f"root 2 {lines[2].split()[-1]}\n", DONE))
+    for key in PROVED_KEYS:
+        ran = watched.run(f"prove hist {key} 0 0", log=log)
+        wanted = earlier_proof(chain.rows, chain.frames, key), DONE
+        checks.same(f"a proof of {key}", (ran.told, ran.status), wanted)
+
+
+# ---- where it is made, and what is left of it
+
+
+LAST = len(FRAMES) - 1
+ROOT = f"root {LAST} {RECALL_ROOTS[LAST]}\n"
+
+
+def run_in(watched, folder, words, source=b"", prepare=None, **settings):
+    """What a run in a folder tells, and its status."""
+    with tempfile.TemporaryFile() as given:
+        given.write(source)
+        given.seek(0)
+        return watched.run_in(folder, words, given, settings, prepare)
+
+
+def folder_of_the_scratch_file(checks, watched):
+    """It is made in the folder of the variable, or in the present one where that names none that is a text. So a user
+    who may write the one and not the other is answered by it."""
+    with tempfile.TemporaryDirectory() as closed, tempfile.TemporaryDirectory() as opened:
+        put(os.path.join(closed, LOG), RECALL_LOG)
+        put(os.path.join(opened, LOG), RECALL_LOG)
+        os.chmod(closed, 0o555)
+        os.chmod(opened, 0o777)
+        for present, named, status in [
+            (closed, opened, DONE),
+            (closed, closed, SCRATCH_FAULT),
+            (closed, "", SCRATCH_FAULT),
+            (closed, None, SCRATCH_FAULT),
+            (opened, closed, SCRATCH_FAULT),
+            (opened, os.path.join(opened, "none"), SCRATCH_FAULT),
+            (opened, os.path.join(opened, LOG), SCRATCH_FAULT),
+            (opened, "", DONE),
+            (opened, None, DONE),
+            (opened, b"\xff", DONE),
+            (opened, ".", DONE),
+        ]:
+            settings = {} if named is None else {SCRATCH_FOLDER: named}
+            ran = run_in(watched, present, "root", prepare=take_rights, **settings)
+            name = f"`root` with the scratch file in {named!r}, from a folder of mode {os.stat(present).st_mode:o}"
+            checks.same(name, ran, (ROOT if status == DONE else "", status))
+            for folder in [closed, opened]:
+                checks.same(f"files after {name}", os.listdir(folder), [LOG])
+                checks.same(f"log after {name}", get(os.path.join(folder, LOG)), RECALL_LOG)
+
+
+def put_pipe(path):
+    os.mkfifo(path)
+
+
+def put_folder(path):
+    os.mkdir(path)
+
+
+def put_link(path):
+    os.symlink("kept", path)
+
+
+def put_file(path):
+    put(path, b"of a user")
+
+
+def names_that_are_taken(checks, watched):
+    """What stands at its name is never touched: a further name is tried, up to the last one."""
+    for place in [put_file, put_folder, put_link, put_pipe]:
+        for count in [1, 2, NAMES - 1, NAMES]:
+            with tempfile.TemporaryDirectory() as folder:
+                put(os.path.join(folder, "kept"), b"what a link leads to")
+                names = [SCRATCH + MARK * marks for marks in range(count)]
+                for name in names:
+                    place(os.path.join(folder, name))
+                before = {name: os.lstat(os.path.join(folder, name)) for name in names}
+                name = f"append where {count} names are taken, {place.__name__}"
+                wanted = ("".join(LINES), DONE) if count < NAMES else ("", SCRATCH_FAULT)
+                checks.same(name, run_in(watched, folder, "append", RECALL_FILE), wanted)
+                logs = [LOG] if count < NAMES else []
+                checks.same(f"files after {name}", sorted(os.listdir(folder)), sorted(["kept", *logs, *names]))
+                after = {name: os.lstat(os.path.join(folder, name)) for name in names}
+                checks.same(f"what stands there after {name}", list(map(stands, after.values())),
+                            list(map(stands, before.values())))
+                checks.same(f"what a link leads to, {name}", get(os.path.join(folder, "kept")), b"what a link leads to")
+
+
+def stands(found):
+    """What is told of a file that another program would have changed."""
+    return found.st_ino, found.st_mode, found.st_size, found.st_mtime_ns
+
+
+def nothing_is_left(checks, watched):
+    """While a run goes on its scratch file has no name, so a run that is killed leaves none."""
+    with tempfile.TemporaryDirectory() as folder:
+        running = start_append(watched.program, folder, subprocess.PIPE)
+        running.stdin.write(FRAMES[0])
+        checks.holds("a first block is told", read_line(running).startswith("block 0 "))
+        checks.same("files while a run goes on", os.listdir(folder), [LOG])
+        running.kill()
+        running.wait()
+        checks.same("files after a kill", os.listdir(folder), [LOG])
