@@ -11,6 +11,7 @@ import subprocess
 import time
 
 from checks.program_cases import GENERATED
+from lineage.lineage_build import CRATE, Proofs, crates_below
 from lineage.statuses import NOT_BUILT, NOT_INSTALLED, NOT_PROVED, USAGE
 
 # After so many seconds a file that was read is known to stand.
@@ -115,6 +116,7 @@ class Clone:
 
 def check(checks, tree, folder):
     """Makes these checks in a tree whose program is there, and marked as proved."""
+    progress_of_proofs(checks)
     clone = Clone(checks, tree, folder)
     ask, source, fails = clone.ask, clone.source, f"{folder}/fails"
     ask("nothing changed", GEN, 0, [])
@@ -156,6 +158,26 @@ def check(checks, tree, folder):
     ask("it was built here without proofs", GEN, 0, [], NOT_YET)
     refuse_unproved(clone, "no proved program here")
     ask("the input is none", ["scan", "hist", "raw/a", "0"], 9, [], NOT_YET, b"beyond empty\n")
+
+
+def progress_of_proofs(checks):
+    """How far the proofs are is told by the lines of `rt`: of three crates the first was kept from before, and the
+    second, which is half as long as the third, took a minute."""
+    proofs = Proofs({"first": 100, "second": 300, "third": 600})
+    for line, seconds, text in [
+        ("== first\n", 1, "proved 1 of 3 crates, 0 functions, after 0 min 1 s"),
+        ("== second\n", 60, "proved 2 of 3 crates, 0 functions, after 1 min 0 s"),
+        ("logic=proved functions=3 sum=0\n", 60, "proved 2 of 3 crates, 3 functions, after 1 min 0 s; some 2 min left"),
+        ("== third\n", 180, "proved 3 of 3 crates, 3 functions, after 3 min 0 s"),
+        ("logic=proved functions=9 sum=0\n", 180, "proved 3 of 3 crates, 12 functions, after 3 min 0 s"),
+        ("== summary\n", 181, "proved 3 of 3 crates, 12 functions, after 3 min 1 s"),
+    ]:
+        proofs.read(line)
+        checks.same(f"how far the proofs are after {line!r}", proofs.text(seconds), text)
+    below = crates_below(CRATE)
+    tests = [crate for crate in below if crate.endswith("_tests") or crate == "run_cases"]
+    checks.same("crates of tests that `--prove` proves", tests, [])
+    checks.holds("it proves the program and what it stands on", {"lineage", "chain_cli", "lc_names"} <= below.keys())
 
 
 def builds_that_end(clone):

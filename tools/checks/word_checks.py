@@ -18,7 +18,6 @@ from cases.block_files import (
     NO_CONTRACT,
     NO_FUNCTION,
     NO_KEY,
-    OK,
     OUT_OF_STEPS,
     TAKEN,
     block_file,

@@ -18,6 +18,8 @@ LOG = f"{TOP}/out/lineage.log"
 CRATE = "lineage"
 # A crate's check from nothing takes up to so many bytes of memory.
 CHECK_BYTES = 4 << 30
+# What a crate's proof takes at least, in bytes of code whose proof takes as long.
+LEAST_BYTES = 5_000
 # How often it is said how far a quick build is where there is no terminal, in seconds.
 QUICK_PERIOD = 20
 
@@ -119,7 +121,8 @@ def jobs():
 
 
 def crates_below(name):
-    """A crate and those that it stands on: of each how many bytes its sources and proofs have."""
+    """A crate and those that it stands on: of each how much its proof takes, measured in bytes of code with their
+    contracts, by which that goes rather than by bytes of lemmas."""
     with open(f"{TOP}/crates.txt", encoding="utf-8") as file:
         lines = re.findall(r"(?m)^(\w+)\b[^:\n#]*:([^\n#]*)", file.read())
     below = {crate: deps.split() for crate, deps in lines}
@@ -127,12 +130,8 @@ def crates_below(name):
     while waiting:
         crate = waiting.pop()
         if crate in below and crate not in found:
-            files = [
-                file
-                for part in ("src", "specs", "proofs")
-                for file in programs.files_below(f"{TOP}/crates/{crate}/{part}")
-            ]
-            found[crate] = sum(map(os.path.getsize, files))
+            code = programs.files_below(f"{TOP}/crates/{crate}/src")
+            found[crate] = LEAST_BYTES + sum(map(os.path.getsize, code))
             waiting += below[crate]
     return found
 
@@ -145,7 +144,7 @@ class Proofs:
         self.crates = len(sizes)
         self.done = self.functions = 0
         self.left = sum(sizes.values())
-        # The bytes of the crates that were proved since the start, and not kept from before, and the last crate.
+        # What the crates take that were proved since the start, and not kept from before; and the last crate.
         self.proved, self.last = 0, None
 
     def read(self, line):
@@ -162,11 +161,10 @@ class Proofs:
 
     def text(self, seconds):
         text = f"proved {self.done} of {self.crates} crates, {self.functions} functions, after {minutes(seconds)}"
-        return text + (f"; some {self.minutes_left(seconds)} min are left" if self.proved else "")
-
-    def minutes_left(self, seconds):
-        """How long the others take, if they go on as those that were proved since the start."""
-        return max(1, round(seconds * max(self.left, 0) / self.proved / 60))
+        if not self.proved or self.left <= 0:
+            return text
+        # If the others go on as those that were proved since the start.
+        return f"{text}; some {max(1, round(seconds * self.left / self.proved / 60))} min left"
 
 
 def run_logged(words, folder, log, read=len, source=subprocess.DEVNULL):

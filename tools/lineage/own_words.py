@@ -8,7 +8,7 @@ import subprocess
 
 from lineage import commands, lineage_build, programs
 from lineage.lineage_messages import say
-from lineage.programs import PROVED, UNPROVED
+from lineage.programs import PROVED
 from lineage.statuses import DONE, NOT_BUILT, NOT_INSTALLED, NOT_PROVED, UNTOLD, USAGE
 from places import TOP
 
