@@ -42,8 +42,7 @@ struct HostFile<'a> {
     rt: &'a HostRuntime,
     path: &'a str,
     found: Found,
-    // Its length, as its lock was taken or by the last answer, and by what was written since; not known
-    // before that.
+    // Its length, by the last answer, or else as its lock was taken, and by what was written since.
     len: Option<u64>,
     is_locked: bool,
     is_folder_synced: bool,
@@ -201,8 +200,8 @@ impl<'a> HostFile<'a> {
         }
     }
 
-    /// Takes the file's lock, the first time, and looks how long the file is: from then on this
-    /// machine alone may change that.
+    /// Takes the file's lock, the first time, and looks how long the file is, where that is not
+    /// known: from then on this machine alone may change it.
     fn lock(&mut self) -> Result<(), Failed>
         ensures found { self.new.found ≡ self.old.found }
         ensures held { OnOk result (IsHeld self.new.found self.new.is_locked) }
@@ -212,7 +211,11 @@ impl<'a> HostFile<'a> {
         }
         if let Found::Open(file) = &self.found {
             take_lock(file)?;
-            self.len = Some(len_of(file)?);
+            // What the owner was told stays: another program may have written to a file that was
+            // made just now, before its lock was taken.
+            if self.len.is_none() {
+                self.len = Some(len_of(file)?);
+            }
             self.is_locked = true;
         }
         Ok(())
