@@ -1,5 +1,5 @@
-"""What the built program does with its scratch file: its calls, each of them failing, moving one byte, or taking nothing;
-what is read back from it; where it is made, under which name, and what is left of it.
+"""What the built program does with its scratch file: its calls, each of them failing, moving one byte, or taking
+nothing; what is read back from it; where it is made, under which name, and what is left of it.
 
 What is expected was written from docs/log.md. Which bodies are put is worked out from the rows of the chain, and
 what is made of those that are read back by tools/cases/growing_roots.py and tools/cases/proof_cases.py.

@@ -42,8 +42,8 @@ struct HostFile<'a> {
     rt: &'a HostRuntime,
     path: &'a str,
     found: Found,
-    // Its length, as its lock was taken or by the last answer, and by what was written since; not known
-    // before that.
+    // Its length, as its lock was taken or by the last answer, and by what was written since; not
+    // known before that.
     len: Option<u64>,
     is_locked: bool,
     is_folder_synced: bool,
