@@ -8,16 +8,17 @@ import fcntl
 import os
 import subprocess
 import tempfile
-import time
 
 from cases.log_cases import DISK_FAULT, DONE, SET_LOG, log_of
+from checks.append_pairs import wait_for
 from checks.disk_calls import get, put
 from checks.edge_calls import FRAMES, LINES, changes, steps
 from checks.log_runs import LINE_LIMIT, LOG, append, ask, held_frames, known_lines, read_line, start_append
 from checks.log_runs import without_roots
 from checks.program_cases import EXPOSE, RAW_A_PROOF, RECALL_FILE, RECALL_LOG, RECALL_ROOTS, USED
 
-PERIOD = 0.01
+# How many bytes of a frame are part of it.
+PART = 2
 PLAIN_LINES = list(map(without_roots, LINES))
 # Questions over the log of three blocks, and what they tell.
 QUESTIONS = [
@@ -36,21 +37,14 @@ def folder_of(log):
 
 
 def is_locked(folder):
-    """Whether somebody holds the lock of the log; so not where there is none."""
+    """Whether somebody holds the lock of the log; so not where there is none. It takes the lock for an instant where
+    nobody does, so it is asked while no `append` may be about to."""
     with contextlib.suppress(FileNotFoundError), open(os.path.join(folder, LOG), "rb") as file:
         try:
             fcntl.flock(file, fcntl.LOCK_EX | fcntl.LOCK_NB)
         except BlockingIOError:
             return True
     return False
-
-
-def comes_true(condition):
-    """Whether a condition holds within a while."""
-    until = time.monotonic() + LINE_LIMIT
-    while not condition() and time.monotonic() < until:
-        time.sleep(PERIOD)
-    return condition()
 
 
 @contextlib.contextmanager
@@ -111,10 +105,12 @@ def lock_of_a_run(checks, watched):
     for held in [0, 1]:
         log = log_of(b"".join(FRAMES[:held])) if held else None
         with folder_of(log) as folder, running_append(watched, folder) as running:
-            if held:
-                checks.holds("the lock is taken before a frame is given", comes_true(lambda: is_locked(folder)))
+            # Once it has read part of a frame, it has read the log, too.
+            running.stdin.write(FRAMES[0][:PART])
+            wait_for(running)
+            checks.same("whether the lock is held before a block is given", is_locked(folder), held > 0)
             lines = known_lines(held) + PLAIN_LINES[held:]
-            for number, frame in enumerate(FRAMES[:2]):
+            for number, frame in enumerate([FRAMES[0][PART:], FRAMES[1]]):
                 checks.same(f"line {number} of one that runs", give(running, frame), lines[number])
                 checks.holds("the lock is held", is_locked(folder))
             before = get(os.path.join(folder, LOG))

@@ -1,12 +1,11 @@
-"""What the built program does with its scratch file: its calls, each of them failing, moving one byte, or taking nothing;
-what is read back from it; where it is made, under which name, and what is left of it.
+"""What the built program does with its scratch file: its calls, each of them failing, moving one byte, or taking
+nothing; what is read back from it; where it is made, under which name, and what is left of it.
 
 What is expected was written from docs/log.md. Which bodies are put is worked out from the rows of the chain, and
 what is made of those that are read back by tools/cases/growing_roots.py and tools/cases/proof_cases.py.
 """
 import errno
 import os
-import subprocess
 import tempfile
 
 from cases.block_files import OK, block_file, calls, deploys, sets
@@ -16,7 +15,8 @@ from cases.proof_cases import proof_of
 from cases.root_cases import History, Row, block_digests
 from checks.disk_calls import CREATE, NEW, TRUNCATE, get, put
 from checks.edge_calls import ERRORS, FRAMES, LINES, goes_on, one_of_each_kind
-from checks.log_runs import LOG, SCRATCH, SCRATCH_FOLDER, held_frames, known_lines, read_line, start_append
+from checks.lock_checks import give, running_append
+from checks.log_runs import LOG, SCRATCH, SCRATCH_FOLDER, held_frames, known_lines
 from checks.program_cases import RECALL_FILE, RECALL_LOG, RECALL_ROOTS, RECALL_ROWS
 from checks.program_runs import take_rights
 
@@ -267,10 +267,7 @@ def stands(found):
 def nothing_is_left(checks, watched):
     """While a run goes on its scratch file has no name, so a run that is killed leaves none."""
     with tempfile.TemporaryDirectory() as folder:
-        running = start_append(watched.program, folder, subprocess.PIPE)
-        running.stdin.write(FRAMES[0])
-        checks.holds("a first block is told", read_line(running).startswith("block 0 "))
-        checks.same("files while a run goes on", os.listdir(folder), [LOG])
-        running.kill()
-        running.wait()
+        with running_append(watched, folder) as running:
+            checks.holds("a first block is told", give(running, FRAMES[0]).startswith("block 0 "))
+            checks.same("files while a run goes on", os.listdir(folder), [LOG])
         checks.same("files after a kill", os.listdir(folder), [LOG])

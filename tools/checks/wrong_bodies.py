@@ -1,9 +1,9 @@
 """The wrong bodies of tools/wrong-bodies, and the copy of the working tree that they are tried on.
 
 Each is an edit in the format of crates/CRATE/must-fail/*.edit. The prover must refuse those of
-tools/wrong-bodies/CRATE, which tools/checks/try-wrong-bodies tries. Those of tools/wrong-bodies/edge/CRATE no
-clause refuses, since none says what a file holds; the runs of tools/checks/edge_checks.py must, and
-tools/checks/try-edge tries that.
+tools/wrong-bodies/CRATE, which tools/checks/try-wrong-bodies tries. Those of tools/wrong-bodies/edge/CRATE it lets
+through but for a few, since no clause says what a file holds; the runs of tools/checks/edge_checks.py must refuse
+them, and tools/checks/try-edge tries that.
 """
 import os
 import shutil

@@ -15,6 +15,8 @@ import time
 # How often it is looked whether `rt try` has written the module, in seconds.
 PERIOD = 0.3
 TARGET = "x86_64-unknown-linux-gnu"
+# A module of a program is longer than this.
+LEAST_BYTES = 4_096
 
 
 class NotBuilt(Exception):
@@ -56,10 +58,11 @@ def module_of(crate, room):
 
 
 def take_module(folder, module):
-    """Copies the module where it is whole, and answers whether it is."""
+    """Copies the module where it is whole, and answers whether it is. One without a program, by which `rt try` sees
+    what the compiler can do, comes before it."""
     for written in glob.glob(f"{folder}/**/module.bc", recursive=True):
         with contextlib.suppress(FileNotFoundError):
-            if len(os.listdir(os.path.dirname(written))) > 1:
+            if len(os.listdir(os.path.dirname(written))) > 1 and os.path.getsize(written) > LEAST_BYTES:
                 shutil.copyfile(written, module)
                 return True
     return False

@@ -42,7 +42,8 @@ struct HostFile<'a> {
     rt: &'a HostRuntime,
     path: &'a str,
     found: Found,
-    // Its length, by the last answer, or else as its lock was taken, and by what was written since.
+    // Its length, by the last answer, or as it was made or locked, and by what was written since; not
+    // known before that.
     len: Option<u64>,
     is_locked: bool,
     is_folder_synced: bool,
@@ -229,6 +230,8 @@ impl<'a> HostFile<'a> {
         self.look()?;
         if let Found::Absent = self.found {
             self.found = create_file(self.rt, self.path)?;
+            // So another program that opens it before its lock is taken may not have written to it.
+            self.len = Some(0);
         }
         self.lock()?;
         match &self.found {
