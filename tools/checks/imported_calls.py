@@ -39,6 +39,6 @@ def unknown_to_checks(program):
     return sorted(imports_of(program) - TOLD - GIVING - HARMLESS - STARTING)
 
 
-def check(checks, program):
-    """Whether each call is one that is known."""
-    checks.same("calls of the C library that no check knows", unknown_to_checks(program), [])
+def imported_calls(checks, watched):
+    """Each call that the program imports is one that is known."""
+    checks.same("calls of the C library that no check knows", unknown_to_checks(watched.program), [])
