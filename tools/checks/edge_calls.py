@@ -31,11 +31,12 @@ ERRORS = [errno.ENOSPC, errno.EINTR]
 
 # Before a write and after a sync: the length of the file that is open, and whether the path leads to it.
 IN_PLACE = ["length", "path"]
-# The lock is taken once, before anything is read or written; how long the file is then is noted.
+# The lock is taken once, before anything is read or written. How long a file is then that is found is noted; one
+# that is made is empty, whatever stands in it by then.
 LOCKED = ["lock", "length"]
 # What is found is locked and synced before a byte of it is read: an earlier run may have ended before its sync.
 FOUND = ["path", "open", "apart", *LOCKED, "sync log", "sync folder", *IN_PLACE, "read"]
-MADE = ["path", "make", "apart", *LOCKED]
+MADE = ["path", "make", "apart", "lock"]
 
 
 def stored(at, size, *folder):

@@ -182,12 +182,12 @@ def changes_between_frames(checks, watched):
 
 
 def changes_at_each_call(checks, watched):
-    """The same, with the change before each call from the first write on, or from the last read of what was found: the
-    next look at what was changed ends the run."""
+    """The same, with the change before each call from the lock of a log on that was made, or from the last read of one
+    that was found: the next look at what was changed ends the run."""
     for log in [None, log_of(FRAMES[0])]:
         good = watched.run("append", RECALL_FILE, log)
         names = [(call.name, call.what) for call in good.calls]
-        first = names.index(("flock", "log")) + 2
+        first = names.index(("flock", "log"))
         if log is not None:
             first = len(names) - names[::-1].index(("pread", "log"))
         for change in CHANGES:
