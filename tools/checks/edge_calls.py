@@ -159,7 +159,7 @@ def failing_calls(checks, watched):
     for words, source, log, lines in RUNS:
         good = watched.run(words, source, log)
         checks.same(f"{words}, all well", (good.told, good.status), ("".join(lines), DONE))
-        for number in one_of_each_kind(good.calls):
+        for number in some_of_each_kind(good.calls):
             for error in ERRORS:
                 failing_call(checks, watched, (words, source, log, lines), good, {"FAIL": number, "ERROR": error})
         for number, call in enumerate(good.calls):
@@ -174,9 +174,10 @@ def failing_calls(checks, watched):
                 checks.same(name, given, (good.told, good.status, good.log))
 
 
-def one_of_each_kind(calls):
-    """The number of the last call of each name that touches each thing."""
-    return sorted({(call.name, call.what): number for number, call in enumerate(calls)}.values())
+def some_of_each_kind(calls):
+    """The numbers of the first and of the last call of each name that touches each thing."""
+    numbered = [((call.name, call.what), number) for number, call in enumerate(calls)]
+    return sorted({*dict(numbered).values(), *dict(reversed(numbered)).values()})
 
 
 def failing_call(checks, watched, run, good, setting):

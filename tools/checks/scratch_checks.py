@@ -14,7 +14,7 @@ from cases.log_cases import DONE, SCRATCH_FAULT, frames_of, log_of
 from cases.proof_cases import proof_of
 from cases.root_cases import History, Row, block_digests
 from checks.disk_calls import CREATE, NEW, TRUNCATE, get, put
-from checks.edge_calls import ERRORS, FRAMES, LINES, goes_on, one_of_each_kind
+from checks.edge_calls import ERRORS, FRAMES, LINES, goes_on, some_of_each_kind
 from checks.lock_checks import give, running_append
 from checks.log_runs import LOG, SCRATCH, SCRATCH_FOLDER, held_frames, known_lines
 from checks.program_cases import RECALL_FILE, RECALL_LOG, RECALL_ROOTS, RECALL_ROWS
@@ -65,7 +65,7 @@ def scratch_calls(checks, watched):
             settings = ["FAIL"] + ["NOTHING", "SHORT"] * call.moves_bytes()
             for setting in settings:
                 scratch_call(checks, watched, (words, source, log), good, {setting: number})
-        for number in one_of_each_kind(good.calls):
+        for number in some_of_each_kind(good.calls):
             for error in ERRORS * (good.calls[number].what == "log"):
                 scratch_call(checks, watched, (words, source, log), good, {"FAIL": number, "ERROR": error})
 
