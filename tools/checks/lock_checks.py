@@ -216,6 +216,6 @@ def changed_call(checks, watched, log, good, change, number, look):
     # The path is looked at right after the file, whatever that tells.
     checks.same(f"calls after {name}", changes(ran.calls[look + 1 :]), [])
     sure = told.count("\n")
-    checks.same(f"blocks after {name}", held_frames(ran.kept)[:sure], FRAMES[:sure])
+    checks.same(f"blocks after {name}", held_frames(ran.kept or b"")[:sure], FRAMES[:sure])
     if change is replace:
         checks.same(f"what stands in its place after {name}", ran.log, OTHER)
