@@ -29,7 +29,11 @@ esac
 [ -e FOLDER/fails ] && exit 1
 if [ -e FOLDER/hangs ]; then echo $$ > FOLDER/hangs; exec sleep 60; fi
 case $1 in
-try) mkdir -p $TMPDIR/try; echo module > $TMPDIR/try/module.bc; echo > $TMPDIR/try/next; sleep 60 ;;
+try)
+  mkdir -p $TMPDIR/first $TMPDIR/try
+  echo none > $TMPDIR/first/module.bc; echo > $TMPDIR/first/next
+  printf 'module%05000d' 0 > $TMPDIR/try/module.bc; echo > $TMPDIR/try/next
+  sleep 60 ;;
 run) cp FOLDER/proved TREE/crates/lineage/out/lineage ;;
 esac
 echo "== crate"
@@ -46,7 +50,7 @@ FAKE_LINK = """\
 #!/bin/sh
 echo link >> FOLDER/calls
 while [ "$1" != -o ]; do shift; done
-[ "$(cat "$3")" = module ] && cp FOLDER/unproved "$2"
+case $(cat "$3") in module*) cp FOLDER/unproved "$2" ;; *) exit 1 ;; esac
 """
 PROVING = ["all check", "run -- scan hist raw/a 0", "version"]
 BUILDING = ["try", "doc", "clang", "link", "version"]

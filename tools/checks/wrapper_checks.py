@@ -276,6 +276,24 @@ def locked_log(checks):
         checks.holds(f"{told!r} says that there are no locks", f"of {LOG} has no locks" in told)
 
 
+def locked_append(checks, wrapper):
+    """An append ends where another process has the log locked, and says which; a question doesn't."""
+    with tempfile.TemporaryDirectory() as folder:
+        path = os.path.join(folder, LOG)
+        with open(path, "wb") as file:
+            file.write(SET_LOG)
+        with open(path, "rb") as held:
+            fcntl.flock(held, fcntl.LOCK_EX)
+            printed, status, told = run(wrapper, "append", RECALL_FILE, folder)
+            checks.same("append over a log that is locked", (printed, status), (b"", statuses.DISK_FAULT))
+            holder = f"process {os.getpid()} ("
+            checks.holds(f"{told!r} names the holder", holder in told and f"has {LOG} locked" in told)
+            checks.same("a question over it", run(wrapper, "root", b"", folder)[1], statuses.DONE)
+            checks.same("the log after it", held.read(), SET_LOG)
+        printed, status, _ = run(wrapper, "append", SET_FILE, folder)
+        checks.same("append over a log that was locked", (printed, status), (b"known 0\n", statuses.DONE))
+
+
 def take_locks():
     """Takes locks from this process, as a file system without any does."""
 
@@ -427,6 +445,7 @@ def check(checks, program, folder):
     what_of_rights(checks)
     lock(checks, wrapper)
     locked_log(checks)
+    locked_append(checks, wrapper)
     zeroed_log(checks, wrapper)
     word_checks.check(checks, wrapper, make_tree)
     listed_commands(checks, program)
