@@ -8,16 +8,20 @@ import shutil
 import subprocess
 import sys
 
-# Those that touch files, of which tools/checks/disk_calls.c tells.
+# Those that touch files, of which tools/checks/disk_calls.c tells, also by the names that the C library has for
+# itself.
 TOLD = {
     "open", "openat", "read", "write", "pread", "pwrite", "fsync", "fdatasync", "ftruncate", "fchmod", "flock", "fcntl",
-    "statx", "unlink",
+    "statx", "unlink", "__open", "__read", "__write", "__pread", "__pwrite", "__fcntl",
 }
 # Those that give memory, which it refuses.
 GIVING = {"malloc", "calloc", "realloc", "memalign", "aligned_alloc", "posix_memalign", "mmap"}
-# Those that do neither. To close a file loses nothing that was written; it ends the lock, which lock_checks.py
-# looks at.
-HARMLESS = {"close", "free", "getenv", "environ", "memcpy", "memmove", "memset", "memcmp", "bcmp", "strlen"}
+# Those that do neither; one asks what the processor can do. To close a file loses nothing that was written; it ends
+# the lock, which lock_checks.py looks at.
+HARMLESS = {
+    "close", "free", "getenv", "environ", "memcpy", "memmove", "memset", "memcmp", "bcmp", "strlen",
+    "__x86_get_cpuid_feature_leaf",
+}
 # What each program has for its start and its end.
 STARTING = {
     "_ITM_deregisterTMCloneTable", "_ITM_registerTMCloneTable", "__cxa_finalize", "__errno_location", "__gmon_start__",
