@@ -1,4 +1,4 @@
--- What is read of a block is spelled so, and what is spelled so is read.
+-- What is read as a block is spelled so, and what is spelled so is read.
 use Rattle.std.proofs.Common.{◌≡◌, ℕ, ◌^◌, ◌<◌, ◌≤◌, true, List, ◌∷◌, length, refl, sym, arith}
 use Rattle.std.specs.Prelude.{◌==◌, nat_le}
 use Rattle.std.specs.List.{flat_map, AllByRecursion}
@@ -28,7 +28,7 @@ txs_field =
     renamed (counted_field count tx_field)
     (λ txs is. (leb-true _ _ is.0.1, is.1)) (λ txs is. ((omega (arith, is.0), le-leb _ _ is.0), is.1)) (λ txs is. refl)
 
--- a version that can only be 1
+-- a version that is tested to be 1
 is_one : (n : ℕ) → (n == 1) ≡ true → 1 ≡ n
 is_one n e = sym (eqb-true _ _ e)
 

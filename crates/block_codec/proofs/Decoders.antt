@@ -1,4 +1,4 @@
--- Of an input of bytes, decoders that are right answer the same.
+-- Right decoders agree on every input of bytes.
 use Rattle.std.proofs.Common.{◌≡◌, ℕ, min, List, Result, Ok, Err, refl, sym, ap, ◌∙◌, arith}
 use Rattle.byte_fields.specs.Prefixes.{IsLongestPrefix}
 use Rattle.byte_fields.specs.Spelling.{IsBytes}

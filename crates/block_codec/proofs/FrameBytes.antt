@@ -1,4 +1,4 @@
--- Of an input of bytes, a frame and what follows it are bytes.
+-- If an input consists of bytes, so do a frame of it and what follows the frame.
 use Rattle.std.proofs.Common.{◌≡◌, ◌⊎◌, inl, inr, ℕ, Bool, true, false, cond, eqb, ltb, List, length, take, drop, subst}
 use Rattle.std.specs.Int.{w32, from_be_bytes}
 use Rattle.byte_fields.specs.Spelling.{IsBytes}
@@ -10,7 +10,7 @@ one_of : (b : Bool) (s t : FrameStep) (step : FrameStep) → cond b s t ≡ step
 one_of true s t step e = inl e
 one_of false s t step e = inr e
 
--- a frame is the first bytes of what follows its length, and the rest are those after it
+-- a frame is the first bytes after its length, and the rest follows it
 taken_frame : (count : ℕ) (input frame rest : List ℕ) → IsBytes input → frame_of count input ≡ Frame frame rest → IsBytes frame × IsBytes rest
 taken_frame count input frame rest fits e =
     elim (one_of (ltb (length input) count) Truncated (Frame (take count input) (drop count input)) (Frame frame rest) e) [

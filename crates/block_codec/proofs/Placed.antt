@@ -1,11 +1,11 @@
--- What a placement rules out of a block that is next.
+-- The cases that are excluded if a block is next.
 use Rattle.std.proofs.Common.{◌≡◌, ℕ, Bool, true, false, refl}
 use Rattle.std.specs.Prelude.{not, if◌then◌else◌}
 use Rattle.lc_base.specs.declared.digest.Digest.{Digest}
 use Rattle.block_codec.specs.declared.placement.Placement.{Placement}
 use Rattle.block_codec.specs.declared.placement.Placement.TheVariants.{Known, Next, Fork, Full, Number}
 
--- the cases before the last
+-- a case that was tested before the last one
 pub not_full : (full : Bool) (other : Placement) → (if full then Full else other) ≡ Next → (full ≡ false) × (other ≡ Next)
 not_full true other is = absurd (cc is)
 not_full false other is = (refl, is)

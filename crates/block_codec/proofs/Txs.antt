@@ -1,4 +1,4 @@
--- What is read of a transaction is spelled so, and what is spelled so is read.
+-- What is read as a transaction is spelled so, and what is spelled so is read.
 use Rattle.std.proofs.Common.{◌≡◌, ℕ, zero, suc, ◌<◌, ◌≤◌, true, List, [], ◌∷◌, ◌++◌, length, refl, append_assoc, arith}
 use Rattle.std.specs.Prelude.{nat_le}
 use Rattle.std.specs.List.{flat_map, AllByRecursion}
@@ -29,7 +29,7 @@ kind_of (Set sender key value deps) = SET
 kind_of (Deploy sender name source) = DEPLOY
 kind_of (Call sender contract function args budget) = CALL
 
--- what stands after the kind
+-- what follows the kind
 abbrev after_kind : Tx → List (List ℕ)
 after_kind (Set sender key value deps) = set_fields sender key value deps
 after_kind (Deploy sender name source) = deploy_fields sender name source
@@ -55,7 +55,7 @@ deps_field =
     renamed (counted_field count key_field)
     (λ keys is. (leb-true _ _ is.0.1, is.1)) (λ keys is. ((omega (arith, is.0), le-leb _ _ is.0), is.1)) (λ keys is. refl)
 
--- what a Set has, in order
+-- the parts of a Set, in order
 abbrev SetParts : Type 0
 SetParts = List ℕ × (List ℕ × (Value × List (List ℕ)))
 
@@ -91,7 +91,7 @@ set_field = renamed (made_field set_of set_parts (then_field key_field (then_fie
 
 -- ---- a Deploy
 
--- what a Deploy has, in order
+-- the parts of a Deploy, in order
 abbrev DeployParts : Type 0
 DeployParts = List ℕ × (List ℕ × List ℕ)
 
@@ -143,7 +143,7 @@ budget_field =
     renamed (piece_field (ruled_piece (number_piece wide32) (λ n. nat_le n MAX_CALL_BUDGET) (record { value = 0; is = (omega arith, refl) })))
     (λ n is. leb-true _ _ is.1) (λ n is. (omega (arith, is), le-leb _ _ is)) (λ n is. refl)
 
--- what a Call has, in order
+-- the parts of a Call, in order
 abbrev CallParts : Type 0
 CallParts = List ℕ × (List ℕ × (List ℕ × (List Value × ℕ)))
 

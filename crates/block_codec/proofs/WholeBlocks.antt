@@ -1,4 +1,4 @@
--- All of the bytes read as a block, and all the bytes of a block.
+-- All bytes are read as a block exactly if they spell it.
 use Rattle.std.proofs.Common.{◌≡◌, ℕ, ◌-◌, min, ◌<◌, ◌≤◌, Bool, true, false, cond, eqb, ltb, List, [], ◌++◌, length, Result, Ok, Err, refl, sym, ap, subst, ◌∙◌, inl, inr, arith}
 use Rattle.std.specs.Prelude.{IfOk, IfErr, IfSome}
 use Rattle.std.specs.List.{concat}
@@ -18,7 +18,7 @@ use Rattle.byte_fields.proofs.Laws.{left_of}
 use Rattle.byte_fields.proofs.LongestPrefixes.{longest_prefix, left_within}
 use Rattle.block_codec.proofs.Blocks.{block_field}
 
--- what was read to the end
+-- a read that reached the end
 read_to_end : (read : Block × List ℕ) (b : Bool) (block : Block) → eqb (length read.1) 0 ≡ b → cond b (Ok read.0) (Err (length read.1)) ≡ Ok block → (length read.1 ≡ 0) × (read.0 ≡ block)
 read_to_end read true block is e = (eqb-true _ _ is, cc)
 read_to_end read false block is e = absurd cc
@@ -41,7 +41,7 @@ whole_again bytes block is e =
     let read : block_at bytes ≡ Ok (block, []) = ap block_at (e ∙ sym (append-nil (concat (block_fields block)))) ∙ block_field.again block [] is in
     ap all_read read
 
--- ---- with the greatest length
+-- ---- within the greatest length
 
 in_length : (total : ℕ) (r : Result Block ℕ) (block : Block) → with_offset total r ≡ Ok block → (total ≤ MAX_BLOCK_BYTES) × (r ≡ Ok block)
 in_length total (Ok found) block e =
@@ -72,7 +72,7 @@ ended : (read : Block × List ℕ) (b : Bool) (left : ℕ) → cond b (Ok read.0
 ended read true left e = absurd cc
 ended read false left e = cc
 
--- the bytes left where all was read, and where something was not
+-- what is left if all bytes were read, and if a field was not
 none_left : (r : Field Block) (block : Block) → all_read r ≡ Ok block → left_of r ≡ 0
 none_left (Ok read) block e = (read_to_end read (eqb (length read.1) 0) block refl e).0
 none_left (Err left) block e = absurd cc
@@ -99,7 +99,7 @@ offset_at bytes fault fits (Err left) e got =
     let told : min (length bytes - left) MAX_BLOCK_BYTES ≡ fault = cc in
     omega (arith, same, told)
 
--- a fault is told where the longest prefix ends that is whole fields of some block
+-- a fault is reported at the end of the longest prefix that is whole fields of some block
 pub is_invalid : (bytes : List ℕ) (fault : ℕ) → IsBytes bytes → block_in bytes ≡ Err fault → IsFaultOffset bytes fault
 unfolding block_in whole_block
 is_invalid bytes fault fits e = record {
@@ -108,7 +108,7 @@ is_invalid bytes fault fits e = record {
   offset_is = offset_at bytes fault fits (all_read (block_at bytes)) refl e;
 }
 
--- so what bytes spell is told by reading them
+-- so reading decides what bytes spell
 pub decided : IsDecoder block_in
 decided = record {
   found = λ bytes block fits e. is_spelled bytes block fits e;
@@ -116,7 +116,7 @@ decided = record {
   invalid = is_invalid;
 }
 
--- the answer about a spelled block
+-- the result for a spelled block
 pub only_this : (bytes : List ℕ) (result : Result Block DecodeError) (block : Block) → Answers (λ b. b) fault_offset result (block_in bytes) → Spells bytes block → Answers (λ b. b) fault_offset result (Ok block)
 only_this bytes (Ok found) block told is = let f = is_read bytes block is in sym f ∙ told
 only_this bytes (Err (Malformed offset)) block told is = let f = is_read bytes block is in absurd cc

@@ -1,11 +1,10 @@
--- What writing a block, or a part of one, answers.
+-- What writing a block, or a part of one, returns.
 use Rattle.std.specs.Prelude.{◌≡◌, ℕ, List, ◌++◌, Result, OnOk, IsErrOf}
 use Rattle.std.specs.List.{concat}
 use Rattle.block_codec.specs.declared.error.EncodeError.{EncodeError}
 use Rattle.block_codec.specs.declared.error.EncodeError.TheVariants.{Limit}
 
--- The fields of a lawful value are written after what stood there; only one that is not lawful is
--- refused for its limits.
+-- The fields of a lawful value are appended, and only an unlawful value is refused with `Limit`.
 pub record Encodes {T : Type 0} (fields : List (List ℕ)) (Is : Type 0) (old new : List ℕ)
     (result : Result T EncodeError) : Type 0 where
   pub written : OnOk result (new ≡ old ++ concat fields)

@@ -6,7 +6,7 @@ use Rattle.block_codec.specs.declared.limits.TheConstants.{MAX_BLOCK_BYTES, MAX_
 use Rattle.block_codec.specs.declared.error.FrameError.{FrameError}
 use Rattle.block_codec.specs.declared.error.FrameError.TheVariants as errors
 
--- What stands at the start of an input.
+-- What is at the start of an input.
 pub data FrameStep : Type 0 where
   -- nothing
   End : FrameStep
@@ -14,31 +14,31 @@ pub data FrameStep : Type 0 where
   Truncated : FrameStep
   -- a length that no frame has
   Length : ℕ → FrameStep
-  -- a frame, after as many as an input may have
+  -- a frame after the most that an input may have
   Many : FrameStep
-  -- a frame's bytes, and what follows them
+  -- the bytes of a frame, and what follows them
   Frame : List ℕ → List ℕ → FrameStep
 
--- So many bytes, where they are there.
+-- The next `count` bytes, if the input has that many.
 abbrev pub frame_of : ℕ → List ℕ → FrameStep
 frame_of count input = if nat_lt (length input) count then Truncated else Frame (take count input) (drop count input)
 
--- A frame of this length, where a frame may have it and fewer than `MAX_FRAMES` were taken before.
+-- A frame of this length, if a frame may have it and fewer than `MAX_FRAMES` were taken before.
 abbrev pub sized_frame : ℕ → ℕ → List ℕ → FrameStep
 sized_frame taken count input =
     if count == 0 || nat_lt MAX_BLOCK_BYTES count then Length count
     else (if taken == MAX_FRAMES then Many else frame_of count input)
 
--- What stands at the start of an input of which so many frames were taken: four bytes of length,
--- the most significant first, and that many bytes.
+-- What is at the start of an input of which `taken` frames were taken: a length of four bytes, the
+-- most significant first, and that many bytes.
 unfoldable pub frame_step : ℕ → List ℕ → FrameStep
 frame_step taken input =
     if length input == 0 then End
     else (if nat_lt (length input) 4 then Truncated
     else sized_frame taken (from_be_bytes w32 (take 4 input)) (drop 4 input))
 
--- What a reader of frames answers on an input, and what it leaves. A fault of the source and being
--- out of memory say nothing of the input.
+-- What a reader of frames returns for an input, and what it leaves. A fault of the source and being
+-- out of memory say nothing about the input.
 abbrev pub IsFrameAnswer : ℕ → List ℕ → Result (Option (List ℕ × ℕ)) FrameError → Option (List ℕ) → Type 0
 IsFrameAnswer taken input (Ok None) left = (frame_step taken input ≡ End) × (left ≡ Some [])
 IsFrameAnswer taken input (Ok (Some frame)) left = (rest : List ℕ) × (frame_step taken input ≡ Frame frame.0 rest) × (left ≡ Some rest)
@@ -48,7 +48,7 @@ IsFrameAnswer taken input (Err errors.Many) left = (frame_step taken input ≡ M
 IsFrameAnswer taken input (Err errors.Fault) left = Unit {0}
 IsFrameAnswer taken input (Err errors.Memory) left = Unit {0}
 
--- A frame that is taken is counted, and at most `MAX_FRAMES` are.
+-- A frame that is taken is counted, up to `MAX_FRAMES`.
 abbrev pub CountsFrame : ℕ → Result (Option (List ℕ × ℕ)) FrameError → Type 0
 CountsFrame taken (Ok (Some frame)) = (frame.1 ≡ taken + 1) × (frame.1 ≤ MAX_FRAMES)
 CountsFrame taken (Ok None) = Unit {0}
@@ -64,8 +64,8 @@ IsBody step (Err error) left = ⊥
 
 -- ---- filling a buffer from a source
 
--- A buffer filled as far as the source goes: it has fewer bytes than it has room for only at the
--- end. A failure leaves what was not taken.
+-- A buffer filled as far as the source reaches: it is short of its room only at the end of the
+-- source. After a failure the source still has all that was not taken.
 abbrev pub Fills : {E : Type 0} → Option (List ℕ) → Option (List ℕ) → Result ℕ E → List ℕ → Type 0
 Fills old new (Ok n) buffer = (old ≡ prepend (take n buffer) new) × (n < length buffer → IsAtEnd new)
 Fills old new (Err e) buffer = (taken : List ℕ) × (old ≡ prepend taken new)

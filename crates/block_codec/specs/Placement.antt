@@ -1,4 +1,4 @@
--- Where a block stands to a chain.
+-- The place of a block relative to a chain: known, next, or why it is neither.
 use Rattle.std.specs.Prelude.{ℕ, ◌-◌, ◌==◌, ◌||◌, Bool, not, nat_lt, if◌then◌else◌, List, ◌∷◌, length, map, replicate, unwrap_or, slice_get, Option, Some, None}
 use Rattle.std.specs.List.{concat, sum_by}
 use Rattle.std.specs.Cmp.Lexicographic.{pointwise}
@@ -13,7 +13,7 @@ use Rattle.block_codec.specs.declared.block.Block.{Block}
 use Rattle.block_codec.specs.declared.placement.Placement.{Placement}
 use Rattle.block_codec.specs.declared.placement.Placement.TheVariants.{Known, Next, Fork, Full, Number, Parent, Budget}
 
--- The digest of the bytes of a block: SHA-256 of the byte 7 and these (FIPS 180-4).
+-- The digest of a block's bytes: SHA-256 (FIPS 180-4) of the byte 7 and the bytes.
 abbrev pub bytes_digest : List ℕ → Digest
 bytes_digest bytes = record { 0 = sha256 (BLOCK_TAG ∷ bytes) }
 
@@ -33,7 +33,7 @@ is_same_digest a b = pointwise ◌==◌ a.0 b.0
 abbrev pub held_placement : Digest → Digest → Placement
 held_placement have digest = if is_same_digest have digest then Known else Fork have
 
--- The budget of a transaction: a Call's own; a Set and a Deploy have none.
+-- The budget of a transaction: a Call's own, and 0 for a Set and a Deploy.
 abbrev pub tx_budget : Tx → ℕ
 tx_budget (Set sender key value deps) = 0
 tx_budget (Deploy sender name source) = 0
@@ -43,7 +43,7 @@ tx_budget (Call sender contract function args budget) = budget
 abbrev pub block_budget : Block → ℕ
 block_budget block = sum_by tx_budget block.txs
 
--- A block of a number that is not held: next, where the chain has room, this is its number, its
+-- A block whose number is not held: it is next if the chain has room, this is its number, its
 -- parent is the last block, and its budget is at most `MAX_BLOCK_BUDGET`.
 abbrev pub new_placement : ℕ → ℕ → Digest → Block → Placement
 new_placement held rows parent block =
@@ -52,17 +52,17 @@ new_placement held rows parent block =
     else (if not (is_same_digest block.parent parent) then Parent parent
     else (if nat_lt MAX_BLOCK_BUDGET (block_budget block) then Budget (block_budget block) else Next)))
 
--- Where a block stands to a chain of `held` blocks and so many rows: `have` is the digest of the
--- held block of its number, `parent` that of the last block.
+-- The place of a block relative to a chain of `held` blocks and `rows` rows: `have` is the digest
+-- of the held block with its number, `parent` that of the last block.
 abbrev pub placement : ℕ → ℕ → Option Digest → Digest → Block → Digest → Placement
 placement held rows (Some have) parent block digest = held_placement have digest
 placement held rows None parent block digest = new_placement held rows parent block
 
--- The last of some digests, or 32 zero bytes where there is none.
+-- The last of some digests, or 32 zero bytes if there are none.
 abbrev pub last_digest : List Digest → Digest
 last_digest digests = unwrap_or (slice_get digests (length digests - 1)) no_parent
 
--- Where a block stands to a chain of these blocks and so many rows.
+-- The place of a block relative to a chain of these blocks with `rows` rows.
 abbrev pub placement_after : ℕ → List Block → Block → Placement
 placement_after rows blocks block =
     let digests = map digest_of blocks in

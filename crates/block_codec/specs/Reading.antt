@@ -10,11 +10,11 @@ use Rattle.block_codec.specs.declared.block.Tx.{Tx}
 use Rattle.block_codec.specs.declared.block.Tx.TheVariants.{Set, Deploy, Call}
 use Rattle.block_codec.specs.declared.block.Block.{Block}
 
--- At most `MAX_DEPS` keys, after their number.
+-- At most `MAX_DEPS` keys, after their count.
 unfoldable pub dep_keys_at : List ℕ → Field (List (List ℕ))
 dep_keys_at = bind_at (ruled_at (λ n. nat_le n MAX_DEPS) byte_at) (items_at key_at)
 
--- A Set of its parts.
+-- A Set from its parts.
 abbrev pub set_of : List ℕ × (List ℕ × (Value × List (List ℕ))) → Tx
 set_of parts = Set parts.0 parts.1.0 parts.1.1.0 parts.1.1.1
 
@@ -22,7 +22,7 @@ set_of parts = Set parts.0 parts.1.0 parts.1.1.0 parts.1.1.1
 unfoldable pub set_at : List ℕ → Field Tx
 set_at = made_at set_of (then_at key_at (then_at key_at (then_at value_at dep_keys_at)))
 
--- A Deploy of its parts.
+-- A Deploy from its parts.
 abbrev pub deploy_of : List ℕ × (List ℕ × List ℕ) → Tx
 deploy_of parts = Deploy parts.0 parts.1.0 parts.1.1
 
@@ -30,11 +30,11 @@ deploy_of parts = Deploy parts.0 parts.1.0 parts.1.1
 unfoldable pub deploy_at : List ℕ → Field Tx
 deploy_at = made_at deploy_of (then_at key_at (then_at name_at (any_bytes_at MAX_SOURCE_BYTES)))
 
--- At most `MAX_ARGS` values, after their number.
+-- At most `MAX_ARGS` values, after their count.
 unfoldable pub args_at : List ℕ → Field (List Value)
 args_at = bind_at (ruled_at (λ n. nat_le n MAX_ARGS) byte_at) (items_at value_at)
 
--- A Call of its parts.
+-- A Call from its parts.
 abbrev pub call_of : List ℕ × (List ℕ × (List ℕ × (List Value × ℕ))) → Tx
 call_of parts = Call parts.0 parts.1.0 parts.1.1.0 parts.1.1.1.0 parts.1.1.1.1
 
@@ -42,7 +42,7 @@ call_of parts = Call parts.0 parts.1.0 parts.1.1.0 parts.1.1.1.0 parts.1.1.1.1
 unfoldable pub call_at : List ℕ → Field Tx
 call_at = made_at call_of (then_at key_at (then_at name_at (then_at name_at (then_at args_at (ruled_at (λ n. nat_le n MAX_CALL_BUDGET) (number_at w32))))))
 
--- Whether there is such a kind of transaction.
+-- Whether transactions have this kind.
 abbrev pub is_kind : ℕ → Bool
 is_kind kind = kind == SET || kind == DEPLOY || kind == CALL
 
@@ -50,23 +50,23 @@ is_kind kind = kind == SET || kind == DEPLOY || kind == CALL
 abbrev pub kind_at : ℕ → List ℕ → Field Tx
 kind_at kind = if kind == SET then set_at else (if kind == DEPLOY then deploy_at else call_at)
 
--- A transaction: its kind, and what follows that.
+-- A transaction: its kind, then what follows the kind.
 unfoldable pub tx_at : List ℕ → Field Tx
 tx_at = bind_at (ruled_at is_kind byte_at) kind_at
 
--- At most `MAX_TXS` transactions, after their number.
+-- At most `MAX_TXS` transactions, after their count.
 unfoldable pub txs_at : List ℕ → Field (List Tx)
 txs_at = bind_at (ruled_at (λ n. nat_le n MAX_TXS) (number_at w16)) (items_at tx_at)
 
--- A block of its parts.
+-- A block from its parts.
 abbrev pub block_of : ℕ × (List ℕ × List Tx) → Block
 block_of parts = record { number = parts.0; parent = record { 0 = parts.1.0 }; txs = parts.1.1 }
 
--- A block: its version, and what follows that.
+-- A block: its version, then what follows the version.
 unfoldable pub block_at : List ℕ → Field Block
 block_at = bind_at (ruled_at (λ version. version == VERSION) byte_at) (λ version. made_at block_of (then_at (number_at w32) (then_at (bytes_at 32) txs_at)))
 
--- A block with no trailing bytes, or how many bytes are left where they are invalid.
+-- A block without trailing bytes, or how many bytes are left from the invalid field on.
 unfoldable pub whole_block : List ℕ → Result Block ℕ
 whole_block bytes = all_read (block_at bytes)
 

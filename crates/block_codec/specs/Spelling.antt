@@ -1,4 +1,4 @@
--- Blocks and their one spelling.
+-- Blocks and the one spelling of each.
 use Rattle.std.specs.Prelude.{◌≡◌, ℕ, ◌^◌, ◌<◌, ◌≤◌, List, [], ◌∷◌, ◌++◌, length, min, Result, Ok, Err}
 use Rattle.std.specs.List.{concat, flat_map, AllByRecursion}
 use Rattle.std.specs.Int.{w16, w32, to_be_bytes}
@@ -53,7 +53,7 @@ pub record IsBlock (block : Block) : Type 0 where
   pub few_txs : length block.txs ≤ MAX_TXS
   pub txs_are_txs : AllByRecursion IsTx block.txs
 
--- ---- how it is spelled, field by field
+-- ---- how a block is spelled, field by field
 
 -- The sender, the key, the value, the number of dependency keys in one byte, and these keys.
 abbrev pub set_fields : List ℕ → List ℕ → Value → List (List ℕ) → List (List ℕ)
@@ -64,21 +64,21 @@ abbrev pub deploy_fields : List ℕ → List ℕ → List ℕ → List (List ℕ
 deploy_fields sender name source = string_fields sender ++ string_fields name ++ string_fields source
 
 -- The sender, the names of the contract and of the function, the number of arguments in one byte,
--- and these.
+-- and the arguments.
 abbrev pub invocation_fields : List ℕ → List ℕ → List ℕ → List Value → List (List ℕ)
 invocation_fields sender contract function args = string_fields sender ++ string_fields contract ++ string_fields function ++ (length args ∷ []) ∷ flat_map value_fields args
 
--- The sender, what it calls with which arguments, and the budget in four bytes.
+-- The sender, the contract, function and arguments that it calls, and the budget in four bytes.
 abbrev pub call_fields : List ℕ → List ℕ → List ℕ → List Value → ℕ → List (List ℕ)
 call_fields sender contract function args budget = invocation_fields sender contract function args ++ to_be_bytes w32 budget ∷ []
 
--- The kind, and the fields that the kind has.
+-- The kind, and the fields of that kind.
 abbrev pub tx_fields : Tx → List (List ℕ)
 tx_fields (Set sender key value deps) = (SET ∷ []) ∷ set_fields sender key value deps
 tx_fields (Deploy sender name source) = (DEPLOY ∷ []) ∷ deploy_fields sender name source
 tx_fields (Call sender contract function args budget) = (CALL ∷ []) ∷ call_fields sender contract function args budget
 
--- The version, the number, the parent, the number of transactions, and these.
+-- The version, the number, the parent, the number of transactions, and the transactions.
 abbrev pub block_fields : Block → List (List ℕ)
 block_fields block = (VERSION ∷ []) ∷ to_be_bytes w32 block.number ∷ block.parent.0 ∷ to_be_bytes w16 (length block.txs) ∷ flat_map tx_fields block.txs
 
@@ -90,19 +90,19 @@ pub record Spells (bytes : List ℕ) (block : Block) : Type 0 where
 
 -- ---- what bytes spell
 
--- The offset at which bytes are invalid: where the longest prefix of them ends that is whole fields
--- of some block, and MAX_BLOCK_BYTES where that is further.
+-- The offset at which bytes are invalid: the end of the longest prefix of them that is whole fields
+-- of some block, or MAX_BLOCK_BYTES if that is less.
 pub record IsFaultOffset (bytes : List ℕ) (offset : ℕ) : Type 0 where
   pub reach : ℕ
   pub longest : IsLongestPrefix block_fields IsBlock bytes reach
   pub offset_is : offset ≡ min reach MAX_BLOCK_BYTES
 
--- What bytes spell: a block, or none, and then the offset at which they are invalid.
+-- What bytes spell: a block, or the offset at which they are invalid.
 abbrev pub Decoder : Type 0
 Decoder = List ℕ → Result Block ℕ
 
--- A decoder is right where it answers the block that the bytes spell, and that alone, and where
--- they spell none the offset at which they are invalid.
+-- A decoder is right if it returns the block that the bytes spell and no other, and for bytes that
+-- spell none the offset at which they are invalid.
 pub record IsDecoder (read : Decoder) : Type 0 where
   pub found : (bytes : List ℕ) (block : Block) → IsBytes bytes → read bytes ≡ Ok block → Spells bytes block
   pub again : (bytes : List ℕ) (block : Block) → IsBytes bytes → Spells bytes block → read bytes ≡ Ok block

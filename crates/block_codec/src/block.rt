@@ -1,8 +1,8 @@
-//! Blocks and their transactions.
+//! Blocks and their transactions, as `decode` returns them and `encode` takes them.
 
 use lc_base::{Bytes, Digest, Key, KeyList, Name, Seq, Value};
 
-/// The first byte of a block: the version of its format.
+/// The first byte of a block: the version of the format.
 pub const VERSION: u8 = 1;
 
 /// The first byte of a transaction that writes a value.
@@ -39,7 +39,7 @@ pub enum Tx {
         function: Name,
         /// At most `MAX_ARGS`.
         args: Seq<Value>,
-        /// How many steps it may take, at most `MAX_CALL_BUDGET`.
+        /// The budget in steps, at most `MAX_CALL_BUDGET`.
         budget: u32,
     },
 }
@@ -51,7 +51,7 @@ pub type TxList = Seq<Tx>;
 #[derive(Debug, Drop)]
 pub struct Block {
     pub number: u32,
-    /// The digest of the block before.
+    /// The digest of the previous block.
     pub parent: Digest,
     /// At most `MAX_TXS`.
     pub txs: TxList,

@@ -1,4 +1,4 @@
-//! Reading blocks from their bytes.
+//! Reading blocks from their bytes: a block has one spelling, and nothing else is read as one.
 
 ghost use Rattle.std.specs.Prelude.{◌≡◌, Ok, IfOk, IfErr, IfSome, length};
 ghost use Rattle.lc_base.specs.Answers.{Answers};
@@ -119,7 +119,7 @@ fn whole_block(alloc: Global, bytes: &[u8]) -> Result<Block, ReadError>
     Ok(block)
 }
 
-/// The block that the bytes spell, at most `MAX_BLOCK_BYTES` of them.
+/// The block that the bytes, at most `MAX_BLOCK_BYTES`, spell.
 #[tactic(auto, unfolding(crate::specs::Reading::block_in))]
 fn block_in(alloc: Global, bytes: &[u8]) -> Result<Block, DecodeError>
     ensures { Answers (λ block. block) fault_offset result (block_in bytes.now) }
@@ -136,16 +136,16 @@ fn block_in(alloc: Global, bytes: &[u8]) -> Result<Block, DecodeError>
     }
 }
 
-/// The block that the bytes spell, at most `MAX_BLOCK_BYTES` of them. Malformed exactly where they
-/// spell none.
+/// The block that the bytes, at most `MAX_BLOCK_BYTES`, spell. `Malformed` exactly if they spell
+/// none.
 pub fn decode(alloc: Global, bytes: &[u8]) -> Result<Block, DecodeError>
     // What is read is spelled so.
     ensures found { IfOk result (Spells bytes.now) }
     // What is spelled so is read, unless memory runs out.
     ensures only { (block : Block) → Spells bytes.now block → Answers (λ block. block) fault_offset result (Ok block) }
-    // A fault is told at its offset.
+    // A fault is reported with its offset.
     ensures offset { IfErr result (λ error. IfSome (fault_offset error) (IsFaultOffset bytes.now)) }
-    // What bytes spell is said by a function, and that is the answer.
+    // A function says what bytes spell, and its value is returned.
     ensures decided { IsDecoder block_in }
     ensures exact { Answers (λ block. block) fault_offset result (block_in bytes.now) }
 {

@@ -1,4 +1,4 @@
-//! Writing blocks as their bytes.
+//! Writing blocks as bytes. A block that breaks a limit is not written.
 
 ghost use Rattle.std.specs.{
   Prelude.{◌≡◌, ◌<◌, ◌≤◌, ◌∷◌, ◌++◌, [], List, ℕ, length, if◌then◌else◌, Ok, Err, IfOk, IsErrOf},
@@ -144,7 +144,7 @@ fn put_block(out: &mut Vec<u8>, block: &Block) -> Result<(), EncodeError>
     put_txs(out, block.txs.as_slice())
 }
 
-/// The bytes that spell the block. Limit exactly where no bytes do.
+/// The bytes that spell the block. `Limit` exactly if no bytes do.
 pub fn encode(alloc: Global, block: &Block) -> Result<Bytes, EncodeError>
     ensures spelled { IfOk result (λ bytes. Spells bytes block.now) }
     ensures limit { IsErrOf result EncodeError.Limit → (bytes : List ℕ) → Spells bytes block.now → ⊥ }

@@ -1,4 +1,4 @@
-//! Why a block was not written, and why no frame was taken.
+//! Why a block was not written, and why a frame was not taken.
 
 ghost use Rattle.std.specs.Prelude.{◌≡◌};
 
@@ -8,23 +8,22 @@ use lc_io::Failed;
 /// Why a block was not written.
 #[derive(Clone, Copy, Debug, PartialEq, Eq)]
 pub enum EncodeError {
-    /// It has no spelling: it has more than `MAX_TXS` transactions, or one of them has more than
-    /// `MAX_DEPS` dependency keys, a source of more than `MAX_SOURCE_BYTES` bytes, more than
-    /// `MAX_ARGS` arguments or a budget above `MAX_CALL_BUDGET`, or it has more than
-    /// `MAX_BLOCK_BYTES` bytes.
+    /// It has no spelling: it has more than `MAX_TXS` transactions or `MAX_BLOCK_BYTES` bytes, or a
+    /// transaction has more than `MAX_DEPS` dependency keys, more than `MAX_SOURCE_BYTES` bytes of
+    /// source, more than `MAX_ARGS` arguments or a budget above `MAX_CALL_BUDGET`.
     Limit,
     /// Out of memory.
     Memory,
 }
 
-/// Why no further frame could be taken.
+/// Why the next frame was not taken.
 #[derive(Clone, Copy, Debug, PartialEq, Eq)]
 pub enum FrameError {
     /// The input ends within the frame.
     Truncated,
-    /// A frame has 1 to `MAX_BLOCK_BYTES` bytes, and this says that it has so many.
+    /// The length that the frame states, which is not from 1 to `MAX_BLOCK_BYTES`.
     Length(u32),
-    /// An input has at most `MAX_FRAMES` frames.
+    /// The input has more than `MAX_FRAMES` frames.
     Many,
     /// The source failed.
     Fault,

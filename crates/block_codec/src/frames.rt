@@ -1,4 +1,4 @@
-//! The frames of a block file.
+//! The frames of a block file: each is a length of four bytes, then that many bytes.
 
 ghost use Rattle.std.specs.Prelude.{◌≡◌, ◌≤◌, length, IfOk, IfSome, IsErr, IsErrOf};
 ghost use Rattle.lc_base.specs.Faults.{HasCause};
@@ -31,7 +31,7 @@ impl Model for Frames {
     ghost invariant = { λ frames. frames.taken ≤ MAX_FRAMES };
 }
 
-/// Fills the buffer as far as the source goes, and answers how many bytes came.
+/// Fills the buffer as far as the source reaches, and returns how many bytes came.
 fn fill<I: Source>(source: &mut I, buffer: &mut [u8]) -> Result<usize, Failed>
     ensures bound { IfOk result (λ n. n ≤ length buffer.new) }
     ensures bytes { Fills (I.left source.old) (I.left source.new) result buffer.new }
@@ -48,7 +48,7 @@ fn fill<I: Source>(source: &mut I, buffer: &mut [u8]) -> Result<usize, Failed>
     Ok(start)
 }
 
-/// The next `count` bytes of the source, or `Truncated` where it has fewer.
+/// The next `count` bytes of the source, or `Truncated` if it has fewer.
 fn body<I: Source>(alloc: Global, source: &mut I, count: u32) -> Result<Bytes, FrameError>
     ensures bytes { IfSome (I.left source.old) (λ input. IsBody (frame_of count input) result (I.left source.new)) }
     ensures cause { HasCause (I.source_faults source.old) (I.source_faults source.new) (IsErrOf result FrameError.Fault) }
@@ -62,14 +62,14 @@ fn body<I: Source>(alloc: Global, source: &mut I, count: u32) -> Result<Bytes, F
 }
 
 impl Frames {
-    /// No frame was taken yet.
+    /// No frame has been taken.
     pub fn new() -> Frames
         ensures { result ≡ 0 }
     {
         Frames { taken: 0 }
     }
 
-    /// How many frames were taken, at most `MAX_FRAMES`.
+    /// How many frames have been taken, at most `MAX_FRAMES`.
     pub fn count(&self) -> u32
         ensures count { result ≡ self.now }
         ensures bound { result ≤ MAX_FRAMES }
@@ -77,8 +77,8 @@ impl Frames {
         self.taken
     }
 
-    /// The bytes of the next frame, 1 to `MAX_BLOCK_BYTES` of them, and the frames after it; `None`
-    /// at the end of the input between frames.
+    /// The bytes of the next frame, 1 to `MAX_BLOCK_BYTES`, and the frames after it; `None` if the
+    /// input ends before the frame.
     #[tactic(auto, unfolding(crate::specs::Frames::frame_step))]
     pub fn next<I: Source>(
         self,

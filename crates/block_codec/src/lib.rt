@@ -1,4 +1,4 @@
-//! Blocks, and the frames that a block file is made of.
+//! Blocks, the one spelling that each has, and the frames of block files.
 #![tactic(auto)]
 
 mod block;

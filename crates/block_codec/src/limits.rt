@@ -1,4 +1,4 @@
-//! The limits of blocks, block files and chains.
+//! The greatest sizes of blocks, block files and chains.
 
 /// The greatest number of bytes of a block, and so of a frame.
 pub const MAX_BLOCK_BYTES: usize = 1_048_576;
@@ -24,6 +24,6 @@ pub const MAX_FRAMES: u32 = 2_097_152;
 /// The greatest number of blocks of a chain.
 pub const MAX_BLOCKS: u32 = 1_048_576;
 
-/// The greatest number of rows of a chain that takes one more block, so that its history stays
-/// within `lc_base::MAX_ROWS` whatever the block writes.
+/// The greatest number of rows with which a chain takes one more block. Its history then stays
+/// within `lc_base::MAX_ROWS`, whatever the block writes.
 pub const MAX_ROWS_BEFORE_BLOCK: u64 = 4_293_918_718;

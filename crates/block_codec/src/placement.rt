@@ -1,4 +1,4 @@
-//! Where a block stands to a chain.
+//! The digest of a block, and the place that the block has relative to a chain.
 
 ghost use Rattle.std.specs.Prelude.{◌≡◌, ◌<◌, ◌≤◌, ◌↔◌, IsSome};
 ghost use Rattle.block_codec.specs.{
@@ -17,26 +17,26 @@ pub const BLOCK_TAG: u8 = 0x07;
 /// 32 zero bytes, the parent of the first block.
 pub const NO_PARENT: Digest = Digest([0; 32]);
 
-/// Where a block stands to a chain.
+/// The place of a block relative to a chain.
 #[derive(Clone, Copy, Debug, PartialEq, Eq)]
 pub enum Placement {
-    /// It is the block that the chain holds at its number.
+    /// The chain holds this block.
     Known,
     /// It is the next block of the chain.
     Next,
-    /// The chain holds another block at its number.
+    /// The chain holds another block with its number, of the digest `have`.
     Fork { have: Digest },
     /// The chain takes no further block.
     Full,
-    /// The next block has another number.
+    /// The next block has the number `want`.
     Number { want: u32 },
-    /// The next block has another parent.
+    /// The next block has the parent `want`.
     Parent { want: Digest },
-    /// The sum of the budgets of the block's calls, in steps, which is above `MAX_BLOCK_BUDGET`.
+    /// The calls' budgets sum up to `sum` steps, more than `MAX_BLOCK_BUDGET`.
     Budget { sum: u64 },
 }
 
-/// The digest of the bytes of a block: SHA-256 (FIPS 180-4) of the byte 7 and these.
+/// The digest of a block's bytes: SHA-256 (FIPS 180-4) of the byte 7 and the bytes.
 pub fn block_digest(bytes: &[u8]) -> Digest
     ensures { result ≡ bytes_digest bytes.now }
 {
@@ -93,9 +93,9 @@ fn new_placement(held: u32, rows: u64, parent: Digest, block: &Block) -> Placeme
     Placement::Next
 }
 
-/// Where a block with this digest stands to a chain of `held` blocks and so many rows. `have` is
-/// the digest of the held block of its number, `parent` that of the last block, or `NO_PARENT`
-/// where there is none. The cases are tested in the order of `Placement`, `Next` last.
+/// The place of a block with this digest relative to a chain of `held` blocks and `rows` rows.
+/// `have` is the digest of the held block with its number, `parent` that of the last block, or
+/// `NO_PARENT` if there is none. The cases are tested in the order of `Placement`, `Next` last.
 pub fn place(
     held: u32,
     rows: u64,

@@ -1,4 +1,5 @@
--- Keys, names, other strings, texts, ints and values as fields.
+-- Keys, names, other strings, texts, ints and values are fields: reading and spelling agree on
+-- them.
 use Rattle.std.proofs.Common.{◌≡◌, ℕ, zero, suc, ℤ, ◌^◌, ◌<◌, ◌≤◌, Bool, true, false, not, ◌&&◌, List, [], ◌∷◌, length, replicate, Option, Some, None, refl, sym, ap, subst, ◌∙◌, arith}
 use Rattle.std.specs.Prelude.{position, is_none, nat_le, nat_lt}
 use Rattle.std.specs.List.{position_or_len}
@@ -32,7 +33,7 @@ is_none-true : {A : Type 0} (o : Option A) → is_none o ≡ true → o ≡ None
 is_none-true None e = refl
 is_none-true (Some x) e = absurd cc
 
--- so few or so many bytes, none of them bad
+-- from `fewest` to `greatest` bytes, none of them bad
 pub record IsString (fewest greatest : ℕ) (bad : List ℕ → Option ℕ) (bytes : List ℕ) : Type 0 where
   pub long : fewest ≤ length bytes
   pub short : length bytes ≤ greatest
@@ -50,7 +51,7 @@ string_field low high bad in_order short good =
     (λ bytes is. ((omega (arith, is.short), passes (length bytes) is.long is.short), (refl, ap is_none is.good)))
     (λ bytes is. refl)
 
--- where the letter a is good, it is so everywhere
+-- if the letter a is good, a string of them is
 letters_good : (p : ℕ → Bool) → p 97 ≡ false → (n : ℕ) → position p (replicate n 97) ≡ None
 letters_good p good n =
     let letters : List ℕ = replicate n 97 in
@@ -108,7 +109,7 @@ abbrev tag_of : Value → ℕ
 tag_of (Int n) = 0
 tag_of (Text t) = 1
 
--- what stands after its tag
+-- what follows its tag
 abbrev after_tag : Value → List (List ℕ)
 after_tag (Int n) = int_bytes n ∷ []
 after_tag (Text t) = string_fields t

@@ -1,15 +1,15 @@
--- Fields one after another, as many as are counted.
+-- Fields one after another, as many as a count before them says.
 use Rattle.std.proofs.Common.{◌≡◌, ℕ, zero, suc, List, [], ◌∷◌, ◌++◌, length, drop, refl, sym, ap, subst, arith}
 use Rattle.std.specs.List.{flat_map, AllByRecursion}
 use Rattle.std.proofs.lemmas.List.{append-nil}
 use Rattle.byte_fields.specs.Reading.{Field, bind_at, items_at}
 use Rattle.byte_fields.proofs.Laws.{IsField, bind_field, ret_field, renamed}
 
--- so many values of a kind
+-- n values of a kind
 abbrev pub Items : {A : Type 0} → (A → Type 0) → ℕ → List A → Type 0
 Items Is n xs = (length xs ≡ n) × AllByRecursion Is xs
 
--- the first item, or another where there is none
+-- the first item, or `other` if there is none
 abbrev first_or : {A : Type 0} → A → List A → A
 first_or other [] = other
 first_or other (x ∷ xs) = x
@@ -41,7 +41,7 @@ items_field {A} {item} {fields} {Is} field (suc n) =
     renamed (bind_field {Is_b = λ x xs. Items Is n (drop 1 xs) × (xs ≡ x ∷ drop 1 xs)} (first_or other) field after (λ x xs is_x is_xs. ap (first_or other) is_xs.1))
     (parts_are Is other n) (are_parts Is other n) (λ xs is. same_fields fields other xs is.1.1)
 
--- as many as are counted before them
+-- a count, then as many fields
 pub counted_field : {A : Type 0} {count : List ℕ → Field ℕ} {count_fields : ℕ → List (List ℕ)} {IsCount : ℕ → Type 0} {item : List ℕ → Field A} {fields : A → List (List ℕ)} {Is : A → Type 0}
     → IsField count count_fields IsCount → IsField item fields Is → IsField (bind_at count (items_at item)) (λ xs. count_fields (length xs) ++ flat_map fields xs) (λ xs. IsCount (length xs) × AllByRecursion Is xs)
 counted_field {A} {count} {count_fields} {IsCount} {item} {fields} {Is} number field =

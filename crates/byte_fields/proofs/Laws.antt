@@ -1,4 +1,5 @@
--- What is read at the start of bytes is spelled so, and what is spelled so is read. Before a fault stand whole fields, and no spelling goes further.
+-- What is read at the start of bytes is spelled so, and what is spelled so is read. Before a fault
+-- there are whole fields, and no spelling goes further.
 use Rattle.std.proofs.Common.{◌≡◌, ℕ, zero, suc, ◌+◌, ◌-◌, ◌<◌, ◌≤◌, List, [], ◌∷◌, ◌++◌, length, take, min, Result, Ok, Err, refl, sym, ap, subst, ◌∙◌, append_assoc, arith, inl, inr}
 use Rattle.std.specs.List.{concat}
 use Rattle.std.proofs.lemmas.Bool.{cases_lt}
@@ -16,7 +17,7 @@ done x = Ok x
 pub ok_is : {A : Type 0} (x y : A) → done x ≡ Ok y → x ≡ y
 ok_is x y e = cc
 
--- how many bytes are left after what was read, or where the invalid field begins
+-- how many bytes are left after what was read, or from the invalid field on
 abbrev pub left_of : {A : Type 0} → Field A → ℕ
 left_of (Ok x) = length x.1
 left_of (Err left) = left
@@ -41,7 +42,7 @@ take_past (x ∷ xs) ys (suc m) n e = ap (λ (t : List _). x ∷ t) (take_past x
 
 -- ---- the laws of a field
 
--- a value that there is
+-- a value of this kind
 pub record Sample {A : Type 0} (Is : A → Type 0) : Type 0 where
   pub value : A
   pub is : Is value
@@ -51,7 +52,7 @@ pub record Takes {A : Type 0} (fields : A → List (List ℕ)) (Is : A → Type 
   pub parts : bytes ≡ concat (fields x) ++ rest
   pub is : Is x
 
--- what stands before the last so many bytes are whole fields, from the first, of some value
+-- the bytes before the last `left` ones are whole fields, from the first on, of some value
 pub record Stops {A : Type 0} (fields : A → List (List ℕ)) (Is : A → Type 0) (bytes : List ℕ) (left : ℕ) : Type 0 where
   pub value : A
   pub is : Is value
@@ -60,15 +61,15 @@ pub record Stops {A : Type 0} (fields : A → List (List ℕ)) (Is : A → Type 
   pub parts : bytes ≡ concat (take whole (fields value)) ++ rest
   pub left_is : length rest ≡ left
 
--- A reading function reads the values of a kind, each spelled by its list of fields.
+-- A reading function reads the values of a kind, each spelled as its list of fields.
 pub record IsField {A : Type 0} (read : List ℕ → Field A) (fields : A → List (List ℕ)) (Is : A → Type 0) : Type 0 where
   -- what is read is spelled so
   pub takes : (bytes : List ℕ) (x : A) (rest : List ℕ) → IsBytes bytes → read bytes ≡ Ok (x, rest) → Takes fields Is bytes x rest
   -- what is spelled so is read
   pub again : (x : A) (rest : List ℕ) → Is x → read (concat (fields x) ++ rest) ≡ Ok (x, rest)
-  -- whole fields of some value stand before a fault
+  -- before a fault there are whole fields of some value
   pub stops : (bytes : List ℕ) (left : ℕ) → IsBytes bytes → read bytes ≡ Err left → Stops fields Is bytes left
-  -- and no value's whole fields go further than what was read
+  -- and no value's whole fields reach further than what was read
   pub most : (bytes : List ℕ) (x : A) (whole : ℕ) (rest : List ℕ) → IsBytes bytes → Is x → bytes ≡ concat (take whole (fields x)) ++ rest → left_of (read bytes) ≤ length rest
   pub some : Sample Is
 
@@ -80,11 +81,11 @@ falls_to {A} {read} {fields} {Is} field bytes fits (Err left) e =
     let s = field.stops bytes left fits e in
     omega (arith, s.left_is, ap length s.parts, length-append (concat (take s.whole (fields s.value))) s.rest)
 
--- reading never goes back
+-- reading never lengthens what is left
 pub falls : {A : Type 0} {read : List ℕ → Field A} {fields : A → List (List ℕ)} {Is : A → Type 0} → IsField read fields Is → (bytes : List ℕ) → IsBytes bytes → left_of (read bytes) ≤ length bytes
 falls {A} {read} field bytes fits = falls_to field bytes fits (read bytes) refl
 
--- ---- nothing
+-- ---- no field
 
 pub ret_field : {A : Type 0} (x : A) → IsField (ret_at x) (λ y. []) (λ y. y ≡ x)
 ret_field {A} x = record {
@@ -95,7 +96,7 @@ ret_field {A} x = record {
   some = record { value = x; is = refl };
 }
 
--- ---- the same field, said otherwise
+-- ---- the same field with other names for its fields and its values
 
 pub renamed : {A : Type 0} {read : List ℕ → Field A} {fields others : A → List (List ℕ)} {Is Does : A → Type 0} → IsField read fields Is → ((x : A) → Is x → Does x) → ((x : A) → Does x → Is x) → ((x : A) → Is x → fields x ≡ others x) → IsField read others Does
 renamed {A} {read} {fields} {others} {Is} {Does} field to from same = record {
@@ -106,7 +107,7 @@ renamed {A} {read} {fields} {others} {Is} {Does} field to from same = record {
   some = record { value = field.some.value; is = to field.some.value field.some.is };
 }
 
--- ---- one field, and then what it says of the next
+-- ---- one field, then the field that its value selects
 
 module _ {A B : Type 0} {read_a : List ℕ → Field A} {read_b : A → List ℕ → Field B} {fields_a : A → List (List ℕ)} {fields_b : B → List (List ℕ)} {Is_a : A → Type 0} {Is_b : A → B → Type 0}
     (head : B → A) (first : IsField read_a fields_a Is_a) (second : (a : A) → Is_a a → IsField (read_b a) fields_b (Is_b a)) (heads : (a : A) (b : B) → Is_a a → Is_b a b → head b ≡ a) where
@@ -199,7 +200,7 @@ module _ {A B : Type 0} {read_a : List ℕ → Field A} {read_b : A → List ℕ
     some = let a = first.some in let b = (second a.value a.is).some in record { value = b.value; is = is_both a.value b.value a.is b.is };
   }
 
--- ---- one field after another, fields as one value
+-- ---- one field after another, and fields as one value
 
 pub then_field : {A B : Type 0} {read_a : List ℕ → Field A} {read_b : List ℕ → Field B} {fields_a : A → List (List ℕ)} {fields_b : B → List (List ℕ)} {Is_a : A → Type 0} {Is_b : B → Type 0} → IsField read_a fields_a Is_a → IsField read_b fields_b Is_b
     → IsField (then_at read_a read_b) (λ p. fields_a p.0 ++ fields_b p.1) (λ p. Is_a p.0 × Is_b p.1)
@@ -208,7 +209,7 @@ then_field {A} {B} {read_a} {read_b} {fields_a} {fields_b} {Is_a} {Is_b} first s
     renamed (bind_field {Is_b = λ a p. Is_b p.1 × (p ≡ (a, p.1))} (λ (p : A × B). p.0) first pair (λ a p is_a is_p. ap (λ (q : A × B). q.0) is_p.1))
     (λ p is. (is.0, is.1.0)) (λ p is. (is.0, (is.1, refl))) (λ p is. ap (λ (t : List (List ℕ)). fields_a p.0 ++ t) (append-nil (fields_b p.1)))
 
--- fields made into one value, of which they are the parts
+-- fields as one value, of which they are the parts
 pub made_field : {A B : Type 0} {read : List ℕ → Field A} {fields : A → List (List ℕ)} {Is : A → Type 0} (make : A → B) (parts : B → A) → IsField read fields Is → ((a : A) → Is a → parts (make a) ≡ a)
     → IsField (made_at make read) (λ b. fields (parts b)) (λ b. Is (parts b) × (b ≡ make (parts b)))
 made_field {A} {B} {read} {fields} {Is} make parts field back =

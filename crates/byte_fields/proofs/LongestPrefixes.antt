@@ -1,4 +1,4 @@
--- Where reading stops, the longest good prefix ends.
+-- Reading stops where the longest prefix that is fields ends.
 use Rattle.std.proofs.Common.{◌≡◌, ℕ, ◌-◌, ◌≤◌, List, ◌++◌, length, take, drop, Ok, Err, refl, sym, ap, subst, ◌∙◌, arith}
 use Rattle.std.specs.List.{concat}
 use Rattle.std.proofs.lemmas.List.{length-append, length-drop, take-append-drop, take_at, take_all}
@@ -8,7 +8,7 @@ use Rattle.byte_fields.specs.Spelling.{IsBytes}
 use Rattle.byte_fields.proofs.Laws.{IsField, Stops, left_of}
 
 module _ {A : Type 0} {read : List ℕ → Field A} {fields : A → List (List ℕ)} {Is : A → Type 0} (field : IsField read fields Is) (bytes : List ℕ) (fits : IsBytes bytes) where
-  -- what was read, or what stands before the fault, is whole fields
+  -- what was read, or what precedes the fault, is whole fields
   stopped : (r : Field A) → read bytes ≡ r → Stops fields Is bytes (left_of r)
   stopped (Ok x) e =
       let t = field.takes bytes x.0 x.1 fits e in
@@ -32,6 +32,6 @@ module _ {A : Type 0} {read : List ℕ → Field A} {fields : A → List (List �
   pub longest_prefix : (n : ℕ) → n ≡ length bytes - left_of (read bytes) → IsLongestPrefix fields Is bytes n
   longest_prefix n e = record { good = good_prefix n e; longest = λ m prefix. subst (λ (k : ℕ). m ≤ k) (sym e) (no_longer m prefix) }
 
-  -- no more is left than there was
+  -- what is left is no longer than what there was
   pub left_within : left_of (read bytes) ≤ length bytes
   left_within = let s = stopped (read bytes) refl in omega (arith, s.left_is, ap length s.parts, length-append (concat (take s.whole (fields s.value))) s.rest)

@@ -1,4 +1,4 @@
--- Reading items one after the other, as a loop does.
+-- Reading items one after another in a loop gives what `items_at` says.
 use Rattle.std.proofs.Common.{◌≡◌, ℕ, suc, ◌+◌, ◌-◌, ◌<◌, ◌≤◌, List, [], ◌∷◌, ◌++◌, Result, Ok, Err, refl, sym, ap, ◌∙◌, append_assoc, arith}
 use Rattle.std.proofs.lemmas.List.{append-nil}
 use Rattle.byte_fields.specs.declared.fault.ReadError.{ReadError}
@@ -9,7 +9,7 @@ use Rattle.byte_fields.specs.Reading.{Field, ◌>>=◌, items_at}
 abbrev failed : (A : Type 0) → ReadError → Result A ReadError
 failed A error = Err error
 
--- what was read before, and what is still read
+-- what was read before, then what is still to be read
 abbrev pub with_prefix : {A : Type 0} → List A → Field (List A) → Field (List A)
 with_prefix prefix read = read >>= λ x. Ok (prefix ++ x.0, x.1)
 
@@ -40,7 +40,7 @@ is_done {A} item prefix count i bytes total le so_far =
     let one : with_prefix prefix (items_at item (count - i) bytes) ≡ Ok (prefix, bytes) = rw k (ap (λ (xs : List A). Ok (xs, bytes)) (append-nil prefix)) in
     sym so_far ∙ one
 
--- the same of an item that takes memory
+-- the same for an item that takes memory
 pub ends_kept : {A : Type 0} (item : List ℕ → Field A) (prefix : List A) (count i : ℕ) (bytes : List ℕ) (error : ReadError) (rest : List ℕ) (total : Field (List A)) → i < count → Reads error_left (failed A error) (item bytes) rest
     → with_prefix prefix (items_at item (count - i) bytes) ≡ total → Reads error_left (failed (List A) error) total rest
 ends_kept item prefix count i bytes (errors.Fault fault) rest total lt read so_far = ends item prefix count i bytes fault.left total lt read so_far

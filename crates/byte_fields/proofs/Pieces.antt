@@ -1,4 +1,4 @@
--- Fields of one piece: what is invalid is invalid where it begins.
+-- Fields of one piece: an invalid one is invalid from its start.
 use Rattle.std.proofs.Common.{◌≡◌, ℕ, zero, suc, ◌+◌, ◌^◌, ◌<◌, ◌≤◌, Bool, true, false, cond, ltb, List, [], ◌∷◌, ◌++◌, length, take, drop, replicate, Ok, Err, refl, sym, ap, subst, ◌∙◌, arith, inl, inr}
 use Rattle.std.specs.List.{concat}
 use Rattle.std.specs.Int.{Width, w16, w32, w64, byte_len, from_be_bytes, to_be_bytes}
@@ -14,11 +14,11 @@ pub record TakesPiece {A : Type 0} (piece : A → List ℕ) (Is : A → Type 0) 
   pub parts : bytes ≡ piece x ++ rest
   pub is : Is x
 
--- A reading function reads the values of a kind, each spelled by one piece.
+-- A reading function reads the values of a kind, each spelled as one piece.
 pub record IsPiece {A : Type 0} (read : List ℕ → Field A) (piece : A → List ℕ) (Is : A → Type 0) : Type 0 where
   pub takes : (bytes : List ℕ) (x : A) (rest : List ℕ) → IsBytes bytes → read bytes ≡ Ok (x, rest) → TakesPiece piece Is bytes x rest
   pub again : (x : A) (rest : List ℕ) → Is x → read (piece x ++ rest) ≡ Ok (x, rest)
-  -- a fault is told where the piece begins
+  -- a fault is reported at the start of the piece
   pub stops : (bytes : List ℕ) (left : ℕ) → read bytes ≡ Err left → left ≡ length bytes
   pub some : Sample Is
 
@@ -91,7 +91,7 @@ IsBytes-take n bytes h i =
       | inr le ↦ rw (get_or_past (take n bytes) i 0 (omega (arith, length-take n bytes))) (omega arith)
     ]
 
--- numbers of a width are those below the limit
+-- the numbers of a width are those below the limit
 pub record IsWide (w : Width) (limit : ℕ) : Type 0 where
   pub len : (n : ℕ) → length (to_be_bytes w n) ≡ byte_len w
   pub back : (bytes : List ℕ) → length bytes ≡ byte_len w → IsBytes bytes → to_be_bytes w (from_be_bytes w bytes) ≡ bytes
@@ -126,7 +126,7 @@ wide64 = record {
   some = omega arith;
 }
 
--- a test for want of bytes
+-- enough bytes are left if a read succeeds
 long_enough : {A : Type 0} (bytes : List ℕ) (b : Bool) (x y : A × List ℕ) → cond b (Err (length bytes)) (Ok x) ≡ Ok y → (b ≡ false) × (x ≡ y)
 long_enough bytes true x y e = absurd cc
 long_enough bytes false x y e = (refl, ok_is x y e)

@@ -1,11 +1,11 @@
--- Writing items one after the other, as a loop does.
+-- Writing items one after another in a loop writes what `flat_map` says.
 use Rattle.std.proofs.Common.{◌≡◌, ℕ, zero, suc, ◌+◌, ◌<◌, ◌≤◌, List, [], ◌∷◌, ◌++◌, length, get_or, take, sym, ap, subst, ◌∙◌, append_assoc, arith}
 use Rattle.std.specs.List.{concat, flat_map, AllByRecursion}
 use Rattle.std.proofs.lemmas.List.{append-nil, take_more, take_all}
 use Rattle.std.proofs.lemmas.List.Concat.{flat_map-append}
 use Rattle.byte_fields.proofs.Laws.{concat-append}
 
--- These items were written after what stood there, and each is lawful.
+-- These items were appended, and each is lawful.
 pub record Written {A : Type 0} (fields : A → List (List ℕ)) (Is : A → Type 0) (old new : List ℕ) (items : List A) : Type 0 where
   pub bytes : new ≡ old ++ concat (flat_map fields items)
   pub lawful : AllByRecursion Is items
@@ -22,7 +22,7 @@ all_at Is (y ∷ ys) (suc i) x lt e all = all_at Is ys i x (omega arith) e all.1
 pub written_none : {A : Type 0} (fields : A → List (List ℕ)) (Is : A → Type 0) (old : List ℕ) → Written fields Is old old []
 written_none fields Is old = record { bytes = sym (append-nil old); lawful = tt }
 
--- the fields of one item more
+-- the fields of one more item
 pub one_item_more : {A : Type 0} (fields : A → List (List ℕ)) (xs : List A) (i : ℕ) (x : A) → i < length xs → x ≡ get_or xs i x → concat (flat_map fields (take (i + 1) xs)) ≡ concat (flat_map fields (take i xs)) ++ concat (fields x)
 one_item_more {A} fields xs i x lt e =
     let taken : take (i + 1) xs ≡ take i xs ++ x ∷ [] = take_more xs i x lt ∙ ap (λ (y : A). take i xs ++ y ∷ []) (sym e) in

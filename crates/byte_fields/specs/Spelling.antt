@@ -1,5 +1,5 @@
--- How keys, names, texts, other strings and values are spelled, each as its list of fields: a field is read whole or is
--- invalid.
+-- How keys, names, texts, other strings and values are spelled, each as a list of fields. A field
+-- is read whole or is invalid.
 use Rattle.std.specs.Prelude.{ℕ, ℤ, ◌<◌, ◌≡◌, List, [], ◌∷◌, ◌++◌, length, slice_index, Result, OnOk}
 use Rattle.std.specs.List.{concat, flat_map, AllByRecursion}
 use Rattle.std.specs.Int.{w16, w64, to_be_bytes, cast_unsigned}
@@ -8,11 +8,11 @@ use Rattle.lc_base.specs.TextBytes.{IsText}
 use Rattle.lc_base.specs.declared.value.Value.{Value}
 use Rattle.lc_base.specs.declared.value.Value.TheVariants.{Int, Text}
 
--- Bytes: each is below 256.
+-- Bytes: each number is below 256.
 abbrev pub IsBytes : List ℕ → Type 0
 IsBytes bytes = (i : ℕ) → slice_index bytes i < 256
 
--- A string: its length in two bytes, the more significant first, and its bytes.
+-- A string: its length in two bytes, the more significant first, then its bytes.
 abbrev pub string_fields : List ℕ → List (List ℕ)
 string_fields bytes = to_be_bytes w16 (length bytes) ∷ bytes ∷ []
 
@@ -30,14 +30,13 @@ abbrev pub IsValue : Value → Type 0
 IsValue (Int number) = FitsSigned w64 number
 IsValue (Text text) = IsText text
 
--- The fields of a lawful value are written after what stood there; or a part of them may be, where
--- the answer is an error.
+-- The fields of a lawful value are appended. After an error, a part of them may have been appended.
 pub record Puts {T E : Type 0} (fields : List (List ℕ)) (Is : Type 0) (old new : List ℕ)
     (result : Result T E) : Type 0 where
   pub written : OnOk result (new ≡ old ++ concat fields)
   pub lawful : OnOk result Is
 
--- The same of the fields of many values, one value after another.
+-- The same for the fields of a list of values, one value after another.
 abbrev pub PutsAll : {A T E : Type 0} → (A → List (List ℕ)) → (A → Type 0) → List A
     → List ℕ → List ℕ → Result T E → Type 0
 PutsAll fields Is values old new result =

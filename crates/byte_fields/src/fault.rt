@@ -1,4 +1,4 @@
-//! Why a field could not be read.
+//! Why a field could not be read, and where.
 
 ghost use Rattle.std.specs.Prelude.{◌≡◌};
 ghost use Rattle.byte_fields.specs.declared.fault.ReadError.TheVariants.{Fault as AtFault, Memory as NoMemory};
@@ -9,14 +9,14 @@ use std::alloc::{AllocError, AllocFailed};
 /// A field is cut short or breaks its rule.
 #[derive(Clone, Copy, Debug, PartialEq, Eq)]
 pub struct Fault {
-    /// The number of bytes from the beginning of the invalid field to the end.
+    /// The number of bytes from the start of the invalid field to the end.
     pub left: usize,
 }
 
 /// Why a field was not read into memory.
 #[derive(Clone, Copy, Debug, PartialEq, Eq)]
 pub enum ReadError {
-    /// It is invalid.
+    /// The field is invalid.
     Fault(Fault),
     /// Out of memory.
     Memory,

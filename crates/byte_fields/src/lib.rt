@@ -1,4 +1,4 @@
-//! Reading and writing the fields that blocks, entries and proofs are spelled with.
+//! Reading and writing the fields of blocks, entries and proofs.
 #![tactic(auto)]
 
 mod fault;

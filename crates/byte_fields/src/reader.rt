@@ -1,4 +1,5 @@
-//! A reader of fields, from the first byte to the last.
+//! A reader of fields, from the first byte to the last. A fault says how many bytes are left from
+//! the start of the invalid field on.
 
 ghost use Rattle.std.specs.{
   Prelude.{◌≡◌, ◌≤◌, ◌==◌, ◌&&◌, nat_le, is_none, if◌then◌else◌, Ok, Err, length},
@@ -32,14 +33,15 @@ fn bad_text_byte(bytes: &[u8]) -> Option<usize>
     bytes.iter().position(|byte| !is_text_byte(*byte))
 }
 
-/// The value of a field, or the fault where it breaks the field's rule.
+/// The value of a field, or the fault if the value breaks the field's rule.
 fn lawful_or<T: Copy>(value: T, is_lawful: bool, fault: Fault) -> Result<T, Fault>
     ensures { result ≡ (if is_lawful then Ok value else Err fault) }
 {
     if is_lawful { Ok(value) } else { Err(fault) }
 }
 
-/// The bytes that are still to be read. After an error it is not said how many are left.
+/// The bytes that are still to be read. After an error, nothing is promised about how many are
+/// left.
 #[derive(Drop)]
 pub struct Reader<'a> {
     rest: &'a [u8],
@@ -61,14 +63,14 @@ impl<'a> Reader<'a> {
         Reader { rest: bytes }
     }
 
-    /// The number of bytes that are left.
+    /// The number of bytes left.
     pub fn remaining(&self) -> usize
         ensures { result ≡ length self.now }
     {
         self.rest.len()
     }
 
-    /// The bytes that are left, without reading them.
+    /// The bytes left, which stay unread.
     pub fn rest(&self) -> &'a [u8]
         ensures { result.now ≡ self.now }
     {
@@ -98,7 +100,7 @@ impl<'a> Reader<'a> {
         }
     }
 
-    /// As many bytes as the array has.
+    /// `N` bytes.
     #[tactic(auto, unfolding(crate::specs::Reading::bytes_at))]
     fn array<const N: usize>(&mut self) -> Result<[u8; N], Fault>
         ensures { Reads fault_left result (bytes_at N self.old) self.new }
@@ -136,7 +138,7 @@ impl<'a> Reader<'a> {
         Ok(u64::from_be_bytes(self.array()?))
     }
 
-    /// A byte that is at most this one.
+    /// A byte of at most `greatest`.
     pub fn byte_at_most(&mut self, greatest: u8) -> Result<u8, Fault>
         ensures { Reads fault_left result (ruled_at (λ n. nat_le n greatest) byte_at self.old) self.new }
     {
@@ -145,7 +147,7 @@ impl<'a> Reader<'a> {
         lawful_or(byte, byte <= greatest, fault)
     }
 
-    /// A byte that can only be this one.
+    /// A byte that must be `wanted`.
     pub fn byte_that_is(&mut self, wanted: u8) -> Result<u8, Fault>
         ensures { Reads fault_left result (ruled_at (λ n. n == wanted) byte_at self.old) self.new }
     {
@@ -154,7 +156,7 @@ impl<'a> Reader<'a> {
         lawful_or(byte, byte == wanted, fault)
     }
 
-    /// A number of two bytes that is at most this one.
+    /// A number of two bytes, at most `greatest`.
     pub fn u16_at_most(&mut self, greatest: u16) -> Result<u16, Fault>
         ensures { Reads fault_left result (ruled_at (λ n. nat_le n greatest) (number_at w16) self.old) self.new }
     {
@@ -163,7 +165,7 @@ impl<'a> Reader<'a> {
         lawful_or(number, number <= greatest, fault)
     }
 
-    /// A number of four bytes that is at most this one.
+    /// A number of four bytes, at most `greatest`.
     pub fn u32_at_most(&mut self, greatest: u32) -> Result<u32, Fault>
         ensures { Reads fault_left result (ruled_at (λ n. nat_le n greatest) (number_at w32) self.old) self.new }
     {
@@ -172,7 +174,7 @@ impl<'a> Reader<'a> {
         lawful_or(number, number <= greatest, fault)
     }
 
-    /// So many bytes, where they lie.
+    /// `count` bytes, borrowed.
     #[tactic(auto, unfolding(crate::specs::Reading::bytes_at))]
     pub fn bytes(&mut self, count: usize) -> Result<&'a [u8], Fault>
         ensures { ReadsAs (λ bytes. bytes.now) fault_left result (bytes_at count self.old) self.new }
@@ -186,14 +188,14 @@ impl<'a> Reader<'a> {
         }
     }
 
-    /// The bytes of a digest.
+    /// The 32 bytes of a digest.
     pub fn digest_bytes(&mut self) -> Result<[u8; 32], Fault>
         ensures { Reads fault_left result (bytes_at 32 self.old) self.new }
     {
         self.array()
     }
 
-    /// The length of a string, which is in this range.
+    /// The length of a string, from `fewest` to `greatest`.
     fn length_between(&mut self, fewest: u16, greatest: u16) -> Result<usize, Fault>
         ensures { Reads fault_left result (ruled_at (λ n. nat_le fewest n && nat_le n greatest) (number_at w16) self.old) self.new }
     {
@@ -219,7 +221,7 @@ impl<'a> Reader<'a> {
         }
     }
 
-    /// A key: its length in two bytes, and its bytes.
+    /// A key: its length in two bytes, then its bytes.
     #[tactic(auto, unfolding(crate::specs::Reading::key_at, crate::specs::Reading::string_at))]
     pub fn key(&mut self) -> Result<Key, Fault>
         ensures { Reads fault_left result (key_at self.old) self.new }
@@ -228,7 +230,7 @@ impl<'a> Reader<'a> {
         self.key_of(length)
     }
 
-    /// A key, or none where the string is empty: its length in two bytes, and its bytes.
+    /// A key, or `None` if the string is empty: its length in two bytes, then its bytes.
     #[tactic(auto, unfolding(crate::specs::Reading::key_or_empty_at, crate::specs::Reading::string_at, crate::specs::Reading::bytes_at))]
     pub fn key_or_empty(&mut self) -> Result<Option<Key>, Fault>
         ensures { Reads fault_left result (key_or_empty_at self.old) self.new }
@@ -239,7 +241,7 @@ impl<'a> Reader<'a> {
         }
     }
 
-    /// A name: its length in two bytes, and its bytes.
+    /// A name: its length in two bytes, then its bytes.
     #[tactic(auto, unfolding(crate::specs::Reading::name_at, crate::specs::Reading::string_at, crate::specs::Reading::bytes_at))]
     pub fn name(&mut self) -> Result<Name, Fault>
         ensures { Reads fault_left result (name_at self.old) self.new }
@@ -253,7 +255,7 @@ impl<'a> Reader<'a> {
         }
     }
 
-    /// A string of any bytes, at most so many: its length in two bytes, and its bytes.
+    /// A string of at most `greatest` bytes of any value: its length in two bytes, then its bytes.
     #[tactic(auto, unfolding(crate::specs::Reading::any_bytes_at))]
     pub fn any_bytes(&mut self, alloc: Global, greatest: u16) -> Result<Bytes, ReadError>
         ensures { Reads error_left result (any_bytes_at greatest self.old) self.new }
@@ -277,7 +279,7 @@ impl<'a> Reader<'a> {
         }
     }
 
-    /// A text: its length in two bytes, and its bytes.
+    /// A text: its length in two bytes, then its bytes.
     #[tactic(auto, unfolding(crate::specs::Reading::text_at, crate::specs::Reading::string_at))]
     pub fn text(&mut self, alloc: Global) -> Result<Text, ReadError>
         ensures { Reads error_left result (text_at self.old) self.new }
@@ -297,7 +299,7 @@ impl<'a> Reader<'a> {
         }
     }
 
-    /// The bytes of a text, where they lie: its length in two bytes, and these.
+    /// The bytes of a text, borrowed: its length in two bytes, then its bytes.
     #[tactic(auto, unfolding(crate::specs::Reading::text_at, crate::specs::Reading::string_at))]
     pub fn text_bytes(&mut self) -> Result<&'a [u8], Fault>
         ensures { ReadsAs (λ bytes. bytes.now) fault_left result (text_at self.old) self.new }
@@ -328,7 +330,7 @@ impl<'a> Reader<'a> {
         }
     }
 
-    /// A value, whose text stays where it lies: the byte 0 and an int, or the byte 1 and a text.
+    /// A value whose text is borrowed: the byte 0 and an int, or the byte 1 and a text.
     #[tactic(auto, unfolding(crate::specs::Reading::value_at))]
     pub fn value_view(&mut self) -> Result<ValueView<'a>, Fault>
         ensures { ReadsAs value_seen fault_left result (value_at self.old) self.new }
@@ -341,7 +343,7 @@ impl<'a> Reader<'a> {
         }
     }
 
-    /// So many keys, one after another.
+    /// `count` keys, one after another.
     pub fn keys(&mut self, alloc: Global, count: u8) -> Result<KeyList, ReadError>
         ensures { Reads error_left result (items_at key_at count self.old) self.new }
     {
@@ -353,7 +355,7 @@ impl<'a> Reader<'a> {
         Ok(keys)
     }
 
-    /// So many values, one after another.
+    /// `count` values, one after another.
     pub fn values(&mut self, alloc: Global, count: u8) -> Result<Seq<Value>, ReadError>
         ensures { Reads error_left result (items_at value_at count self.old) self.new }
     {

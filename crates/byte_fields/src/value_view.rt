@@ -1,6 +1,6 @@
 //! Values that are read without being copied.
 
-/// A value whose text lies in the bytes that it was read from.
+/// A value whose text is borrowed from the bytes that it was read from.
 #[derive(Clone, Copy, Debug)]
 pub enum ValueView<'a> {
     Int(i64),

@@ -1,5 +1,5 @@
-//! Writing the fields that blocks, entries and proofs are spelled with. Where memory runs out, a
-//! part of a field may stand after what was written before.
+//! Writing the fields of blocks, entries and proofs. If memory runs out, a part of a field may
+//! follow what was written before.
 
 ghost use Rattle.std.specs.{
   Prelude.{◌≡◌, [], ◌∷◌, ◌++◌, ◌^◌, ◌<◌, length, OnOk},
@@ -62,21 +62,21 @@ pub fn put_digest(out: &mut Vec<u8>, digest: &Digest) -> Result<(), Memory>
     Ok(())
 }
 
-/// A key: its length in two bytes, and its bytes.
+/// A key: its length in two bytes, then its bytes.
 pub fn put_key(out: &mut Vec<u8>, key: &Key) -> Result<(), Memory>
     ensures { Puts (string_fields key.now) (IsKey key.now) out.old.items out.new.items result }
 {
     put_string(out, key.as_bytes())
 }
 
-/// A name: its length in two bytes, and its bytes.
+/// A name: its length in two bytes, then its bytes.
 pub fn put_name(out: &mut Vec<u8>, name: &Name) -> Result<(), Memory>
     ensures { Puts (string_fields name.now) (IsName name.now) out.old.items out.new.items result }
 {
     put_string(out, name.as_bytes())
 }
 
-/// A string of any bytes, fewer than 65,536: its length in two bytes, and its bytes.
+/// A string of any bytes, fewer than 65,536: its length in two bytes, then its bytes.
 pub fn put_any_bytes(out: &mut Vec<u8>, bytes: &Bytes) -> Result<(), Memory>
     requires { length bytes.now < 2 ^ 16 }
     ensures written { OnOk result (out.new.items ≡ out.old.items ++ concat (string_fields bytes.now)) }
@@ -84,7 +84,7 @@ pub fn put_any_bytes(out: &mut Vec<u8>, bytes: &Bytes) -> Result<(), Memory>
     put_string(out, bytes.as_bytes())
 }
 
-/// A text: its length in two bytes, and its bytes.
+/// A text: its length in two bytes, then its bytes.
 pub fn put_text(out: &mut Vec<u8>, text: &Text) -> Result<(), Memory>
     ensures { Puts (string_fields text.now) (IsText text.now) out.old.items out.new.items result }
 {

@@ -1,4 +1,4 @@
--- Reading items one after the other, as a loop does.
+-- Reading items one after another in a loop gives what `each` says.
 use Rattle.std.proofs.Common.{◌≡◌, ℕ, suc, ◌+◌, ◌<◌, ◌≤◌, List, [], ◌∷◌, ◌++◌, length, map, get_or, drop, Option, Some, None, Result, Ok, Err, refl, sym, ap, ◌∙◌, append_assoc, arith, add-one}
 use Rattle.std.specs.List.{AllByRecursion}
 use Rattle.std.specs.Result.{result_ok}
@@ -10,12 +10,12 @@ use Rattle.chain_draft.specs.declared.read_error.ReadError.TheVariants as errors
 use Rattle.chain_draft.specs.Reading.{Reads}
 use Rattle.chain_draft.specs.Transactions.{each, with_first}
 
--- what was made before, and what is still made
+-- what was made before, then what is still to be made
 abbrev pub with_prefix : {A E : Type 0} → List A → Result (List A) E → Result (List A) E
 with_prefix before (Ok after) = Ok (before ++ after)
 with_prefix before (Err fault) = Err fault
 
--- Of so many items these were made, and each is lawful.
+-- These were made of the first `count` items, and each is lawful.
 pub record Made {X D B : Type 0} (view : X → D) (make : D → Option B) (Is : B → Type 0) (items : List X) (count : ℕ) (made : List B) : Type 0 where
   pub others : with_prefix made (each make count (map view (drop count items))) ≡ each make 0 (map view items)
   pub counted : length made ≡ count
@@ -67,7 +67,7 @@ made_all {X} {D} {B} view make Is items i made le so_far =
 abbrev failed : (A : Type 0) → ReadError → Result A ReadError
 failed A error = Err error
 
--- the same where memory may run out
+-- the same if memory may run out
 pub missed : {X D B : Type 0} (view : X → D) (make : D → Option B) (Is : B → Type 0) (items : List X) (i : ℕ) (made : List B) (x : X) (error : ReadError) → i < length items → x ≡ get_or items i x
     → Reads (failed B error) (make (view x)) → Made view make Is items i made → Reads (failed (List B) error) (result_ok (each make 0 (map view items)))
 missed view make Is items i made x errors.Shape lt is read so_far = ap result_ok (made_but view make Is items i made x lt is read so_far)

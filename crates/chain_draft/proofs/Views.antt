@@ -1,4 +1,4 @@
--- The items and members of a value, as its vector and its map have them.
+-- The items and members of a JSON value are those of its vector and its map.
 use Rattle.std.proofs.Common.{◌≡◌, suc, List, [], ◌∷◌, map, length, refl, ap, ◌∙◌}
 use Rattle.std.specs.Prelude.{String}
 use Rattle.std.specs.declared.alloc.Global.{Global}

@@ -1,10 +1,10 @@
--- What reading a part of a draft answers.
+-- What reading a part of a draft returns.
 use Rattle.std.specs.Prelude.{◌≡◌, Option, Some, None, Result, Ok, Err, IfOk}
 use Rattle.chain_draft.specs.declared.read_error.ReadError.{ReadError}
 use Rattle.chain_draft.specs.declared.read_error.ReadError.TheVariants as errors
 
--- What is read is this, and it has another shape exactly where there is none. Out of memory, nothing is
--- said.
+-- The value that was read is the one found, and `Shape` is reported exactly if none is. Out of
+-- memory says nothing.
 abbrev pub Reads : {A : Type 0} → Result A ReadError → Option A → Type 0
 Reads (Ok value) found = found ≡ Some value
 Reads (Err errors.Shape) found = found ≡ None

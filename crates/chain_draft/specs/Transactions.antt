@@ -1,4 +1,4 @@
--- Transactions, as drafts have them.
+-- Transactions, as drafts spell them.
 use Rattle.std.specs.Prelude.{ℕ, ◌+◌, ◌==◌, ◌&&◌, nat_le, is_none, if◌then◌else◌, List, [], ◌∷◌, codes, length, Option, Some, None, option_map, Result, Ok, Err}
 use Rattle.std.specs.Result.{result_ok}
 use Rattle.serde_json.specs.Data.{Data}
@@ -16,66 +16,66 @@ use Rattle.chain_draft.specs.Json.{◌>>=◌, items_in, member_count}
 
 -- ---- what the fields of a transaction are
 
--- A key: a string whose bytes are one.
+-- A key: a string whose bytes are a key.
 abbrev pub key_in : Data → Option (List ℕ)
 key_in json = as_str json >>= λ bytes. result_ok (key_of bytes)
 
--- A name: a string whose bytes are one.
+-- A name: a string whose bytes are a name.
 abbrev pub name_in : Data → Option (List ℕ)
 name_in json = as_str json >>= λ bytes. result_ok (name_of bytes)
 
--- A source: a string, at most `MAX_SOURCE_BYTES` bytes of UTF-8.
+-- A source: a string of at most `MAX_SOURCE_BYTES` bytes of UTF-8.
 abbrev pub source_in : Data → Option (List ℕ)
 source_in json = as_str json >>= λ bytes. if nat_le (length bytes) MAX_SOURCE_BYTES then Some bytes else None
 
--- The bytes, where they are a text.
+-- The bytes, if they are a text.
 abbrev pub text_of : List ℕ → Option (List ℕ)
 text_of bytes = if nat_le (length bytes) MAX_TEXT_BYTES && is_none (bad_text_byte bytes) then Some bytes else None
 
--- The first of two that is there.
+-- The first of two options, or the second if the first is `None`.
 abbrev pub either : {A : Type 0} → Option A → Option A → Option A
 either None second = second
 either (Some first) second = Some first
 
--- A value: a number that is a whole one of 64 bits, or a string whose bytes are a text.
+-- A value: a number that is an integer of 64 bits, or a string whose bytes are a text.
 abbrev pub value_in : Data → Option Value
 value_in json = either (option_map Int (as_number json >>= as_i64)) (option_map Text (as_str json >>= text_of))
 
--- A budget: a whole number from 0 to `MAX_CALL_BUDGET`.
+-- A budget: an integer from 0 to `MAX_CALL_BUDGET`.
 abbrev pub budget_in : Data → Option ℕ
 budget_in json = as_number json >>= as_u64 >>= λ steps. if nat_le steps MAX_CALL_BUDGET then Some steps else None
 
--- One item more in front.
+-- An item in front of others.
 abbrev pub with_first : {A E : Type 0} → A → Result (List A) E → Result (List A) E
 with_first first (Ok others) = Ok (first ∷ others)
 with_first first (Err fault) = Err fault
 
--- What is made of an item at this index, where something is, and of those after it.
+-- What is made of the item at this index, if anything is, and of those after it.
 abbrev pub then_each : {A : Type 0} → ℕ → Option A → Result (List A) ℕ → Result (List A) ℕ
 then_each index None others = Err index
 then_each index (Some first) others = with_first first others
 
--- What is made of each item, in order, the first at this index; or the index of the first of which
--- nothing is made.
+-- What is made of each item, in order, the first at this index; or the index of the first item of
+-- which nothing is made.
 unfoldable pub each : {A B : Type 0} → (A → Option B) → ℕ → List A → Result (List B) ℕ
 each make index [] = Ok []
 each make index (item ∷ items) = then_each index (make item) (each make (index + 1) items)
 
--- At most so many items, and what is made of each.
+-- What is made of each of at most `limit` items.
 abbrev pub all_in : {B : Type 0} → (Data → Option B) → ℕ → Data → Option (List B)
 all_in make limit json = items_in json >>= λ items. if nat_le (length items) limit then result_ok (each make 0 items) else None
 
 -- ---- what a transaction is
 
--- The member of this name, where it is a key.
+-- The member of this name, if it is a key.
 abbrev pub key_at : List ℕ → Data → Option (List ℕ)
 key_at name json = get name json >>= key_in
 
--- The member of this name, where it is a name.
+-- The member of this name, if it is a name.
 abbrev pub name_at : List ℕ → Data → Option (List ℕ)
 name_at name json = get name json >>= name_in
 
--- A Set of so many members, which depends on these keys.
+-- A Set with this number of members, which depends on these keys.
 abbrev pub set_with : ℕ → List (List ℕ) → Data → Option Tx
 set_with members deps json = do
   sender ← key_at (codes "sender") json
@@ -84,12 +84,12 @@ set_with members deps json = do
   count ← member_count json
   if count == members then Some (Set sender key value deps) else None
 
--- A Set without the member `deps`, or with it.
+-- A Set without or with the member `deps`.
 abbrev pub set_by : Option Data → Data → Option Tx
 set_by None json = set_with 3 [] json
 set_by (Some deps) json = all_in key_in MAX_DEPS deps >>= λ keys. set_with 4 keys json
 
--- A Set: an object of the members `sender`, `key` and `value`, and of `deps` or not.
+-- A Set: an object of the members `sender`, `key` and `value`, and possibly `deps`.
 abbrev pub set_in : Data → Option Tx
 set_in json = set_by (get (codes "deps") json) json
 
@@ -113,7 +113,7 @@ call_in json = do
   count ← member_count json
   if count == 5 then Some (Call sender contract function args budget) else None
 
--- The transaction of the member that is there.
+-- The transaction of the member that there is.
 abbrev pub tx_by : Option Data → Option Data → Option Data → Option Tx
 tx_by (Some set) deploy call = set_in set
 tx_by None (Some deploy) call = deploy_in deploy

@@ -1,4 +1,4 @@
-//! The fields of transactions, read from JSON.
+//! Reading the fields of transactions from JSON. What has another shape is not read.
 
 ghost use Rattle.std.specs.{Prelude.{◌≡◌, ◌≤◌, map, length, IfOk}, Option.{option_map}};
 ghost use Rattle.serde_json.specs.View.{view};
@@ -17,7 +17,7 @@ use lc_base::{Bytes, Key, Name, Text, TextError, Value};
 use serde_json::Value as Json;
 use std::alloc::{AllocError, Global};
 
-/// The items of a value that is an array.
+/// The items of an array, or `None` if the value is no array.
 #[tactic(auto, using(crate::proofs::Views::items_listed))]
 pub fn items_in(json: &Json) -> Option<&[Json]>
     ensures { option_map (λ items. map view items.now) result ≡ items_in (view json.now) }
@@ -28,7 +28,7 @@ pub fn items_in(json: &Json) -> Option<&[Json]>
     }
 }
 
-/// How many members a value has that is an object.
+/// The number of an object's members, or `None` if the value is no object.
 #[tactic(auto, using(crate::proofs::Views::members_counted))]
 pub fn member_count(json: &Json) -> Option<usize>
     ensures { result ≡ member_count (view json.now) }
@@ -39,7 +39,7 @@ pub fn member_count(json: &Json) -> Option<usize>
     }
 }
 
-/// A key.
+/// A key, from a string.
 pub fn key_in(json: &Json) -> Result<Key, ReadError>
     ensures { ReadsLawful IsKey result (key_in (view json.now)) }
 {
@@ -47,7 +47,7 @@ pub fn key_in(json: &Json) -> Result<Key, ReadError>
     Key::new(text.as_bytes()).map_err(|_| ReadError::Shape)
 }
 
-/// A name.
+/// A name, from a string.
 pub fn name_in(json: &Json) -> Result<Name, ReadError>
     ensures { ReadsLawful IsName result (name_in (view json.now)) }
 {
@@ -55,7 +55,7 @@ pub fn name_in(json: &Json) -> Result<Name, ReadError>
     Name::new(text.as_bytes()).map_err(|_| ReadError::Shape)
 }
 
-/// A source.
+/// A contract's source, from a string of at most `MAX_SOURCE_BYTES` bytes.
 pub fn source_in(alloc: Global, json: &Json) -> Result<Bytes, ReadError>
     ensures read { Reads result (source_in (view json.now)) }
     ensures short { IfOk result (λ source. length source ≤ MAX_SOURCE_BYTES) }
@@ -71,7 +71,7 @@ pub fn source_in(alloc: Global, json: &Json) -> Result<Bytes, ReadError>
     }
 }
 
-/// A value.
+/// A value, from an integer of 64 bits or a string that is a text.
 pub fn value_in(alloc: Global, json: &Json) -> Result<Value, ReadError>
     ensures { ReadsLawful IsValue result (value_in (view json.now)) }
 {
@@ -86,7 +86,7 @@ pub fn value_in(alloc: Global, json: &Json) -> Result<Value, ReadError>
     }
 }
 
-/// A budget, in steps.
+/// A budget in steps, from an integer of at most `MAX_CALL_BUDGET`.
 pub fn budget_in(json: &Json) -> Result<u32, ReadError>
     ensures read { Reads result (budget_in (view json.now)) }
     ensures low { IfOk result (λ steps. steps ≤ MAX_CALL_BUDGET) }
@@ -97,14 +97,14 @@ pub fn budget_in(json: &Json) -> Result<u32, ReadError>
     }
 }
 
-/// A key, as the member of this name.
+/// The key in the member `name` of an object.
 pub fn key_at(json: &Json, name: &str) -> Result<Key, ReadError>
     ensures { ReadsLawful IsKey result (key_at name.now (view json.now)) }
 {
     key_in(json.get(name).ok_or(ReadError::Shape)?)
 }
 
-/// A name, as the member of this name.
+/// The name in the member `name` of an object.
 pub fn name_at(json: &Json, name: &str) -> Result<Name, ReadError>
     ensures { ReadsLawful IsName result (name_at name.now (view json.now)) }
 {

@@ -1,4 +1,4 @@
-//! The transactions of drafts, read from JSON.
+//! Reading the transactions of drafts from JSON.
 #![tactic(auto)]
 
 mod fields;

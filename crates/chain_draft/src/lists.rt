@@ -1,4 +1,4 @@
-//! Lists, read from JSON.
+//! Reading lists from JSON: an array within a limit, each of whose items is read.
 
 ghost use Rattle.std.specs.{
   Prelude.{◌≡◌, ◌≤◌, map, length, Option, IfOk},
@@ -19,14 +19,14 @@ use lc_base::{Key, Seq, Value};
 use serde_json::Value as Json;
 use std::alloc::Global;
 
-/// An item of a list.
+/// An item of a list that is read from JSON.
 pub(crate) trait FromJson: Drop {
-    /// What is made of JSON.
+    /// What JSON is read as.
     ghost made: { Data → Option Self };
-    /// The lawful ones.
+    /// What the items that are read keep to.
     ghost lawful: { Self → Type 0 };
 
-    /// Makes one.
+    /// Reads one item.
     fn from_json(alloc: Global, json: &Json) -> Result<Self, ReadError>
         ensures { ReadsLawful lawful result (made (view json.now)) };
 }
@@ -64,7 +64,7 @@ fn each<T: FromJson>(alloc: Global, items: &[Json]) -> Result<Seq<T>, ReadError>
     Ok(list)
 }
 
-/// The items of an array of at most so many.
+/// The items of an array of at most `most`.
 pub(crate) fn all_in<T: FromJson>(
     alloc: Global,
     json: &Json,

@@ -1,4 +1,4 @@
-//! Transactions, read from JSON.
+//! Reading transactions from JSON: an object with one member, which names the kind.
 
 ghost use Rattle.std.specs.{
   Prelude.{◌≡◌, ◌≤◌, length, codes},
@@ -92,7 +92,7 @@ fn tx_by(alloc: Global, json: &Json) -> Result<Tx, ReadError>
     }
 }
 
-/// A transaction.
+/// A transaction, from an object of one member: `set`, `deploy` or `call`.
 pub fn tx_in(alloc: Global, json: &Json) -> Result<Tx, ReadError>
     ensures { ReadsLawful IsTx result (tx_in (view json.now)) }
 {

@@ -1,4 +1,4 @@
--- A generator that has given blocks of a seed goes on with them.
+-- A generator that has returned the first blocks of a seed returns the next one of them.
 use Rattle.std.proofs.Common.{◌≡◌, ℕ, ◌+◌, ◌∷◌, ◌++◌, [], List, Some, refl, sym, ap, subst, ◌∙◌}
 use Rattle.std.proofs.lemmas.List.{map-append}
 use native.Mathlib.Numerals.{unary_clauses}
@@ -14,7 +14,7 @@ digest_is : (seed : ℕ) (gen : Progress) (parent : Digest) (bytes : List ℕ) �
 unfolding spelling
 digest_is seed gen parent bytes spelled state chained = rw (made_more seed gen.given, spelled, state, chained) refl
 
--- the bytes of the next block, and the generator that has given it
+-- the bytes of the next block, and the generator after returning it
 pub goes_on : (seed : ℕ) (gen after : Progress) (parent : Digest) (bytes : List ℕ) → bytes ≡ spelling (block_drawn gen.given parent gen.state).0 → after ≡ (given_block gen (block_drawn gen.given parent gen.state)).1
     → gen ≡ progress seed gen.count gen.given → parent ≡ (first_blocks seed gen.given).parent → GoesOn seed gen (Some (bytes, after))
 goes_on seed gen after parent bytes spelled moved is chained =
@@ -23,7 +23,8 @@ goes_on seed gen after parent bytes spelled moved is chained =
     let block = block_drawn gen.given (first_blocks seed gen.given).parent (first_blocks seed gen.given).state in
     (rw (step, spelled, state, chained) (map-append spelling (first_blocks seed gen.given).blocks (block.0 ∷ [])), digest_is seed gen parent bytes spelled state chained, rw (step, moved, state, chained) refl)
 
--- Of blocks of a seed so many were given, the last of them is the next one's parent, and these are their bytes.
+-- The first `given` of a seed's `count` blocks were returned as these texts, and the last of them
+-- is the next one's parent.
 pub record HasGiven (seed count given : ℕ) (gen : Progress) (parent : Digest) (texts : List (List ℕ)) : Type 0 where
   pub gen_is : gen ≡ progress seed count given
   pub parent_is : parent ≡ (first_blocks seed given).parent

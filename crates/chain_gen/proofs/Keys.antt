@@ -1,4 +1,4 @@
--- The keys that are drawn are keys.
+-- The drawn keys are keys.
 use Rattle.std.proofs.Common.{◌≡◌, ℕ, zero, suc, ◌^◌, ◌<◌, ◌≤◌, Bool, false, not, cond, eqb, ltb, List, ◌∷◌, length, get_or, Ok, Err, refl, ap, ◌∙◌, arith}
 use Rattle.std.specs.Fmt.{decimal}
 use Rattle.std.proofs.lemmas.Bool.{le-ltb, ne_eqb}
@@ -12,7 +12,7 @@ use Rattle.lc_names.specs.declared.key.KeyError.TheVariants.{Empty, Long, Byte}
 use Rattle.lc_base.proofs.TextBytes.{none_found}
 use Rattle.chain_gen.specs.Draws.{raw_key}
 
--- what is a key is taken for one
+-- `key_of` accepts what is a key
 pub key_is_taken : (bytes : List ℕ) → IsKey bytes → key_of bytes ≡ Ok bytes
 key_is_taken bytes is =
     let some : eqb (length bytes) 0 ≡ false = ne_eqb (length bytes) 0 (omega (arith, is.some)) in

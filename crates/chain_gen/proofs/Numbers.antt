@@ -1,4 +1,4 @@
--- Numbers that are drawn fit their bound.
+-- A drawn number is below its bound.
 use Rattle.std.proofs.Common.{ℕ, ◌<◌, ◌%◌}
 use Rattle.std.proofs.Math.Nat.{mod-lt}
 

@@ -1,10 +1,10 @@
--- Items that are drawn one after another.
+-- Drawing items one after another in a loop gives what `draw_list` says.
 use Rattle.std.proofs.Common.{◌≡◌, ℕ, ◌+◌, List, [], ◌∷◌, ◌++◌, refl, append_assoc}
 use Rattle.std.proofs.lemmas.List.{append-nil}
 use native.Mathlib.Numerals.{unary_clauses}
 use Rattle.chain_gen.specs.Draws.{draw_list}
 
--- These items were drawn so far, after others, and drawing stands at this state.
+-- These items were drawn after others, and this is the state of drawing.
 pub record HasDrawn {A : Type 0} (item : ℕ → A × ℕ) (before : List A) (first count : ℕ) (items : List A) (state : ℕ) : Type 0 where
   pub items_are : items ≡ before ++ (draw_list item count first).0
   pub state_is : state ≡ (draw_list item count first).1

@@ -1,4 +1,4 @@
--- What is drawn is lawful, short and cheap.
+-- What is drawn is lawful, short and cheap, so a drawn block keeps to the limits.
 use Rattle.std.proofs.Common.{◌≡◌, ℕ, zero, suc, ◌*◌, ◌<◌, ◌≤◌, ◌^◌, Bool, true, false, cond, ltb, eq-eqb, pos, List, [], ◌∷◌, ◌++◌, length, refl, ap, arith, length-append}
 use Rattle.std.specs.Prelude.{◌==◌}
 use Rattle.std.specs.List.{concat, flat_map, sum_by, AllByRecursion}
@@ -67,7 +67,7 @@ pub record IsSmall (tx : Tx) : Type 0 where
   pub short : length (concat (tx_fields tx)) ≤ 300
   pub cheap : tx_budget tx ≤ 10000
 
--- keys are at most two bytes longer each than the longest
+-- a key takes at most 66 bytes as a field
 keys_short : (keys : List (List ℕ)) → AllByRecursion IsKey keys → length (concat (flat_map string_fields keys)) ≤ 66 * length keys
 keys_short [] is = omega arith
 keys_short (key ∷ keys) is = let short = is.0.short in omega (arith, short, keys_short keys is.1, length-append key (concat (flat_map string_fields keys)))

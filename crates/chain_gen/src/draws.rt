@@ -1,4 +1,5 @@
-//! Numbers, drawn one after another.
+//! Drawing numbers from a linear congruential generator: equal seeds give equal draws on every
+//! machine.
 
 ghost use Rattle.std.specs.Prelude.{◌≡◌, ◌+◌, ◌<◌, ◌≤◌, ◌++◌, length, take};
 ghost use Rattle.lc_names.specs.KeyBytes.{IsKey};
@@ -12,7 +13,7 @@ use itoa::Buffer;
 use lc_base::{Key, MAX_KEY_BYTES};
 use std::marker::Model;
 
-/// Where drawing stands.
+/// The state of drawing.
 #[derive(Drop)]
 pub struct Draws {
     state: u64,
@@ -27,21 +28,21 @@ impl Model for Draws {
 }
 
 impl Draws {
-    /// Draws that go on from a state, at first the seed.
+    /// Draws that continue from a state, which is the seed at first.
     pub fn new(state: u64) -> Draws
         ensures { result ≡ state }
     {
         Draws { state }
     }
 
-    /// The state after all that was drawn.
+    /// The state after all draws so far.
     pub fn state(&self) -> u64
         ensures { result ≡ self.now }
     {
         self.state
     }
 
-    /// A number below the bound.
+    /// Draws a number below the bound.
     #[tactic(auto, unfolding(crate::specs::Draws::number_below), using(crate::proofs::Numbers::number_fits))]
     pub fn number_below(&mut self, bound: u32) -> u32
         requires { 0 < bound }
@@ -66,7 +67,7 @@ impl Draws {
         }
     }
 
-    /// A key.
+    /// Draws a key.
     #[tactic(auto, unfolding(crate::specs::Draws::key_drawn))]
     pub fn key(&mut self) -> Key
         ensures key { result ≡ (key_drawn self.old).0 }
@@ -83,7 +84,7 @@ fn raw_key(number: u32) -> Key
     key_of_parts(b"raw/", digits.format(number).as_bytes())
 }
 
-/// The key that two parts make.
+/// The key whose bytes are two parts.
 fn key_of_parts(first: &[u8], second: &[u8]) -> Key
     requires { IsKey (first.now ++ second.now) }
     ensures { result ≡ first.now ++ second.now }
@@ -94,7 +95,7 @@ fn key_of_parts(first: &[u8], second: &[u8]) -> Key
     checked_key(&bytes[..len])
 }
 
-/// Writes two parts over the first bytes.
+/// Writes the two parts over the first bytes.
 fn put_parts(bytes: &mut [u8], first: &[u8], second: &[u8])
     requires { length first.now + length second.now ≤ length bytes.old }
     ensures long { length bytes.new ≡ length bytes.old }

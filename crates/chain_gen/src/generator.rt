@@ -1,4 +1,4 @@
-//! Blocks, one after another.
+//! Making the blocks of a chain, one after another.
 
 ghost use Rattle.std.specs.Prelude.{◌≡◌, ℕ, ◌<◌, ◌≤◌, length, IfOk, IfSome};
 ghost use Rattle.block_codec.specs.Spelling.{Spells};
@@ -15,7 +15,7 @@ use lc_base::{Bytes, Digest, Key, Memory, TextList};
 use std::alloc::Global;
 use std::marker::Model;
 
-/// Makes the blocks of a chain, one after another, and draws what they hold.
+/// Makes the blocks of a chain, one after another, and draws their contents.
 #[derive(Drop)]
 pub struct Gen {
     state: u64,
@@ -49,7 +49,7 @@ fn spell(alloc: Global, block: &Block) -> Result<Bytes, Memory>
     }
 }
 
-/// The digest as it is. The prover learns of its length where its bytes are read.
+/// The same digest. The prover learns its length where its bytes are read.
 fn with_known_length(digest: Digest) -> Digest
     ensures same { result ≡ digest }
     ensures whole { length digest.0 ≡ 32 }
@@ -58,7 +58,7 @@ fn with_known_length(digest: Digest) -> Digest
     digest
 }
 
-/// The bytes of a block that is drawn.
+/// The bytes of a block whose contents are drawn.
 #[tactic(auto, unfolding(crate::specs::Generator::block_drawn))]
 fn block_drawn(
     alloc: Global,
@@ -80,7 +80,7 @@ fn block_drawn(
 }
 
 impl Gen {
-    /// Of so many blocks none was given yet, and drawing begins at the seed.
+    /// A generator of `blocks` blocks. No block has been drawn yet: drawing begins at the seed.
     #[tactic(auto, unfolding(crate::specs::Generator::first_blocks))]
     pub fn new(blocks: u32, seed: u32) -> Gen
         ensures start { result ≡ progress seed blocks 0 }
@@ -93,7 +93,7 @@ impl Gen {
         }
     }
 
-    /// Draws a number below the bound; draws for blocks go on after it.
+    /// Draws a number below the bound. Later blocks are drawn from the state after it.
     #[tactic(auto, unfolding(crate::specs::Draws::number_below))]
     pub fn draw(&mut self, bound: u32) -> u32
         requires { 0 < bound }
@@ -107,7 +107,7 @@ impl Gen {
         number
     }
 
-    /// Draws a key, as blocks draw theirs; draws for blocks go on after it.
+    /// Draws a key, as blocks draw theirs. Later blocks are drawn from the state after it.
     pub fn draw_key(&mut self) -> Key
         ensures key { result ≡ (key_drawn self.old.state).0 }
         ensures state { self.new ≡ standing_at (key_drawn self.old.state).1 self.old }
@@ -118,8 +118,8 @@ impl Gen {
         key
     }
 
-    /// The bytes of the next block, whose parent is the argument, and the blocks after it; `None`
-    /// once all were given.
+    /// The bytes of the next block, whose parent is `parent`, and the generator after it; `None`
+    /// after the last block.
     #[tactic(auto, using(crate::proofs::Small::drawn_is_placed, crate::proofs::Small::drawn_are_few))]
     pub fn next(self, alloc: Global, parent: Digest) -> Result<Option<(Bytes, Gen)>, Memory>
         ensures next { IfOk result (λ next. next ≡ next_block self parent) }
@@ -144,7 +144,7 @@ impl Gen {
     }
 }
 
-/// The bytes of so many blocks of a seed, in order.
+/// The bytes of the first `blocks` blocks of a seed, in order.
 pub fn blocks_of_seed(alloc: Global, blocks: u32, seed: u32) -> Result<TextList, Memory>
     ensures { IfOk result (λ texts. texts ≡ blocks_of_seed blocks seed) }
 {

@@ -1,4 +1,4 @@
-//! Large valid block files, each made from two numbers: how many blocks, and a seed.
+//! Large valid block files, each determined by two numbers: a count of blocks, and a seed.
 #![tactic(auto)]
 
 mod draws;

@@ -1,4 +1,5 @@
-//! The transactions of a block.
+//! Drawing transactions: the first block deploys a contract, and each later one calls it and writes
+//! values.
 
 ghost use Rattle.std.specs.Prelude.{◌≡◌, ◌++◌, IfOk};
 ghost use Rattle.chain_gen.specs.{
@@ -119,7 +120,7 @@ fn later_txs(alloc: Global, draws: &mut Draws) -> Result<TxList, Memory>
     Ok(txs)
 }
 
-/// The transactions of the block of a number.
+/// Draws the transactions of the block with this number.
 #[tactic(auto, unfolding(crate::specs::Transactions::txs_drawn))]
 pub fn txs_drawn(alloc: Global, draws: &mut Draws, number: u32) -> Result<TxList, Memory>
     ensures txs { IfOk result (λ txs. txs ≡ (txs_drawn number draws.old).0) }

@@ -1,4 +1,4 @@
--- Packing blocks one after the other, as a loop does.
+-- Packing blocks one after another in a loop gives what `texts_from` says.
 use Rattle.std.proofs.Common.{◌≡◌, ℕ, ◌+◌, ◌<◌, ◌≤◌, List, [], ◌∷◌, ◌++◌, length, map, get_or, drop, Result, Ok, Err, refl, sym, ap, subst, ◌∙◌}
 use Rattle.std.specs.List.{AllByRecursion}
 use Rattle.std.proofs.lemmas.List.{append-nil, drop_all}
@@ -12,7 +12,7 @@ use Rattle.chain_pack.specs.declared.error.PackError.TheVariants as errors
 use Rattle.chain_pack.specs.Draft.{pack_fault, text_in, texts_from, IsBlockText}
 use Rattle.chain_draft.proofs.Each.{with_prefix, regroup, prefix_nil, next, length_more}
 
--- The first blocks, so many, have these texts, and this is the parent of the next one.
+-- The first `count` blocks have these texts, and this is the parent of the next one.
 pub record Packed {X : Type 0} (view : X → Data) (blocks : List X) (count : ℕ) (parent : Digest) (texts : List (List ℕ)) : Type 0 where
   pub others : with_prefix texts (texts_from count parent (map view (drop count blocks))) ≡ texts_from 0 no_parent (map view blocks)
   pub counted : length texts ≡ count
@@ -48,7 +48,7 @@ packed_all view blocks i parent texts le so_far =
 abbrev failed : (A : Type 0) → PackError → Result A PackError
 failed A error = Err error
 
--- the same where memory may run out
+-- the same if memory may run out
 pub failed_at : {X : Type 0} (view : X → Data) (blocks : List X) (i : ℕ) (parent : Digest) (texts : List (List ℕ)) (x : X) (number : ℕ) (error : PackError) → i < length blocks → x ≡ get_or blocks i x → number ≡ length texts
     → Answers (λ text. text) pack_fault (failed (List ℕ) error) (text_in number parent (view x))
     → Packed view blocks i parent texts → Answers (λ texts. texts) pack_fault (failed (List (List ℕ)) error) (texts_from 0 no_parent (map view blocks))

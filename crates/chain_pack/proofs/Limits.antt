@@ -1,4 +1,4 @@
--- Blocks over the limit of bytes.
+-- A lawful block without a spelling is over the limit of bytes.
 use Rattle.std.proofs.Common.{ℕ, ◌<◌, List, length, refl}
 use Rattle.std.specs.List.{concat}
 use Rattle.std.proofs.Math.Nat.{lt_of_not-le}

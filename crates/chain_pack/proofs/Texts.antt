@@ -1,4 +1,4 @@
--- Which texts are JSON.
+-- A text is read as JSON exactly if it is UTF-8 and the reader reads it.
 use Rattle.std.proofs.Common.{◌≡◌, ℕ, List, Bool, true, false, Some, None, refl}
 use Rattle.std.specs.Prelude.{IsUtf8, if◌then◌else◌}
 use Rattle.std.specs.Str.{is_utf8}

@@ -13,7 +13,7 @@ use Rattle.chain_draft.specs.Transactions.{each, with_first, tx_in}
 use Rattle.chain_pack.specs.declared.error.PackError.{PackError}
 use Rattle.chain_pack.specs.declared.error.PackError.TheVariants.{Json, Top, Shape, BlockLimit, Memory}
 
--- What an error says of the draft, which is nothing where memory ran out.
+-- What an error says about the draft, or `None` if memory ran out.
 abbrev pub pack_fault : PackError → Option PackError
 pack_fault Json = Some Json
 pack_fault Top = Some Top
@@ -21,7 +21,7 @@ pack_fault (Shape block tx) = Some (Shape block tx)
 pack_fault (BlockLimit block) = Some (BlockLimit block)
 pack_fault Memory = None
 
--- The transactions of the block of this number, or where the first item stands that is none.
+-- The transactions of the block of this number, or the place of the first item that is none.
 abbrev pub at_block : ℕ → Result (List Tx) ℕ → Result (List Tx) PackError
 at_block number (Ok txs) = Ok txs
 at_block number (Err index) = Err (Shape number index)
@@ -31,34 +31,34 @@ abbrev pub txs_of : ℕ → Option (List Data) → Result (List Tx) PackError
 txs_of number None = Err (BlockLimit number)
 txs_of number (Some items) = if nat_lt MAX_TXS (length items) then Err (BlockLimit number) else at_block number (each tx_in 0 items)
 
--- The transactions of the block of this number: an array of them.
+-- The transactions of the block of this number, from an array of them.
 abbrev pub txs_in : ℕ → Data → Result (List Tx) PackError
 txs_in number json = txs_of number (items_in json)
 
--- The spelling of a block, whose budget is at most `MAX_BLOCK_BUDGET` and whose bytes are at most
--- `MAX_BLOCK_BYTES`.
+-- The spelling of a block with a budget of at most `MAX_BLOCK_BUDGET` and at most `MAX_BLOCK_BYTES`
+-- bytes.
 abbrev pub text_of : Block → Result (List ℕ) PackError
 text_of block =
     if nat_lt MAX_BLOCK_BUDGET (block_budget block) then Err (BlockLimit block.number)
     else (if nat_lt MAX_BLOCK_BYTES (length (concat (block_fields block))) then Err (BlockLimit block.number)
     else Ok (concat (block_fields block)))
 
--- The text of the block of this number, parent and transactions.
+-- The text of the block with this number, parent and transactions.
 abbrev pub text_with : ℕ → Digest → Result (List Tx) PackError → Result (List ℕ) PackError
 text_with number parent (Ok txs) = text_of (record { number = number; parent = parent; txs = txs })
 text_with number parent (Err fault) = Err fault
 
--- The text of the block of this number and parent.
+-- The text of the block with this number and parent.
 abbrev pub text_in : ℕ → Digest → Data → Result (List ℕ) PackError
 text_in number parent json = text_with number parent (txs_in number json)
 
--- A text, and then those after it.
+-- A text, then those after it.
 abbrev pub then_texts : Result (List ℕ) PackError → (List ℕ → Result (List (List ℕ)) PackError) → Result (List (List ℕ)) PackError
 then_texts (Ok text) others = with_first text (others text)
 then_texts (Err fault) others = Err fault
 
--- The texts of blocks, the first of this number and parent, and each of the others of the next
--- number, its parent the digest of the block before. The first fault in this order decides.
+-- The texts of blocks. The first has this number and parent; each other one has the next number and
+-- the digest of the block before as its parent. The first fault in this order decides.
 unfoldable pub texts_from : ℕ → Digest → List Data → Result (List (List ℕ)) PackError
 texts_from number parent [] = Ok []
 texts_from number parent (json ∷ others) = then_texts (text_in number parent json) (λ text. texts_from (number + 1) (bytes_digest text) others)
@@ -77,6 +77,6 @@ packed_of (Some json) = texts_of (items_in json)
 abbrev pub texts_of_draft : List ℕ → Result (List (List ℕ)) PackError
 texts_of_draft draft = packed_of (json_in draft)
 
--- A text is that of a block.
+-- A text spells a block.
 abbrev pub IsBlockText : List ℕ → Type 0
 IsBlockText text = (block : Block) × Spells text block

@@ -1,4 +1,4 @@
-//! Blocks, read from JSON and spelled.
+//! Reading blocks from JSON and spelling them.
 
 ghost use Rattle.std.specs.{Prelude.{◌≡◌, ◌≤◌, map, length, IfOk}, List.{AllByRecursion}};
 ghost use Rattle.serde_json.specs.View.{view};
@@ -50,7 +50,7 @@ fn txs_in(alloc: Global, block: u32, json: &Json) -> Result<TxList, PackError>
     }
 }
 
-/// The same bytes, in no more room than they take.
+/// The same bytes, without spare capacity.
 fn without_spare(alloc: Global, text: &Bytes) -> Result<Bytes, Memory>
     ensures { IfOk result (λ bytes. bytes ≡ text.now) }
 {
@@ -77,7 +77,7 @@ fn text_of(alloc: Global, block: &Block) -> Result<Bytes, PackError>
     }
 }
 
-/// The text of the block of this number and parent.
+/// The text of the block with this number and parent.
 pub fn text_in(alloc: Global, number: u32, parent: Digest, json: &Json) -> Result<Bytes, PackError>
     ensures text { Answers (λ text. text) pack_fault result (text_in number parent (view json.now)) }
     ensures spelled { IfOk result IsBlockText }

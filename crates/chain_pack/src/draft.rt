@@ -1,4 +1,4 @@
-//! Whole drafts.
+//! Packing whole drafts: the first fault in their order decides.
 
 ghost use Rattle.std.specs.{
   Prelude.{◌≤◌, map, length, IfOk},
@@ -22,7 +22,7 @@ use lc_base::TextList;
 use serde_json::{Category, Value as Json};
 use std::alloc::Global;
 
-/// The greatest number of blocks that are packed: the numbers of blocks are of 32 bits.
+/// The greatest number of blocks that are packed, 2^32: block numbers have 32 bits.
 pub const MAX_PACKED_BLOCKS: usize = 4_294_967_296;
 
 #[tactic(auto, using(crate::proofs::Texts::found, crate::proofs::Texts::refused))]
@@ -56,7 +56,7 @@ fn texts(alloc: Global, blocks: &[Json]) -> Result<TextList, PackError>
 /// The texts of the blocks of a draft.
 pub fn pack(alloc: Global, draft: &[u8]) -> Result<TextList, PackError>
     ensures packed { Answers (λ texts. texts) pack_fault result (texts_of_draft draft.now) }
-    // Each text is that of a block, and so no longer than one.
+    // Each text spells a block, so it is no longer than one.
     ensures spelled { IfOk result (AllByRecursion IsBlockText) }
 {
     let json = json_in(alloc, draft)?;

@@ -1,4 +1,4 @@
-//! Why a draft was not packed.
+//! Why a draft was not packed, and at which block and item.
 
 ghost use Rattle.std.specs.Prelude.{◌≡◌};
 ghost use Rattle.chain_pack.specs.declared.error.PackError.TheVariants.{Memory as NoMemory};
@@ -8,19 +8,19 @@ use lc_base::Memory;
 /// Why a draft was not packed.
 #[derive(Clone, Copy, Debug, PartialEq, Eq)]
 pub enum PackError {
-    /// It is no JSON.
+    /// It is not JSON.
     Json,
-    /// It is no array.
+    /// It is not an array.
     Top,
-    /// An item of a block is no transaction.
+    /// An item of a block is not a transaction.
     Shape {
         /// The index of the block, from 0.
         block: u32,
         /// The index of the item in the block, from 0.
         tx: u32,
     },
-    /// A block is no array, has more than `MAX_TXS` items, or has transactions whose budgets sum
-    /// up to more than `MAX_BLOCK_BUDGET` or whose block has more than `MAX_BLOCK_BYTES` bytes.
+    /// A block is not an array, has more than `MAX_TXS` items, has a budget above
+    /// `MAX_BLOCK_BUDGET`, or spells more than `MAX_BLOCK_BYTES` bytes.
     BlockLimit {
         /// The index of the block, from 0.
         block: u32,

@@ -1,4 +1,4 @@
-//! Drafts: JSON texts that people write, packed into the texts of blocks.
+//! Packing drafts, which are JSON texts that people write, into the texts of blocks.
 #![tactic(auto)]
 
 mod block;

@@ -5,16 +5,15 @@ ghost use Rattle.digest_kit.specs.Hasher.{HasAdded};
 use lc_base::Digest;
 use sha2::{Digest as _, Sha256};
 
-/// A hasher of a tag, one byte that says what is digested, and of the bytes that are added after
-/// it, piece by piece.
-/// None of its calls takes memory.
+/// Hashes a tag, one byte that says what is digested, followed by the bytes that are added piece by
+/// piece. No call takes memory.
 #[derive(Drop)]
 pub struct TagHasher {
     hasher: Sha256,
 }
 
 impl TagHasher {
-    /// A hasher of the tag alone.
+    /// A hasher to which the tag alone was added.
     pub fn new(tag: u8) -> TagHasher
         ensures { HasAdded result (tag ∷ []) }
     {
@@ -25,7 +24,7 @@ impl TagHasher {
         hasher
     }
 
-    /// Adds these bytes after the tag and what was added before.
+    /// Adds bytes after the tag and all that was added before.
     pub fn add(&mut self, bytes: &[u8])
         ensures { (message : List ℕ) → HasAdded self.old message → HasAdded self.new (message ++ bytes.now) }
     {

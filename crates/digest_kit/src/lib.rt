@@ -1,4 +1,4 @@
-//! Digests of tagged bytes.
+//! Digests of tagged bytes: a leading tag separates the kinds of what is digested.
 #![tactic(auto)]
 
 mod hasher;

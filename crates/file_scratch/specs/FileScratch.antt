@@ -1,4 +1,4 @@
--- The scratch device over a file.
+-- The scratch device over a file: how much it keeps is known, but not which bytes.
 use Rattle.std.specs.Prelude.{◌≡◌, ℕ, ◌+◌, nat_le, None, Result, Ok, Err}
 use Rattle.scratch_model.specs.Scratch.{ScratchState, Serves}
 use Rattle.file_scratch.specs.declared.edge.FileScratch.{FileScratch}
@@ -7,11 +7,11 @@ use Rattle.file_scratch.specs.declared.edge.FileScratch.{FileScratch}
 abbrev pub unknown_up_to : ℕ → ScratchState
 unknown_up_to end = record { kept = λ place count. nat_le (place + count) end; held = None }
 
--- A put of so many bytes keeps them at the end, which is then past them. One that fails keeps none.
+-- A put of `count` bytes keeps them at the end, which moves past them. One that fails keeps none.
 abbrev pub PutsAtEnd : {E : Type 0} → ℕ → ℕ → ℕ → Result ℕ E → Type 0
 PutsAtEnd count old new (Ok place) = (place ≡ old) × (new ≡ old + count)
 PutsAtEnd count old new (Err e) = new ≡ old
 
--- What every call does for the one that makes it.
+-- What every call keeps to: what was kept stays, and faults are counted.
 abbrev pub ServesUnknown : FileScratch → FileScratch → Type 0 → Type 0
 ServesUnknown = Serves (λ s. unknown_up_to s.len) (λ s. s.faults)

@@ -1,4 +1,4 @@
-//! The edge over a real file. What the file holds no contract can name, so it is not known.
+//! The edge over a real file. No contract can name what the file holds, so it is not known.
 
 ghost use Rattle.std.specs.Prelude.{◌≡◌, true, false, None, length, IfOk, OnOk, IsErr, IsOk};
 ghost use Rattle.lc_io.specs.Streams.{CountsFaults};
@@ -14,19 +14,19 @@ use std::io::ErrorKind;
 use std::os::unix::fs::{FileExt, OpenOptionsExt};
 use std::{fs, io};
 
-/// The name at which the file is made, in its folder.
+/// The name under which the file is made in its folder.
 const NAME: &str = "chain.scratch";
 
-/// What is put after that name where a file of the name is there.
+/// What is appended to that name while a file of the name exists.
 const MARK: char = '_';
 
-/// How many names are tried, each with one mark more. A run has a name for an instant alone.
+/// How many names are tried, each with one mark more. A run holds a name only for an instant.
 const NAMES: usize = 32;
 
-/// The owner alone may open the file.
+/// Only the owner may open the file.
 const MODE: u32 = 0o600;
 
-/// The path of the name in a folder, with room for the marks: so no memory is taken later.
+/// The path of the name in a folder, with room for the marks, so that no memory is taken later.
 fn path_in(alloc: Global, folder: &str) -> Result<String, Memory> {
     let mut path = String::with_capacity(
         alloc,
@@ -38,15 +38,15 @@ fn path_in(alloc: Global, folder: &str) -> Result<String, Memory> {
     Ok(path)
 }
 
-/// Makes a file at a path, where nothing is there.
+/// Makes a file at a path at which nothing exists.
 fn create_file(rt: &HostRuntime, path: &str) -> io::Result<File> {
     let mut options = OpenOptions::new();
     options.read(true).write(true).create_new(true).mode(MODE);
     options.open(rt, path)
 }
 
-/// Makes a file at the path, or at the first one with marks after it where nothing is there; the
-/// path has them then.
+/// Makes a file at the path, or at the first path with marks appended at which nothing exists.
+/// `path` has these marks afterwards.
 fn create_named(rt: &HostRuntime, path: &mut String) -> Result<File, Failed> {
     for _ in 0..NAMES {
         match create_file(rt, path.as_str()) {
@@ -60,10 +60,10 @@ fn create_named(rt: &HostRuntime, path: &mut String) -> Result<File, Failed> {
     Err(Failed)
 }
 
-/// A scratch device over a file of its own, in which what is put stands one after the other. The
-/// first call makes the file, which no other run has, and removes its name, so that nothing is left
-/// of it when the program ends, however it ends. Where the system lets no open file lose its name,
-/// the name stays until the device is closed.
+/// A scratch device over a file of its own, to which every put appends. The first call makes the
+/// file, which no other run has, and removes its name, so that nothing is left of it when the
+/// program ends, however it ends. If the system does not let an open file lose its name, the name
+/// stays until the device is closed.
 #[derive(Drop)]
 pub struct FileScratch<'a> {
     rt: &'a HostRuntime,
@@ -76,7 +76,7 @@ pub struct FileScratch<'a> {
 
 impl<'a> FileScratch<'a> {
     /// A device that has touched no file, and of which no call has failed. Its file will be made in
-    /// the folder; one whose path is not absolute is looked for from the present folder.
+    /// `folder`; a relative path starts at the current folder.
     pub fn new(alloc: Global, rt: &'a HostRuntime, folder: &str) -> Result<FileScratch<'a>, Memory>
         ensures file { IfOk result (λ scratch. scratch.file ≡ None) }
         ensures named { IfOk result (λ scratch. scratch.is_named ≡ false) }
@@ -93,7 +93,7 @@ impl<'a> FileScratch<'a> {
         })
     }
 
-    /// A device over an empty file that is open, and that nobody else writes.
+    /// A device over an open, empty file that nobody else writes.
     pub fn over(alloc: Global, rt: &'a HostRuntime, file: File) -> FileScratch<'a>
         ensures named { result.is_named ≡ false }
         ensures len { result.len ≡ 0 }
@@ -109,7 +109,7 @@ impl<'a> FileScratch<'a> {
         }
     }
 
-    /// Removes the name of the file, where it has one still.
+    /// Removes the name of the file, if it still has one.
     pub fn close(self) -> Result<(), Failed>
         ensures untouched { self.entry.is_named ≡ false → IsOk result }
     {
@@ -119,8 +119,9 @@ impl<'a> FileScratch<'a> {
         Ok(())
     }
 
-    /// Makes the file, and removes its name. The descriptor is 3 or more, as a clone's is: a
-    /// standard stream that was closed when the program started leaves its descriptor free.
+    /// Makes the file, and removes its name. The descriptor is 3 or more because it is a clone's:
+    /// if a standard stream was closed when the program started, its descriptor is free and a new
+    /// file could get it.
     fn make(&mut self) -> Result<File, Failed>
         ensures len { self.new.len ≡ self.old.len }
         ensures faults { self.new.faults ≡ self.old.faults }
@@ -130,7 +131,7 @@ impl<'a> FileScratch<'a> {
         file.try_clone().map_err(|_| Failed)
     }
 
-    /// Makes the file, the first time.
+    /// Makes the file at the first call.
     fn open(&mut self) -> Result<(), Failed>
         ensures len { self.new.len ≡ self.old.len }
         ensures faults { self.new.faults ≡ self.old.faults }
@@ -141,7 +142,7 @@ impl<'a> FileScratch<'a> {
         Ok(())
     }
 
-    /// Writes bytes after the others, and answers where.
+    /// Appends bytes, and returns their place.
     fn write(&mut self, bytes: &[u8]) -> Result<u64, Failed>
         ensures len { PutsAtEnd (length bytes.now) self.old.len self.new.len result }
         ensures faults { self.new.faults ≡ self.old.faults }
@@ -157,7 +158,7 @@ impl<'a> FileScratch<'a> {
         Ok(place)
     }
 
-    /// Reads the bytes at a place. A file that ends before is a fault.
+    /// Reads the bytes at a place. A file that ends earlier is a fault.
     fn read(&mut self, place: u64, buffer: &mut [u8]) -> Result<(), Failed>
         ensures len { self.new.len ≡ self.old.len }
         ensures faults { self.new.faults ≡ self.old.faults }
@@ -175,8 +176,8 @@ impl<'a> Scratch for FileScratch<'a> {
 
     ghost scratch_faults = { λ s. s.faults };
 
-    /// Writes after all that was put before. A put that would end past the last value of a `u64`
-    /// is a fault.
+    /// Appends bytes to all that was put before. A put that would end past the last value of a
+    /// `u64` is a fault.
     fn put(&mut self, bytes: &[u8]) -> Result<u64, Failed>
         ensures serves { ServesUnknown self.old self.new (IsErr result) }
         ensures put { IfOk result (λ place. IsKeptAt (unknown_up_to self.new.len) place bytes.now) }

@@ -1,4 +1,4 @@
-//! The scratch device over a file.
+//! The scratch device over a file that no other run has and that loses its name at once.
 #![tactic(auto)]
 
 mod edge;

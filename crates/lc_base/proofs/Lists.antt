@@ -1,4 +1,4 @@
--- The first items of a list.
+-- An item of a prefix is the item of the list.
 use Rattle.std.proofs.Common.{◌≡◌, ℕ, zero, suc, ◌<◌, List, [], ◌∷◌, take, refl, arith}
 use Rattle.std.specs.Prelude.{slice_get}
 

@@ -1,4 +1,4 @@
--- Dependencies without repeats.
+-- Appending a dependency unless it is there keeps the list free of repeats.
 use Rattle.std.proofs.Common.{◌≡◌, ◌≢◌, ℕ, suc, ◌+◌, ◌<◌, ◌≤◌, Bool, true, false, cond, not, ◌||◌, List, [], ◌∷◌, ◌++◌, length, get_or, take, filter, refl, sym, ap, ◌∙◌, arith, inl, inr}
 use Rattle.std.specs.List.{AllPairs}
 use Rattle.std.specs.Cmp.Lexicographic.{bytes_decides}
@@ -9,7 +9,7 @@ use Rattle.std.proofs.lemmas.List.Kept.{AllPairs-cons, AllPairs-filter}
 use Rattle.lc_base.specs.declared.row.Dep.{Dep}
 use Rattle.lc_base.specs.Deps.{is_same_dep, without_repeats, is_among, with_once}
 
--- ---- the test tells dependencies apart
+-- ---- is_same_dep is equality
 
 pub same_is : (a b : Dep) → is_same_dep a b ≡ true → a ≡ b
 same_is a b same =
@@ -26,7 +26,7 @@ is_same a b e = and_from _ _ ((bytes_decides a.key b.key).1 (ap (λ (d : Dep). d
 abbrev others_than : Dep → List Dep → List Dep
 others_than dep deps = filter (λ other. not (is_same_dep dep other)) deps
 
--- what is taken out is not the one looked for, if the two differ
+-- what is removed is not what is looked for, if the two differ
 kept : (y x o : Dep) → is_same_dep y x ≡ false → is_same_dep o x ≡ true → not (is_same_dep y o) ≡ true
 kept y x o apart same =
     elim (cases_Bool (is_same_dep y o)) [
@@ -46,7 +46,7 @@ is_there-others y x (o ∷ deps) apart =
           ]
     ]
 
--- one more dependency after a list without repeats
+-- appending a dependency, then removing repeats
 pub without_repeats-push : (deps : List Dep) (x : Dep) → without_repeats (deps ++ x ∷ []) ≡ with_once (without_repeats deps) x
 without_repeats-push [] x = refl
 without_repeats-push (y ∷ deps) x =
@@ -75,13 +75,13 @@ without_repeats-push (y ∷ deps) x =
           ]
     ]
 
--- ---- one more of a list
+-- ---- one more item of a list
 
 pub one_more_dep : (deps : List Dep) (i : ℕ) (dep : Dep) → i < length deps → dep ≡ get_or deps i dep → without_repeats (take (i + 1) deps) ≡ with_once (without_repeats (take i deps)) dep
 one_more_dep deps i dep within is =
     ap without_repeats (take_more deps i dep within ∙ ap (λ (d : Dep). take i deps ++ d ∷ []) (sym is)) ∙ without_repeats-push (take i deps) dep
 
--- ---- how many, and none twice
+-- ---- the list gets no longer, and has no repeats
 
 length_filtered : (p : Dep → Bool) (deps : List Dep) → length (filter p deps) ≤ length deps
 length_filtered p [] = omega arith

@@ -1,4 +1,4 @@
--- Dependencies of a version, none twice.
+-- Dependencies of a version, without repeats.
 use Rattle.std.specs.Prelude.{Bool, ◌&&◌, not, ◌==◌, if◌then◌else◌, List, [], ◌∷◌, ◌++◌, filter}
 use Rattle.std.specs.List.{list_any}
 use Rattle.std.specs.Cmp.Lexicographic.{pointwise}
@@ -8,7 +8,7 @@ use Rattle.lc_base.specs.declared.row.Dep.{Dep}
 abbrev pub is_same_dep : Dep → Dep → Bool
 is_same_dep a b = pointwise ◌==◌ a.key b.key && a.block == b.block
 
--- Each dependency once, where it first stands.
+-- Each dependency once, at its first place.
 abbrev pub without_repeats : List Dep → List Dep
 without_repeats [] = []
 without_repeats (dep ∷ deps) =
@@ -18,6 +18,6 @@ without_repeats (dep ∷ deps) =
 abbrev pub is_among : List Dep → Dep → Bool
 is_among deps dep = list_any (λ other. is_same_dep other dep) deps
 
--- A dependency after the others, unless it is there already.
+-- The dependency after the others, unless it is among them.
 abbrev pub with_once : List Dep → Dep → List Dep
 with_once deps dep = if is_among deps dep then deps else deps ++ dep ∷ []

@@ -33,24 +33,24 @@ latest rows key at = find (is_version key at) (reverse rows)
 
 -- ---- lawful histories
 
--- A row stands before another: in an earlier block, or in the same block, of a transaction no
--- later, and of another key.
+-- One row is before another: its block is earlier; or both are of the same block, its transaction
+-- is no later, and its key is another.
 abbrev pub StandsBefore : Row → Row → Type 0
 StandsBefore a b = (a.block < b.block) ⊎ ((a.block ≡ b.block) × (a.tx ≤ b.tx) × (a.key ≢ b.key))
 
--- A dependency of a row: the newest version of its key before the row's block.
+-- A dependency of a row: it names the newest version of its key before the row's block.
 abbrev pub IsRecordedFrom : List Row → Row → Dep → Type 0
 IsRecordedFrom rows row dep = IsSomeAnd (newest (below rows row.block) dep.key) (λ version. version.block ≡ dep.block)
 
--- At most MAX_DEPS dependencies, none twice, each the newest version of its key before the row's
--- block.
+-- At most MAX_DEPS dependencies, without repeats, each the newest version of its key before the
+-- row's block.
 pub record HasLawfulDeps (rows : List Row) (row : Row) : Type 0 where
   pub few : length row.deps ≤ MAX_DEPS
   pub once : AllPairs ◌≢◌ row.deps
   pub newest : All (IsRecordedFrom rows row) row.deps
 
--- A lawful history: rows in order of block and transaction, no key twice in one block, each with
--- lawful dependencies.
+-- A lawful history: the rows are in order of block and transaction, no block writes a key twice,
+-- and each row has lawful dependencies.
 pub record IsLawful (rows : List Row) : Type 0 where
   pub few : length rows ≤ MAX_ROWS
   pub ordered : AllPairs StandsBefore rows
@@ -62,7 +62,7 @@ pub record IsLawful (rows : List Row) : Type 0 where
 abbrev pub depends_on : List ℕ → ℕ → Row → Bool
 depends_on key block row = list_any (λ dep. pointwise ◌==◌ dep.key key && dep.block == block) row.deps
 
--- A version, as others depend on it.
+-- A version as a dependency of others.
 abbrev pub version_of : Row → Dep
 version_of row = record { key = row.key; block = row.block }
 
@@ -71,17 +71,17 @@ version_of row = record { key = row.key; block = row.block }
 abbrev pub uses : List Row → List ℕ → ℕ → List Dep
 uses rows key block = map version_of (filter (depends_on key block) rows)
 
--- What is asked of a version.
+-- The answer of this kind about the version of a row.
 abbrev pub answer_about : List Row → Kind → List ℕ → Row → Answer
 answer_about rows kinds.Hist key row = answers.Hist row.block row.tx row.value
 answer_about rows kinds.Back key row = answers.Back row.block row.deps
 answer_about rows kinds.Fwd key row = answers.Fwd row.block (uses rows key row.block)
 
--- The answer about a version, where there is one.
+-- The answer about a version, or `Nothing` if there is no version.
 abbrev pub answer_of : List Row → Query → Option Row → Answer
 answer_of rows query None = answers.Nothing
 answer_of rows query (Some row) = answer_about rows query.kind query.key row
 
--- The answer to a question, by scanning the rows.
+-- The answer to a question, found by scanning all rows.
 abbrev pub scan : List Row → Query → Answer
 scan rows query = answer_of rows query (latest rows query.key query.at)

@@ -1,9 +1,9 @@
--- How transactions end.
+-- The numbers of the statuses, as they are printed.
 use Rattle.std.specs.Prelude.{ℕ}
 use Rattle.lc_base.specs.declared.tx_status.TxStatus.{TxStatus}
 use Rattle.lc_base.specs.declared.tx_status.TxStatus.TheVariants as statuses
 
--- The number by which a status of a transaction is told.
+-- The number that is printed for a transaction's status.
 abbrev pub tx_status_number : TxStatus → ℕ
 tx_status_number statuses.Ok = 0
 tx_status_number statuses.Conflict = 1

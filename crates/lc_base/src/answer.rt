@@ -1,10 +1,10 @@
-//! Questions about a key at a block, and their answers.
+//! Questions about the newest version of a key up to a block, and their answers.
 
 use crate::list::DepList;
 use crate::value::Value;
 use lc_names::Key;
 
-/// What is asked of the version of a key.
+/// What is asked about the version of a key.
 #[derive(Clone, Copy, Debug, PartialEq, Eq)]
 pub enum Kind {
     /// Its value.
@@ -20,14 +20,14 @@ pub enum Kind {
 pub struct Query {
     pub kind: Kind,
     pub key: Key,
-    /// A block number.
+    /// The number of the last block that counts.
     pub at: u32,
 }
 
 /// The answer to a question.
 #[derive(Debug, Drop)]
 pub enum Answer {
-    /// There is no such version.
+    /// The key has no version in these blocks.
     Nothing,
     /// The version's block, the index of its transaction there, and its value.
     Hist { block: u32, tx: u16, value: Value },

@@ -1,4 +1,4 @@
-//! Dependencies of a version, none twice.
+//! Dependencies of a version, without repeats.
 
 ghost use Rattle.std.specs.{Prelude.{◌≡◌, ◌≢◌, ◌≤◌, length, IfOk, OnOk}, List.{All, AllPairs}};
 ghost use Rattle.lc_base.specs.Deps.{is_same_dep, without_repeats, is_among, with_once};
@@ -20,7 +20,7 @@ fn is_among(deps: &[Dep], dep: &Dep) -> bool
     deps.iter().any(|other| is_same_dep(other, dep))
 }
 
-/// Appends the dependency, unless it is there already.
+/// Appends the dependency, unless it is in the list.
 fn push_once(deps: &mut DepList, dep: &Dep) -> Result<(), Memory>
     ensures { OnOk result (deps.new ≡ with_once deps.old dep.now) }
 {
@@ -31,7 +31,7 @@ fn push_once(deps: &mut DepList, dep: &Dep) -> Result<(), Memory>
 }
 
 impl DepList {
-    /// These dependencies, each once, where it first stands.
+    /// These dependencies, each once, at its first place.
     pub fn without_repeats(alloc: Global, deps: &[Dep]) -> Result<DepList, Memory>
         ensures list { IfOk result (λ list. list ≡ without_repeats deps.now) }
         ensures once { IfOk result (λ list. AllPairs ◌≢◌ list) }

@@ -1,4 +1,4 @@
-//! What answers questions about the history while a contract runs.
+//! The host of a running contract: it answers questions about the history.
 
 ghost use Rattle.std.specs.Prelude.{◌≡◌, ℕ, ◌^◌, ◌<◌, List, Option, IfSome, IfOk, IsErrOf};
 ghost use Rattle.lc_base.specs.{
@@ -15,18 +15,19 @@ use lc_names::Key;
 use std::alloc::Global;
 
 /// A history that answers questions one part at a time. "The version" is the newest version of the
-/// key in the blocks up to `at`. A question leaves the host the same, also where it has no answer.
+/// key in the blocks up to `at`. A question leaves the history as it was, also if the host failed
+/// to answer it.
 pub trait Host {
-    /// The rows of the history, in order (optional).
+    /// The rows of the history, in order, or `None` if they are not known.
     ghost rows: { Self → Option (List Row) };
     /// How many calls failed, up to the last value of a `u64`.
     ghost host_faults: { Self → ℕ };
-    /// What each call needs.
+    /// What must hold before each call.
     ghost ready: { Self → Type 0 };
-    /// Two states of a host of one history.
+    /// Two states of a host that have the same history.
     ghost same: { Self → Self → Type 0 };
 
-    /// The version; `None` exactly where there is none.
+    /// The version, or `None` if there is none.
     fn hist(&mut self, alloc: Global, key: &Key, at: u32) -> Result<Option<Version>, HostError>
         requires { ready self.old }
         ensures same { same self.old self.new }
@@ -35,7 +36,7 @@ pub trait Host {
         ensures cause { HasCause (host_faults self.old) (host_faults self.new)
             (IsErrOf result HostError.Fault) };
 
-    /// How many dependencies the version has; `None` exactly where there is no version.
+    /// How many dependencies the version has, or `None` if there is no version.
     fn back_count(&mut self, key: &Key, at: u32) -> Result<Option<u32>, HostError>
         requires { ready self.old }
         ensures same { same self.old self.new }
@@ -44,8 +45,8 @@ pub trait Host {
         ensures cause { HasCause (host_faults self.old) (host_faults self.new)
             (IsErrOf result HostError.Fault) };
 
-    /// The dependency of the version at an index, from 0; `None` exactly where there is no version,
-    /// or none at that index.
+    /// The dependency of the version at an index, from 0, or `None` if there is no version or the
+    /// index is past the end.
     fn back_at(&mut self, key: &Key, at: u32, index: u32) -> Result<Option<Dep>, HostError>
         requires { ready self.old }
         ensures same { same self.old self.new }
@@ -54,8 +55,8 @@ pub trait Host {
         ensures cause { HasCause (host_faults self.old) (host_faults self.new)
             (IsErrOf result HostError.Fault) };
 
-    /// How many versions were derived from the version, fewer than 2^63; `None` exactly where there
-    /// is no version.
+    /// How many versions were derived from the version, fewer than 2^63, or `None` if there is no
+    /// version.
     fn fwd_count(&mut self, key: &Key, at: u32) -> Result<Option<u64>, HostError>
         requires { ready self.old }
         ensures same { same self.old self.new }
@@ -65,8 +66,8 @@ pub trait Host {
         ensures cause { HasCause (host_faults self.old) (host_faults self.new)
             (IsErrOf result HostError.Fault) };
 
-    /// The version derived from the version at an index, from 0, in the order of their rows; `None`
-    /// exactly where there is no version, or none at that index.
+    /// The version at an index, from 0, among those derived from the version, in the order of their
+    /// rows; `None` if there is no version or the index is past the end.
     fn fwd_at(&mut self, key: &Key, at: u32, index: u64) -> Result<Option<Dep>, HostError>
         requires { ready self.old }
         ensures same { same self.old self.new }

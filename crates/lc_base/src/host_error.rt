@@ -1,4 +1,4 @@
-//! Why a call that needs its host gave no answer.
+//! The errors of calls that need something from outside: the host failed, or memory ran out.
 
 ghost use Rattle.std.specs.Prelude.{◌≡◌};
 ghost use Rattle.lc_base.specs.declared.host_error.HostError.TheVariants as errors;
@@ -6,8 +6,8 @@ ghost use Rattle.lc_base.specs.declared.host_error.HostError.TheVariants as erro
 use crate::memory::Memory;
 use std::alloc::{AllocError, AllocFailed};
 
-/// Why a call that needs its host gave no answer: what answers the questions of a contract, or a
-/// source or a device that the call was lent.
+/// Why a call that needs its host returned no answer. The host is what answers the questions of a
+/// contract, or a source or a device that was lent to the call.
 #[derive(Clone, Copy, Debug, PartialEq, Eq)]
 pub enum HostError {
     /// The host failed.

@@ -1,4 +1,4 @@
-//! The types of the ledger, and what a contract that runs may ask of a history.
+//! The types of the ledger, and what a running contract may ask about the history.
 #![tactic(auto)]
 
 mod answer;

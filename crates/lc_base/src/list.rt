@@ -1,4 +1,4 @@
-//! Lists, as every crate of the ledger keeps them.
+//! Lists that grow at their end. Each keeps the allocator that it was made with.
 
 ghost use Rattle.std.specs.{
   Prelude.{◌≡◌, ◌==◌, [], ◌∷◌, ◌++◌, length, slice_get, Ok, OnOk, OnErr, IfOk},
@@ -13,9 +13,9 @@ use lc_names::Key;
 use std::alloc::Global;
 use std::marker::Model;
 
-/// A value of which a second one can be made, where there is memory.
+/// A value that can be copied, if there is memory.
 pub trait Duplicate: Drop {
-    /// The same value again.
+    /// An equal value.
     fn copy(&self, alloc: Global) -> Result<Self, Memory>
         ensures { IfOk result (λ copy. copy ≡ self.now) };
 }
@@ -59,47 +59,47 @@ impl<T> Seq<T> {
         }
     }
 
-    /// The list of these items. It takes no memory.
+    /// The list of these items, which takes no further memory.
     pub fn from_vec(items: Vec<T>) -> Self
         ensures { result ≡ items.items }
     {
         Seq { items }
     }
 
-    /// Its items as a vector, which keeps the allocator. It takes no memory.
+    /// The items as a vector, which keeps the allocator. It takes no memory.
     pub fn into_vec(self) -> Vec<T>
         ensures { result.items ≡ self }
     {
         self.items
     }
 
-    /// The number of its items.
+    /// The number of items.
     pub fn len(&self) -> usize
         ensures { result ≡ length self.now }
     {
         self.items.len()
     }
 
-    /// Whether it has no item.
+    /// Whether the list is empty.
     pub fn is_empty(&self) -> bool
         ensures { result ≡ (length self.now == 0) }
     {
         self.items.is_empty()
     }
 
-    /// The item at an index, from 0; `None` exactly past the end.
+    /// The item at an index, from 0, or `None` if the index is past the end.
     pub fn get(&self, i: usize) -> Option<&T>
         ensures { option_copied result ≡ slice_get self.now i }
     {
         self.items.get(i)
     }
 
-    /// The allocator that it keeps.
+    /// The allocator of the list.
     pub fn allocator(&self) -> Global {
         *self.items.allocator()
     }
 
-    /// All its items, in order.
+    /// All items, in order.
     pub fn as_slice(&self) -> &[T]
         ensures { result.now ≡ self.now }
     {
@@ -108,7 +108,7 @@ impl<T> Seq<T> {
 }
 
 impl<T: Drop> Seq<T> {
-    /// Appends an item. Out of memory, the list stays as it was.
+    /// Appends an item. If memory runs out, the list stays as it was.
     pub fn push(&mut self, item: T) -> Result<(), Memory>
         ensures ok { OnOk result (self.new ≡ self.old ++ item ∷ []) }
         ensures err { OnErr result (self.new ≡ self.old) }
@@ -117,7 +117,7 @@ impl<T: Drop> Seq<T> {
         Ok(())
     }
 
-    /// Appends all items of another list, in order. Out of memory, the list stays as it was.
+    /// Appends all items of another list, in order. If memory runs out, the list stays as it was.
     pub fn append(&mut self, other: Seq<T>) -> Result<(), Memory>
         ensures ok { OnOk result (self.new ≡ self.old ++ other) }
         ensures err { OnErr result (self.new ≡ self.old) }
@@ -137,7 +137,7 @@ impl<T: Copy> Duplicate for T {
 }
 
 impl<T: Duplicate> Seq<T> {
-    /// The same list again, on the allocator that this one keeps.
+    /// An equal list, with the same allocator.
     pub fn copy(&self) -> Result<Self, Memory>
         ensures { IfOk result (λ copy. copy ≡ self.now) }
     {
@@ -156,7 +156,7 @@ impl<T: Duplicate> Duplicate for Seq<T> {
 }
 
 impl Bytes {
-    /// The bytes.
+    /// All bytes, in order.
     pub fn as_bytes(&self) -> &[u8]
         ensures { result.now ≡ self.now }
     {

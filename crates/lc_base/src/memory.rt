@@ -1,4 +1,4 @@
-//! Running out of memory.
+//! The error of every call that may run out of memory, and buffers that report it.
 
 ghost use Rattle.std.specs.Prelude.{◌≡◌, replicate, length, IfOk};
 
@@ -20,7 +20,7 @@ impl<T: Drop> From<AllocFailed<T>> for Memory {
     }
 }
 
-/// So many zero bytes.
+/// `count` zero bytes.
 pub fn zeros(alloc: Global, count: usize) -> Result<Vec<u8>, Memory>
     ensures items { IfOk result (λ bytes. bytes.items ≡ replicate count 0) }
     ensures len { IfOk result (λ bytes. length bytes.items ≡ count) }

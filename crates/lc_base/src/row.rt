@@ -23,7 +23,7 @@ pub struct Row {
     /// The index of its transaction in the block, from 0.
     pub tx: u16,
     pub value: Value,
-    /// In a lawful history at most `MAX_DEPS`, none twice, each of an earlier block.
+    /// In a lawful history at most `MAX_DEPS`, without repeats, each of an earlier block.
     pub deps: DepList,
 }
 

@@ -1,4 +1,4 @@
-//! Texts, one of the two kinds of value.
+//! Texts, one of the two kinds of value: a value of type `Text` holds valid bytes only.
 
 ghost use Rattle.std.specs.{Prelude.{◌≡◌, ◌++◌, IfOk}, Fmt.{signed_decimal}};
 ghost use Rattle.lc_base.specs.{
@@ -31,7 +31,7 @@ impl Model for Text {
     ghost invariant = { λ text. IsText text.bytes.items };
 }
 
-/// Why bytes are no text, or were not kept.
+/// Why bytes are not a text, or were not kept.
 #[derive(Clone, Copy, Debug, PartialEq, Eq, Error)]
 pub enum TextError {
     /// There are more than `MAX_TEXT_BYTES`.
@@ -67,7 +67,8 @@ fn bad_text_byte(bytes: &[u8]) -> Option<usize>
 }
 
 impl Text {
-    /// The text that the bytes are. The number of bytes is tested before the bytes.
+    /// The text that these bytes are, or why they are none. The number of bytes is tested before
+    /// the bytes.
     pub fn new(alloc: Global, bytes: &[u8]) -> Result<Text, TextError>
         ensures { IsTextOf bytes.now result }
     {
@@ -81,7 +82,7 @@ impl Text {
         Ok(Text { bytes })
     }
 
-    /// Its bytes, at most 1,024 of them.
+    /// The bytes of the text, at most 1,024.
     pub fn as_bytes(&self) -> &[u8]
         ensures bytes { result.now ≡ self.now }
         ensures is_text { IsText self.now }
@@ -89,7 +90,7 @@ impl Text {
         &self.bytes
     }
 
-    /// The bytes of a key, which are a text.
+    /// The bytes of a key, which are always a text.
     pub fn from_key(alloc: Global, key: &Key) -> Result<Text, crate::Memory>
         ensures { IfOk result (λ text. text ≡ key.now) }
     {
@@ -97,7 +98,7 @@ impl Text {
         Ok(Text { bytes })
     }
 
-    /// A number in decimal digits, with `-` before them where it is negative.
+    /// A number in decimal digits, with `-` before them if it is negative.
     pub fn from_number(alloc: Global, number: i64) -> Result<Text, crate::Memory>
         ensures { IfOk result (λ text. text ≡ signed_decimal number) }
     {
@@ -105,7 +106,7 @@ impl Text {
         Ok(Text { bytes })
     }
 
-    /// This text and another after it; `None` exactly where they are too long for one text.
+    /// This text followed by another, or `None` if that is too long for one text.
     pub fn join(&self, alloc: Global, other: &Text) -> Result<Option<Text>, crate::Memory>
         ensures { IfOk result (λ text. text ≡ joined_text self.now other.now) }
     {

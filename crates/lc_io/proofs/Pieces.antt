@@ -1,4 +1,4 @@
--- One more piece in a record.
+-- Recording a piece adds it after the others and changes none of them.
 use Rattle.std.proofs.Common.{◌≡◌, ℕ, ◌+◌, ◌-◌, ◌≤◌, List, [], ◌∷◌, ◌++◌, length, take, drop, refl, ap, ◌∙◌, arith}
 use Rattle.std.specs.List.{AllByRecursion}
 use Rattle.std.proofs.lemmas.List.{take-append-le, drop-append-le, drop_at, take_all, length-drop, length-append, map_push}
@@ -30,7 +30,7 @@ last_piece bytes piece at =
     let whole : take (length piece) piece ≡ piece = take_all (length piece) piece (omega arith) in
     ap (λ (read : List ℕ). record { at = at; bytes = read }) (ap (λ (n : ℕ). take n (drop (length bytes) (bytes ++ piece))) len ∙ ap (take (length piece)) after ∙ whole)
 
--- what is recorded after the others is one more piece
+-- recording a piece adds it after the others
 pub more_pieces : (bytes piece : List ℕ) (marks : List Mark) (at : ℕ) → AllByRecursion (IsWithin (length bytes)) marks → pieces (bytes ++ piece) (marks ++ record { at = at; start = length bytes; end = length bytes + length piece } ∷ []) ≡ pieces bytes marks ++ record { at = at; bytes = piece } ∷ []
 more_pieces bytes piece marks at within =
     let new : Mark = record { at = at; start = length bytes; end = length bytes + length piece } in
@@ -38,7 +38,7 @@ more_pieces bytes piece marks at within =
     ∙ ap (λ (told : List Tell). told ++ piece_at (bytes ++ piece) new ∷ []) (pieces_stay bytes piece marks within)
     ∙ ap (λ (tell : Tell). pieces bytes marks ++ tell ∷ []) (last_piece bytes piece at)
 
--- and it names bytes that are there, as the others do
+-- the marks name bytes of the record, also the new one
 pub more_within : (bytes piece : List ℕ) (marks : List Mark) (at : ℕ) → AllByRecursion (IsWithin (length bytes)) marks → AllByRecursion (IsWithin (length (bytes ++ piece))) (marks ++ record { at = at; start = length bytes; end = length bytes + length piece } ∷ [])
 more_within bytes piece [] at within = ((omega arith, omega (arith, length-append bytes piece)), tt)
 more_within bytes piece (m ∷ marks) at within =

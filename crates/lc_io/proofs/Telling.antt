@@ -1,4 +1,4 @@
--- What was told over several calls, one call on.
+-- What was printed over several calls, after one call more.
 use Rattle.std.proofs.Common.{◌≡◌, ℕ, ◌+◌, ◌<◌, List, [], ◌∷◌, ◌++◌, length, get_or, take, drop, Option, Some, None, Err, refl, sym, ap, ◌∙◌, inl, inr}
 use Rattle.std.specs.List.{concat}
 use Rattle.std.proofs.lemmas.List.{append_assoc, append-nil, take-append-drop, drop_more, map_push}
@@ -14,7 +14,7 @@ pub with_none : (old : Option (List Tell)) → old ≡ with_tells old []
 with_none None = refl
 with_none (Some told) = ap Some (sym (append-nil told))
 
--- nothing was told yet
+-- nothing has been printed
 pub told_nothing : (old : Option (List Tell)) → Told old old []
 told_nothing old = record { tells = []; added = with_none old; whole = refl }
 
@@ -29,11 +29,11 @@ told_more first before now at pieces piece so_far tells =
       whole = map_push (λ (t : Tell). t.bytes) so_far.tells tell ∙ ap (λ (bytes : List (List ℕ)). bytes ++ piece ∷ []) so_far.whole;
     }
 
--- the bytes of the first pieces stand at the start of those of all
+-- the bytes of the first pieces are at the start of the bytes of all pieces
 concat_split : (pieces : List (List ℕ)) (i : ℕ) → concat pieces ≡ concat (take i pieces) ++ concat (drop i pieces)
 concat_split pieces i = ap concat (sym (take-append-drop i pieces)) ∙ concat-append (take i pieces) (drop i pieces)
 
--- what was told of some first pieces is a prefix of all of them
+-- if some first pieces were printed, a prefix of all was printed
 pub told_prefix : (first now : Option (List Tell)) (pieces : List (List ℕ)) (i : ℕ) → Told first now (take i pieces) → ToldPrefix first now pieces
 told_prefix first now pieces i so_far = record {
   tells = so_far.tells;
@@ -41,7 +41,7 @@ told_prefix first now pieces i so_far = record {
   prefix = (concat (drop i pieces), concat_split pieces i ∙ ap (λ (bytes : List (List ℕ)). concat bytes ++ concat (drop i pieces)) (sym so_far.whole));
 }
 
--- a tell that failed leaves a prefix of all pieces told
+-- after a call that failed, a prefix of all pieces was printed
 pub told_less : (T : Type 0) {E : Type 0} (first before now : Option (List Tell)) (at : ℕ) (pieces : List (List ℕ)) (i : ℕ) (e : E)
     → i < length pieces → Told first before (take i pieces) → Tells {T = T} at (get_or pieces i []) before now (Err e) → ToldPrefix first now pieces
 told_less T first before now at pieces i e within so_far (inl same) = told_prefix first now pieces i (record { tells = so_far.tells; added = same ∙ so_far.added; whole = so_far.whole })

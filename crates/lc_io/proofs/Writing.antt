@@ -1,4 +1,4 @@
--- What a writer holds after several writes.
+-- What a writer holds after several writes is a prefix of what is to be written.
 use Rattle.std.proofs.Common.{◌≡◌, ℕ, ◌+◌, ◌-◌, List, length, take, drop, Option, arith}
 use Rattle.std.proofs.Math.Seq.{take-add}
 use Rattle.std.proofs.lemmas.List.{take_all, length-drop}
@@ -6,7 +6,7 @@ use Rattle.std.specs.List.{slice_range}
 use Rattle.std.specs.Io.KnownBytes.{Appends}
 use Rattle.std.proofs.KnownBytes.{Appends-trans}
 
--- the next bytes of what is still to be written after the first ones
+-- writing some of the remaining bytes extends the written prefix
 pub written_more : (first before now : Option (List ℕ)) (bytes : List ℕ) (told count : ℕ)
     → Appends first before (take told bytes) → Appends before now (take count (slice_range bytes told (length bytes))) → Appends first now (take (told + count) bytes)
 written_more first before now bytes told count so_far next =

@@ -9,8 +9,9 @@ pub record DiskState : Type 0 where
   pub most : ℕ
   pub pending : List (ℕ × ℕ)
 
--- At each moment after the entry of a call, up to its exit, the disk is so. The moments up to the
--- entry keep what they had: so a call that leaves the disk otherwise raises the moment.
+-- The disk has this state at each moment after a call's entry, up to its exit, and the moments up
+-- to the entry keep the state that they had. So a call that changes the disk also raises the
+-- moment.
 pub record Turns {D : Type 0} (now : D → ℕ) (disk : D → ℕ → Option DiskState) (old new : D) (state : Option DiskState) : Type 0 where
   pub later : now old ≤ now new
   pub past : (t : ℕ) → t ≤ now old → disk new t ≡ disk old t

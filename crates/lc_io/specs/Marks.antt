@@ -1,4 +1,4 @@
--- The pieces that a record of bytes holds.
+-- The pieces that marks name in a record of bytes.
 use Rattle.std.specs.Prelude.{ℕ, ◌≤◌, List, length, map}
 use Rattle.std.specs.List.{slice_range, AllByRecursion}
 use Rattle.std.specs.Global.{Vec}
@@ -14,12 +14,12 @@ piece_at bytes mark = record { at = mark.at; bytes = slice_range bytes mark.star
 abbrev pub pieces : List ℕ → List Mark → List Tell
 pieces bytes marks = map (piece_at bytes) marks
 
--- A mark names bytes that are there.
+-- A mark names bytes of the record.
 abbrev pub IsWithin : ℕ → Mark → Type 0
 IsWithin len mark = (mark.start ≤ mark.end) × (mark.end ≤ len)
 
--- A record that has room for so many marks and bytes, of which each mark names bytes that are
--- there.
+-- A record with at least this room for marks and bytes, in which each mark names bytes of the
+-- record.
 pub record IsRecord (room_calls room_bytes calls : ℕ) (marks : Vec Mark) (bytes : Vec ℕ) : Type 0 where
   pub few : vec_len marks ≤ calls
   pub mark_room : room_calls ≤ vec_capacity marks

@@ -1,7 +1,6 @@
-//! The edges over real streams, whose bytes no contract can name: what they are told and what is
-//! left is not known.
-//! Of a stream whose bytes std knows, such as a slice or a vector in memory, the clauses `reader`
-//! and `writer` say what becomes of them.
+//! The edges over real streams. No contract can name the bytes of a real stream, so `left` and
+//! `told` are not known here. If std knows the bytes of a stream, as it does of a slice or a vector
+//! in memory, the clauses `reader` and `writer` say what becomes of them.
 
 ghost use Rattle.std.specs.{
   Prelude.{◌≡◌, ℕ, ◌<◌, ◌≤◌, length, take, None, IfOk, IsErr},
@@ -13,8 +12,8 @@ ghost use Rattle.lc_base.specs.Faults.{HasCause};
 use crate::outside::{Clock, Failed, Source, Wire};
 use std::io::{Read, Write};
 
-/// A stream of the host, such as standard input or output: a source over a reader, and a wire over a
-/// writer.
+/// A stream of the host, such as standard input or output: a source if it is a reader, a wire if it
+/// is a writer.
 #[derive(Drop)]
 pub struct HostStream<S> {
     stream: S,
@@ -28,7 +27,7 @@ pub type HostSource<R> = HostStream<R>;
 pub type HostWire<W> = HostStream<W>;
 
 impl<S> HostStream<S> {
-    /// The stream, of which no call has failed.
+    /// The stream; none of its calls has failed yet.
     pub fn new(stream: S) -> HostStream<S>
         ensures stream { result.stream ≡ stream }
         ensures faults { result.faults ≡ 0 }
@@ -42,7 +41,7 @@ impl<R: Read> Source for HostStream<R> {
 
     ghost source_faults = { λ s. s.faults };
 
-    /// Reads once.
+    /// Reads once. A read that fails is a fault.
     fn pull(&mut self, buffer: &mut [u8]) -> Result<usize, Failed>
         requires { 0 < length buffer.old }
         ensures bound { IfOk result (λ n. n ≤ length buffer.new) }
@@ -73,7 +72,7 @@ impl<W> Clock for HostStream<W> {
     ghost disk_faults = { λ _. 0 };
 }
 
-/// Writes once, and answers how many bytes were taken; none where the write failed.
+/// Writes once, and returns how many bytes were taken, or 0 if the write failed.
 fn write_once<W: Write>(writer: &mut W, bytes: &[u8]) -> usize
     ensures bound { result ≤ length bytes.now }
     ensures writer { Appends (W.contents writer.old) (W.contents writer.new) (take result bytes.now) }
@@ -84,8 +83,8 @@ fn write_once<W: Write>(writer: &mut W, bytes: &[u8]) -> usize
     }
 }
 
-/// Writes until all bytes are taken. A write that fails, or that takes nothing, is a fault, and
-/// then some first bytes may have been taken.
+/// Writes until all bytes are taken. A write that fails or takes nothing is a fault; some first
+/// bytes may have been taken then.
 pub fn write_whole<W: Write>(writer: &mut W, bytes: &[u8]) -> Result<(), Failed>
     ensures { Writes (W.contents writer.old) (W.contents writer.new) bytes.now result }
 {
@@ -101,7 +100,7 @@ pub fn write_whole<W: Write>(writer: &mut W, bytes: &[u8]) -> Result<(), Failed>
 }
 
 impl<W: Write> Wire for HostStream<W> {
-    /// Writes until all bytes are taken. A write that takes nothing is a fault.
+    /// Writes until all bytes are taken. A write that fails or takes nothing is a fault.
     fn tell(&mut self, bytes: &[u8]) -> Result<(), Failed>
         ensures disk { Stays (λ _. 0) (λ _ _. None) self.old self.new }
         ensures disk_faults { ◌≡◌ {A = ℕ} 0 0 }

@@ -1,4 +1,5 @@
-//! What all fakes of the outside do: they fail at calls of given numbers, and count that.
+//! What all fakes of the outside have in common: calls with given numbers fail, and the failures
+//! are counted.
 
 ghost use Rattle.std.specs.Prelude.{◌≡◌, ◌+◌, ◌<◌, ◌≤◌, ◌^◌, IfOk, IsErr};
 ghost use Rattle.lc_base.specs.Faults.{HasCause};
@@ -10,21 +11,21 @@ use lc_base::Memory;
 use std::alloc::Global;
 use std::marker::Model;
 
-/// Whether a call of this number, from 0, is to fail.
+/// Whether the call of this number, from 0, is to fail.
 pub fn is_failing(failing: &[u64], number: u64) -> bool
     ensures { result ≡ is_failing failing.now number }
 {
     failing.iter().any(|n| *n == number)
 }
 
-/// One more, up to the last value.
+/// One more, up to the last value of a `u64`.
 pub fn one_more(count: u64) -> u64
     ensures { result ≡ one_more count }
 {
     count.saturating_add(1)
 }
 
-/// The calls of a fake that has room for so many. Each takes the next number, from 0, unless it does
+/// The calls of a fake with limited room. Each call takes the next number, from 0, unless it does
 /// not fit the room.
 #[derive(Debug, Drop)]
 pub struct Calls {
@@ -48,7 +49,7 @@ impl Model for Calls {
 }
 
 impl Calls {
-    /// No call yet. Those whose numbers are in `failing` fail.
+    /// No call has been made. Calls whose numbers are in `failing` fail.
     pub fn new(alloc: Global, room: Room, failing: &[u64]) -> Result<Calls, Memory>
         ensures { IfOk result (λ calls. calls ≡ no_calls room failing.now) }
     {
@@ -61,8 +62,8 @@ impl Calls {
         })
     }
 
-    /// Takes the number of a call that keeps `count` bytes beside those `kept`. A call that does not
-    /// fit the room fails.
+    /// Takes the number of a call that keeps `count` bytes in addition to the `kept` ones. A call
+    /// that does not fit the room fails.
     pub fn number(&mut self, kept: usize, count: usize) -> Result<u64, Failed>
         requires { kept + count < 2 ^ 64 }
         ensures exact { Numbers (kept + count) self.old self.new result }
@@ -81,7 +82,7 @@ impl Calls {
         }
     }
 
-    /// Fails where the call of this number is to fail.
+    /// Fails if the call of this number is to fail.
     pub fn pass(&mut self, number: u64) -> Result<(), Failed>
         ensures exact { Passes number self.old self.new result }
         ensures cause { HasCause self.old.faults self.new.faults (IsErr result) }

@@ -1,5 +1,5 @@
-//! The traits by which a program meets the outside, what they are over real streams, and their
-//! fakes in memory.
+//! The traits through which a program meets the outside, their implementations over real streams,
+//! and their fakes in memory.
 #![tactic(auto)]
 
 mod edge;

@@ -1,4 +1,4 @@
-//! A source in memory.
+//! A source in memory, whose pulls fail at given numbers.
 
 ghost use Rattle.std.specs.Prelude.{◌≡◌, ◌++◌, ◌<◌, ◌≤◌, Some, length, take, drop, IfOk, IsErr};
 ghost use Rattle.lc_base.specs.Faults.{HasCause};
@@ -10,8 +10,7 @@ use lc_base::Memory;
 use std::alloc::Global;
 use std::marker::Model;
 
-/// A source over bytes in memory, which gives them in pieces and fails at the calls that it is told
-/// to fail at.
+/// A source over bytes in memory. It returns them in pieces, and fails at given calls.
 #[derive(Debug, Drop)]
 pub struct MemSource {
     bytes: Vec<u8>,
@@ -34,8 +33,8 @@ impl Model for MemSource {
 }
 
 impl MemSource {
-    /// A source of these bytes: at most `piece` of them per pull. The pulls whose numbers, from 0,
-    /// are in `failing` fail.
+    /// A source of these bytes, at most `piece` per pull. The pulls whose numbers, from 0, are in
+    /// `failing` fail.
     pub fn new(
         alloc: Global,
         bytes: &[u8],
@@ -64,7 +63,7 @@ impl MemSource {
         &self.bytes[self.start..]
     }
 
-    /// How many bytes a pull into so long a buffer gives.
+    /// How many bytes a pull into a buffer of this length returns.
     fn pulled_count(&self, room: usize) -> usize
         ensures { result ≡ pulled_count self.now room }
     {
@@ -72,7 +71,7 @@ impl MemSource {
     }
 }
 
-/// Copies the first `count` bytes into the prefix of the buffer.
+/// Copies the first `count` bytes to the start of the buffer.
 fn put_prefix(buffer: &mut [u8], bytes: &[u8], count: usize)
     requires room { count ≤ length buffer.old }
     requires there { count ≤ length bytes.now }
@@ -86,7 +85,7 @@ impl Source for MemSource {
 
     ghost source_faults = { λ s. s.faults };
 
-    /// Fails exactly at the calls whose numbers are among the failing ones.
+    /// Fails exactly if the number of the call is among the failing ones.
     fn pull(&mut self, buffer: &mut [u8]) -> Result<usize, Failed>
         requires { 0 < length buffer.old }
         ensures bound { IfOk result (λ n. n ≤ length buffer.new) }

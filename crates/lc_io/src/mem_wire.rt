@@ -1,4 +1,4 @@
-//! A wire in memory.
+//! A wire in memory, which records what is printed and when.
 
 ghost use Rattle.std.specs.{
   Prelude.{◌≡◌, ℕ, ◌+◌, ◌^◌, ◌<◌, ◌≤◌, Some, None, [], ◌∷◌, ◌++◌, length, IfOk, IsErr, MatchOption},
@@ -23,11 +23,11 @@ use std::marker::Model;
 pub struct Room {
     /// The number of calls.
     pub calls: u32,
-    /// The number of bytes told or written.
+    /// The number of bytes printed or written.
     pub bytes: u32,
 }
 
-/// Where a told piece stands among the bytes told, and the moment at which telling it began.
+/// Where a printed piece lies among all printed bytes, and the moment at which its printing began.
 #[derive(Clone, Copy, Debug)]
 struct Mark {
     at: u64,
@@ -35,8 +35,8 @@ struct Mark {
     end: usize,
 }
 
-/// A wire that records what it is told, in memory that it takes when it is made, and fails at the
-/// calls that it is told to fail at.
+/// A wire that records what is printed. It takes its memory when it is made, and fails at given
+/// calls.
 #[derive(Debug, Drop)]
 pub struct MemWire {
     marks: Vec<Mark>,
@@ -65,8 +65,8 @@ impl Model for MemWire {
 }
 
 impl MemWire {
-    /// A wire that was told nothing. The tells whose numbers, from 0, are in `failing` fail, and so
-    /// do those that do not fit the room.
+    /// A wire on which nothing has been printed. The calls whose numbers, from 0, are in `failing`
+    /// fail, and so do those that do not fit the room.
     pub fn new(alloc: Global, room: Room, failing: &[u64]) -> Result<MemWire, Memory>
         ensures { IfOk result (λ wire. wire ≡ record { told = []; calls = 0; bytes = 0; room_calls = room.calls; room_bytes = room.bytes; failing = failing.now; faults = 0 }) }
     {
@@ -80,15 +80,15 @@ impl MemWire {
         })
     }
 
-    /// How many pieces were told.
+    /// How many pieces were printed.
     pub fn told_count(&self) -> usize
         ensures { result ≡ length self.now.told }
     {
         self.marks.len()
     }
 
-    /// The piece at an index, from 0, and the moment at which telling it began; `None` exactly past
-    /// the end.
+    /// The piece at an index, from 0, and the moment at which its printing began; `None` if the
+    /// index is past the end.
     pub fn told_at(&self, index: usize) -> Option<(u64, &[u8])>
         ensures { MatchOption result (length self.now.told ≤ index) (λ tell. slice_get self.now.told index ≡ Some (record { at = tell.0; bytes = tell.1.now })) }
     {
@@ -97,7 +97,7 @@ impl MemWire {
     }
 }
 
-/// Records a piece, for which there is room.
+/// Records a piece. There is room for it.
 fn record(marks: &mut Vec<Mark>, bytes: &mut Vec<u8>, at: u64, piece: &[u8])
     requires mark_room { vec_len marks.old < vec_capacity marks.old }
     requires byte_room { vec_len bytes.old + length piece.now ≤ vec_capacity bytes.old }
@@ -131,8 +131,8 @@ impl Clock for MemWire {
 }
 
 impl Wire for MemWire {
-    /// Fails exactly at the calls whose numbers are among the failing ones, and at those that do
-    /// not fit the room.
+    /// Fails exactly if the number of the call is among the failing ones, or the call does not fit
+    /// the room.
     fn tell(&mut self, bytes: &[u8]) -> Result<(), Failed>
         ensures disk { Stays (λ w. w.calls) (λ _ _. None) self.old self.new }
         ensures disk_faults { ◌≡◌ {A = ℕ} 0 0 }

@@ -1,7 +1,6 @@
-//! The traits of the outside. A meaning of an object is named by contracts alone; the program knows
-//! of it what calls answer.
-//! An optional meaning is `None` where it is not known of the object, and a clause on it then says
-//! only that it stays unknown.
+//! The traits of the outside. Contracts alone name the meaning of an object; the program sees only
+//! what calls return. An optional meaning is `None` if it is not known, and a clause about it then
+//! says only that it stays unknown.
 
 ghost use Rattle.std.specs.Prelude.{◌≡◌, ℕ, ◌<◌, ◌≤◌, List, length, Option, IfOk, IsErr};
 ghost use Rattle.lc_io.specs.{Disk.{DiskState, Stays}, Outside.{Pulls, Tell, Tells}};
@@ -23,15 +22,15 @@ impl From<Failed> for HostError {
     }
 }
 
-/// The one clock of a machine, what the machine was told, and what its disk holds.
+/// The clock of a machine, what was printed so far, and what its disk holds.
 pub trait Clock {
     /// The present moment. No call lowers it.
     ghost now: { Self → ℕ };
-    /// The pieces told so far (optional).
+    /// The pieces printed so far, or `None` if they are not known.
     ghost told: { Self → Option (List Tell) };
-    /// How many tells failed, up to the last value of a `u64`.
+    /// How many calls of the wire failed, up to the last value of a `u64`.
     ghost wire_faults: { Self → ℕ };
-    /// The disk at a moment (optional).
+    /// The disk at a moment, or `None` if it is not known.
     ghost disk: { Self → ℕ → Option DiskState };
     /// How many calls of the disk failed, up to the last value of a `u64`.
     ghost disk_faults: { Self → ℕ };
@@ -39,14 +38,13 @@ pub trait Clock {
 
 /// Bytes that come in.
 pub trait Source {
-    /// The bytes that are still to come (optional).
+    /// The bytes that are still to come, or `None` if they are not known.
     ghost left: { Self → Option (List ℕ) };
     /// How many pulls failed, up to the last value of a `u64`.
     ghost source_faults: { Self → ℕ };
 
-    /// Takes the next bytes into the prefix of the buffer and answers how many; 0 only where
-    /// nothing is left.
-    /// After `Failed` nothing was taken.
+    /// Takes the next bytes into the prefix of the buffer and returns how many, which is 0 only if
+    /// nothing is left. After `Failed` nothing was taken.
     fn pull(&mut self, buffer: &mut [u8]) -> Result<usize, Failed>
         requires { 0 < length buffer.old }
         ensures bound { IfOk result (λ n. n ≤ length buffer.new) }
@@ -56,8 +54,8 @@ pub trait Source {
 
 /// Bytes that go out.
 pub trait Wire: Clock {
-    /// Tells one piece. After `Failed` some first bytes of it may have been told. The disk stays as
-    /// it was.
+    /// Prints one piece. After `Failed` some first bytes of it may have been printed. The disk
+    /// stays as it was.
     fn tell(&mut self, bytes: &[u8]) -> Result<(), Failed>
         ensures disk { Stays Self.now Self.disk self.old self.new }
         ensures disk_faults { Self.disk_faults self.new ≡ Self.disk_faults self.old }

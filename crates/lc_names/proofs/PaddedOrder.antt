@@ -1,4 +1,4 @@
--- Arrays are ordered as the bytes that zeros follow in them.
+-- Zero-padded arrays are ordered as the bytes that they hold, if none of these is zero.
 use Rattle.std.proofs.Common.{◌≡◌, ◌+◌, ◌-◌, ◌<◌, ◌≤◌, ℕ, zero, suc, Bool, true, false, cond, not, nat_lt, List, [], ◌∷◌, ◌++◌, length, get_or, replicate, Some, None, inl, inr, true≢false, refl, sym, ap, ◌∙◌, arith}
 use Rattle.std.specs.Prelude.{position}
 use Rattle.std.specs.List.{position_or_len}
@@ -27,7 +27,7 @@ none_found is_bad bytes good =
       | inr none ↦ ltb-false first (length bytes) none
     ]
 
--- Bytes of which none is bad have no zero, if zero is bad.
+-- If zero is a bad byte and no byte is bad, then no byte is zero.
 no_zero : (is_bad : ℕ → Bool) (bytes : List ℕ) → is_bad 0 ≡ true → position is_bad bytes ≡ None → HasNoZero bytes
 no_zero is_bad bytes zero_bad good i inside =
     let all : length bytes ≤ position_or_len is_bad bytes = none_found is_bad bytes good in
@@ -37,7 +37,7 @@ no_zero is_bad bytes zero_bad good i inside =
       | inr other ↦ omega arith
     ]
 
--- Lists without zeros keep their order where zeros follow them up to one length.
+-- Lists without zeros keep their order when zeros fill them up to the same length.
 zeros_order : (xs ys : List ℕ) (m n : ℕ) → length xs + m ≡ length ys + n → HasNoZero xs → HasNoZero ys → slice_cmp nat_cmp (xs ++ replicate m 0) (ys ++ replicate n 0) ≡ slice_cmp nat_cmp xs ys
 zeros_order [] [] m n same left right =
     let as_many : m ≡ n = omega arith in
@@ -55,7 +55,7 @@ padded_order width xs ys short shorter left right = zeros_order xs ys (width - l
 key_has_no_zero : (key : List ℕ) → IsKey key → HasNoZero key
 key_has_no_zero key is = no_zero (λ byte. not (is_key_byte byte)) key refl is.good
 
--- The arrays of keys are ordered as the keys.
+-- The arrays of keys are ordered as the keys are.
 pub key_order : (xs ys : List ℕ) → IsKey xs → IsKey ys → slice_cmp nat_cmp (zero_padded MAX_KEY_BYTES xs) (zero_padded MAX_KEY_BYTES ys) ≡ slice_cmp nat_cmp xs ys
 key_order xs ys left right = padded_order MAX_KEY_BYTES xs ys left.short right.short (key_has_no_zero xs left) (key_has_no_zero ys right)
 
@@ -65,6 +65,6 @@ name_has_no_zero name is = elim (cases_Bool (starts_with_letter name)) [
   | inr digit ↦ absurd (none-some 0 (sym is.good ∙ ap (λ (b : Bool). cond b (foreign_byte name) (Some 0)) digit))
 ]
 
--- The arrays of names are ordered as the names.
+-- The arrays of names are ordered as the names are.
 pub name_order : (xs ys : List ℕ) → IsName xs → IsName ys → slice_cmp nat_cmp (zero_padded MAX_NAME_BYTES xs) (zero_padded MAX_NAME_BYTES ys) ≡ slice_cmp nat_cmp xs ys
 name_order xs ys left right = padded_order MAX_NAME_BYTES xs ys left.short right.short (name_has_no_zero xs left) (name_has_no_zero ys right)

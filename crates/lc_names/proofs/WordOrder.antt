@@ -1,4 +1,4 @@
--- The lexicographic order of bytes is that of the numbers that eight of them make.
+-- The lexicographic order of bytes is that of the big-endian numbers that eight of them make.
 use Rattle.std.proofs.Common.{◌≡◌, ◌+◌, ◌*◌, ◌^◌, ◌<◌, ◌≤◌, ℕ, suc, List, [], ◌∷◌, ◌++◌, length, get_or, take, drop, Fits, w8, Ordering, Less, Equal, Greater, inl, inr, refl, sym, ap, subst, ◌∙◌, arith}
 use Rattle.std.specs.Int.{w64, from_be_bytes}
 use Rattle.std.specs.Ordering.{nat_cmp, ordering_then}
@@ -9,7 +9,7 @@ use Rattle.std.proofs.lemmas.Nat.{mul-add-lt}
 use Rattle.std.proofs.lemmas.Bool.{cases_order, cases_lt}
 use Rattle.std.proofs.lemmas.List.{length-take, length-take-le, length-drop, get_or-take, get_or-drop, get_or_past, take-append-drop, drop-drop}
 
--- Each of these is a byte.
+-- Each item is a byte.
 abbrev pub AreBytes : List ℕ → Type 0
 AreBytes bytes = (i : ℕ) → Fits w8 (get_or bytes i 0)
 
@@ -18,7 +18,7 @@ then_assoc Less p q = refl
 then_assoc Equal p q = refl
 then_assoc Greater p q = refl
 
--- Of lists with fronts of one length, first the fronts decide, then the rests.
+-- If the prefixes have the same length, the prefixes decide first, then the rests.
 fronts_first : (fs gs xs ys : List ℕ) → length fs ≡ length gs → slice_cmp nat_cmp (fs ++ xs) (gs ++ ys) ≡ ordering_then (slice_cmp nat_cmp fs gs) (slice_cmp nat_cmp xs ys)
 fronts_first [] [] xs ys same = refl
 fronts_first [] (g ∷ gs) xs ys same = absurd (omega arith)
@@ -27,7 +27,7 @@ fronts_first (f ∷ fs) (g ∷ gs) xs ys same =
     ap (ordering_then (nat_cmp f g)) (fronts_first fs gs xs ys (omega arith))
     ∙ then_assoc (nat_cmp f g) (slice_cmp nat_cmp fs gs) (slice_cmp nat_cmp xs ys)
 
--- The number with these digits to the base 256, the most significant first.
+-- The number with these digits in base 256, the most significant first.
 abbrev number : List ℕ → ℕ
 number [] = 0
 number (x ∷ xs) = x * 256 ^ length xs + number xs
@@ -58,7 +58,8 @@ same_digit d m n = elim (cases_order m n) [
   | inr (inr above) ↦ greater (d + m) (d + n) (omega arith) ∙ sym (greater m n above)
 ]
 
--- Of two numbers of a digit and a rest, first the digits decide, then the rests.
+-- Of two numbers, each a digit and a rest below the digit's weight, the digits decide first, then
+-- the rests.
 digits_first : (w x y m n : ℕ) → m < w → n < w → nat_cmp (x * w + m) (y * w + n) ≡ ordering_then (nat_cmp x y) (nat_cmp m n)
 digits_first w x y m n low lower = elim (cases_order x y) [
   | inl same ↦ rw (same, equal y) (same_digit (y * w) m n)
@@ -66,7 +67,7 @@ digits_first w x y m n low lower = elim (cases_order x y) [
   | inr (inr above) ↦ rw (greater x y above) (greater (x * w + m) (y * w + n) (greater_digit w y x n m lower above))
 ]
 
--- The numbers of lists of one length are ordered as the lists.
+-- The numbers of lists of the same length are ordered as the lists are.
 number_order : (xs ys : List ℕ) → length xs ≡ length ys → AreBytes xs → AreBytes ys → nat_cmp (number xs) (number ys) ≡ slice_cmp nat_cmp xs ys
 number_order [] [] same left right = refl
 number_order [] (y ∷ ys) same left right = absurd (omega arith)
@@ -95,7 +96,7 @@ bytes_of_front n xs bytes i = elim (cases_lt i n) [
   | inr past ↦ rw (get_or_past (take n xs) i 0 (omega (arith, length-take n xs))) (omega arith)
 ]
 
--- First the numbers of the first eight bytes decide, then the rests.
+-- The numbers of the first eight bytes decide first, then the rests.
 words_first : (xs ys : List ℕ) → length xs ≡ length ys → 8 ≤ length xs → AreBytes xs → AreBytes ys
     → slice_cmp nat_cmp xs ys ≡ ordering_then (nat_cmp (from_be_bytes w64 (take 8 xs)) (from_be_bytes w64 (take 8 ys))) (slice_cmp nat_cmp (drop 8 xs) (drop 8 ys))
 words_first xs ys same long left right =
@@ -118,7 +119,8 @@ words_differ m n rest other = elim (cases_order m n) [
 words_agree : (m n : ℕ) (rest : Ordering) → m ≡ n → rest ≡ ordering_then (nat_cmp m n) rest
 words_agree m n rest same = rw (same, equal n) refl
 
--- The numbers that are compared: of the eight bytes of each list from one offset up to the next.
+-- The two numbers that are compared: each is made of the eight bytes from `at` to `next` of its
+-- list.
 pub record AreWords (at next : ℕ) (xs ys : List ℕ) (m n : ℕ) : Type 0 where
   pub eight : next ≡ at + 8
   pub same_length : length xs ≡ length ys
@@ -135,12 +137,12 @@ order_from at next xs ys m n words =
     ∙ (λ i. ordering_then (nat_cmp (sym words.left i) (sym words.right i)) (slice_cmp nat_cmp (drop-drop 8 at xs i) (drop-drop 8 at ys i)))
     ∙ ap (λ k. ordering_then (nat_cmp m n) (slice_cmp nat_cmp (drop k xs) (drop k ys))) (sym words.eight)
 
--- Words that differ decide.
+-- Words that differ decide the order.
 pub decided : (at next : ℕ) (xs ys : List ℕ) (m n : ℕ) → AreWords at next xs ys m n → (m ≡ n → ⊥) → nat_cmp m n ≡ slice_cmp nat_cmp (drop at xs) (drop at ys)
 decided at next xs ys m n words other =
     words_differ m n (slice_cmp nat_cmp (drop next xs) (drop next ys)) other ∙ sym (order_from at next xs ys m n words)
 
--- Words that don't differ leave it to the bytes that follow.
+-- Words that are equal leave the order to the bytes that follow.
 pub left_to_rest : (at next : ℕ) (xs ys : List ℕ) (m n : ℕ) → AreWords at next xs ys m n → m ≡ n
     → slice_cmp nat_cmp (drop next xs) (drop next ys) ≡ slice_cmp nat_cmp (drop at xs) (drop at ys)
 left_to_rest at next xs ys m n words same =

@@ -1,4 +1,4 @@
--- What `Name::new` answers.
+-- What `Name::new` returns.
 use Rattle.std.specs.Prelude.{ℕ, ◌==◌, nat_lt, if◌then◌else◌, List, length, Result, Err}
 use Rattle.lc_names.specs.NameBytes.{bad_name_byte}
 use Rattle.lc_names.specs.Key.{all_good}
@@ -6,7 +6,7 @@ use Rattle.lc_names.specs.declared.key.KeyError.{KeyError}
 use Rattle.lc_names.specs.declared.key.KeyError.TheVariants.{Empty, Long, Byte}
 use Rattle.lc_names.specs.declared.limits.TheConstants.{MAX_NAME_BYTES}
 
--- The name that the bytes are, or why they are none: the length is tested first.
+-- The name that the bytes are, or why they are none. The length is tested first.
 abbrev pub name_of : List ℕ → Result (List ℕ) KeyError
 name_of bytes =
     if length bytes == 0 then Err Empty

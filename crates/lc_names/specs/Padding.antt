@@ -1,13 +1,14 @@
--- Bytes in an array that is longer than they are.
+-- Bytes at the start of a wider array, which zeros fill up.
 use Rattle.std.specs.Prelude.{◌≡◌, ℕ, ◌-◌, ◌≤◌, List, ◌++◌, length, take, replicate}
 use Rattle.std.proofs.Common.{ap, arith}
 use Rattle.std.proofs.lemmas.List.{length-take, length-append, length-replicate}
 
--- The bytes in an array of this width: zeros follow them.
+-- The bytes, filled up with zeros to this width.
 abbrev pub zero_padded : ℕ → List ℕ → List ℕ
 zero_padded width bytes = bytes ++ replicate (width - length bytes) 0
 
--- The first bytes of an array, which is these with zeros after them, are as many as were taken.
+-- If an array is its own first `len` bytes with zeros after them, then taking them takes `len`
+-- bytes.
 pub length_of_prefix : (width len : ℕ) (bytes : List ℕ) → len ≤ width → bytes ≡ zero_padded width (take len bytes) →
     length (take len bytes) ≡ len
 length_of_prefix width len bytes short is_padded =

@@ -1,4 +1,4 @@
-//! Keys, which name what the ledger keeps.
+//! Keys: a value of type `Key` holds valid bytes only, since `Key::new` checks them.
 
 ghost use Rattle.std.{
   specs.Prelude.{◌≡◌, ◌==◌, ◌≤◌, length},
@@ -48,16 +48,16 @@ impl Model for Key {
     ghost inverse_ok = { λ a h. let e = length_of_prefix MAX_KEY_BYTES a.len a.bytes h.0 h.2 in Prim.rw (← h.2, e) refl };
 }
 
-/// Why bytes are no key.
+/// Why bytes are not a key or a name.
 #[derive(Clone, Copy, Debug, PartialEq, Eq, Error)]
 pub enum KeyError {
-    /// There are none.
+    /// There are no bytes.
     #[error("empty")]
     Empty,
-    /// There are more than `MAX_KEY_BYTES`; of a name, `MAX_NAME_BYTES`.
+    /// There are more than `MAX_KEY_BYTES`, or, for a name, more than `MAX_NAME_BYTES`.
     #[error("too long")]
     Long,
-    /// The offset of the first byte that a key may not have.
+    /// The offset of the first byte that isn't allowed there.
     #[error("bad byte at {0}")]
     Byte(usize),
 }
@@ -74,7 +74,7 @@ fn bad_key_byte(bytes: &[u8]) -> Option<usize>
     bytes.iter().position(|byte| !is_key_byte(*byte))
 }
 
-/// The array of a key: zeros follow its bytes.
+/// The array of a key: its bytes, filled up with zeros.
 fn zero_padded(key: &[u8]) -> [u8; MAX_KEY_BYTES]
     requires { length key.now ≤ MAX_KEY_BYTES }
     ensures { result ≡ zero_padded MAX_KEY_BYTES key.now }
@@ -85,7 +85,8 @@ fn zero_padded(key: &[u8]) -> [u8; MAX_KEY_BYTES]
 }
 
 impl Key {
-    /// The key that the bytes are. The number of bytes is tested before the bytes.
+    /// The key that these bytes are, or why they are none. The number of bytes is tested before the
+    /// bytes.
     pub fn new(bytes: &[u8]) -> Result<Key, KeyError>
         ensures { result ≡ key_of bytes.now }
     {
@@ -112,7 +113,7 @@ impl Key {
         }
     }
 
-    /// Its bytes, 1 to 64 of them.
+    /// The bytes of the key, 1 to 64.
     pub fn as_bytes(&self) -> &[u8]
         ensures bytes { result.now ≡ self.now }
         ensures is_key { IsKey self.now }

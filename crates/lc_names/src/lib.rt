@@ -1,4 +1,4 @@
-//! Keys, and the names of contracts and of what stands in them.
+//! Keys, and the names of contracts and of the parts of contracts.
 #![tactic(auto)]
 
 mod key;

@@ -1,4 +1,4 @@
-//! The limits of keys and names.
+//! The greatest lengths of keys and names, in bytes.
 
 /// The greatest number of bytes of a key.
 pub const MAX_KEY_BYTES: usize = 64;

@@ -1,4 +1,5 @@
-//! Names, of contracts and of what stands in them.
+//! Names of contracts and of their parts: a value of type `Name` holds valid bytes only, since
+//! `Name::new` checks them.
 
 ghost use Rattle.std.{
   specs.Prelude.{◌≡◌, ◌==◌, ◌≤◌, length},
@@ -80,7 +81,7 @@ fn bad_name_byte(bytes: &[u8]) -> Option<usize>
     }
 }
 
-/// The array of a name: zeros follow its bytes.
+/// The array of a name: its bytes, filled up with zeros.
 fn zero_padded(name: &[u8]) -> [u8; MAX_NAME_BYTES]
     requires { length name.now ≤ MAX_NAME_BYTES }
     ensures { result ≡ zero_padded MAX_NAME_BYTES name.now }
@@ -91,7 +92,8 @@ fn zero_padded(name: &[u8]) -> [u8; MAX_NAME_BYTES]
 }
 
 impl Name {
-    /// The name that the bytes are. The number of bytes is tested before the bytes.
+    /// The name that these bytes are, or why they are none. The number of bytes is tested before
+    /// the bytes.
     pub fn new(bytes: &[u8]) -> Result<Name, KeyError>
         ensures { result ≡ name_of bytes.now }
     {
@@ -118,7 +120,7 @@ impl Name {
         }
     }
 
-    /// Its bytes, 1 to 16 of them.
+    /// The bytes of the name, 1 to 16.
     pub fn as_bytes(&self) -> &[u8]
         ensures bytes { result.now ≡ self.now }
         ensures is_name { IsName self.now }

@@ -1,4 +1,4 @@
-//! Comparing bytes eight at a time.
+//! Compares byte strings eight bytes at a time: big-endian words are ordered as their bytes are.
 
 ghost use Rattle.std.specs.{
   Prelude.{◌≡◌, ◌+◌, ◌*◌, ◌%◌, ◌≤◌, length, take, drop},
@@ -9,8 +9,8 @@ ghost use Rattle.std.specs.{
 
 use std::cmp::Ordering;
 
-/// The eight bytes from the offset on, as a number. The first is the most significant, so numbers
-/// are ordered as their bytes are.
+/// The eight bytes from the offset on, as a number. The first byte is the most significant, so the
+/// numbers are ordered as the bytes are.
 fn word_at(bytes: &[u8], offset: usize) -> u64
     requires { offset + 8 ≤ length bytes.now }
     ensures { result ≡ from_be_bytes w64 (take 8 (drop offset bytes.now)) }
@@ -27,7 +27,7 @@ fn word_at(bytes: &[u8], offset: usize) -> u64
     ])
 }
 
-/// The lexicographic order of two slices of one length, a multiple of eight.
+/// The lexicographic order of two slices of the same length, which is a multiple of eight.
 pub(crate) fn cmp_words(left: &[u8], right: &[u8]) -> Ordering
     requires same_length { length left.now ≡ length right.now }
     requires whole_words { length left.now % 8 ≡ 0 }

@@ -1,4 +1,4 @@
--- Bytes after those that are kept.
+-- Appending bytes keeps those that were there.
 use Rattle.std.proofs.Common.{◌≡◌, ℕ, ◌+◌, ◌≤◌, List, ◌++◌, length, take, drop, refl, ap, ◌∙◌}
 use Rattle.std.proofs.Common.{arith, length-append, length-drop}
 use Rattle.std.proofs.lemmas.Bool.{leb-true, le-leb}
@@ -15,7 +15,7 @@ module _ (bytes more : List ℕ) where
       let long : count ≤ length rest = omega (arith, within, length-drop place bytes) in
       ap (take count) (drop-append-le place bytes more start) ∙ take-append-le count rest more long
 
-  -- what was kept before stays
+  -- what was kept stays
   pub more_retains : Retains (state_over bytes) (state_over (bytes ++ more))
   unfolding bytes_at
   more_retains = record {

@@ -3,8 +3,7 @@ use Rattle.std.specs.Prelude.{◌≡◌, ℕ, Bool, true, List, [], length, Opti
 use Rattle.std.specs.Option.{is_some}
 use Rattle.lc_base.specs.Faults.{HasCause}
 
--- Whether so many bytes are kept at a place, and the bytes that are held there, so many, where
--- they are known.
+-- Whether `count` bytes are kept at a place, and which bytes these are, if that is known.
 pub record ScratchState : Type 0 where
   pub kept : ℕ → ℕ → Bool
   pub held : Option (ℕ → ℕ → List ℕ)
@@ -13,16 +12,16 @@ pub record ScratchState : Type 0 where
 abbrev pub is_known : ScratchState → Bool
 is_known state = is_some state.held
 
--- The bytes that are held at a place, so many; none where it is not known which are held.
+-- The `count` bytes at a place; empty if it is not known which bytes are kept.
 abbrev pub held_bytes : Option (ℕ → ℕ → List ℕ) → ℕ → ℕ → List ℕ
 held_bytes None place count = []
 held_bytes (Some held) place count = held place count
 
--- The same, of what a device keeps.
+-- The same for the state of a device.
 unfoldable pub bytes_at : ScratchState → ℕ → ℕ → List ℕ
 bytes_at state place count = held_bytes state.held place count
 
--- Where it is known which bytes are held, these are held at the place.
+-- If it is known which bytes are kept, these are at the place.
 abbrev pub HoldsAt : ScratchState → ℕ → List ℕ → Type 0
 HoldsAt state place bytes = is_known state ≡ true → bytes_at state place (length bytes) ≡ bytes
 
@@ -31,16 +30,15 @@ pub record IsKeptAt (state : ScratchState) (place : ℕ) (bytes : List ℕ) : Ty
   pub kept : state.kept place (length bytes) ≡ true
   pub held : HoldsAt state place bytes
 
--- Whatever was kept is kept, with the bytes that were held there, and these are known where they
--- were.
+-- All that was kept is kept, with the same bytes, and these are known exactly if they were.
 pub record Retains (old new : ScratchState) : Type 0 where
   pub kept : (place count : ℕ) → old.kept place count ≡ true → new.kept place count ≡ true
   pub known : is_known new ≡ is_known old
   pub held : (place count : ℕ) → is_known old ≡ true → old.kept place count ≡ true
       → bytes_at new place count ≡ bytes_at old place count
 
--- A device that a call was lent: whatever it kept is kept, with the bytes that were held there, and
--- it is blamed exactly where its count of faults rose.
+-- A device that was lent to a call: all that it kept is kept, with the same bytes, and it is blamed
+-- exactly if its count of faults rose.
 pub record Serves {S : Type 0} (state : S → ScratchState) (faults : S → ℕ) (old new : S)
     (Blames : Type 0) : Type 0 where
   pub retains : Retains (state old) (state new)

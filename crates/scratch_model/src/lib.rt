@@ -1,4 +1,4 @@
-//! A device that keeps bytes while a program runs: its trait, and a fake in memory.
+//! A device that keeps bytes while the program runs: its trait, and a fake in memory.
 #![tactic(auto)]
 
 mod mem_scratch;

@@ -1,4 +1,4 @@
-//! A scratch device in memory.
+//! A scratch device in memory, whose calls fail at given numbers.
 
 ghost use Rattle.std.specs.{
   Prelude.{◌≡◌, ◌+◌, ◌^◌, ◌<◌, ◌≤◌, true, [], ◌++◌, length, take, drop, IfOk, OnOk, IsErr},
@@ -15,8 +15,8 @@ use lc_io::{Calls, Failed, Room};
 use std::alloc::Global;
 use std::marker::Model;
 
-/// A scratch device that keeps bytes in memory, which it takes when it is made. It fails at the
-/// calls that it is told to fail at, and at those that do not fit its room; these take no number.
+/// A scratch device that keeps bytes in memory, which it takes when it is made. It fails at given
+/// calls, and at those that do not fit its room; the latter take no number.
 #[derive(Debug, Drop)]
 pub struct MemScratch {
     bytes: Vec<u8>,
@@ -44,7 +44,7 @@ impl Model for MemScratch {
     ghost invariant = { λ s. (s.calls.room.bytes ≤ vec_capacity s.bytes) × (s.gets ≤ s.calls.made) };
 }
 
-/// Appends bytes, for which there is room, and answers where they begin.
+/// Appends bytes, for which there is room, and returns where they begin.
 fn append(all: &mut Vec<u8>, bytes: &[u8]) -> u64
     requires { vec_len all.old + length bytes.now ≤ vec_capacity all.old }
     ensures place { result ≡ length all.old.items }
@@ -59,7 +59,7 @@ fn append(all: &mut Vec<u8>, bytes: &[u8]) -> u64
     place
 }
 
-/// Fills the buffer with the bytes from a place on.
+/// Fills the buffer with the bytes at a place.
 fn fill(all: &[u8], place: usize, buffer: &mut [u8])
     requires { place + length buffer.old ≤ length all.now }
     ensures { buffer.new ≡ take (length buffer.old) (drop place all.now) }
@@ -69,8 +69,8 @@ fn fill(all: &[u8], place: usize, buffer: &mut [u8])
 }
 
 impl MemScratch {
-    /// A device that keeps nothing yet. The calls whose numbers, from 0, are in `failing` fail,
-    /// and so do those that do not fit the room.
+    /// A device that keeps nothing yet. The calls whose numbers, from 0, are in `failing` fail, and
+    /// so do those that do not fit the room.
     pub fn new(alloc: Global, room: Room, failing: &[u64]) -> Result<MemScratch, Memory>
         ensures { IfOk result (λ scratch. scratch ≡ record {
           bytes = [];
@@ -91,7 +91,7 @@ impl MemScratch {
         })
     }
 
-    /// How many calls of `get` took a number, also those that failed.
+    /// How many calls of `get` took a number, including those that failed.
     pub fn gets(&self) -> u64
         ensures { result ≡ self.now.gets }
     {
@@ -104,8 +104,8 @@ impl Scratch for MemScratch {
 
     ghost scratch_faults = { λ s. s.faults };
 
-    /// Fails exactly at the calls whose numbers are among the failing ones, and at those that do
-    /// not fit the room.
+    /// Fails exactly if the number of the call is among the failing ones, or the call does not fit
+    /// the room.
     fn put(&mut self, bytes: &[u8]) -> Result<u64, Failed>
         ensures serves { ServesOver self.old self.new (IsErr result) }
         ensures put { IfOk result (λ place. IsKeptAt (state_over self.new.bytes) place bytes.now) }
@@ -116,8 +116,8 @@ impl Scratch for MemScratch {
         Ok(append(&mut self.bytes, bytes))
     }
 
-    /// Fails exactly at the calls whose numbers are among the failing ones, and at those that do
-    /// not fit the room.
+    /// Fails exactly if the number of the call is among the failing ones, or the call does not fit
+    /// the room.
     fn get(&mut self, place: u64, buffer: &mut [u8]) -> Result<(), Failed>
         requires kept { (state_over self.old.bytes).kept place (length buffer.old) ≡ true }
         ensures serves { ServesOver self.old self.new (IsErr result) }

@@ -1,5 +1,5 @@
-//! The trait of a scratch device. As in `lc_io`, a meaning is named by contracts alone, and
-//! where it is not known of an object, a clause on it says only that it stays unknown.
+//! The trait of a scratch device. As in `lc_io`, contracts alone name the meaning of a device; if
+//! it is not known, a clause about it says only that it stays unknown.
 
 ghost use Rattle.std.specs.Prelude.{◌≡◌, ℕ, true, length, IfOk, OnOk, IsErr};
 ghost use Rattle.lc_base.specs.Faults.{HasCause};
@@ -7,22 +7,22 @@ ghost use Rattle.scratch_model.specs.Scratch.{ScratchState, HoldsAt, IsKeptAt, R
 
 use lc_io::Failed;
 
-/// A device that keeps bytes for as long as the program runs.
+/// A device that keeps bytes as long as the program runs.
 pub trait Scratch {
-    /// Whether so many bytes are kept at a place, which is always known, and which bytes are held
-    /// there (optional).
+    /// Whether a number of bytes is kept at a place, which is always known, and which bytes these
+    /// are, which may be unknown.
     ghost state: { Self → ScratchState };
     /// How many calls failed, up to the last value of a `u64`.
     ghost scratch_faults: { Self → ℕ };
 
-    /// Keeps the bytes, and answers their place. Whatever was kept stays, also after `Failed`.
+    /// Keeps the bytes and returns their place. All that was kept stays, also after `Failed`.
     fn put(&mut self, bytes: &[u8]) -> Result<u64, Failed>
         ensures retains { Retains (state self.old) (state self.new) }
         ensures put { IfOk result (λ place. IsKeptAt (state self.new) place bytes.now) }
         ensures cause { HasCause (scratch_faults self.old) (scratch_faults self.new)
             (IsErr result) };
 
-    /// Fills the buffer with the bytes that are kept at a place. Whatever was kept stays, also
+    /// Fills the buffer with the bytes that are kept at a place. All that was kept stays, also
     /// after `Failed`; the buffer may then hold any bytes.
     fn get(&mut self, place: u64, buffer: &mut [u8]) -> Result<(), Failed>
         requires kept { (state self.old).kept place (length buffer.old) ≡ true }

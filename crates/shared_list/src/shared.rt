@@ -1,4 +1,4 @@
-//! Lists whose items are shared.
+//! Lists whose items are reference-counted, so that a prefix copies no item.
 
 ghost use Rattle.std.specs.{
   Prelude.{◌≡◌, ◌<◌, ◌≤◌, [], ◌∷◌, ◌++◌, length, map, take, get_or, IfOk, OnOk, OnErr},
@@ -10,7 +10,7 @@ use std::alloc::{AllocError, Global};
 use std::marker::Model;
 use std::rc::Rc;
 
-/// A list that grows at its end and whose items never change: a prefix of it shares them.
+/// A list that grows at its end and whose items never change; its prefixes share them.
 #[derive(Drop)]
 pub struct Shared<T> {
     items: Vec<Rc<T>>,
@@ -25,7 +25,7 @@ impl<T> Model for Shared<T> {
     ghost view = { λ list. map rc_value list.items.items };
 }
 
-/// The first items, so many, shared with the list that they are of.
+/// A list that shares all these items.
 fn shared_prefix<T: Drop>(alloc: Global, items: &[Rc<T>]) -> Result<Vec<Rc<T>>, AllocError>
     ensures { IfOk result (λ all. map rc_value all.items ≡ map rc_value items.now) }
 {
@@ -46,19 +46,19 @@ impl<T: Drop> Shared<T> {
         }
     }
 
-    /// The allocator that it keeps.
+    /// The allocator of the list.
     pub fn allocator(&self) -> Global {
         *self.items.allocator()
     }
 
-    /// The number of its items.
+    /// The number of items.
     pub fn len(&self) -> usize
         ensures { result ≡ length self.now }
     {
         self.items.len()
     }
 
-    /// Appends an item. Out of memory, the list stays as it was.
+    /// Appends an item. If memory runs out, the list stays as it was.
     pub fn push(&mut self, item: T) -> Result<(), Memory>
         ensures ok { OnOk result (self.new ≡ self.old ++ item ∷ []) }
         ensures err { OnErr result (self.new ≡ self.old) }
@@ -76,7 +76,7 @@ impl<T: Drop> Shared<T> {
         &self.items[index]
     }
 
-    /// The first items, so many, which it shares with this list.
+    /// The first `count` items, which are shared with this list.
     pub fn prefix(&self, count: usize) -> Result<Self, Memory>
         requires { count ≤ length self.now }
         ensures { IfOk result (λ prefix. prefix ≡ take count self.now) }
