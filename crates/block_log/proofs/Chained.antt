@@ -1,4 +1,4 @@
--- Blocks that are stored one after another are a chain.
+-- Blocks that are read one after another are a chain.
 use Rattle.std.proofs.Common.{◌≡◌, ◌≢◌, inl, inr, ℕ, zero, suc, ◌+◌, ◌-◌, ◌≤◌, ◌<◌, List, [], ◌∷◌, ◌++◌, length, length-append, take, drop, map, refl, sym, ◌∙◌, ap, subst, arith}
 use Rattle.std.specs.Prelude.{Option, Some, None, Result, Ok, Err, slice_get}
 use Rattle.std.specs.Option.{option_map}
@@ -21,7 +21,7 @@ use Rattle.block_log.specs.Reading.{record_of}
 use Rattle.block_log.proofs.NextRecord.{new_next, new_of, placed_next, last_of}
 use Rattle.block_log.proofs.Turns.{goes_on}
 
--- What was told to be next, by the block that it is.
+-- The block that was found to be next, as it is stored.
 pub record IsGiven (next : Stored) (gate : ℕ) (found : Option Block) : Type 0 where
   pub block : Block
   pub found_is : found ≡ Some block
@@ -31,7 +31,7 @@ pub given : (next : Stored) (gate : ℕ) (found : Option Block) → Some next �
 given next gate None is = absurd (cc is)
 given next gate (Some block) is = record { block = block; found_is = refl; next_is = cc is }
 
--- No block was told.
+-- No block was found.
 pub none_given : (gate : ℕ) (found : Option Block) → None ≡ option_map (stored_at gate) found → found ≡ None
 none_given gate None is = refl
 none_given gate (Some block) is = absurd (cc is)
@@ -45,7 +45,7 @@ placed decoded block (Number want) is = absurd (cc is)
 placed decoded block (Parent want) is = absurd (cc is)
 placed decoded block (Budget sum) is = absurd (cc is)
 
--- The block that is given is placed next.
+-- The block that is returned is placed next.
 is_placed : (place : Placer) (blocks : List Block) (read : Result Block ℕ) (block : Block) → next_decoded place blocks read ≡ Some block → place blocks block ≡ Next
 is_placed place blocks (Ok decoded) block is =
     let p = placed decoded block (place blocks decoded) is in
@@ -65,7 +65,7 @@ slice_get_last (t ∷ stored) last s (suc i) le is =
     let q = slice_get_last stored last s i (omega (arith, le)) is in
     (omega (arith, q.0), q.1)
 
--- One more, which is the next one.
+-- One more block, which is the next one.
 pub stored_next : (stored : List Stored) (gate : ℕ) (block : Block) (bytes : List ℕ) → AreStored stored → next_in_log (blocks_in stored) bytes ≡ Some block → IsBlock block → AreStored (stored ++ stored_at gate block ∷ [])
 stored_next stored gate block bytes are is lawful = record {
   chained = λ i s at. elim (cases_lt i (length stored)) [
@@ -107,7 +107,7 @@ both_next block (Number want) b there back = sym (none_next block b (λ is. cc (
 both_next block (Parent want) b there back = sym (none_next block b (λ is. cc (back is)))
 both_next block (Budget sum) b there back = sym (none_next block b (λ is. cc (back is)))
 
--- By the number of the blocks and the last digest the same block is next as by the blocks.
+-- The number of blocks and the last digest decide which block is next, as the blocks themselves do.
 module _ (count : ℕ) (last : Digest) (stored : List Stored) (count_is : count ≡ length stored) (last_is : last ≡ last_digest (map digest_of (blocks_in stored))) where
   pub next_same : (bytes : List ℕ) → next_of count last bytes ≡ next_in_log (blocks_in stored) bytes
   next_same bytes = decoded (block_in bytes)
@@ -123,7 +123,7 @@ module _ (count : ℕ) (last : Digest) (stored : List Stored) (count_is : count 
           ap (λ n. new_placement n 0 last block) long ∙ ap (λ d. new_placement (length (blocks_in stored)) 0 d block) last_is
           ∙ new_of (length (blocks_in stored)) 0 _ (last_digest (map digest_of (blocks_in stored))) block (digest_of block) is)
 
--- A log with as many blocks as it can have has no next one.
+-- A log with the greatest number of blocks has no next one.
 pub has_room : (count : ℕ) (last : Digest) (bytes : List ℕ) (block : Block) → next_of count last bytes ≡ Some block → count ≢ MAX_BLOCKS
 has_room count last bytes block is = decoded (block_in bytes) is
   where

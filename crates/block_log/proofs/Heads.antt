@@ -1,4 +1,4 @@
--- What bytes are by their head, and which log is started with on them.
+-- What the head of some bytes says they are, and what opening them as a log yields.
 use Rattle.std.proofs.Common.{◌≡◌, inl, inr, ℕ, zero, suc, ◌+◌, Bool, true, false, List, [], ◌∷◌, length, take, drop, get_or, refl, sym, ◌∙◌, ap, arith}
 use Rattle.std.specs.Prelude.{nat_lt, nat_le}
 use Rattle.std.proofs.lemmas.Bool.Decides.{nat_tests}
@@ -35,7 +35,7 @@ after_gate image = sym (shifted (take 9 image)) ∙ ap (drop 1) (front_eight ima
     shifted [] = refl
     shifted (a ∷ bytes) = refl
 
--- Nothing after the gate of the first record is looked at.
+-- Nothing after the gate of the first record matters.
 pub head_prefix : (image : List ℕ) → head_of (take 9 image) ≡ head_of image
 unfolding head_of
 head_prefix image =
@@ -43,7 +43,7 @@ head_prefix image =
     let few : nat_le (length (take 9 image)) 1 ≡ nat_le (length image) 1 = grind (arith, nat_tests, length-take 9 image) in
     rw (long, few, front_eight image, after_gate image, get_or-take 9 image 0 1 (omega arith), get_or-take 9 image 0 165 (omega arith), get_or-take 9 image 8 165 (omega arith)) refl
 
--- ---- what bytes are by their head
+-- ---- what the head says
 
 -- A log stands for its records.
 pub log_head : (image : List ℕ) → head_of image ≡ heads.Log → standing next_in_log image ≡ records_at next_in_log (MAX_BLOCKS + 1) FIRST_GATE [] (drop FIRST_GATE image)
@@ -92,7 +92,7 @@ other_head image is = elim (cases_Bool (is_log image)) [
     blank_is_other : (begun : Bool) → heads.Blank begun ≡ heads.Other → ⊥
     blank_is_other begun is = cc is
 
--- ---- what reading a log begins with
+-- ---- what opening a log returns
 
 none_stored : AreStored []
 none_stored = record { chained = λ i s at. absurd (none_at i s at); digests_are = refl; lawful = λ i s at. absurd (none_at i s at) }
@@ -101,7 +101,7 @@ none_stored = record { chained = λ i s at. absurd (none_at i s at); digests_are
     none_at zero s at = cc at
     none_at (suc i) s at = cc at
 
--- A log of which no block was read yet.
+-- A log of which no block has been read.
 pub first_read : (content : Option (List ℕ)) → ((image : List ℕ) → content ≡ Some image → head_of image ≡ heads.Log) → AreRead (log_at FIRST_GATE 0 no_parent) content []
 first_read content is = record {
   are_stored = none_stored;

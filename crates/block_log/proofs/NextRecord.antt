@@ -1,4 +1,4 @@
--- The record of the next block of a log, by the log's own placement and by each that is stricter.
+-- The record of the next block of a log, by the log's own placement and by each stricter one.
 use Rattle.std.proofs.Common.{◌≡◌, ◌≢◌, ◌⊎◌, inl, inr, ℕ, ◌+◌, ◌-◌, ◌≤◌, ◌<◌, Bool, true, false, List, [], ◌∷◌, ◌++◌, length, length-append, map, refl, sym, ◌∙◌, ap, subst, arith}
 use Rattle.std.specs.Prelude.{Option, Some, None, ◌==◌, ◌||◌, nat_lt, MatchBool, slice_get, unwrap_or}
 use Rattle.std.proofs.lemmas.List.{length-map, map-append}
@@ -27,7 +27,7 @@ use Rattle.block_log.proofs.Stricter.{same_blocks}
 use Rattle.block_log.proofs.Resting.{rests_at, rests_on, told_before}
 use Rattle.block_log.proofs.TornRecords.{within, staged_within, torn_after, torn_gate, written_gate}
 
--- ---- where the next block stands
+-- ---- the place of the next block
 
 pub new_next : (held rows : ℕ) (parent : Digest) (block : Block) → new_placement held rows parent block ≡ Next → (block.number ≡ held) × (held ≢ MAX_BLOCKS)
 new_next held rows parent block is =
@@ -39,7 +39,7 @@ pub new_of : (held rows : ℕ) (have : Option Digest) (parent : Digest) (block :
 new_of held rows (Some have) parent block digest is = absurd (not_held (is_same_digest have digest) have is)
 new_of held rows None parent block digest is = is
 
--- after fewer blocks than a chain has at most
+-- a next block comes after fewer blocks than the most that a chain has
 some_room : (blocks : List Block) (block : Block) → log_placement blocks block ≡ Next → length blocks ≢ MAX_BLOCKS
 some_room blocks block is =
     let digests = map digest_of blocks in

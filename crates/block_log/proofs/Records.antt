@@ -1,4 +1,5 @@
--- The records of a log up to its closed gate, and what stands with other bytes from that gate on.
+-- The records of a log up to its closed gate, and what becomes of them with other bytes from that
+-- gate on.
 use Rattle.std.proofs.Common.{◌≡◌, inl, inr, ℕ, zero, suc, ◌+◌, ◌≤◌, ◌<◌, Bool, true, false, List, [], ◌∷◌, ◌++◌, length, take, drop, refl, sym, ◌∙◌, ap, subst, arith, append_assoc}
 use Rattle.std.specs.Prelude.{Option, Some, None, ◌==◌, ◌&&◌, nat_le, nat_lt, if◌then◌else◌}
 use Rattle.std.specs.Int.{w32, from_be_bytes}
@@ -20,7 +21,7 @@ is_sized size bytes = nat_le 1 size && nat_le size MAX_BLOCK_BYTES && nat_lt siz
 abbrev pub stored_at : ℕ → Block → Stored
 stored_at gate block = record { place = gate; digest = digest_of block; block = block }
 
--- the record that stands after an open gate
+-- the record that follows an open gate
 pub record IsRecord (next : NextBlock) (held : List Stored) (rest : List ℕ) (block : Block) (size : ℕ) (back : List ℕ) : Type 0 where
   pub four : List ℕ
   pub bytes : List ℕ
@@ -50,7 +51,7 @@ record_is next held rest block sized found =
       is = sym (take-append-drop 4 rest) ∙ ap (λ (l : List ℕ). take 4 rest ++ l) (sym (take-append-drop size (drop 4 rest)));
     }
 
--- a record is read where it stands, whatever follows its bytes
+-- a record is read, whatever follows its bytes
 pub record_made : (next : NextBlock) (more : ℕ → List Stored → List ℕ → Standing) (gate : ℕ) (held : List Stored) (four bytes back : List ℕ) (block : Block)
     → length four ≡ 4 → from_be_bytes w32 four ≡ length bytes → 1 ≤ length bytes → length bytes ≤ MAX_BLOCK_BYTES → 0 < length back → next (blocks_in held) bytes ≡ Some block
     → let rest = four ++ (bytes ++ back) in record_at next more gate (from_be_bytes w32 (take 4 rest)) held (drop 4 rest) ≡ more (gate + 5 + length bytes) (held ++ stored_at gate block ∷ []) back
@@ -68,12 +69,12 @@ pub closed_records : (next : NextBlock) (left gate : ℕ) (stored : List Stored)
 unfolding records_at
 closed_records next left gate stored byte bytes shut = rw shut refl
 
--- an open one goes on with a record
+-- an open gate is followed by a record
 pub open_records : (next : NextBlock) (left gate : ℕ) (stored : List Stored) (bytes : List ℕ) → records_at next (suc left) gate stored (OPEN_GATE ∷ bytes) ≡ record_at next (records_at next left) gate (from_be_bytes w32 (take 4 bytes)) stored (drop 4 bytes)
 unfolding records_at
 open_records next left gate stored bytes = refl
 
--- What leads to the closed gate, and that it leads there whatever stands from that gate on.
+-- The bytes that lead to the closed gate lead to it whatever follows.
 pub record Parts (next : NextBlock) (count gate : ℕ) (held : List Stored) (bytes : List ℕ) (stored : List Stored) (end : ℕ) : Type 0 where
   pub front : List ℕ
   pub byte : ℕ
@@ -165,7 +166,7 @@ no_head : (stored : List Stored) (gate : ℕ) (b : Bool) → (if b then Blank el
 no_head stored gate true is = cc is
 no_head stored gate false is = cc is
 
--- what a head leads to, whatever stands after it
+-- what a head leads to, whatever follows it
 with_head : (next : NextBlock) (image front : List ℕ) (g : ℕ) (ys : List ℕ) → is_log image ≡ true → length (take FIRST_GATE image) ≡ FIRST_GATE
     → standing next ((take FIRST_GATE image ++ front) ++ g ∷ ys) ≡ records_at next (MAX_BLOCKS + 1) FIRST_GATE [] (front ++ g ∷ ys)
 unfolding standing

@@ -1,4 +1,4 @@
--- What a step leaves of a disk with nothing pending, and how steps go on.
+-- What a step leaves of a disk with nothing pending, and how steps follow each other.
 use Rattle.std.proofs.Common.{◌≡◌, ℕ, ◌≤◌, true, List, length, refl, sym, ◌∙◌, ap, subst, arith}
 use Rattle.std.specs.Prelude.{Option, Some, None, Result}
 use Rattle.std.specs.Option.{option_map, is_some}
@@ -27,7 +27,7 @@ pub rests_on : (P Q : List ℕ → Type 0) (at : ℕ) (bytes : List ℕ) (state 
 rests_on P Q at bytes None new rests is leads = subst (λ n. Rests n Q) (sym is) tt
 rests_on P Q at bytes (Some s) new rests is leads = subst (λ n. Rests n Q) (sym is) (refl, leads s.content rests.1)
 
--- what is told at the end was told before
+-- if the content is known at the end, it was known before
 pub told_before : (state new : Option DiskState) (at : ℕ) (bytes now : List ℕ) → new ≡ synced_write at bytes state → content_of new ≡ Some now → (content : List ℕ) × (content_of state ≡ Some content) × (now ≡ bytes_over at bytes content)
 told_before None new at bytes now is told = absurd (cc (is, told))
 told_before (Some s) new at bytes now is told = (s.content, refl, cc (is, told))
@@ -54,7 +54,7 @@ module _ {D : Type 0} (now : D → ℕ) (disk : D → ℕ → Option DiskState) 
   step_sync old mid new at bytes content result rests within so_far turn syncs =
       sync_keeps now disk old mid new (Torn at (length bytes) content) (disk_after_write at bytes (settled_disk content)) result so_far (turn.last ∙ ap (option_map (disk_after_write at bytes)) rests) syncs (overwritten_torn at bytes content within)
 
-  -- one step more, over bytes with Q
+  -- one step more, over bytes of which Q holds
   pub then_step : (old mid new : D) (P Q : List ℕ → Type 0) (at n : ℕ) (content : List ℕ) → content_of (disk old (now old)) ≡ Some content → Keeps now disk old mid P → Rests (disk mid (now mid)) Q
       → ((content : List ℕ) → disk mid (now mid) ≡ Some (settled_disk content) → Keeps now disk mid new (Torn at n content)) → ((content : List ℕ) → Q content → (c : List ℕ) → Torn at n content c → P c) → Keeps now disk old new P
   then_step old mid new P Q at n content told so_far rests step leads =

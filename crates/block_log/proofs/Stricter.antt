@@ -1,5 +1,5 @@
--- A placement that is stricter than the log's own reads the same records, up to the first block that
--- it does not find next.
+-- A placement that is stricter than the log's own finds the same records, up to the first block
+-- that it does not find next.
 use Rattle.std.proofs.Common.{◌≡◌, inl, inr, ℕ, zero, suc, ◌+◌, Bool, true, false, List, [], ◌∷◌, ◌++◌, take, drop, refl, sym, ◌∙◌, ap, append_assoc}
 use Rattle.std.specs.Prelude.{Option, Some, None, Result, Ok, Err, ◌==◌, if◌then◌else◌}
 use Rattle.std.specs.Option.{is_some}
@@ -39,7 +39,7 @@ abbrev ended : Bool → ℕ → List Stored → Standing
 ended true gate held = Holds held gate
 ended false gate held = Damaged held gate
 
--- What some bytes stand for after these blocks by the log's own placement, and by a stricter one.
+-- What some bytes stand for after these blocks, by the log's own placement and by a stricter one.
 record Restands (place : Placer) (held : List Stored) (own stricter : Standing) : Type 0 where
   pub more : List Stored
   pub closes : Bool
@@ -145,8 +145,8 @@ module _ (place : Placer) (is_stricter : IsStricter place) where
     | inr shut ↦ rw shut (no_log (is_blank image))
   ]
 
-  -- Where a block that the log takes is not the next one by the stricter placement, after blocks that
-  -- all are, the log is damaged at its gate.
+  -- If a block that the log takes is not the next one by the stricter placement, after blocks that
+  -- all are, then the log is damaged at its gate.
   pub damaged_at : (image : List ℕ) (count gate : ℕ) (held : List Stored) (s : Stored) (bytes : List ℕ) → standing next_in_log image ≡ records_at next_in_log count gate (held ++ s ∷ []) bytes
       → ((more : List Stored) (end : List Stored → Standing) → standing_after place [] (held ++ more) end ≡ standing_after place held more end) → is_next_by place held s.block ≡ false
       → standing (next_block block_in place) image ≡ Damaged held s.place
@@ -156,7 +156,7 @@ module _ (place : Placer) (is_stricter : IsStricter place) where
       ∙ ap (λ (all : List Stored). standing_after place [] all (ended q.closes q.end)) (append_assoc held (s ∷ []) q.more) ∙ same (s ∷ q.more) (ended q.closes q.end)
       ∙ restood_other place held s q.more (ended q.closes q.end) other
 
-  -- what blocks that are all the next ones end in
+  -- what blocks end in that are all the next ones
   pub restood_all : (held more : List Stored) (gate : ℕ) (blocks : List Block) → blocks_of (standing_after place held more (λ held. Holds held gate)) ≡ Some blocks → standing_after place held more (λ held. Holds held gate) ≡ Holds (held ++ more) gate
   restood_all held [] gate blocks is = restood_none place held (λ held. Holds held gate) ∙ ap (λ (held : List Stored). Holds held gate) (sym (append-nil held))
   restood_all held (s ∷ more) gate blocks is = elim (cases_Bool (is_next_by place held s.block)) [
@@ -168,7 +168,8 @@ module _ (place : Placer) (is_stricter : IsStricter place) where
         absurd (cc stops)
   ]
 
-  -- where it finds a chain, it finds the blocks that the log finds, up to the same closed gate
+  -- if the stricter placement finds a chain, its blocks are those that the log finds, up to the
+  -- same closed gate
   pub same_blocks : (image : List ℕ) (stored : List Stored) (gate : ℕ) (blocks : List Block) → standing next_in_log image ≡ Holds stored gate → chain_of (next_block block_in place) image ≡ Some blocks
       → (standing (next_block block_in place) image ≡ Holds stored gate) × (blocks ≡ blocks_in stored)
   same_blocks image stored gate blocks own is =

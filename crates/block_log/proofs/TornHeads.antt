@@ -1,4 +1,4 @@
--- What a crash leaves in each step of making a log.
+-- Whatever a crash leaves in a step of making a log has no block.
 use Rattle.std.proofs.Common.{◌≡◌, inl, inr, ℕ, ◌≤◌, ◌<◌, Bool, true, false, List, [], ◌∷◌, ◌++◌, length, take, drop, get_or, refl, sym, ◌∙◌, ap, subst, arith}
 use Rattle.std.specs.Prelude.{◌==◌}
 use Rattle.std.specs.Cmp.Lexicographic.{pointwise, same_text}
@@ -46,7 +46,7 @@ opened_stands next gate rest closed =
     let opens : is_log (OPEN_GATE ∷ (magic ++ gate ∷ rest)) ≡ true = grind (arith, nat_tests) in
     rw opens (closed_records next MAX_BLOCKS FIRST_GATE [] gate rest closed)
 
--- whatever the head gate is
+-- whichever byte the head gate is
 pub any_head : (head gate : ℕ) (rest : List ℕ) → gate == OPEN_GATE ≡ false → HasNoBlock (head ∷ (magic ++ gate ∷ rest))
 any_head head gate rest closed next = elim (cases_eq head OPEN_GATE) [
   | inl opens ↦ ap (λ h. chain_of next (h ∷ (magic ++ gate ∷ rest))) opens ∙ ap blocks_of (opened_stands next gate rest closed)
@@ -55,7 +55,7 @@ any_head head gate rest closed next = elim (cases_eq head OPEN_GATE) [
 
 -- ---- the three steps
 
--- no log yet, whatever block comes next
+-- no log yet, whichever block comes next
 pub blank_none : (is_begun : Bool) (content : List ℕ) → IsBlank is_begun content → HasNoBlock content
 blank_none is_begun content blank next = let is = blank_is content blank.stands in ap blocks_of (blank_stands next content is.0 is.1)
 
@@ -63,7 +63,7 @@ blank_none is_begun content blank next = let is = blank_is content blank.stands 
 first_torn : (old c : List ℕ) → Torn 0 1 old c → 1 ≤ length old → c ≡ get_or c 0 0 ∷ drop 1 old
 first_torn old c torn some = drop_more c 0 0 (omega (arith, torn.no_shorter, some)) ∙ ap (λ (l : List ℕ). get_or c 0 0 ∷ l) torn.after
 
--- where there is more than one byte, and the first is not 0, the magic stands before a closed gate
+-- if there is more than one byte, and the first is not 0, the magic is there, before a closed gate
 magic_there : (image : List ℕ) → is_blank image ≡ true → get_or image 0 1 == 0 ≡ false → 1 < length image → (gate : ℕ) × (rest : List ℕ) × (gate == OPEN_GATE ≡ false) × (drop 1 image ≡ magic ++ gate ∷ rest)
 magic_there image blank other more =
     let long : 8 < length image = grind (arith, nat_tests) in
@@ -76,7 +76,7 @@ magic_there image blank other more =
       sym (take-append-drop 7 later) ∙ ap (λ (l : List ℕ). l ++ drop 7 later) (same_text (take 7 later) magic seven) ∙ ap (λ (l : List ℕ). magic ++ l) (drop_more later 7 OPEN_GATE (omega (arith, long, length-drop 1 image))),
     )
 
--- the first step, at bytes that do not begin with 0
+-- the first step, on bytes that do not begin with 0
 pub first_step : (content : List ℕ) → IsBlank false content → (c : List ℕ) → Torn 0 1 content c → HasNoBlock c
 first_step content blank c torn next = elim (cases_lt 1 (length content)) [
   | inr short ↦ ap blocks_of (short_stands next c (omega (arith, torn.no_longer, short)))

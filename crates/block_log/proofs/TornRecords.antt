@@ -1,4 +1,4 @@
--- What a crash leaves in each of the two steps of an append.
+-- Whatever a crash leaves in a step of an append has the blocks of before, or the new one too.
 use Rattle.std.proofs.Common.{◌≡◌, ◌⊎◌, inl, inr, ℕ, suc, pred, ◌+◌, ◌≤◌, ◌<◌, List, [], ◌∷◌, ◌++◌, length, take, drop, get_or, refl, sym, ◌∙◌, ap, subst, arith, append_assoc}
 use Rattle.std.specs.Prelude.{Some}
 use Rattle.std.specs.Int.{w32, to_be_bytes}
@@ -15,7 +15,7 @@ use Rattle.block_log.specs.Standing.{Holds, NextBlock, blocks_in, records_at, st
 use Rattle.block_log.specs.Steps.{record_bytes}
 use Rattle.block_log.proofs.Records.{IsLog, stored_at, record_made, closed_records, open_records}
 
--- an open gate has a record after it
+-- an open gate with a record after it
 open_record : (next : NextBlock) (left gate : ℕ) (stored : List Stored) (bytes ys : List ℕ) (block : Block) → 1 ≤ length bytes → length bytes ≤ MAX_BLOCK_BYTES → next (blocks_in stored) bytes ≡ Some block
     → records_at next (suc (suc left)) gate stored (OPEN_GATE ∷ (record_bytes bytes ++ ys)) ≡ Holds (stored ++ stored_at gate block ∷ []) (gate + 5 + length bytes)
 unfolding record_bytes
@@ -50,7 +50,7 @@ module _ (next : NextBlock) (content : List ℕ) (stored : List Stored) (gate : 
   pub within : gate + 1 ≤ length content
   within = omega (arith, ap (length {A = ℕ}) with_gate, gate_size, length-append (log.front ++ log.byte ∷ []) log.junk)
 
-  -- the closed gate stands in each outcome of the first write
+  -- the closed gate stays in each outcome of the first write
   pub torn_after : (c : List ℕ) → Torn (gate + 1) (length record_there) content c → standing next c ≡ Holds stored gate
   torn_after c torn =
       let rest = drop (gate + 1) c in
@@ -76,7 +76,7 @@ module _ (next : NextBlock) (content : List ℕ) (stored : List Stored) (gate : 
   opened : standing next (log.front ++ OPEN_GATE ∷ later) ≡ Holds (stored ++ stored_at gate block ∷ []) (gate + 5 + length bytes)
   opened = log.stands OPEN_GATE later ∙ ap (λ n. records_at next (suc n) gate stored (OPEN_GATE ∷ later)) one_left.1 ∙ open_record next one_left.0 gate stored bytes (drop (gate + 1 + length record_there) content) block low high found
 
-  -- the record stands whole after any gate
+  -- the record is whole after the gate, whichever byte that is
   any_gate : (g : ℕ) → (standing next (log.front ++ g ∷ later) ≡ Holds stored gate) ⊎ (standing next (log.front ++ g ∷ later) ≡ Holds (stored ++ stored_at gate block ∷ []) (gate + 5 + length bytes))
   any_gate g = elim (cases_eq g OPEN_GATE) [
     | inl open_gate ↦ inr (ap (λ h. standing next (log.front ++ h ∷ later)) open_gate ∙ opened)
@@ -92,7 +92,7 @@ module _ (next : NextBlock) (content : List ℕ) (stored : List Stored) (gate : 
       ∙ ap (λ (l : List ℕ). log.front ++ l) (drop_more c gate 0 long ∙ ap (λ (l : List ℕ). g ∷ l) (torn.after ∙ staged_back)) in
       subst (λ d. (standing next d ≡ Holds stored gate) ⊎ (standing next d ≡ Holds (stored ++ stored_at gate block ∷ []) (gate + 5 + length bytes))) (sym whole) (any_gate g)
 
-  -- and is there once the gate is written
+  -- and counts once the gate is open
   pub written_gate : standing next (bytes_over gate (OPEN_GATE ∷ []) staged) ≡ Holds (stored ++ stored_at gate block ∷ []) (gate + 5 + length bytes)
   written_gate =
       let whole : bytes_over gate (OPEN_GATE ∷ []) staged ≡ log.front ++ OPEN_GATE ∷ later =

@@ -1,4 +1,4 @@
--- What stands from a gate on, and where reading goes on from there.
+-- What the records from a gate on stand for, and where reading continues from there.
 use Rattle.std.proofs.Common.{◌≡◌, inl, inr, ℕ, zero, suc, ◌+◌, ◌≤◌, ◌<◌, true, false, List, [], ◌∷◌, ◌++◌, length, take, drop, refl, sym, ◌∙◌, ap, arith}
 use Rattle.std.specs.Prelude.{◌==◌, ◌&&◌, nat_lt, nat_le, Some, None}
 use Rattle.std.specs.Int.{w32, from_be_bytes}
@@ -50,7 +50,7 @@ gate_small (gate ∷ bytes) = elim (cases_Bool (gate == OPEN_GATE)) [
       | inr long ↦ rw long (sized_small (from_be_bytes w32 (take 4 bytes)))
     ]
 
--- What was read to the front of a buffer is the body of a record, if it is as long.
+-- What was read to the front of a buffer is the body of a record, if it is long enough.
 pub body_read : (size count gate : ℕ) (front rest content : List ℕ) → length front ≡ size + 1 → count ≤ length front → take count front ≡ take (length front) (drop (gate + 5) content) → IsBody (nat_lt size count) size (front ++ rest) (drop 5 (drop gate content))
 body_read size count gate front rest content long bound is =
     let bytes = drop 5 (drop gate content) in
@@ -68,15 +68,15 @@ body_read size count gate front rest content long bound is =
           rw cut (grind (arith, nat_tests, counted, length-take count front, length-take (size + 1) bytes))
     ]
 
--- ---- where reading goes on
+-- ---- where reading continues
 
--- What stands from a gate on, by what is at the gate.
+-- What the records from a gate on stand for, given what is at the gate.
 abbrev pub turn : NextBlock → ℕ → ℕ → List Stored → List ℕ → Record → Standing
 turn next more gate stored bytes records.Closed = Holds stored gate
 turn next more gate stored bytes records.Broken = Damaged stored gate
 turn next more gate stored bytes (records.Open size) = after_record (records_at next more) gate size stored (drop size (drop 5 bytes)) (next (blocks_in stored) (take size (drop 5 bytes)))
 
--- A record that is cut short is no record.
+-- A record that is cut short is none.
 short : (next : NextBlock) (more gate size : ℕ) (stored : List Stored) (bytes : List ℕ) → nat_lt (length bytes) 4 ≡ true → record_at next (records_at next more) gate size stored (drop 4 bytes) ≡ Damaged stored gate
 short next more gate size stored bytes is =
     let none : nat_lt size (length (drop 4 bytes)) ≡ false = grind (arith, nat_tests, length-drop 4 bytes) in
@@ -98,7 +98,7 @@ opened next more gate stored bytes = elim (cases_Bool (nat_lt (length bytes) 4))
   | inr long ↦ rw long (sized next more gate (from_be_bytes w32 (take 4 bytes)) stored bytes)
 ]
 
--- What the records from a gate on are, by what stands at it.
+-- What the records from a gate on stand for is decided by what is at the gate.
 pub turned : (next : NextBlock) (more gate : ℕ) (stored : List Stored) (bytes : List ℕ) → records_at next (suc more) gate stored bytes ≡ turn next more gate stored bytes (record_of bytes)
 unfolding records_at gate_of record_of
 turned next more gate stored [] = refl
@@ -112,18 +112,18 @@ pub ended : (next : NextBlock) (n gate : ℕ) (stored : List Stored) (bytes : Li
 ended next zero gate stored bytes some is = absurd (omega (arith, some))
 ended next (suc more) gate stored bytes some is = turned next more gate stored bytes ∙ ap (turn next more gate stored bytes) is
 
--- At an open gate that no whole record follows the log is damaged.
+-- At an open gate without a whole record after it, the log is damaged.
 pub broken : (next : NextBlock) (n gate : ℕ) (stored : List Stored) (bytes : List ℕ) → 0 < n → record_of bytes ≡ records.Broken → records_at next n gate stored bytes ≡ Damaged stored gate
 broken next zero gate stored bytes some is = absurd (omega (arith, some))
 broken next (suc more) gate stored bytes some is = turned next more gate stored bytes ∙ ap (turn next more gate stored bytes) is
 
--- So it is at a record whose block is not the next one.
+-- It is damaged too at a record whose block is not the next one.
 pub refused : (next : NextBlock) (n gate size : ℕ) (stored : List Stored) (bytes : List ℕ) → 0 < n → record_of bytes ≡ records.Open size → next (blocks_in stored) (take size (drop 5 bytes)) ≡ None → records_at next n gate stored bytes ≡ Damaged stored gate
 refused next zero gate size stored bytes some is none = absurd (omega (arith, some))
 refused next (suc more) gate size stored bytes some is none =
     turned next more gate stored bytes ∙ ap (turn next more gate stored bytes) is ∙ ap (after_record (records_at next more) gate size stored (drop size (drop 5 bytes))) none
 
--- After the next block reading goes on at the gate after it.
+-- After the next block reading continues at the gate after it.
 pub goes_on : (next : NextBlock) (n left gate size after : ℕ) (stored : List Stored) (content : List ℕ) (block : Block) → n ≡ left + 1 → after ≡ gate + (5 + size) → record_of (drop gate content) ≡ records.Open size → next (blocks_in stored) (take size (drop 5 (drop gate content))) ≡ Some block
     → records_at next n gate stored (drop gate content) ≡ records_at next left after (stored ++ stored_at gate block ∷ []) (drop after content)
 goes_on next n left gate size after stored content block fuel there is found =

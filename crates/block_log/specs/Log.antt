@@ -13,25 +13,24 @@ use Rattle.block_log.specs.declared.layout.Stored.{Stored}
 
 -- ---- which block a log takes
 
--- Where a block stands to those before it, for a log by itself: it runs no block, so it counts no
+-- The place of a block after others, as the log itself judges it: it runs no block, so it counts no
 -- row.
 abbrev pub log_placement : Placer
 log_placement = placement_after 0
 
--- The next block, for a log by itself.
+-- The next block, as the log itself judges it.
 abbrev pub next_in_log : NextBlock
 next_in_log = next_block block_in log_placement
 
--- Only what is the next block for a log is the next one by this placement too. So it is where rows
--- are counted.
+-- A block that is next by this placement is also next for the log, which counts no rows.
 abbrev pub IsStricter : Placer → Type 0
 IsStricter place = (blocks : List Block) (block : Block) → place blocks block ≡ Next → log_placement blocks block ≡ Next
 
 -- ---- what a log keeps
 
 -- The offset of the closed gate after the last block; the number of blocks and the digest of the
--- last one; whether there is a head to append to; and, where there is none, whether the first byte
--- is 0, as creation leaves it first.
+-- last one; whether there is a head to append to; and, if there is none, whether the first byte is
+-- 0, as the first step of creation leaves it.
 pub record LogState : Type 0 where
   pub gate : ℕ
   pub count : ℕ
@@ -39,15 +38,15 @@ pub record LogState : Type 0 where
   pub is_ready : Bool
   pub is_begun : Bool
 
--- Bounds of what a log keeps, by which every offset in it fits a u64; without a head it has no
+-- Bounds of what a log keeps, by which each of its offsets fits a u64. A log without a head has no
 -- block.
 pub record IsKeptLog (log : LogState) : Type 0 where
   pub few : log.count ≤ MAX_BLOCKS
   pub near : log.gate ≤ FIRST_GATE + log.count * MAX_RECORD_BYTES
   pub no_block : log.is_ready ≡ false → (log.count ≡ 0) × (log.last ≡ no_parent)
 
--- A log with a head keeps the number of the blocks, the digest of the last one and the closed gate
--- that these bytes hold.
+-- A log with a head keeps the number of blocks, the digest of the last one and the closed gate of
+-- these bytes.
 pub record AgreesWithBlocks (log : LogState) (image : List ℕ) : Type 0 where
   pub stored : List Stored
   pub stands : standing next_in_log image ≡ Holds stored log.gate
@@ -59,7 +58,7 @@ pub record IsBlank (is_begun : Bool) (image : List ℕ) : Type 0 where
   pub stands : standing next_in_log image ≡ Blank
   pub begun_is : is_begun ≡ (get_or image 0 1 == 0)
 
--- A log without a head stands over bytes that are no log yet.
+-- A log without a head is over bytes that are no log yet.
 abbrev pub AgreesWithBlank : LogState → List ℕ → Type 0
 AgreesWithBlank log image = IsBlank log.is_begun image
 
@@ -67,7 +66,7 @@ AgreesWithBlank log image = IsBlank log.is_begun image
 abbrev pub Agrees : LogState → List ℕ → Type 0
 Agrees log image = MatchBool log.is_ready (AgreesWithBlocks log image) (AgreesWithBlank log image)
 
--- ---- what is started with
+-- ---- what reading a log yields
 
 -- Blocks as they were stored: each is the next one after those before it, and has its own digest.
 pub record AreStored (stored : List Stored) : Type 0 where
@@ -80,17 +79,17 @@ pub record HoldsBlocks (log : LogState) (stored : List Stored) : Type 0 where
   pub count_is : log.count ≡ length stored
   pub last_is : log.last ≡ last_digest (map digest_of (blocks_in stored))
 
--- A log agrees with these bytes, and these are all of their blocks.
+-- A log agrees with these bytes, and these are all their blocks.
 abbrev pub IsStarted : LogState → List Stored → List ℕ → Type 0
 IsStarted log stored image = Agrees log image × MatchBool log.is_ready (standing next_in_log image ≡ Holds stored log.gate) (stored ≡ [])
 
 -- ---- what its calls do
 
--- The log with a head, and no block.
+-- The log with a head and without blocks.
 abbrev pub log_with_head : LogState → LogState
 log_with_head log = record { gate = FIRST_GATE; count = log.count; last = log.last; is_ready = true; is_begun = false }
 
--- The log with one more block, of these bytes.
+-- The log with one more block, which has these bytes.
 abbrev pub log_with_block : LogState → List ℕ → LogState
 log_with_block log bytes = record { gate = log.gate + 5 + length bytes; count = log.count + 1; last = bytes_digest bytes; is_ready = true; is_begun = log.is_begun }
 
@@ -100,14 +99,14 @@ pub record IsNextOf (log : LogState) (bytes : List ℕ) : Type 0 where
   pub decoded : block_in bytes ≡ Ok block
   pub placed : new_placement log.count 0 log.last block ≡ Next
 
--- By a placement that is stricter than the log's own, these bytes are the next block after those
--- that the content stands for.
+-- These bytes are the next block of the content's chain, by a placement that is stricter than the
+-- log's own.
 pub record IsNextAfter (place : Placer) (content bytes : List ℕ) (blocks : List Block) (block : Block) : Type 0 where
   pub stricter : IsStricter place
   pub stands : chain_of (next_block block_in place) content ≡ Some blocks
   pub decoded : block_in bytes ≡ Ok block
   pub placed : place blocks block ≡ Next
 
--- Bytes that stand for the blocks, or for these and one more.
+-- Bytes that stand for these blocks, or for these and one more.
 abbrev pub IsOldOrNew : NextBlock → List Block → Block → List ℕ → Type 0
 IsOldOrNew next blocks block image = (chain_of next image ≡ Some blocks) ⊎ (chain_of next image ≡ Some (blocks ++ block ∷ []))

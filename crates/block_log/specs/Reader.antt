@@ -1,4 +1,4 @@
--- What reading a log answers, block by block.
+-- What reading a log returns, block by block.
 use Rattle.std.specs.Prelude.{◌≡◌, ℕ, ◌+◌, ◌-◌, ◌≤◌, ◌<◌, Bool, true, false, List, [], ◌∷◌, ◌++◌, drop, Option, Some, Result, Ok, Err}
 use Rattle.lc_base.specs.declared.digest.Digest.{Digest}
 use Rattle.block_codec.specs.Spelling.{IsBlock}
@@ -23,32 +23,34 @@ use Rattle.block_log.specs.declared.start.Opened.TheVariants as openeds
 
 -- ---- logs
 
--- A log of so many blocks, up to the gate at this offset, the last of which has this digest.
+-- A log of `count` blocks, the last of which has the digest `last`, with its next gate at the
+-- offset `gate`.
 abbrev pub log_at : ℕ → ℕ → Digest → LogState
 log_at gate count last = record { gate = gate; count = count; last = last; is_ready = true; is_begun = false }
 
--- A log with no head.
+-- A log without a head.
 abbrev pub blank_log : Bool → LogState
 blank_log is_begun = record { gate = FIRST_GATE; count = 0; last = no_parent; is_ready = false; is_begun = is_begun }
 
 -- ---- blocks that are read one after another
 
--- Whether the content is known or not, these blocks were read so far: they are a chain, each with its
--- digest, and the log is that of them, up to the next gate. Where the content is known, it stands for
--- what the records from that gate on stand for after them.
+-- These blocks were read so far. Also if the content is not known, they are a chain, each with its
+-- digest, and the log is that of them, up to the next gate. If the content is known, it stands for
+-- what the records from that gate on stand for after these blocks.
 pub record AreRead (log : LogState) (content : Option (List ℕ)) (stored : List Stored) : Type 0 where
   pub are_stored : AreStored stored
   pub held : HoldsBlocks log stored
   pub stands : (image : List ℕ) → content ≡ Some image → standing next_in_log image ≡ records_at next_in_log (MAX_BLOCKS + 1 - log.count) log.gate stored (drop log.gate image)
 
--- Whether the content is known or not, these blocks were read, and are all: the log agrees with the
--- content where that is known.
+-- These blocks were read, and they are all. Also if the content is not known, they are a chain; if
+-- it is known, the log agrees with it.
 pub record AreAll (log : LogState) (content : Option (List ℕ)) (stored : List Stored) : Type 0 where
   pub are_stored : AreStored stored
   pub held : HoldsBlocks log stored
   pub started : (image : List ℕ) → content ≡ Some image → IsStarted log stored image
 
--- What reading a log begins with: no block was read yet, or there is no log yet, or something else.
+-- What opening a log returns: a reader that has read no block, a log without a head, or that the
+-- bytes are something other than a log.
 abbrev pub IsOpened : Option (List ℕ) → Result Opened LogError → Type 0
 IsOpened content (Ok (openeds.Records reader)) = AreRead reader content []
 IsOpened content (Ok (openeds.Blank log)) = AreAll log content []
@@ -57,7 +59,7 @@ IsOpened content (Err (errors.Damaged at)) = ⊥
 IsOpened content (Err errors.DiskFault) = Unit {0}
 IsOpened content (Err errors.Memory) = Unit {0}
 
--- What comes after these blocks: one more, or none, or the log is damaged after them.
+-- What comes after these blocks: one more block, the end, or damage.
 abbrev pub IsTurn : Option (List ℕ) → List Stored → Result Turn LogError → Type 0
 IsTurn content stored (Ok (turns.Block next reader)) = AreRead reader content (stored ++ next ∷ [])
 IsTurn content stored (Ok (turns.End log)) = AreAll log content stored
@@ -66,7 +68,7 @@ IsTurn content stored (Err (errors.Damaged at)) = (image : List ℕ) → content
 IsTurn content stored (Err errors.DiskFault) = Unit {0}
 IsTurn content stored (Err errors.Memory) = Unit {0}
 
--- A block is given with its own digest, and is one more of the log.
+-- A block is returned with its own digest, and is one more block of the log.
 pub record IsOneMore (old new : LogState) (next : Stored) : Type 0 where
   pub lawful : IsBlock next.block
   pub digest_is : next.digest ≡ digest_of next.block
@@ -74,14 +76,14 @@ pub record IsOneMore (old new : LogState) (next : Stored) : Type 0 where
   pub count_is : new.count ≡ old.count + 1
   pub few : new.count ≤ MAX_BLOCKS
 
--- Where a turn gave a block, the reader after it has read one block more.
+-- If a block was returned, the reader after it has read one block more.
 abbrev pub IfBlock : LogState → Turn → Type 0
 IfBlock old (turns.Block next reader) = IsOneMore old reader next
 IfBlock old (turns.End log) = Unit {0}
 
 -- ---- one record
 
--- The error as the log tells it.
+-- The error that the log reports for a failed call.
 abbrev pub log_error : HostError → LogError
 log_error faults.Fault = errors.DiskFault
 log_error faults.Memory = errors.Memory
@@ -90,19 +92,19 @@ log_error faults.Memory = errors.Memory
 abbrev pub stored_at : ℕ → Block → Stored
 stored_at gate block = record { place = gate; digest = digest_of block; block = block }
 
--- The block that bytes are, where they are the next one after so many blocks, the last of which has
--- this digest.
+-- The block that bytes spell, if it is the next one after `count` blocks, the last of which has the
+-- digest `last`.
 abbrev pub next_of : ℕ → Digest → List ℕ → Option Block
 next_of count last bytes = next_block block_in (λ blocks block. new_placement count 0 last block) [] bytes
 
--- What stands at the gate at this offset, after these blocks, so many.
+-- What is found at the gate at this offset, after these `count` blocks.
 abbrev pub IsFound : Option (List ℕ) → ℕ → ℕ → List Stored → Found → Type 0
 IsFound content gate count stored founds.Closed = (image : List ℕ) → content ≡ Some image → standing next_in_log image ≡ Holds stored gate
 IsFound content gate count stored founds.Broken = (image : List ℕ) → content ≡ Some image → standing next_in_log image ≡ Damaged stored gate
 IsFound content gate count stored (founds.Next next after) = AreRead (log_at after (count + 1) next.digest) content (stored ++ next ∷ [])
 
--- A block that is found has its own digest; the gate after it is at most a record away, and the log
--- had room for it.
+-- A block that is found comes with its own digest, the gate after it is at most a record away, and
+-- the log had room for it.
 pub record IsNear (gate count : ℕ) (next : Stored) (after : ℕ) : Type 0 where
   pub lawful : IsBlock next.block
   pub digest_is : next.digest ≡ digest_of next.block
@@ -110,7 +112,7 @@ pub record IsNear (gate count : ℕ) (next : Stored) (after : ℕ) : Type 0 wher
   pub near : after ≤ gate + MAX_RECORD_BYTES
   pub few : count < MAX_BLOCKS
 
--- Where a record was found, it is one that is near.
+-- If a record was found, it is near.
 abbrev pub IfNear : ℕ → ℕ → Found → Type 0
 IfNear gate count founds.Closed = Unit {0}
 IfNear gate count founds.Broken = Unit {0}

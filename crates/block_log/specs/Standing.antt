@@ -1,4 +1,4 @@
--- What the bytes of a log stand for.
+-- What the bytes of a log stand for: the chain of its blocks, or why they stand for none.
 use Rattle.std.specs.Prelude.{ℕ, zero, suc, ◌+◌, Bool, not, ◌&&◌, ◌||◌, ◌==◌, nat_le, nat_lt, if◌then◌else◌, List, [], ◌∷◌, ◌++◌, length, map, take, drop, get_or, Option, Some, None, Result, Ok, Err}
 use Rattle.std.specs.Cmp.Lexicographic.{pointwise}
 use Rattle.std.specs.Int.{w32, from_be_bytes}
@@ -11,7 +11,7 @@ use Rattle.block_codec.specs.declared.placement.Placement.TheVariants.{Known, Ne
 use Rattle.block_log.specs.declared.layout.TheConstants.{OPEN_GATE, FIRST_GATE}
 use Rattle.block_log.specs.declared.layout.Stored.{Stored}
 
--- What some bytes are: no log yet; something else than a log; a log that is damaged after these
+-- What some bytes are: no log yet; something other than a log; a log that is damaged after these
 -- blocks, at the gate at this offset; or a log of these blocks, with the offset of the closed gate
 -- after them.
 pub data Standing : Type 0 where
@@ -22,11 +22,11 @@ pub data Standing : Type 0 where
 
 -- ---- which block comes next
 
--- Where a block stands to those before it.
+-- The place of a block after others.
 abbrev pub Placer : Type 0
 Placer = List Block → Block → Placement
 
--- The block, where it is the next one.
+-- The block, if it is the next one.
 abbrev pub if_next : Block → Placement → Option Block
 if_next block Next = Some block
 if_next block Known = None
@@ -36,16 +36,16 @@ if_next block (Number want) = None
 if_next block (Parent want) = None
 if_next block (Budget sum) = None
 
--- The block that was decoded, where it is the next one after others.
+-- The decoded block, if it is the next one after others.
 abbrev pub next_decoded : Placer → List Block → Result Block ℕ → Option Block
 next_decoded place blocks (Ok block) = if_next block (place blocks block)
 next_decoded place blocks (Err offset) = None
 
--- The block that bytes are, where they are the next one after others.
+-- The block that bytes spell, if it is the next one after others.
 abbrev pub NextBlock : Type 0
 NextBlock = List Block → List ℕ → Option Block
 
--- By what bytes spell, and where a block stands to those before it.
+-- The next block, by what bytes spell and by the place of a block after others.
 abbrev pub next_block : Decoder → Placer → NextBlock
 next_block read place blocks bytes = next_decoded place blocks (read bytes)
 
@@ -55,23 +55,23 @@ next_block read place blocks bytes = next_decoded place blocks (read bytes)
 abbrev pub blocks_in : List Stored → List Block
 blocks_in stored = map (λ s. s.block) stored
 
--- A record counts where its bytes are the next block; `more` goes on after it.
+-- A record counts if its bytes are the next block; `more` continues after it.
 abbrev pub after_record : (ℕ → List Stored → List ℕ → Standing) → ℕ → ℕ → List Stored → List ℕ → Option Block → Standing
 after_record more gate size stored rest None = Damaged stored gate
 after_record more gate size stored rest (Some block) =
     more (gate + 5 + size) (stored ++ record { place = gate; digest = digest_of block; block = block } ∷ []) rest
 
--- What follows the length of a record whose gate, at that offset, is open: the length is from 1 to
--- MAX_BLOCK_BYTES, as many bytes are the next block, and at least one byte follows them.
+-- What follows the length of a record whose gate, at this offset, is open: the length is from 1 to
+-- MAX_BLOCK_BYTES, that many bytes are the next block, and at least one byte follows them.
 abbrev pub record_at : NextBlock → (ℕ → List Stored → List ℕ → Standing) → ℕ → ℕ → List Stored → List ℕ → Standing
 record_at next more gate size stored bytes =
     if nat_le 1 size && nat_le size MAX_BLOCK_BYTES && nat_lt size (length bytes)
     then after_record more gate size stored (drop size bytes) (next (blocks_in stored) (take size bytes))
     else Damaged stored gate
 
--- The records from a gate on, at that offset, after others. Where the gate is closed they end. Else
--- the length of a record follows it in four bytes, the most significant first. `count` is how often
--- to look at a gate: a log has at most MAX_BLOCKS records, so looking once more than that reaches
+-- The records from the gate at this offset on, after others. They end at a closed gate. After an
+-- open one there is the length of a record, in four bytes, the most significant first. `count` is
+-- the number of gates to look at: a log has at most MAX_BLOCKS records, so one more look reaches
 -- the closed gate.
 unfoldable pub records_at : NextBlock → ℕ → ℕ → List Stored → List ℕ → Standing
 records_at next zero gate stored bytes = Damaged stored gate
@@ -82,16 +82,15 @@ records_at next (suc count) gate stored (byte ∷ bytes) =
 
 -- ---- the head
 
--- The seven bytes that follow the head gate: `LCLOG1` and a line end.
+-- The seven bytes after the head gate: `LCLOG1` and a line feed.
 abbrev pub magic : List ℕ
 magic = 76 ∷ 67 ∷ 76 ∷ 79 ∷ 71 ∷ 49 ∷ 10 ∷ []
 
--- Whether bytes are a log: the head gate is open, the magic follows, and then the gate of the first
--- record.
+-- Whether bytes are a log: an open head gate, the magic, then the gate of the first record.
 abbrev pub is_log : List ℕ → Bool
 is_log image = nat_lt FIRST_GATE (length image) && pointwise ◌==◌ (take FIRST_GATE image) (OPEN_GATE ∷ magic)
 
--- Whether bytes are no log yet: there is at most one; or the first is 0; or the magic stands between
+-- Whether bytes are no log yet: there is at most one; or the first is 0; or the magic is between
 -- two closed gates.
 abbrev pub is_blank : List ℕ → Bool
 is_blank image =
@@ -105,13 +104,13 @@ standing next image =
     if is_log image then records_at next (MAX_BLOCKS + 1) FIRST_GATE [] (drop FIRST_GATE image)
     else (if is_blank image then Blank else NotALog)
 
--- The blocks of a log; what is no log yet has none.
+-- The blocks of a log. What is no log yet has none.
 abbrev pub blocks_of : Standing → Option (List Block)
 blocks_of Blank = Some []
 blocks_of NotALog = None
 blocks_of (Damaged stored gate) = None
 blocks_of (Holds stored gate) = Some (blocks_in stored)
 
--- The chain of blocks that some bytes stand for, where they stand for one.
+-- The chain of blocks that some bytes stand for, or `None` if they stand for none.
 abbrev pub chain_of : NextBlock → List ℕ → Option (List Block)
 chain_of next image = blocks_of (standing next image)

@@ -7,15 +7,15 @@ use Rattle.disk_model.specs.Disk.{Keeps, Rests, content_of, settled_disk, bytes_
 use Rattle.block_log.specs.declared.layout.TheConstants.{CLOSED_GATE}
 use Rattle.block_log.specs.Standing.{NextBlock, magic, chain_of}
 
--- The disk with these bytes written, and nothing pending.
+-- The disk with these bytes written and nothing pending.
 abbrev pub synced_write : ℕ → List ℕ → Option DiskState → Option DiskState
 synced_write at bytes state = option_map (λ s. settled_disk (bytes_over at bytes s.content)) state
 
--- A record: the length of its bytes, these, and the closed gate of the next record.
+-- A record: the length of its bytes, the bytes, and the closed gate of the next record.
 unfoldable pub record_bytes : List ℕ → List ℕ
 record_bytes bytes = to_be_bytes w32 (length bytes) ++ bytes ++ CLOSED_GATE ∷ []
 
--- The head gate is closed, as creation leaves it first.
+-- The head gate is closed, as the first step of creation leaves it.
 pub record HasClosedHead (image : List ℕ) : Type 0 where
   pub rest : List ℕ
   pub is : image ≡ CLOSED_GATE ∷ rest
@@ -25,12 +25,13 @@ pub record IsPrepared (image : List ℕ) : Type 0 where
   pub rest : List ℕ
   pub is : image ≡ CLOSED_GATE ∷ (magic ++ CLOSED_GATE ∷ rest)
 
--- No block stands there, whatever block comes next.
+-- The bytes stand for no block, whichever block comes next.
 abbrev pub HasNoBlock : List ℕ → Type 0
 HasNoBlock image = (next : NextBlock) → chain_of next image ≡ Some []
 
--- A step of making the head of a log. After `Ok` the content is so, with nothing pending, and the disk
--- is known exactly where it was at entry. A crash at any moment of the step leaves no block.
+-- A step of making the head of a log. After `Ok` the head is as wanted, with nothing pending, and
+-- the disk is known exactly if it was known at entry. A crash at any moment of the step leaves no
+-- block.
 pub record MakesHead {D T E : Type 0} (now : D → ℕ) (disk : D → ℕ → Option DiskState)
     (IsHead : List ℕ → Type 0) (old new : D) (result : Result T E) : Type 0 where
   pub head : OnOk result (Rests (disk new (now new)) IsHead)

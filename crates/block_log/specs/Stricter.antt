@@ -9,13 +9,13 @@ use Rattle.block_log.specs.Standing.{Standing, Blank, NotALog, Damaged, Holds, P
 abbrev pub is_next_by : Placer → List Stored → Block → Bool
 is_next_by place held block = is_some (if_next block (place (blocks_in held) block))
 
--- Stored blocks, taken one by one after others as long as each is the next one; then they end so. At
--- the first that is not the next one the log is damaged, at the gate of its record.
+-- Stored blocks are taken one by one as long as each is the next one, then they end as `end` says.
+-- At the first that is not the next one, the log is damaged, at the gate of its record.
 unfoldable pub standing_after : Placer → List Stored → List Stored → (List Stored → Standing) → Standing
 standing_after place held [] end = end held
 standing_after place held (s ∷ more) end = if is_next_by place held s.block then standing_after place (held ++ s ∷ []) more end else Damaged held s.place
 
--- What bytes stand for by this placement, from what they stand for by the log's own.
+-- What bytes stand for by this placement, derived from what they stand for by the log's own.
 abbrev pub restanding : Placer → Standing → Standing
 restanding place Blank = Blank
 restanding place NotALog = NotALog

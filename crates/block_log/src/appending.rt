@@ -1,4 +1,4 @@
-//! Appending to a log.
+//! Appending a block: its record is written and synced behind a closed gate, which is then opened.
 
 ghost use Rattle.std.specs.{
   Prelude.{◌≡◌, ◌≤◌, ◌+◌, true, List, ℕ, [], ◌∷◌, ◌++◌, length, take, Some, IfOk, IsErr},
@@ -25,7 +25,7 @@ use crate::steps::write_through;
 use block_codec::block_digest;
 use disk_model::Disk;
 
-// Joins a record at the start of a slice.
+// Puts a record together at the start of a slice.
 #[tactic(auto, unfolding(crate::specs::Steps::record_bytes))]
 fn join_record(slice: &mut [u8], bytes: &[u8])
     requires short { length bytes.now ≤ MAX_BLOCK_BYTES }
@@ -39,7 +39,7 @@ fn join_record(slice: &mut [u8], bytes: &[u8])
     slice[4 + bytes.len()] = CLOSED_GATE;
 }
 
-// Joins a record at the start of the buffer of a log.
+// Puts a record together at the start of the log's buffer.
 fn fill(buffer: &mut Vec<u8>, bytes: &[u8])
     requires short { length bytes.now ≤ MAX_BLOCK_BYTES }
     requires room { length buffer.old.items ≡ MAX_RECORD_BYTES }
@@ -50,16 +50,17 @@ fn fill(buffer: &mut Vec<u8>, bytes: &[u8])
 }
 
 impl Log {
-    /// Appends the next block, of these bytes, in two steps of a write and a sync each: it writes
-    /// the record after the closed gate, with a closed gate after it, and opens the gate. It takes
-    /// no memory.
+    /// Appends the next block, which has these bytes, in two steps of a write and a sync each: it
+    /// writes the record after the closed gate, ending in a closed gate, then opens the gate before
+    /// it. It takes no memory.
     pub fn append<M: Disk>(self, machine: &mut M, bytes: &[u8]) -> Result<Log, DiskFault>
         requires ready { self.is_ready ≡ true }
         requires agrees { Rests (M.disk machine.old (M.now machine.old)) (Agrees self) }
         requires next { IsNextOf self bytes.now }
         ensures appended { IfOk result (λ log. log ≡ log_with_block self bytes.now) }
         ensures agrees { IfOk result (λ log. Rests (M.disk machine.new (M.now machine.new)) (Agrees log)) }
-        // A crash at any moment of the call leaves the chain from before it, or that with the block.
+        // A crash at any moment of the call leaves the chain without the block or the chain with
+        // it.
         ensures images { (place : Placer) (content : List ℕ) (blocks : List Block) (block : Block) → content_of (M.disk machine.old (M.now machine.old)) ≡ Some content
             → IsNextAfter place content bytes.now blocks block → Keeps M.now M.disk machine.old machine.new (IsOldOrNew (next_block block_in place) blocks block) }
         ensures added { IfOk result (λ log. (place : Placer) (content : List ℕ) (blocks : List Block) (block : Block) → content_of (M.disk machine.old (M.now machine.old)) ≡ Some content

@@ -1,4 +1,4 @@
-//! Making the head of a log.
+//! Making the head of a log, in an order by which a crash leaves no block.
 
 ghost use Rattle.std.specs.{
   Prelude.{◌≡◌, false, List, ℕ, [], Some, IfOk, IsErr},
@@ -18,8 +18,8 @@ use crate::log::Log;
 use crate::steps::write_through;
 use disk_model::Disk;
 
-// The first step. Without it the magic might come to stand after an open head gate, before a gate
-// that is not written yet.
+// The first step. Without it the magic could follow an open head gate before the gate after it is
+// written.
 fn close_head<M: Disk>(machine: &mut M, is_begun: bool) -> Result<(), DiskFault>
     requires blank { Rests (M.disk machine.old (M.now machine.old)) (IsBlank is_begun) }
     ensures makes { MakesHead M.now M.disk HasClosedHead machine.old machine.new result }
@@ -46,19 +46,19 @@ fn prepare<M: Disk>(machine: &mut M, is_begun: bool) -> Result<(), DiskFault>
 }
 
 impl Log {
-    /// Makes the head of a log where there is none, in three steps of a write and a sync each: it
-    /// closes the head gate (left out where the first byte is 0 already), writes the magic and the
+    /// Makes the head of a log on a disk that holds none, in three steps of a write and a sync
+    /// each: it closes the head gate (skipped if the first byte is 0), writes the magic and the
     /// closed gate of the first record, and opens the head gate. It takes no memory.
     pub fn create<M: Disk>(self, machine: &mut M) -> Result<Log, DiskFault>
         requires headless { self.is_ready ≡ false }
         requires agrees { Rests (M.disk machine.old (M.now machine.old)) (Agrees self) }
         ensures created { IfOk result (λ log. log ≡ log_with_head self) }
         ensures agrees { IfOk result (λ log. Rests (M.disk machine.new (M.now machine.new)) (Agrees log)) }
-        // A crash at any moment of the call leaves no block, whatever block comes next.
+        // A crash at any moment of the call leaves no block, whichever block comes next.
         ensures images { (next : NextBlock) (content : List ℕ) → content_of (M.disk machine.old (M.now machine.old)) ≡ Some content
             → Keeps M.now M.disk machine.old machine.new (λ image. chain_of next image ≡ Some []) }
         ensures empty { IfOk result (λ log. (next : NextBlock) → Rests (M.disk machine.new (M.now machine.new)) (λ image. chain_of next image ≡ Some [])) }
-        // Where it has answered Ok the disk is known as it was at entry.
+        // If it returns `Ok`, the disk is known exactly if it was known at entry.
         ensures still_known { IfOk result (λ log. is_some (M.disk machine.new (M.now machine.new)) ≡ is_some (M.disk machine.old (M.now machine.old))) }
         ensures told { M.told machine.new ≡ M.told machine.old }
         ensures wire_faults { M.wire_faults machine.new ≡ M.wire_faults machine.old }

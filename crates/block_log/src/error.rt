@@ -1,16 +1,16 @@
-//! Why a log could not be started, or a call of it went no further.
+//! Why a log could not be opened, read or written.
 
 ghost use Rattle.std.specs.Prelude.{◌≡◌};
 
 use lc_base::{HostError, Memory};
 use lc_io::Failed;
 
-/// Why there is no log to start with.
+/// Why a log could not be opened or read.
 #[derive(Clone, Copy, Debug, PartialEq, Eq)]
 pub enum LogError {
-    /// The disk holds something else.
+    /// The disk holds something other than a log.
     NotALog,
-    /// What stands at the gate at this offset is no record of the next block.
+    /// The open gate at this offset is not followed by a record of the next block.
     Damaged { at: u64 },
     /// A call of the disk failed.
     DiskFault,

@@ -1,21 +1,21 @@
-//! How a log is laid out: a head gate, the magic, and records, each after a gate of its own.
+//! The layout of a log: a head gate, the magic, then records, each after a gate of its own.
 
 use block_codec::{Block, MAX_BLOCK_BYTES};
 use lc_base::Digest;
 
-/// A gate is open where it is this byte; every other byte is closed.
+/// An open gate. Every other byte is a closed gate.
 pub const OPEN_GATE: u8 = 0xA5;
 
-/// A closed gate, as it is written.
+/// The byte that is written as a closed gate.
 pub const CLOSED_GATE: u8 = 0x00;
 
-/// The bytes after the head gate: `LCLOG1` and a line end.
+/// The bytes after the head gate: `LCLOG1` and a line feed.
 pub(crate) const MAGIC: [u8; 7] = *b"LCLOG1\n";
 
 /// The offset of the gate of the first record, after the head gate and the magic.
 pub const FIRST_GATE: u64 = 8;
 
-/// The greatest number of bytes of a record: its length in four bytes, a block, and the gate of the
+/// The greatest number of bytes of a record: a length of four bytes, a block, and the gate of the
 /// next record.
 pub const MAX_RECORD_BYTES: usize = MAX_BLOCK_BYTES + 5;
 
@@ -24,7 +24,7 @@ pub const MAX_RECORD_BYTES: usize = MAX_BLOCK_BYTES + 5;
 pub struct Stored {
     /// The offset of the gate of its record.
     pub place: u64,
-    /// Its digest.
+    /// The digest of the block.
     pub digest: Digest,
     pub block: Block,
 }

@@ -1,4 +1,4 @@
-//! A log of blocks on a disk, each after a gate that is opened once its bytes are sure to be there.
+//! A log of blocks on a disk. The gate before a block is opened only after the block is synced.
 #![tactic(auto)]
 
 mod appending;

@@ -1,4 +1,4 @@
-//! A log over the bytes of a disk.
+//! A log and the state that it keeps between calls.
 
 ghost use Rattle.std.specs.Prelude.{◌≡◌};
 ghost use Rattle.block_log.specs.Log.{LogState};
@@ -6,8 +6,8 @@ ghost use Rattle.block_log.specs.Log.{LogState};
 use lc_base::Digest;
 use std::marker::Model;
 
-/// A log: where its next block goes, and what that block comes after. It keeps the buffer in which
-/// records are joined, so that appending takes no memory.
+/// A log: where its next block goes, and which block precedes that. It keeps the buffer in which
+/// records are put together, so that appending takes no memory.
 #[derive(Drop)]
 pub struct Log {
     pub(crate) buffer: Vec<u8>,
@@ -31,8 +31,8 @@ impl Model for Log {
 }
 
 impl Log {
-    /// Whether it has a head, so that blocks can be appended; it has none where the disk held no log
-    /// and `create` was not called.
+    /// Whether the log has a head, so that blocks can be appended. It has none if the disk held no
+    /// log and `create` has not been called.
     pub fn ready(&self) -> bool
         ensures { result ≡ self.now.is_ready }
     {

@@ -29,19 +29,19 @@ use lc_base::{Digest, HostError, Memory};
 use std::alloc::Global;
 use std::marker::Model;
 
-/// What stands at a gate.
+/// What is found at a gate.
 #[derive(Drop)]
 pub(crate) enum Found {
     /// The gate is closed.
     Closed,
     /// The gate is open, and no record of the next block follows it.
     Broken,
-    /// The gate is open, and the next block follows it, and then the gate at this offset.
+    /// The gate is open, and the next block follows, then the gate at the offset `after`.
     Next { next: Stored, after: u64 },
 }
 
 /// Whether a block with this digest is the next one after `count` blocks, the last of which has the
-/// digest `last`. A block of a number that is held isn't, whichever block is held.
+/// digest `last`. A block with the number of a held one is not, whichever block is held.
 fn is_next(count: u32, last: Digest, block: &Block, digest: Digest) -> bool
     requires lawful { IsBlock block.now }
     ensures { result ≡ is_some (if_next block.now (new_placement count 0 last block.now)) }
@@ -49,7 +49,7 @@ fn is_next(count: u32, last: Digest, block: &Block, digest: Digest) -> bool
     block.number == count && matches!(place(count, 0, None, last, block, digest), Placement::Next)
 }
 
-/// The block that the bytes after the gate at this offset spell, where it is the next one after
+/// The block that the bytes after the gate at this offset spell, if it is the next one after
 /// `count` blocks, the last of which has the digest `last`.
 fn next_stored(
     alloc: Global,
@@ -78,8 +78,8 @@ fn next_stored(
     }
 }
 
-/// Reads what stands at the gate at this offset, through the buffer, after `count` blocks, the last
-/// of which has the digest `last`.
+/// Reads, through the buffer, what is at the gate at this offset, after `count` blocks, the last of
+/// which has the digest `last`.
 fn read_next<M: Disk>(
     alloc: Global,
     machine: &mut M,
@@ -114,8 +114,8 @@ fn read_next<M: Disk>(
     }
 }
 
-/// The blocks of a log that are still to be read. It holds one block's bytes and none of the blocks
-/// that it has given.
+/// The blocks of a log that are still to be read. It holds the bytes of one block, and none of the
+/// blocks that it has returned.
 #[derive(Drop)]
 pub struct LogReader {
     pub(crate) log: Log,
@@ -132,21 +132,21 @@ impl Model for LogReader {
     ghost invariant = { λ reader. (reader.log.is_ready ≡ true) × (reader.log.is_begun ≡ false) };
 }
 
-/// What a look at a log gives.
+/// What the next step of reading a log returns.
 #[derive(Drop)]
 pub enum Turn {
-    /// The next block, and what is still to be read.
+    /// The next block, and the reader of those after it.
     Block { next: Stored, reader: LogReader },
-    /// There is no further block: the log of all that were given.
+    /// All blocks have been read, and this is the log of them.
     End { log: Log },
 }
 
 impl LogReader {
-    /// Reads the next block of the log, or that there is none. It writes nothing. It takes memory for
-    /// the block alone.
+    /// Reads the next block of the log, or finds its end. It writes nothing, and takes memory for
+    /// the block only.
     pub fn next<M: Disk>(self, alloc: Global, machine: &mut M) -> Result<Turn, LogError>
-        // Known or not: the blocks given so far are a chain, each with its digest, and the log holds
-        // their number and the last digest.
+        // Also if the content is not known, the blocks returned so far are a chain, each with its
+        // digest, and the log holds their number and the last digest.
         ensures answer { (stored : List Storeds) → AreRead self (content_of (M.disk machine.old (M.now machine.old))) stored
             → IsTurn (content_of (M.disk machine.new (M.now machine.new))) stored result }
         ensures block { IfOk result (IfBlock self) }

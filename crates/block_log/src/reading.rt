@@ -1,4 +1,4 @@
-//! Reading the head of a log, and one record.
+//! Reading the head of a log, and single records.
 
 ghost use Rattle.std.specs.Prelude.{◌≡◌, ℕ, ◌+◌, ◌^◌, ◌≤◌, ◌<◌, ◌==◌, List, length, take, drop, get_or, Some, IfOk, IsErr};
 ghost use Rattle.lc_base.specs.Faults.{HasCause};
@@ -16,41 +16,41 @@ use block_codec::MAX_BLOCK_BYTES;
 use disk_model::Disk;
 use lc_io::Failed;
 
-/// The number of bytes by which a log is told from other bytes.
+/// The number of bytes that distinguish a log from other bytes.
 const HEAD_BYTES: usize = FIRST_GATE as usize + 1;
 
-/// The number of bytes of a gate and of the length after it.
+/// The number of bytes of a gate and the length after it.
 pub(crate) const PREFIX_BYTES: usize = 5;
 
-/// What bytes are by their head.
+/// What the head of some bytes says they are.
 #[derive(Clone, Copy)]
 pub(crate) enum Head {
     Log,
-    /// No log yet; and whether the first byte is 0.
+    /// No log yet; `is_begun` says whether the first byte is 0.
     Blank { is_begun: bool },
-    /// Something else than a log.
+    /// Something other than a log.
     Other,
 }
 
-/// What stands at a gate.
+/// What is at a gate.
 #[derive(Clone, Copy)]
 pub(crate) enum Record {
     /// The gate is closed.
     Closed,
     /// The gate is open, and no whole record follows it.
     Broken,
-    /// The gate is open, and a record follows it whose block has so many bytes.
+    /// The gate is open, and a record follows whose block has `size` bytes.
     Open { size: usize },
 }
 
-/// The byte at an index, or another past the end.
+/// The byte at an index, or `other` past the end.
 fn byte_or(bytes: &[u8], index: usize, other: u8) -> u8
     ensures { result ≡ get_or bytes.now index other }
 {
     bytes.get(index).copied().unwrap_or(other)
 }
 
-/// Whether the magic and the gate of the first record are there.
+/// Whether the bytes have the magic, and the gate of the first record.
 fn has_magic(image: &[u8]) -> bool
     ensures { result ≡ has_magic image.now }
 {
@@ -88,7 +88,7 @@ fn head_in(image: &[u8]) -> Head
     }
 }
 
-/// What the bytes of the disk are by their head.
+/// What the head of the disk's bytes says they are.
 #[tactic(auto, using(crate::proofs::Heads::head_prefix))]
 pub(crate) fn read_head<M: Disk>(machine: &mut M) -> Result<Head, Failed>
     ensures head { (content : List ℕ) → content_of (M.disk machine.old (M.now machine.old)) ≡ Some content → IfOk result (λ head. head ≡ head_of content) }
@@ -102,7 +102,7 @@ pub(crate) fn read_head<M: Disk>(machine: &mut M) -> Result<Head, Failed>
     Ok(head_in(&image[..count]))
 }
 
-/// A record whose block has so many bytes, where a block may have them.
+/// A record whose block has `size` bytes, if a block may have that many.
 fn record_of_size(size: u32) -> Record
     ensures { result ≡ sized_record size }
 {
@@ -142,8 +142,8 @@ fn read_gate<M: Disk>(machine: &mut M, at: u64) -> Result<Record, Failed>
     Ok(gate_in(&prefix[..count]))
 }
 
-/// Reads the bytes of the block of a record, whose gate is at this offset, to the front of the
-/// buffer. It answers whether all of them are there, and at least one more.
+/// Reads the bytes of a record's block, whose gate is at this offset, to the front of the buffer.
+/// It returns whether all of them are there, and at least one more byte.
 fn read_body<M: Disk>(
     machine: &mut M,
     buffer: &mut [u8],
@@ -163,7 +163,7 @@ fn read_body<M: Disk>(
     Ok(count > size)
 }
 
-/// Reads what stands at the gate at this offset; the block of a record to the front of the buffer.
+/// Reads what is at the gate at this offset, and the block of a record to the front of the buffer.
 #[tactic(auto, unfolding(crate::specs::Reading::record_of))]
 pub(crate) fn read_record<M: Disk>(
     machine: &mut M,

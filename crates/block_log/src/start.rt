@@ -1,4 +1,4 @@
-//! Starting a log on a disk.
+//! Opening a disk as a log. Nothing is written.
 
 ghost use Rattle.std.specs.Prelude.{◌≡◌, length, IfOk, IsErrOf};
 ghost use Rattle.lc_base.specs.Faults.{HasCause};
@@ -29,15 +29,15 @@ pub enum Opened {
     Blank { log: Log },
 }
 
-/// A buffer of so many bytes. Its callers need its length alone: that it holds zeros would be a list
-/// of all of them in their proofs.
+/// A buffer of `count` bytes. Its callers need only its length: if they knew that it holds zeros,
+/// their proofs would carry a list of all of them.
 fn buffer_of(alloc: Global, count: usize) -> Result<Vec<u8>, Memory>
     ensures { IfOk result (λ bytes. length bytes.items ≡ count) }
 {
     zeros(alloc, count)
 }
 
-/// A reader of a log, no block of which was read.
+/// A reader of a log of which no block has been read.
 fn first_reader(buffer: Vec<u8>) -> LogReader
     requires room { length buffer.items ≡ MAX_RECORD_BYTES }
     ensures { result ≡ log_at FIRST_GATE 0 no_parent }
@@ -51,7 +51,7 @@ fn first_reader(buffer: Vec<u8>) -> LogReader
     }
 }
 
-/// A log with no head.
+/// A log without a head.
 fn blank_log(buffer: Vec<u8>, is_begun: bool) -> Log
     requires room { length buffer.items ≡ MAX_RECORD_BYTES }
     ensures { result ≡ blank_log is_begun }
@@ -67,8 +67,8 @@ fn blank_log(buffer: Vec<u8>, is_begun: bool) -> Log
 }
 
 impl Log {
-    /// What a disk holds: the blocks of a log are read one after another; a log that is not ready
-    /// stands where there is none yet. It writes nothing. It takes memory for the buffer that the
+    /// What a disk holds: a log, whose blocks are then read one after another, or, if there is none
+    /// yet, a log that is not ready. It writes nothing, and takes memory for the buffer that the
     /// log keeps.
     pub fn start<M: Disk>(alloc: Global, machine: &mut M) -> Result<Opened, LogError>
         ensures answer { IsOpened (content_of (M.disk machine.new (M.now machine.new))) result }

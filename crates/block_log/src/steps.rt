@@ -1,4 +1,4 @@
-//! A step of making a log and of appending to it: a write and a sync.
+//! One step of making a log or of appending to it: a write, then a sync.
 
 ghost use Rattle.std.specs.{
   Prelude.{◌≡◌, ◌≤◌, ◌<◌, ◌+◌, ◌^◌, ℕ, List, length, Some, OnOk, IsErr},
@@ -11,8 +11,9 @@ ghost use Rattle.block_log.specs.Steps.{synced_write};
 use crate::error::DiskFault;
 use disk_model::Disk;
 
-/// Writes the bytes over those from an offset on, and past the end, and syncs. After `Ok` nothing
-/// is pending; a crash at any moment of the call leaves any bytes where they go, and all others.
+/// Writes the bytes at an offset, over those that are there and past the end, and syncs. After `Ok`
+/// nothing is pending. A crash at any moment of the call may leave any bytes in their range, and
+/// leaves all others.
 pub(crate) fn write_through<M: Disk>(
     machine: &mut M,
     at: u64,

@@ -1,4 +1,4 @@
--- The laws of what is promised.
+-- The laws about promises hold: a chain never loses a block that was acknowledged.
 use Rattle.std.proofs.Common.{◌≡◌, ℕ, ◌≤◌, Bool, true, false, List, [], ◌∷◌, ◌++◌, take, map, refl, sym, ◌∙◌, ap, subst, append_assoc}
 use Rattle.std.specs.Prelude.{Option, Some, nat_le, if◌then◌else◌, slice_get}
 use Rattle.std.specs.List.{concat}
@@ -15,7 +15,7 @@ use Rattle.crash_promises.proofs.Sure.{has_more}
 
 -- ---- bytes
 
--- what was told of lines is a prefix of them
+-- what was printed of lines is a prefix of them
 pub begun_prefix : (tells : List Tell) (lines : List Line) → AreBegun tells lines → IsPrefix (bytes_told tells) (concat (map (λ (line : Line). line.text) lines))
 begun_prefix tells lines (NoMore ls) = (concat (map (λ (line : Line). line.text) ls), refl)
 begun_prefix tells lines (Part t l ls front) = (
@@ -38,7 +38,7 @@ kept_more next blocks more (Holds number block) image last is goes (others, chai
     let same : others ≡ blocks = cc (chain, is) in
     (blocks ++ more, goes, has_more blocks more number block (subst (λ (b : List Block). slice_get b number ≡ Some block) same there))
 
--- and all of them
+-- and all promises
 all_kept_more : (next : NextBlock) (blocks more : List Block) (promises : List Promise) (image last : List ℕ) → chain_of next image ≡ Some blocks → chain_of next last ≡ Some (blocks ++ more) → AllAreKept next promises image → AllAreKept next promises last
 all_kept_more next blocks more [] image last is goes kept = tt
 all_kept_more next blocks more (p ∷ ps) image last is goes kept = (kept_more next blocks more p image last is goes kept.0, all_kept_more next blocks more ps image last is goes kept.1)
@@ -47,7 +47,7 @@ all_of_both : (next : NextBlock) (a b : List Promise) (image : List ℕ) → All
 all_of_both next [] b image first second = second
 all_of_both next (p ∷ a) b image first second = (first.0, all_of_both next a b image first.1 second)
 
--- runs hold what any of them promised
+-- runs keep what any of them promised
 pub hold : (next : NextBlock) (first : List ℕ) (blocks : List Block) (runs : List Left) → chain_of next first ≡ Some blocks → AreRuns next first runs
     → (more : List Block) × (chain_of next (last_image first runs) ≡ Some (blocks ++ more)) × AllAreKept next (all_acknowledged runs) (last_image first runs)
 hold next first blocks [] is runs = ([], is ∙ ap Some (sym (append-nil blocks)), tt)
@@ -61,7 +61,7 @@ hold next first blocks (left ∷ others) is runs =
 
 -- ---- one run, and a stop
 
--- what a crash may leave goes on from the content
+-- what a crash may leave extends the content's chain
 goes_on : (next : NextBlock) (content : List ℕ) (change : Change) (image : List ℕ) → MayLeave next content change image → GoesOn next content image
 goes_on next content NoChange image same blocks is = ([], ap (chain_of next) same ∙ is ∙ ap Some (sym (append-nil blocks)))
 goes_on next content (Appends added) image (first, was, (n, at)) blocks is =

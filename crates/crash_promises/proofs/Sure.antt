@@ -1,4 +1,4 @@
--- Chains that have what is promised, and how long that is kept.
+-- A chain that has what is promised keeps it while it grows.
 use Rattle.std.proofs.Common.{◌≡◌, ℕ, ◌<◌, List, [], ◌∷◌, ◌++◌, length, get_or, ◌∙◌, ap, arith, append_assoc, refl, sym}
 use Rattle.std.specs.Prelude.{Some, slice_get}
 use Rattle.std.proofs.lemmas.Bool.{cases_lt}
@@ -53,18 +53,18 @@ all_sure_kept next blocks more (line ∷ lines) image sure is =
 
 -- ---- chains with some first ones of other blocks
 
--- what is partly so is it with more blocks too
+-- a chain with some first ones of the added blocks, also if more are added
 pub partly_more : (next : NextBlock) (first added more : List Block) (image : List ℕ) → IsPartly next first added image → IsPartly next first (added ++ more) image
 partly_more next first added more image (count, is) = elim (cases_lt (length added) count) [
   | inr short ↦ (count, is ∙ ap (λ (l : List Block). Some (first ++ l)) (sym (take-append-le count added more (omega (arith, short)))))
   | inl long ↦ (length added, is ∙ ap (λ (l : List Block). Some (first ++ l)) (take_all count added (omega (arith, long)) ∙ sym (take_at added more (length added) refl)))
 ]
 
--- the chain with all blocks so far
+-- the chain with all blocks added so far
 pub partly_held : (next : NextBlock) (first added more blocks : List Block) (image : List ℕ) → blocks ≡ first ++ added → chain_of next image ≡ Some blocks → IsPartly next first (added ++ more) image
 partly_held next first added more blocks image blocks_are is = (length added, is ∙ ap Some (blocks_are ∙ ap (λ (l : List Block). first ++ l) (sym (take_at added more (length added) refl))))
 
--- the chain with more blocks after those so far
+-- the chain with more blocks after those added so far
 pub partly_longer : (next : NextBlock) (first added more blocks : List Block) (image : List ℕ) → blocks ≡ first ++ added → chain_of next image ≡ Some (blocks ++ more) → IsPartly next first (added ++ more) image
 partly_longer next first added more blocks image blocks_are is =
     let all : List Block = added ++ more in

@@ -1,4 +1,4 @@
--- What was told, one part after another, and what it promised.
+-- What was printed, one part after another, and what it promised.
 use Rattle.std.proofs.Common.{◌≡◌, ◌⊎◌, inl, inr, ⊎_elim, ℕ, Bool, true, false, List, [], ◌∷◌, ◌++◌, take, drop, map, refl, sym, ◌∙◌, ap, subst}
 use Rattle.std.specs.Prelude.{Option, Some, Result, Ok, Err, is_ok}
 use Rattle.std.proofs.lemmas.List.{take-append-drop, map-append}
@@ -38,7 +38,7 @@ module _ {D : Type 0} (next : NextBlock) (now : D → ℕ) (disk : D → ℕ →
   kept_join new (t ∷ ta) tb [] b same first second = absurd (cc same)
   kept_join new (t ∷ ta) tb (l ∷ a) b same first second = (first.0, kept_join new ta tb a b (cc same) first.1 second)
 
-  -- what is kept so far is kept on, where each image of what follows keeps it
+  -- what is kept so far stays kept, if each image of what follows keeps it
   kept_on : (mid new : D) (P : List ℕ → Type 0) → Keeps now disk mid new P → (tells : List Tell) (lines : List Line) → ((c : List ℕ) → P c → KeepsLines next lines c) → AreKept next now disk mid tells lines → AreKept next now disk new tells lines
   kept_on mid new P keeps [] lines leads kept = tt
   kept_on mid new P keeps (t ∷ ts) [] leads kept = tt
@@ -47,7 +47,7 @@ module _ {D : Type 0} (next : NextBlock) (now : D → ℕ) (disk : D → ℕ →
     kept_on mid new P keeps ts ls (λ c p. (leads c p).1) others,
   )
 
-  -- ---- tellings
+  -- ---- printing
 
   pub none_told : (old new : D) (lines : List Line) → told new ≡ told old → Telling next now disk told old new lines false
   none_told old new lines same = record { tells = []; added = same ∙ with_none (told old); begun = NoMore lines; whole = λ e. absurd (cc e); kept = tt }
@@ -55,7 +55,7 @@ module _ {D : Type 0} (next : NextBlock) (now : D → ℕ) (disk : D → ℕ →
   pub none_to_tell : (old new : D) (all : Bool) → told new ≡ told old → Telling next now disk told old new [] all
   none_to_tell old new all same = record { tells = []; added = same ∙ with_none (told old); begun = NoMore []; whole = λ e. refl; kept = tt }
 
-  -- some lines, and then others
+  -- some lines, then others
   pub join : (old mid new : D) (P : List ℕ → Type 0) (a b : List Line) (all : Bool) → Telling next now disk told old mid a true → Keeps now disk mid new P → ((c : List ℕ) → P c → KeepsLines next a c) → Telling next now disk told mid new b all
       → Telling next now disk told old new (a ++ b) all
   join old mid new P a b all first keeps leads second =
@@ -70,7 +70,7 @@ module _ {D : Type 0} (next : NextBlock) (now : D → ℕ) (disk : D → ℕ →
         kept = kept_join new first.tells second.tells a b same (kept_on mid new P keeps first.tells a leads first.kept) second.kept;
       }
 
-  -- more lines, of which none is told
+  -- more lines, none of which is printed
   pub longer : (old new : D) (a b : List Line) (all : Bool) → Telling next now disk told old new a all → Telling next now disk told old new (a ++ b) false
   longer old new a b all t = record {
     tells = t.tells;
@@ -80,7 +80,7 @@ module _ {D : Type 0} (next : NextBlock) (now : D → ℕ) (disk : D → ℕ →
     kept = kept_longer new t.tells a b t.begun t.kept;
   }
 
-  -- ---- one tell
+  -- ---- printing one line
 
   -- a call that leaves the disk as it was
   pub still : (old new : D) (P : List ℕ → Type 0) → ((s : DiskState) (c : List ℕ) → disk old (now old) ≡ Some s → IsImage s c → P c) → Stays now disk old new → Keeps now disk old new P
@@ -111,7 +111,7 @@ module _ {D : Type 0} (next : NextBlock) (now : D → ℕ) (disk : D → ℕ →
     kept = (kept_now old new promise here stays, tt);
   }
 
-  -- what was told since a state at which no more was told than before
+  -- what was printed since a state at which no more had been printed than before
   pub told_since : (old mid new : D) (lines : List Line) (all : Bool) → told mid ≡ told old → Telling next now disk told mid new lines all → Telling next now disk told old new lines all
   told_since old mid new lines all same t = record { tells = t.tells; added = t.added ∙ ap (λ (o : Option (List Tell)). with_tells o t.tells) same; begun = t.begun; whole = t.whole; kept = t.kept }
 
@@ -120,7 +120,7 @@ module _ {D : Type 0} (next : NextBlock) (now : D → ℕ) (disk : D → ℕ →
       → ((promise : Promise) → IsKeptAt next now disk old promise → Telling next now disk told old new (record { text = bytes; promise = promise } ∷ []) all) → Telling next now disk told old new (plain text ∷ []) all
   plain_told old new bytes text all is tell = subst (λ (b : List ℕ). Telling next now disk told old new (plain b ∷ []) all) is (tell NoPromise (λ state image at shows. tt))
 
-  -- a tell of one line, whatever it answers
+  -- printing one line, whatever the call returns
   pub told_line : {T E : Type 0} (old new : D) (bytes : List ℕ) (promise : Promise) (result : Result T E) → IsKeptAt next now disk old promise → Stays now disk old new → Tells (now old) bytes (told old) (told new) result
       → Telling next now disk told old new (record { text = bytes; promise = promise } ∷ []) (is_ok result)
   told_line old new bytes promise (Ok x) here stays is = told_ok old new bytes promise here stays is

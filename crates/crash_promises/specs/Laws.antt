@@ -1,4 +1,4 @@
--- Laws of what is promised, over one run and over several.
+-- Laws about what printed lines promise, over one run and over several.
 use Rattle.std.specs.Prelude.{◌≡◌, ℕ, ◌≤◌, Bool, nat_le, if◌then◌else◌, List, [], ◌∷◌, ◌++◌, map, Option, Some}
 use Rattle.std.specs.List.{concat}
 use Rattle.lc_io.specs.Disk.{DiskState}
@@ -8,13 +8,13 @@ use Rattle.block_codec.specs.declared.block.Block.{Block}
 use Rattle.block_log.specs.Standing.{NextBlock, chain_of}
 use Rattle.crash_promises.specs.Promises.{Promise, Line, Change, IsPromiseKept, AreBegun, Telling, MayLeave}
 
--- The bytes of pieces that were told for lines are a prefix of the lines' bytes.
+-- The bytes that were printed of lines are a prefix of the lines' bytes.
 abbrev pub BegunIsPrefix : Type 0
 BegunIsPrefix = (tells : List Tell) (lines : List Line) → AreBegun tells lines → IsPrefix (bytes_told tells) (concat (map (λ line. line.text) lines))
 
 -- ---- runs, one after another
 
--- What a run left where it stopped: what it had promised by then, and the bytes of the disk.
+-- What a stopped run left: what it had promised by then, and the bytes of the disk.
 pub record Left : Type 0 where
   pub acknowledged : List Promise
   pub image : List ℕ
@@ -24,13 +24,13 @@ abbrev pub AllAreKept : NextBlock → List Promise → List ℕ → Type 0
 AllAreKept next [] image = Unit {0}
 AllAreKept next (promise ∷ promises) image = IsPromiseKept next promise image × AllAreKept next promises image
 
--- The image stands for the chain of the one before, and any blocks after it.
+-- The image stands for the chain of `before`, followed by any blocks.
 abbrev pub GoesOn : NextBlock → List ℕ → List ℕ → Type 0
 GoesOn next before image =
     (blocks : List Block) → chain_of next before ≡ Some blocks → (more : List Block) × (chain_of next image ≡ Some (blocks ++ more))
 
--- Runs, the first one on this image, and each other one on the image that the one before it left. A
--- run leaves a longer chain or the same one, and keeps what it promised.
+-- Runs, the first on this image, and each other one on the image that the run before it left. A run
+-- leaves the same chain or a longer one, and keeps what it promised.
 abbrev pub AreRuns : NextBlock → List ℕ → List Left → Type 0
 AreRuns next image [] = Unit {0}
 AreRuns next image (left ∷ others) =
@@ -53,16 +53,16 @@ RunsHold = (next : NextBlock) (first : List ℕ) (blocks : List Block) (runs : L
 
 -- ---- one run, and a stop
 
--- The promises of the lines that were begun up to a moment.
+-- The promises of the lines whose printing had begun by a moment.
 abbrev pub acknowledged_by : ℕ → List Tell → List Line → List Promise
 acknowledged_by t [] lines = []
 acknowledged_by t (tell ∷ tells) [] = []
 acknowledged_by t (tell ∷ tells) (line ∷ lines) =
     if nat_le tell.at t then line.promise ∷ acknowledged_by t tells lines else acknowledged_by t tells lines
 
--- A run that told some of these lines, and made this change or a part of it, may be stopped at any
--- moment: the image that it leaves goes on from the content at first, and keeps what was acknowledged
--- by then.
+-- A run that printed some of these lines, and made this change or a part of it, may be stopped at
+-- any moment: the image that it leaves extends the first content's chain, and keeps what was
+-- acknowledged by then.
 abbrev pub StopLeaves : {D : Type 0} → NextBlock → (D → ℕ) → (D → ℕ → Option DiskState) → (D → Option (List Tell)) → D → D → Type 0
 StopLeaves next now disk told old new =
     (content : List ℕ) (change : Change) (lines : List Line) (all : Bool) (telling : Telling next now disk told old new lines all)

@@ -1,4 +1,4 @@
--- What a command promises of the log by the lines that it tells, and what a crash may leave.
+-- What the lines that a command prints promise about the log, and what a crash may leave of it.
 use Rattle.std.specs.Prelude.{◌≡◌, ℕ, Bool, true, List, [], ◌∷◌, ◌++◌, take, map, Option, Some, slice_get}
 use Rattle.lc_io.specs.Disk.{DiskState}
 use Rattle.lc_io.specs.Outside.{Tell, with_tells, IsPrefix}
@@ -8,13 +8,13 @@ use Rattle.block_log.specs.Standing.{NextBlock, chain_of}
 
 -- ---- lines, and what they promise
 
--- What a line promises of the log from the moment on at which telling it begins: nothing, or that
--- the chain has this block as its block of this number.
+-- What a line promises about the log from the moment on at which its printing begins: nothing, or
+-- that the chain has this block with this number.
 pub data Promise : Type 0 where
   NoPromise : Promise
   Holds : ℕ → Block → Promise
 
--- A line, its end included, and what it promises.
+-- A line, including its end, and what it promises.
 pub record Line : Type 0 where
   pub text : List ℕ
   pub promise : Promise
@@ -23,8 +23,8 @@ pub record Line : Type 0 where
 abbrev pub plain : List ℕ → Line
 plain text = record { text = text; promise = NoPromise }
 
--- The image keeps the promise: it stands for a chain that has the block as its block of that number.
--- `next` says which bytes are the next block of a chain.
+-- The image keeps the promise: it stands for a chain that has the block with that number. `next`
+-- says which bytes are the next block of a chain.
 abbrev pub IsPromiseKept : NextBlock → Promise → List ℕ → Type 0
 IsPromiseKept next NoPromise image = Unit {0}
 IsPromiseKept next (Holds number block) image = (blocks : List Block) × (chain_of next image ≡ Some blocks) × (slice_get blocks number ≡ Some block)
@@ -38,10 +38,10 @@ KeepsLines next (line ∷ lines) image = IsPromiseKept next line.promise image �
 abbrev pub IsKeptAt : {D : Type 0} → NextBlock → (D → ℕ) → (D → ℕ → Option DiskState) → D → Promise → Type 0
 IsKeptAt next now disk machine promise = (state : DiskState) (image : List ℕ) → disk machine (now machine) ≡ Some state → IsImage state image → IsPromiseKept next promise image
 
--- ---- what is told
+-- ---- what is printed
 
--- These pieces were told for the first of the lines, in order, each by a tell of its own: a piece is
--- its whole line, but the last one may be some first bytes of it.
+-- These pieces were printed for the first of the lines, in order, each by its own call. A piece is
+-- a whole line, but the last piece may be some first bytes of its line.
 pub data AreBegun : List Tell → List Line → Type 0 where
   NoMore : (lines : List Line) → AreBegun [] lines
   Part : (tell : Tell) (line : Line) (lines : List Line) → IsPrefix tell.bytes line.text → AreBegun (tell ∷ []) (line ∷ lines)
@@ -51,16 +51,16 @@ pub data AreBegun : List Tell → List Line → Type 0 where
 abbrev pub AreLines : List Tell → List Line → Type 0
 AreLines tells lines = map (λ tell. tell.bytes) tells ≡ map (λ line. line.text) lines
 
--- Whatever a crash since the moment at which telling a line began may leave keeps what the line
--- promises.
+-- Whatever a crash may leave, from the moment on at which a line's printing began, keeps what the
+-- line promises.
 abbrev pub AreKept : {D : Type 0} → NextBlock → (D → ℕ) → (D → ℕ → Option DiskState) → D → List Tell → List Line → Type 0
 AreKept next now disk machine [] lines = Unit {0}
 AreKept next now disk machine (tell ∷ tells) [] = Unit {0}
 AreKept next now disk machine (tell ∷ tells) (line ∷ lines) =
     ((image : List ℕ) → LeftSince now disk machine tell.at image → IsPromiseKept next line.promise image) × AreKept next now disk machine tells lines
 
--- Between two states these lines were told, all of them where that is wanted, else a prefix of their
--- bytes, and nothing else. Each line that was begun keeps its promise from then on.
+-- Between two states just these lines were printed, all of them if `all` is true, else a prefix of
+-- their bytes. Each line that was begun keeps its promise from then on.
 pub record Telling {D : Type 0} (next : NextBlock) (now : D → ℕ) (disk : D → ℕ → Option DiskState) (told : D → Option (List Tell)) (old new : D) (lines : List Line) (all : Bool) : Type 0 where
   pub tells : List Tell
   pub added : told new ≡ with_tells (told old) tells
@@ -70,29 +70,29 @@ pub record Telling {D : Type 0} (next : NextBlock) (now : D → ℕ) (disk : D �
 
 -- ---- what a crash may leave
 
--- What a command does to the log: it leaves the disk as it is, or it appends these blocks, one after
--- another.
+-- What a command does to the log: it leaves the disk as it is, or it appends these blocks, one
+-- after another.
 pub data Change : Type 0 where
   NoChange : Change
   Appends : List Block → Change
 
--- The image stands for these blocks and some first ones of the others.
+-- The image stands for these blocks, followed by some first ones of the others.
 abbrev pub IsPartly : NextBlock → List Block → List Block → List ℕ → Type 0
 IsPartly next blocks added image = (count : ℕ) × (chain_of next image ≡ Some (blocks ++ take count added))
 
--- What a crash may leave where the disk had this content at first: the content itself, or, where
--- blocks are appended, its chain with some first ones of them.
+-- What a crash may leave of a disk that had this content at first: the content itself or, if blocks
+-- are appended, its chain followed by some first ones of them.
 abbrev pub MayLeave : NextBlock → List ℕ → Change → List ℕ → Type 0
 MayLeave next content NoChange image = image ≡ content
 MayLeave next content (Appends added) image = (blocks : List Block) × (chain_of next content ≡ Some blocks) × IsPartly next blocks added image
 
--- What a crash may leave whatever is appended: the content at first, or its chain with further
--- blocks.
+-- What a crash may leave whatever is appended: the content at first, or its chain followed by
+-- further blocks.
 abbrev pub MayLeaveAny : NextBlock → List ℕ → List ℕ → Type 0
 MayLeaveAny next content image = (change : Change) × MayLeave next content change image
 
--- What a command that came to its end leaves: the content as it was, or its chain with all blocks
--- that are appended.
+-- What a command leaves that ran to its end: the content as it was, or its chain followed by all
+-- appended blocks.
 abbrev pub IsChanged : NextBlock → List ℕ → Change → List ℕ → Type 0
 IsChanged next content NoChange image = image ≡ content
 IsChanged next content (Appends added) image = (blocks : List Block) × (chain_of next content ≡ Some blocks) × (chain_of next image ≡ Some (blocks ++ added))

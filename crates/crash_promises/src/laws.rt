@@ -1,11 +1,11 @@
-//! Laws of what is promised, each the contract of a function that does nothing.
+//! Laws about the promises of printed lines, each the contract of a function that does nothing.
 
 ghost use Rattle.block_log.specs.Standing.{NextBlock};
 ghost use Rattle.crash_promises.specs.Laws.{BegunIsPrefix, RunsHold, StopLeaves};
 
 use lc_io::Wire;
 
-/// What was told of lines is a prefix of them.
+/// What was printed of lines is a prefix of them.
 pub fn begun_is_prefix()
     ensures { BegunIsPrefix }
 {}
@@ -16,7 +16,7 @@ pub fn runs_hold()
     ensures { RunsHold }
 {}
 
-/// A stop at any moment of a run leaves what the next run may begin on.
+/// A stop at any moment of a run leaves a disk that the next run may begin with.
 pub fn stop_leaves<M: Wire>(old: &M, new: &M)
     ensures { (next : NextBlock) → StopLeaves next M.now M.disk M.told old.now new.now }
 {

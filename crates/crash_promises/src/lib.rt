@@ -1,4 +1,4 @@
-//! What lines promise of the log, what a crash may leave of it, and the laws of both.
+//! What printed lines promise about the log, what a crash may leave of it, and the laws of both.
 #![tactic(auto)]
 
 mod laws;

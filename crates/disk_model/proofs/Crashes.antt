@@ -1,4 +1,5 @@
--- What a crash leaves of a machine in memory is an image, and how the disk is made again.
+-- What a crash leaves of a machine in memory is an image of its disk, and making the calls again
+-- yields that disk.
 use Rattle.std.proofs.Common.{◌≡◌, ℕ, zero, suc, ◌+◌, ◌≤◌, List, [], ◌∷◌, length, take, drop, get_or, Bool, true, false, refl, sym, ◌∙◌, ap, subst, arith}
 use Rattle.std.specs.Prelude.{Result, Ok, Err, IfOk, IfSome, vec_len, vec_capacity}
 use Rattle.std.proofs.lemmas.List.{length-take-le, get_or-take}
@@ -37,7 +38,7 @@ filled_same pending fill keep offset (byte ∷ bytes) (suc i) clear =
 from_none : (i : ℕ) → 0 + i ≡ i
 from_none i = omega arith
 
--- what a crash leaves is an image, where the content is one
+-- what a crash leaves is an image, if the content is one
 pub crashed_image : (keep fill : ℕ) (short : Bool) (state : DiskState) → IsImage state state.content → IsImage state (crash_image keep fill short state)
 crashed_image keep fill true state image =
     let whole : length (fill_pending state.pending fill keep 0 state.content) ≡ length state.content = filled_len state.pending fill keep 0 state.content in
@@ -78,7 +79,7 @@ total_len_take zero marks = omega arith
 total_len_take (suc n) [] = omega arith
 total_len_take (suc n) (mark ∷ marks) = omega (arith, total_len_take n marks)
 
--- the machine that is made over what is left
+-- the machine over what a crash leaves
 pub machine_left : (m : Inside) (moment keep fill : ℕ) (short : Bool) (now : MachineState) (first : List ℕ) (marks : List Mark) (bytes left : List ℕ) → machine_state m ≡ now
     → first ≡ m.first.items → marks ≡ m.marks.items → bytes ≡ m.bytes.items
     → left ≡ crash_image keep fill short (disk_after_calls (settled_disk first) (calls_of (take moment marks) bytes))
@@ -86,7 +87,7 @@ pub machine_left : (m : Inside) (moment keep fill : ℕ) (short : Bool) (now : M
 machine_left m moment keep fill short now first marks bytes left view same_first same_marks same_bytes is =
     rw (← view, is, same_first, same_marks, same_bytes, calls_take moment m.marks.items m.bytes.items) refl
 
--- its content is one that a crash may leave
+-- its content is among what a crash may leave
 pub machine_image : {E : Type 0} (moment keep fill : ℕ) (short : Bool) (now : MachineState) (result : Result MachineState E) → IfOk result (λ machine. machine ≡ crashed_machine moment keep fill short now)
     → IfOk result (λ machine. IfSome (disk_of now moment) (λ state. IsImage state (content_now machine)))
 machine_image moment keep fill short now (Ok machine) is =
@@ -94,8 +95,8 @@ machine_image moment keep fill short now (Ok machine) is =
     subst (λ (m : MachineState). IsImage state (content_now m)) (sym is) (crashed_image keep fill short state (content_is_image now moment state refl))
 machine_image moment keep fill short now (Err e) is = tt
 
--- After some calls are made again, the disk is one from which the calls that are left lead to the
--- last one, and there are bytes and memory for them.
+-- After some calls were made again, the calls that are left lead to the final disk, and there are
+-- bytes and memory for them.
 pub record IsPart (first : List ℕ) (marks : List Mark) (bytes : List ℕ) (number : ℕ) (rest : List ℕ) (disk : Replayed) : Type 0 where
   pub whole : total_len (drop number marks) ≤ length rest
   pub room : vec_len disk.content + length rest ≤ vec_capacity disk.content

@@ -1,22 +1,22 @@
--- What a crash may leave of a disk where one write is pending, and where none is.
+-- What a crash may leave of a disk with one pending write, and with none.
 use Rattle.std.proofs.Common.{◌≡◌, ℕ, ◌+◌, ◌-◌, ◌≤◌, ◌<◌, false, List, [], ◌∷◌, ◌++◌, length, take, drop, get_or, refl, sym, ◌∙◌, ap, arith, append_assoc}
 use Rattle.std.proofs.lemmas.List.{ext_get_or, length-take-le, length-take, length-drop, length-append, get_or-take, get_or-drop, take_at, drop_at}
 use Rattle.std.proofs.lemmas.Bool.Decides.{nat_tests}
 use Rattle.disk_model.specs.Disk.{IsImage, is_pending, settled_disk, with_pending, bytes_over, Torn}
 
--- where nothing is pending, a crash leaves the content
+-- if nothing is pending, a crash leaves the content
 pub settled_image : (f c : List ℕ) → IsImage (settled_disk f) c → c ≡ f
 settled_image f c image = ext_get_or 0 c f (omega (arith, image.no_shorter, image.no_longer)) (λ i lt. image.same i lt refl)
 
--- one write is pending over none of the bytes before it
+-- the pending write covers no byte before its range
 below : (at n i : ℕ) → i < at → is_pending ((at, n) ∷ []) i ≡ false
 below at n i lt = grind (arith, nat_tests)
 
--- and over none of those after it
+-- and none after it
 above : (at n i : ℕ) → at + n ≤ i → is_pending ((at, n) ∷ []) i ≡ false
 above at n i le = grind (arith, nat_tests)
 
--- where one write is pending, a crash leaves what that write may have left
+-- if one write is pending, a crash leaves what that write may have left
 pub torn_image : (at n : ℕ) (f g c : List ℕ) → at ≤ length f → Torn at n f g → IsImage (with_pending at n g (settled_disk f)) c → Torn at n f c
 torn_image at n f g c within torn image = record {
   before = ext_get_or 0 (take at c) (take at f) (omega (arith, length-take at c, length-take at f, image.no_shorter)) front;
@@ -36,7 +36,7 @@ torn_image at n f g c within torn image = record {
         let short : at + n + i < length c = omega (arith, length-drop (at + n) c) in
         get_or-drop (at + n) c i 0 ∙ image.same (at + n + i) short (above at n (at + n + i) (omega arith)) ∙ sym (get_or-drop (at + n) g i 0) ∙ ap (λ (l : List ℕ). get_or l i 0) torn.after
 
--- a write that was done is one that may have been torn
+-- a write that is complete is among those that may be torn
 pub overwritten_torn : (at : ℕ) (bytes f : List ℕ) → at ≤ length f → Torn at (length bytes) f (bytes_over at bytes f)
 overwritten_torn at bytes f within =
     let front : length (take at f) ≡ at = length-take-le at f within in

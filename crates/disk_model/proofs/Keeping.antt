@@ -1,11 +1,11 @@
--- One more call in what a machine in memory keeps.
+-- Recording one more call changes none of the recorded ones.
 use Rattle.std.proofs.Common.{◌≡◌, ℕ, ◌+◌, ◌≤◌, List, [], ◌∷◌, ◌++◌, length, drop, refl, sym, arith}
 use Rattle.std.proofs.lemmas.List.{take-append-le, drop-append-le, length-drop, nil_from_length}
 use Rattle.std.proofs.Math.Seq.{take-length}
 use Rattle.disk_model.specs.declared.mem_machine.Mark.{Mark}
 use Rattle.disk_model.specs.Marks.{kept_len, call_of, calls_of, total_len}
 
--- a mark more, with its bytes, is a call more
+-- one more mark, with its bytes, is one more call
 pub calls_append : (marks : List Mark) (bytes new : List ℕ) (mark : Mark) → kept_len mark ≡ length new → total_len marks ≡ length bytes
     → calls_of (marks ++ mark ∷ []) (bytes ++ new) ≡ calls_of marks bytes ++ call_of mark new ∷ []
 calls_append [] bytes new mark len whole =

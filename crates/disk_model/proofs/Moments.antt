@@ -1,4 +1,4 @@
--- What a crash during several calls may leave, one call on.
+-- What a crash during several calls may leave, after one call more.
 use Rattle.std.proofs.Common.{◌≡◌, ◌⊎◌, inl, inr, ℕ, List, refl, sym, ◌∙◌, ap, arith}
 use Rattle.std.specs.Prelude.{Option, Some}
 use Rattle.std.specs.Option.{is_some}
@@ -29,7 +29,7 @@ module _ {D : Type 0} (now : D → ℕ) (disk : D → ℕ → Option DiskState) 
     told = ap is_some turn.last ∙ told ∙ so_far.told;
   }
 
-  -- one run after another
+  -- several calls after several calls
   pub then_keeps : (old mid new : D) (P : List ℕ → Type 0) → Keeps now disk old mid P → Keeps now disk mid new P → Keeps now disk old new P
   then_keeps old mid new P first second = record {
     later = omega (arith, first.later, second.later);
@@ -41,12 +41,12 @@ module _ {D : Type 0} (now : D → ℕ) (disk : D → ℕ → Option DiskState) 
     told = second.told ∙ first.told;
   }
 
-  -- what is so of whatever a crash may leave, and leads to another fact
+  -- a fact of whatever a crash may leave, and a weaker fact
   pub weaker : (old new : D) (P Q : List ℕ → Type 0) → Keeps now disk old new P → ((c : List ℕ) → P c → Q c) → Keeps now disk old new Q
   weaker old new P Q keeps leads = record { later = keeps.later; past = keeps.past; each = λ t s c from to is image. leads c (keeps.each t s c from to is image); told = keeps.told }
 
-  -- what a crash since an earlier moment may have left, it may have left before these calls, or it is
-  -- what a crash during them may leave
+  -- what a crash since an earlier moment may have left, it may have left before these calls, or a
+  -- crash during them may leave it
   pub since : (old new : D) (P : List ℕ → Type 0) (m : ℕ) (c : List ℕ) → Keeps now disk old new P → LeftSince now disk new m c → LeftSince now disk old m c ⊎ P c
   since old new P m c keeps (t, from, to, s, is, image) = elim (cases_lt (now old) t) [
     | inr before ↦ inl (t, from, before, s, sym (keeps.past t before) ∙ is, image)
@@ -65,6 +65,6 @@ module _ {D : Type 0} (now : D → ℕ) (disk : D → ℕ → Option DiskState) 
     last = second.last ∙ first.last;
   }
 
-  -- before the first of them
+  -- before the first of these calls
   pub stays_here : (old : D) → Stays now disk old old
   stays_here old = record { later = omega arith; past = λ t le. refl; here = λ t after to. absurd (omega (arith, after, to)); last = refl }

@@ -1,4 +1,4 @@
--- One more call of a machine in memory: what it leaves of disk and wire.
+-- What one more call of a machine in memory leaves of disk and wire.
 use Rattle.std.proofs.Common.{◌≡◌, ℕ, ◌+◌, ◌≤◌, ◌<◌, min, List, [], ◌∷◌, ◌++◌, length, take, drop, Bool, true, false, refl, sym, ◌∙◌, ap, subst, arith, inl, inr}
 use Rattle.std.specs.Prelude.{Some, Result, Ok, Err, nat_lt, nat_le, ◌&&◌, MatchBool}
 use Rattle.std.specs.Option.{option_map}
@@ -34,7 +34,7 @@ content_push first calls new mark bytes is =
     ∙ ap (λ (s : DiskState). s.content) (replayed_push (settled_disk first) calls (call_of mark bytes))
     ∙ changed_content (disk_after_calls (settled_disk first) calls) mark bytes
 
--- bytes written past the end stand at the end
+-- bytes written past the end go to the end
 pub overwritten_past : (at : ℕ) (bytes content : List ℕ) → bytes_over (min at (length content)) bytes content ≡ bytes_over at bytes content
 overwritten_past at bytes content = elim (cases_lt (length content) at) [
   | inr within ↦ ap (λ (n : ℕ). bytes_over n bytes content) (omega arith)
@@ -56,7 +56,7 @@ changed_len marks.Idle bytes content = omega arith
 pub in_room : (a b c d : ℕ) → nat_lt a b && nat_le c d ≡ true → (a < b) × (c ≤ d)
 in_room a b c d is = (grind (arith, nat_tests), grind (arith, nat_tests))
 
--- a call that fits the room fits it with no byte too
+-- a call that fits the room would also fit it without its bytes
 pub room_for_none : (m : MachineState) (count : ℕ) → has_room m count ≡ true → has_room m 0 ≡ true
 room_for_none m count fits =
     let both = in_room (length m.calls) m.room_calls (m.bytes + count) m.room_bytes fits in
@@ -115,7 +115,7 @@ pub syncs : {T E : Type 0} (old new : MachineState) (result : Result T E) → Ma
 syncs old new (Ok x) makes = subst (Turns now_of disk_of old new) (ap (option_map (λ s. settled_disk s.content)) (sym (all_calls old))) (turns old new Synced (ap (λ (m : MachineState). m.first) makes.2) (ap (λ (m : MachineState). m.calls) makes.2))
 syncs old new (Err e) makes = disk_fails old new (has_room old 0) _ makes
 
--- a write that fails leaves the content, which is one that it may leave
+-- a write that fails leaves the content, which a failed write may do
 write_fails : (T : Type 0) {E : Type 0} (old new : MachineState) (at : ℕ) (bytes : List ℕ) (e : E) (fits : Bool) (Fails : Type 0)
     → MatchBool fits (Fails × (new ≡ with_disk_fault (with_call (FailedWrite at (length bytes)) 0 old))) (new ≡ with_disk_fault old) → Writes {T = T} now_of disk_of old new at bytes (Err e)
 write_fails T old new at bytes e true Fails (fails, is) =
@@ -151,7 +151,7 @@ read_content old new is = ap content_now is ∙ ap (λ (s : DiskState). s.conten
 
 -- ---- the wire
 
--- whether a call tells nothing
+-- whether a call prints nothing
 abbrev pub is_silent : Call → Bool
 is_silent (Told bytes) = false
 is_silent call = true
@@ -218,7 +218,7 @@ pub disk_faults_stay : {T E : Type 0} (old new : MachineState) (bytes : List ℕ
 disk_faults_stay old new bytes (Ok x) makes = ap (λ (m : MachineState). m.disk_faults) makes.2
 disk_faults_stay old new bytes (Err e) makes = disk_faults_kept old new (has_room old (length bytes)) _ makes
 
--- a fault is counted after a call that was not done
+-- a fault is counted after a call that failed
 counted : (mid new x y : MachineState) (with_fault : MachineState → MachineState) (fits : Bool) (Fails : Type 0)
     → MatchBool fits (Fails × (mid ≡ x)) (mid ≡ y) → new ≡ with_fault mid → MatchBool fits (Fails × (new ≡ with_fault x)) (new ≡ with_fault y)
 counted mid new x y with_fault true Fails (fails, is) counts = (fails, counts ∙ ap with_fault is)
@@ -230,7 +230,7 @@ makes_fault T count done failed with_fault old mid new e attempts counts = count
 
 -- ---- the buffer
 
--- what a read puts into a buffer stands there
+-- what a read puts into a buffer is in its prefix
 pub filled : (at : ℕ) (content before after : List ℕ) (n : ℕ) → n ≡ length (take (length before) (drop at content)) → after ≡ take (length before) (drop at content) ++ drop n before
     → take n after ≡ take (length after) (drop at content)
 filled at content before after n count is =

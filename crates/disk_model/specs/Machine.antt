@@ -7,9 +7,9 @@ use Rattle.disk_model.specs.Disk.{settled_disk, disk_after_write, with_pending}
 
 -- ---- the calls, and what they leave
 
--- A call that took a number, by what it did: bytes written at an offset; a write that failed, of an
--- offset and a length; a sync; bytes told; or nothing, as of a read, or of a call that failed and is
--- no write.
+-- What a call that took a number did: it wrote bytes at an offset; it failed to write, given an
+-- offset and a length; it synced; it printed bytes; or it did nothing, such as a read, or a failed
+-- call that is no write.
 pub data Call : Type 0 where
   Wrote : ℕ → List ℕ → Call
   FailedWrite : ℕ → ℕ → Call
@@ -25,12 +25,13 @@ after_call state Synced = settled_disk state.content
 after_call state (Told bytes) = state
 after_call state Idle = state
 
--- The disk after calls, one after the other.
+-- The disk after calls, one after another.
 abbrev pub disk_after_calls : DiskState → List Call → DiskState
 disk_after_calls state [] = state
 disk_after_calls state (call ∷ calls) = disk_after_calls (after_call state call) calls
 
--- The pieces told by calls, each with its number, where the first call has this number.
+-- The pieces that calls printed, each with the number of its call, if the first call has this
+-- number.
 abbrev pub tells_from : ℕ → List Call → List Tell
 tells_from number [] = []
 tells_from number (Told bytes ∷ calls) = record { at = number; bytes = bytes } ∷ tells_from (number + 1) calls
@@ -39,8 +40,8 @@ tells_from number (call ∷ calls) = tells_from (number + 1) calls
 -- ---- the machine
 
 -- A machine in memory: what its disk held at first, with nothing pending, the calls that took a
--- number, the bytes told or written so far, the room for both, the numbers of the calls that fail,
--- and how many calls of the disk and how many tells failed.
+-- number, how many bytes were printed or written, the room for both, the numbers of the calls that
+-- fail, and how many calls of the disk and of the wire failed.
 pub record MachineState : Type 0 where
   pub first : List ℕ
   pub calls : List Call
@@ -51,8 +52,8 @@ pub record MachineState : Type 0 where
   pub disk_faults : ℕ
   pub wire_faults : ℕ
 
--- A machine over these bytes, with nothing pending, no call made, room for so many calls and bytes,
--- and these calls to fail.
+-- A machine over these bytes with nothing pending and no call made, with this room for calls and
+-- bytes, and with these calls to fail.
 abbrev pub new_machine : List ℕ → ℕ → ℕ → List ℕ → MachineState
 new_machine first room_calls room_bytes failing = record { first = first; calls = []; bytes = 0; room_calls = room_calls; room_bytes = room_bytes; failing = failing; disk_faults = 0; wire_faults = 0 }
 
@@ -60,7 +61,7 @@ new_machine first room_calls room_bytes failing = record { first = first; calls 
 abbrev pub now_of : MachineState → ℕ
 now_of m = length m.calls
 
--- The disk at a moment is what it was at first, and then the calls up to that moment.
+-- The disk at a moment: what it was at first, after the calls up to that moment.
 abbrev pub disk_of : MachineState → ℕ → Option DiskState
 disk_of m t = Some (disk_after_calls (settled_disk m.first) (take t m.calls))
 
@@ -68,17 +69,17 @@ disk_of m t = Some (disk_after_calls (settled_disk m.first) (take t m.calls))
 abbrev pub content_now : MachineState → List ℕ
 content_now m = (disk_after_calls (settled_disk m.first) m.calls).content
 
--- What was told, each piece at the moment at which telling it began.
+-- What was printed, each piece with the moment at which its printing began.
 abbrev pub tells_of : MachineState → List Tell
 tells_of m = tells_from 0 m.calls
 
--- All that was told, which is known of a machine in memory.
+-- All that was printed, which is known of a machine in memory.
 abbrev pub told_of : MachineState → Option (List Tell)
 told_of m = Some (tells_of m)
 
 -- ---- what a call does
 
--- Whether a call of so many bytes, told or written, fits the room.
+-- Whether a call with `count` bytes, printed or written, fits the room.
 abbrev pub has_room : MachineState → ℕ → Bool
 has_room m count = nat_lt (length m.calls) m.room_calls && nat_le (m.bytes + count) m.room_bytes
 
@@ -86,34 +87,34 @@ has_room m count = nat_lt (length m.calls) m.room_calls && nat_le (m.bytes + cou
 abbrev pub is_next_failing : MachineState → Bool
 is_next_failing m = is_failing m.failing (length m.calls)
 
--- One more call, of so many bytes told or written.
+-- One more call, with `count` bytes printed or written.
 abbrev pub with_call : Call → ℕ → MachineState → MachineState
 with_call call count m = record m { calls = m.calls ++ call ∷ []; bytes = m.bytes + count }
 
--- One more call of the disk that failed.
+-- One more failed call of the disk.
 abbrev pub with_disk_fault : MachineState → MachineState
 with_disk_fault m = record m { disk_faults = one_more m.disk_faults }
 
--- One more tell that failed.
+-- One more failed call of the wire.
 abbrev pub with_wire_fault : MachineState → MachineState
 with_wire_fault m = record m { wire_faults = one_more m.wire_faults }
 
--- Whether a call of so many bytes is done, and what it then does, or what it does where it fails.
--- Its fault is not yet counted.
+-- Whether a call with `count` bytes succeeds, and what is recorded if it does and if it fails. Its
+-- fault is not counted yet.
 abbrev pub Attempts : ℕ → Call → Call → MachineState → MachineState → Bool → Type 0
 Attempts count done failed old new true = (has_room old count ≡ true) × (is_next_failing old ≡ false) × (new ≡ with_call done count old)
 Attempts count done failed old new false = MatchBool (has_room old count) ((is_next_failing old ≡ true) × (new ≡ with_call failed 0 old)) (new ≡ old)
 
--- A call of so many bytes, by what it does where it is done and where it fails. One that does not
--- fit the room changes nothing but the count of faults. One that fits takes a number; it fails
--- exactly where that number is among the failing ones.
+-- A call with `count` bytes, given what is recorded if it succeeds and if it fails. One that does
+-- not fit the room changes nothing but the count of faults. One that fits takes a number, and fails
+-- exactly if that number is among the failing ones.
 abbrev pub Makes : {T E : Type 0} → ℕ → Call → Call → (MachineState → MachineState) → MachineState → MachineState → Result T E → Type 0
 Makes count done failed with_fault old new (Ok x) = (has_room old count ≡ true) × (is_next_failing old ≡ false) × (new ≡ with_call done count old)
 Makes count done failed with_fault old new (Err e) = MatchBool (has_room old count)
     ((is_next_failing old ≡ true) × (new ≡ with_fault (with_call failed 0 old)))
     (new ≡ with_fault old)
 
--- A read or a question of the length changes nothing of disk and wire.
+-- A read, or a call for the length, changes nothing of disk and wire.
 abbrev pub MakesRead : {T E : Type 0} → MachineState → MachineState → Result T E → Type 0
 MakesRead old new result = Makes 0 Idle Idle with_disk_fault old new result
 
@@ -125,12 +126,12 @@ MakesWrite at bytes old new result = Makes (length bytes) (Wrote at bytes) (Fail
 abbrev pub MakesSync : {T E : Type 0} → MachineState → MachineState → Result T E → Type 0
 MakesSync old new result = Makes 0 Synced Idle with_disk_fault old new result
 
--- A tell that fails tells no byte.
+-- A call of the wire that fails prints no byte.
 abbrev pub MakesTell : {T E : Type 0} → List ℕ → MachineState → MachineState → Result T E → Type 0
 MakesTell bytes old new result = Makes (length bytes) (Told bytes) Idle with_wire_fault old new result
 
--- A read that is done puts the bytes into the prefix of the buffer, and leaves the rest of it. One
--- that fails leaves it as it was.
+-- A read that succeeds puts the bytes into the prefix of the buffer, and leaves the rest of it. One
+-- that fails leaves the buffer as it was.
 abbrev pub FillsBuffer : {E : Type 0} → ℕ → List ℕ → Result ℕ E → List ℕ → List ℕ → Type 0
 FillsBuffer at content (Ok n) before after = (n ≡ length (take (length before) (drop at content))) × (after ≡ take (length before) (drop at content) ++ drop n before)
 FillsBuffer at content (Err e) before after = after ≡ before

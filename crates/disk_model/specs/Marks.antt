@@ -1,5 +1,5 @@
--- How a machine in memory keeps its calls: a mark for each, and the bytes of all of them, one after
--- the other.
+-- How a machine in memory records its calls: a mark for each, and the bytes of all, one after
+-- another.
 use Rattle.std.specs.Prelude.{◌≡◌, ℕ, ◌+◌, ◌≤◌, Bool, true, false, List, [], ◌∷◌, take, drop, vec_len, vec_capacity}
 use Rattle.disk_model.specs.Disk.{settled_disk, bytes_over}
 use Rattle.disk_model.specs.declared.mem_machine.Mark.{Mark}
@@ -7,7 +7,7 @@ use Rattle.disk_model.specs.declared.mem_machine.Mark.TheVariants as marks
 use Rattle.disk_model.specs.declared.mem_machine.MemMachine.TheInside.{Inside}
 use Rattle.disk_model.specs.Machine.{Call, Wrote, FailedWrite, Synced, Told, Idle, MachineState, disk_after_calls}
 
--- How many of the bytes that are kept are those of a call.
+-- How many of the recorded bytes belong to a call.
 abbrev pub kept_len : Mark → ℕ
 kept_len (marks.Wrote at len) = len
 kept_len (marks.FailedWrite at len) = 0
@@ -15,7 +15,7 @@ kept_len marks.Synced = 0
 kept_len (marks.Told len) = len
 kept_len marks.Idle = 0
 
--- Whether a call told bytes.
+-- Whether a call printed bytes.
 abbrev pub is_told : Mark → Bool
 is_told (marks.Wrote at len) = false
 is_told (marks.FailedWrite at len) = false
@@ -31,7 +31,7 @@ call_of marks.Synced bytes = Synced
 call_of (marks.Told len) bytes = Told bytes
 call_of marks.Idle bytes = Idle
 
--- The calls that marks stand for, with the bytes of one after those of the other.
+-- The calls that marks stand for; each takes its bytes from the front of what is left.
 abbrev pub calls_of : List Mark → List ℕ → List Call
 calls_of [] bytes = []
 calls_of (mark ∷ others) bytes = call_of mark (take (kept_len mark) bytes) ∷ calls_of others (drop (kept_len mark) bytes)

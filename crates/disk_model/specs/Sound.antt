@@ -1,4 +1,4 @@
--- At each moment the content of a machine in memory is one of the images of its disk.
+-- The content of a machine in memory is always among what a crash may leave.
 use Rattle.std.proofs.Common.{◌≡◌, ℕ, ◌+◌, ◌≤◌, max, List, [], ◌∷◌, ◌++◌, length, take, drop, refl, subst, arith}
 use Rattle.std.specs.Prelude.{Some}
 use Rattle.std.proofs.lemmas.List.{length-append, length-take, length-drop}
@@ -31,7 +31,7 @@ all_calls : (state : DiskState) (calls : List Call) → IsImage state state.cont
 all_calls state [] image = image
 all_calls state (call ∷ calls) image = all_calls (after_call state call) calls (one_call state call image)
 
--- At each moment a crash may leave the content itself.
+-- A crash at any moment may leave the content itself.
 pub content_is_image : (m : MachineState) (t : ℕ) (state : DiskState) → disk_of m t ≡ Some state → IsImage state state.content
 content_is_image m t state told =
     let replay : DiskState = disk_after_calls (settled_disk m.first) (take t m.calls) in

@@ -1,4 +1,5 @@
-//! What a crash leaves of a machine in memory.
+//! What a crash leaves of a machine in memory: the calls up to a moment are made again, then
+//! pending bytes are replaced.
 
 ghost use Rattle.std.specs.{
   Prelude.{◌≡◌, ◌+◌, ◌≤◌, ◌&&◌, nat_le, nat_lt, ◌<◌, ◌^◌, reverse, length, IfOk},
@@ -17,7 +18,7 @@ use crate::mem_machine::{Mark, change, overwrite};
 use lc_base::Memory;
 use std::alloc::Global;
 
-/// A disk as calls leave it: its content, its length when it was last synced, and the offset and the
+/// A disk as calls leave it: its content, its length when it was last synced, and the offset and
 /// length of each write since then.
 #[derive(Debug, Drop)]
 pub(crate) struct Replayed {
@@ -26,7 +27,7 @@ pub(crate) struct Replayed {
     pending: Vec<(u64, usize)>,
 }
 
-/// Whether a write, an offset and a length, went over the byte at this offset.
+/// Whether a write, an offset and a length, covers the byte at this offset.
 fn is_over(write: &(u64, usize), offset: u64) -> bool
     ensures { result ≡ nat_le write.now.0 offset && nat_lt offset (write.now.0 + write.now.1) }
 {
@@ -34,14 +35,15 @@ fn is_over(write: &(u64, usize), offset: u64) -> bool
     at <= offset && offset - at < len as u64
 }
 
-/// Whether any of these writes, the last one at the end, went over the byte at this offset.
+/// Whether any of these writes, of which the last one is at the end, covers the byte at this
+/// offset.
 fn is_pending(pending: &[(u64, usize)], offset: u64) -> bool
     ensures { result ≡ is_pending (reverse pending.now) offset }
 {
     pending.iter().rev().any(|write| is_over(write, offset))
 }
 
-/// The byte where so many pending ones are still to be kept.
+/// The byte that a crash leaves, if `keep` pending bytes are still to be kept.
 fn kept_byte(pending: bool, keep: u64, fill: u8, byte: u8) -> u8
     ensures { result ≡ kept_byte pending keep fill byte }
 {
@@ -80,7 +82,7 @@ fn fill_pending(
 }
 
 impl Replayed {
-    /// A disk of these bytes, with nothing pending, and memory for so many more.
+    /// A disk of these bytes with nothing pending, and memory for `room` more bytes.
     fn new(alloc: Global, first: &[u8], room: usize) -> Result<Replayed, Memory>
         requires { length first.now + room < 2 ^ 64 }
         ensures disk { IfOk result (λ disk. IsReplayed disk (settled_disk first.now)) }
@@ -95,7 +97,7 @@ impl Replayed {
         })
     }
 
-    /// Makes one more call.
+    /// Makes one more call of the disk.
     fn make(&mut self, mark: &Mark, bytes: &[u8]) -> Result<(), Memory>
         requires room { vec_len self.old.content + length bytes.now ≤ vec_capacity self.old.content }
         ensures disk { IfOk result (λ _. (state : DiskState) → IsReplayed self.old state → IsReplayed self.new (after_call state (call_of mark.now bytes.now))) }
@@ -114,8 +116,8 @@ impl Replayed {
         Ok(())
     }
 
-    /// What a crash leaves that keeps the first `keep` of the pending bytes, with `fill` in place of
-    /// the others; where it is `short`, no more of it than was synced.
+    /// What a crash leaves that keeps the first `keep` pending bytes and puts `fill` in place of
+    /// the others. If it is `short`, it leaves no more than was synced.
     pub(crate) fn crash(
         &self,
         alloc: Global,
@@ -133,7 +135,7 @@ impl Replayed {
     }
 }
 
-/// The disk that held these bytes at first, after these calls.
+/// The disk after these calls, if it held the bytes `first` before them.
 pub(crate) fn replay(
     alloc: Global,
     first: &[u8],

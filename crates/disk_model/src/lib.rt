@@ -1,4 +1,4 @@
-//! A disk as its calls, what a crash may leave of it, and a machine in memory with a disk.
+//! A disk and its calls, what a crash may leave of it, and a machine in memory with a disk.
 #![tactic(auto)]
 
 mod crash;

@@ -1,4 +1,4 @@
-//! A machine in memory.
+//! A machine in memory, which records its calls, so that a crash at any of them can be tried.
 
 ghost use Rattle.std.specs.{
   Prelude.{◌≡◌, ◌+◌, ◌<◌, ◌≤◌, ◌^◌, ℕ, Some, true, [], ◌∷◌, ◌++◌, List, length, take, drop, filter, IfOk, IfSome, IsErr, MatchOption},
@@ -22,8 +22,8 @@ use lc_io::{Clock, Failed, Room, Wire, is_failing, one_more};
 use std::alloc::Global;
 use std::marker::Model;
 
-/// A call that was made, by what it did. `at` is an offset of the content, and `len` a number of
-/// bytes: of those that are kept for the call, and of a failed write those that it was to write.
+/// What a recorded call did. `at` is an offset in the content. `len` is the number of bytes
+/// recorded for the call, and for a failed write the number of bytes that it was to write.
 #[derive(Clone, Copy, Debug)]
 pub(crate) enum Mark {
     Wrote { at: u64, len: usize },
@@ -34,7 +34,7 @@ pub(crate) enum Mark {
 }
 
 impl Mark {
-    /// How many of the bytes that are kept are those of this call.
+    /// How many of the recorded bytes belong to this call.
     pub(crate) fn kept_len(&self) -> usize
         ensures { result ≡ kept_len self.now }
     {
@@ -44,7 +44,7 @@ impl Mark {
         }
     }
 
-    /// Whether bytes were told.
+    /// Whether the call printed bytes.
     fn is_told(&self) -> bool
         ensures { result ≡ is_told self.now }
     {
@@ -52,9 +52,9 @@ impl Mark {
     }
 }
 
-/// A machine in memory: a disk and a wire on one clock, whose moment is the number of calls made.
-/// It keeps all calls, in memory that it takes when it is made, and fails at the calls that it is
-/// told to fail at, and at those that do not fit its room; these take no number and are not kept.
+/// A machine in memory: a disk and a wire with one clock, whose moment is the number of calls made.
+/// It records all calls, in memory that it takes when it is made. It fails at given calls, and at
+/// those that do not fit its room; the latter take no number and are not recorded.
 #[derive(Debug, Drop)]
 pub struct MemMachine {
     first: Vec<u8>,
@@ -78,7 +78,7 @@ impl Model for MemMachine {
     ghost invariant = { IsSoundInside };
 }
 
-/// Keeps one more call, for which there is room.
+/// Records one more call, for which there is room.
 #[tactic(auto, using(crate::proofs::Keeping::calls_append, crate::proofs::Keeping::total_len_append))]
 fn keep(marks: &mut Vec<Mark>, kept: &mut Vec<u8>, mark: Mark, bytes: &[u8])
     requires len { kept_len mark ≡ length bytes.now }
@@ -102,7 +102,8 @@ fn keep(marks: &mut Vec<Mark>, kept: &mut Vec<u8>, mark: Mark, bytes: &[u8])
     }
 }
 
-/// Writes the bytes over those from an offset on, and past the end, for which there is memory.
+/// Writes the bytes at an offset, over those that are there and past the end. There is memory for
+/// them.
 pub(crate) fn overwrite(content: &mut Vec<u8>, at: usize, bytes: &[u8])
     requires within { at ≤ vec_len content.old }
     requires room { vec_len content.old + length bytes.now ≤ vec_capacity content.old }
@@ -117,7 +118,7 @@ pub(crate) fn overwrite(content: &mut Vec<u8>, at: usize, bytes: &[u8])
     }
 }
 
-/// Does to the content what a call does.
+/// Does to the content what the call of this mark does.
 #[tactic(auto, using(crate::proofs::Replays::overwritten_past))]
 pub(crate) fn change(content: &mut Vec<u8>, mark: &Mark, bytes: &[u8])
     requires room { vec_len content.old + length bytes.now ≤ vec_capacity content.old }
@@ -129,14 +130,14 @@ pub(crate) fn change(content: &mut Vec<u8>, mark: &Mark, bytes: &[u8])
     }
 }
 
-/// How many of the calls told bytes.
+/// How many of the calls printed bytes.
 fn count_tells(marks: &[Mark]) -> usize
     ensures { result ≡ length (filter is_told marks.now) }
 {
     marks.iter().filter(|mark| mark.is_told()).count()
 }
 
-/// The piece told at an index, and the number of its call.
+/// The printed piece at an index, and the number of its call.
 fn find_tell<'a>(marks: &[Mark], bytes: &'a [u8], index: usize) -> Option<(u64, &'a [u8])>
     requires whole { total_len marks.now ≡ length bytes.now }
     ensures { MatchOption result (length (tells_from 0 (calls_of marks.now bytes.now)) ≤ index) (λ tell. slice_get (tells_from 0 (calls_of marks.now bytes.now)) index ≡ Some (record { at = tell.0; bytes = tell.1.now })) }
@@ -157,8 +158,8 @@ fn find_tell<'a>(marks: &[Mark], bytes: &'a [u8], index: usize) -> Option<(u64, 
 }
 
 impl MemMachine {
-    /// A machine whose disk holds these bytes, with nothing pending, and whose wire was told
-    /// nothing, at moment 0. The calls of disk and wire whose numbers, from 0, are in `failing`
+    /// A machine at moment 0 whose disk holds these bytes with nothing pending, and on whose wire
+    /// nothing has been printed. The calls of disk and wire whose numbers, from 0, are in `failing`
     /// fail, and so do those that do not fit the room.
     pub fn new(
         alloc: Global,
@@ -189,7 +190,7 @@ impl MemMachine {
         &self.content
     }
 
-    /// The present moment: how many calls were made.
+    /// The present moment: the number of calls made.
     #[tactic(auto, using(crate::proofs::Keeping::length_calls))]
     pub fn moment(&self) -> u64
         ensures { result ≡ now_of self.now }
@@ -197,10 +198,10 @@ impl MemMachine {
         self.marks.len() as u64
     }
 
-    /// A machine over what a crash at a moment leaves: of the bytes that were pending then the
-    /// first `keep`, and `fill` in place of the others; where it is `short`, no more of it than was
-    /// synced. It has the room of this one, nothing is pending in it or told, and none of its calls
-    /// is to fail.
+    /// A machine over what a crash at a moment leaves: the first `keep` bytes that were pending
+    /// then are kept, and the others are replaced by `fill`. If it is `short`, no more than was
+    /// synced is left. The new machine has the same room, nothing is pending or printed, and none
+    /// of its calls is to fail.
     pub fn crash(
         &self,
         alloc: Global,
@@ -223,7 +224,7 @@ impl MemMachine {
         MemMachine::new(alloc, &left, self.room, &[])
     }
 
-    /// How many pieces were told.
+    /// How many pieces were printed.
     #[tactic(auto, using(crate::proofs::Telling::length_tells))]
     pub fn told_count(&self) -> usize
         ensures { result ≡ length (tells_of self.now) }
@@ -231,15 +232,15 @@ impl MemMachine {
         count_tells(&self.marks)
     }
 
-    /// The piece at an index, from 0, and the moment at which telling it began; `None` exactly past
-    /// the end.
+    /// The piece at an index, from 0, and the moment at which its printing began; `None` if the
+    /// index is past the end.
     pub fn told_at(&self, index: usize) -> Option<(u64, &[u8])>
         ensures { MatchOption result (length (tells_of self.now) ≤ index) (λ tell. slice_get (tells_of self.now) index ≡ Some (record { at = tell.0; bytes = tell.1.now })) }
     {
         find_tell(&self.marks, &self.bytes, index)
     }
 
-    /// Whether a call of so many bytes fits the room.
+    /// Whether a call with `count` bytes fits the room.
     #[tactic(auto, using(crate::proofs::Keeping::length_calls))]
     fn has_room(&self, count: usize) -> bool
         requires { count < 2 ^ 63 }
@@ -268,8 +269,8 @@ impl MemMachine {
         change(&mut self.content, &mark, bytes);
     }
 
-    /// Makes a call, by its mark where it is done and where it fails, and answers whether it was
-    /// done. One that does not fit the room is not made.
+    /// Makes a call and returns whether it succeeded: it is recorded as `done` or as `failed`. A
+    /// call that does not fit the room is not made.
     #[tactic(auto, using(crate::proofs::Replays::room_for_none))]
     fn attempt(&mut self, done: Mark, failed: Mark, bytes: &[u8]) -> bool
         requires len { kept_len done ≡ length bytes.now }
@@ -287,7 +288,7 @@ impl MemMachine {
         true
     }
 
-    /// Counts a call of the disk that failed.
+    /// Counts a failed call of the disk.
     fn disk_fault(&mut self) -> Failed
         ensures exact { self.new ≡ with_disk_fault self.old }
         ensures later { self.old.disk_faults ≤ self.new.disk_faults }
@@ -296,7 +297,7 @@ impl MemMachine {
         Failed
     }
 
-    /// Counts a tell that failed.
+    /// Counts a failed call of the wire.
     fn wire_fault(&mut self) -> Failed
         ensures exact { self.new ≡ with_wire_fault self.old }
         ensures later { self.old.wire_faults ≤ self.new.wire_faults }
@@ -334,8 +335,8 @@ impl Clock for MemMachine {
 }
 
 impl Wire for MemMachine {
-    /// Fails exactly at the calls whose numbers are among the failing ones, and at those that do
-    /// not fit the room.
+    /// Fails exactly if the number of the call is among the failing ones, or the call does not fit
+    /// the room.
     #[tactic(auto, using(crate::proofs::Replays::makes_fault, crate::proofs::Replays::disk_faults_stay))]
     fn tell(&mut self, bytes: &[u8]) -> Result<(), Failed>
         ensures disk { Stays now_of disk_of self.old self.new }
@@ -353,8 +354,8 @@ impl Wire for MemMachine {
     }
 }
 
-/// Copies the bytes from an offset on into the prefix of the buffer, as many as it holds or as there
-/// are, and answers how many.
+/// Copies the bytes at an offset to the start of the buffer, as many as fit or as there are, and
+/// returns how many.
 fn copy_from(content: &[u8], at: u64, buffer: &mut [u8]) -> usize
     ensures count { result ≡ length (take (length buffer.old) (drop at content.now)) }
     ensures bytes { buffer.new ≡ take (length buffer.old) (drop at content.now) ++ drop result buffer.old }
@@ -369,8 +370,8 @@ fn copy_from(content: &[u8], at: u64, buffer: &mut [u8]) -> usize
 }
 
 impl Disk for MemMachine {
-    /// Fails, as each call of the disk does, exactly at the calls whose numbers are among the failing
-    /// ones, and at those that do not fit the room.
+    /// Fails, as each call of the disk does, exactly if the number of the call is among the failing
+    /// ones, or the call does not fit the room.
     #[tactic(auto, using(crate::proofs::Replays::read_stays, crate::proofs::Replays::tells_nothing, crate::proofs::Replays::wire_faults_stay))]
     fn len(&mut self) -> Result<u64, Failed>
         ensures len { IfOk result (λ n. IfSome (content_of (disk_of self.old (now_of self.old))) (λ content. n ≡ length content)) }

@@ -1,7 +1,6 @@
-//! The edge over a real file and a writer. No contract can name what they hold, so what a machine
-//! over them holds and was told is not known.
-//! Of a writer whose bytes std knows, such as a vector in memory, the clause `writer` says what
-//! becomes of them.
+//! The edge over a real file and a writer. No contract can name what these hold, so disk and wire
+//! of a machine over them are not known. If std knows the bytes of a writer, such as a vector in
+//! memory, the clause `writer` says what becomes of them.
 
 ghost use Rattle.std.{
   specs.Prelude.{◌≡◌, ◌+◌, ◌^◌, ◌<◌, ◌≤◌, ℕ, true, false, Some, None, List, length, take, drop, IfOk, IfSome, OnOk, IsErr, is_err},
@@ -24,10 +23,10 @@ use std::io::{ErrorKind, Write};
 use std::os::unix::fs::{FileExt, MetadataExt};
 use std::path::Path;
 
-/// The folder of a path that names none.
+/// The folder of a path without one.
 const PRESENT_FOLDER: &str = ".";
 
-/// What is known of the file at a path.
+/// What is known about the file at a path.
 #[derive(Drop)]
 enum Found {
     NotLooked,
@@ -35,24 +34,24 @@ enum Found {
     Open(File),
 }
 
-/// A file at a path, which need not be there: it then has length 0. It is looked for at the first
-/// call, and made by the first write. The first sync or write takes its lock.
+/// A file at a path, which may be absent: it then has length 0. The first call looks for it, and
+/// the first write makes it. The first sync or write takes its lock.
 #[derive(Drop)]
 struct HostFile<'a> {
     rt: &'a HostRuntime,
     path: &'a str,
     found: Found,
-    // Its length, by the last answer, or as it was made or locked, and by what was written since; not
-    // known before that.
+    // Its length, as it was last returned to the owner, or as it was when the file was made or
+    // locked, with what was written since; `None` before that.
     len: Option<u64>,
     is_locked: bool,
     is_folder_synced: bool,
     has_failed: bool,
 }
 
-/// Moves a file to a descriptor of 3 or more, as a clone's is. A standard stream that was closed
-/// when the program started leaves its descriptor free for the first file that is opened, and what
-/// is told would go over the file.
+/// Moves a file to a descriptor of 3 or more, which is that of a clone. If a standard stream was
+/// closed when the program started, the first file that is opened gets its descriptor, and what is
+/// printed would overwrite the file.
 fn apart_from_streams(file: File) -> Result<Found, Failed> {
     match file.try_clone() {
         Ok(clone) => Ok(Found::Open(clone)),
@@ -67,8 +66,8 @@ fn open_for_reading(rt: &HostRuntime, path: &str) -> Result<Found, Failed> {
     }
 }
 
-/// Opens the file at a path and leaves what is in it. One that may not be written is opened for
-/// reading alone, and a write is then a fault.
+/// Opens the file at a path and leaves its content. A file that may not be written is opened for
+/// reading only, and a write is then a fault.
 fn open_file(rt: &HostRuntime, path: &str) -> Result<Found, Failed> {
     match OpenOptions::new().read(true).write(true).open(rt, path) {
         Ok(file) => apart_from_streams(file),
@@ -91,8 +90,7 @@ fn find_file(rt: &HostRuntime, path: &str) -> Result<Found, Failed> {
     }
 }
 
-/// Makes the file at a path. Where there is one by now, another program made it, and that is a
-/// fault.
+/// Makes the file at a path. If one exists by now, another program made it, and that is a fault.
 fn create_file(rt: &HostRuntime, path: &str) -> Result<Found, Failed> {
     match File::create_new(rt, path) {
         Ok(file) => apart_from_streams(file),
@@ -100,13 +98,13 @@ fn create_file(rt: &HostRuntime, path: &str) -> Result<Found, Failed> {
     }
 }
 
-/// Takes the lock of a file (`flock`), which is held until the file is closed. Where another
-/// program holds it, or the file system has no locks, that is a fault; nothing waits.
+/// Takes the lock of a file (`flock`), which is held until the file is closed. If another program
+/// holds it, or the file system has no locks, that is a fault; the call does not wait.
 fn take_lock(file: &File) -> Result<(), Failed> {
     file.try_lock().map_err(|_| Failed)
 }
 
-/// How long a file is.
+/// The length of a file in bytes.
 fn len_of(file: &File) -> Result<u64, Failed> {
     match file.metadata() {
         Ok(metadata) => Ok(metadata.len()),
@@ -114,8 +112,8 @@ fn len_of(file: &File) -> Result<u64, Failed> {
     }
 }
 
-/// Whether a path leads to this file, and the file has this length, where that is known. Another
-/// program may have removed, replaced, cut or extended it.
+/// Whether a path leads to this file, and the file has this length, if it is known. Another program
+/// may have removed, replaced, cut or extended the file.
 fn is_in_place(rt: &HostRuntime, path: &str, file: &File, len: Option<u64>) -> bool {
     match (file.metadata(), fs::metadata(rt, path)) {
         (Ok(opened), Ok(named)) => {
@@ -126,8 +124,8 @@ fn is_in_place(rt: &HostRuntime, path: &str, file: &File, len: Option<u64>) -> b
     }
 }
 
-/// Reads until the buffer is full or the file ends.
-/// No file has a byte at the last offset of a `u64`, so an offset past it is a fault.
+/// Reads until the buffer is full or the file ends. A file has no byte at the last offset of a
+/// `u64`, so an offset past it is a fault.
 fn read_whole_at(file: &File, at: u64, buffer: &mut [u8]) -> Result<usize, Failed>
     ensures bound { IfOk result (λ n. n ≤ length buffer.new) }
 {
@@ -155,7 +153,7 @@ fn write_whole_at(file: &File, at: u64, bytes: &[u8]) -> Result<(), Failed> {
     Ok(())
 }
 
-/// Syncs the folder that holds the file of a path, without which a crash may leave no such file.
+/// Syncs the folder of a path's file. Without this a crash may leave no such file.
 fn sync_folder(rt: &HostRuntime, path: &str) -> Result<(), Failed> {
     let folder = match Path::new(path).parent() {
         Some(folder) if !folder.as_str().is_empty() => folder.as_str(),
@@ -168,7 +166,7 @@ fn sync_folder(rt: &HostRuntime, path: &str) -> Result<(), Failed> {
 }
 
 impl<'a> HostFile<'a> {
-    /// Looks for the file, the first time.
+    /// Looks for the file at the first call.
     fn look(&mut self) -> Result<(), Failed>
         ensures failed { self.new.has_failed ≡ self.old.has_failed }
     {
@@ -201,8 +199,8 @@ impl<'a> HostFile<'a> {
         }
     }
 
-    /// Takes the file's lock, the first time, and looks how long the file is, where that is not
-    /// known: from then on this machine alone may change it.
+    /// Takes the file's lock at the first call, and then the file's length, if it is not known.
+    /// From then on only this machine may change the file.
     fn lock(&mut self) -> Result<(), Failed>
         ensures found { self.new.found ≡ self.old.found }
         ensures held { OnOk result (IsHeld self.new.found self.new.is_locked) }
@@ -212,8 +210,8 @@ impl<'a> HostFile<'a> {
         }
         if let Found::Open(file) = &self.found {
             take_lock(file)?;
-            // What the owner was told stays: another program may have written to a file that was
-            // made just now, before its lock was taken.
+            // A known length stays: another program may have written to a new file before its lock
+            // was taken.
             if self.len.is_none() {
                 self.len = Some(len_of(file)?);
             }
@@ -222,15 +220,15 @@ impl<'a> HostFile<'a> {
         Ok(())
     }
 
-    /// Writes to the file that was opened, where it is still in its place. It is made where it is
-    /// absent.
+    /// Writes to the opened file, if it is still in its place. If the file is absent, it is made.
     fn write_now(&mut self, at: u64, bytes: &[u8]) -> Result<(), Failed>
         ensures held { OnOk result (self.new.is_locked ≡ true) }
     {
         self.look()?;
         if let Found::Absent = self.found {
             self.found = create_file(self.rt, self.path)?;
-            // So another program that opens it before its lock is taken may not have written to it.
+            // Thus, if another program wrote to the file before its lock was taken, the file isn't
+            // in place.
             self.len = Some(0);
         }
         self.lock()?;
@@ -245,8 +243,8 @@ impl<'a> HostFile<'a> {
         Ok(())
     }
 
-    /// Syncs the file's bytes and its length, and the first time the folder that holds it, too. The
-    /// file must then be in its place.
+    /// Syncs the file's bytes and its length, and at the first call also its folder. The file must
+    /// then be in its place.
     fn sync_now(&mut self) -> Result<(), Failed>
         ensures held { OnOk result (IsHeld self.new.found self.new.is_locked) }
     {
@@ -294,13 +292,13 @@ impl<'a> HostFile<'a> {
 }
 
 /// A machine whose disk is the file at a path, and whose wire is a writer, such as standard output.
-/// The file is touched at the first call of the disk. One that is not there has length 0, and the
-/// first write makes it. The first sync or write takes the file's lock, which is held for as long
-/// as the machine is there: where another program holds it, the call fails. Before each write, and
-/// after each sync, the path must lead to the file that was opened, which must be as long as it was
-/// when the lock was taken, or as its owner was told since, and as the writes since have it; else
-/// the call fails. Where a write or a sync has failed, each later one fails: a system that could
-/// not write once may answer the next sync though the bytes are lost.
+/// The first call of the disk touches the file. An absent file has length 0, and the first write
+/// makes it. The first sync or write takes the file's lock, which the machine holds as long as it
+/// lives; the call fails if another program holds the lock. Before each write and after each sync,
+/// the path must lead to the file that was opened, and the file must have the length that it had
+/// when the lock was taken, or that was last returned to the owner, with what was written since;
+/// else the call fails. After a write or a sync has failed, all later ones fail: a system that
+/// could not write once may report success at the next sync although the bytes are lost.
 #[derive(Drop)]
 pub struct FileMachine<'a, W> {
     file: HostFile<'a>,
@@ -310,8 +308,8 @@ pub struct FileMachine<'a, W> {
 }
 
 impl<'a, W> FileMachine<'a, W> {
-    /// A machine that has touched no file, and of which no call has failed. A path that is not
-    /// absolute starts at the present folder.
+    /// A machine that has touched no file, and of which no call has failed. A relative path starts
+    /// at the current folder.
     pub fn new(rt: &'a HostRuntime, path: &'a str, writer: W) -> FileMachine<'a, W>
         ensures path { result.file.path.now ≡ path.now }
         ensures file { result.file.found ≡ Found.NotLooked }
@@ -374,7 +372,7 @@ impl<'a, W: Write> Wire for FileMachine<'a, W> {
 }
 
 impl<'a, W> Disk for FileMachine<'a, W> {
-    /// 0 where there is no file.
+    /// 0 if there is no file.
     fn len(&mut self) -> Result<u64, Failed>
         ensures len { IfOk result (λ n. IfSome (content_of None) (λ content. n ≡ length content)) }
         ensures disk { Stays (λ _. 0) (λ _ _. None) self.old self.new }
@@ -408,8 +406,8 @@ impl<'a, W> Disk for FileMachine<'a, W> {
         }
     }
 
-    /// Writes until the file has taken all bytes, and makes it where it was not there when it was
-    /// looked for. A write that takes nothing is a fault.
+    /// Writes until the file has taken all bytes, and makes the file if there was none. A write
+    /// that takes nothing is a fault.
     fn write_at(&mut self, at: u64, bytes: &[u8]) -> Result<(), Failed>
         requires within { (content : List ℕ) → content_of None ≡ Some content → at ≤ length content }
         requires fits { at + length bytes.now < 2 ^ 64 }
@@ -428,8 +426,8 @@ impl<'a, W> Disk for FileMachine<'a, W> {
         }
     }
 
-    /// Syncs the file's bytes and its length, and the first time the folder that holds it, too.
-    /// Nothing where there is no file.
+    /// Syncs the file's bytes and its length, and at the first call also its folder. Does nothing
+    /// if there is no file.
     fn sync(&mut self) -> Result<(), Failed>
         ensures disk { Syncs (λ _. 0) (λ _ _. None) self.old self.new result }
         ensures calls { CallsDisk self.old self.new result }

@@ -1,4 +1,4 @@
-//! The machine with a disk over a real file.
+//! The machine whose disk is a real file, which it locks before it writes.
 #![tactic(auto)]
 
 mod edge;

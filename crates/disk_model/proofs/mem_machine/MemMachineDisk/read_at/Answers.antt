@@ -2,7 +2,7 @@ use Rattle.std.proofs.Common.{◌++◌, ◌∙◌, ℕ, List, length, take, drop
 use Rattle.disk_model.proofs.Replays.{content_at_now, read_content, filled}
 use Rattle.disk_model.proofs.mem_machine.MemMachineDisk.read_at.Goals as goal
 
--- the content that is read is that of before the call
+-- the content that is read is that before the call
 pub returns-clause-bytes : goal.returns-clause-bytes
 returns-clause-bytes c =
     let same = c.image.ensures ∙ read_content c.args.self.now c.disk_call.new.self c.in_ok-disk_call.ensures.exact.2 in
