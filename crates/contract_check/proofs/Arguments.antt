@@ -1,4 +1,4 @@
--- The loop over the arguments of a call.
+-- The loop over the arguments of a call finds what `expression_kinds` says.
 use Rattle.std.proofs.Common.{◌≡◌, ℕ, ◌+◌, ◌<◌, List, [], ◌∷◌, ◌++◌, length, map, drop, get_or, Option, Some, None, Result, Ok, Err, sym, ap, refl, ◌∙◌, append_assoc, arith}
 use Rattle.std.specs.Prelude.{slice_get}
 use Rattle.std.specs.Option.{option_or}
@@ -12,7 +12,7 @@ use Rattle.contract_check.specs.declared.expression.KindAt.{KindAt}
 use Rattle.contract_check.specs.Names.{Names}
 use Rattle.contract_check.specs.Faults.{and_then, expression_kind, expression_kinds, wrong_argument, first_wrong_argument}
 
--- the arguments, and what was seen before them
+-- what was found for earlier arguments, then what is found for the rest
 abbrev after_seen : List KindAt → Result (List KindAt) Fault → Result (List KindAt) Fault
 after_seen seen rest = and_then rest (λ more. Ok (seen ++ more))
 
@@ -44,7 +44,7 @@ wrong_with (g ∷ seen) [] f = refl
 wrong_with (g ∷ seen) (kind ∷ kinds) f =
     ap (option_or (wrong_argument (Some kind) g)) (wrong_with seen kinds f) ∙ or_assoc (wrong_argument (Some kind) g) (first_wrong_argument seen kinds) (wrong_argument (slice_get kinds (length seen)) f)
 
--- the first of what is left
+-- the first argument of those left
 split : (names : Names) (args : List Expr) (i : ℕ) (arg : Expr) → i < length args → arg ≡ get_or args i arg
     → expression_kinds names (trees (map tree_of (drop i args))) ≡ and_then (expression_kind names (tree_of arg)) (λ kind. and_then (expression_kinds names (trees (map tree_of (drop (i + 1) args)))) (λ kinds. Ok (kind ∷ kinds)))
 split names args i arg inside is =

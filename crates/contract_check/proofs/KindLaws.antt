@@ -1,4 +1,4 @@
--- An expression has no fault exactly where it has a kind.
+-- An expression has no fault exactly if it has a kind.
 use Rattle.std.proofs.Common.{◌≡◌, ℕ, Bool, true, false, cond, ◌==◌, List, [], ◌∷◌, length, map, Option, Some, None, Result, Ok, Err, sym, ap, subst, refl, ◌∙◌, inl, inr, arith}
 use Rattle.std.specs.Prelude.{find}
 use Rattle.std.specs.Option.{option_or}
@@ -32,7 +32,7 @@ pub same_kind_same : (a : ValueKind) → is_same_kind a a ≡ true
 same_kind_same Int = refl
 same_kind_same Text = refl
 
--- a choice that found no fault
+-- a choice in which no fault was found
 pub cond_ok : {A : Type 0} (t : Bool) (x : Result A Fault) (fault : Fault) (a : A) → cond t x (Err fault) ≡ Ok a → (t ≡ true) × (x ≡ Ok a)
 cond_ok true x fault a e = (refl, e)
 cond_ok false x fault a e = cc
@@ -86,7 +86,7 @@ unless_wrong_is : (w : Option ℕ) (f g : KindAt) → unless_wrong_argument w f 
 unless_wrong_is None f g e = (refl, (let k : f ≡ g = cc in sym k))
 unless_wrong_is (Some place) f g e = cc
 
--- what a good call says
+-- what a call without a fault says
 record IsCall (at : ℕ) (name : List ℕ) (args : List KindAt) (f : KindAt) : Type 0 where
   builtin : Builtin
   called : builtin_name builtin ≡ name
@@ -176,7 +176,7 @@ mutual
       let same : p.value ∷ q.value ≡ fs = (let k : Ok (p.value ∷ q.value) ≡ Ok fs = q.second in cc) in
       subst (λ l. AreKinded names (more x xs) (kinds_of l)) same (OneMore x xs p.value.kind (kinds_of q.value) (expression_kind_sound names x p.value p.first) (all_sound names xs q.value q.first))
 
--- an expression that has a kind is found, at its place
+-- the kind of an expression is found, at its offset
 pub record IsFoundAs (names : Names) (x : Tree) (kind : ValueKind) : Type 0 where
   pub at : ℕ
   pub is : expression_kind names x ≡ Ok (kind_at at kind)

@@ -1,4 +1,4 @@
--- Names only grow along statements, so that a block's names are those after the ones of before.
+-- Names are only added along statements, so those after a block are those before it.
 use Rattle.std.proofs.Common.{◌≡◌, ℕ, List, [], ◌∷◌, ◌++◌, length, take, Option, Some, None, Result, Ok, Err, sym, ap, refl, ◌∙◌, append_assoc}
 use Rattle.std.proofs.lemmas.List.{append-nil, take_at}
 use Rattle.contract_tree.specs.declared.tree.ValueKind.{ValueKind}
@@ -11,7 +11,7 @@ use Rattle.contract_check.specs.Names.{Names, kind_in}
 use Rattle.contract_check.specs.WellKinded.{with_name}
 use Rattle.contract_check.specs.Faults.{and_then, expression_kind, require_kind, expression_of_kind, text_expressions, source_expressions, with_new_name, names_after_declaration, names_after_assignment, names_after_block, names_after_statement, names_after_statements}
 
--- what stands after a check that found no fault
+-- the two steps of a check that found no fault
 pub record Passes {A B : Type 0} (r : Result A Fault) (next : A → Result B Fault) (b : B) : Type 0 where
   pub value : A
   pub first : r ≡ Ok value
@@ -40,7 +40,7 @@ pub sources_is : (parts : Option Trees) (names left : Names) → source_expressi
 sources_is None names left e = (let f : names ≡ left = cc in sym f)
 sources_is (Some parts) names left e = texts_is parts names left e
 
--- the names of before, and more after them
+-- the earlier names, with more after them
 pub record IsLonger (names left : Names) : Type 0 where
   pub added : Names
   pub is : left ≡ names ++ added
@@ -84,7 +84,7 @@ all_longer (statements x xs) names left e =
     let rest = all_longer xs p.value left p.second in
     record { added = first.added ++ rest.added; is = rest.is ∙ ap (λ l. l ++ rest.added) first.is ∙ append_assoc names first.added rest.added }
 
--- After a block the names of before are kept.
+-- After a block the earlier names are visible.
 pub kept : (xs : StatementTrees) (names left : Names) → names_after_statements names xs ≡ Ok left → names_after_block names (names_after_statements names xs) ≡ Ok (take (length names) left)
 kept xs names left e =
     let l = all_longer xs names left e in

@@ -1,4 +1,4 @@
--- A contract has no fault exactly where it is well kinded.
+-- A contract has no fault exactly if it is well kinded.
 use Rattle.std.proofs.Common.{◌≡◌, ℕ, Bool, true, false, cond, ◌==◌, List, [], ◌∷◌, ◌++◌, Option, Some, None, Result, Ok, Err, sym, ap, subst, refl, ◌∙◌}
 use Rattle.std.specs.Prelude.{IfSome}
 use Rattle.std.specs.List.{list_any}
@@ -60,7 +60,7 @@ visible_is (Some other) names at name kind left e = cc
 declared_good : (names : Names) (at : ℕ) (name : List ℕ) (kind : ValueKind) → kind_in names name ≡ None → names_after_declaration names at name kind ≡ Ok (with_name names name kind)
 declared_good names at name kind e = ap (λ o. with_new_name o names at name kind) e
 
--- what a good assignment says
+-- what an assignment without a fault says
 assign_sound : (names : Names) (at : ℕ) (name : List ℕ) (value : Tree) (f : KindAt) (left : Names) → IsKinded names value f.kind → (o : Option ValueKind) → kind_in names name ≡ o → names_after_assignment o names at f ≡ Ok left → IsGood names (tree.Assign at name value) names
 assign_sound names at name value f left h None is e = cc
 assign_sound names at name value f left h (Some kind) is e =
@@ -68,7 +68,7 @@ assign_sound names at name value f left h (Some kind) is e =
     let P : ValueKind → Type 0 = λ k. IsKinded names value k in
     Assign names at name value kind is (subst P (require_kind_is kind f p.value p.first).0 h)
 
--- what stands in a block that has no fault
+-- the inside of a block without a fault
 record IsBlock (names : Names) (body : StatementTrees) : Type 0 where
   inner : Names
   is : names_after_statements names body ≡ Ok inner
@@ -189,7 +189,7 @@ new_complete name [] h = refl
 new_complete name (other ∷ others) h =
     or_from (pointwise ◌==◌ name other) (list_any (pointwise ◌==◌ name) others) (false_from_ne_true (pointwise ◌==◌ name other) (λ e. h.0 (sym ((bytes_eq-Decides name other).0 e)))) (new_complete name others h.1)
 
--- a name that is told again, or is new
+-- a name that was taken before, or is new
 again_is : (t : Bool) (fault : Fault) (next left : List (List ℕ)) → cond t (Err fault) (Ok next) ≡ Ok left → (t ≡ false) × (left ≡ next)
 again_is true fault next left e = cc
 again_is false fault next left e = (refl, (let f : next ≡ left = cc in sym f))
@@ -224,14 +224,14 @@ pub no_check_fault : (functions : List FunctionTree) → WellKinded functions �
 unfolding check_fault
 no_check_fault functions h = ap fault_in (functions_complete functions [] h).1
 
--- a well kinded contract is refused by being out of memory alone
+-- the check of a well kinded contract can only fail by running out of memory
 pub only_memory : (functions : List FunctionTree) (error : CheckError) → IfSome (fault_of error) (λ fault. unless_fault {A = Unit {0}} tt (check_fault functions) ≡ Err fault) → WellKinded functions → error ≡ errors.Memory
 only_memory functions (errors.Refused at what) h good =
     let e : ◌≡◌ {A = Result (Unit {0}) Fault} (Ok tt) (Err (record { at = at; kind = what })) = ap (unless_fault tt) (sym (no_check_fault functions good)) ∙ h in
     absurd (cc)
 only_memory functions errors.Memory h good = refl
 
--- what is given has no fault
+-- what is returned has no fault
 pub unless_none : {A : Type 0} (a b : A) (fault : Option Fault) → unless_fault a fault ≡ Ok b → fault ≡ None
 unless_none a b None e = refl
 unless_none a b (Some fault) e = absurd (cc)

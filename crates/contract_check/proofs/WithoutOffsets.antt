@@ -9,7 +9,7 @@ use Rattle.contract_tree.specs.Builtins.{params_of}
 use Rattle.contract_check.specs.Names.{Names}
 use Rattle.contract_check.specs.WellKinded.{with_name, IsKinded, Number, Literal, Named, Called, Prefixed, OfNumbers, OfTexts, OfAlike, AreKinded, NoneLeft, OneMore, AreTexts, NoText, MoreText, AreSources, IsGood, Let, Assign, If, IfElse, While, Put, Fail, Return, AreGood, Done, Then, AreDeclared, NoParam, Declares, IsGoodFunction, AreGoodFunctions, NoFunction, NextFunction, WellKinded, IsKindedAnywhere}
 
--- ---- offsets left out
+-- ---- setting offsets to 0
 
 mutual
   kinded_out : (names : Names) (x : Tree) (kind : ValueKind) → IsKinded names x kind → IsKinded names (erase x) kind
@@ -67,7 +67,7 @@ functions_out : (used : List (List ℕ)) (functions : List FunctionTree) → Are
 functions_out _ _ (NoFunction used) = NoFunction used
 functions_out _ _ (NextFunction used function functions new good h) = NextFunction used (erase_function function) (erase_contract functions) new (function_out function good) (functions_out _ functions h)
 
--- ---- offsets put in again
+-- ---- restoring offsets
 
 mutual
   kinded_in : (names : Names) (x : Tree) (kind : ValueKind) → IsKinded names (erase x) kind → IsKinded names x kind

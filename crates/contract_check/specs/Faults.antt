@@ -23,7 +23,7 @@ use Rattle.contract_tree.specs.Builtins.{params_of, kind_given, builtin_of}
 use Rattle.contract_check.specs.Names.{Names, kind_in}
 use Rattle.contract_check.specs.WellKinded.{Operands, Numbers, Texts, Alike, operands_of, with_name}
 
--- The fault that an error tells: none where it is out of memory.
+-- The fault that an error reports, or `None` if it is out of memory.
 abbrev pub fault_of : CheckError → Option Fault
 fault_of (errors.Refused at kind) = Some (record { at = at; kind = kind })
 fault_of errors.Memory = None
@@ -32,12 +32,12 @@ fault_of errors.Memory = None
 abbrev pub fault_at : {A : Type 0} → ℕ → CheckKind → Result A Fault
 fault_at at kind = Err (record { at = at; kind = kind })
 
--- The second check, with what the first gave, where that found no fault.
+-- The second check on the result of the first, or the fault of the first.
 abbrev pub and_then : {A B : Type 0} → Result A Fault → (A → Result B Fault) → Result B Fault
 and_then (Ok a) next = next a
 and_then (Err fault) next = Err fault
 
--- The fault of a check, where it found one.
+-- The fault that a check found, if any.
 abbrev pub fault_in : {A : Type 0} → Result A Fault → Option Fault
 fault_in (Ok _) = None
 fault_in (Err fault) = Some fault
@@ -49,7 +49,7 @@ unless_fault a (Some fault) = Err fault
 
 -- ---- expressions
 
--- Whether two kinds are the same, as `==` of the program says.
+-- Whether two kinds are the same, as the program's `==` returns it.
 abbrev pub is_same_kind : ValueKind → ValueKind → Bool
 is_same_kind = sameb the_type
 
@@ -57,73 +57,73 @@ is_same_kind = sameb the_type
 abbrev pub kind_at : ℕ → ValueKind → KindAt
 kind_at at kind = record { at = at; kind = kind }
 
--- What has this kind, unchanged; else the fault is at its offset.
+-- The value, if it has this kind; else a fault at its offset.
 abbrev pub require_kind : ValueKind → KindAt → Result KindAt Fault
 require_kind kind value = if is_same_kind value.kind kind then Ok value else fault_at value.at Kind
 
--- The kind of a name where it is visible, at the offset of the name.
+-- The kind of a visible name, at the offset of the name; else a fault there.
 abbrev pub name_kind : ℕ → Option ValueKind → Result KindAt Fault
 name_kind at None = fault_at at Unknown
 name_kind at (Some kind) = Ok (kind_at at kind)
 
--- The offset of an argument that is not of its parameter's kind; it has none where there is no such
+-- The offset of an argument that has another kind than its parameter, or `None` if there is no such
 -- parameter.
 abbrev pub wrong_argument : Option ValueKind → KindAt → Option ℕ
 wrong_argument None arg = None
 wrong_argument (Some kind) arg = if is_same_kind arg.kind kind then None else Some arg.at
 
--- The offset of the first argument that is not of its parameter's kind.
+-- The offset of the first argument that has another kind than its parameter.
 abbrev pub first_wrong_argument : List KindAt → List ValueKind → Option ℕ
 first_wrong_argument [] kinds = None
 first_wrong_argument (arg ∷ args) [] = None
 first_wrong_argument (arg ∷ args) (kind ∷ kinds) =
     option_or (wrong_argument (Some kind) arg) (first_wrong_argument args kinds)
 
--- What a call gives, unless one of its arguments is wrong.
+-- The value of a call, unless one of its arguments is wrong.
 abbrev pub unless_wrong_argument : Option ℕ → KindAt → Result KindAt Fault
 unless_wrong_argument None value = Ok value
 unless_wrong_argument (Some offset) value = fault_at offset Kind
 
--- The kinds of a builtin's parameters; none where a name is not that of a builtin.
+-- The kinds of a builtin's parameters; none if the name is no builtin's.
 abbrev pub parameter_kinds : Option Builtin → List ValueKind
 parameter_kinds None = []
 parameter_kinds (Some builtin) = params_of builtin
 
--- What a call gives, by the number of its arguments and the first wrong one.
+-- The value of a call, given the number of its arguments and the first wrong one.
 abbrev pub call_kind_by : ℕ → Option Builtin → ℕ → Option ℕ → Result KindAt Fault
 call_kind_by at None count wrong = fault_at at Unknown
 call_kind_by at (Some builtin) count wrong =
     if count == length (params_of builtin)
     then unless_wrong_argument wrong (kind_at at (kind_given builtin)) else fault_at at Count
 
--- What a call gives, once its arguments are checked: the name is looked at, then the number of
+-- The value of a call whose arguments were checked: the name is tested first, then the number of
 -- arguments, then their kinds.
 abbrev pub call_kind : ℕ → Option Builtin → List KindAt → Result KindAt Fault
 call_kind at builtin args =
     call_kind_by at builtin (length args) (first_wrong_argument args (parameter_kinds builtin))
 
--- What a prefix gives: its operand is a number.
+-- The value of a prefix operator, whose operand must be a number.
 abbrev pub prefix_kind : ℕ → KindAt → Result KindAt Fault
 prefix_kind at operand = and_then (require_kind Int operand) (λ _. Ok (kind_at at Int))
 
--- What an operator gives whose operands and value are of one given kind.
+-- The value of an operator whose operands and value have this kind.
 abbrev pub operation_kind : ValueKind → ℕ → KindAt → KindAt → Result KindAt Fault
 operation_kind kind at left right =
     and_then (require_kind kind left)
     (λ _. and_then (require_kind kind right) (λ _. Ok (kind_at at kind)))
 
--- What an operator gives that compares two operands of any one kind.
+-- The value of an operator that compares two operands of the same kind.
 abbrev pub equality_kind : ℕ → KindAt → KindAt → Result KindAt Fault
 equality_kind at left right = and_then (require_kind left.kind right) (λ _. Ok (kind_at at Int))
 
--- What an operator gives, by the operands that it takes.
+-- The value of an operator, given the operands that it takes.
 abbrev pub binary_kind : ℕ → Operands → KindAt → KindAt → Result KindAt Fault
 binary_kind at Numbers left right = operation_kind Int at left right
 binary_kind at Texts left right = operation_kind Text at left right
 binary_kind at Alike left right = equality_kind at left right
 
--- The kind of an expression with its offset, or the first fault of the expression; and the same of
--- each of a list of expressions.
+-- The kind of an expression and its offset, or its first fault; and the same for each of a list of
+-- expressions.
 abbrev mutual
   pub expression_kind : Names → Tree → Result KindAt Fault
   expression_kind names (tree.Int at value) = Ok (kind_at at Int)
@@ -138,29 +138,29 @@ abbrev mutual
       (λ left. and_then (expression_kind names right)
       (λ right. binary_kind at (operands_of sign) left right))
 
-  -- The kinds of expressions and their offsets, in order, or the first fault of them.
+  -- The kinds of expressions and their offsets, in order, or their first fault.
   pub expression_kinds : Names → Trees → Result (List KindAt) Fault
   expression_kinds names none = Ok []
   expression_kinds names (more x xs) =
       and_then (expression_kind names x)
       (λ kind. and_then (expression_kinds names xs) (λ kinds. Ok (kind ∷ kinds)))
 
--- The kind of an expression, which is required to be this one.
+-- The kind of an expression that must have this kind.
 abbrev pub expression_of_kind : ValueKind → Names → Tree → Result KindAt Fault
 expression_of_kind kind names x = and_then (expression_kind names x) (require_kind kind)
 
--- The same names, where each of the expressions is a text.
+-- The same names, if each of the expressions is a text.
 abbrev pub text_expressions : Names → Trees → Result Names Fault
 text_expressions names none = Ok names
 text_expressions names (more x xs) =
     and_then (expression_of_kind Text names x) (λ _. text_expressions names xs)
 
--- The same names, where the keys that a value is said to come from are texts.
+-- The same names, if the keys that a value is said to be derived from are texts.
 abbrev pub source_expressions : Names → Option Trees → Result Names Fault
 source_expressions names None = Ok names
 source_expressions names (Some parts) = text_expressions names parts
 
--- The same names after a `put` of a key, a value and the keys that it is said to come from.
+-- The same names after a `put` of a key, a value and the keys that it is said to be derived from.
 abbrev pub names_after_put : Names → Tree → Tree → Option Trees → Result Names Fault
 names_after_put names key value parts =
     and_then (expression_of_kind Text names key)
@@ -168,7 +168,7 @@ names_after_put names key value parts =
 
 -- ---- statements
 
--- The names with a new one, unless it is visible with some kind.
+-- The names with a new one, unless it is visible.
 abbrev pub with_new_name : Option ValueKind → Names → ℕ → List ℕ → ValueKind → Result Names Fault
 with_new_name None names at name kind = Ok (with_name names name kind)
 with_new_name (Some _) names at name kind = fault_at at Again
@@ -177,13 +177,13 @@ with_new_name (Some _) names at name kind = fault_at at Again
 abbrev pub names_after_declaration : Names → ℕ → List ℕ → ValueKind → Result Names Fault
 names_after_declaration names at name kind = with_new_name (kind_in names name) names at name kind
 
--- The same names after an assignment, by the kind of its name and once its value is checked.
+-- The same names after an assignment, given the kind of its name, after its value was checked.
 abbrev pub names_after_assignment : Option ValueKind → Names → ℕ → KindAt → Result Names Fault
 names_after_assignment None names at value = fault_at at Unknown
 names_after_assignment (Some kind) names at value =
     and_then (require_kind kind value) (λ _. Ok names)
 
--- The names before a block are those after it.
+-- The names after a block are those before it.
 abbrev pub names_after_block : Names → Result Names Fault → Result Names Fault
 names_after_block names (Ok _) = Ok names
 names_after_block names (Err fault) = Err fault
@@ -211,7 +211,7 @@ abbrev mutual
   names_after_statement names (tree.Fail at) = Ok names
   names_after_statement names (tree.Return at) = Ok names
 
-  -- The names that are visible after statements, one after another.
+  -- The names that are visible after statements, one after another, or their first fault.
   pub names_after_statements : Names → StatementTrees → Result Names Fault
   names_after_statements names no_statement = Ok names
   names_after_statements names (statements x xs) =
@@ -232,13 +232,13 @@ names_after_function function =
     and_then (names_after_params [] function.params)
     (λ names. names_after_statements names function.body)
 
--- The function names that are used, with that of one more function.
+-- The names of functions that are taken, with that of one more function.
 abbrev pub used_after_name : List (List ℕ) → FunctionTree → Result (List (List ℕ)) Fault
 used_after_name used function =
     if list_any (pointwise ◌==◌ function.name) used then fault_at function.at Again
     else Ok (used ++ function.name ∷ [])
 
--- The function names that are used after functions, or their first fault.
+-- The names that are taken after functions, or the functions' first fault.
 abbrev pub used_after_functions : List (List ℕ) → List FunctionTree → Result (List (List ℕ)) Fault
 used_after_functions used [] = Ok used
 used_after_functions used (function ∷ functions) =

@@ -8,6 +8,6 @@ use Rattle.contract_tree.specs.declared.tree.ValueKind.{ValueKind}
 abbrev pub Names : Type 0
 Names = List (List ℕ × ValueKind)
 
--- The kind of a name, where it is visible.
+-- The kind of a name, if it is visible.
 abbrev pub kind_in : Names → List ℕ → Option ValueKind
 kind_in names name = lookup (pointwise ◌==◌ name) names

@@ -14,7 +14,7 @@ use Rattle.contract_check.specs.Names.{Names, kind_in}
 
 -- ---- expressions
 
--- The operands that an operator takes: two numbers, two texts, or two of one kind.
+-- The operands that an operator takes: two numbers, two texts, or two of the same kind.
 pub data Operands : Type 0 where
   Numbers : Operands
   Texts : Operands
@@ -27,7 +27,7 @@ operands_of signs.NotEqual = Alike
 operands_of signs.Concat = Texts
 operands_of _ = Numbers
 
--- The expression is of this kind, where these names are visible.
+-- The expression has this kind, if these names are visible.
 mutual
   pub data IsKinded (names : Names) : Tree → ValueKind → Type 0 where
     Number : (at : ℕ) (value : ℤ) → IsKinded names (tree.Int at value) Int
@@ -54,7 +54,7 @@ mutual
         → IsKinded names left kind → IsKinded names right kind
         → IsKinded names (tree.Binary at sign left right) Int
 
-  -- The expressions are of these kinds, one by one.
+  -- The expressions have these kinds, one by one.
   pub data AreKinded (names : Names) : Trees → List ValueKind → Type 0 where
     NoneLeft : AreKinded names none []
     OneMore :
@@ -68,7 +68,7 @@ pub data AreTexts (names : Names) : Trees → Type 0 where
       (x : Tree) (xs : Trees) → IsKinded names x Text → AreTexts names xs
       → AreTexts names (more x xs)
 
--- The keys that a value is said to come from are texts, where there are any.
+-- The keys that a value is said to be derived from, if any, are texts.
 abbrev pub AreSources : Names → Option Trees → Type 0
 AreSources names None = Unit {0}
 AreSources names (Some parts) = AreTexts names parts
@@ -79,7 +79,7 @@ AreSources names (Some parts) = AreTexts names parts
 abbrev pub with_name : Names → List ℕ → ValueKind → Names
 with_name names name kind = names ++ (name, kind) ∷ []
 
--- The statement is good where the first names are visible, and after it the second are.
+-- The statement is good if the first names are visible, and after it the last are.
 mutual
   pub data IsGood : Names → StatementTree → Names → Type 0 where
     Let :
@@ -126,19 +126,19 @@ pub data AreDeclared : Names → List Param → Names → Type 0 where
       → AreDeclared (with_name names param.name param.kind) params last
       → AreDeclared names (param ∷ params) last
 
--- The function is good: its parameters are visible in its statements, and no name from outside.
+-- The function is good. Its statements see its parameters, and no name from outside.
 pub record IsGoodFunction (function : FunctionTree) : Type 0 where
   pub params : Names
   pub names_at_end : Names
   pub are_declared : AreDeclared [] function.params params
   pub are_good : AreGood params function.body names_at_end
 
--- The name is none of those used.
+-- The name is none of these.
 abbrev pub IsNew : List ℕ → List (List ℕ) → Type 0
 IsNew name [] = Unit {0}
 IsNew name (other ∷ others) = (other ≢ name) × IsNew name others
 
--- Each function is good and has a name that none before it has.
+-- Each function is good and has a name that no function before it has.
 pub data AreGoodFunctions : List (List ℕ) → List FunctionTree → Type 0 where
   NoFunction : (used : List (List ℕ)) → AreGoodFunctions used []
   NextFunction :
@@ -151,8 +151,7 @@ pub data AreGoodFunctions : List (List ℕ) → List FunctionTree → Type 0 whe
 abbrev pub WellKinded : List FunctionTree → Type 0
 WellKinded functions = AreGoodFunctions [] functions
 
--- Functions that are equal to these but for the offsets in them are well kinded exactly where these
--- are.
+-- Functions that differ from these in their offsets only are well kinded exactly if these are.
 abbrev pub IsKindedAnywhere : List FunctionTree → Type 0
 IsKindedAnywhere all =
     (other : List FunctionTree) → erase_contract other ≡ erase_contract all

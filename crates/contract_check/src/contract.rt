@@ -1,4 +1,4 @@
-//! A whole contract.
+//! Checking a whole contract: function by function, up to the first fault.
 
 ghost use Rattle.std.specs.{
   Prelude.{◌≡◌, ◌++◌, ◌∷◌, [], ℕ, List, None, Some, map, find, IfSome, OnOk, IfErr},
@@ -68,7 +68,7 @@ fn first_fault(alloc: Global, contract: &Contract) -> Result<(), CheckError>
     functions(alloc, &contract.functions)
 }
 
-/// A contract that is well kinded. It comes from `check` alone.
+/// A contract that is well kinded. Only `check` makes one.
 #[derive(Debug, Drop)]
 pub struct Checked {
     contract: Contract,
@@ -91,7 +91,7 @@ impl Model for Checked {
 }
 
 impl Checked {
-    /// The contract that was given.
+    /// The contract.
     pub fn contract(&self) -> &Contract
         ensures same { result.now ≡ self.now }
         ensures well_kinded { WellKinded (contract_of result.now) }
@@ -99,7 +99,7 @@ impl Checked {
         &self.contract
     }
 
-    /// The function of a name, where the contract has one.
+    /// The function with this name, if the contract has one.
     pub fn function(&self, name: &Name) -> Option<&Function>
         ensures named { option_copied result ≡ find (is_called name.now) self.now.functions.items }
         ensures good { IfSome (option_copied result) (λ function. IsGoodFunction (function_of function)) }
@@ -120,8 +120,8 @@ fn function_named<'a>(functions: &'a [Function], name: &Name) -> Option<&'a Func
     functions.iter().find(|function| is_called(function, name))
 }
 
-/// Checks the names and the kinds of a contract. It is given back where it has no fault. Contracts
-/// that are equal but for the offsets in them are well kinded together.
+/// Checks the names and kinds of a contract, and returns it if it has no fault. Of contracts that
+/// differ in their offsets only, all are well kinded or none is.
 ///
 /// # Errors
 ///

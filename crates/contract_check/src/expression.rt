@@ -1,4 +1,4 @@
-//! The kind of an expression.
+//! The kind of an expression, found from its operands up.
 
 ghost use Rattle.std.specs.Prelude.{◌≡◌, ℕ, length, slice_get, map};
 ghost use Rattle.contract_tree.specs.{Tree.{tree_of, trees}, Builtins.{builtin_of, params_of}};
@@ -22,7 +22,7 @@ pub struct KindAt {
     pub kind: ValueKind,
 }
 
-/// What has this kind, unchanged; else the fault is at its offset.
+/// The value, if it has this kind; else a fault at its offset.
 pub fn require_kind(kind: ValueKind, value: KindAt) -> Result<KindAt, Fault>
     ensures { result ≡ require_kind kind value }
 {
@@ -163,7 +163,7 @@ fn call(scope: &Scope, at: u32, name: &Name, args: &[Expr]) -> Result<KindAt, Fa
     call_kind_by(at, builtin, args.len(), wrong)
 }
 
-/// The kind of an expression with its offset, or its first fault.
+/// The kind of an expression and its offset, or its first fault.
 #[cycle(expression)]
 pub fn expression_kind(scope: &Scope, x: &Expr) -> Result<KindAt, Fault>
     ensures { result ≡ expression_kind scope.now (tree_of x.now) }

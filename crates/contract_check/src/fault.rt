@@ -1,4 +1,4 @@
-//! How a contract fails to be well kinded.
+//! Why a contract is not well kinded.
 
 ghost use Rattle.std.specs.Prelude.{◌≡◌};
 ghost use Rattle.contract_check.specs.declared.fault.CheckError.TheVariants as CheckErrors;
@@ -8,12 +8,12 @@ use lc_base::Memory;
 /// What is wrong with a contract.
 #[derive(Clone, Copy, Debug, PartialEq, Eq)]
 pub enum CheckKind {
-    /// A name that is not visible where it is used or assigned, or a called name that is no
+    /// A name that is not visible where it is used or assigned, or a call of something that is no
     /// builtin.
     Unknown,
-    /// A function's name used before, or a parameter or a `let` whose name is visible.
+    /// A function whose name was used before, or a parameter or a `let` whose name is visible.
     Again,
-    /// A builtin with another number of arguments than it takes.
+    /// A builtin that is called with a wrong number of arguments.
     Count,
     /// An operand, argument, condition, key or assigned value of the wrong kind.
     Kind,
@@ -28,7 +28,7 @@ pub struct Fault {
     pub kind: CheckKind,
 }
 
-/// Why a contract was not checked to the end.
+/// Why a contract did not pass the check.
 #[derive(Clone, Copy, Debug, PartialEq, Eq)]
 pub enum CheckError {
     /// The contract has a fault.

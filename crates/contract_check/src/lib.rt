@@ -1,5 +1,5 @@
-//! Which contracts are well kinded: names are declared once and before use, builtins get what they
-//! take, and operators too.
+//! Which contracts are well kinded: names are declared once and before use, and builtins and
+//! operators get the kinds that they take.
 #![tactic(auto)]
 
 mod contract;

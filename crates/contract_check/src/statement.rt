@@ -1,4 +1,4 @@
-//! Statements, and the names that are visible after them.
+//! Checking statements, and the names that are visible after them.
 
 ghost use Rattle.std.specs.Prelude.{◌≡◌, ℕ, Ok, map};
 ghost use Rattle.lc_base.specs.Answers.{Answers};
@@ -20,7 +20,7 @@ fn expression_of_kind(kind: ValueKind, scope: &Scope, x: &Expr) -> Result<KindAt
     require_kind(kind, expression_kind(scope, x)?)
 }
 
-/// Makes a name visible, where it is not yet.
+/// Makes a name visible, unless it is already.
 pub fn declare(scope: &mut Scope, at: u32, name: &Name, kind: ValueKind) -> Result<(), CheckError>
     ensures { Answers (λ _. scope.new) fault_of result (names_after_declaration scope.old at name.now kind) }
 {
@@ -115,7 +115,7 @@ fn block(scope: &mut Scope, body: &[Statement]) -> Result<(), CheckError>
     Ok(())
 }
 
-/// Checks statements one after another. After them, what they declare is visible.
+/// Checks statements one after another. The names that they declare are visible after them.
 #[cycle(statement)]
 pub fn statements(scope: &mut Scope, body: &[Statement]) -> Result<(), CheckError>
     ensures { Answers (λ _. scope.new) fault_of result (names_after_statements scope.old (statement_list (map statement_of body.now))) }

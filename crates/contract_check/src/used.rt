@@ -1,4 +1,4 @@
-//! The names of functions that are used.
+//! The names of functions that are taken.
 
 ghost use Rattle.std.specs.{
   Prelude.{◌≡◌, [], ◌==◌, ◌∷◌, ◌++◌, not, if◌then◌else◌, IfOk, OnOk},
@@ -27,7 +27,7 @@ impl Model for UsedNames {
 }
 
 impl UsedNames {
-    /// No name. It takes no memory.
+    /// No names. It takes no memory.
     pub fn new(alloc: Global) -> UsedNames
         ensures { result ≡ [] }
     {
@@ -36,7 +36,7 @@ impl UsedNames {
         }
     }
 
-    /// Adds a name, and tells whether it is new.
+    /// Adds a name, and returns whether it is new.
     pub fn add(&mut self, name: &Name) -> Result<bool, Memory>
         ensures is_new { IfOk result (λ is_new. is_new ≡ not (list_any (pointwise ◌==◌ name.now) self.old)) }
         ensures added { OnOk result (self.new ≡ (if list_any (pointwise ◌==◌ name.now) self.old then self.old else self.old ++ name.now ∷ [])) }

@@ -1,4 +1,4 @@
--- The list that the code takes piece by piece is that of the tokens.
+-- The list that the code takes piece by piece is the list of the tokens.
 use Rattle.std.proofs.Common.{◌≡◌, ℕ, zero, suc, ◌+◌, ◌≤◌, ◌<◌, List, [], ◌∷◌, ◌++◌, length, drop, Option, Some, None, Result, Ok, Err, IfSome, sym, ap, subst, refl, ◌∙◌, arith}
 use Rattle.std.proofs.lemmas.List.{drop-drop, length-drop}
 use Rattle.contract_tokens.specs.declared.token.Token.{Token}
@@ -47,7 +47,7 @@ unrolled : (at : ℕ) (bytes : List ℕ) → tokens_from at bytes ≡ tokens_by_
 unfolding tokens_from tokens_within
 unrolled at bytes = refl
 
--- the list by the piece that stands before
+-- the list, given the piece with which it begins
 pub by_piece : (at : ℕ) (bytes : List ℕ) → tokens_from at bytes ≡ tokens_by_piece (next_piece bytes) at bytes tokens_from
 by_piece at bytes = unrolled at bytes ∙ same_pieces (length bytes) at bytes (next_piece bytes) (omega arith) (next_piece_goes_on bytes)
 
@@ -79,9 +79,9 @@ pub tokens_from_once : (at : ℕ) (bytes : List ℕ) (list : List Token) → IsT
 unfolding IsListOf
 tokens_from_once at bytes list i = list_of at bytes (Ok list) i
 
--- ---- the loop over a whole source
+-- ---- the scan of a whole source
 
--- no fault stands before this offset
+-- there is no fault before this offset
 pub record IsFaultless (source : List ℕ) (at : ℕ) : Type 0 where
   pub found : List Token
   pub so_far : IsSoFar source at found
@@ -89,7 +89,7 @@ pub record IsFaultless (source : List ℕ) (at : ℕ) : Type 0 where
 pub from_prefix : (source : List ℕ) → IsFaultless source 0
 from_prefix source = record { found = []; so_far = at_start source }
 
--- what the piece at a faultless offset says of the source
+-- what the piece at a faultless offset says about the source
 abbrev Passed : List ℕ → ℕ → Result (Option ℕ) (ℕ × TokenKind) → Type 0
 Passed source at (Ok None) = IsTokens 0 source (tokens_from 0 source)
 Passed source at (Ok (Some next)) = IsFaultless source next × (at < next)
@@ -117,19 +117,19 @@ pub passed_all : (source : List ℕ) (at : ℕ) (next : Option ℕ) → IsFaultl
 passed_all source at None f e none = passed source at (Ok None) f e
 passed_all source at (Some n) f e none = absurd (none n refl)
 
--- an error that is told at a faultless offset answers the outcome of the source
+-- an error at a faultless offset is the outcome of the source
 pub told_error : (source : List ℕ) (at : ℕ) (error : TokenError) → IsFaultless source at → IfSome (fault_of error) (λ fault. offset_after at (next_piece (drop at source)) ≡ Err fault) → (outcome : Outcome) × IsTokenized 0 source outcome × IfSome (fault_of error) (λ fault. outcome ≡ Err fault)
 told_error source at (Refused offset kind) f e = (Err (offset, kind), passed source at (Err (offset, kind)) f e, refl)
 told_error source at Memory f e = let one = tokenized 0 source in (one.0, one.1, tt)
 
--- ---- the loop up to the next token
+-- ---- the search for the next token
 
--- nothing but gaps stands between the two offsets
+-- there are only gaps between the two offsets
 pub record IsGap (source : List ℕ) (from at : ℕ) : Type 0 where
   pub within : at ≤ length source
   pub same : tokens_from from (drop from source) ≡ tokens_from at (drop at source)
 
--- the list from the first offset on, by the piece at the second
+-- the list from the first offset on, given the piece at the second
 pub by_next : (source : List ℕ) (from at : ℕ) (p : Piece) → IsGap source from at → p ≡ next_piece (drop at source) → tokens_from from (drop from source) ≡ tokens_by_piece p at (drop at source) tokens_from
 by_next source from at p g e = g.same ∙ by_piece at (drop at source) ∙ ap (λ q. tokens_by_piece q at (drop at source) tokens_from) (sym e)
 

@@ -14,7 +14,7 @@ use Rattle.contract_tokens.specs.declared.piece.Piece.TheVariants as pieces
 use Rattle.contract_tokens.specs.Lexemes.{quote, backslash, IsLiteralBody, Nothing, Plain, EscapedQuote, EscapedBackslash}
 use Rattle.contract_tokens.specs.Pieces.{piece_after_byte, literal_piece}
 
--- a body that is not empty, by its first byte
+-- a body that is not empty, given its first byte
 data IsHead (c : ℕ) (rest said : List ℕ) : Type 0 where
   PlainHead : is_text_byte c ≡ true → c ≢ backslash → (more : List ℕ) → said ≡ c ∷ more → IsLiteralBody rest more → IsHead c rest said
   EscapeHead : c ≡ backslash → (d : ℕ) (tail more : List ℕ) → rest ≡ d ∷ tail → said ≡ d ∷ more → (d ≡ quote) ⊎ (d ≡ backslash) → IsLiteralBody tail more → IsHead c rest said
@@ -30,22 +30,22 @@ head_of _ _ (Plain byte body text t q k h) c rest e =
 head_of _ _ (EscapedQuote body text h) c rest e = EscapeHead (let f : backslash ≡ c = cc in sym f) quote body text (let f : quote ∷ body ≡ rest = cc in sym f) refl (inl refl) h
 head_of _ _ (EscapedBackslash body text h) c rest e = EscapeHead (let f : backslash ≡ c = cc in sym f) backslash body text (let f : backslash ∷ body ≡ rest = cc in sym f) refl (inr refl) h
 
--- a body after the backslash that was read, if one was
+-- a body after a backslash, if one was read
 abbrev pub pending : Bool → List ℕ → List ℕ
 pending true body = backslash ∷ body
 pending false body = body
 
--- the literal that closes in the rest
+-- the literal is closed in the rest
 pub record IsClosed (escaped : Bool) (text rest body said after : List ℕ) : Type 0 where
   pub parts : rest ≡ body ++ quote ∷ after
   pub means : IsLiteralBody (pending escaped body) said
   pub short : length (text ++ said) ≤ MAX_LITERAL_BYTES
 
--- no literal closes in the rest that means few enough bytes
+-- no literal is closed in the rest that stands for few enough bytes
 abbrev pub IsOpen : Bool → List ℕ → List ℕ → Type 0
 IsOpen escaped text rest = (body said after : List ℕ) → rest ≡ body ++ quote ∷ after → IsLiteralBody (pending escaped body) said → MAX_LITERAL_BYTES < length (text ++ said)
 
--- what reading on gives
+-- what reading the rest gives
 abbrev pub IsRead : Bool → List ℕ → ℕ → List ℕ → Piece → Type 0
 IsRead escaped text count rest pieces.End = ⊥
 IsRead escaped text count rest (pieces.Skip n) = ⊥
@@ -56,7 +56,7 @@ none_closes : (body after : List ℕ) → [] ≡ body ++ quote ∷ after → ⊥
 none_closes [] after e = cc
 none_closes (c ∷ body) after e = cc
 
--- the first byte of what closes
+-- the first byte of a body that is closed
 first_closes : (byte : ℕ) (rest body after : List ℕ) → byte ∷ rest ≡ body ++ quote ∷ after → ((body ≡ []) × (byte ≡ quote)) ⊎ ((more : List ℕ) × (body ≡ byte ∷ more) × (rest ≡ more ++ quote ∷ after))
 first_closes byte rest [] after e = inl (refl, cc)
 first_closes byte rest (c ∷ body) after e = inr (body, (let f : byte ≡ c = cc in ap (λ b. b ∷ body) (sym f)), cc)
@@ -64,7 +64,7 @@ first_closes byte rest (c ∷ body) after e = inr (body, (let f : byte ≡ c = c
 longer : (text more : List ℕ) (byte : ℕ) → length (text ++ byte ∷ more) ≡ length text + 1 + length more
 longer text more byte = simp length-append (omega arith)
 
--- one byte more, which means itself
+-- one more byte, which means itself
 meant : (p : Piece) (text rest : List ℕ) (byte count : ℕ) → is_text_byte byte ≡ true → byte ≢ quote → byte ≢ backslash → IsRead false (text ++ byte ∷ []) (count + 1) rest p → IsRead false text count (byte ∷ rest) p
 meant pieces.End text rest byte count t q k h = h
 meant (pieces.Skip n) text rest byte count t q k h = h
@@ -93,12 +93,12 @@ meant (pieces.Bad kind) text rest byte count t q k (same, unclosed) = (
       ],
 )
 
--- one byte more, which an escape means
+-- one more byte, which is escaped
 escaped_body : (byte : ℕ) (body said : List ℕ) → (byte ≡ quote) ⊎ (byte ≡ backslash) → IsLiteralBody body said → IsLiteralBody (backslash ∷ byte ∷ body) (byte ∷ said)
 escaped_body byte body said (inl e) h = (let P : ℕ → Type 0 = λ b. IsLiteralBody (backslash ∷ b ∷ body) (b ∷ said) in subst P (sym e) (EscapedQuote body said h))
 escaped_body byte body said (inr e) h = (let P : ℕ → Type 0 = λ b. IsLiteralBody (backslash ∷ b ∷ body) (b ∷ said) in subst P (sym e) (EscapedBackslash body said h))
 
--- what an escape's body says, in a rest that closes
+-- the body after an escape, if the rest closes
 record IsEscape (byte : ℕ) (rest body said after : List ℕ) : Type 0 where
   tail : List ℕ
   more : List ℕ
@@ -157,7 +157,7 @@ escape_begun (pieces.Bad kind) text rest byte count e (same, unclosed) = (
       ],
 )
 
--- no byte more fits a text that is full
+-- no further byte fits a text of the greatest length
 full : (text rest : List ℕ) (byte : ℕ) → MAX_LITERAL_BYTES ≤ length text → byte ≢ quote → byte ≢ backslash → IsOpen false text (byte ∷ rest)
 full text rest byte l q k = λ body said after e h.
     elim (first_closes byte rest body after e) [

@@ -1,4 +1,4 @@
--- Keywords and signs against their spelling.
+-- Keywords and signs are found by their spelling, and by no other.
 use Rattle.std.proofs.Common.{◌≡◌, ℕ, Bool, true, false, cond, not, ◌==◌, List, [], ◌∷◌, Some, None, inl, inr, sym, subst, refl, arith}
 use Rattle.std.specs.Prelude.{find, get_or, ◌||◌}
 use Rattle.std.specs.List.{list_all}
@@ -30,7 +30,7 @@ abbrev pub first_is : (ℕ → Bool) → List ℕ → Bool
 first_is test [] = false
 first_is test (byte ∷ _) = test byte
 
--- what begins with a letter and is spelled by a mark is a keyword
+-- what begins with a letter and spells a mark is a keyword
 pub keyword_missed : (mark : Mark) → first_is is_letter (spelling mark) ≡ true → keyword_of (spelling mark) ≡ None → ⊥
 unfolding keyword_of
 keyword_missed marks.Fn e f = cc
@@ -44,7 +44,7 @@ pub short_spelled : (a : ℕ) (mark : Mark) → short_sign a ≡ Some mark → s
 unfolding short_sign
 short_spelled a mark e = grind (arith, nat_tests)
 
--- a byte that begins neither a name, a number nor a text literal, and no gap
+-- a byte that begins neither a name, a number, a text literal nor a gap
 abbrev pub is_other : ℕ → Bool
 is_other byte = not (is_letter byte || is_digit byte || byte == 34 || byte == 35 || is_blank byte)
 

@@ -1,4 +1,4 @@
--- Only one piece stands at the start of a source.
+-- The start of a source is one piece and no other.
 use Rattle.std.proofs.Common.{◌≡◌, ℕ, Bool, true, false, not, ◌==◌, List, [], ◌∷◌, ◌++◌, length, sym, ap, subst, refl, ◌∙◌}
 use Rattle.std.specs.Prelude.{take_while}
 use Rattle.std.proofs.lemmas.Bool.{eq-eqb, ne_eqb, or_from, not_from_true}
@@ -45,7 +45,7 @@ longest_once a b c d e h k =
       | Shorter more p q ↦ (let n = k.longest more c q (subst IsLexeme p h.lexeme) in p ∙ ap (λ x. b ++ x) n ∙ append-nil b)
     ]
 
--- ---- what no gap begins
+-- ---- bytes that no gap begins
 
 abbrev NoGap : List ℕ → Type 0
 NoGap bytes = (first_is begins_gap bytes ≡ true → ⊥) × (bytes ≡ [] → ⊥)

@@ -1,4 +1,4 @@
--- A source has one outcome, and the loop over its pieces finds it.
+-- A source has one outcome, and the scan of its pieces finds it.
 use Rattle.std.proofs.Common.{◌≡◌, ℕ, zero, suc, ◌+◌, ◌-◌, ◌≤◌, ◌<◌, List, [], ◌∷◌, ◌++◌, length, drop, Ok, Err, sym, ap, subst, refl, ◌∙◌, arith, append_assoc}
 use Rattle.std.proofs.lemmas.List.{drop_at, drop-drop, length-append, length-drop}
 use Rattle.contract_tokens.specs.declared.token.Token.{Token}
@@ -14,7 +14,7 @@ use Rattle.contract_tokens.proofs.Words.{lexeme_nonempty}
 use Rattle.contract_tokens.proofs.Pieces.{IsPieceOf, next_piece_is}
 use Rattle.contract_tokens.proofs.Once.{next_piece_only}
 
--- what an outcome says by the piece at the start
+-- what an outcome is, given the piece at the start
 abbrev IsOutcomeBy : ℕ → List ℕ → Outcome → Piece → Type 0
 IsOutcomeBy at bytes outcome pieces.End = outcome ≡ Ok (record { at = at; word = words.End } ∷ [])
 IsOutcomeBy at bytes outcome (pieces.Skip n) = IsTokenized (at + n) (drop n bytes) outcome
@@ -27,7 +27,7 @@ skip_piece gap rest g = next_piece_only (gap ++ rest) (pieces.Skip (length gap))
 pub take_piece : (prefix rest : List ℕ) (word : Word) → IsLongest prefix rest → IsSpelled prefix word → next_piece (prefix ++ rest) ≡ pieces.Take (length prefix) word
 take_piece prefix rest word l s = next_piece_only (prefix ++ rest) (pieces.Take (length prefix) word) (prefix, rest, refl, refl, l, s)
 
--- what stands after the prefix
+-- what follows the prefix
 pub dropped_rest : (prefix rest : List ℕ) → rest ≡ drop (length prefix) (prefix ++ rest)
 dropped_rest prefix rest = sym (drop_at prefix rest (length prefix) refl)
 
@@ -59,19 +59,19 @@ tokenized_once _ _ _ b (Refuses at bytes kind r) k =
     let P : Piece → Type 0 = IsOutcomeBy at bytes b in
     sym (subst P (next_piece_only bytes (pieces.Bad kind) r) (outcome_by at bytes b k))
 
--- ---- the loop
+-- ---- the scan
 
--- what is found so far, before the outcome of the rest
+-- the tokens found so far, before the outcome of the rest
 abbrev pub after_all : List Token → Outcome → Outcome
 after_all found (Ok list) = Ok (found ++ list)
 after_all found (Err fault) = Err fault
 
--- the outcome of what is left is that of the whole
+-- the outcome of what is left decides that of the whole
 pub record IsSoFar (source : List ℕ) (at : ℕ) (found : List Token) : Type 0 where
   pub within : at ≤ length source
   pub whole : (outcome : Outcome) → IsTokenized at (drop at source) outcome → IsTokenized 0 source (after_all found outcome)
 
--- a piece that is no fault and no end goes on, within the source
+-- after a piece that is neither a fault nor the end, the scan continues within the source
 abbrev pub GoesOn : ℕ → Piece → Type 0
 GoesOn left pieces.End = Unit {0}
 GoesOn left (pieces.Skip n) = (0 < n) × (n ≤ left)
@@ -102,7 +102,7 @@ at_start source = record { within = omega arith; whole = λ outcome h. none_befo
     none_before (Ok list) h = h
     none_before (Err fault) h = h
 
--- what the piece at the start tells of the outcome, the other way
+-- the outcome, derived from the piece at the start
 tokenized_by_piece : (at : ℕ) (bytes : List ℕ) (outcome : Outcome) (p : Piece) → IsPieceOf bytes p → IsOutcomeBy at bytes outcome p → IsTokenized at bytes outcome
 tokenized_by_piece at bytes outcome pieces.End h c =
     let P : List ℕ → Outcome → Type 0 = λ l o. IsTokenized at l o in

@@ -1,4 +1,4 @@
--- The piece that is read at the start of a source is what stands there.
+-- The piece that is read at the start of a source is what the source begins with.
 use Rattle.std.proofs.Common.{◌≡◌, ◌≢◌, ℕ, ◌+◌, ◌-◌, ◌*◌, ◌^◌, ◌≤◌, ◌<◌, Bool, true, false, cond, not, ◌==◌, List, [], ◌∷◌, ◌++◌, length, get_or, drop, Option, Some, None, Result, Ok, Err, inl, inr, sym, ap, subst, refl, ◌∙◌, arith, append_assoc}
 use Rattle.std.specs.Prelude.{nat_lt, take_while, decimal, pos}
 use Rattle.std.specs.List.{list_all, prefix_len}
@@ -27,7 +27,7 @@ use Rattle.contract_tokens.proofs.Shapes.{is_quote, mark_begins, letter_not_digi
 use Rattle.contract_tokens.proofs.Words.{lexeme_nonempty, letter_lexeme, digit_lexeme, quote_lexeme, is_signs, sign_lexeme}
 use Rattle.contract_tokens.proofs.Literals.{IsRead, read_is}
 
--- what a piece says of the prefix of the bytes
+-- what a piece says about the prefix of the bytes
 abbrev pub IsPieceOf : List ℕ → Piece → Type 0
 IsPieceOf bytes pieces.End = bytes ≡ []
 IsPieceOf bytes (pieces.Skip n) = (gap rest : List ℕ) × (bytes ≡ gap ++ rest) × (length gap ≡ n) × IsGap gap rest
@@ -50,7 +50,7 @@ comment_is rest =
 
 -- ---- runs
 
--- A run is the longest lexeme where all that begins as it does passes the test.
+-- A run is the longest lexeme if every lexeme that begins as it does passes the test.
 pub run_longest : (test first : ℕ → Bool) → ((bytes : List ℕ) → IsLexeme bytes → first_is first bytes ≡ true → list_all test bytes ≡ true)
     → (prefix rest : List ℕ) → IsLexeme prefix → first_is first prefix ≡ true → Stops test rest → IsLongest prefix rest
 run_longest test first all prefix rest lexeme begins stops = record {
@@ -100,7 +100,7 @@ name_of_name bytes is =
     (λ long. absurd (let e = ltb-true 16 (length bytes) long in omega (arith, is.short)))
     (λ short. ap (all_good errors.Byte bytes) is.good))
 
--- a run that begins with a letter, and is no name
+-- a run that begins with a letter and is no name spells no word
 no_word : (run : List ℕ) → first_is is_letter run ≡ true → keyword_of run ≡ None → (error : KeyError) → name_of run ≡ Err error → (word : Word) → IsSpelled run word → ⊥
 no_word _ l k error e _ (MarkSpelled mark) = keyword_missed mark l k
 no_word _ l k error e _ (NameSpelled name is free) = let f = name_of_name name is in cc
@@ -156,7 +156,7 @@ value_small (byte ∷ more) n h =
     let grows = read_on_grows more next in
     rw (lt-ltb next (2 ^ 63) (omega (arith, grows, h))) (value_small more next h)
 
--- digits that are no number: they spell no word where their value is too large or a 0 leads
+-- digits spell no word if their value is too large or they have a leading 0
 no_number : (run : List ℕ) → first_is is_digit run ≡ true → ((n : ℕ) → n < 2 ^ 63 → decimal n ≡ run → ⊥) → (word : Word) → IsSpelled run word → ⊥
 no_number _ d not_one _ (MarkSpelled mark) = let f = (mark_begins mark).0 in cc
 no_number _ d not_one _ (NameSpelled name is free) = not_both is_letter is_digit letter_not_digit name (name_begins name is) d
@@ -283,7 +283,7 @@ sign_of byte more s lexeme =
       | Long a b e h o ↦ (let f : a ∷ b ∷ [] ≡ byte ∷ more = sym e ∙ m.1 in let same : a ≡ byte = cc in TwoBytes m.0 b (let g : b ∷ [] ≡ more = cc in sym g) (ap (λ c. long_sign c b) (sym same) ∙ h))
     ]
 
--- a prefix that is not empty, by the first byte of the whole
+-- a nonempty prefix, given the first byte of the whole
 data IsBegun (byte : ℕ) (rest prefix after : List ℕ) : Type 0 where
   Begun : (more : List ℕ) → prefix ≡ byte ∷ more → rest ≡ more ++ after → IsBegun byte rest prefix after
 
@@ -344,7 +344,7 @@ sign_is : (byte : ℕ) (rest : List ℕ) → is_signs byte ≡ true → is_blank
 sign_is byte [] s b h q = short_is byte [] s b h q (λ next after f. cc) (short_sign byte) refl
 sign_is byte (next ∷ rest) s b h q = long_is byte next rest s b h q (long_sign byte next) refl
 
--- ---- all of them
+-- ---- all pieces
 
 pub next_piece_is : (bytes : List ℕ) → IsPieceOf bytes (next_piece bytes)
 unfolding next_piece

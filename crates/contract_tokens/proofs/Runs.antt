@@ -1,11 +1,11 @@
--- The longest prefix of a list whose elements pass a test, and what stands after it.
+-- The longest prefix of a list whose items pass a test, and what follows it.
 use Rattle.std.proofs.Common.{◌≡◌, Bool, true, false, cond, List, [], ◌∷◌, ◌++◌, length, inl, inr, sym, ap, subst, refl, ◌∙◌, arith}
 use Rattle.std.specs.Prelude.{take_while}
 use Rattle.std.specs.List.{list_all, prefix_len}
 use Rattle.std.proofs.lemmas.Bool.{cases_Bool, and_parts, and_from}
 use Rattle.std.proofs.lemmas.List.Sums.{take_while-cons}
 
--- the list is empty, or begins with what fails the test
+-- the list is empty, or its first item fails the test
 abbrev pub Stops : {X : Type 0} → (X → Bool) → List X → Type 0
 Stops test [] = Unit {0}
 Stops test (x ∷ _) = test x ≡ false
@@ -39,7 +39,7 @@ run {X = X} test (x ∷ xs) =
           (x ∷ xs, subst P (sym prefix) (record { parts = refl; passes = refl; stops = h })))
     ]
 
--- after a run, nothing that passes goes on
+-- after a run, no further item passes
 pub nothing_more : {X : Type 0} (test : X → Bool) (rest more after : List X) → Stops test rest → rest ≡ more ++ after → list_all test more ≡ true → more ≡ []
 nothing_more test rest [] after s e h = refl
 nothing_more test rest (x ∷ more) after s e h =
@@ -54,7 +54,7 @@ list_all-append test (x ∷ prefix) more h =
     let rest = list_all-append test prefix more parts.1 in
     (and_from (test x) (list_all test prefix) parts.0 rest.0, rest.1)
 
--- two prefixes of one list: one of them begins the other
+-- two prefixes of one list: one of them is a prefix of the other
 pub data IsCompared {X : Type 0} (a b c d : List X) : Type 0 where
   Longer : (more : List X) → b ≡ a ++ more → c ≡ more ++ d → IsCompared a b c d
   Shorter : (more : List X) → a ≡ b ++ more → d ≡ more ++ c → IsCompared a b c d

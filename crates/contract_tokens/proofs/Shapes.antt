@@ -1,4 +1,4 @@
--- What the shapes and the words of tokens have in common, by their first byte.
+-- The first byte decides which kind of token a shape or a word is.
 use Rattle.std.proofs.Common.{◌≡◌, ℕ, ◌+◌, ◌<◌, ◌^◌, Bool, true, false, cond, ◌||◌, ◌==◌, List, [], ◌∷◌, ◌++◌, length, Option, Some, None, inl, inr, sym, ap, subst, refl, arith, rules, ◌*◌, ◌-◌}
 use Rattle.std.specs.Prelude.{decimal}
 use Rattle.std.specs.List.{list_all}
@@ -57,7 +57,7 @@ letter_not_gap byte a b = grind (arith, nat_tests)
 pub digit_not_gap : (byte : ℕ) → is_digit byte ≡ true → begins_gap byte ≡ true → ⊥
 digit_not_gap byte a b = grind (arith, nat_tests)
 
--- two tests that no byte passes pass no list's first byte
+-- tests that no byte passes both don't both pass the first byte of a list
 pub not_both : (p q : ℕ → Bool) → ((byte : ℕ) → p byte ≡ true → q byte ≡ true → ⊥) → (bytes : List ℕ) → first_is p bytes ≡ true → first_is q bytes ≡ true → ⊥
 not_both p q apart [] a b = cc
 not_both p q apart (byte ∷ _) a b = apart byte a b
@@ -72,7 +72,7 @@ name_begins (byte ∷ more) is =
       | inr h ↦ absurd (let e : cond (is_letter byte) (foreign_byte (byte ∷ more)) (Some 0) ≡ None = is.good in let f : Some 0 ≡ None = subst (λ b. cond b (foreign_byte (byte ∷ more)) (Some 0) ≡ None) h e in cc)
     ]
 
--- the value of digits after a number
+-- the value of a number with these digits appended
 abbrev pub read_on : ℕ → List ℕ → ℕ
 read_on n [] = n
 read_on n (c ∷ cs) = read_on (10 * n + (c - 48)) cs

@@ -1,4 +1,4 @@
--- A lexeme by its first byte, and the one word that bytes spell.
+-- The first byte of a lexeme decides its kind, and bytes spell at most one word.
 use Rattle.std.proofs.Common.{◌≡◌, ℕ, Bool, true, false, not, ◌||◌, List, [], ◌∷◌, ◌++◌, drop, sym, ap, refl, ◌∙◌, arith}
 use Rattle.std.specs.Prelude.{decimal, pos}
 use Rattle.std.specs.List.{list_all}

@@ -1,4 +1,4 @@
--- The tokens of the contract language, by the bytes that spell them.
+-- The tokens of the contract language, in terms of the bytes that spell them.
 use Rattle.std.specs.Prelude.{◌≡◌, ◌≢◌, ℕ, ◌^◌, ◌<◌, ◌≤◌, Bool, true, false, ◌&&◌, ◌||◌, not, ◌==◌, nat_le, List, [], ◌∷◌, ◌++◌, length, pos, decimal}
 use Rattle.std.specs.List.{list_all, flat_map}
 use Rattle.lc_names.specs.NameBytes.{is_letter, is_name_byte, IsName}
@@ -29,17 +29,17 @@ newline = 10
 abbrev pub quote : ℕ
 quote = 34
 
--- The byte that begins a comment.
+-- The byte that begins a comment: `#`.
 abbrev pub hash : ℕ
 hash = 35
 
--- The byte that begins an escape.
+-- The byte that begins an escape: a backslash.
 abbrev pub backslash : ℕ
 backslash = 92
 
--- ---- what stands between tokens
+-- ---- between tokens
 
--- Nothing is left, or a line ends here.
+-- Nothing is left, or the line ends here.
 abbrev pub IsLineEnd : List ℕ → Type 0
 IsLineEnd [] = Unit {0}
 IsLineEnd (byte ∷ _) = byte ≡ newline
@@ -53,7 +53,7 @@ pub data IsGap : List ℕ → List ℕ → Type 0 where
 
 -- ---- tokens
 
--- The bytes between the quotes of a text literal, and the bytes that they mean.
+-- The bytes between the quotes of a text literal, and the text that they stand for.
 pub data IsLiteralBody : List ℕ → List ℕ → Type 0 where
   Nothing : IsLiteralBody [] []
   Plain :
@@ -70,11 +70,11 @@ pub data IsLiteralBody : List ℕ → List ℕ → Type 0 where
 abbrev pub in_quotes : List ℕ → List ℕ
 in_quotes body = quote ∷ (body ++ quote ∷ [])
 
--- A byte of a text has a backslash before it in a literal: a quote or a backslash.
+-- Whether a byte of a text is escaped in a literal: it is a quote or a backslash.
 abbrev pub is_escaped : ℕ → Bool
 is_escaped byte = byte == quote || byte == backslash
 
--- A byte of a text as a literal has it, by whether it is escaped.
+-- A byte of a text as it is in a literal: with a backslash before it if it is escaped.
 abbrev pub escape : Bool → ℕ → List ℕ
 escape true byte = backslash ∷ byte ∷ []
 escape false byte = byte ∷ []
@@ -94,8 +94,7 @@ pub data IsSpelled : List ℕ → Word → Type 0 where
       (body text : List ℕ) → IsLiteralBody body text → length text ≤ MAX_LITERAL_BYTES
       → IsSpelled (in_quotes body) (words.Text text)
 
--- The bytes have the shape of a token. Rules of size, and that a number begins with no 0 too many,
--- are left out.
+-- The bytes have the shape of a token, which says nothing about sizes and leading zeros.
 pub data IsLexeme : List ℕ → Type 0 where
   MarkShape : (mark : Mark) → IsLexeme (spelling mark)
   NameShape :
@@ -115,10 +114,10 @@ pub record IsLongest (prefix rest : List ℕ) : Type 0 where
 abbrev pub HasNoLexeme : List ℕ → Type 0
 HasNoLexeme bytes = (prefix rest : List ℕ) → bytes ≡ prefix ++ rest → IsLexeme prefix → ⊥
 
--- The bytes begin with no token, and why.
+-- The bytes begin with no token, for this reason.
 pub data IsRefused : List ℕ → TokenKind → Type 0 where
-  -- the longest lexeme spells no word: a name too long, a number too large or with a leading 0, a
-  -- text too long
+  -- the longest lexeme spells no word: the name is too long, the number is too large or has a
+  -- leading 0, or the text is too long
   Breaks :
       (prefix rest : List ℕ) → IsLongest prefix rest → ((word : Word) → IsSpelled prefix word → ⊥)
       → IsRefused (prefix ++ rest) kinds.Literal

@@ -1,4 +1,4 @@
--- What stands at the start of a source, piece by piece as the code reads it.
+-- The pieces of a source, one after another as the code reads them.
 use Rattle.std.specs.Prelude.{ℕ, ◌+◌, ◌-◌, ◌*◌, ◌^◌, Bool, true, false, ◌&&◌, not, ◌==◌, nat_lt, if◌then◌else◌, List, [], ◌∷◌, ◌++◌, length, find, take_while, pos, Option, Some, None, Result, Ok, Err}
 use Rattle.std.specs.List.{prefix_len}
 use Rattle.std.specs.Cmp.Lexicographic.{pointwise}
@@ -61,12 +61,12 @@ long_sign byte next =
     if byte == 38 && next == 38 then Some marks.And else
     if byte == 124 && next == 124 then Some marks.Or else None
 
--- The piece of a sign of one byte: where there is no such sign, the byte begins no token.
+-- The piece of a sign of one byte. If there is no such sign, the byte begins no token.
 abbrev pub short_piece : Option Mark → Piece
 short_piece None = pieces.Bad kinds.Byte
 short_piece (Some mark) = pieces.Take 1 (words.Mark mark)
 
--- The piece of a sign of two bytes, or else of one.
+-- The piece of a sign of two bytes, or of one byte if there is no such sign.
 abbrev pub long_piece : ℕ → Option Mark → Piece
 long_piece byte None = short_piece (short_sign byte)
 long_piece byte (Some mark) = pieces.Take 2 (words.Mark mark)
@@ -78,46 +78,46 @@ sign_piece byte (next ∷ _) = long_piece byte (long_sign byte next)
 
 -- ---- names and numbers
 
--- The piece of a name, by whether it keeps the rule of names.
+-- The piece of a name, or a fault if it breaks the rule of names.
 abbrev pub checked_name_piece : List ℕ → Result (List ℕ) KeyError → Piece
 checked_name_piece run (Ok name) = pieces.Take (length run) (words.Name name)
 checked_name_piece run (Err _) = pieces.Bad kinds.Literal
 
--- The piece of a keyword, or else of a name.
+-- The piece of a keyword, or of a name if the bytes are no keyword.
 abbrev pub word_piece : List ℕ → Option Mark → Piece
 word_piece run (Some mark) = pieces.Take (length run) (words.Mark mark)
 word_piece run None = checked_name_piece run (name_of run)
 
--- The piece of the longest run of bytes that a name may have.
+-- The piece of a longest run of bytes that a name may have.
 unfoldable pub name_piece : List ℕ → Piece
 name_piece run = word_piece run (keyword_of run)
 
--- The value of digits that follow a number, unless it is too large for an i64.
+-- The value of a number with these digits appended, or `None` if it is too large for an i64.
 unfoldable pub value_from : ℕ → List ℕ → Option ℕ
 value_from number [] = Some number
 value_from number (byte ∷ more) =
     let next = 10 * number + (byte - 48) in
     if nat_lt next (2 ^ 63) then value_from next more else None
 
--- The piece of a number, by its value.
+-- The piece of a number with this value, or a fault if it has none.
 abbrev pub value_piece : List ℕ → Option ℕ → Piece
 value_piece run (Some n) = pieces.Take (length run) (words.Int (pos n))
 value_piece run None = pieces.Bad kinds.Literal
 
--- Whether digits begin with a 0 that is not all of them.
+-- Whether there is more than one digit and the first is 0.
 abbrev pub has_leading_zero : List ℕ → Bool
 has_leading_zero [] = false
 has_leading_zero (byte ∷ []) = false
 has_leading_zero (byte ∷ _ ∷ _) = byte == 48
 
--- The piece of the longest run of digits.
+-- The piece of a longest run of digits.
 unfoldable pub number_piece : List ℕ → Piece
 number_piece run =
     if has_leading_zero run then pieces.Bad kinds.Literal else value_piece run (value_from 0 run)
 
 -- ---- text literals
 
--- What a byte of a text literal stands for, by whether a backslash stands before it.
+-- What a byte of a text literal stands for, given whether a backslash precedes it.
 abbrev pub literal_byte : Bool → ℕ → LiteralByte
 literal_byte true byte = if is_escaped byte then meanings.Itself else meanings.Fault
 literal_byte false byte =
@@ -125,7 +125,7 @@ literal_byte false byte =
     if byte == backslash then meanings.Escape else
     if is_text_byte byte then meanings.Itself else meanings.Fault
 
--- The piece of a text literal of which one more byte is read, by what that byte stands for.
+-- The piece of a text literal after one more byte, given what that byte stands for.
 abbrev pub piece_after_byte : LiteralByte → ℕ → List ℕ → ℕ → (Bool → List ℕ → ℕ → Piece) → Piece
 piece_after_byte meanings.Close byte text count next = pieces.Take (count + 2) (words.Text text)
 piece_after_byte meanings.Escape byte text count next = next true text (count + 1)
@@ -134,14 +134,14 @@ piece_after_byte meanings.Itself byte text count next =
     else pieces.Bad kinds.Literal
 piece_after_byte meanings.Fault byte text count next = pieces.Bad kinds.Literal
 
--- The piece of a text literal of which so many bytes after its first quote are read; they mean this
--- text.
+-- The piece of a text literal of which `count` bytes after the first quote were read, which stand
+-- for this text.
 unfoldable pub literal_piece : Bool → List ℕ → ℕ → List ℕ → Piece
 literal_piece escaped text count [] = pieces.Bad kinds.Literal
 literal_piece escaped text count (byte ∷ rest) =
     piece_after_byte (literal_byte escaped byte) byte text count (λ e t n. literal_piece e t n rest)
 
--- ---- all of them
+-- ---- all pieces
 
 -- The piece at the start of a source that begins with this byte.
 abbrev pub nonempty_piece : ℕ → List ℕ → Piece

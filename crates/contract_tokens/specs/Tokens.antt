@@ -1,5 +1,5 @@
--- How a source is tokenized: the longest token at each offset, with gaps between them, up to the
--- end or the first fault.
+-- How a source is split into tokens: the longest token at each offset, with gaps between tokens, up
+-- to the end or the first fault.
 use Rattle.std.specs.Prelude.{ℕ, ◌+◌, List, [], ◌∷◌, ◌++◌, length, Option, Some, None, Result, Ok, Err}
 use Rattle.contract_tokens.specs.declared.token.Token.{Token}
 use Rattle.contract_tokens.specs.declared.token.Word.{Word}
@@ -18,7 +18,7 @@ abbrev pub prepend_token : Token → Outcome → Outcome
 prepend_token token (Ok list) = Ok (token ∷ list)
 prepend_token token (Err fault) = Err fault
 
--- What stands at an offset of a source and after it has this outcome.
+-- The source from an offset on has this outcome.
 pub data IsTokenized : ℕ → List ℕ → Outcome → Type 0 where
   Ends : (at : ℕ) → IsTokenized at [] (Ok (record { at = at; word = words.End } ∷ []))
   Skips :
@@ -32,16 +32,15 @@ pub data IsTokenized : ℕ → List ℕ → Outcome → Type 0 where
       (at : ℕ) (bytes : List ℕ) (kind : TokenKind) → IsRefused bytes kind
       → IsTokenized at bytes (Err (at, kind))
 
--- These are the tokens of what stands at an offset of a source and after it.
+-- These are the tokens of the source from an offset on.
 abbrev pub IsTokens : ℕ → List ℕ → List Token → Type 0
 IsTokens at bytes list = IsTokenized at bytes (Ok list)
 
--- The first fault of what stands at an offset of a source and after it is of this kind, at the
--- second offset.
+-- The first fault of the source from an offset on is of this kind, at the second offset.
 abbrev pub IsTokenFault : ℕ → List ℕ → ℕ → TokenKind → Type 0
 IsTokenFault at bytes offset kind = IsTokenized at bytes (Err (offset, kind))
 
--- The fault that an error tells: none where it is out of memory.
+-- The fault that an error reports, or `None` if it is out of memory.
 abbrev pub fault_of : TokenError → Option (ℕ × TokenKind)
 fault_of (errors.Refused at kind) = Some (at, kind)
 fault_of errors.Memory = None

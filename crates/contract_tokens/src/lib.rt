@@ -1,4 +1,5 @@
-//! The tokens of the contract language: what a source's bytes are turned into before it is parsed.
+//! The tokens of the contract language: the bytes of a source are split into them before it is
+//! parsed.
 #![tactic(auto)]
 
 mod limits;

@@ -1,4 +1,4 @@
-//! The limits of tokens.
+//! The greatest size of a token.
 
-/// The greatest number of bytes that a text literal means.
+/// The greatest number of bytes of the text that a literal stands for.
 pub const MAX_LITERAL_BYTES: usize = 1024;

@@ -1,4 +1,4 @@
-//! Text literals.
+//! Text literals: bytes between quotes, in which a backslash escapes a quote or a backslash.
 
 ghost use Rattle.std.specs.Prelude.{◌≡◌, ℕ, false, [], IfOk};
 ghost use Rattle.lc_base.specs.TextBytes.{is_text_byte, IsText};
@@ -21,7 +21,7 @@ pub enum LiteralByte {
     Escape,
     /// A byte that means itself.
     Itself,
-    /// A byte that may not stand there.
+    /// A byte that is not allowed there.
     Fault,
 }
 
@@ -47,7 +47,8 @@ impl LiteralByte {
     }
 }
 
-// A text that was read has no byte and no length that `Text::new` refuses.
+// The piece of a literal that is closed. A text that was read has no byte and no length that
+// `Text::new` refuses.
 fn closed_literal(alloc: Global, count: usize, text: &[u8]) -> Result<Piece, Memory>
     requires { IsText text.now }
     ensures { IfOk result (λ piece. piece ≡ Piece.Take count (Word.Text text.now)) }
@@ -59,7 +60,7 @@ fn closed_literal(alloc: Global, count: usize, text: &[u8]) -> Result<Piece, Mem
     }
 }
 
-/// The literal whose first quote stands before the rest.
+/// The piece of a literal; `rest` is what follows its first quote.
 #[tactic(auto, unfolding(crate::specs::Pieces::literal_piece))]
 pub fn literal_piece(alloc: Global, rest: &[u8]) -> Result<Piece, Memory>
     ensures { IfOk result (λ piece. piece ≡ literal_piece false [] 0 rest.now) }

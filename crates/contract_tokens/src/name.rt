@@ -1,4 +1,4 @@
-//! Names and keywords.
+//! Names and keywords: the same run of bytes is a keyword if it is spelled as one, else a name.
 
 ghost use Rattle.std.specs.Prelude.{◌≡◌};
 ghost use Rattle.contract_tokens.specs.Pieces.{keyword_of, name_piece};
@@ -27,7 +27,7 @@ fn keyword_of(run: &[u8]) -> Option<Mark>
     }
 }
 
-/// The keyword or the name that the bytes are.
+/// The piece of the keyword or the name that the bytes are.
 #[tactic(auto, unfolding(crate::specs::Pieces::name_piece))]
 pub fn name_piece(run: &[u8]) -> Piece
     ensures { result ≡ name_piece run.now }

@@ -1,4 +1,4 @@
-//! Numbers.
+//! Numbers: digits without a needless leading 0, with a value below 2^63.
 
 ghost use Rattle.std.specs.Prelude.{◌≡◌, ℕ, ◌<◌, ◌^◌, ◌≤◌, IfSome};
 ghost use Rattle.contract_tokens.specs.Pieces.{value_from, has_leading_zero, number_piece};
@@ -6,7 +6,7 @@ ghost use Rattle.contract_tokens.specs.Pieces.{value_from, has_leading_zero, num
 use crate::piece::Piece;
 use crate::token::{TokenKind, Word};
 
-/// The value of the digits, unless it is 2 ^ 63 or more.
+/// The value of the digits, or `None` if it is 2^63 or more.
 #[tactic(auto, unfolding(crate::specs::Pieces::value_from))]
 fn value_of(digits: &[u8]) -> Option<u64>
     ensures value { result ≡ value_from 0 digits.now }
@@ -32,7 +32,7 @@ fn has_leading_zero(digits: &[u8]) -> bool
     }
 }
 
-/// The number that the digits are.
+/// The piece of the number that the digits are.
 #[tactic(auto, unfolding(crate::specs::Pieces::number_piece))]
 pub fn number_piece(digits: &[u8]) -> Piece
     ensures { result ≡ number_piece digits.now }

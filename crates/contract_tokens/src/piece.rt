@@ -1,4 +1,4 @@
-//! What stands at the start of a source: a gap, a token, or a fault.
+//! The piece at the start of a source: a gap, a token, or a fault.
 
 ghost use Rattle.std.specs.{
   Prelude.{◌≡◌, ℕ, ◌+◌, ◌-◌, ◌<◌, ◌^◌, not, ◌==◌, List, [], ◌∷◌, length, take, drop, IfOk},
@@ -18,14 +18,14 @@ use crate::token::{TokenKind, Word};
 use lc_base::{Memory, is_name_byte};
 use std::alloc::Global;
 
-/// What stands at the start of a source.
+/// What is at the start of a source.
 #[derive(Debug, Drop)]
 pub enum Piece {
     /// Nothing: the source ends.
     End,
-    /// So many bytes between tokens.
+    /// This many bytes between tokens.
     Skip(usize),
-    /// A token of so many bytes.
+    /// A token of this many bytes.
     Take(usize, Word),
     /// A fault.
     Bad(TokenKind),

@@ -1,4 +1,4 @@
-//! Signs of one byte and of two.
+//! Signs of one byte and of two: the longer one is taken if both are there.
 
 ghost use Rattle.std.specs.Prelude.{◌≡◌};
 ghost use Rattle.contract_tokens.specs.Pieces.{short_sign, long_sign, short_piece, sign_piece};
@@ -56,7 +56,7 @@ fn short_piece(byte: u8) -> Piece
     }
 }
 
-/// The sign that begins with this byte, before the rest.
+/// The piece of the sign that begins with `byte`; `rest` is what follows that byte.
 pub fn sign_piece(byte: u8, rest: &[u8]) -> Piece
     ensures { result ≡ sign_piece byte rest.now }
 {

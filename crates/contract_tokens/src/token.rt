@@ -1,4 +1,4 @@
-//! Tokens, and why a source has none.
+//! Tokens, and why a source is refused.
 
 ghost use Rattle.std.specs.Prelude.{◌≡◌};
 ghost use Rattle.contract_tokens.specs.declared.token.TokenError.TheVariants as TokenErrors;
@@ -10,22 +10,22 @@ use lc_base::{Memory, Name, Text};
 pub struct Token {
     /// The offset of its first byte.
     pub at: u32,
-    /// What stands there.
+    /// What the token is.
     pub word: Word,
 }
 
-/// What a token says.
+/// What a token is.
 #[derive(Debug, Drop)]
 pub enum Word {
     /// A number, 0 to 9223372036854775807.
     Int(i64),
-    /// A text literal, seen as the bytes that it means: its escapes are resolved.
+    /// A text literal, as the bytes that it stands for: its escapes are resolved.
     Text(Text),
     /// A name that is no keyword.
     Name(Name),
     /// A keyword or a sign.
     Mark(Mark),
-    /// The end of the source. It closes each list of tokens.
+    /// The end of the source, the last item of each list of tokens.
     End,
 }
 
@@ -102,7 +102,7 @@ pub enum Mark {
     Or,
 }
 
-/// How a source fails to be a list of tokens.
+/// Why a source is not a list of tokens.
 #[derive(Clone, Copy, Debug, PartialEq, Eq)]
 pub enum TokenKind {
     /// A byte that begins no token.
@@ -111,12 +111,13 @@ pub enum TokenKind {
     Literal,
 }
 
-/// Why there are no tokens.
+/// Why no tokens were returned.
 #[derive(Clone, Copy, Debug)]
 pub enum TokenError {
     /// The first fault of the source.
     Refused {
-        /// The offset of the byte, or of the first byte of the number, text literal or name.
+        /// The offset of the invalid byte, or of the first byte of the invalid number, text literal
+        /// or name.
         at: u32,
         /// What is invalid.
         kind: TokenKind,

@@ -1,4 +1,5 @@
-//! The tokens of a source, taken one by one.
+//! The tokens of a source, taken one by one. The source is scanned once before, so that its first
+//! fault is known before its first token.
 
 ghost use Rattle.std.specs.Prelude.{◌≡◌, ℕ, ◌^◌, ◌<◌, ◌≤◌, length, drop, List, [], IfOk, OnErr};
 ghost use Rattle.lc_base.specs.Answers.{Answers};
@@ -21,7 +22,7 @@ fn piece_at(alloc: Global, source: &[u8], at: usize) -> Result<Piece, Memory>
     next_piece(alloc, &source[at..])
 }
 
-/// The offset after the token or the gap that stands at this one, or `None` at the end.
+/// The offset after the token or the gap at this offset, or `None` at the end.
 fn offset_after(alloc: Global, source: &[u8], at: usize) -> Result<Option<usize>, TokenError>
     requires at { at ≤ length source.now }
     requires source { length source.now < 2 ^ 32 }
@@ -38,8 +39,8 @@ fn offset_after(alloc: Global, source: &[u8], at: usize) -> Result<Option<usize>
     }
 }
 
-/// The first token that stands at an offset or after it, and the offset after that token: none
-/// after the end.
+/// The first token at an offset or after it, and the offset after that token, which is `None` after
+/// the end.
 fn first_token(
     alloc: Global,
     source: &[u8],
@@ -67,13 +68,13 @@ fn first_token(
                 };
                 return Ok(Some((token, Some(at + count))));
             }
-            // A source that was read once has no fault; the tokens of any other end here.
+            // A source that was scanned has no fault; the tokens of any other source end here.
             Piece::Bad(_) => return Ok(None),
         }
     }
 }
 
-/// The tokens of a source that are left to read: at each offset the longest, with blanks and
+/// The tokens of a source that are still to be read: the longest at each offset, with blanks and
 /// comments skipped, and `Word::End` at the end.
 #[derive(Drop)]
 pub struct Tokens<'a> {
@@ -95,12 +96,12 @@ impl<'a> Model for Tokens<'a> {
 }
 
 impl<'a> Tokens<'a> {
-    /// All tokens of a source. It is read once here, so that its first fault is known before its
-    /// first token is. Each source has one outcome: its tokens, or its first fault.
+    /// All tokens of a source. The source is scanned here, so that its first fault is known before
+    /// its first token is. Each source has one outcome: its tokens, or its first fault.
     ///
     /// # Errors
     ///
-    /// The first offset at which no token stands, or `Memory`.
+    /// The first offset at which there is no token, or `Memory`.
     pub fn new(alloc: Global, source: &'a [u8]) -> Result<Self, TokenError>
         requires { length source.now < 2 ^ 32 }
         ensures outcome { (outcome : Outcome) × IsTokenized 0 source.now outcome × Answers (λ list. list) fault_of result outcome }
@@ -117,7 +118,7 @@ impl<'a> Tokens<'a> {
         })
     }
 
-    /// The allocator of what is read.
+    /// The allocator of the texts that are read.
     pub fn alloc(&self) -> Global {
         self.alloc
     }
@@ -126,7 +127,7 @@ impl<'a> Tokens<'a> {
     ///
     /// # Errors
     ///
-    /// `Memory`, for the bytes of a text literal; the token is then still to come.
+    /// `Memory`, if there is none for a text literal; the token is then still to come.
     pub fn next(&mut self) -> Result<Option<Token>, Memory>
         ensures token { IfOk result (λ token. self.old ≡ next_and_rest token self.new) }
         ensures end { self.old ≡ [] → self.new ≡ [] }

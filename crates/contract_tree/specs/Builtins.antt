@@ -1,4 +1,4 @@
--- The functions that each contract may call: their names, what they take and what they give.
+-- The functions that every contract may call: their names, parameters and kinds.
 use Rattle.std.specs.Prelude.{ℕ, Bool, ◌==◌, List, [], ◌∷◌, Option, is_some, codes, find}
 use Rattle.std.specs.Cmp.Lexicographic.{pointwise}
 use Rattle.contract_tree.specs.declared.tree.ValueKind.{ValueKind}
@@ -6,7 +6,7 @@ use Rattle.contract_tree.specs.declared.tree.ValueKind.TheVariants.{Int, Text}
 use Rattle.contract_tree.specs.declared.builtin.Builtin.{Builtin}
 use Rattle.contract_tree.specs.declared.builtin.Builtin.TheVariants as b
 
--- The name by which a builtin is called.
+-- The name of a builtin.
 abbrev pub builtin_name : Builtin → List ℕ
 builtin_name b.GetInt = codes "get_int"
 builtin_name b.GetText = codes "get_text"
@@ -27,7 +27,7 @@ builtin_name b.FwdKey = codes "fwd_key"
 builtin_name b.BackBlock = codes "back_block"
 builtin_name b.FwdBlock = codes "fwd_block"
 
--- The kinds of a builtin's arguments, in order: key, block and index where it reads the past.
+-- The kinds of a builtin's parameters, in order: key, block and index for those that read the past.
 abbrev pub params_of : Builtin → List ValueKind
 params_of b.GetInt = Text ∷ []
 params_of b.GetText = Text ∷ []
@@ -48,7 +48,7 @@ params_of b.FwdKey = Text ∷ Int ∷ Int ∷ []
 params_of b.BackBlock = Text ∷ Int ∷ Int ∷ []
 params_of b.FwdBlock = Text ∷ Int ∷ Int ∷ []
 
--- The kind of what a builtin gives.
+-- The kind of the value that a builtin returns.
 abbrev pub kind_given : Builtin → ValueKind
 kind_given b.GetText = Text
 kind_given b.Caller = Text
@@ -65,11 +65,11 @@ builtins =
     ∷ b.HistBlock ∷ b.HistTx ∷ b.Seen ∷ b.BackCount ∷ b.FwdCount ∷ b.BackKey ∷ b.FwdKey
     ∷ b.BackBlock ∷ b.FwdBlock ∷ []
 
--- Whether the builtin is called by this name.
+-- Whether this is the name of the builtin.
 abbrev pub is_named : List ℕ → Builtin → Bool
 is_named name builtin = pointwise ◌==◌ (builtin_name builtin) name
 
--- The builtin of a name, if it is the name of one.
+-- The builtin with this name, if there is one.
 unfoldable pub builtin_of : List ℕ → Option Builtin
 builtin_of name = find (is_named name) builtins
 

@@ -1,5 +1,5 @@
--- What a contract's tree means to clauses: the same tree with no box and no vector, so that
--- definitions go by its cases. `at` is an offset, the number of bytes before a part in the source.
+-- The tree of a contract as clauses see it: without boxes and vectors, so that definitions can go
+-- by its cases. `at` is an offset, the number of bytes before a part in the source.
 use Rattle.std.specs.Prelude.{ℕ, ℤ, ◌+◌, max, List, [], ◌∷◌, map, Option, Some, None}
 use Rattle.std.specs.Global.{Vec}
 use Rattle.contract_tree.specs.declared.tree.Expr.{Expr, fold-Expr}
@@ -54,8 +54,8 @@ abbrev pub tree_of : Expr → Tree
 tree_of = fold-Expr (ℕ → Tree) Tree node_tree (λ x. x.node x.at)
 
 mutual
-  -- A statement. The first number of each case is its offset, the second of a `Let` that of the
-  -- name.
+  -- A statement. The first number of each case is its offset, and the second number of a `Let` is
+  -- the offset of the name.
   pub data StatementTree : Type 0 where
     Let : ℕ → ℕ → List ℕ → Tree → StatementTree
     Assign : ℕ → List ℕ → Tree → StatementTree
@@ -76,7 +76,7 @@ abbrev pub statement_list : List StatementTree → StatementTrees
 statement_list [] = no_statement
 statement_list (x ∷ xs) = statements x (statement_list xs)
 
--- The parts of a `from`, where there is one.
+-- The parts of a `from`, if there is one.
 abbrev pub parts_of : Option (Vec Expr) → Option Trees
 parts_of None = None
 parts_of (Some parts) = Some (trees (map tree_of parts.items))
@@ -119,8 +119,8 @@ abbrev pub contract_of : Contract → List FunctionTree
 contract_of c = map function_of c.functions.items
 
 abbrev mutual
-  -- The height of an expression: 1 for a number, text, name and call without arguments, else one
-  -- more than the greatest of its operands.
+  -- The height of an expression: 1 for a number, text, name or call without arguments, else one
+  -- more than the greatest height of its operands.
   pub height : Tree → ℕ
   height (Int at value) = 1
   height (Text at text) = 1
@@ -129,13 +129,14 @@ abbrev mutual
   height (Prefix at sign operand) = height operand + 1
   height (Binary at sign left right) = max (height left) (height right) + 1
 
-  -- The greatest height of the expressions, 0 where there is none.
+  -- The greatest height of the expressions, 0 if there are none.
   pub heights : Trees → ℕ
   heights none = 0
   heights (more x xs) = max (height x) (heights xs)
 
 abbrev mutual
-  -- An expression with each offset 0: two are the same, offsets left out, where these are equal.
+  -- An expression with each offset set to 0. Two expressions are equal but for their offsets if
+  -- these are equal.
   pub erase : Tree → Tree
   erase (Int at value) = Int 0 value
   erase (Text at text) = Text 0 text
@@ -144,18 +145,18 @@ abbrev mutual
   erase (Prefix at sign operand) = Prefix 0 sign (erase operand)
   erase (Binary at sign left right) = Binary 0 sign (erase left) (erase right)
 
-  -- Expressions with each offset 0.
+  -- Expressions with each offset set to 0.
   pub erase_all : Trees → Trees
   erase_all none = none
   erase_all (more x xs) = more (erase x) (erase_all xs)
 
--- The parts of a `from` with each offset 0.
+-- The parts of a `from` with each offset set to 0.
 abbrev pub erase_from : Option Trees → Option Trees
 erase_from None = None
 erase_from (Some parts) = Some (erase_all parts)
 
 abbrev mutual
-  -- A statement with each offset 0.
+  -- A statement with each offset set to 0.
   pub erase_statement : StatementTree → StatementTree
   erase_statement (Let at name_at name value) = Let 0 0 name (erase value)
   erase_statement (Assign at name value) = Assign 0 name (erase value)
@@ -167,16 +168,16 @@ abbrev mutual
   erase_statement (Fail at) = Fail 0
   erase_statement (Return at) = Return 0
 
-  -- Statements with each offset 0.
+  -- Statements with each offset set to 0.
   pub erase_statements : StatementTrees → StatementTrees
   erase_statements no_statement = no_statement
   erase_statements (statements x xs) = statements (erase_statement x) (erase_statements xs)
 
--- A parameter with its offset 0.
+-- A parameter with its offset set to 0.
 abbrev pub erase_param : Param → Param
 erase_param p = record p { at = 0 }
 
--- A function with each offset 0.
+-- A function with each offset set to 0.
 abbrev pub erase_function : FunctionTree → FunctionTree
 erase_function f =
     record {
@@ -186,7 +187,7 @@ erase_function f =
       body = erase_statements f.body;
     }
 
--- The functions of a contract with each offset 0: two contracts are the same, offsets left out,
--- where these are equal.
+-- The functions of a contract with each offset set to 0. Two contracts are equal but for their
+-- offsets if these are equal.
 abbrev pub erase_contract : List FunctionTree → List FunctionTree
 erase_contract functions = map erase_function functions

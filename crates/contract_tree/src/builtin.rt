@@ -1,4 +1,4 @@
-//! The functions that each contract may call and none declares: the one table of their names,
+//! The functions that every contract may call without declaring them: the one table of their names,
 //! parameters and kinds.
 
 ghost use Rattle.std.specs.{
@@ -11,50 +11,49 @@ ghost use Rattle.contract_tree.specs.Builtins.{builtin_name, params_of, kind_giv
 use crate::tree::ValueKind;
 use lc_base::Name;
 
-/// A function that each contract may call and none declares. Keys are texts; numbers of blocks and
+/// A function that every contract may call without declaring it. Keys are texts; block numbers and
 /// indexes, which count from 0, are ints.
 #[derive(Clone, Copy, Debug, PartialEq, Eq)]
 pub enum Builtin {
-    /// `get_int(key)` gives the number at the key.
+    /// `get_int(key)` returns the number at the key.
     GetInt,
-    /// `get_text(key)` gives the text at the key.
+    /// `get_text(key)` returns the text at the key.
     GetText,
-    /// `has(key)` gives 1 where the key has a value, else 0.
+    /// `has(key)` returns 1 if the key has a value, else 0.
     Has,
-    /// `caller()` gives the sender as a text.
+    /// `caller()` returns the sender as a text.
     Caller,
-    /// `block()` gives the number of this block.
+    /// `block()` returns the number of this block.
     Block,
-    /// `len(text)` gives the number of bytes of the text.
+    /// `len(text)` returns the number of bytes of the text.
     Len,
-    /// `text(number)` gives the number in decimal digits, with `-` before them where it is
-    /// negative.
+    /// `text(number)` returns the number in decimal digits, with `-` before them if it is negative.
     Text,
-    /// `hist_int(key, block)` gives the number that the key had after the block.
+    /// `hist_int(key, block)` returns the number that the key had after the block.
     HistInt,
-    /// `hist_text(key, block)` gives the text that the key had after the block.
+    /// `hist_text(key, block)` returns the text that the key had after the block.
     HistText,
-    /// `hist_block(key, block)` gives the block that wrote the value that the key had after
+    /// `hist_block(key, block)` returns the block that wrote the value that the key had after
     /// `block`.
     HistBlock,
-    /// `hist_tx(key, block)` gives the index, in its block, of the transaction that wrote that
+    /// `hist_tx(key, block)` returns the index, in its block, of the transaction that wrote that
     /// value.
     HistTx,
-    /// `seen(key, block)` gives 1 where the key had a value after the block, else 0.
+    /// `seen(key, block)` returns 1 if the key had a value after the block, else 0.
     Seen,
-    /// `back_count(key, block)` gives the number of dependencies of the value that the key had
+    /// `back_count(key, block)` returns the number of dependencies of the value that the key had
     /// after the block.
     BackCount,
-    /// `fwd_count(key, block)` gives the number of uses of the value that the key had after the
+    /// `fwd_count(key, block)` returns the number of uses of the value that the key had after the
     /// block.
     FwdCount,
-    /// `back_key(key, block, index)` gives the key of the dependency of that index.
+    /// `back_key(key, block, index)` returns the key of the dependency at that index.
     BackKey,
-    /// `fwd_key(key, block, index)` gives the key of the use of that index.
+    /// `fwd_key(key, block, index)` returns the key of the use at that index.
     FwdKey,
-    /// `back_block(key, block, index)` gives the block of the dependency of that index.
+    /// `back_block(key, block, index)` returns the block of the dependency at that index.
     BackBlock,
-    /// `fwd_block(key, block, index)` gives the block of the use of that index.
+    /// `fwd_block(key, block, index)` returns the block of the use at that index.
     FwdBlock,
 }
 
@@ -81,7 +80,7 @@ const BUILTINS: [Builtin; 18] = [
 ];
 
 impl Builtin {
-    /// The builtin of a name.
+    /// The builtin with this name.
     #[tactic(auto, unfolding(crate::specs::Builtins::builtin_of))]
     pub fn of_name(name: &Name) -> Option<Builtin>
         ensures { result ≡ builtin_of name.now }
@@ -89,7 +88,7 @@ impl Builtin {
         first_named(&BUILTINS, name).copied()
     }
 
-    /// The name by which it is called.
+    /// The name of the builtin.
     pub fn name(self) -> &'static [u8]
         ensures { result.now ≡ builtin_name self }
     {
@@ -115,7 +114,7 @@ impl Builtin {
         }
     }
 
-    /// The kinds of its arguments, in order.
+    /// The kinds of its parameters, in order.
     pub fn params(self) -> &'static [ValueKind]
         ensures { result.now ≡ params_of self }
     {
@@ -130,7 +129,7 @@ impl Builtin {
         }
     }
 
-    /// The kind of what it gives.
+    /// The kind of the value that it returns.
     pub fn gives(self) -> ValueKind
         ensures { result ≡ kind_given self }
     {

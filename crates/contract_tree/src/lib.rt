@@ -1,4 +1,4 @@
-//! The tree of a contract, and the functions that each contract may call.
+//! The tree of a contract, and the builtins that every contract may call.
 #![tactic(auto)]
 
 mod builtin;

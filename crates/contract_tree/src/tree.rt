@@ -12,7 +12,7 @@ pub type ExprList = Vec<Expr>;
 /// A contract.
 #[derive(Debug, Drop)]
 pub struct Contract {
-    /// Its functions, at least one where it was read from a source.
+    /// The functions, at least one if the contract was read from a source.
     pub functions: FunctionList,
 }
 
@@ -21,11 +21,11 @@ pub struct Contract {
 pub struct Function {
     /// The offset of its name.
     pub at: u32,
-    /// Its name.
+    /// The name.
     pub name: Name,
-    /// Its parameters, no more than the grammar allows where it was read from a source.
+    /// The parameters, no more than the grammar allows if the function was read from a source.
     pub params: ParamList,
-    /// Its statements.
+    /// The statements of the body.
     pub body: StatementList,
 }
 
@@ -34,16 +34,16 @@ pub struct Function {
 pub struct Param {
     /// The offset of its name.
     pub at: u32,
-    /// Its name.
+    /// The name.
     pub name: Name,
-    /// What its values are.
+    /// The kind of its values.
     pub kind: ValueKind,
 }
 
-/// What a value is.
+/// The kind of a value.
 #[derive(Clone, Copy, Debug, PartialEq, Eq)]
 pub enum ValueKind {
-    /// A whole number, i64.
+    /// An integer, an `i64`.
     Int,
     /// A text.
     Text,
@@ -69,39 +69,39 @@ pub enum Form {
         name_at: u32,
         /// The name that it declares.
         name: Name,
-        /// What the name then stands for.
+        /// The value of the name afterwards.
         value: Expr,
     },
     /// `name = value;`
     Assign {
         /// The name, at the statement's offset.
         name: Name,
-        /// What the name then stands for.
+        /// The value of the name afterwards.
         value: Expr,
     },
     /// `if test { first } else { second }`
     If {
         /// The condition.
         test: Expr,
-        /// What is done where it holds.
+        /// What is executed if the condition holds.
         first: StatementList,
-        /// What is done where it doesn't, where the source has an `else`.
+        /// What is executed if it doesn't, if the source has an `else`.
         second: Option<StatementList>,
     },
     /// `while test { body }`
     While {
         /// The condition.
         test: Expr,
-        /// What is done as long as it holds.
+        /// What is executed as long as the condition holds.
         body: StatementList,
     },
     /// `put key = value from from;`
     Put {
         /// The key.
         key: Expr,
-        /// Its new value.
+        /// The new value.
         value: Expr,
-        /// The keys that the value is said to come from, where the source has a `from`.
+        /// The keys that the value is said to be derived from, if the source has a `from`.
         from: Option<ExprList>,
     },
     /// `fail;`
@@ -110,12 +110,12 @@ pub enum Form {
     Return,
 }
 
-/// An expression. Its offset is that of its first byte for a number, text, name and call, and that of its operator
-/// for the others.
+/// An expression. Its offset is that of its first byte for a number, text, name or call, and that
+/// of its operator for the others.
 #[derive(Debug, Drop)]
 #[cycle(expression)]
 pub struct Expr {
-    /// Its offset.
+    /// The offset.
     pub at: u32,
     /// What it is.
     pub node: ExprNode,
@@ -125,7 +125,7 @@ pub struct Expr {
 #[derive(Debug, Drop)]
 #[cycle(expression)]
 pub enum ExprNode {
-    /// A number, not below 0 where it was read from a source.
+    /// A number, not negative if the expression was read from a source.
     Int(i64),
     /// A text.
     Text(Text),
@@ -142,16 +142,16 @@ pub enum ExprNode {
     Prefix {
         /// The operator.
         sign: Sign,
-        /// What it is applied to.
+        /// The operand.
         operand: Box<Expr>,
     },
     /// `left sign right`
     Binary {
         /// The operator.
         sign: Sign,
-        /// What stands before it.
+        /// The left operand.
         left: Box<Expr>,
-        /// What stands after it.
+        /// The right operand.
         right: Box<Expr>,
     },
 }
@@ -179,7 +179,7 @@ pub enum Sign {
     Concat,
     /// `+`
     Plus,
-    /// `-`, between two operands and as a prefix
+    /// `-`, between two operands or as a prefix
     Minus,
     /// `*`
     Star,

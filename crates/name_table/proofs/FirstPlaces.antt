@@ -1,4 +1,4 @@
--- The indexes of names, as entries come and go.
+-- The indexes of names, as entries are added and removed.
 use Rattle.std.proofs.Common.{◌≡◌, ◌∙◌, ◌<◌, ℕ, zero, suc, ◌+◌, Bool, true, false, cond, ◌==◌, List, [], ◌∷◌, ◌++◌, length, position, slice_get, slice_set, Option, Some, None, is_some, nat_lt, inl, inr, refl, sym, ap, subst, arith}
 use Rattle.std.specs.Prelude.{IfSome}
 use Rattle.std.specs.Option.{option_map, option_or}
@@ -11,7 +11,7 @@ use Rattle.std.proofs.lemmas.Bool.Decides.{nat_tests}
 use Rattle.std.proofs.lemmas.Map.Made.{is_some-lookup}
 use Rattle.name_table.specs.Indexes.{AreNoted}
 
--- ---- the index of the first that passes a test
+-- ---- the index of the first item that passes a test
 
 pub at_head : {X : Type 0} (p : X → Bool) (x : X) (xs : List X) → p x ≡ true → position p (x ∷ xs) ≡ Some 0
 at_head p x xs e =
@@ -34,7 +34,7 @@ past_head p x xs e =
           rw (e, outer, inner) refl
     ]
 
--- The index, given what the first and the others are.
+-- The index, given whether the first item passes and the index among the others.
 abbrev placed : Bool → Option ℕ → Option ℕ
 placed true later = Some 0
 placed false later = option_map suc later
@@ -54,7 +54,7 @@ placed_or false c (Some i) n = refl
 placed_or false true None n = refl
 placed_or false false None n = refl
 
--- One more at the end.
+-- One more entry at the end.
 pub index_more : {K X : Type 0} (p : K → Bool) (es : List (K × X)) (last : K × X) → position p (keys_of (es ++ last ∷ [])) ≡ option_or (position p (keys_of es)) (last_or (p last.0) (length es))
 index_more p [] last = position_is p last.0 [] ∙ go (p last.0)
   where
@@ -91,9 +91,10 @@ found_where_placed {K} {X} p (e ∷ es) = ap (λ (o : Option ℕ). is_some o) (p
 pub known : {K X : Type 0} (p : K → Bool) (es : List (K × X)) → is_some (position p (keys_of es)) ≡ list_any p (keys_of es)
 known p es = found_where_placed p es ∙ is_some-lookup p es
 
--- ---- what stands at the index of a name
+-- ---- the entry at the index of a name
 
--- what is found by a test, and what another value leaves, where this is the index of what passes
+-- what is found by a test and what setting a value changes, if this is the index of the first key
+-- that passes
 abbrev pub At : {K X : Type 0} → (K → Bool) → List (K × X) → Option ℕ → Type 0
 At {K} {X} test es None = (lookup test es ≡ None) × ((v : X) → set_value test es v ≡ es)
 At {K} {X} test es (Some i) =
@@ -128,7 +129,7 @@ at_index {K} {X} test (first ∷ es) = elim (cases_Bool (test first.0)) [
 pub found_at : {K X : Type 0} (test : K → Bool) (es : List (K × X)) (o : Option ℕ) → position test (keys_of es) ≡ o → At test es o
 found_at test es o is = subst (At test es) is (at_index test es)
 
--- Another value moves no key.
+-- Setting a value moves no key.
 keys_stay : {K X : Type 0} (es : List (K × X)) (i : ℕ) (e : K × X) (value : X) → slice_get es i ≡ Some e → keys_of (slice_set es i (e.0, value)) ≡ keys_of es
 keys_stay [] i e value at = refl
 keys_stay {K} {X} (first ∷ es) zero e value at =

@@ -1,4 +1,4 @@
--- Which indexes are noted, as entries come and go.
+-- The recorded indexes are those of the entries, as entries are added and removed.
 use Rattle.std.proofs.Common.{◌≡◌, ◌∙◌, ◌<◌, ◌≤◌, ◌-◌, ◌+◌, ℕ, Bool, true, false, cond, ◌==◌, List, [], ◌∷◌, ◌++◌, length, take, get_or, Ordering, Less, Equal, Greater, Option, Some, None, is_some, inl, inr, refl, sym, ap, subst, arith}
 use Rattle.std.specs.Prelude.{IfSome}
 use Rattle.std.specs.Option.{option_or, option_eq}
@@ -41,7 +41,7 @@ equal_if Less x y e t = absurd cc
 equal_if Equal x y e t = ranked x y Equal e
 equal_if Greater x y e t = absurd cc
 
--- Codes are equal exactly where the names are.
+-- Codes are equal exactly if the names are.
 at_code : (key : ℕ) (name other : List ℕ) (b : Bool) → key ≡ code name → IsName name → IsName other → pointwise ◌==◌ other name ≡ b → is_eq (nat_cmp key (code other)) ≡ b
 at_code key name other true is n o same =
     let equal : key ≡ code other = is ∙ ap code (sym ((bytes_decides other name).0 same)) in
@@ -54,7 +54,7 @@ at_code key name other false is n o differ = elim (cases_Bool (is_eq (nat_cmp ke
   | inr f ↦ f
 ]
 
--- What is noted after a key got this, or nothing.
+-- What is recorded after a key got this index, or none.
 abbrev pub Sets : BTreeMap ℕ ℕ → BTreeMap ℕ ℕ → ℕ → Option ℕ → Type 0
 Sets old new key o = (other : ℕ) → get nat_cmp new other ≡ cond (is_eq (nat_cmp key other)) o (get nat_cmp old other)
 

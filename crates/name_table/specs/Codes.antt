@@ -1,7 +1,7 @@
 -- Names as numbers.
 use Rattle.std.specs.Prelude.{ℕ, ◌+◌, ◌*◌, List, [], ◌∷◌}
 
--- The number with these digits to the base of 256, the lowest first.
+-- The number with these digits in base 256, the lowest first.
 abbrev pub code : List ℕ → ℕ
 code [] = 0
 code (byte ∷ bytes) = code bytes * 256 + byte

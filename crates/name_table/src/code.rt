@@ -6,7 +6,7 @@ ghost use Rattle.name_table.specs.Codes.{code};
 
 use lc_base::Name;
 
-/// The number whose digits to the base of 256 are the bytes of a name, the lowest first.
+/// The number whose digits in base 256 are the bytes of a name, the lowest first.
 pub(crate) fn code_of(name: &Name) -> u128
     ensures code { result ≡ code name.now }
     ensures is_name { IsName name.now }

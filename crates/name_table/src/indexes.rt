@@ -1,4 +1,5 @@
-//! The indexes of names among entries: the first of each, in a tree in the order of their numbers.
+//! The indexes of names among entries: that of each name's first entry, in a tree ordered by the
+//! numbers of the names.
 
 ghost use Rattle.std.specs.{
   Prelude.{◌≡◌, ◌==◌, ℕ, List, take, position, OnOk, OnErr},
@@ -11,14 +12,15 @@ use crate::code::code_of;
 use lc_base::{Memory, Name};
 use std::collections::BTreeMap;
 
-/// The index of a name, by comparing it with each.
+/// The index of a name, found by comparing it with each entry's.
 pub(crate) fn index_among<T>(entries: &[(Name, T)], name: &Name) -> Option<usize>
     ensures { result ≡ position (λ (entry : List ℕ × T). pointwise ◌==◌ name.now entry.0) entries.now }
 {
     entries.iter().position(|entry| *name == entry.0)
 }
 
-/// Notes the index of a name, unless an earlier one is noted. Out of memory, nothing changes.
+/// Records the index of a name, unless an earlier one is recorded. If memory runs out, nothing
+/// changes.
 pub(crate) fn note_index(
     indexes: &mut BTreeMap<u128, usize>,
     name: &Name,
@@ -34,7 +36,7 @@ pub(crate) fn note_index(
     Ok(())
 }
 
-/// Forgets this index of a name, if it is the one that is noted.
+/// Removes this index of a name, if it is the recorded one.
 pub(crate) fn forget_index(indexes: &mut BTreeMap<u128, usize>, name: &Name, index: usize)
     ensures { (other : List ℕ) → IsName other → noted_index indexes.new other ≡ noted_without name.now index other (noted_index indexes.old other) }
 {
@@ -44,7 +46,7 @@ pub(crate) fn forget_index(indexes: &mut BTreeMap<u128, usize>, name: &Name, ind
     }
 }
 
-/// Forgets the indexes of all entries but so many of the oldest.
+/// Removes the indexes of all but the `count` oldest entries.
 pub(crate) fn forget_indexes<T>(
     indexes: &mut BTreeMap<u128, usize>,
     entries: &[(Name, T)],

@@ -1,4 +1,4 @@
-//! What names stand for, oldest first, found by name.
+//! A table of what names stand for, oldest first, found by name.
 #![tactic(auto)]
 
 mod code;

@@ -1,4 +1,4 @@
-//! A table of what names stand for.
+//! A table in which each look-up compares few names, whichever names there are.
 
 ghost use Rattle.std.specs.{
   Prelude.{◌≡◌, ◌==◌, ◌<◌, [], ◌∷◌, ◌++◌, length, take, position, is_some, IfSome, OnOk, OnErr},
@@ -15,14 +15,14 @@ use std::alloc::Global;
 use std::collections::BTreeMap;
 use std::marker::Model;
 
-/// So many names are compared one by one; where there are more, the name is looked for in the tree.
+/// Up to this many names are compared one by one; among more, the name is looked up in the tree.
 const FEW: usize = 4;
 
 /// Names and what they stand for, oldest first.
 ///
-/// A name may be there more than once, and then it stands for what was added first. Beside the entries
-/// stands a tree with the index of each name, in the order of the numbers that the names are: a look-up
-/// makes as many comparisons whatever names there are.
+/// A name may have several entries; it then stands for what was added first. Next to the entries
+/// there is a tree with the index of each name, ordered by the numbers of the names: a look-up
+/// makes as many comparisons whichever names there are.
 #[derive(Drop)]
 pub struct NameTable<T> {
     entries: Vec<(Name, T)>,
@@ -41,7 +41,7 @@ impl<T> Model for NameTable<T> {
 }
 
 impl<T> NameTable<T> {
-    /// No name. It takes no memory.
+    /// An empty table. It takes no memory.
     pub fn new(alloc: Global) -> Self
         ensures { result ≡ [] }
     {
@@ -58,7 +58,7 @@ impl<T> NameTable<T> {
         self.entries.len()
     }
 
-    /// The index of the first entry of a name; `None` exactly where it stands for nothing.
+    /// The index of the first entry of a name, or `None` if it has no entry.
     #[tactic(auto, using(crate::proofs::FirstPlaces::found_where_placed))]
     pub fn index_of(&self, name: &Name) -> Option<usize>
         ensures index { result ≡ position (pointwise ◌==◌ name.now) (keys_of self.now) }
@@ -80,7 +80,7 @@ impl<T> NameTable<T> {
         self.index_of(name).is_some()
     }
 
-    /// What a name stands for; `None` exactly where it has no entry.
+    /// What a name stands for, or `None` if it has no entry.
     pub fn get(&self, name: &Name) -> Option<&T>
         ensures { option_copied result ≡ lookup (pointwise ◌==◌ name.now) self.now }
     {
@@ -92,7 +92,7 @@ impl<T> NameTable<T> {
 }
 
 impl<T: Drop> NameTable<T> {
-    /// Lets a name stand for something else. A name that has no entry changes nothing.
+    /// Changes what a name stands for. A name without an entry changes nothing.
     pub fn set(&mut self, name: &Name, value: T)
         ensures { self.new ≡ set_value (pointwise ◌==◌ name.now) self.old value }
     {
@@ -101,7 +101,7 @@ impl<T: Drop> NameTable<T> {
         }
     }
 
-    /// Adds an entry after the others. Out of memory, nothing changes.
+    /// Adds an entry after the others. If memory runs out, nothing changes.
     pub fn push(&mut self, name: &Name, value: T) -> Result<(), Memory>
         ensures ok { OnOk result (self.new ≡ self.old ++ (name.now, value) ∷ []) }
         ensures err { OnErr result (self.new ≡ self.old) }
@@ -117,7 +117,8 @@ impl<T: Drop> NameTable<T> {
         }
     }
 
-    /// Forgets all entries but so many of the oldest. Most blocks add none, so that is tested first.
+    /// Removes all but the `count` oldest entries. Most blocks add none, so that case is tested
+    /// first.
     pub fn keep(&mut self, count: usize)
         ensures { self.new ≡ take count self.old }
     {

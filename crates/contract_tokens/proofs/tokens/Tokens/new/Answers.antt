@@ -16,7 +16,7 @@ returns-in_err-next-clause-outcome c =
 pub returns-in_err-next-clause-once : goal.returns-in_err-next-clause-once
 returns-in_err-next-clause-once c = λ one other h k. tokenized_once 0 c.args.source.now one other h k
 
--- a piece that is passed
+-- a piece that is skipped or taken
 
 pub loop-next-smaller : goal.loop-next-smaller
 loop-next-smaller c =
