@@ -1,4 +1,4 @@
--- What the reader of contracts answers: the contract of the grammar, or the first fault.
+-- The reader of contracts returns the contract of the grammar, or the first fault.
 use Rattle.std.proofs.Common.{◌≡◌, ℕ, ◌≤◌, Bool, true, false, List, [], ◌∷◌, ◌++◌, Ok, Err, ◌⊎◌, inl, inr, refl, sym, ap, ◌∙◌, subst, arith, append_assoc, length, length-append}
 use Rattle.std.proofs.lemmas.List.{append_cancel_right}
 use Rattle.contract_tokens.specs.declared.token.Token.{Token}
@@ -23,7 +23,7 @@ use Rattle.contract_grammar.proofs.MarkFacts.{named_no_end, open_no_end, brace_n
 use Rattle.contract_grammar.proofs.Splits.{two_splits}
 use Rattle.contract_grammar.proofs.Writable.{word_here, written_no_end}
 
--- what is excused where a limit is not looked at
+-- what is excused if a limit is not considered
 abbrev Unlimited : Bool → Type 0
 Unlimited true = ⊥
 Unlimited false = Unit {0}
@@ -47,7 +47,7 @@ free_by : (b : Bool) (most n : ℕ) → b ≡ false → Within (limit_if b most)
 free_by true most n e = absurd (no_false e refl)
 free_by false most n e = tt
 
--- no limit is looked at
+-- no limit is considered
 abbrev AllFree : (pending nesting height parameters : Bool) → Type 0
 AllFree p n h q = (p ≡ false) × (n ≡ false) × (h ≡ false) × (q ≡ false)
 
@@ -77,7 +77,7 @@ limit_no_end Pending t e h = open_no_end t h
 limit_no_end Nesting t e h = brace_no_end t h
 limit_no_end (Height at) t e h = absurd (no_false refl e)
 
--- a reader that was stopped by what is not excused did not read what the grammar has
+-- a reader that an obstacle stopped which isn't excused did not read what the grammar has
 clash : {A : Type 0} (E : Obstacle → Type 0) (a : A) (rest left : List Token) (why : Obstacle) (r : Read A) → (E why → ⊥) → r ≡ (Err why, left) → Agrees E a rest r → ⊥
 clash E a rest left why r not e (inl h) = no_ok (sym e ∙ h)
 clash E a rest left why r not e (inr h) = not (subst E (err_is (sym h.2 ∙ e)).0 h.3)
@@ -169,7 +169,7 @@ too_high u y t at e =
     let k = contract_high (fair_of false false false false) (refl, refl, refl, refl) (fair_of false false true false) (u ++ t ∷ y) (t ∷ y) at e in
     record { prefix = k.prefix; tokens = k.tokens; more = k.more; before_is = append_cancel_right u (k.prefix ++ k.tokens) (t ∷ y) (k.path ∙ sym (append_assoc k.prefix k.tokens (t ∷ y))); pending = k.pending; level = k.level; tree = k.tree; is_expression = k.is_expression; offset_is = k.offset_is; height_is = k.height_is; all = k.made; more_is = k.more_is; stands = k.stands }
 
--- where the reader is stopped, the obstacle is one
+-- if the reader is stopped, the obstacle is one by the grammar
 obstacle_told : (why : Obstacle) (u y : List Token) (t : Token) → contract (u ++ t ∷ y) ≡ (Err why, t ∷ y) → IsObstacle why u t
 obstacle_told Unfit u y t e = (before_fits u y t Unfit e refl, not_allowed u y t Unfit e false false false false (λ x. x))
 obstacle_told Surplus u y t e = let k = limit_told u y t Surplus e refl in (k.0, k.1, not_allowed u y t Surplus e false false false true (λ x. x))
@@ -177,11 +177,11 @@ obstacle_told Pending u y t e = let k = limit_told u y t Pending e refl in (k.0,
 obstacle_told Nesting u y t e = let k = limit_told u y t Nesting e refl in (k.0, k.1, not_allowed u y t Nesting e false true false false (λ x. x))
 obstacle_told (Height at) u y t e = (too_high u y t at e, not_allowed u y t (Height at) e false false true false (λ x. x))
 
--- where the reader is stopped, the first fault is told
+-- if the reader is stopped, it reports the first fault
 pub refused : (why : Obstacle) (u y : List Token) (t : Token) → contract (u ++ t ∷ y) ≡ (Err why, t ∷ y) → IsFault why u t
 refused why u y t e = (obstacle_told why u y t e, keeps_limits u y t why e)
 
--- the tokens of a source can be written, and its end comes last
+-- the tokens of a source can be written, and the last of them is the end
 pub record IsEnded (ts : List Token) : Type 0 where
   pub before : List Token
   pub end : Token
@@ -219,7 +219,7 @@ contract_end : (ts rest : List Token) (all : List FunctionTree) → contract ts 
 unfolding contract
 contract_end ts rest all e = functions_end (function ts) rest all e
 
--- what is read, with the end after it
+-- what is read, then the end
 pub record IsRead (ts : List Token) (all : List FunctionTree) : Type 0 where
   pub before : List Token
   pub end : Token
@@ -254,7 +254,7 @@ complete u y t all ends i =
       | inr h ↦ absurd (none_excused h.0 h.3)
     ]
 
--- where a reader was stopped, a token stands
+-- if a reader was stopped, there is a next token
 pub record IsStopped (ts rest : List Token) : Type 0 where
   pub before : List Token
   pub token : Token

@@ -1,4 +1,4 @@
--- No brace stands in an expression.
+-- An expression has no braces.
 use Rattle.std.proofs.Common.{◌≡◌, ℕ, ℤ, suc, Bool, true, List, [], ◌∷◌, ◌++◌, Some, Ok, Err, refl, sym, ap, ◌∙◌, arith}
 use Rattle.std.specs.List.{list_all}
 use Rattle.std.proofs.lemmas.Bool.{and_parts, and_from}
@@ -16,7 +16,7 @@ use Rattle.contract_grammar.proofs.Laws.{IsRule, no_false}
 use Rattle.contract_grammar.proofs.Completions.{ends_in, Taken}
 use Rattle.contract_grammar.specs.declared.limits.TheConstants.{WHOLE}
 
--- ---- tokens that all pass
+-- ---- lists of tokens that pass a test
 
 pub all_after : (test : Token → Bool) (y z : List Token) → list_all test y ≡ true → list_all test z ≡ true → list_all test (y ++ z) ≡ true
 all_after test [] z h i = i

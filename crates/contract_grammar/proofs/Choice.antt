@@ -1,4 +1,4 @@
--- The laws of a choice of two readers, of a step that is taken again and again, and of lists.
+-- The laws of a choice between two readers, of a repeated step, and of lists.
 use Rattle.std.proofs.Common.{◌≡◌, ℕ, zero, suc, ◌+◌, ◌<◌, Bool, true, false, List, [], ◌∷◌, ◌++◌, length, Result, Ok, Err, ◌⊎◌, inl, inr, refl, sym, ap, ◌∙◌, subst, append_assoc, arith, length-append}
 use Rattle.std.proofs.lemmas.List.{append-nil, length_push}
 use Rattle.contract_tokens.specs.declared.token.Token.{Token}
@@ -28,7 +28,7 @@ renamed {P = P} {Q = Q} h to from = record {
   stays = h.stays;
 }
 
--- the same laws where each obstacle is excused
+-- the same laws if each obstacle is excused
 excused : {E : Obstacle → Type 0} {U : Type 0} {A : Type 0} {p : Rule A} {P : List Token → A → Type 0} {S : Token → Bool} → IsRule E U p P S → IsRule (λ why. Unit {0}) U p P S
 excused h = record {
   takes = h.takes;
@@ -40,7 +40,7 @@ excused h = record {
   stays = h.stays;
 }
 
--- a reader stops at fewer tokens too
+-- a reader that stops before fewer tokens
 pub with_stops : {E : Obstacle → Type 0} {U : Type 0} {A : Type 0} {p : Rule A} {P : List Token → A → Type 0} {S T : Token → Bool} → IsRule E U p P S → ((ts : List Token) → head_is T ts ≡ true → head_is S ts ≡ true) → IsRule E U p P T
 with_stops h fewer = record {
   takes = h.takes;
@@ -52,11 +52,12 @@ with_stops h fewer = record {
   stays = h.stays;
 }
 
--- what is of the grammar begins with such a token
+-- what the grammar has begins with such a token
 abbrev pub Starts : {A : Type 0} → (Token → Bool) → (List Token → A → Type 0) → Type 0
 Starts {A} test P = (prefix : List Token) (a : A) → P prefix a → head_is test prefix ≡ true
 
--- what is of the grammar begins with no such token, nor does what follows where it takes nothing
+-- what the grammar has begins with no such token, and if it takes nothing, neither does what
+-- follows
 abbrev pub Differs : {A : Type 0} → (Token → Bool) → (List Token → A → Type 0) → (Token → Bool) → Type 0
 Differs {A} test Q S = (prefix rest : List Token) (a : A) → Q prefix a → head_is S rest ≡ true → head_is test (prefix ++ rest) ≡ false
 
@@ -128,7 +129,7 @@ module _ {E : Obstacle → Type 0} {U : Type 0} {A : Type 0} {p q : Rule A} {P Q
     stays = λ ts h. either_stays (head_is test ts) ts h;
   }
 
--- a reader that is always stopped at the first token, by a limit where the grammar has that token
+-- a reader that is always stopped at the first token, by a limit if the grammar allows that token
 module _ (why : Obstacle) (test : Token → Bool) where
   refusal_is : (b : Bool) (w : Obstacle) → refusal why b ≡ w → (w ≡ Unfit) ⊎ ((w ≡ why) × (b ≡ true))
   refusal_is true w e = inr (sym e, refl)
@@ -156,19 +157,19 @@ closed_rule {B = B} {Is = Is} why test limit told some with_it starts excused = 
   stays = λ ts h. h;
 }
 
--- a step taken any number of times
+-- a step, repeated any number of times
 pub data IsTurns {A : Type 0} (IsStep : A → List Token → A → Type 0) : A → List Token → A → Type 0 where
   Over : (a : A) → IsTurns IsStep a [] a
   Turn : (a b c : A) (y z : List Token) → IsStep a y b → IsTurns IsStep b z c → IsTurns IsStep a (y ++ z) c
 
--- what begins with something begins as that
+-- if the first part begins with such a token, so does the whole
 pub seq_starts : {A B : Type 0} {P : List Token → A → Type 0} {Q : A → List Token → B → Type 0} (test : Token → Bool) → Starts test P → Starts test (IsSeq P Q)
 seq_starts test starts prefix b (Seq y z a _ i j) = head_more test y z (starts y a i)
 
 pub ret_differs : {A : Type 0} {S : Token → Bool} (test : Token → Bool) (a : A) → ((ts : List Token) → head_is S ts ≡ true → head_is test ts ≡ false) → Differs test (IsRet a) S
 ret_differs test a ends prefix rest b Ret h = ends rest h
 
--- a step takes a token at least
+-- a step takes at least one token
 abbrev pub IsStrict : {A : Type 0} → (A → Rule A) → Type 0
 IsStrict {A} step = (a : A) (ts rest : List Token) (b : A) → step a ts ≡ (Ok b, rest) → length rest < length ts
 
@@ -201,7 +202,7 @@ module _ {A : Type 0} (test : Token → Bool) (step : A → Rule A) (strict : Is
   once_by a ts true = once_step a ts (step a ts) refl
   once_by a ts false = refl
 
-  -- the first turn, and the others
+  -- the first turn, then the others
   pub turns_once : (a : A) (ts : List Token) → turns test step a ts ≡ either test (seq (step a) (turns test step)) (ret a) ts
   turns_once a ts = turns_are test step a ts ∙ once_by a ts (head_is test ts)
 
@@ -237,7 +238,7 @@ module _ {E : Obstacle → Type 0} {U : Type 0} {A : Type 0} {step : A → Rule 
   from_turns a prefix c (Over _) = inr Ret
   from_turns a prefix c (Turn _ b _ y z i j) = inl (Seq y z b c i j)
 
-  -- so many turns, and the obstacle that there are no more of them excused
+  -- a number of turns, with the obstacle excused that no more are left
   below_rule : (n : ℕ) (a : A) → IsRule (λ why. Unit {0}) U (turns_below n test step a) (IsTurns IsStep a) T
   below_rule zero a = below_none a
   below_rule (suc n) a =
@@ -279,12 +280,12 @@ module _ {E : Obstacle → Type 0} {U : Type 0} {A : Type 0} {step : A → Rule 
     stays = λ ts h. ap (λ r. has_end r.1) (turns_are test step a ts) ∙ (below_rule (suc (length ts)) a).stays ts h;
   }
 
--- items one after another, of which the first is the one of this index
+-- items one after another, the first of them at this index
 pub data IsEach {A : Type 0} (IsItem : ℕ → List Token → A → Type 0) : ℕ → List Token → List A → Type 0 where
   Nothing : (n : ℕ) → IsEach IsItem n [] []
   Each : (n : ℕ) (a : A) (items : List A) (y z : List Token) → IsItem n y a → IsEach IsItem (suc n) z items → IsEach IsItem n (y ++ z) (a ∷ items)
 
--- what is after the items that there were
+-- the earlier items, then those that are read
 abbrev pub IsMoreOf : {A : Type 0} → (ℕ → List Token → A → Type 0) → List A → List Token → List A → Type 0
 IsMoreOf {A} IsItem had prefix all = (items : List A) × (all ≡ had ++ items) × IsEach IsItem (length had) prefix items
 
@@ -329,6 +330,6 @@ below_end : {A : Type 0} (n : ℕ) (test : Token → Bool) (step : A → Rule A)
 below_end zero test step a ts rest c e = absurd (no_ok e)
 below_end (suc n) test step a ts rest c e = turns_end_by n test step (below_end n test step) a ts rest c (head_is test ts) refl e
 
--- where a step is taken no more, the next token does not pass
+-- when a step is no longer repeated, the next token fails the test
 pub turns_end : {A : Type 0} (test : Token → Bool) (step : A → Rule A) (a : A) (ts rest : List Token) (c : A) → turns test step a ts ≡ (Ok c, rest) → head_is test rest ≡ false
 turns_end test step a ts rest c e = below_end (suc (length ts)) test step a ts rest c (sym (turns_are test step a ts) ∙ e)

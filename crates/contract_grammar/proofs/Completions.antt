@@ -1,5 +1,4 @@
--- What a stopped reader has taken can be completed within limits, for each way in which readers are
--- put together.
+-- What a stopped reader has taken can be completed within limits, for each way to combine readers.
 use Rattle.std.proofs.Common.{◌≡◌, ℕ, zero, suc, Bool, true, false, List, [], ◌∷◌, ◌++◌, length, Option, Some, Result, Ok, Err, ◌⊎◌, inl, inr, refl, sym, ap, ◌∙◌, subst, append_assoc}
 use Rattle.std.proofs.lemmas.List.{append-nil, append_cancel_right}
 use Rattle.contract_tokens.specs.declared.token.Token.{Token}
@@ -33,20 +32,20 @@ ends_after : (test : Token → Bool) (y z : List Token) → ends_in test (y ++ z
 ends_after test y [] e = inr (refl, ap (ends_in test) (sym (append-nil y)) ∙ e)
 ends_after test y (t ∷ z) e = inl (ends_more test y z t e)
 
--- the tokens are those that a reader takes
+-- a reader takes these tokens
 abbrev pub Taken : {A : Type 0} → Rule A → List Token → Type 0
 Taken {A} read used = (ts : List Token) × (rest : List Token) × (r : Result A Obstacle) × (read ts ≡ (r, rest)) × (ts ≡ used ++ rest)
 
--- A reader and what the grammar has there within limits, which are about the tokens that pass the
--- test. Free: there are no limits; Room: they allow something there.
+-- A reader and what the grammar has there, within limits that are about the tokens that pass the
+-- test. Free: there are no limits; Room: they allow something here.
 pub record Completes (test : Token → Bool) (Free Room : Type 0) {A : Type 0} (read : Rule A) (Is : List Token → A → Type 0) : Type 0 where
-  -- what is read is of the grammar
+  -- what is read is what the grammar has
   pub takes : Takes read Is
-  -- a reader that stops after a token that passes has taken what can be completed
+  -- if a reader stops after a token that passes, what it took can be completed
   pub stops : (ts rest : List Token) (why : Obstacle) → read ts ≡ (Err why, rest) → (used : List Token) × (ts ≡ used ++ rest) × (ends_in test used ≡ true → Begins Is used)
-  -- something is of the grammar
+  -- the grammar has something there
   pub some : Room → Begins Is []
-  -- where an expression is too high, the last tokens that were taken are it
+  -- if an expression is too high, it is the last tokens that were taken
   pub high : Free → IsHigh read Is
 
 -- the limit allows something in any case
@@ -123,7 +122,7 @@ module _ {test : Token → Bool} {Free : Type 0} where
   pub closed_completes : {Room : Type 0} {B : Type 0} {Is : List Token → B → Type 0} (why : Obstacle) (first : Token → Bool) → is_height why ≡ false → (Room → Begins Is []) → Completes test Free Room (refuse why first) Is
   closed_completes {Is = Is} why first soft some = record { takes = λ ts rest b e. absurd (no_ok e); stops = λ ts rest v e. stopped_here Is (err_is e).1; some = some; high = λ free. refused_high why first Is soft }
 
-  -- ---- one after the other
+  -- ---- one after another
 
   module _ {Room More : Type 0} {A B : Type 0} {p : Rule A} {q : A → Rule B} {P : List Token → A → Type 0} {Q : A → List Token → B → Type 0} (hp : Completes test Free Room p P) (hq : (a : A) → Completes test Free More (q a) (Q a)) where
     seq_ends : ((used : List Token) → Taken p used → ends_in test used ≡ true → More) → (ts mid y z : List Token) (a : A) → p ts ≡ (Ok a, mid) → ts ≡ y ++ mid → P y a → (ends_in test z ≡ true → Begins (Q a) z) → ends_in test (y ++ z) ≡ true → Begins (IsSeq P Q) (y ++ z)
@@ -147,7 +146,7 @@ module _ {test : Token → Bool} {Free : Type 0} where
         let f = hp.stops ts rest why k in
         (f.0, f.1, λ ends. seq_begins P Q (λ a. (hq a).some (room f.0 (ts, rest, Err why, k, f.1) ends)) f.0 (f.2 ends))
 
-    -- the second has something, at least where the first ends with a token that passes
+    -- the second has something, at least if the first ends with a token that passes
     pub seq_completes : ((used : List Token) → Taken p used → ends_in test used ≡ true → More) → (Room → More) → (Free → More) → Completes test Free Room (seq p q) (IsSeq P Q)
     seq_completes room both more = record {
       takes = seq_takes hp.takes (λ a. (hq a).takes);
@@ -175,14 +174,14 @@ module _ {test : Token → Bool} {Free : Type 0} where
   pub terminated_full : {A : Type 0} (mark : Mark) (a : A) → IsFull test Free (before_mark mark a) (IsSeq (IsOne (the mark)) (λ at. IsRet a))
   terminated_full mark a = seq_full (mark_completes mark) (λ at. ret_completes a)
 
-  -- ---- one or the other
+  -- ---- a choice
 
   module _ {First Second : Type 0} {A : Type 0} {p q : Rule A} {P Q : List Token → A → Type 0} (hp : Completes test Free First p P) (hq : Completes test Free Second q Q) where
     either_stops_by : (b : Bool) (ts rest : List Token) (why : Obstacle) → either_by b p q ts ≡ (Err why, rest) → (used : List Token) × (ts ≡ used ++ rest) × (ends_in test used ≡ true → Begins (IsEither P Q) used)
     either_stops_by true ts rest why e = let k = hp.stops ts rest why e in (k.0, k.1, λ ends. begins_as P (IsEither P Q) (λ f a i. inl i) k.0 (k.2 ends))
     either_stops_by false ts rest why e = let k = hq.stops ts rest why e in (k.0, k.1, λ ends. begins_as Q (IsEither P Q) (λ f a i. inr i) k.0 (k.2 ends))
 
-    -- of the two, the first or the second has something
+    -- the first of the two has something, or the second has
     pub either_first : (first : Token → Bool) → Completes test Free First (either first p q) (IsEither P Q)
     either_first first = record {
       takes = either_takes first hp.takes hq.takes;
@@ -199,7 +198,7 @@ module _ {test : Token → Bool} {Free : Type 0} where
       high = λ free. either_high (hp.high free) (hq.high free) first;
     }
 
-  -- ---- again and again
+  -- ---- repeated steps
 
   module _ {Room : Type 0} {A : Type 0} {step : A → Rule A} {IsStep : A → List Token → A → Type 0} (first : Token → Bool) (hs : (a : A) → Completes test Free Room (step a) (IsStep a)) where
     turned : (a : A) (prefix : List Token) (c : A) → IsEither (IsSeq (IsStep a) (IsTurns IsStep)) (IsRet a) prefix c → IsTurns IsStep a prefix c
@@ -221,7 +220,7 @@ module _ {test : Token → Bool} {Free : Type 0} where
   pub each_full : {Room : ℕ → Type 0} {A : Type 0} {item : ℕ → Rule A} {IsItem : ℕ → List Token → A → Type 0} (first : Token → Bool) → ((n : ℕ) → Completes test Free (Room n) (item n) (IsItem n)) → (had : List A) → IsFull test Free (each first item had) (IsMoreOf IsItem had)
   each_full {A = A} {IsItem = IsItem} first items had = completes_as (turns_full first (λ (all : List A). with_room (seq_full (items (length all)) (λ a. ret_completes (all ++ a ∷ []))) (λ none. absurd none)) had) (to_each IsItem had)
 
--- the same reader where there may be no limits
+-- the same reader, also if there are no limits
 pub with_high : {test : Token → Bool} {Free Room : Type 0} {A : Type 0} {read : Rule A} {Is : List Token → A → Type 0} → Completes test ⊥ Room read Is → (Free → IsHigh read Is) → Completes test Free Room read Is
 with_high h high = record { takes = h.takes; stops = h.stops; some = h.some; high = high }
 
@@ -234,7 +233,7 @@ none_ends [] e = no_false refl e
 none_ends (t ∷ []) e = no_false refl e
 none_ends (t ∷ s ∷ used) e = none_ends (s ∷ used) e
 
--- where there are no limits
+-- if there are no limits
 abbrev pub IsSeen : {A : Type 0} → Rule A → (List Token → A → Type 0) → Type 0
 IsSeen read Is = IsFull none (Unit {0}) read Is
 

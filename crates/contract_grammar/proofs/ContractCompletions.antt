@@ -1,5 +1,5 @@
 -- What a stopped reader of statements, functions and contracts has taken can be completed within
--- limits, and what it has read where an expression is too high.
+-- limits; and if an expression is too high, it is what was read last.
 use Rattle.std.proofs.Common.{ltb, codes, ◌≡◌, ℕ, zero, suc, ◌+◌, Bool, true, false, List, [], ◌∷◌, Some, None, refl, arith}
 use Rattle.std.proofs.lemmas.Bool.{ltb-true}
 use Rattle.contract_tokens.specs.declared.token.Token.{Token}
@@ -35,7 +35,7 @@ use Rattle.contract_grammar.specs.Faults.{heights_only}
 no_brace : (t : Token) → is_not m.BraceOpen t ≡ true → is m.BraceOpen t ≡ false
 no_brace t h = grind arith
 
--- where there are no limits, none is met
+-- without limits, none is met
 record IsUnlimited (l : Limits) (Free : Type 0) : Type 0 where
   nesting : Free → (n : ℕ) → Within l.nesting n
   parameters : Free → (n : ℕ) → Within l.parameters n
@@ -46,7 +46,7 @@ block_some d may =
     (o ∷ brace_token ∷ [], no_statement, more_words o (brace_token ∷ []) (mark_writable m.BraceOpen) brace_written, Block d o 0 (brace_token ∷ []) no_statement refl may (Closes d brace_token 0 brace_is))
 
 module _ {l : Limits} {test : Token → Bool} {Free : Type 0} {E : Obstacle → Type 0} {U : Type 0} (about : IsAbout l test) (unlimited : IsUnlimited l Free) (ex : IsFull test Free expression (IsExpression l)) (free : IsFair no_limits E U) (u : U) where
-  -- after an expression a block may follow, if its last token passes
+  -- a block may follow an expression whose last token passes
   after_expression : (used : List Token) → Taken expression used → ends_in test used ≡ true → (d : ℕ) → Within l.nesting d
   after_expression used taken ends d =
       let k = last_passes test (is_not m.BraceOpen) used (taken_braceless {k = WHOLE} (expression_rule free) u used taken) ends in
@@ -84,7 +84,7 @@ module _ {l : Limits} {test : Token → Bool} {Free : Type 0} {E : Obstacle → 
         let second = seq_full hb (λ second. ret_completes (tree.IfElse at x first second)) in
         either_second (preceded_completes m.Else second (λ t p e passes. after_keyword m.Else (is_other m.BraceOpen m.Else refl) t p e passes (suc d)) (λ none. unlimited.nesting none (suc d))) (ret_completes (tree.If at x first)) (is m.Else)
 
-    -- an expression, and then what begins with a block
+    -- an expression, then what begins with a block
     with_block : {P : Tree → List Token → StatementTree → Type 0} {after : Tree → Rule StatementTree} → ((x : Tree) → Completes test Free (Within l.nesting (suc d)) (after x) (P x)) → Completes test Free (Within l.nesting (suc d)) (seq expression after) (IsSeq (IsExpression l) P)
     with_block h = seq_completes (full_completes ex) h (λ used taken ends. after_expression used taken ends (suc d)) (λ may. may) (λ none. unlimited.nesting none (suc d))
 
@@ -158,7 +158,7 @@ about_none = record {
   after_comma = λ t h i n. tt;
 }
 
--- where an expression is too high, the last tokens that were taken are it
+-- if an expression is too high, it is the last tokens that were taken
 pub contract_high : {E F : Obstacle → Type 0} {U V : Type 0} → IsFair no_limits E U → U → IsFair heights_only F V → IsHigh contract (IsContract no_limits)
 unfolding expression
 contract_high free u tall =

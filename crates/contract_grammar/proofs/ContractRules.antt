@@ -60,7 +60,7 @@ statement_begins d f s (Puts _ t at y key a p z value h parts e i g j k) = mark_
 statement_begins d f s (Fails _ t at c end e h) = mark_begins t (inr (inr (inr (inr (inl (the_is m.Fail t at e))))))
 statement_begins d f s (Returns _ t at c end e h) = mark_begins t (inr (inr (inr (inr (inr (inl (the_is m.Return t at e)))))))
 
--- statements in braces, by the ways of putting readers together
+-- statements in braces, in terms of combined readers
 abbrev pub IsBlockBy : Limits → ℕ → List Token → StatementTrees → Type 0
 IsBlockBy l d = IsSeq (IsOne (the m.BraceOpen)) (λ at. IsSeq (IsMoreOf (λ n. IsStatement l d) []) (λ all. IsSeq (IsOne (the m.BraceClose)) (λ end. IsRet (statement_list all))))
 
@@ -150,7 +150,7 @@ param_to {l} n f x (Seq _ _ name _ (may, One t _ e) (Seq _ _ p _ (One c _ g) (Se
 param_from : {l : Limits} (n : ℕ) (f : List Token) (x : Param) → IsParam l n f x → IsParamBy l n f x
 param_from n f x (IsOneParam _ t name c p o kind e may g h) = Seq (t ∷ []) (c ∷ o ∷ []) name x (may, One t name e) (Seq (c ∷ []) (o ∷ []) p x (One c p g) (Seq (o ∷ []) [] kind x (One o kind h) Ret))
 
--- parameters after the first, by the ways of putting readers together
+-- parameters after the first, in terms of combined readers
 abbrev pub IsMoreParamsBy : Limits → Param → List Token → List Param → Type 0
 IsMoreParamsBy l x = IsSeq (IsMoreOf (λ n. IsSeq (IsOne (the m.Comma)) (λ at. IsParam l n)) (x ∷ [])) (λ all. IsSeq (IsOne (the m.ParenClose)) (λ end. IsRet all))
 

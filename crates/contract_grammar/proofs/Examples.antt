@@ -1,4 +1,4 @@
--- Expressions, read: which operators bind tighter, and how they group.
+-- Examples of expressions that are read: which operators bind tighter, and how they group.
 use Rattle.std.proofs.Common.{◌≡◌, ℕ, ◌+◌, pos, codes, List, [], ◌∷◌, Ok, Err, refl}
 use Rattle.contract_tokens.specs.declared.token.Token.{Token}
 use Rattle.contract_tokens.specs.declared.token.Mark.TheVariants as m
@@ -10,12 +10,12 @@ use Rattle.contract_grammar.specs.declared.Obstacle.TheVariants.{Unfit}
 use Rattle.contract_grammar.specs.Reading.{level_of, operand, expression}
 use Rattle.contract_grammar.specs.Rules.{turns}
 
--- Words with the offsets 0, 1, 2 and so on, and a semicolon after them.
+-- Words with the offsets 0, 1, 2 and so on, then a semicolon.
 tokens_from : ℕ → List Word → List Token
 tokens_from at [] = record { at = at; word = w.Mark m.Semicolon } ∷ []
 tokens_from at (word ∷ words) = record { at = at; word = word } ∷ tokens_from (at + 1) words
 
--- what is left where a whole expression was read
+-- what is left after a whole expression was read
 end_from : ℕ → List Token
 end_from at = tokens_from at []
 
@@ -45,7 +45,7 @@ grouped : expression (tokens_from 0 (number 1 ∷ w.Mark m.Slash ∷ w.Mark m.Pa
 unfolding tokens_from end_from expression level_of operand turns
 grouped = refl
 
--- 1 > 2, and then another comparison is left
+-- 1 > 2, then another comparison is left
 compared_once : expression (tokens_from 0 (number 1 ∷ w.Mark m.Greater ∷ number 2 ∷ w.Mark m.NotEqual ∷ number 3 ∷ [])) ≡ (Ok (Binary 1 s.Greater (int 0 1) (int 2 2)), tokens_from 3 (w.Mark m.NotEqual ∷ number 3 ∷ []))
 unfolding tokens_from end_from expression level_of operand turns
 compared_once = refl
@@ -55,7 +55,7 @@ called : expression (tokens_from 0 (w.Mark m.Text ∷ w.Mark m.ParenOpen ∷ w.N
 unfolding tokens_from end_from expression level_of operand turns
 called = refl
 
--- text, and no parenthesis
+-- text, without parentheses
 not_called : expression (tokens_from 0 (w.Mark m.Text ∷ w.Mark m.Plus ∷ number 1 ∷ [])) ≡ (Err Unfit, tokens_from 1 (w.Mark m.Plus ∷ number 1 ∷ []))
 unfolding tokens_from end_from expression level_of operand turns
 not_called = refl

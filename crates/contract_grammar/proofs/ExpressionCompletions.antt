@@ -22,14 +22,14 @@ use Rattle.contract_grammar.proofs.Completions.{Completes, IsFull, completes_as,
 use Rattle.contract_grammar.proofs.Writable.{more_words, name_writable, mark_writable, empty_text, zero_fits}
 use Rattle.contract_grammar.specs.declared.limits.TheConstants.{MAX_PENDING, MAX_NESTING, MAX_HEIGHT, MAX_PARAMETERS, WHOLE}
 
--- The limits of readers are kept, and heights are free. The limits are about the tokens that pass
--- the test: after one of them they do not keep what is of the grammar from going on.
+-- The limits of readers are kept, and heights are not limited. The limits are about the tokens that
+-- pass the test: after such a token they do not stop what the grammar has from continuing.
 pub record IsAbout (l : Limits) (test : Token → Bool) : Type 0 where
   pub pending_kept : (n : ℕ) → n ≤ MAX_PENDING → Within l.pending n
   pub nesting_kept : (n : ℕ) → n ≤ MAX_NESTING → Within l.nesting n
   pub parameters_kept : (n : ℕ) → n ≤ MAX_PARAMETERS → Within l.parameters n
   pub height_free : (n : ℕ) → Within l.height n
-  -- a parenthesis has to follow the keyword that names a function
+  -- a parenthesis must follow the keyword that names a builtin
   pub after_builtin : (t : Token) → has builtin_of t ≡ true → test t ≡ true → (n : ℕ) → Within l.pending n
   -- a block may have to follow
   pub after_no_brace : (t : Token) → is m.BraceOpen t ≡ false → test t ≡ true → (n : ℕ) → Within l.nesting n
@@ -46,7 +46,7 @@ args_some d may =
     (o ∷ close_token ∷ [], [], more_words o (close_token ∷ []) (mark_writable m.ParenOpen) close_written, (may, NoArgs d o 0 close_token 0 refl close_is))
 
 module _ {test : Token → Bool} {Free : Type 0} where
-  -- what commas part, after the first
+  -- the parts after the first, each after a comma
   pub more_full : {expression : Rule Tree} {P : List Token → Tree → Type 0} (mark : Mark) → IsFull test Free expression P → (x : Tree) → IsFull test Free (more_of expression mark x) (IsMoreOfThem P mark x)
   more_full mark h x = seq_full (each_full (is m.Comma) (λ n. preceded_full m.Comma h) (x ∷ [])) (λ all. terminated_full mark all)
 
@@ -66,7 +66,7 @@ module _ {l : Limits} {test : Token → Bool} (about : IsAbout l test) where
   node_full : (at : ℕ) (x : Tree) → IsFull test ⊥ (node at x) (IsGuarded (Within l.height (height x)) x)
   node_full at x = guard_completes (λ none. none) (leb (height x) MAX_HEIGHT) (Height at) x (about.height_free (height x))
 
-  -- the parts of an operand around which so many are pending
+  -- the parts of an operand around which `d` parentheses and prefixes are pending
   module _ (d : ℕ) {arguments : Rule (List Tree)} (ha : Completes test ⊥ (Within l.pending (suc d)) arguments (IsAllowed (Within l.pending (suc d)) (IsArgs l (suc d)))) where
     call_completes : (n : ℕ × List ℕ) → Completes test ⊥ (Within l.pending (suc d)) (seq arguments (call_of n)) (IsCall l d n)
     call_completes n = seq_full ha (λ xs. node_full n.0 (tree.Call n.0 n.1 (trees xs)))
@@ -100,7 +100,7 @@ module _ {l : Limits} {test : Token → Bool} (about : IsAbout l test) where
       let b = is_chained (suc k) in
       completes_as (seq_full below (rest_full b d k (omega arith) below)) (level_to b refl)
 
-  -- ---- operands, by how many more may be pending
+  -- ---- operands, given how many more may be pending
 
   operand_completes : (n d : ℕ) → n + d ≡ MAX_PENDING → IsFull test ⊥ (operand n) (IsExpr l d 0)
   unfolding operand

@@ -1,4 +1,4 @@
--- What a reader of expressions has read where one is too high.
+-- What a reader of expressions has read if one is too high: that expression is read last.
 use Rattle.std.proofs.Common.{◌≡◌, ℕ, zero, suc, ◌+◌, ◌<◌, ◌≤◌, Bool, true, false, List, [], ◌∷◌, ◌++◌, length, Ok, Err, ◌⊎◌, inl, inr, refl, sym, ap, ◌∙◌, subst, arith, append_assoc}
 use Rattle.std.proofs.lemmas.List.{append-nil}
 use Rattle.contract_tokens.specs.declared.token.Token.{Token}
@@ -27,7 +27,7 @@ use Rattle.contract_grammar.proofs.ExpressionCompletions.{args_some, literal_ful
 use Rattle.contract_grammar.specs.declared.limits.TheConstants.{MAX_HEIGHT, MAX_PENDING, WHOLE}
 use Rattle.contract_grammar.proofs.Writable.{no_words, more_words, all_words, mark_writable}
 
--- an expression that keeps it is not too high
+-- an expression that keeps the limit is not too high
 pub expression_low : (d k : ℕ) (f : List Token) (x : Tree) → IsExpr heights_only d k f x → height x ≤ MAX_HEIGHT
 expression_low d k f x (Number _ t n e) = omega arith
 expression_low d k f x (Literal _ t n e) = omega arith
@@ -47,7 +47,7 @@ args_low : (d : ℕ) (f : List Token) (xs : List Tree) → IsArgs heights_only d
 args_low d f xs (NoArgs _ o at c end e h) = omega arith
 args_low d f xs (Args _ o at y x z more e i j) = omega (arith, expression_low d WHOLE y x i, more_low m.ParenClose d z more j)
 
--- the parts of an operand around which so many are pending
+-- the parts of an operand around which `d` parentheses and prefixes are pending
 module _ (d : ℕ) where
   call_or : {arguments : Rule (List Tree)} → IsSeen arguments (IsAllowed (Unit {0}) (IsArgs no_limits (suc d))) → ((ts rest : List Token) (xs : List Tree) → arguments ts ≡ (Ok xs, rest) → heights (trees xs) ≤ MAX_HEIGHT) → (n : ℕ × List ℕ) → IsHighOr (seq arguments (call_of n)) (IsCall no_limits d n)
   call_or {arguments} h low n =
@@ -151,7 +151,7 @@ module _ {E F : Obstacle → Type 0} {U V : Type 0} (free : IsFair no_limits E U
   pub level_seen : (k : ℕ) → k ≤ WHOLE → IsSeen (level_of operand k) (IsExpr no_limits d k)
   level_seen k few = seen_by u (level_rule free d ho k few) (level_high k few)
 
--- ---- operands, by how many more may be pending
+-- ---- operands, given how many more may be pending
 
 module _ {E F : Obstacle → Type 0} {U V : Type 0} (free : IsFair no_limits E U) (u : U) (tall : IsFair heights_only F V) where
   closed_args : (d : ℕ) → IsSeen (refuse Pending (is m.ParenOpen)) (IsAllowed (Unit {0}) (IsArgs no_limits (suc d)))

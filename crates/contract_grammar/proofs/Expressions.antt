@@ -116,7 +116,7 @@ module _ {l : Limits} {E : Obstacle → Type 0} {U : Type 0} (fair : IsFair l E 
   no_room : d ≡ MAX_PENDING → Within l.pending (suc d) → E Pending
   no_room e may = elim (fair.pending_fair (suc d) may) [ inl k ↦ absurd (omega (arith, k, e)) | inr x ↦ x ]
 
-  -- where no more may be pending
+  -- if no more may be pending
   closed_args : d ≡ MAX_PENDING → IsRule E U (refuse Pending (is m.ParenOpen)) (IsAllowed (Within l.pending (suc d)) (IsArgs l (suc d))) (stops 0)
   closed_args e =
       closed_rule Pending (is m.ParenOpen) refl paren_opens

@@ -1,5 +1,4 @@
--- What a reader has read where an expression is too high, for each way in which readers are put
--- together.
+-- What a reader has read if an expression is too high, for each way to combine readers.
 use Rattle.std.proofs.Common.{◌≡◌, ℕ, suc, ◌≤◌, leb, Bool, true, false, List, [], ◌++◌, Option, Ok, Err, ◌⊎◌, inl, inr, refl, sym, ap, ◌∙◌, subst, arith, append_assoc}
 use Rattle.std.proofs.lemmas.Bool.{leb-false}
 use Rattle.std.proofs.lemmas.List.{append-nil}
@@ -17,7 +16,8 @@ use Rattle.contract_grammar.specs.Faults.{is_height, AreWritable}
 use Rattle.contract_grammar.specs.declared.limits.TheConstants.{MAX_HEIGHT}
 use Rattle.contract_grammar.proofs.Writable.{no_words, all_words}
 
--- the last tokens read are an expression that is too high, and whatever else is that expression could stand there
+-- the last tokens read are an expression that is too high, and other tokens of the same expression
+-- can take their place
 pub record IsHole {A : Type 0} (Is : List Token → A → Type 0) (ts rest : List Token) (at : ℕ) : Type 0 where
   pub prefix : List Token
   pub tokens : List Token
@@ -53,7 +53,7 @@ IsHighOr read Is = (ts rest : List Token) (at : ℕ) → read ts ≡ (Err (Heigh
 pub hole_as : {A : Type 0} {P Q : List Token → A → Type 0} {ts rest : List Token} {at : ℕ} → ((prefix : List Token) (a : A) → P prefix a → Q prefix a) → IsHole P ts rest at → IsHole Q ts rest at
 hole_as to k = record { prefix = k.prefix; tokens = k.tokens; more = k.more; path = k.path; pending = k.pending; level = k.level; tree = k.tree; is_expression = k.is_expression; offset_is = k.offset_is; height_is = k.height_is; made = k.made; more_is = k.more_is; stands = λ other i. to (k.prefix ++ (other ++ k.more)) k.made (k.stands other i) }
 
--- what was read before it is of the grammar
+-- what was read before it is what the grammar has
 pub hole_after : {A B : Type 0} {P : List Token → A → Type 0} {Q : A → List Token → B → Type 0} (ts y mid rest : List Token) (a : A) (at : ℕ) → ts ≡ y ++ mid → P y a → IsHole (Q a) mid rest at → IsHole (IsSeq P Q) ts rest at
 hole_after {P = P} {Q = Q} ts y mid rest a at path i k = record {
   prefix = y ++ k.prefix;
@@ -74,7 +74,7 @@ hole_after {P = P} {Q = Q} ts y mid rest a at path i k = record {
 outward : (a b c d : List Token) → (a ++ (b ++ c)) ++ d ≡ a ++ (b ++ (c ++ d))
 outward a b c d = append_assoc a (b ++ c) d ∙ ap (λ v. a ++ v) (append_assoc b c d)
 
--- something is of the grammar after it
+-- the grammar has something after it
 pub hole_before : {A B : Type 0} {P : List Token → A → Type 0} {Q : A → List Token → B → Type 0} (ts rest : List Token) (at : ℕ) → ((a : A) → Begins (Q a) []) → IsHole P ts rest at → IsHole (IsSeq P Q) ts rest at
 hole_before {P = P} {Q = Q} ts rest at some k =
     let g = some k.made in
@@ -94,7 +94,7 @@ hole_before {P = P} {Q = Q} ts rest at some k =
       stands = λ other j. subst (λ v. IsSeq P Q v g.1) (outward k.prefix other k.more g.0) (Seq (k.prefix ++ (other ++ k.more)) g.0 k.made g.1 (k.stands other j) g.3);
     }
 
--- an expression is itself what could stand in its place
+-- an expression can take its own place
 pub hole_of : {Is : List Token → Tree → Type 0} (pending level : ℕ) (ts rest : List Token) (at : ℕ) → ((prefix : List Token) (x : Tree) → Is prefix x → IsExpr no_limits pending level prefix x) → IsItself Is ts rest at → IsHole (IsExpr no_limits pending level) ts rest at
 hole_of pending level ts rest at to k = record {
   prefix = [];
@@ -118,7 +118,7 @@ closed_high pending level to h ts rest at e = elim (h ts rest at e) [ inl k ↦ 
 pub high_or : {read : Rule Tree} {Is : List Token → Tree → Type 0} → IsHigh read Is → IsHighOr read Is
 high_or h ts rest at e = inl (h ts rest at e)
 
--- ---- readers that meet none
+-- ---- readers that meet no height
 
 pub no_height : {why : Obstacle} {at : ℕ} → is_height why ≡ false → why ≡ Height at → ⊥
 no_height {why} {at} e h = let k = ap is_height h in cc
@@ -136,7 +136,7 @@ refused_height why false at soft e = no_height {why = Unfit} refl e
 pub refused_high : {A : Type 0} (why : Obstacle) (test : Token → Bool) (Is : List Token → A → Type 0) → is_height why ≡ false → IsHigh (refuse why test) Is
 refused_high why test Is soft ts rest at e = absurd (refused_height why (head_is test ts) at soft (err_is e).0)
 
--- ---- one after the other
+-- ---- one after another
 
 module _ {A B : Type 0} {p : Rule A} {q : A → Rule B} {P : List Token → A → Type 0} {Q : A → List Token → B → Type 0} (takes : Takes p P) (some : (a : A) → Begins (Q a) []) (hp : IsHigh p P) (hq : (a : A) → IsHigh (q a) (Q a)) where
   seq_high_by : (ts rest : List Token) (at : ℕ) (r : Read A) → p ts ≡ r → next q r ≡ (Err (Height at), rest) → IsHole (IsSeq P Q) ts rest at
@@ -149,7 +149,7 @@ module _ {A B : Type 0} {p : Rule A} {q : A → Rule B} {P : List Token → A �
 itself_after : {A : Type 0} {P : List Token → A → Type 0} {Q : A → List Token → Tree → Type 0} (ts y mid rest : List Token) (a : A) (at : ℕ) → ts ≡ y ++ mid → P y a → IsItself (Q a) mid rest at → IsItself (IsSeq P Q) ts rest at
 itself_after ts y mid rest a at path i k = record { used = y ++ k.used; path = path ∙ ap (λ v. y ++ v) k.path ∙ sym (append_assoc y k.used rest); tree = k.tree; is_tree = Seq y k.used a k.tree i k.is_tree; offset_is = k.offset_is; height_is = k.height_is }
 
--- the same where the second makes an expression, and may know more of what the first gave
+-- the same if the second makes an expression, and more may be known about what the first returned
 module _ {A : Type 0} {p : Rule A} {q : A → Rule Tree} {P : List Token → A → Type 0} {Q : A → List Token → Tree → Type 0} {Good : A → Type 0} (takes : Takes p P) (good : (ts rest : List Token) (a : A) → p ts ≡ (Ok a, rest) → Good a) where
   seq_or_by : ((a : A) → Begins (Q a) []) → IsHigh p P → ((a : A) → Good a → IsHighOr (q a) (Q a)) → (ts rest : List Token) (at : ℕ) (r : Read A) → p ts ≡ r → next q r ≡ (Err (Height at), rest) → IsHole (IsSeq P Q) ts rest at ⊎ IsItself (IsSeq P Q) ts rest at
   seq_or_by some hp hq ts rest at (Ok a, mid) e h =
@@ -160,14 +160,14 @@ module _ {A : Type 0} {p : Rule A} {q : A → Rule Tree} {P : List Token → A �
   pub seq_or : ((a : A) → Begins (Q a) []) → IsHigh p P → ((a : A) → Good a → IsHighOr (q a) (Q a)) → IsHighOr (seq p q) (IsSeq P Q)
   seq_or some hp hq ts rest at e = seq_or_by some hp hq ts rest at (p ts) refl e
 
--- nothing is known of what the first gave
+-- nothing is known about what the first returned
 abbrev pub Any : {A : Type 0} → A → Type 0
 Any a = Unit {0}
 
 pub one_then : {A : Type 0} {q : A → Rule Tree} {Q : A → List Token → Tree → Type 0} (f : Token → Option A) → ((a : A) → Begins (Q a) []) → ((a : A) → IsHighOr (q a) (Q a)) → IsHighOr (seq (one f) q) (IsSeq (IsOne f) Q)
 one_then f some hq = seq_or {Good = Any} (one_takes_all f) (λ ts rest a e. tt) some (one_high f (IsOne f)) (λ a g. hq a)
 
--- ---- one or the other
+-- ---- a choice
 
 module _ {A : Type 0} {p q : Rule A} {P Q : List Token → A → Type 0} (hp : IsHigh p P) (hq : IsHigh q Q) where
   either_high_by : (b : Bool) (ts rest : List Token) (at : ℕ) → either_by b p q ts ≡ (Err (Height at), rest) → IsHole (IsEither P Q) ts rest at

@@ -1,4 +1,4 @@
--- What holds of a reader and what it reads, for each way in which readers are put together.
+-- What holds of a reader and what it reads, for each way to combine readers.
 use Rattle.std.proofs.Common.{◌≡◌, ◌||◌, Bool, true, false, List, [], ◌∷◌, ◌++◌, length, Option, Some, None, Result, Ok, Err, ◌⊎◌, inl, inr, refl, sym, ap, ◌∙◌, subst, arith, length-append}
 use Rattle.std.proofs.lemmas.List.{append_cancel_right}
 use Rattle.contract_tokens.specs.declared.token.Token.{Token}
@@ -9,7 +9,7 @@ use Rattle.contract_grammar.specs.Rules.{Read, Rule, head_is, ret, guard, one_by
 use Rattle.contract_grammar.proofs.Writable.{no_words, one_word}
 use Rattle.contract_grammar.specs.Faults.{AreWritable, IsWritable}
 
--- what a reader may answer to what the grammar has: that, or an obstacle that is excused
+-- what a reader may return for what the grammar has: that, or an obstacle that is excused
 abbrev pub Agrees : (Obstacle → Type 0) → {A : Type 0} → A → List Token → Read A → Type 0
 Agrees E a rest r = (r ≡ (Ok a, rest)) ⊎ ((why : Obstacle) × (left : List Token) × (r ≡ (Err why, left)) × E why)
 
@@ -18,41 +18,43 @@ GoesBy true why rest more =
     (t : Token) × (y : List Token) × (m : List Token) × (rest ≡ t ∷ y) × (more ≡ t ∷ m) × AreWritable m × IsLimitAt why t
 GoesBy false why rest more = AreWritable more
 
--- what follows can be written; where a limit was met, it begins with the token that was refused
+-- what follows can be written; if a limit was met, it begins with the token that was refused
 abbrev pub GoesOn : Obstacle → List Token → List Token → Type 0
 GoesOn why rest more = GoesBy (is_limit why) why rest more
 
--- the end of the source is yet to come
+-- the end of the source is still to come
 abbrev pub has_end : List Token → Bool
 has_end [] = false
 has_end (t ∷ ts) = is_end t || has_end ts
 
--- what a reader reads is of the grammar
+-- what a reader reads is what the grammar has
 abbrev pub Takes : {A : Type 0} → Rule A → (List Token → A → Type 0) → Type 0
 Takes {A} read Is = (ts rest : List Token) (a : A) → read ts ≡ (Ok a, rest) → (prefix : List Token) × (ts ≡ prefix ++ rest) × Is prefix a
 
--- something of the grammar begins with the tokens, and goes on with tokens that can be written
+-- something that the grammar has begins with the tokens, and continues with tokens that can be
+-- written
 abbrev pub Begins : {A : Type 0} → (List Token → A → Type 0) → List Token → Type 0
 Begins {A} Is used = (more : List Token) × (a : A) × AreWritable more × Is (used ++ more) a
 
--- A reader and what the grammar has there. E: the obstacles that are excused; U: nothing is limited.
+-- A reader and what the grammar has there. E: the obstacles that are excused; U: nothing is
+-- limited.
 pub record IsRule (E : Obstacle → Type 0) (U : Type 0) {A : Type 0} (read : Rule A) (Is : List Token → A → Type 0) (Stops : Token → Bool) : Type 0 where
-  -- what is read is of the grammar
+  -- what is read is what the grammar has
   pub takes : Takes read Is
-  -- a reader that stops has taken the tokens before the one where it stands
+  -- a reader that stops has taken the tokens before its next one
   pub leaves : (ts rest : List Token) (why : Obstacle) → read ts ≡ (Err why, rest) → (used : List Token) × (ts ≡ used ++ rest)
-  -- what it has taken can be completed, with the next token too where only a limit refused that
+  -- what it took can be completed, also with the next token if only a limit refused that
   pub viable : U → (ts rest : List Token) (why : Obstacle) → read ts ≡ (Err why, rest) → (used : List Token) × (more : List Token) × (a : A) × (ts ≡ used ++ rest) × Is (used ++ more) a × GoesOn why rest more
-  -- what is of the grammar is read, whatever follows, if the next token ends it
+  -- what the grammar has is read, whatever follows, if the next token ends it
   pub again : (prefix rest : List Token) (a : A) → Is prefix a → head_is Stops rest ≡ true → Agrees E a rest (read (prefix ++ rest))
-  -- what stands after the next token plays no part
+  -- what follows the next token does not matter
   pub same : (u v y z : List Token) (t : Token) (r : Result A Obstacle) → read (u ++ t ∷ y) ≡ (r, v ++ t ∷ y) → read (u ++ t ∷ z) ≡ (r, v ++ t ∷ z)
-  -- something is of the grammar
+  -- the grammar has something there
   pub some : U → Begins Is []
-  -- it does not take the end of the source
+  -- the end of the source is not taken
   pub stays : (ts : List Token) → has_end ts ≡ true → has_end (read ts).1 ≡ true
 
--- the parts of equal answers
+-- the parts of equal results
 pub ok_is : {A : Type 0} {a b : A} {m n : List Token} → ◌≡◌ {A = Read A} (Ok a, m) (Ok b, n) → (a ≡ b) × (m ≡ n)
 ok_is {A} {a} {b} e = let h : ◌≡◌ {A = Result A Obstacle} (Ok a) (Ok b) = ap (λ r. r.0) e in (cc, ap (λ r. r.1) e)
 
@@ -68,11 +70,11 @@ no_err {A} {b} {v} e = let h : ◌≡◌ {A = Result A Obstacle} (Ok b) (Err v) 
 pub err_made : {A : Type 0} {v w : Obstacle} {m n : List Token} → v ≡ w → m ≡ n → ◌≡◌ {A = Read A} (Err v, m) (Err w, n)
 err_made e h = cc
 
--- an answer of a reader that failed, as one of another type
+-- the result of a reader that failed, as one of another type
 pub as_err : {A B : Type 0} {r : Read A} {v w : Obstacle} {m n : List Token} → r ≡ (Err v, m) → ◌≡◌ {A = Read B} (Err v, m) (Err w, n) → r ≡ (Err w, n)
 as_err e h = let k = err_is h in e ∙ err_made k.0 k.1
 
--- an answer that takes nothing does so whatever follows
+-- a result that takes nothing is the same whatever follows
 pub here_same : {A : Type 0} (q r : Result A Obstacle) (u v y z : List Token) (t : Token) → ◌≡◌ {A = Read A} (q, u ++ t ∷ y) (r, v ++ t ∷ y) → ◌≡◌ {A = Read A} (q, u ++ t ∷ z) (r, v ++ t ∷ z)
 here_same q r u v y z t e =
     let k : q ≡ r = ap (λ p. p.0) e in
@@ -80,7 +82,7 @@ here_same q r u v y z t e =
     let g : u ≡ v = append_cancel_right u v (t ∷ y) h in
     cc
 
--- nothing more, and this value
+-- nothing is taken, and this is the value
 pub data IsRet {A : Type 0} (a : A) : List Token → A → Type 0 where
   Ret : IsRet a [] a
 
@@ -104,14 +106,14 @@ ret_rule a = record {
   stays = λ ts h. h;
 }
 
--- nothing more, and this value, where it may be
+-- nothing is taken, and this is the value, if it may be
 pub data IsGuarded {A : Type 0} (L : Type 0) (a : A) : List Token → A → Type 0 where
   Guarded : L → IsGuarded L a [] a
 
 pub no_false : {b : Bool} → b ≡ false → b ≡ true → ⊥
 no_false e h = cc
 
--- where no limit was met, what follows can be written
+-- if no limit was met, what follows can be written
 pub soft_goes : (why : Obstacle) (rest more : List Token) → is_limit why ≡ false → AreWritable more → GoesOn why rest more
 soft_goes why rest more e h = subst (λ b. GoesBy b why rest more) (sym e) h
 
@@ -164,7 +166,7 @@ one_same : {A : Type 0} (o : Option A) (r : Result A Obstacle) (s : Token) (u v 
 one_same None r s u v y z t e = here_same (Err Unfit) r (s ∷ u) v y z t e
 one_same (Some a) r s u v y z t e = here_same (Ok a) r u v y z t e
 
--- a list is not as long as one of it with a token before it
+-- a list is not as long as itself with a token before it
 pub no_longer : (v y : List Token) (t : Token) → y ≡ v ++ t ∷ y → ⊥
 no_longer v y t e = omega (arith, ap length e, length-append v (t ∷ y))
 

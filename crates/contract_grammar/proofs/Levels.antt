@@ -1,4 +1,4 @@
--- The laws of the levels of expressions, by those of operands.
+-- The laws of the levels of expressions, given those of operands.
 use Rattle.std.proofs.Common.{◌≡◌, ℕ, zero, suc, ◌<◌, ◌≤◌, Bool, true, false, List, [], ◌∷◌, ◌++◌, Some, inl, inr, refl, sym, ap, ◌∙◌, subst, arith, append_assoc}
 use Rattle.std.proofs.lemmas.List.{append-nil}
 use Rattle.contract_tokens.specs.declared.token.Token.{Token}
@@ -70,7 +70,7 @@ sample_written (suc (suc (suc zero))) = mark_writable m.Equal
 sample_written (suc (suc (suc (suc zero)))) = mark_writable m.And
 sample_written (suc (suc (suc (suc (suc k))))) = mark_writable m.Or
 
--- what an operator of a level makes of what stands before it
+-- what an operator of a level makes of its left operand
 abbrev pub IsBinary : Limits → ℕ → ℕ → Tree → List Token → Tree → Type 0
 IsBinary l d k x = IsSeq (IsOne (sign_of (suc k))) (λ s. IsSeq (IsExpr l d k) (λ w. IsGuarded (Within l.height (height (tree.Binary s.0 s.1 x w))) (tree.Binary s.0 s.1 x w)))
 
@@ -119,7 +119,7 @@ module _ {l : Limits} {d k : ℕ} where
   snoc_in : (y : List Token) (x : Tree) → IsSeq (IsExpr l d k) (IsTurns (IsBinary l d k)) y x → (z : List Token) (b : Tree) → IsBinary l d k x z b → IsSeq (IsExpr l d k) (IsTurns (IsBinary l d k)) (y ++ z) b
   snoc_in y x (Seq f g a _ i turns) z b j = subst (λ v. IsSeq (IsExpr l d k) (IsTurns (IsBinary l d k)) v b) (sym (append_assoc f g z)) (Seq f (g ++ z) a b i (turns_snoc a g x turns z b j))
 
--- an expression of a chained level is one of the level below, and then operators
+-- an expression of a chained level is one of the level below, then operators
 split : {l : Limits} {d : ℕ} (n : ℕ) (y : List Token) (x : Tree) → IsExpr l d n y x → (k : ℕ) → n ≡ suc k → is_chained (suc k) ≡ true → IsSeq (IsExpr l d k) (IsTurns (IsBinary l d k)) y x
 split {l} {d} n y x (Tighter _ j _ _ i) k e c =
     let same : j ≡ k = omega (arith, e) in
@@ -136,7 +136,7 @@ split n y x (Called _ _ _ _ _ _ _ _ _) k e c = absurd (omega (arith, e))
 split n y x (Prefixed _ _ _ _ _ _ _ _ _) k e c = absurd (omega (arith, e))
 split n y x (Grouped _ _ _ _ _ _ _ _ _ _ _) k e c = absurd (omega (arith, e))
 
--- an expression of the level of comparisons is one of the level below, and then one comparison or none
+-- an expression of the level of comparisons is one of the level below, then at most one comparison
 split_once : {l : Limits} {d : ℕ} (n : ℕ) (y : List Token) (x : Tree) → IsExpr l d n y x → (k : ℕ) → n ≡ suc k → is_chained (suc k) ≡ false → IsSeq (IsExpr l d k) (λ a. IsEither (IsBinary l d k a) (IsRet a)) y x
 split_once {l} {d} n y x (Tighter _ j _ _ i) k e c =
     let same : j ≡ k = omega (arith, e) in
@@ -152,7 +152,7 @@ split_once n y x (Called _ _ _ _ _ _ _ _ _) k e c = absurd (omega (arith, e))
 split_once n y x (Prefixed _ _ _ _ _ _ _ _ _) k e c = absurd (omega (arith, e))
 split_once n y x (Grouped _ _ _ _ _ _ _ _ _ _ _) k e c = absurd (omega (arith, e))
 
--- what may stand after an expression of the level below
+-- what may follow an expression of the level below
 abbrev pub IsRest : Limits → ℕ → ℕ → Bool → Tree → List Token → Tree → Type 0
 IsRest l d k true x = IsTurns (IsBinary l d k) x
 IsRest l d k false x = IsEither (IsBinary l d k x) (IsRet x)

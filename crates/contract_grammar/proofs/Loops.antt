@@ -1,4 +1,4 @@
--- A loop of the program against the steps of the specification that are taken again and again.
+-- A loop of the program does what the repeated steps of the specification do.
 use Rattle.std.proofs.Common.{◌≡◌, ℕ, Bool, true, false, List, Result, Ok, Err, sym, ap, ◌∙◌, subst}
 use Rattle.contract_tokens.specs.declared.token.Token.{Token}
 use Rattle.contract_tokens.specs.declared.token.Mark.{Mark}
@@ -26,6 +26,6 @@ module _ {B : Type 0} (test : Token → Bool) (step : B → Rule B) (strict : Is
   loop_err A e view (At why) rest s = sym kept ∙ turn_err test step strict a ts e why rest s
   loop_err A e view Memory rest s = tt
 
--- a keyword or sign that was taken, and what follows
+-- a keyword or sign that was taken, then what follows
 pub preceded_taken : {B : Type 0} (mark : Mark) (p : Rule B) (ts rest : List Token) (at : ℕ) → one (the mark) ts ≡ (Ok at, rest) → after_mark mark p ts ≡ p rest
 preceded_taken mark p ts rest at e = ap (λ r. next (λ at. p) r) e

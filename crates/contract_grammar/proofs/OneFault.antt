@@ -1,4 +1,4 @@
--- Tokens have one fault at most, heights left out.
+-- Tokens have at most one fault, if heights are ignored.
 use Rattle.std.proofs.Common.{◌≡◌, length, length-append, true, false, List, [], ◌∷◌, ◌++◌, ◌⊎◌, inl, inr, if◌then◌else◌, refl, sym, ap, ◌∙◌, subst, arith, append_assoc}
 use Rattle.contract_tokens.specs.declared.token.Token.{Token}
 use Rattle.contract_tokens.specs.declared.token.Mark.TheVariants as m
@@ -13,7 +13,7 @@ use Rattle.contract_grammar.proofs.MarkFacts.{named_no_end, open_no_end, brace_n
 use Rattle.contract_grammar.proofs.Splits.{two_splits}
 use Rattle.contract_grammar.proofs.Answers.{IsEnded}
 
--- ---- tokens that can be written, with the end after them
+-- ---- tokens that can be written, then the end
 
 record IsWritten (before : List Token) (t : Token) : Type 0 where
   prefix : AreWritable before
@@ -41,7 +41,7 @@ allows_from {l = l} before t n h = subst (λ b. AllowsBy b l before t) (sym n) h
 fits_from : {l : Limits} (before : List Token) (t : Token) → is_end t ≡ false → Allows l before t → Fits l (before ++ t ∷ [])
 fits_from {l = l} before t n h = subst (λ b. AllowsBy b l before t) n h
 
--- ---- an obstacle is one only
+-- ---- an obstacle is of one kind
 
 -- the limit that is about the token
 limit_at : Token → Obstacle
@@ -67,13 +67,13 @@ nesting_at t h =
     let k = brace_here t h in
     ap (λ b. if b then Surplus else if opens t then Pending else Nesting) k.0 ∙ ap (λ b. if b then Pending else Nesting) k.1
 
--- with the token no contract goes on
+-- no contract continues with the token
 record IsUnfit (why : Obstacle) (before : List Token) (t : Token) : Type 0 where
   same : why ≡ Unfit
   fits : Fits no_limits before
   refused : Allows no_limits before t → ⊥
 
--- a limit alone refuses the token, and tokens after it do not mend that
+-- only a limit refuses the token, and later tokens do not mend that
 record IsLimited (why : Obstacle) (before : List Token) (t : Token) : Type 0 where
   same : why ≡ limit_at t
   plain : is_end t ≡ false
@@ -89,7 +89,7 @@ module _ (before : List Token) (t : Token) where
   either_is (Height at) low o = absurd (no_false low refl)
 
 module _ (why why' : Obstacle) (low : is_height why ≡ false) (low' : is_height why' ≡ false) where
-  -- what is wrong at one token is one thing
+  -- one thing is wrong at a token
   same_obstacle : (before : List Token) (t : Token) → IsObstacle why before t → IsObstacle why' before t → why ≡ why'
   same_obstacle before t o o' =
       elim (either_is before t why low o) [
@@ -132,6 +132,6 @@ one_of_words words end h ends why why' before after before' after' t t' e e' low
       ]
     ]
 
--- of the tokens of a source
+-- the tokens of a source have at most one fault
 pub one_fault : {tokens : List Token} → IsEnded tokens → HasOneFault tokens
 one_fault i = subst (λ v. HasOneFault v) (sym i.tokens_are) (one_of_words i.before i.end i.words i.ends)

@@ -18,7 +18,7 @@ use Rattle.contract_grammar.proofs.Choice.{Starts, head_lift, head_more, seq_sta
 use Rattle.contract_grammar.proofs.Parts.{the_is, is_one, IsMoreOfThem}
 use Rattle.contract_grammar.specs.declared.limits.TheConstants.{WHOLE}
 
--- what commas part, up to the sign that closes it
+-- parts with commas between them, up to the closing sign
 record IsClosed (l : Limits) (mark : Mark) (d n : ℕ) (z : List Token) (xs : List Tree) : Type 0 where
   y : List Token
   c : Token
@@ -27,7 +27,7 @@ record IsClosed (l : Limits) (mark : Mark) (d n : ℕ) (z : List Token) (xs : Li
   items : IsEach (λ n. IsSeq (IsOne (the m.Comma)) (λ at. IsExpr l d WHOLE)) n y xs
   closes : the mark c ≡ Some end
 
--- what stands after the first
+-- what follows the first part
 module _ {l : Limits} (mark : Mark) (d : ℕ) where
   pub close_args : (n : ℕ) (y : List Token) (xs : List Tree) → IsEach (λ n. IsSeq (IsOne (the m.Comma)) (λ at. IsExpr l d WHOLE)) n y xs → (c : Token) (end : ℕ) → the mark c ≡ Some end → IsMore l mark d (y ++ c ∷ []) xs
   close_args n y xs (Nothing _) c end h = Last mark d c end h
@@ -51,7 +51,7 @@ module _ {l : Limits} (mark : Mark) (d : ℕ) where
       let end : IsSeq (IsOne (the mark)) (λ at. IsRet (x ∷ xs)) (r.c ∷ []) (x ∷ xs) = Seq (r.c ∷ []) [] r.end (x ∷ xs) (One r.c r.end r.closes) Ret in
       subst (λ v. IsMoreOfThem (IsExpr l d WHOLE) mark x v (x ∷ xs)) (sym r.path) (Seq r.y (r.c ∷ []) (x ∷ xs) (x ∷ xs) (xs, refl, r.items) end)
 
--- arguments by the ways of putting readers together
+-- arguments, in terms of combined readers
 abbrev pub IsArgsBy : Limits → ℕ → List Token → List Tree → Type 0
 IsArgsBy l d = IsSeq (IsOne (the m.ParenOpen)) (λ at. IsEither (IsSeq (IsOne (the m.ParenClose)) (λ end. IsRet [])) (IsSeq (IsExpr l d WHOLE) (IsMoreOfThem (IsExpr l d WHOLE) m.ParenClose)))
 
@@ -67,7 +67,7 @@ pub args_from : {l : Limits} (d : ℕ) (f : List Token) (xs : List Tree) → IsA
 args_from d f xs (NoArgs _ o at c end e h) = Seq (o ∷ []) (c ∷ []) at [] (One o at e) (inl (Seq (c ∷ []) [] end [] (One c end h) Ret))
 args_from d f xs (Args _ o at y x z more e i j) = Seq (o ∷ []) (y ++ z) at (x ∷ more) (One o at e) (inr (Seq y z x (x ∷ more) i (from_more m.ParenClose d x z more j)))
 
--- what the grammar has there, and only where a limit allows it
+-- what the grammar has there, if a limit allows it
 abbrev pub IsAllowed : {A : Type 0} → Type 0 → (List Token → A → Type 0) → List Token → A → Type 0
 IsAllowed W P prefix a = W × P prefix a
 
@@ -160,7 +160,7 @@ pub args_begin : {l : Limits} (d : ℕ) (f : List Token) (xs : List Tree) → Is
 args_begin d f xs (NoArgs _ o at c end e h) = the_is m.ParenOpen o at e
 args_begin d f xs (Args _ o at y x z more e i j) = the_is m.ParenOpen o at e
 
--- what stands after the first of several begins with a comma or the closing sign
+-- what follows the first of several parts begins with a comma or the closing sign
 pub more_stops : {P : List Token → Tree → Type 0} (g : Token → Bool) (mark : Mark) → ((t : Token) → is m.Comma t ≡ true → g t ≡ true) → ((t : Token) → is mark t ≡ true → g t ≡ true) → (x : Tree) → Starts g (IsMoreOfThem P mark x)
 more_stops g mark comma close x f all (Seq _ z had _ (items, path, Nothing _) j) = head_lift (is mark) g close z (seq_starts (is mark) (is_one mark) z all j)
 more_stops g mark comma close x f all (Seq _ c had _ (items, path, Each _ a rest y z i more) j) =

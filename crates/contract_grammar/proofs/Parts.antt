@@ -19,7 +19,8 @@ use Rattle.contract_grammar.proofs.Choice.{Starts, Differs, head_more, head_lift
 use Rattle.contract_grammar.specs.declared.limits.TheConstants.{MAX_PENDING, MAX_NESTING, MAX_HEIGHT, MAX_PARAMETERS}
 use Rattle.contract_grammar.proofs.Writable.{mark_writable}
 
--- What the limits of the grammar have to do with those of its readers. E: the obstacles that are excused, since the grammar has no such limit; U: the grammar has no limit.
+-- How the limits of the grammar relate to those of its readers. E: the obstacles that are excused,
+-- since the grammar has no such limit; U: the grammar has no limit.
 pub record IsFair (l : Limits) (E : Obstacle → Type 0) (U : Type 0) : Type 0 where
   pub pending_kept : (n : ℕ) → n ≤ MAX_PENDING → Within l.pending n
   pub pending_fair : (n : ℕ) → Within l.pending n → (n ≤ MAX_PENDING) ⊎ E Pending
@@ -34,7 +35,7 @@ pub record IsFair (l : Limits) (E : Obstacle → Type 0) (U : Type 0) : Type 0 w
   pub parameters_fair : (n : ℕ) → Within l.parameters n → (n ≤ MAX_PARAMETERS) ⊎ E Surplus
   pub parameters_free : U → (n : ℕ) → Within l.parameters n
 
--- a token of this word
+-- a token with this word
 abbrev pub token : Word → Token
 token word = record { at = 0; word = word }
 
@@ -58,7 +59,7 @@ head_any S T all [] [] h = absurd (no_false refl h)
 head_any S T all [] (t ∷ rest) h = all t
 head_any S T all (t ∷ z) rest h = all t
 
--- a reader that ends before any token leads to anything
+-- a reader that ends before any token may precede anything
 pub leads_any : {A B : Type 0} (Q : A → List Token → B → Type 0) (T : Token → Bool) → Leads any Q T
 leads_any Q T a z rest b q h = head_any any T (λ t. refl) z rest h
 
@@ -95,7 +96,7 @@ module _ {E : Obstacle → Type 0} {U : Type 0} where
   pub terminated_rule : {A : Type 0} {S : Token → Bool} (mark : Mark) (a : A) → IsRule E U (before_mark mark a) (IsSeq (IsOne (the mark)) (λ at. IsRet a)) S
   terminated_rule {S = S} mark a = seq_rule (mark_rule {S = any} mark) (λ at. ret_rule a) (leads_any (λ (at : ℕ). IsRet a) S)
 
--- what commas part, after the first, and the sign that closes it
+-- the parts after the first, each after a comma, and the closing sign
 abbrev pub IsMoreOfThem : (List Token → Tree → Type 0) → Mark → Tree → List Token → List Tree → Type 0
 IsMoreOfThem P mark x = IsSeq (IsMoreOf (λ n. IsSeq (IsOne (the m.Comma)) (λ at. P)) (x ∷ [])) (λ all. IsSeq (IsOne (the mark)) (λ at. IsRet all))
 

@@ -33,7 +33,7 @@ unfolding end_token
 ends_ended [] s = or_right (is_end s) true refl
 ends_ended (t ∷ b) s = or_right (is_end t) (has_end (b ++ s ∷ end_token ∷ [])) (ends_ended b s)
 
--- of these tokens the last two are left, or the last one alone, or more
+-- the last two of these tokens are left, or the last one alone, or more
 where_left : (b used rest : List Token) (s e : Token) → b ++ s ∷ e ∷ [] ≡ used ++ rest → has_end rest ≡ true → ((v : List Token) × (rest ≡ v ++ s ∷ e ∷ [])) ⊎ ((b ++ s ∷ [] ≡ used) × (rest ≡ e ∷ []))
 where_left b [] rest s e path h = inl (b, sym path)
 where_left [] (u ∷ []) rest s e path h = let same : s ≡ u = cc (path) in inr (ap (λ v. v ∷ []) same, sym (ap (drop 1) path))

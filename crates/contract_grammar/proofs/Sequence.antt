@@ -1,4 +1,4 @@
--- The laws of readers one after another, and of a choice of two.
+-- The laws of one reader after another, and of a choice between two.
 use Rattle.std.proofs.Common.{◌≡◌, Bool, true, List, ◌∷◌, ◌++◌, Result, Ok, Err, inl, inr, refl, sym, ap, ◌∙◌, subst, append_assoc, false, []}
 use Rattle.contract_tokens.specs.declared.token.Token.{Token}
 use Rattle.contract_grammar.specs.declared.Obstacle.{Obstacle}
@@ -7,15 +7,15 @@ use Rattle.contract_grammar.proofs.Laws.{has_end, Agrees, GoesOn, IsRule, no_ok,
 use Rattle.contract_grammar.proofs.Writable.{all_words}
 use Rattle.contract_grammar.specs.Faults.{AreWritable}
 
--- one after the other
+-- one after another
 pub data IsSeq {A B : Type 0} (P : List Token → A → Type 0) (Q : A → List Token → B → Type 0) : List Token → B → Type 0 where
   Seq : (y z : List Token) (a : A) (b : B) → P y a → Q a z b → IsSeq P Q (y ++ z) b
 
--- the first reader ends where the second goes on, or where that takes nothing at what follows
+-- the first reader ends where the second begins or, if that takes nothing, before what follows
 abbrev pub Leads : {A B : Type 0} → (Token → Bool) → (A → List Token → B → Type 0) → (Token → Bool) → Type 0
 Leads {A} {B} S Q T = (a : A) (z rest : List Token) (b : B) → Q a z b → head_is T rest ≡ true → head_is S (z ++ rest) ≡ true
 
--- what a reader that answered has taken
+-- what a reader that succeeded has taken
 pub left_is : {E : Obstacle → Type 0} {U : Type 0} {A : Type 0} {p : Rule A} {P : List Token → A → Type 0} {S : Token → Bool} → IsRule E U p P S → (ts rest : List Token) (r : Result A Obstacle) → p ts ≡ (r, rest) → (used : List Token) × (ts ≡ used ++ rest)
 left_is p ts rest (Ok a) e = let k = p.takes ts rest a e in (k.0, k.1)
 left_is p ts rest (Err why) e = p.leaves ts rest why e
@@ -38,7 +38,7 @@ module _ {A B : Type 0} {p : Rule A} {q : A → Rule B} {P : List Token → A �
   pub seq_takes : Takes p P → ((a : A) → Takes (q a) (Q a)) → Takes (seq p q) (IsSeq P Q)
   seq_takes hp hq ts rest b e = seq_takes_by hp hq ts rest b (p ts) refl e
 
--- something of the second after what begins something of the first
+-- something of the second, after what begins something of the first
 pub seq_begins : {A B : Type 0} (P : List Token → A → Type 0) (Q : A → List Token → B → Type 0) → ((a : A) → Begins (Q a) []) → (used : List Token) → Begins P used → Begins (IsSeq P Q) used
 seq_begins P Q some used f =
     let g = some f.1 in

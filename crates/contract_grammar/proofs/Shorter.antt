@@ -1,4 +1,4 @@
--- How many tokens the readers of the grammar take: so the steps that are taken again and again end.
+-- How many tokens the readers of the grammar take at least, so that repeated steps end.
 use Rattle.std.proofs.Common.{◌≡◌, ℕ, zero, suc, ◌<◌, ◌≤◌, Bool, true, false, List, [], ◌∷◌, ◌++◌, length, nat_lt, Option, Some, None, Ok, Err, refl, sym, ap, ◌∙◌, arith}
 use Rattle.contract_tokens.specs.declared.token.Token.{Token}
 use Rattle.contract_tokens.specs.declared.token.Mark.{Mark}
@@ -16,7 +16,7 @@ use Rattle.contract_grammar.specs.Rules.{Read, Rule, head_is, ret, guard, one_by
 use Rattle.contract_grammar.proofs.Laws.{ok_is, no_ok}
 use Rattle.contract_grammar.proofs.Choice.{IsStrict, turns_are}
 
--- the reader takes a token at least
+-- the reader takes at least one token
 abbrev pub TakesOne : {A : Type 0} → Rule A → Type 0
 TakesOne {A} read = (ts rest : List Token) (a : A) → read ts ≡ (Ok a, rest) → length rest < length ts
 
@@ -134,11 +134,11 @@ operand_takes (suc n) =
     let whole = level_takes WHOLE inner in
     operand_of_takes (adds_none (preceded_takes m.ParenOpen (args_adds whole))) (seq_takes (λ s. seq_adds (λ x. guard_adds _ _ _) (adds_none inner)) (one_takes prefix_of)) (preceded_takes m.ParenOpen (seq_adds (λ x. adds_none (terminated_takes m.ParenClose x)) (adds_none whole)))
 
--- one more of what commas part
+-- one more part after a comma
 pub items_strict : (n : ℕ) → IsStrict (put (comma_then (level_of (operand n) WHOLE)))
 items_strict n = put_takes (comma_then (level_of (operand n) WHOLE)) (λ i. preceded_takes m.Comma (adds_none (level_takes WHOLE (operand_takes n))))
 
--- one more operator and what stands after it
+-- one more operator and its right operand
 pub binary_strict : (n level below : ℕ) → IsStrict (binary level (level_of (operand n) below))
 binary_strict n level below = binary_takes level (adds_none (level_takes below (operand_takes n)))
 

@@ -2,14 +2,14 @@
 use Rattle.std.proofs.Common.{◌≡◌, List, [], ◌∷◌, ◌++◌, drop, ◌⊎◌, inl, inr, refl, sym, ap, ◌∙◌}
 use Rattle.contract_tokens.specs.declared.token.Token.{Token}
 
--- the token stands after some tokens, before the end of the others
+-- the token comes after these tokens, among the others
 abbrev pub IsLater : List Token → Token → List Token → Type 0
 IsLater before t others = (w : List Token) × (others ≡ before ++ t ∷ w)
 
 same_head : {x s : Token} {u y : List Token} → x ∷ u ≡ s ∷ y → x ≡ s
 same_head e = cc (e)
 
--- the two tokens are one, or one of them stands before the other
+-- the two tokens are the same one, or one of them comes before the other
 pub two_splits : (u v y z : List Token) (s t : Token) → u ++ s ∷ y ≡ v ++ t ∷ z → ((u ≡ v) × (s ≡ t) × (y ≡ z)) ⊎ (IsLater u s v ⊎ IsLater v t u)
 two_splits [] [] y z s t e = inl (refl, same_head e, ap (drop 1) e)
 two_splits [] (x ∷ v) y z s t e = inr (inl (v, ap (λ r. r ∷ v) (sym (same_head e))))

@@ -34,7 +34,7 @@ other_word a b (w.Text text) e h = refl
 other_word a b (w.Name name) e h = refl
 other_word a b w.End e h = refl
 
--- one keyword or sign is no other
+-- a keyword or sign is no other one
 pub is_other : (a b : Mark) → is_same b a ≡ false → (t : Token) → is b t ≡ true → is a t ≡ false
 is_other a b e t h = other_word a b t.word e h
 

@@ -15,7 +15,7 @@ use Rattle.contract_grammar.proofs.Parts.{IsMoreOfThem}
 use Rattle.contract_grammar.proofs.Operands.{to_more, from_more}
 
 module _ (l : Limits) where
-  -- the end of a statement that gives a value
+  -- the end of a statement that assigns a value
   abbrev pub IsValue : (Tree → StatementTree) → List Token → StatementTree → Type 0
   IsValue f = IsSeq (IsOne (the m.Assign)) (λ p. IsSeq (IsExpression l) (λ x. IsSeq (IsOne (the m.Semicolon)) (λ end. IsRet (f x))))
 
@@ -71,7 +71,7 @@ value_is f prefix s (Seq _ _ p _ (One a _ e) (Seq y _ x _ i (Seq _ z end _ (One 
 value_made : {l : Limits} (f : Tree → StatementTree) (a : Token) (p : ℕ) (y : List Token) (x : Tree) (c : Token) (end : ℕ) → the m.Assign a ≡ Some p → IsExpression l y x → the m.Semicolon c ≡ Some end → IsValue l f (a ∷ (y ++ c ∷ [])) (f x)
 value_made f a p y x c end e i h = Seq (a ∷ []) (y ++ c ∷ []) p (f x) (One a p e) (Seq y (c ∷ []) x (f x) i (Seq (c ∷ []) [] end (f x) (One c end h) Ret))
 
--- what is read as a part of the grammar, with something taken after it that is nothing
+-- a part of the grammar that is read, after which nothing is taken
 pub nothing_after : {A B : Type 0} {P : List Token → A → Type 0} {f : A → B} {prefix : List Token} {b : B} → IsSeq P (λ a. IsRet (f a)) prefix b → (a : A) × (b ≡ f a) × P prefix a
 nothing_after {P = P} (Seq y z a _ i r) =
     let q = ret_is r in

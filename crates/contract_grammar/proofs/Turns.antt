@@ -41,7 +41,7 @@ block_suc n ts = refl
 pub block_more : (n : ℕ) (ts : List Token) → 0 < n → block n ts ≡ block_of (block (n - 1)) ts
 block_more n ts h = ap (λ k. block k ts) (less_one n h) ∙ block_suc (n - 1) ts
 
--- ---- steps that are taken again and again
+-- ---- repeated steps
 
 module _ {A : Type 0} (test : Token → Bool) (step : A → Rule A) (strict : IsStrict step) (a : A) (ts : List Token) where
   turns_by : (b : Bool) → head_is test ts ≡ b → turns test step a ts ≡ either_by b (seq (step a) (turns test step)) (ret a) ts

@@ -11,32 +11,32 @@ use Rattle.contract_grammar.specs.Grammar.{Limits, limits_of, no_limits, IsExpr,
 use Rattle.contract_grammar.specs.Marks.{is, has, is_end, name_of, opens}
 use Rattle.contract_grammar.specs.declared.limits.TheConstants.{MAX_HEIGHT}
 
--- Some bytes spell the word.
+-- The word can be written: some bytes spell it.
 abbrev pub IsWritable : Word → Type 0
 IsWritable word = (bytes : List ℕ) × IsSpelled bytes word
 
--- A source may have the tokens: each of them can be written.
+-- Each of the tokens can be written, so they may be those of a source.
 abbrev pub AreWritable : List Token → Type 0
 AreWritable tokens = All (λ t. IsWritable t.word) tokens
 
--- A contract begins with the tokens, and the tokens with which it goes on can be written.
+-- A contract begins with the tokens, and continues with tokens that can be written.
 abbrev pub Fits : Limits → List Token → Type 0
 Fits l before =
     (more : List Token) × (all : List FunctionTree) × AreWritable more × IsContract l (before ++ more) all
 
--- `Allows`, by whether the token is the end of the source.
+-- The definition of `Allows`, given whether the token is the end of the source.
 abbrev pub AllowsBy : Bool → Limits → List Token → Token → Type 0
 AllowsBy true l before t = (all : List FunctionTree) × IsContract l before all
 AllowsBy false l before t = Fits l (before ++ t ∷ [])
 
--- After these tokens the token fits: a contract begins with them and it, or it is the end of the
--- source, and they are a contract.
+-- The token fits after these: a contract begins with them and it, or it is the end of the source
+-- and they are a contract.
 abbrev pub Allows : Limits → List Token → Token → Type 0
 Allows l before t = AllowsBy (is_end t) l before t
 
--- The last of the tokens are an expression at this offset that is one higher than may be, in some
--- contract that begins with them: whatever else is that expression could stand there, and the
--- contract be the same.
+-- The last of these tokens are an expression at this offset whose height is one too great. In some
+-- contract that begins with the tokens, any other tokens of the same expression can take the place
+-- of the last ones.
 pub record IsTooHigh (before : List Token) (at : ℕ) : Type 0 where
   pub prefix : List Token
   pub tokens : List Token
@@ -54,7 +54,7 @@ pub record IsTooHigh (before : List Token) (at : ℕ) : Type 0 where
       (other : List Token) → IsExpr no_limits pending level other tree
       → IsContract no_limits (prefix ++ (other ++ more)) all
 
--- The limit of what is pending alone; the other three are left out.
+-- The limit of what is pending, without the other three.
 abbrev pub pending_only : Limits
 pending_only = limits_of true false false false
 
@@ -70,8 +70,8 @@ heights_only = limits_of false false true false
 abbrev pub parameters_only : Limits
 parameters_only = limits_of false false false true
 
--- What keeps a contract that begins with the tokens from going on with this one. Each limit is
--- looked at alone.
+-- What stops a contract that begins with the tokens from continuing with this one. Each limit is
+-- considered alone.
 abbrev pub IsObstacle : Obstacle → List Token → Token → Type 0
 IsObstacle Unfit before t = Fits no_limits before × (Allows no_limits before t → ⊥)
 IsObstacle Surplus before t =
@@ -82,14 +82,14 @@ IsObstacle Nesting before t =
     (is BraceOpen t ≡ true) × Allows no_limits before t × (Allows nesting_only before t → ⊥)
 IsObstacle (Height at) before t = IsTooHigh before at × (Allows heights_only before t → ⊥)
 
--- Of these tokens each that passes the test was allowed where it stands.
+-- Each of these tokens that passes the test was allowed at its place.
 abbrev pub KeepsLimit : Limits → (Token → Bool) → List Token → Type 0
 KeepsLimit l test tokens =
     (before after : List Token) (t : Token)
     → tokens ≡ before ++ t ∷ after → test t ≡ true → Allows l before t
 
 -- The tokens keep the limits of parameters, of what is pending and of nested blocks: no name,
--- parenthesis, prefix or brace of them was one too many.
+-- parenthesis, prefix or brace among them was one too many.
 pub record KeepsLimits (tokens : List Token) : Type 0 where
   pub pending : KeepsLimit pending_only opens tokens
   pub nesting : KeepsLimit nesting_only (is BraceOpen) tokens
@@ -100,12 +100,12 @@ abbrev pub is_height : Obstacle → Bool
 is_height (Height at) = true
 is_height _ = false
 
--- What is wrong at the first token that a contract does not go on with, or that a limit refuses:
--- the tokens before it keep the limits.
+-- What is wrong at the first token with which a contract does not continue, or which a limit
+-- refuses. The tokens before it keep the limits.
 abbrev pub IsFault : Obstacle → List Token → Token → Type 0
 IsFault why before t = IsObstacle why before t × KeepsLimits before
 
--- There is one fault at most, heights left out: at one token one thing is wrong.
+-- Tokens have at most one fault, if heights are ignored: it is at one token, and of one kind.
 abbrev pub HasOneFault : List Token → Type 0
 HasOneFault tokens =
     (why why' : Obstacle) (before after before' after' : List Token) (t t' : Token)

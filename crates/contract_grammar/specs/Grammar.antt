@@ -12,7 +12,7 @@ use Rattle.contract_grammar.specs.Marks.{the, int_of, text_of, name_of, callee_o
 use Rattle.contract_grammar.specs.declared.limits.TheConstants.{MAX_PENDING, MAX_NESTING, MAX_HEIGHT, MAX_PARAMETERS, COMPARISONS, WHOLE}
 
 -- How many parentheses and prefixes may be pending at once, how deep blocks may be nested, how high
--- an expression and how many parameters there may be; no limit where none is given.
+-- an expression may be, and how many parameters a function may have; `None` is no limit.
 pub record Limits : Type 0 where
   pub pending : Option ℕ
   pub nesting : Option ℕ
@@ -29,7 +29,7 @@ abbrev pub limit_if : Bool → ℕ → Option ℕ
 limit_if true most = Some most
 limit_if false most = None
 
--- Those of the limits of contracts that are chosen.
+-- The chosen ones of the limits of contracts.
 abbrev pub limits_of : (pending nesting height parameters : Bool) → Limits
 limits_of pending nesting height parameters =
     record {
@@ -39,11 +39,11 @@ limits_of pending nesting height parameters =
       parameters = limit_if parameters MAX_PARAMETERS;
     }
 
--- The limits that a contract keeps.
+-- All limits that a contract keeps.
 abbrev pub limits : Limits
 limits = limits_of true true true true
 
--- No limit.
+-- No limits.
 abbrev pub no_limits : Limits
 no_limits = limits_of false false false false
 
@@ -52,9 +52,9 @@ abbrev pub is_chained : ℕ → Bool
 is_chained level = not (level == COMPARISONS)
 
 mutual
-  -- The tokens are the expression, where `d` parentheses and prefixes are pending around it.
-  -- Levels: 0 for numbers, texts, names, calls, groups and prefixes, then `* / %`, `+ -`, `++`,
-  -- comparisons, `&&`, `||`.
+  -- The tokens are the expression, with `d` parentheses and prefixes pending around it. Levels: 0
+  -- for numbers, texts, names, calls, groups and prefixes, then `* / %`, `+ -`, `++`, comparisons,
+  -- `&&`, `||`.
   pub data IsExpr (l : Limits) : (d level : ℕ) → List Token → Tree → Type 0 where
     Number :
         (d : ℕ) (t : Token) (n : ℕ × ℤ) → int_of t ≡ Some n
@@ -105,8 +105,8 @@ mutual
         → the m.ParenOpen o ≡ Some at → IsExpr l d WHOLE y x → IsMore l m.ParenClose d z xs
         → IsArgs l d (o ∷ (y ++ z)) (x ∷ xs)
 
-  -- The tokens are what follows the first of the parts that commas divide, and the sign that closes
-  -- them.
+  -- The tokens follow the first of several parts: the other parts, each after a comma, and the
+  -- closing sign.
   pub data IsMore (l : Limits) : Mark → ℕ → List Token → List Tree → Type 0 where
     Last :
         (mark : Mark) (d : ℕ) (c : Token) (end : ℕ) → the mark c ≡ Some end
@@ -121,7 +121,7 @@ abbrev pub IsExpression : Limits → List Token → Tree → Type 0
 IsExpression l = IsExpr l 0 WHOLE
 
 mutual
-  -- The tokens are the statement, in a block that is nested `d` deep.
+  -- The tokens are the statement, in a block at depth `d`.
   pub data IsStatement (l : Limits) : ℕ → List Token → StatementTree → Type 0 where
     Lets :
         (d : ℕ) (t : Token) (at : ℕ) (n : Token) (name : ℕ × List ℕ) (a : Token) (p : ℕ)
@@ -161,7 +161,7 @@ mutual
         (d : ℕ) (t : Token) (at : ℕ) (c : Token) (end : ℕ) → the m.Return t ≡ Some at
         → the m.Semicolon c ≡ Some end → IsStatement l d (t ∷ c ∷ []) (tree.Return at)
 
-  -- The tokens are the end of a `put`, with the semicolon.
+  -- The tokens are the end of a `put`, including the semicolon.
   pub data IsFrom (l : Limits) : List Token → Option Trees → Type 0 where
     NoFrom : (c : Token) (end : ℕ) → the m.Semicolon c ≡ Some end → IsFrom l (c ∷ []) None
     FromThese :
@@ -169,14 +169,14 @@ mutual
         → the m.From f ≡ Some p → IsExpression l y x → IsMore l m.Semicolon 0 z xs
         → IsFrom l (f ∷ (y ++ z)) (Some (trees (x ∷ xs)))
 
-  -- The tokens are statements in braces, nested `d` deep; the body of a function is nested 1 deep.
+  -- The tokens are statements in braces, at depth `d`; the body of a function has depth 1.
   pub data IsBlock (l : Limits) : ℕ → List Token → StatementTrees → Type 0 where
     Block :
         (d : ℕ) (o : Token) (at : ℕ) (z : List Token) (ss : StatementTrees)
         → the m.BraceOpen o ≡ Some at → Within l.nesting d → IsStatements l d z ss
         → IsBlock l d (o ∷ z) ss
 
-  -- The tokens are statements and the brace that closes them.
+  -- The tokens are statements and their closing brace.
   pub data IsStatements (l : Limits) : ℕ → List Token → StatementTrees → Type 0 where
     Closes :
         (d : ℕ) (c : Token) (end : ℕ) → the m.BraceClose c ≡ Some end
@@ -185,7 +185,7 @@ mutual
         (d : ℕ) (y : List Token) (s : StatementTree) (z : List Token) (ss : StatementTrees)
         → IsStatement l d y s → IsStatements l d z ss → IsStatements l d (y ++ z) (statements s ss)
 
--- The tokens are the parameter, after so many others.
+-- The tokens are the parameter, after `n` others.
 pub data IsParam (l : Limits) : ℕ → List Token → Param → Type 0 where
   IsOneParam :
       (n : ℕ) (t : Token) (name : ℕ × List ℕ) (c : Token) (p : ℕ) (k : Token) (kind : ValueKind)
@@ -193,7 +193,8 @@ pub data IsParam (l : Limits) : ℕ → List Token → Param → Type 0 where
       → kind_of k ≡ Some kind
       → IsParam l n (t ∷ c ∷ k ∷ []) (record { at = name.0; name = name.1; kind = kind })
 
--- The tokens are the parameters after so many others, and the parenthesis that closes them.
+-- The tokens follow `n` parameters: the other parameters, each after a comma, and the closing
+-- parenthesis.
 pub data IsMoreParams (l : Limits) : ℕ → List Token → List Param → Type 0 where
   LastParam :
       (n : ℕ) (c : Token) (end : ℕ) → the m.ParenClose c ≡ Some end → IsMoreParams l n (c ∷ []) []
@@ -216,7 +217,7 @@ pub data IsParams (l : Limits) : List Token → List Param → Type 0 where
 pub data IsFunction (l : Limits) : List Token → FunctionTree → Type 0 where
   IsOneFunction : (t : Token) (at : ℕ) (n : Token) (name : ℕ × List ℕ) (y : List Token) (params : List Param) (z : List Token) (body : StatementTrees) → the m.Fn t ≡ Some at → declared_of n ≡ Some name → IsParams l y params → IsBlock l 1 z body → IsFunction l (t ∷ n ∷ (y ++ z)) (record { at = name.0; name = name.1; params = params; body = body })
 
--- The tokens are the contract: functions, at least one.
+-- The tokens are the contract: at least one function.
 pub data IsContract (l : Limits) : List Token → List FunctionTree → Type 0 where
   LastFunction : (y : List Token) (f : FunctionTree) → IsFunction l y f → IsContract l y (f ∷ [])
   MoreFunctions :

@@ -1,5 +1,5 @@
--- What the tokens of a source are to the grammar. A name that ends in `_in` speaks of a word, one
--- that ends in `_of` of a token with its offset.
+-- The meaning of the tokens of a source in the grammar. Names that end in `_in` are about words,
+-- those that end in `_of` about tokens with their offsets.
 use Rattle.std.specs.Prelude.{ℕ, suc, ℤ, Bool, true, false, ◌==◌, ◌||◌, not, nat_lt, List, Option, Some, None, is_some, if◌then◌else◌}
 use denote.Enum.Bare.{sameb}
 use Rattle.contract_tokens.specs.contracts.token.Mark.{the_type}
@@ -18,7 +18,7 @@ use Rattle.contract_grammar.specs.declared.limits.TheConstants.{COMPARISONS, WHO
 use Rattle.contract_grammar.specs.declared.word.NameKind.{NameKind}
 use Rattle.contract_grammar.specs.declared.word.NameKind.TheVariants as n
 
--- Whether two keywords or signs are the same, as `==` of the program says.
+-- Whether two keywords or signs are the same, as the program's `==` returns it.
 abbrev pub is_same : MarkType → MarkType → Bool
 is_same = sameb the_type
 
@@ -31,7 +31,7 @@ is_word mark _ = false
 abbrev pub is : MarkType → Token → Bool
 is mark t = is_word mark t.word
 
--- The offset of this keyword or sign.
+-- The offset of the token, if it is this keyword or sign.
 abbrev pub the : MarkType → Token → Option ℕ
 the mark t = if is mark t then Some t.at else None
 
@@ -40,7 +40,7 @@ abbrev pub int_in : Word → Option ℤ
 int_in (w.Int value) = Some value
 int_in _ = None
 
--- The bytes that a text literal means.
+-- The text of a text literal.
 abbrev pub text_in : Word → Option (List ℕ)
 text_in (w.Text text) = Some text
 text_in _ = None
@@ -55,11 +55,11 @@ abbrev pub end_in : Word → Bool
 end_in w.End = true
 end_in _ = false
 
--- Whether the token is the end of the source, which closes each list of tokens.
+-- Whether the token is the end of the source, the last item of each list of tokens.
 abbrev pub is_end : Token → Bool
 is_end t = end_in t.word
 
--- Something with the offset of its token.
+-- An optional value, with the offset of its token.
 abbrev pub with_offset : {A : Type 0} → ℕ → Option A → Option (ℕ × A)
 with_offset at None = None
 with_offset at (Some a) = Some (at, a)
@@ -76,7 +76,7 @@ text_of t = with_offset t.at (text_in t.word)
 abbrev pub name_of : Token → Option (ℕ × List ℕ)
 name_of t = with_offset t.at (name_in t.word)
 
--- The name of a function that is a keyword too.
+-- The name of a builtin that is also a keyword.
 abbrev pub builtin_in : Word → Option (List ℕ)
 builtin_in (w.Mark m.Text) = Some (builtin_name b.Text)
 builtin_in _ = None
@@ -85,7 +85,7 @@ builtin_in _ = None
 abbrev pub builtin_of : Token → Option (ℕ × List ℕ)
 builtin_of t = with_offset t.at (builtin_in t.word)
 
--- What may stand before the parentheses of a call: a name, or the keyword that names a function.
+-- What may precede the parentheses of a call: a name, or the keyword that names a builtin.
 abbrev pub callee_in : Word → Option (List ℕ)
 callee_in (w.Name name) = Some name
 callee_in (w.Mark m.Text) = Some (builtin_name b.Text)
@@ -100,12 +100,12 @@ abbrev pub unless_builtin : Bool → List ℕ → Option (List ℕ)
 unless_builtin true name = None
 unless_builtin false name = Some name
 
--- A name that may be declared, if there is one.
+-- A name, if it may be declared.
 abbrev pub declarable : Option (List ℕ) → Option (List ℕ)
 declarable None = None
 declarable (Some name) = unless_builtin (is_builtin name) name
 
--- A name that may be declared: that of no builtin.
+-- A name that may be declared: one that is no builtin's.
 abbrev pub declared_in : Word → Option (List ℕ)
 declared_in word = declarable (name_in word)
 
@@ -113,7 +113,7 @@ declared_in word = declarable (name_in word)
 abbrev pub declared_of : Token → Option (ℕ × List ℕ)
 declared_of t = with_offset t.at (declared_in t.word)
 
--- The name that a word is, where names of this kind are read.
+-- The name that a word is, if names of this kind are read.
 abbrev pub name_as : NameKind → Word → Option (List ℕ)
 name_as n.Plain word = name_in word
 name_as n.Declared word = declared_in word
@@ -123,19 +123,19 @@ name_as n.Builtin word = builtin_in word
 abbrev pub name_with_offset : NameKind → Token → Option (ℕ × List ℕ)
 name_with_offset kind t = with_offset t.at (name_as kind t.word)
 
--- What a parameter's values are.
+-- The kind of a parameter's values.
 abbrev pub kind_in : Word → Option ValueKind
 kind_in (w.Mark m.Int) = Some k.Int
 kind_in (w.Mark m.Text) = Some k.Text
 kind_in _ = None
 
--- What a parameter's values are, by the token that says it.
+-- The kind of a parameter's values, from its token.
 abbrev pub kind_of : Token → Option ValueKind
 kind_of t = kind_in t.word
 
--- How tight a token binds as an operator between two operands: the less, the tighter. What is no
--- operator has a level of its own after all others; a parenthesis after a name makes a call, so it
--- has 0.
+-- The level of a word as an operator between two operands; lower levels bind tighter. What is no
+-- operator has a level after all others; a parenthesis after a name makes a call, so it has level
+-- 0.
 abbrev pub level_in : Word → ℕ
 level_in (w.Mark m.ParenOpen) = 0
 level_in (w.Mark m.Star) = 1
@@ -186,29 +186,29 @@ prefix_in _ = None
 abbrev pub prefix_of : Token → Option (ℕ × Sign)
 prefix_of t = with_offset t.at (prefix_in t.word)
 
--- Whether the token is one of which the function makes something.
+-- Whether the function makes something of the token.
 abbrev pub has : {A : Type 0} → (Token → Option A) → Token → Bool
 has f t = is_some (f t)
 
--- Whether an expression of this level ends before the token: it is no operator that binds as tight,
--- and makes no call.
+-- Whether an expression of this level ends before the token: it is no operator of this level or a
+-- tighter one, and makes no call.
 abbrev pub stops : ℕ → Token → Bool
 stops level t = nat_lt level (level_in t.word)
 
--- Whether the token is one at all.
+-- Every token passes.
 abbrev pub any : Token → Bool
 any t = true
 
--- each token but this one
+-- every token but one
 
--- Whether the token is another than this keyword or sign.
+-- Whether the token is not this keyword or sign.
 abbrev pub is_not : MarkType → Token → Bool
 is_not mark t = not (is mark t)
 
--- Whether the token is another than the end of the source.
+-- Whether the token is not the end of the source.
 abbrev pub is_no_end : Token → Bool
 is_no_end t = not (is_end t)
 
--- Whether the token is a parenthesis that opens, or a prefix.
+-- Whether the token is an opening parenthesis or a prefix.
 abbrev pub opens : Token → Bool
 opens t = is m.ParenOpen t || has prefix_of t

@@ -1,5 +1,5 @@
--- How the grammar is read, token by token, with no way back. Each reader is that of a rule of the
--- grammar, or of the rest of one.
+-- How the grammar is read, token by token and without going back. Each reader is that of a rule of
+-- the grammar, or of the rest of one.
 use Rattle.std.specs.Prelude.{ℕ, zero, suc, Bool, true, false, nat_lt, nat_le, List, [], ◌∷◌, Option, Some, None}
 use Rattle.contract_tokens.specs.declared.token.Mark.{Mark}
 use Rattle.contract_tokens.specs.declared.token.Mark.TheVariants as m
@@ -14,7 +14,7 @@ use Rattle.contract_grammar.specs.Marks.{is_not, is_no_end, the, is, has, int_of
 use Rattle.contract_grammar.specs.Rules.{Rule, ret, guard, one, refuse, seq, either_by, either, turns, each}
 use Rattle.contract_grammar.specs.declared.limits.TheConstants.{MAX_PENDING, MAX_NESTING, MAX_HEIGHT, MAX_PARAMETERS, WHOLE}
 
--- A node that has just been put together, unless it is too high.
+-- A node that was just put together, unless it is too high.
 abbrev pub node : ℕ → Tree → Rule Tree
 node at x = guard (nat_le (height x) MAX_HEIGHT) (Height at) x
 
@@ -30,24 +30,24 @@ prefix_node s x = node s.0 (tree.Prefix s.0 s.1 x)
 abbrev pub binary_node : ℕ × Sign → Tree → Tree → Rule Tree
 binary_node s x w = node s.0 (tree.Binary s.0 s.1 x w)
 
--- A keyword or sign, and then what follows.
+-- A keyword or sign, then what follows.
 abbrev pub after_mark : {A : Type 0} → Mark → Rule A → Rule A
 after_mark mark p = seq (one (the mark)) (λ at. p)
 
--- What was read, and then a keyword or sign.
+-- What was read, then a keyword or sign.
 abbrev pub before_mark : {A : Type 0} → Mark → A → Rule A
 before_mark mark a = seq (one (the mark)) (λ at. ret a)
 
--- A comma, and then the next part, whatever the number of those before.
+-- A comma, then the next part, regardless of the number of parts before.
 abbrev pub comma_then : {A : Type 0} → Rule A → ℕ → Rule A
 comma_then p n = after_mark m.Comma p
 
--- The parts after the first that commas divide, and then the closing sign.
+-- The other parts after the first, each after a comma, then the closing sign.
 abbrev pub more_of : Rule Tree → Mark → Tree → Rule (List Tree)
 more_of expression mark x =
     seq (each (is m.Comma) (comma_then expression) (x ∷ [])) (before_mark mark)
 
--- Arguments after the parenthesis that opens.
+-- Arguments after the opening parenthesis.
 abbrev pub args : Rule Tree → Rule (List Tree)
 args expression =
     either (is m.ParenClose)
@@ -75,11 +75,11 @@ name_rest arguments n =
 abbrev pub name_or_call : Rule (List Tree) → Rule Tree
 name_or_call arguments = seq (one name_of) (name_rest arguments)
 
--- A call of the function that a keyword names.
+-- A call of the builtin that a keyword names.
 abbrev pub builtin_call : Rule (List Tree) → Rule Tree
 builtin_call arguments = seq (one builtin_of) (λ n. seq arguments (call_of n))
 
--- An operand, by the readers of its parts.
+-- An operand, given the readers of its parts.
 abbrev pub operand_of : Rule (List Tree) → Rule Tree → Rule Tree → Rule Tree
 operand_of arguments prefixed grouped =
     either (has name_of) (name_or_call arguments)
@@ -87,50 +87,50 @@ operand_of arguments prefixed grouped =
     (either (has prefix_of) prefixed
     (either (is m.ParenOpen) grouped literal)))
 
--- An operator of this level after its left operand, and then its right one.
+-- After a left operand, an operator of this level and its right operand.
 abbrev pub binary : ℕ → Rule Tree → Tree → Rule Tree
 binary level tighter x = seq (one (sign_of level)) (λ s. seq tighter (binary_node s x))
 
--- The operators of a level and their right operands, after the first operand: any number of them
--- where they are chained, else one at most.
+-- After the first operand, the operators of a level and their right operands: any number of them if
+-- the level is chained, else at most one.
 abbrev pub rest_of_level : Bool → ℕ → Rule Tree → Tree → Rule Tree
 rest_of_level true level tighter = turns (has (sign_of level)) (binary level tighter)
 rest_of_level false level tighter =
     λ x. either (has (sign_of level)) (binary level tighter x) (ret x)
 
--- Expressions of a level, by those of level 0.
+-- Expressions of a level, given those of level 0.
 unfoldable pub level_of : Rule Tree → ℕ → Rule Tree
 level_of operand zero = operand
 level_of operand (suc level) =
     seq (level_of operand level)
     (rest_of_level (is_chained (suc level)) (suc level) (level_of operand level))
 
--- Arguments, by the operands that may stand in them, if any may.
+-- Arguments, given the operands that they may have, if any may be there.
 abbrev pub arguments_in : Option (Rule Tree) → Rule (List Tree)
 arguments_in None = refuse Pending (is m.ParenOpen)
 arguments_in (Some operand) = after_mark m.ParenOpen (args (level_of operand WHOLE))
 
--- A prefix with its operand, if any may stand after it.
+-- A prefix and its operand, given the operands that may follow it, if any may.
 abbrev pub prefix_operand_in : Option (Rule Tree) → Rule Tree
 prefix_operand_in None = refuse Pending (has prefix_of)
 prefix_operand_in (Some operand) = seq (one prefix_of) (λ s. seq operand (prefix_node s))
 
--- An expression in parentheses, by the operands that may stand in them, if any may.
+-- An expression in parentheses, given the operands that it may have, if any may be there.
 abbrev pub group_in : Option (Rule Tree) → Rule Tree
 group_in None = refuse Pending (is m.ParenOpen)
 group_in (Some operand) =
     after_mark m.ParenOpen (seq (level_of operand WHOLE) (before_mark m.ParenClose))
 
--- An operand, by those that may stand after one more parenthesis or prefix, if any may.
+-- An operand, given those that may follow one more parenthesis or prefix, if any may.
 abbrev pub operand_in : Option (Rule Tree) → Rule Tree
 operand_in inner = operand_of (arguments_in inner) (prefix_operand_in inner) (group_in inner)
 
--- An operand, where so many more parentheses and prefixes may be pending.
+-- An operand, if this many more parentheses and prefixes may be pending.
 unfoldable pub operand : ℕ → Rule Tree
 operand zero = operand_in None
 operand (suc n) = operand_in (Some (operand n))
 
--- The operands after one more parenthesis or prefix, if so many more may be pending that it may.
+-- The operands after one more parenthesis or prefix, or `None` if no more may be pending.
 abbrev pub inner_operand : ℕ → Option (Rule Tree)
 inner_operand zero = None
 inner_operand (suc n) = Some (operand n)
@@ -139,7 +139,7 @@ inner_operand (suc n) = Some (operand n)
 unfoldable pub expression : Rule Tree
 expression = level_of (operand MAX_PENDING) WHOLE
 
--- The end of a statement that gives a value.
+-- The end of a statement that assigns a value.
 abbrev pub value_of : (Tree → StatementTree) → Rule StatementTree
 value_of f = after_mark m.Assign (seq expression (λ x. before_mark m.Semicolon (f x)))
 
@@ -152,7 +152,7 @@ let_statement =
 abbrev pub assign_statement : Rule StatementTree
 assign_statement = seq (one name_of) (λ n. value_of (tree.Assign n.0 n.1))
 
--- What follows the first block of an `if`: an `else` with its block, or nothing.
+-- What follows the first block of an `if`: an `else` and its block, or nothing.
 abbrev pub else_part : Rule StatementTrees → ℕ → Tree → StatementTrees → Rule StatementTree
 else_part block at x first =
     either (is m.Else)
@@ -170,13 +170,13 @@ while_statement block =
     seq (one (the m.While))
     (λ at. seq expression (λ x. seq block (λ body. ret (tree.While at x body))))
 
--- A `from` with its parts, and the semicolon.
+-- A `from` and its parts, then the semicolon.
 abbrev pub from_parts : Rule (Option Trees)
 from_parts =
     after_mark m.From
     (seq expression (λ x. seq (more_of expression m.Semicolon x) (λ xs. ret (Some (trees xs)))))
 
--- The end of a `put`: a `from` or none, and the semicolon.
+-- The end of a `put`: an optional `from`, then the semicolon.
 abbrev pub from_part : Rule (Option Trees)
 from_part = either (is m.Semicolon) (before_mark m.Semicolon None) from_parts
 
@@ -188,11 +188,11 @@ put_statement =
     (λ key. after_mark m.Assign
     (seq expression (λ value. seq from_part (λ parts. ret (tree.Put at key value parts))))))
 
--- A statement of one keyword.
+-- A statement that is one keyword.
 abbrev pub short_statement : Mark → (ℕ → StatementTree) → Rule StatementTree
 short_statement mark f = seq (one (the mark)) (λ at. before_mark m.Semicolon (f at))
 
--- A statement, by the blocks that may stand in it.
+-- A statement, given the reader of the blocks in it.
 abbrev pub statement : Rule StatementTrees → Rule StatementTree
 statement block =
     either (is m.Let) let_statement
@@ -202,34 +202,34 @@ statement block =
     (either (is m.Fail) (short_statement m.Fail tree.Fail)
     (either (is m.Return) (short_statement m.Return tree.Return) assign_statement)))))
 
--- A block, by the blocks that may stand in it.
+-- A block, given the reader of the blocks in it.
 abbrev pub block_of : Rule StatementTrees → Rule StatementTrees
 block_of inner =
     after_mark m.BraceOpen
     (seq (each (is_not m.BraceClose) (λ n. statement inner) [])
     (λ ss. before_mark m.BraceClose (statement_list ss)))
 
--- A block, where so many more may be nested, itself counted.
+-- A block, if this many more may be nested, itself included.
 unfoldable pub block : ℕ → Rule StatementTrees
 block zero = refuse Nesting (is m.BraceOpen)
 block (suc n) = block_of (block n)
 
--- The name of a parameter after so many others.
+-- The name of a parameter after `n` others.
 abbrev pub param_name : ℕ → Rule (ℕ × List ℕ)
 param_name n =
     either_by (nat_lt n MAX_PARAMETERS) (one declared_of) (refuse Surplus (has declared_of))
 
--- A parameter of this name, with its offset, and this kind.
+-- A parameter with this name, its offset, and this kind.
 abbrev pub a_param : ℕ × List ℕ → ValueKind → Param
 a_param name kind = record { at = name.0; name = name.1; kind = kind }
 
--- A parameter after so many others.
+-- A parameter after `n` others.
 abbrev pub param : ℕ → Rule Param
 param n =
     seq (param_name n)
     (λ name. after_mark m.Colon (seq (one kind_of) (λ kind. ret (a_param name kind))))
 
--- The parameters after the first, and the parenthesis that closes them.
+-- The parameters after the first, then the closing parenthesis.
 abbrev pub more_params : Param → Rule (List Param)
 more_params p =
     seq (each (is m.Comma) (λ n. after_mark m.Comma (param n)) (p ∷ [])) (before_mark m.ParenClose)
@@ -240,7 +240,7 @@ params =
     after_mark m.ParenOpen
     (either (is m.ParenClose) (before_mark m.ParenClose []) (seq (param 0) more_params))
 
--- A function of this name, with its offset, these parameters and these statements.
+-- A function with this name, its offset, these parameters and these statements.
 abbrev pub a_function : ℕ × List ℕ → List Param → StatementTrees → FunctionTree
 a_function name params body =
     record { at = name.0; name = name.1; params = params; body = body }

@@ -1,4 +1,5 @@
-//! The tokens of a source, read one by one.
+//! A cursor over the tokens of a source: the next token is seen, and the others are read one by
+//! one.
 
 ghost use Rattle.std.specs.{
   Prelude.{◌≡◌, slice_get, drop, IfOk, OnErr, IsErrOf},
@@ -20,7 +21,7 @@ use lc_base::{Duplicate, Memory, Name, Text};
 use std::alloc::Global;
 use std::marker::Model;
 
-/// The tokens that are left to read, of which the next one is seen.
+/// The tokens that are still to be read, of which the next one is seen.
 #[derive(Drop)]
 pub struct Cursor<'a> {
     next: Option<Token>,
@@ -38,11 +39,11 @@ impl<'a> Model for Cursor<'a> {
 }
 
 impl<'a> Cursor<'a> {
-    /// Stands before all of these tokens.
+    /// A cursor before all of these tokens.
     ///
     /// # Errors
     ///
-    /// `Memory`, for the bytes of a text literal that is the first.
+    /// `Memory`, if there is none for a text literal that comes first.
     pub fn new(tokens: Tokens<'a>) -> Result<Self, Memory>
         ensures { IfOk result (λ cursor. cursor ≡ tokens.entry) }
     {
@@ -56,14 +57,14 @@ impl<'a> Cursor<'a> {
         self.after.alloc()
     }
 
-    /// The next token, unless there is none.
+    /// The next token, or `None` after the end.
     pub fn next(&self) -> Option<&Token>
         ensures { option_copied result ≡ slice_get self.now 0 }
     {
         self.next.as_ref()
     }
 
-    // Goes after the next token.
+    // Moves past the next token.
     fn advance(&mut self) -> Result<(), Memory>
         ensures after { IfOk result (λ _. self.new ≡ drop 1 self.old) }
         ensures kept { OnErr result (self.new ≡ self.old) }
@@ -74,7 +75,7 @@ impl<'a> Cursor<'a> {
         Ok(())
     }
 
-    // Takes the next token, of which this was found.
+    // Takes the next token, of which `found` was made.
     fn take_found<A: Drop>(&mut self, found: Option<A>) -> Result<(u32, A), ParseStop>
         ensures read { Reads result (one (λ token. with_offset token.at found) self.old) self.new }
         ensures kept { IsErrOf result stops.Memory → self.new ≡ self.old }
@@ -96,7 +97,7 @@ impl<'a> Cursor<'a> {
             .is_some_and(|token| is_mark(&token.word, mark))
     }
 
-    /// Whether there is a next token, and it is another than this keyword or sign.
+    /// Whether there is a next token, and it is not this keyword or sign.
     pub fn next_is_other(&self, mark: Mark) -> bool
         ensures { result ≡ head_is (is_not mark) self.now }
     {
@@ -105,7 +106,7 @@ impl<'a> Cursor<'a> {
             .is_some_and(|token| !is_mark(&token.word, mark))
     }
 
-    /// Whether there is a next token before the end of the source.
+    /// Whether there is a next token that is not the end of the source.
     pub fn goes_on(&self) -> bool
         ensures { result ≡ head_is is_no_end self.now }
     {
@@ -148,7 +149,8 @@ impl<'a> Cursor<'a> {
             .is_some_and(|token| sign_at(&token.word, level).is_some())
     }
 
-    /// Why a token is refused that would be one too many, or another one in its place.
+    /// Why the next token is refused: `why` if it is the one that exceeds a limit, `Unfit`
+    /// otherwise.
     pub fn refusal(&self, is_it: bool, why: Obstacle) -> ParseStop
         ensures { result ≡ stops.At (refusal why is_it) }
     {
@@ -159,12 +161,12 @@ impl<'a> Cursor<'a> {
         }
     }
 
-    /// Takes this keyword or sign, and gives its offset.
+    /// Takes this keyword or sign, and returns its offset.
     ///
     /// # Errors
     ///
-    /// Here and below, `Unfit` where the next token is another one: it is not taken then. `Memory`,
-    /// for the token after it.
+    /// Here and below: `Unfit` if the next token is another one, which is then not taken; `Memory`
+    /// if there is none for the token after it.
     pub fn take(&mut self, mark: Mark) -> Result<u32, ParseStop>
         ensures read { Reads result (one (the mark) self.old) self.new }
         ensures kept { IsErrOf result stops.Memory → self.new ≡ self.old }
@@ -174,7 +176,7 @@ impl<'a> Cursor<'a> {
         Ok(at)
     }
 
-    /// Takes a number, and gives it with its offset.
+    /// Takes a number, and returns it with its offset.
     pub fn int(&mut self) -> Result<(u32, i64), ParseStop>
         ensures read { Reads result (one int_of self.old) self.new }
         ensures kept { IsErrOf result stops.Memory → self.new ≡ self.old }
@@ -183,7 +185,7 @@ impl<'a> Cursor<'a> {
         self.take_found(found)
     }
 
-    /// Takes a text literal, and gives what it means with its offset.
+    /// Takes a text literal, and returns the text with its offset.
     pub fn text(&mut self) -> Result<(u32, Text), ParseStop>
         ensures read { Reads result (one text_of self.old) self.new }
         ensures kept { IsErrOf result stops.Memory → self.new ≡ self.old }
@@ -195,7 +197,7 @@ impl<'a> Cursor<'a> {
         self.take_found(found)
     }
 
-    /// Takes a name of this kind, and gives it with its offset.
+    /// Takes a name of this kind, and returns it with its offset.
     pub fn name(&mut self, kind: NameKind) -> Result<(u32, Name), ParseStop>
         ensures read { Reads result (one (name_with_offset kind) self.old) self.new }
         ensures kept { IsErrOf result stops.Memory → self.new ≡ self.old }
@@ -204,7 +206,7 @@ impl<'a> Cursor<'a> {
         self.take_found(found)
     }
 
-    /// Takes an operator of this level, and gives it with its offset.
+    /// Takes an operator of this level, and returns it with its offset.
     pub fn sign(&mut self, level: u8) -> Result<(u32, Sign), ParseStop>
         ensures read { Reads result (one (sign_of level) self.old) self.new }
         ensures kept { IsErrOf result stops.Memory → self.new ≡ self.old }
@@ -216,7 +218,7 @@ impl<'a> Cursor<'a> {
         self.take_found(found)
     }
 
-    /// Takes a prefix, and gives it with its offset.
+    /// Takes a prefix, and returns it with its offset.
     pub fn prefix(&mut self) -> Result<(u32, Sign), ParseStop>
         ensures read { Reads result (one prefix_of self.old) self.new }
         ensures kept { IsErrOf result stops.Memory → self.new ≡ self.old }
@@ -225,7 +227,7 @@ impl<'a> Cursor<'a> {
         self.take_found(found)
     }
 
-    /// Takes the keyword for a kind of values, and gives that kind.
+    /// Takes the keyword for a kind of values, and returns that kind.
     pub fn kind(&mut self) -> Result<ValueKind, ParseStop>
         ensures read { Reads result (one kind_of self.old) self.new }
         ensures kept { IsErrOf result stops.Memory → self.new ≡ self.old }

@@ -1,4 +1,5 @@
-//! The grammar of the contract language over its tokens, and its tokens read one by one.
+//! The grammar of the contract language over its tokens, and a cursor that reads the tokens one by
+//! one.
 #![tactic(auto)]
 
 mod cursor;
@@ -11,14 +12,14 @@ pub use limits::{COMPARISONS, MAX_HEIGHT, MAX_NESTING, MAX_PARAMETERS, MAX_PENDI
 pub use stop::ParseStop;
 pub use word::{NameKind, is_end};
 
-/// What keeps a reader from going on.
+/// What stops a reader.
 #[derive(Clone, Copy, Debug)]
 pub enum Obstacle {
-    /// No contract goes on with the next token, limits left out.
+    /// No contract continues with the next token, even without limits.
     Unfit,
-    /// The next token is the name of a parameter too many.
+    /// The next token is the name of a parameter, which would be one too many.
     Surplus,
-    /// The next token is a parenthesis or a prefix, and would be one too many that is pending.
+    /// The next token is a parenthesis or a prefix, and too many are pending.
     Pending,
     /// The next token is a brace, and its block would be nested too deep.
     Nesting,

@@ -4,10 +4,10 @@ use crate::Obstacle;
 use lc_base::Memory;
 use std::alloc::{AllocError, AllocFailed};
 
-/// Why a reader of tokens did not go on.
+/// Why a reader of tokens stopped.
 #[derive(Clone, Copy, Debug)]
 pub enum ParseStop {
-    /// An obstacle at the token before which the reader stands.
+    /// An obstacle at the next token.
     At(Obstacle),
     /// Out of memory.
     Memory,

@@ -1,4 +1,4 @@
-//! What a word is to the grammar.
+//! The meaning of single words in the grammar.
 
 ghost use Rattle.std.specs.{Prelude.{◌≡◌, ◌==◌, Some, None, if◌then◌else◌}, Option.{option_copied}};
 ghost use Rattle.contract_tokens.specs.declared.token.Word.TheVariants as words;
@@ -11,7 +11,7 @@ use contract_tokens::{Mark, Word};
 use contract_tree::{Builtin, Sign, ValueKind};
 use lc_base::{Name, Text};
 
-/// Whether this is that keyword or sign.
+/// Whether the word is this keyword or sign.
 pub fn is_mark(word: &Word, mark: Mark) -> bool
     ensures { result ≡ is_word mark word.now }
 {
@@ -21,7 +21,7 @@ pub fn is_mark(word: &Word, mark: Mark) -> bool
     }
 }
 
-/// The value of a number; `None` for other words.
+/// The value of a number, or `None` for other words.
 pub fn int_in(word: &Word) -> Option<i64>
     ensures { result ≡ int_in word.now }
 {
@@ -31,7 +31,7 @@ pub fn int_in(word: &Word) -> Option<i64>
     }
 }
 
-/// What the literal of a text means; `None` for other words.
+/// The text of a text literal, or `None` for other words.
 pub fn text_in(word: &Word) -> Option<&Text>
     ensures { option_copied result ≡ text_in word.now }
 {
@@ -41,14 +41,14 @@ pub fn text_in(word: &Word) -> Option<&Text>
     }
 }
 
-/// Whether this is the end of the source.
+/// Whether the word is the end of the source.
 pub fn is_end(word: &Word) -> bool
     ensures { result ≡ end_in word.now }
 {
     matches!(word, Word::End)
 }
 
-/// The kind of values that a keyword names; `None` for other words.
+/// The kind of values that a keyword names, or `None` for other words.
 pub fn kind_in(word: &Word) -> Option<ValueKind>
     ensures { result ≡ kind_in word.now }
 {
@@ -79,8 +79,9 @@ fn mark_level(mark: Mark) -> u8
     }
 }
 
-/// How tight a word binds as an operator between two operands: the less, the tighter. What is no
-/// operator has a level after all others; a parenthesis that opens has 0, since it makes a call.
+/// The level of a word as an operator between two operands; lower levels bind tighter. A word that
+/// is no operator has a level after all others. An opening parenthesis has level 0, because it
+/// makes a call.
 pub fn level_in(word: &Word) -> u8
     ensures { result ≡ level_in word.now }
 {
@@ -121,7 +122,7 @@ fn sign_in(word: &Word) -> Option<Sign>
     }
 }
 
-/// The operator that a word is before an operand; `None` for other words.
+/// The operator that a word is before an operand, or `None` for other words.
 pub fn prefix_in(word: &Word) -> Option<Sign>
     ensures { result ≡ prefix_in word.now }
 {
@@ -132,7 +133,7 @@ pub fn prefix_in(word: &Word) -> Option<Sign>
     }
 }
 
-/// An operator of this level.
+/// The operator that a word is, if it has this level.
 pub fn sign_at(word: &Word, level: u8) -> Option<Sign>
     ensures { result ≡ (if level_in word.now == level then sign_in word.now else None) }
 {
@@ -148,14 +149,14 @@ pub fn sign_at(word: &Word, level: u8) -> Option<Sign>
 pub enum NameKind {
     /// A name that is no keyword.
     Plain,
-    /// A name that may be declared: that of no function that each contract may call.
+    /// A name that may be declared: one that is no builtin's.
     Declared,
-    /// The name that a keyword has as that of a function.
+    /// The name of a builtin that is also a keyword.
     Builtin,
 }
 
 impl NameKind {
-    /// The name of this kind that a word is.
+    /// The name of this kind that a word is, or `None`.
     pub fn name(self, word: &Word) -> Option<Name>
         ensures { result ≡ name_as self word.now }
     {

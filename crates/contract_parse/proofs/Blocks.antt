@@ -1,4 +1,4 @@
--- An `if`, part by part, and its tree by the blocks that were read.
+-- An `if`, part by part, and its tree, given the blocks that were read.
 use Rattle.std.proofs.Common.{◌≡◌, ℕ, List, map, Option, Some, None, Ok, Err, sym, ap, ◌∙◌}
 use Rattle.std.specs.Global.{Vec}
 use Rattle.contract_tree.specs.declared.tree.Expr.{Expr}
@@ -18,11 +18,11 @@ use Rattle.contract_grammar.specs.Reads.{Gives}
 use Rattle.contract_grammar.specs.Rules.{Read, Rule, one, next, seq}
 use Rattle.contract_parse.specs.Blocks.{if_of}
 
--- what is left of an `if` once its first block is read
+-- what is left of an `if` after its first block was read
 pub if_read : (block : Rule StatementTrees) (ts after_if after_test after_first : List Token) (at : ℕ) (test : Tree) (first : StatementTrees) → one (the m.If) ts ≡ (Ok at, after_if) → expression after_if ≡ (Ok test, after_test) → block after_test ≡ (Ok first, after_first) → if_statement block ts ≡ else_part block at test first after_first
 if_read block ts after_if after_test after_first at test first e f g = ap (next (λ at. seq expression (λ x. seq block (else_part block at x)))) e ∙ ap (next (λ x. seq block (else_part block at x))) f ∙ ap (next (else_part block at test)) g
 
--- the same stop of an equal reader, whatever it would have given
+-- the same stop of an equal reader, whatever it would have returned
 pub stops_by : {A B C : Type 0} (view : A → C) (other : B → C) (stop : ParseStop) (x y : Read C) (left : List Token) → x ≡ y → Gives other (Err stop) y left → Gives view (Err stop) x left
 stops_by view other (At why) x y left e h = e ∙ h
 stops_by view other Memory x y left e h = tt

@@ -1,4 +1,4 @@
--- Each source has one outcome.
+-- Each source has an outcome.
 use Rattle.std.proofs.Common.{ℕ, List}
 use Rattle.contract_tokens.proofs.Outcomes.{tokenized, tokenized_once}
 use Rattle.contract_parse.specs.Syntax.{Outcome, IsOutcome, HasOneOutcome}

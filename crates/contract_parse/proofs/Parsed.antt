@@ -1,4 +1,4 @@
--- What the tokens of a source say of its outcome.
+-- What the tokens of a source say about its outcome.
 use Rattle.std.proofs.Common.{◌≡◌, ℕ, List, [], ◌∷◌, ◌++◌, Ok, Err, IfSome, refl, sym, ap, ◌∙◌, subst}
 use Rattle.contract_tokens.specs.declared.token.Token.{Token}
 use Rattle.contract_tokens.specs.declared.token.TokenKind.{TokenKind}
@@ -15,7 +15,7 @@ use Rattle.contract_parse.specs.declared.source.SyntaxKind.{SyntaxKind}
 use Rattle.contract_parse.specs.Syntax.{ReadsAs, IsStoppedAt, SyntaxFault, OfTokens, OfGrammar, Outcome, IsOutcome, HasOneOutcome, fault_of, stop_fault, obstacle_fault, refusal, token_kind, reading_outcome}
 use Rattle.contract_parse.proofs.Sources.{tokens_ended}
 
--- the outcome of a source by that of its tokens
+-- the outcome of a source, given that of its tokens
 outcome_of : tokens.Outcome → Outcome
 outcome_of (Ok list) = reading_outcome (contract list)
 outcome_of (Err fault) = Err (fault.0, token_kind fault.1)
@@ -25,7 +25,7 @@ abbrev AreOnce : List ℕ → Type 0
 AreOnce source = (one other : tokens.Outcome) → IsTokenized 0 source one → IsTokenized 0 source other → one ≡ other
 
 module _ (source : List ℕ) where
-  -- ---- what the tokens give is an outcome of the source
+  -- ---- what the tokens yield is an outcome of the source
 
   read_outcome : (list : List Token) → IsTokens 0 source list → (read : Read (List FunctionTree)) → contract list ≡ read → IsOutcome source (reading_outcome read)
   read_outcome list is (Ok all, left) e =
@@ -44,7 +44,7 @@ module _ (source : List ℕ) where
   some_outcome (Ok list) is = read_outcome list is (contract list) refl
   some_outcome (Err fault) is = OfTokens fault.0 fault.1 is
 
-  -- ---- no other outcome is
+  -- ---- there is no other outcome
 
   module _ (once : AreOnce source) where
     same_tokens : (a b : List Token) → IsTokens 0 source a → IsTokens 0 source b → a ≡ b
@@ -82,7 +82,7 @@ module _ (source : List ℕ) where
   pub has_some_outcome : (found : tokens.Outcome) → IsTokenized 0 source found → (outcome : Outcome) × IsOutcome source outcome
   has_some_outcome found is = (outcome_of found, some_outcome found is)
 
-  -- ---- what is answered
+  -- ---- what is returned
 
   pub reads_outcome : (found : tokens.Outcome) (list : List Token) → IsTokenized 0 source found → found ≡ Ok list → IsOutcome source (reading_outcome (contract list))
   unfolding outcome_of

@@ -1,4 +1,4 @@
--- The tokens of a source can be written, and end in its end.
+-- The tokens of a source can be written, and the last of them is its end.
 use Rattle.std.proofs.Common.{ℕ, ◌+◌, List, [], ◌∷◌, length, Ok, Err, refl, ap}
 use Rattle.contract_tokens.specs.declared.token.Token.{Token}
 use Rattle.contract_tokens.specs.declared.token.Word.TheVariants as words

@@ -1,4 +1,4 @@
--- What a source means, and its first fault.
+-- What a source means, or its first fault.
 use Rattle.std.specs.Prelude.{◌≡◌, ℕ, Bool, true, false, List, [], ◌∷◌, ◌++◌, Option, Some, None, Result, Ok, Err}
 use Rattle.contract_tokens.specs.declared.token.Token.{Token}
 use Rattle.contract_tokens.specs.declared.token.TokenKind.{TokenKind}
@@ -19,7 +19,7 @@ use Rattle.contract_parse.specs.declared.source.SyntaxKind.TheVariants.{Byte, Li
 use Rattle.contract_parse.specs.declared.source.SyntaxError.{SyntaxError}
 use Rattle.contract_parse.specs.declared.source.SyntaxError.TheVariants.{Refused, Memory}
 
--- The source reads as these functions: its tokens, but for the end, are a contract within the
+-- The source reads as these functions: its tokens, without the end, are a contract within the
 -- limits.
 pub record ReadsAs (source : List ℕ) (all : List FunctionTree) : Type 0 where
   pub before : List Token
@@ -28,17 +28,17 @@ pub record ReadsAs (source : List ℕ) (all : List FunctionTree) : Type 0 where
   pub ends : is_end end ≡ true
   pub is_contract : IsContract limits before all
 
--- The kind of a fault of the tokens.
+-- The kind of a fault of the tokens, as one of the source.
 abbrev pub token_kind : TokenKind → SyntaxKind
 token_kind tokens.Byte = Byte
 token_kind tokens.Literal = Literal
 
--- The kind of a fault at a token that doesn't fit, by whether it is the end.
+-- The kind of a fault at a token that does not fit, given whether it is the end.
 abbrev pub unfit_kind : Bool → SyntaxKind
 unfit_kind true = End
 unfit_kind false = Expected
 
--- The offset and the kind of the fault that an obstacle at a token makes.
+-- The offset and the kind of the fault that an obstacle at a token is.
 abbrev pub obstacle_fault : Obstacle → Token → ℕ × SyntaxKind
 obstacle_fault Unfit t = (t.at, unfit_kind (is_end t))
 obstacle_fault Surplus t = (t.at, Expected)
@@ -46,7 +46,7 @@ obstacle_fault Pending t = (t.at, Deep)
 obstacle_fault Nesting t = (t.at, Deep)
 obstacle_fault (Height at) t = (at, Deep)
 
--- The reader is stopped at this token, the first at which it can be, and for what is wrong there.
+-- The reader is stopped at this token, the first at which it can be, for what is wrong there.
 pub record IsStoppedAt (source : List ℕ) (why : Obstacle) (t : Token) : Type 0 where
   pub before : List Token
   pub after : List Token
@@ -54,7 +54,7 @@ pub record IsStoppedAt (source : List ℕ) (why : Obstacle) (t : Token) : Type 0
   pub first : contract (before ++ t ∷ after) ≡ (Err why, t ∷ after)
   pub fault : IsFault why before t
 
--- The source's first fault: of its tokens, or else of its grammar and limits.
+-- The first fault of the source: of its tokens or, if these have none, of its grammar and limits.
 pub data SyntaxFault (source : List ℕ) : ℕ → SyntaxKind → Type 0 where
   OfTokens :
       (at : ℕ) (kind : TokenKind) → IsTokenFault 0 source at kind
@@ -72,35 +72,35 @@ abbrev pub IsOutcome : List ℕ → Outcome → Type 0
 IsOutcome source (Ok functions) = ReadsAs source functions
 IsOutcome source (Err fault) = SyntaxFault source fault.0 fault.1
 
--- The source has one outcome at most: it doesn't read as two contracts, it doesn't have two first
+-- The source has at most one outcome: it doesn't read as two contracts, it doesn't have two first
 -- faults, and it doesn't both read as a contract and have a fault.
 abbrev pub HasOneOutcome : List ℕ → Type 0
 HasOneOutcome source =
     (one other : Outcome) → IsOutcome source one → IsOutcome source other → one ≡ other
 
--- In the tokens of the source one thing is wrong at most, heights left out: so the grammar alone
--- fixes the offset of such a fault.
+-- At most one thing is wrong in the tokens of the source, if heights are ignored, so the grammar
+-- alone determines the offset of such a fault.
 abbrev pub HasOneObstacle : List ℕ → Type 0
 HasOneObstacle source = (list : List Token) → IsTokens 0 source list → HasOneFault list
 
--- The fault that an error tells: none where it is out of memory.
+-- The fault that an error reports, or `None` if it is out of memory.
 abbrev pub fault_of : SyntaxError → Option (ℕ × SyntaxKind)
 fault_of (Refused at kind) = Some (at, kind)
 fault_of Memory = None
 
--- ---- what the reader of the program answers
+-- ---- what the reader of the program returns
 
 -- An error of the tokens, as one of the source.
 abbrev pub refusal : TokenError → SyntaxError
 refusal (token_errors.Refused at kind) = Refused at (token_kind kind)
 refusal token_errors.Memory = Memory
 
--- The fault that an obstacle makes where the reader was left before these tokens.
+-- The fault that an obstacle is, if these tokens are left.
 abbrev pub stop_fault : Obstacle → List Token → ℕ × SyntaxKind
 stop_fault why [] = (0, End)
 stop_fault why (t ∷ rest) = obstacle_fault why t
 
--- The outcome that the reading of a source's tokens gives.
+-- The outcome of reading a source's tokens.
 abbrev pub reading_outcome : Read (List FunctionTree) → Outcome
 reading_outcome (Ok functions, rest) = Ok functions
 reading_outcome (Err why, rest) = Err (stop_fault why rest)

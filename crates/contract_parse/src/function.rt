@@ -1,4 +1,4 @@
-//! Functions and contracts.
+//! Reading functions and contracts, up to the end of the source.
 
 ghost use Rattle.std.specs.Prelude.{◌≡◌, ◌<◌, ◌-◌, List, [], ◌∷◌, map};
 ghost use Rattle.contract_tree.specs.Tree.{statement_of, statement_list, function_of, contract_of};

@@ -1,4 +1,4 @@
-//! Sources of the contract language as trees, and trees as their canonical text.
+//! Reading sources of the contract language as trees.
 #![tactic(auto)]
 
 mod function;

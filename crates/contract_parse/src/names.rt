@@ -1,4 +1,4 @@
-//! Names that are declared.
+//! Names that may be declared: those of no builtin.
 
 ghost use Rattle.std.specs.Prelude.{◌≡◌};
 ghost use Rattle.contract_grammar.specs.{Marks.{declared_of}, Rules.{one}, Reads.{Reads}};
@@ -6,7 +6,7 @@ ghost use Rattle.contract_grammar.specs.{Marks.{declared_of}, Rules.{one}, Reads
 use contract_grammar::{Cursor, NameKind, ParseStop};
 use lc_base::Name;
 
-/// A name that may be declared, that of no builtin, with its offset.
+/// A name that may be declared, which is no builtin's, and its offset.
 pub fn declared_name(cursor: &mut Cursor<'_>) -> Result<(u32, Name), ParseStop>
     ensures { Reads result (one declared_of cursor.old) cursor.new }
 {

@@ -1,4 +1,4 @@
-//! A whole source.
+//! Reading a whole source: its tokens first, then the contract that they are.
 
 ghost use Rattle.std.specs.Prelude.{◌≡◌, ◌<◌, ◌^◌, length};
 ghost use Rattle.lc_base.specs.Answers.{Answers};
@@ -19,12 +19,12 @@ pub enum SyntaxKind {
     Byte,
     /// A number, text literal or name that breaks its rule.
     Literal,
-    /// A token that doesn't fit, a builtin's name in a declaration, or the name of a parameter too
+    /// A token that does not fit, a builtin's name in a declaration, or the name of a parameter too
     /// many.
     Expected,
     /// The source ends too early.
     End,
-    /// A limit of depth is exceeded.
+    /// A limit of depth or height is exceeded.
     Deep,
 }
 
@@ -33,7 +33,7 @@ pub enum SyntaxKind {
 pub enum SyntaxError {
     /// The first fault of the source.
     Refused {
-        /// Its offset.
+        /// The offset of the fault.
         at: u32,
         /// What is wrong there.
         kind: SyntaxKind,

@@ -1,4 +1,4 @@
-//! Statements and blocks.
+//! Reading statements and blocks, down to the greatest depth.
 
 ghost use Rattle.std.specs.Prelude.{◌≡◌, ◌<◌, ◌-◌, ℕ, List, [], map};
 ghost use Rattle.contract_tree.specs.Tree.{Tree, StatementTrees, trees, tree_of, parts_of, statement_of, statement_list};
@@ -76,7 +76,7 @@ fn put_statement(cursor: &mut Cursor<'_>) -> Result<Statement, ParseStop>
     Ok(Statement { at, form })
 }
 
-/// A statement of nothing but a keyword.
+/// A statement that is a keyword alone.
 fn short_statement(cursor: &mut Cursor<'_>, mark: Mark, form: Form) -> Result<Statement, ParseStop>
     ensures { Gives statement_of result
         (short_statement mark (λ at. statement_of (record { at = at; form = form })) cursor.old)
@@ -93,7 +93,7 @@ fn refuse_block(cursor: &mut Cursor<'_>) -> Result<StatementList, ParseStop>
     Err(cursor.refusal(cursor.next_is(Mark::BraceOpen), Obstacle::Nesting))
 }
 
-/// The second block of an `if`, where it has one.
+/// The second block of an `if`, if it has one.
 #[cycle(block)]
 fn else_part(cursor: &mut Cursor<'_>, nesting: u32) -> Result<Option<StatementList>, ParseStop>
     ensures { (at : ℕ) (test : Tree) (first : StatementTrees) → Gives (if_of at test first) result
@@ -208,7 +208,7 @@ fn open_block(cursor: &mut Cursor<'_>, nesting: u32) -> Result<StatementList, Pa
     block_rest(cursor, nesting)
 }
 
-/// A block, where so many more may be nested, itself counted.
+/// A block, if this many more may be nested, itself included.
 #[cycle(block)]
 pub fn block(cursor: &mut Cursor<'_>, nesting: u32) -> Result<StatementList, ParseStop>
     ensures { Gives (λ v. statement_list (map statement_of v.items)) result

@@ -20,7 +20,7 @@ pub functions_are : (fs : List Function) → flat_map (λ f. codes "\n" ++ funct
 functions_are [] = refl
 functions_are (f ∷ fs) = ap (λ l. (codes "\n" ++ function_text (function_of f)) ++ l) (functions_are fs)
 
--- the items after the first, all written
+-- an item after the first
 abbrev pub After : Expr → List ℕ
 After x = codes ", " ++ expression_text (tree_of x)
 

@@ -1,4 +1,4 @@
--- Text that is tokenized, put together from parts.
+-- Text that is split into tokens, put together from parts.
 use Rattle.std.proofs.Common.{◌≡◌, ℕ, ◌+◌, Bool, true, false, ◌||◌, List, [], ◌∷◌, ◌++◌, length, refl, sym, subst, append_assoc, arith, length-append}
 use Rattle.std.specs.List.{list_all}
 use Rattle.lc_names.specs.NameBytes.{is_letter, is_name_byte}
@@ -12,13 +12,13 @@ use Rattle.contract_tokens.proofs.Runs.{Stops}
 use Rattle.contract_tokens.proofs.Marks.{first_is}
 use Rattle.contract_print.proofs.Respelled.{word_text, goes_on, sign_goes_on, mark_goes_on, IsWord, take_word, skip_blanks}
 
--- Wherever the text stands before what ends it, it is tokenized as tokens of which P holds.
+-- Wherever the text is followed by what ends it, it is split into tokens of which P holds.
 pub record IsPrinted (P : List Token → Type 0) (stop : List ℕ → Type 0) (text : List ℕ) : Type 0 where
   pub tokens : ℕ → List Token
   pub is : (at : ℕ) → P (tokens at)
   pub tokenized : (at : ℕ) (rest : List ℕ) (more : List Token) → stop rest → IsTokens (at + length text) rest more → IsTokens at (text ++ rest) (tokens at ++ more)
 
--- whatever follows
+-- anything may follow
 abbrev pub Any : List ℕ → Type 0
 Any rest = Unit {0}
 
@@ -73,7 +73,7 @@ stopped f p = record { tokens = p.tokens; is = p.is; tokenized = λ at rest more
 pub spelled_as : {P : List Token → Type 0} {S : List ℕ → Type 0} {a b : List ℕ} → a ≡ b → IsPrinted P S a → IsPrinted P S b
 spelled_as {P} {S} e p = subst (IsPrinted P S) e p
 
--- ---- what ends every word
+-- ---- what ends each word
 
 abbrev pub breaks : ℕ → Bool
 breaks byte = is_name_byte byte || sign_goes_on byte

@@ -1,4 +1,4 @@
--- The text of an expression is read as the same expression, places left out.
+-- The text of an expression is read as the same expression, apart from offsets.
 use Rattle.std.proofs.Common.{◌≡◌, ℕ, ℤ, suc, zero, ◌+◌, ◌-◌, ◌*◌, ◌≤◌, max, Bool, true, false, ◌==◌, if◌then◌else◌, List, [], ◌∷◌, ◌++◌, codes, length, Option, Some, None, ◌⊎◌, inl, inr, refl, sym, ap, ◌∙◌, subst, append_assoc, arith}
 use Rattle.std.specs.Fmt.{signed_decimal}
 use Rattle.lc_names.specs.NameBytes.{is_letter}
@@ -27,7 +27,7 @@ use Rattle.contract_print.specs.Canonical.{mark_of_sign, sign_text, is_compound,
 use Rattle.contract_print.proofs.Respelled.{word_text, goes_on, sign_goes_on, IsWord, mark_word, int_in, name_first}
 use Rattle.contract_print.proofs.Printed.{IsPrinted, IsWordOf, Said, Both, Pair, word_printed, both, gap_after, mapped, stopped, spelled_as, breaks, break_word}
 
--- each token but the end says a word of a source
+-- each token but the end is a word of a source
 abbrev pub AllWords : List Token → Type 0
 AllWords [] = Unit {0}
 AllWords (t ∷ ts) = (is_end t ≡ false → IsWord t.word) × AllWords ts
@@ -36,7 +36,7 @@ pub words_parts : (a b : List Token) → AllWords (a ++ b) → AllWords a × All
 words_parts [] b h = (tt, h)
 words_parts (t ∷ a) b h = let k = words_parts a b h.1 in ((h.0, k.0), k.1)
 
--- ---- what tokens say
+-- ---- the words of tokens
 
 int_word : (t : Token) (n : ℕ × ℤ) → int_of t ≡ Some n → (t.word ≡ w.Int n.1) × (is_end t ≡ false)
 int_word t n e = grind arith
@@ -84,12 +84,12 @@ place_by false = 0
 abbrev pub IsExprOf : ℕ → ℕ → Tree → List Token → Type 0
 IsExprOf d k x ts = (y : Tree) × IsExpr limits d k ts y × (erase y ≡ erase x)
 
--- the text is read as the same expression, and begins with no sign that would go on another
+-- the text is read as the same expression, and begins with no sign that would extend another
 pub record Again (d : ℕ) (x : Tree) : Type 0 where
   pub printed : IsPrinted (IsExprOf d (place_by (is_compound x)) x) (Stops breaks) (expression_text x)
   pub begins : (rest : List ℕ) → Stops sign_goes_on (expression_text x ++ rest)
 
--- the same wherever so few are pending that the limits are kept
+-- the same, if few enough are pending that the limits are kept
 abbrev pub Rereads : Tree → Type 0
 Rereads x = (d : ℕ) → d + 2 * height x ≤ MAX_PENDING → Again d x
 
@@ -166,7 +166,7 @@ pub begin_by : (p : ℕ → Bool) → ((byte : ℕ) → p byte ≡ true → sign
 begin_by p apart [] h rest = absurd (no_false refl h)
 begin_by p apart (byte ∷ text) h rest = apart byte h
 
--- what begins a text begins it with more after
+-- what a text begins with, it begins with also if more follows
 pub begins_left : (a b : List ℕ) → ((rest : List ℕ) → Stops sign_goes_on (a ++ rest)) → (rest : List ℕ) → Stops sign_goes_on ((a ++ b) ++ rest)
 begins_left a b begins rest = subst (Stops sign_goes_on) (sym (append_assoc a b rest)) (begins (b ++ rest))
 

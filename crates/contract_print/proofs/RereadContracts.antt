@@ -1,4 +1,4 @@
--- The text of a contract is read as the same contract, places left out.
+-- The text of a contract is read as the same contract, apart from offsets.
 use Rattle.std.proofs.Common.{◌≡◌, ℕ, suc, ◌+◌, ◌≤◌, false, List, [], ◌∷◌, ◌++◌, map, Ok, Err, codes, length, Some, refl, sym, ap, ◌∙◌, subst, append_assoc, arith}
 use Rattle.std.proofs.lemmas.List.{append-nil}
 use Rattle.lc_names.specs.NameBytes.{is_letter}
@@ -190,7 +190,7 @@ all_words : {source : List ℕ} {list : List Token} → IsTokens 0 source list �
 unfolding AllWordsOr
 all_words {source} {list} i = words_tokenized 0 source (Ok list) i
 
--- the canonical text of what a source reads as, is read as the same, places left out
+-- the canonical text of what a source reads as is read as the same, apart from offsets
 pub reads_again : (source : List ℕ) (all : List FunctionTree) → ReadsAs source all → (other : List FunctionTree) × ReadsAs (contract_text all) other × (erase_contract other ≡ erase_contract all)
 reads_again source all i =
     let words = (words_parts i.before (i.end ∷ []) (all_words i.tokens)).0 in

@@ -1,4 +1,4 @@
--- The text of statements is read as the same statements, places left out.
+-- The text of statements is read as the same statements, apart from offsets.
 use Rattle.std.proofs.Common.{◌≡◌, ℕ, suc, ◌+◌, ◌≤◌, Bool, true, false, List, [], ◌∷◌, ◌++◌, codes, length, Option, Some, None, refl, sym, ap, ◌∙◌, subst, append_assoc, arith}
 use Rattle.std.specs.List.{list_all}
 use Rattle.std.proofs.lemmas.Bool.{and_parts, and_from}
@@ -24,7 +24,7 @@ use Rattle.contract_print.proofs.Printed.{IsPrinted, Any, IsWordOf, Said, Both, 
 use Rattle.contract_print.proofs.Reread.{AllWords, words_parts, name_word, said, IsExprOf, Again, whole, again_here, after_here, IsAfter, after_starts, nothing_printed}
 use Rattle.contract_grammar.proofs.ContractRules.{close_statements}
 
--- a name that may be declared may be so wherever it stands
+-- a name that may be declared may be so at any offset
 pub free_moved : (word : Word) (p q : ℕ) (n : ℕ × List ℕ) → with_offset p (declared_in word) ≡ Some n → (word ≡ w.Name n.1) × (with_offset q (declared_in (w.Name n.1)) ≡ Some (q, n.1))
 free_moved (w.Int value) p q n e = absurd (cc)
 free_moved (w.Text text) p q n e = absurd (cc)
@@ -66,7 +66,7 @@ assigned_printed name x i a =
     let first = both (word_printed (w.Name name) i) equals_printed (λ rest h. refl) in
     both (both first (whole a) (λ rest h. tt)) semicolon_printed (λ rest h. refl)
 
--- ---- statements with no block
+-- ---- statements without blocks
 
 abbrev pub IsStatementOf : ℕ → StatementTree → List Token → Type 0
 IsStatementOf d x ts = (y : StatementTree) × IsStatement limits d ts y × (erase_statement y ≡ erase_statement x)
@@ -148,7 +148,7 @@ items_more d x xs ts (Pair us vs (y, i, e) j) n =
     let k = j (suc n) in
     (y ∷ k.0, Each n y k.0 us vs i k.1, ap (λ v. statements v (erase_statements (statement_list k.0))) e ∙ ap (λ v. statements (erase_statement x) v) k.2)
 
--- a keyword with its condition and block
+-- a keyword, its condition and its block
 abbrev IsTested : Mark → ℕ → Tree → StatementTrees → List Token → Type 0
 IsTested word d x ss = Both (Both (Both (Both (IsWordOf (w.Mark word)) (IsExprOf 0 WHOLE x)) (IsWordOf (w.Mark m.BraceOpen))) (IsItemsOf (suc d) ss)) (IsWordOf (w.Mark m.BraceClose))
 
@@ -188,7 +188,7 @@ while_made d at x body may ts i =
     let k = tested_block m.While d x body may ts i in
     (tree.While k.t k.y k.body, subst (λ l. IsStatement limits d l (tree.While k.t k.y k.body)) (sym k.path) (Whiles d (said k.t m.While) k.t k.us k.y k.bs k.body refl k.test k.block), ap (λ v. tree.While 0 v (erase_statements k.body)) k.same_test ∙ ap (λ v. tree.While 0 (erase x) v) k.same_body)
 
--- the text of a keyword with its condition, and the brace after it
+-- the text of a keyword and its condition, then the brace
 test_printed : (word : Mark) (text : List ℕ) → IsPrinted (IsWordOf (w.Mark word)) Any text → (x : Tree) → Again 0 x → IsPrinted (Both (Both (IsWordOf (w.Mark word)) (IsExprOf 0 WHOLE x)) (IsWordOf (w.Mark m.BraceOpen))) Any (test_text text x)
 test_printed word text p x a = both (both p (whole a) (λ rest h. tt)) brace_printed (λ rest h. refl)
 

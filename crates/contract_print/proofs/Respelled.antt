@@ -1,4 +1,4 @@
--- The words of canonical text are tokenized as those words.
+-- The words of a canonical text are split into tokens as those words.
 use Rattle.std.proofs.Common.{◌≡◌, ℕ, ℤ, ◌+◌, ◌==◌, ◌||◌, Bool, true, false, List, [], ◌∷◌, ◌++◌, length, drop, Some, Ok, refl, sym, ap, ◌∙◌, subst, append_assoc, arith}
 use Rattle.std.specs.Fmt.{signed_decimal}
 use Rattle.std.specs.List.{list_all}
@@ -34,7 +34,7 @@ abbrev pub mark_goes_on : Bool → ℕ → Bool
 mark_goes_on true byte = is_name_byte byte
 mark_goes_on false byte = sign_goes_on byte
 
--- whether the byte after a word would make it longer
+-- whether a byte after a word would make it longer
 abbrev pub goes_on : Word → ℕ → Bool
 goes_on (w.Int value) byte = is_digit byte
 goes_on (w.Text text) byte = false
@@ -42,7 +42,7 @@ goes_on (w.Name name) byte = is_name_byte byte
 goes_on (w.Mark mark) byte = mark_goes_on (first_is is_letter (spelling mark)) byte
 goes_on w.End byte = false
 
--- ---- what a token says is written so
+-- ---- what a token is spelled as
 
 plain_byte : (byte : ℕ) → (byte ≡ quote → ⊥) → (byte ≡ backslash → ⊥) → is_escaped byte ≡ false
 plain_byte byte q b = grind (arith, nat_tests)
@@ -61,7 +61,7 @@ respelled _ _ (NameSpelled name is free) = NameSpelled name is free
 respelled _ _ (IntSpelled n low) = IntSpelled n low
 respelled _ _ (TextSpelled body text h few) = TextSpelled (literal_body text) text (body_of body text h) few
 
--- ---- nothing longer stands there
+-- ---- nothing longer is there
 
 first_more : (p : ℕ → Bool) (prefix more : List ℕ) → first_is p prefix ≡ true → first_is p (prefix ++ more) ≡ true
 first_more p [] more h = absurd (no_false refl h)
@@ -83,7 +83,7 @@ second : (a b : ℕ) (long short : Mark) → long_sign a b ≡ Some long → sho
 unfolding long_sign short_sign
 second a b long short e h = grind (arith, nat_tests)
 
--- a sign that begins another is followed by what makes it longer
+-- a sign that is a prefix of another is followed by what makes it longer
 longer_short : (a byte : ℕ) (more : List ℕ) (mark other : Mark) → short_sign a ≡ Some mark → is_other a ≡ true → spelling other ≡ a ∷ byte ∷ more → sign_goes_on byte ≡ true
 longer_short a byte more mark other h o e =
     elim (written other) [
@@ -178,7 +178,7 @@ word_of prefix word spelled lex = record { spelled = respelled prefix word spell
 pub mark_word : (mark : Mark) → IsWord (w.Mark mark)
 mark_word mark = record { spelled = MarkSpelled mark; lexeme = MarkShape mark }
 
--- a word that is followed by what can't make it longer is taken
+-- a word is taken if what follows cannot make it longer
 pub take_word : (word : Word) (rest : List ℕ) (at : ℕ) (more : List Token) → IsWord word → Stops (goes_on word) rest → IsTokens (at + length (word_text word)) rest more → IsTokens at (word_text word ++ rest) (record { at = at; word = word } ∷ more)
 take_word word rest at more i stop h = Takes at (word_text word) rest word (Ok more) (longest_word word rest i stop) i.spelled h
 

@@ -107,7 +107,7 @@ contract_same : (fs : List FunctionTree) → contract_text (erase_contract fs) �
 contract_same [] = refl
 contract_same (f ∷ fs) = ap (λ l. l ++ more_functions_text (erase_contract fs)) (function_same f) ∙ ap (λ l. function_text f ++ l) (more_functions_same fs)
 
--- trees that are equal but for their offsets have one canonical text
+-- trees that differ in their offsets only have the same canonical text
 pub one_text : (all other : List FunctionTree) → erase_contract other ≡ erase_contract all → contract_text other ≡ contract_text all
 one_text all other e = sym (contract_same other) ∙ ap contract_text e ∙ contract_same all
 
@@ -118,7 +118,7 @@ reads_once source a b i j =
     let found : tokens.Outcome = Ok (i.before ++ i.end ∷ []) in
     let e = has_one_outcome source (λ one other h k. tokenized_once 0 source one other h k) found i.tokens (Ok a) (Ok b) i j in cc
 
--- the canonical text of what a source reads as is that of whatever it reads as itself
+-- the canonical text of what a source reads as is the canonical text of whatever it reads as itself
 pub same_text : (source : List ℕ) (all : List FunctionTree) → ReadsAs source all → (other : List FunctionTree) → ReadsAs (contract_text all) other → contract_text other ≡ contract_text all
 same_text source all i other j =
     let again = reads_again source all i in

@@ -1,4 +1,4 @@
--- The canonical text of a contract.
+-- The canonical text of a contract, and what reading it again yields.
 use Rattle.std.specs.Prelude.{◌≡◌, ℕ, Bool, true, false, List, [], ◌∷◌, ◌++◌, Option, Some, None, codes}
 use Rattle.std.specs.Fmt.{signed_decimal}
 use Rattle.std.specs.List.{flat_map}
@@ -46,7 +46,7 @@ mark_of_kind k.Text = m.Text
 abbrev pub kind_text : ValueKind → List ℕ
 kind_text kind = spelling (mark_of_kind kind)
 
--- Whether an operand stands in parentheses: a prefix or binary expression does.
+-- Whether an operand is put in parentheses: prefix and binary expressions are.
 abbrev pub is_compound : Tree → Bool
 is_compound (tree.Int at value) = false
 is_compound (tree.Text at text) = false
@@ -55,12 +55,12 @@ is_compound (tree.Call at name args) = false
 is_compound (tree.Prefix at sign operand) = true
 is_compound (tree.Binary at sign left right) = true
 
--- A text, in parentheses where it is to stand in them.
+-- A text, in parentheses if it needs them.
 abbrev pub in_parentheses : Bool → List ℕ → List ℕ
 in_parentheses true text = codes "(" ++ text ++ codes ")"
 in_parentheses false text = text
 
--- An expression; its operands stand in parentheses where they have operands themselves.
+-- An expression. Its operands are put in parentheses if they have operands themselves.
 abbrev mutual
   -- An expression.
   pub expression_text : Tree → List ℕ
@@ -84,30 +84,30 @@ abbrev mutual
   more_args_text none = []
   more_args_text (more x xs) = codes ", " ++ expression_text x ++ more_args_text xs
 
--- The keys that a value is said to come from, where there are any.
+-- The keys that a value is said to be derived from, if there are any.
 abbrev pub from_text : Option Trees → List ℕ
 from_text None = []
 from_text (Some parts) = codes " from " ++ args_text parts
 
--- A name and the value that it gets.
+-- A name and the value that is assigned to it.
 abbrev pub assigned_text : List ℕ → Tree → List ℕ
 assigned_text name value = name ++ codes " = " ++ expression_text value ++ codes ";\n"
 
--- A `put` with its key, its value and the keys that this comes from.
+-- A `put` with its key, its value, and the keys that the value is said to be derived from.
 abbrev pub put_text : Tree → Tree → Option Trees → List ℕ
 put_text key value parts =
     codes "put " ++ expression_text key ++ codes " = " ++ expression_text value ++ from_text parts
     ++ codes ";\n"
 
--- The margin of a block in a block with this margin: two blanks more.
+-- The margin of a block inside a block with this margin: two blanks more.
 abbrev pub deeper : List ℕ → List ℕ
 deeper margin = margin ++ codes "  "
 
--- A condition after its keyword, and the brace that opens its block.
+-- A keyword and its condition, then the brace that opens the block.
 abbrev pub test_text : List ℕ → Tree → List ℕ
 test_text word test = word ++ expression_text test ++ codes " {\n"
 
--- A declaration of a name with its value.
+-- A declaration of a name and its value.
 abbrev pub let_text : List ℕ → Tree → List ℕ
 let_text name value = codes "let " ++ assigned_text name value
 
@@ -135,7 +135,7 @@ abbrev mutual
   statements_text margin no_statement = []
   statements_text margin (statements x xs) = statement_text margin x ++ statements_text margin xs
 
--- A parameter with its kind.
+-- A parameter and its kind.
 abbrev pub param_text : Param → List ℕ
 param_text p = p.name ++ codes ": " ++ kind_text p.kind
 
@@ -158,22 +158,22 @@ function_text f =
 abbrev pub more_functions_text : List FunctionTree → List ℕ
 more_functions_text functions = flat_map (λ f. codes "\n" ++ function_text f) functions
 
--- The canonical text of functions: one empty line stands between them.
+-- The canonical text of functions, with one empty line between them.
 abbrev pub contract_text : List FunctionTree → List ℕ
 contract_text [] = []
 contract_text (f ∷ fs) = function_text f ++ more_functions_text fs
 
--- The text is a source that reads as these functions, but for the offsets in them.
+-- The text is a source that reads as functions that differ from these in their offsets only.
 abbrev pub ReadsAgain : List ℕ → List FunctionTree → Type 0
 ReadsAgain text all =
     (other : List FunctionTree) × ReadsAs text other × (erase_contract other ≡ erase_contract all)
 
--- Functions that are equal to these but for the offsets in them have the same canonical text.
+-- Functions that differ from these in their offsets only have the same canonical text.
 abbrev pub HasOneText : List FunctionTree → Type 0
 HasOneText all =
     (other : List FunctionTree) → erase_contract other ≡ erase_contract all
     → contract_text other ≡ contract_text all
 
--- The text is the canonical text of all that it reads as.
+-- The text is the canonical text of whatever it reads as.
 abbrev pub IsFixed : List ℕ → Type 0
 IsFixed text = (other : List FunctionTree) → ReadsAs text other → contract_text other ≡ text

@@ -1,4 +1,4 @@
-//! Functions and contracts as text.
+//! Printing functions and contracts, one empty line between functions.
 
 ghost use Rattle.std.specs.{Prelude.{◌≡◌, ◌++◌, OnOk, IfOk, map, codes, ℕ, List}, List.{flat_map}};
 ghost use Rattle.contract_tree.specs.Tree.{statement_of, statement_list, function_of, contract_of};
@@ -116,13 +116,13 @@ fn text_of(alloc: Global, contract: &Contract) -> Result<Vec<u8>, Memory>
     Ok(out)
 }
 
-/// The canonical text of a contract. Contracts that are equal but for the offsets in them have one
-/// text; a contract that was read from a source is read again from its text, the same but for the
-/// offsets, and so the text of what its text reads as is that text.
+/// The canonical text of a contract. Contracts that differ in their offsets only have the same
+/// text. A contract that was read from a source is read again from its text, with other offsets,
+/// and the text of what its text reads as is that text.
 ///
 /// # Errors
 ///
-/// `Memory`, where the text does not fit.
+/// `Memory`, if the text does not fit.
 pub fn print(alloc: Global, contract: &Contract) -> Result<Bytes, Memory>
     ensures text { IfOk result (λ text. text ≡ contract_text (contract_of contract.now)) }
     ensures one_text { HasOneText (contract_of contract.now) }

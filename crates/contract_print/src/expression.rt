@@ -1,4 +1,4 @@
-//! Expressions as text.
+//! Printing expressions, with parentheses around operands that have operands.
 
 ghost use Rattle.std.specs.Prelude.{◌≡◌, ◌++◌, OnOk, map, codes};
 ghost use Rattle.contract_tokens.specs.Lexemes.{in_quotes, literal_body};
@@ -16,7 +16,7 @@ fn is_compound(x: &Expr) -> bool
     matches!(&x.node, ExprNode::Prefix { .. } | ExprNode::Binary { .. })
 }
 
-/// Appends an expression; operands that have operands themselves stand in parentheses.
+/// Appends an expression; operands that have operands themselves are put in parentheses.
 #[cycle(put)]
 pub fn put_expression(alloc: Global, out: &mut Vec<u8>, x: &Expr) -> Result<(), Memory>
     ensures { OnOk result (out.new.items ≡ out.old.items ++ expression_text (tree_of x.now)) }
@@ -65,7 +65,7 @@ fn put_operand(alloc: Global, out: &mut Vec<u8>, x: &Expr) -> Result<(), Memory>
     put(out, b")")
 }
 
-/// Expressions with a comma and a blank between them.
+/// Appends expressions, with a comma and a blank between them.
 #[cycle(put)]
 pub fn put_args(alloc: Global, out: &mut Vec<u8>, args: &[Expr]) -> Result<(), Memory>
     ensures { OnOk result (out.new.items ≡ out.old.items ++ args_text (trees (map tree_of args.now))) }

@@ -1,4 +1,4 @@
-//! The canonical text of contracts.
+//! The canonical text of contracts: it is read as the contract that it was printed from.
 #![tactic(auto)]
 
 mod contract;

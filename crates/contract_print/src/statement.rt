@@ -1,4 +1,4 @@
-//! Statements as text, each on lines of its own.
+//! Printing statements, each on lines of its own.
 
 ghost use Rattle.std.specs.Prelude.{◌≡◌, ◌++◌, OnOk, map, codes};
 ghost use Rattle.contract_tree.specs.Tree.{tree_of, parts_of, statement_of, statement_list};

@@ -1,4 +1,4 @@
-//! Bytes that are written one after another.
+//! Appending the bytes of numbers, texts, operators and kinds.
 
 ghost use Rattle.std.specs.{Prelude.{◌≡◌, ◌++◌, OnOk}, Fmt.{signed_decimal}};
 ghost use Rattle.contract_tokens.specs.Lexemes.{literal_body, escape, is_escaped};
@@ -16,7 +16,7 @@ pub fn put(out: &mut Vec<u8>, bytes: &[u8]) -> Result<(), Memory>
     Ok(())
 }
 
-/// Appends a number in decimal digits, after a `-` where it is negative.
+/// Appends a number in decimal digits, after a `-` if it is negative.
 pub fn put_int(alloc: Global, out: &mut Vec<u8>, value: i64) -> Result<(), Memory>
     ensures { OnOk result (out.new.items ≡ out.old.items ++ signed_decimal value) }
 {

@@ -1,4 +1,4 @@
--- Heights of lists of expressions.
+-- Heights of lists of expressions: the greatest of all.
 use Rattle.std.proofs.Common.{◌≡◌, max, List, [], ◌∷◌, ◌++◌, map, ap, ◌∙◌, arith}
 use Rattle.std.proofs.lemmas.List.{map_push}
 use Rattle.contract_tree.specs.declared.tree.Expr.{Expr}

@@ -1,4 +1,4 @@
-//! Expressions that are put together from their parts, with their heights.
+//! Putting expressions together from their parts, with their heights.
 
 ghost use Rattle.std.specs.Prelude.{◌≡◌, ◌≤◌, ◌+◌, ℕ, List, map, max, Ok, Err, [], ◌∷◌, ◌++◌, IfOk, IfErr};
 ghost use Rattle.contract_grammar.specs.declared.stop.ParseStop.TheVariants as stops;
@@ -16,7 +16,7 @@ use contract_tree::{Expr, ExprList, ExprNode, Sign};
 use lc_base::Name;
 use std::alloc::Global;
 
-/// An expression that was read, with its height.
+/// An expression that was read, and its height.
 #[derive(Drop)]
 pub struct Subtree {
     pub expr: Expr,
@@ -25,7 +25,7 @@ pub struct Subtree {
     ghost height_most: { height ≤ MAX_HEIGHT },
 }
 
-/// Expressions that were read, with the greatest of their heights, or 0 where there is none.
+/// Expressions that were read, and the greatest of their heights, 0 if there are none.
 #[derive(Drop)]
 pub struct Subtrees {
     pub items: ExprList,
@@ -34,7 +34,7 @@ pub struct Subtrees {
     ghost height_most: { height ≤ MAX_HEIGHT },
 }
 
-/// An expression that has no parts.
+/// An expression without operands.
 pub fn leaf(at: u32, node: ExprNode) -> Subtree
     requires { height_of (tree_of (record { at = at; node = node })) ≡ 1 }
     ensures { result.expr ≡ record { at = at; node = node } }
@@ -45,7 +45,7 @@ pub fn leaf(at: u32, node: ExprNode) -> Subtree
     }
 }
 
-/// A call of this name; `Height` where it is higher than an expression may be.
+/// A call of this name; `Height` if it would be too high.
 pub fn call(at: u32, name: Name, args: Subtrees) -> Result<Subtree, ParseStop>
     ensures { (ts : List Token) → Gives (λ b. tree_of b.expr) result
         (node at (tree.Call at name (trees (map tree_of args.items.items))) ts) ts }
@@ -64,7 +64,7 @@ pub fn call(at: u32, name: Name, args: Subtrees) -> Result<Subtree, ParseStop>
     })
 }
 
-/// This operator before an operand; `Height` where that is too high.
+/// This operator before an operand; `Height` if the result would be too high.
 pub fn prefix(alloc: Global, at: u32, sign: Sign, operand: Subtree) -> Result<Subtree, ParseStop>
     ensures { (ts : List Token) → Gives (λ b. tree_of b.expr) result
         (node at (tree.Prefix at sign (tree_of operand.expr)) ts) ts }
@@ -83,7 +83,7 @@ pub fn prefix(alloc: Global, at: u32, sign: Sign, operand: Subtree) -> Result<Su
     })
 }
 
-/// This operator between two operands; `Height` where one is too high.
+/// This operator between two operands; `Height` if the result would be too high.
 pub fn binary(
     alloc: Global,
     at: u32,
@@ -110,7 +110,7 @@ pub fn binary(
 }
 
 impl Subtrees {
-    /// No expression.
+    /// No expressions.
     pub fn new(alloc: Global) -> Self
         ensures { result.items.items ≡ [] }
     {

@@ -1,4 +1,5 @@
-//! Expressions, read by levels.
+//! Reading expressions by levels: each level reads operands of the level below, with its operators
+//! between them.
 
 ghost use Rattle.std.specs.Prelude.{◌≡◌, ◌<◌, ◌≤◌, ◌-◌, List, map};
 ghost use Rattle.contract_tree.specs.Tree.{tree_of};
@@ -263,7 +264,7 @@ pub fn expression(cursor: &mut Cursor<'_>) -> Result<Expr, ParseStop>
     Ok(built.expr)
 }
 
-/// Whole expressions, at least one, with commas between them and the sign that closes them.
+/// Whole expressions, at least one, with commas between them, then the closing sign.
 #[tactic(auto, unfolding(contract_grammar::specs::Reading::expression))]
 pub fn expressions(cursor: &mut Cursor<'_>, mark: Mark) -> Result<ExprList, ParseStop>
     ensures { Gives (λ v. map tree_of v.items) result

@@ -1,4 +1,4 @@
-//! Expressions of the contract language, read from their tokens.
+//! Reading expressions of the contract language from their tokens.
 #![tactic(auto)]
 
 mod build;

@@ -1,4 +1,4 @@
--- Each clause, where there are tokens and where there are none.
+-- Each clause, if there are tokens and if there are none.
 use Rattle.contract_grammar.specs.Reading.{contract}
 use Rattle.contract_parse.specs.Syntax.{reading_outcome}
 use Rattle.contract_parse.proofs.Parsed.{has_one_outcome, reads_outcome, tells_outcome}

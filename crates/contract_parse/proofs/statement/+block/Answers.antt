@@ -1,4 +1,4 @@
--- The loop, and the reader whose definition goes by a number.
+-- The loop, and the reader that is defined by recursion on a number.
 use Rattle.std.proofs.Common.{rules, ◌≡◌, Ok, Err, ◌-◌, map, [], sym, ap, ◌∙◌, subst, arith}
 use Rattle.std.specs.Global.{Vec}
 use Rattle.contract_tree.specs.declared.tree.Statement.{Statement}

@@ -1,4 +1,4 @@
--- The loops, and the two readers whose definition goes by a number.
+-- The loops, and the two readers that are defined by recursion on a number.
 use Rattle.std.proofs.Common.{rules, ◌≡◌, ◌-◌, ◌<◌, map, Err, sym, ap, ◌∙◌, subst, arith}
 use Rattle.parse_expression.specs.declared.build.Subtree.{Subtree}
 use Rattle.parse_expression.specs.declared.build.Subtrees.{Subtrees}

@@ -3,7 +3,7 @@ use Rattle.contract_tree.specs.Tree.{tree_of, trees, heights}
 use Rattle.parse_expression.proofs.Heights.{heights_push}
 use Rattle.parse_expression.proofs.build.Subtrees.push.Goals as goal
 
--- the greatest height with one more expression
+-- the greatest height after one more expression
 pub invariant_of-self-2-clause-height_is : goal.invariant_of-self-2-clause-height_is
 invariant_of-self-2-clause-height_is c =
     let old = c.args.self.now.items.items in
