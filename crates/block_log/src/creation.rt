@@ -18,8 +18,8 @@ use crate::log::Log;
 use crate::steps::write_through;
 use disk_model::Disk;
 
-// The first step. Without it the magic could follow an open head gate before the gate after it is
-// written.
+// The first step. Without it a crash could leave an open head gate and the magic before the gate of
+// the first record is written.
 fn close_head<M: Disk>(machine: &mut M, is_begun: bool) -> Result<(), DiskFault>
     requires blank { Rests (M.disk machine.old (M.now machine.old)) (IsBlank is_begun) }
     ensures makes { MakesHead M.now M.disk HasClosedHead machine.old machine.new result }

@@ -5,8 +5,8 @@ use Rattle.std.specs.Prelude.{ℕ, ◌≡◌, ◌+◌, ◌-◌, ◌^◌, ◌≤�
 abbrev pub Rose : ℕ → ℕ → Type 0
 Rose before now = min (before + 1) (2 ^ 64 - 1) ≤ now
 
--- A count of faults never falls. It rises if a call blames its object; and if it changed, the call
--- blames its object. So each fault is reported, and none is made up.
+-- A count of faults never falls. If a call blames its object, the count rose; if the count changed,
+-- the call blames its object. So each fault is reported, and none is made up.
 pub record HasCause (before now : ℕ) (Blames : Type 0) : Type 0 where
   pub later : before ≤ now
   pub failed : Blames → Rose before now

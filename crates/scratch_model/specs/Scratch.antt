@@ -37,8 +37,8 @@ pub record Retains (old new : ScratchState) : Type 0 where
   pub held : (place count : ℕ) → is_known old ≡ true → old.kept place count ≡ true
       → bytes_at new place count ≡ bytes_at old place count
 
--- A device that was lent to a call: all that it kept is kept, with the same bytes, and it is blamed
--- exactly if its count of faults rose.
+-- A device that was lent to a call: all that it kept is kept, with the same bytes. It is blamed if
+-- its count of faults changed, and only if the count rose.
 pub record Serves {S : Type 0} (state : S → ScratchState) (faults : S → ℕ) (old new : S)
     (Blames : Type 0) : Type 0 where
   pub retains : Retains (state old) (state new)
