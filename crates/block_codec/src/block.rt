@@ -22,14 +22,14 @@ pub enum Tx {
         sender: Key,
         key: Key,
         value: Value,
-        /// At most `MAX_DEPS`.
+        /// The keys of the dependencies, at most `MAX_DEPS`.
         deps: KeyList,
     },
     /// Deploys a contract under a name.
     Deploy {
         sender: Key,
         name: Name,
-        /// At most `MAX_SOURCE_BYTES`, of any values.
+        /// The source, at most `MAX_SOURCE_BYTES` bytes of any value.
         source: Bytes,
     },
     /// Calls a function of a deployed contract.
@@ -37,14 +37,14 @@ pub enum Tx {
         sender: Key,
         contract: Name,
         function: Name,
-        /// At most `MAX_ARGS`.
+        /// The arguments, at most `MAX_ARGS`.
         args: Seq<Value>,
         /// The budget in steps, at most `MAX_CALL_BUDGET`.
         budget: u32,
     },
 }
 
-/// Transactions.
+/// A list of transactions.
 pub type TxList = Seq<Tx>;
 
 /// A block.
@@ -53,6 +53,6 @@ pub struct Block {
     pub number: u32,
     /// The digest of the previous block.
     pub parent: Digest,
-    /// At most `MAX_TXS`.
+    /// The transactions, at most `MAX_TXS`.
     pub txs: TxList,
 }

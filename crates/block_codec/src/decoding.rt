@@ -119,7 +119,7 @@ fn whole_block(alloc: Global, bytes: &[u8]) -> Result<Block, ReadError>
     Ok(block)
 }
 
-/// The block that the bytes, at most `MAX_BLOCK_BYTES`, spell.
+/// The block that these bytes spell; more than `MAX_BLOCK_BYTES` bytes spell none.
 #[tactic(auto, unfolding(crate::specs::Reading::block_in))]
 fn block_in(alloc: Global, bytes: &[u8]) -> Result<Block, DecodeError>
     ensures { Answers (λ block. block) fault_offset result (block_in bytes.now) }
@@ -136,8 +136,8 @@ fn block_in(alloc: Global, bytes: &[u8]) -> Result<Block, DecodeError>
     }
 }
 
-/// The block that the bytes, at most `MAX_BLOCK_BYTES`, spell. `Malformed` exactly if they spell
-/// none.
+/// The block that these bytes spell. `Malformed` exactly if they spell no block; more than
+/// `MAX_BLOCK_BYTES` bytes never do.
 pub fn decode(alloc: Global, bytes: &[u8]) -> Result<Block, DecodeError>
     // What is read is spelled so.
     ensures found { IfOk result (Spells bytes.now) }
@@ -145,7 +145,7 @@ pub fn decode(alloc: Global, bytes: &[u8]) -> Result<Block, DecodeError>
     ensures only { (block : Block) → Spells bytes.now block → Answers (λ block. block) fault_offset result (Ok block) }
     // A fault is reported with its offset.
     ensures offset { IfErr result (λ error. IfSome (fault_offset error) (IsFaultOffset bytes.now)) }
-    // A function says what bytes spell, and its value is returned.
+    // `block_in` of the definitions says what bytes spell, and its value is returned.
     ensures decided { IsDecoder block_in }
     ensures exact { Answers (λ block. block) fault_offset result (block_in bytes.now) }
 {

@@ -69,7 +69,7 @@ pub closed_records : (next : NextBlock) (left gate : ℕ) (stored : List Stored)
 unfolding records_at
 closed_records next left gate stored byte bytes shut = rw shut refl
 
--- an open gate is followed by a record
+-- a record is read after an open gate
 pub open_records : (next : NextBlock) (left gate : ℕ) (stored : List Stored) (bytes : List ℕ) → records_at next (suc left) gate stored (OPEN_GATE ∷ bytes) ≡ record_at next (records_at next left) gate (from_be_bytes w32 (take 4 bytes)) stored (drop 4 bytes)
 unfolding records_at
 open_records next left gate stored bytes = refl

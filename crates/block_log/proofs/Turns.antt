@@ -112,7 +112,7 @@ pub ended : (next : NextBlock) (n gate : ℕ) (stored : List Stored) (bytes : Li
 ended next zero gate stored bytes some is = absurd (omega (arith, some))
 ended next (suc more) gate stored bytes some is = turned next more gate stored bytes ∙ ap (turn next more gate stored bytes) is
 
--- At an open gate without a whole record after it, the log is damaged.
+-- Without a closed gate, or an open one and a whole record, the log is damaged.
 pub broken : (next : NextBlock) (n gate : ℕ) (stored : List Stored) (bytes : List ℕ) → 0 < n → record_of bytes ≡ records.Broken → records_at next n gate stored bytes ≡ Damaged stored gate
 broken next zero gate stored bytes some is = absurd (omega (arith, some))
 broken next (suc more) gate stored bytes some is = turned next more gate stored bytes ∙ ap (turn next more gate stored bytes) is

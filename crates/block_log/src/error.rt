@@ -10,7 +10,8 @@ use lc_io::Failed;
 pub enum LogError {
     /// The disk holds something other than a log.
     NotALog,
-    /// The open gate at this offset is not followed by a record of the next block.
+    /// At this offset there is neither a closed gate nor an open one with a record of the next
+    /// block after it.
     Damaged { at: u64 },
     /// A call of the disk failed.
     DiskFault,

@@ -34,7 +34,7 @@ use std::marker::Model;
 pub(crate) enum Found {
     /// The gate is closed.
     Closed,
-    /// The gate is open, and no record of the next block follows it.
+    /// There is no gate, or it is open and no record of the next block follows it.
     Broken,
     /// The gate is open, and the next block follows, then the gate at the offset `after`.
     Next { next: Stored, after: u64 },

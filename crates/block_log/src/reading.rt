@@ -37,7 +37,7 @@ pub(crate) enum Head {
 pub(crate) enum Record {
     /// The gate is closed.
     Closed,
-    /// The gate is open, and no whole record follows it.
+    /// There is no gate, or it is open and no whole record follows it.
     Broken,
     /// The gate is open, and a record follows whose block has `size` bytes.
     Open { size: usize },

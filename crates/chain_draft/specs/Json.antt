@@ -23,7 +23,7 @@ list_of (item first others) = first ∷ list_of others
 abbrev pub items_in : Data → Option (List Data)
 items_in json = option_map list_of (as_array json)
 
--- How many members there are.
+-- The number of members.
 abbrev pub count_of : Members → ℕ
 count_of no_members = 0
 count_of (member name value others) = suc (count_of others)

@@ -79,7 +79,7 @@ first_wrong_argument (arg ∷ args) [] = None
 first_wrong_argument (arg ∷ args) (kind ∷ kinds) =
     option_or (wrong_argument (Some kind) arg) (first_wrong_argument args kinds)
 
--- The value of a call, unless one of its arguments is wrong.
+-- The kind of a call's value, unless one of its arguments is wrong.
 abbrev pub unless_wrong_argument : Option ℕ → KindAt → Result KindAt Fault
 unless_wrong_argument None value = Ok value
 unless_wrong_argument (Some offset) value = fault_at offset Kind
@@ -89,34 +89,34 @@ abbrev pub parameter_kinds : Option Builtin → List ValueKind
 parameter_kinds None = []
 parameter_kinds (Some builtin) = params_of builtin
 
--- The value of a call, given the number of its arguments and the first wrong one.
+-- The kind of a call's value, given the number of its arguments and the first wrong one.
 abbrev pub call_kind_by : ℕ → Option Builtin → ℕ → Option ℕ → Result KindAt Fault
 call_kind_by at None count wrong = fault_at at Unknown
 call_kind_by at (Some builtin) count wrong =
     if count == length (params_of builtin)
     then unless_wrong_argument wrong (kind_at at (kind_given builtin)) else fault_at at Count
 
--- The value of a call whose arguments were checked: the name is tested first, then the number of
--- arguments, then their kinds.
+-- The kind of the value of a call whose arguments were checked: the name is tested first, then the
+-- number of arguments, then their kinds.
 abbrev pub call_kind : ℕ → Option Builtin → List KindAt → Result KindAt Fault
 call_kind at builtin args =
     call_kind_by at builtin (length args) (first_wrong_argument args (parameter_kinds builtin))
 
--- The value of a prefix operator, whose operand must be a number.
+-- The kind of a prefix operator's value; its operand must be a number.
 abbrev pub prefix_kind : ℕ → KindAt → Result KindAt Fault
 prefix_kind at operand = and_then (require_kind Int operand) (λ _. Ok (kind_at at Int))
 
--- The value of an operator whose operands and value have this kind.
+-- The kind of an operator's value, if its operands and its value have this kind.
 abbrev pub operation_kind : ValueKind → ℕ → KindAt → KindAt → Result KindAt Fault
 operation_kind kind at left right =
     and_then (require_kind kind left)
     (λ _. and_then (require_kind kind right) (λ _. Ok (kind_at at kind)))
 
--- The value of an operator that compares two operands of the same kind.
+-- The kind of the value of an operator that compares two operands of the same kind.
 abbrev pub equality_kind : ℕ → KindAt → KindAt → Result KindAt Fault
 equality_kind at left right = and_then (require_kind left.kind right) (λ _. Ok (kind_at at Int))
 
--- The value of an operator, given the operands that it takes.
+-- The kind of an operator's value, given the operands that it takes.
 abbrev pub binary_kind : ℕ → Operands → KindAt → KindAt → Result KindAt Fault
 binary_kind at Numbers left right = operation_kind Int at left right
 binary_kind at Texts left right = operation_kind Text at left right

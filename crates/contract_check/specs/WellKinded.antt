@@ -79,7 +79,7 @@ AreSources names (Some parts) = AreTexts names parts
 abbrev pub with_name : Names → List ℕ → ValueKind → Names
 with_name names name kind = names ++ (name, kind) ∷ []
 
--- The statement is good if the first names are visible, and after it the last are.
+-- The statement is good if the first names are visible; after it the second ones are.
 mutual
   pub data IsGood : Names → StatementTree → Names → Type 0 where
     Let :

@@ -11,7 +11,7 @@ use name_table::NameTable;
 use std::alloc::Global;
 use std::marker::Model;
 
-/// Names, oldest first.
+/// The names that are taken, oldest first.
 #[derive(Drop)]
 pub struct UsedNames {
     names: NameTable<()>,

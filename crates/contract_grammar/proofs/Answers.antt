@@ -77,7 +77,7 @@ limit_no_end Pending t e h = open_no_end t h
 limit_no_end Nesting t e h = brace_no_end t h
 limit_no_end (Height at) t e h = absurd (no_false refl e)
 
--- a reader that an obstacle stopped which isn't excused did not read what the grammar has
+-- a reader that was stopped by an obstacle that is not excused did not read what the grammar has
 clash : {A : Type 0} (E : Obstacle → Type 0) (a : A) (rest left : List Token) (why : Obstacle) (r : Read A) → (E why → ⊥) → r ≡ (Err why, left) → Agrees E a rest r → ⊥
 clash E a rest left why r not e (inl h) = no_ok (sym e ∙ h)
 clash E a rest left why r not e (inr h) = not (subst E (err_is (sym h.2 ∙ e)).0 h.3)
@@ -169,7 +169,7 @@ too_high u y t at e =
     let k = contract_high (fair_of false false false false) (refl, refl, refl, refl) (fair_of false false true false) (u ++ t ∷ y) (t ∷ y) at e in
     record { prefix = k.prefix; tokens = k.tokens; more = k.more; before_is = append_cancel_right u (k.prefix ++ k.tokens) (t ∷ y) (k.path ∙ sym (append_assoc k.prefix k.tokens (t ∷ y))); pending = k.pending; level = k.level; tree = k.tree; is_expression = k.is_expression; offset_is = k.offset_is; height_is = k.height_is; all = k.made; more_is = k.more_is; stands = k.stands }
 
--- if the reader is stopped, the obstacle is one by the grammar
+-- if the reader is stopped, the obstacle is one by the grammar too
 obstacle_told : (why : Obstacle) (u y : List Token) (t : Token) → contract (u ++ t ∷ y) ≡ (Err why, t ∷ y) → IsObstacle why u t
 obstacle_told Unfit u y t e = (before_fits u y t Unfit e refl, not_allowed u y t Unfit e false false false false (λ x. x))
 obstacle_told Surplus u y t e = let k = limit_told u y t Surplus e refl in (k.0, k.1, not_allowed u y t Surplus e false false false true (λ x. x))

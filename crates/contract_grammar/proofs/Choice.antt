@@ -40,7 +40,7 @@ excused h = record {
   stays = h.stays;
 }
 
--- a reader that stops before fewer tokens
+-- the same laws, with fewer tokens before which the reader ends
 pub with_stops : {E : Obstacle → Type 0} {U : Type 0} {A : Type 0} {p : Rule A} {P : List Token → A → Type 0} {S T : Token → Bool} → IsRule E U p P S → ((ts : List Token) → head_is T ts ≡ true → head_is S ts ≡ true) → IsRule E U p P T
 with_stops h fewer = record {
   takes = h.takes;

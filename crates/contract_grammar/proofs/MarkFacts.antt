@@ -1,4 +1,4 @@
--- What a token is to the grammar excludes what it is not.
+-- Which tests a token passes or fails, given one that it passes.
 use Rattle.std.proofs.Common.{◌≡◌, ◌||◌, ℕ, ℤ, Bool, true, false, List, Option, Some, None, is_some, ◌⊎◌, refl, arith}
 use Rattle.contract_tokens.specs.declared.token.Token.{Token}
 use Rattle.contract_tokens.specs.declared.token.Mark.TheVariants as m

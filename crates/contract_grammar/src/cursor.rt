@@ -43,7 +43,7 @@ impl<'a> Cursor<'a> {
     ///
     /// # Errors
     ///
-    /// `Memory`, if there is none for a text literal that comes first.
+    /// `Memory`, if it runs out for a text literal that comes first.
     pub fn new(tokens: Tokens<'a>) -> Result<Self, Memory>
         ensures { IfOk result (λ cursor. cursor ≡ tokens.entry) }
     {
@@ -166,7 +166,7 @@ impl<'a> Cursor<'a> {
     /// # Errors
     ///
     /// Here and below: `Unfit` if the next token is another one, which is then not taken; `Memory`
-    /// if there is none for the token after it.
+    /// if it runs out for the token after it.
     pub fn take(&mut self, mark: Mark) -> Result<u32, ParseStop>
         ensures read { Reads result (one (the mark) self.old) self.new }
         ensures kept { IsErrOf result stops.Memory → self.new ≡ self.old }

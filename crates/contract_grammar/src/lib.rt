@@ -19,7 +19,7 @@ pub enum Obstacle {
     Unfit,
     /// The next token is the name of a parameter, which would be one too many.
     Surplus,
-    /// The next token is a parenthesis or a prefix, and too many are pending.
+    /// The next token is a parenthesis or a prefix, of which too many would be pending.
     Pending,
     /// The next token is a brace, and its block would be nested too deep.
     Nesting,

@@ -117,7 +117,7 @@ fn text_of(alloc: Global, contract: &Contract) -> Result<Vec<u8>, Memory>
 }
 
 /// The canonical text of a contract. Contracts that differ in their offsets only have the same
-/// text. A contract that was read from a source is read again from its text, with other offsets,
+/// text. A contract that was read from a source is read again from its text, apart from offsets,
 /// and the text of what its text reads as is that text.
 ///
 /// # Errors

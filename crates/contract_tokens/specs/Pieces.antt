@@ -88,7 +88,7 @@ abbrev pub word_piece : List ℕ → Option Mark → Piece
 word_piece run (Some mark) = pieces.Take (length run) (words.Mark mark)
 word_piece run None = checked_name_piece run (name_of run)
 
--- The piece of a longest run of bytes that a name may have.
+-- The piece of the longest run of bytes that a name may have.
 unfoldable pub name_piece : List ℕ → Piece
 name_piece run = word_piece run (keyword_of run)
 
@@ -110,7 +110,7 @@ has_leading_zero [] = false
 has_leading_zero (byte ∷ []) = false
 has_leading_zero (byte ∷ _ ∷ _) = byte == 48
 
--- The piece of a longest run of digits.
+-- The piece of the longest run of digits.
 unfoldable pub number_piece : List ℕ → Piece
 number_piece run =
     if has_leading_zero run then pieces.Bad kinds.Literal else value_piece run (value_from 0 run)

@@ -1,4 +1,4 @@
-//! The greatest size of a token.
+//! The greatest size of the text of a literal.
 
 /// The greatest number of bytes of the text that a literal stands for.
 pub const MAX_LITERAL_BYTES: usize = 1024;

@@ -127,7 +127,7 @@ impl<'a> Tokens<'a> {
     ///
     /// # Errors
     ///
-    /// `Memory`, if there is none for a text literal; the token is then still to come.
+    /// `Memory`, if it runs out for a text literal; the token is then still to come.
     pub fn next(&mut self) -> Result<Option<Token>, Memory>
         ensures token { IfOk result (λ token. self.old ≡ next_and_rest token self.new) }
         ensures end { self.old ≡ [] → self.new ≡ [] }

@@ -5,8 +5,8 @@ ghost use Rattle.digest_kit.specs.Hasher.{HasAdded};
 use lc_base::Digest;
 use sha2::{Digest as _, Sha256};
 
-/// Hashes a tag, one byte that says what is digested, followed by the bytes that are added piece by
-/// piece. No call takes memory.
+/// A hasher of a tag, one byte that says what is digested, followed by the bytes that are added
+/// piece by piece. No call takes memory.
 #[derive(Drop)]
 pub struct TagHasher {
     hasher: Sha256,

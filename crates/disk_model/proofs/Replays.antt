@@ -145,7 +145,7 @@ tell_stays old new bytes (Err e) makes = tell_fails old new (has_room old (lengt
 pub content_at_now : (m : MachineState) → (disk_after_calls (settled_disk m.first) (take (now_of m) m.calls)).content ≡ content_now m
 content_at_now m = ap (λ (l : List Call). (disk_after_calls (settled_disk m.first) l).content) (take_all (length m.calls) m.calls (omega arith))
 
--- a read that is done leaves the content as it was
+-- a read that succeeded leaves the content as it was
 pub read_content : (old new : MachineState) → new ≡ with_call Idle 0 old → content_now new ≡ content_now old
 read_content old new is = ap content_now is ∙ ap (λ (s : DiskState). s.content) (replayed_push (settled_disk old.first) old.calls Idle)
 

@@ -166,7 +166,7 @@ fn sync_folder(rt: &HostRuntime, path: &str) -> Result<(), Failed> {
 }
 
 impl<'a> HostFile<'a> {
-    /// Looks for the file at the first call.
+    /// Looks for the file, unless it has been looked for.
     fn look(&mut self) -> Result<(), Failed>
         ensures failed { self.new.has_failed ≡ self.old.has_failed }
     {
@@ -199,7 +199,7 @@ impl<'a> HostFile<'a> {
         }
     }
 
-    /// Takes the file's lock at the first call, and then the file's length, if it is not known.
+    /// Takes the file's lock, unless it is held, and reads the file's length, if it is not known.
     /// From then on only this machine may change the file.
     fn lock(&mut self) -> Result<(), Failed>
         ensures found { self.new.found ≡ self.old.found }
@@ -243,7 +243,7 @@ impl<'a> HostFile<'a> {
         Ok(())
     }
 
-    /// Syncs the file's bytes and its length, and at the first call also its folder. The file must
+    /// Syncs the file's bytes and its length, and the first time also its folder. The file must
     /// then be in its place.
     fn sync_now(&mut self) -> Result<(), Failed>
         ensures held { OnOk result (IsHeld self.new.found self.new.is_locked) }
@@ -426,8 +426,8 @@ impl<'a, W> Disk for FileMachine<'a, W> {
         }
     }
 
-    /// Syncs the file's bytes and its length, and at the first call also its folder. Does nothing
-    /// if there is no file.
+    /// Syncs the file's bytes and its length, and the first time also its folder. Does nothing if
+    /// there is no file.
     fn sync(&mut self) -> Result<(), Failed>
         ensures disk { Syncs (λ _. 0) (λ _ _. None) self.old self.new result }
         ensures calls { CallsDisk self.old self.new result }

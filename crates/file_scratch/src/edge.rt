@@ -131,7 +131,7 @@ impl<'a> FileScratch<'a> {
         file.try_clone().map_err(|_| Failed)
     }
 
-    /// Makes the file at the first call.
+    /// Makes the file, unless it has been made.
     fn open(&mut self) -> Result<(), Failed>
         ensures len { self.new.len ≡ self.old.len }
         ensures faults { self.new.faults ≡ self.old.faults }

@@ -34,19 +34,19 @@ impl<T> Model for Seq<T> {
     ghost view = { λ list. list.items.items };
 }
 
-/// Bytes.
+/// A byte string.
 pub type Bytes = Seq<u8>;
-/// Keys.
+/// A list of keys.
 pub type KeyList = Seq<Key>;
-/// Dependencies.
+/// A list of dependencies.
 pub type DepList = Seq<Dep>;
-/// Rows.
+/// A list of rows.
 pub type RowList = Seq<Row>;
-/// Values.
+/// A list of values.
 pub type ValueList = Seq<Value>;
-/// Digests.
+/// A list of digests.
 pub type DigestList = Seq<Digest>;
-/// Lists of bytes.
+/// A list of byte strings.
 pub type TextList = Seq<Bytes>;
 
 impl<T> Seq<T> {

@@ -1,4 +1,4 @@
-//! The error of every call that may run out of memory, and buffers that report it.
+//! The error of a call that ran out of memory, and a buffer of zeros.
 
 ghost use Rattle.std.specs.Prelude.{◌≡◌, replicate, length, IfOk};
 

@@ -14,7 +14,7 @@ pub enum TxStatus {
     NoKey = 2,
     /// It writes a key that it may not write.
     Foreign = 3,
-    /// There is no contract of that name to call.
+    /// No contract of that name can be called.
     NoContract = 4,
     /// The contract has no function of that name.
     NoFunction = 5,

@@ -1,4 +1,4 @@
--- What a scratch device keeps.
+-- What a scratch device keeps, and what of that is known.
 use Rattle.std.specs.Prelude.{◌≡◌, ℕ, Bool, true, List, [], length, Option, Some, None}
 use Rattle.std.specs.Option.{is_some}
 use Rattle.lc_base.specs.Faults.{HasCause}
@@ -8,7 +8,7 @@ pub record ScratchState : Type 0 where
   pub kept : ℕ → ℕ → Bool
   pub held : Option (ℕ → ℕ → List ℕ)
 
--- Whether it is known which bytes are held.
+-- Whether it is known which bytes are kept.
 abbrev pub is_known : ScratchState → Bool
 is_known state = is_some state.held
 

@@ -9,8 +9,8 @@ use lc_io::Failed;
 
 /// A device that keeps bytes as long as the program runs.
 pub trait Scratch {
-    /// Whether a number of bytes is kept at a place, which is always known, and which bytes these
-    /// are, which may be unknown.
+    /// Whether a given number of bytes is kept at a place, which is always known, and which bytes
+    /// these are, which may be unknown.
     ghost state: { Self → ScratchState };
     /// How many calls failed, up to the last value of a `u64`.
     ghost scratch_faults: { Self → ℕ };

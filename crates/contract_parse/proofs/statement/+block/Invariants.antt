@@ -6,7 +6,7 @@ use Rattle.contract_grammar.specs.Rules.{each}
 use Rattle.contract_grammar.specs.Reading.{statement, block}
 use Rattle.contract_parse.proofs.statement.+block.Given as goal
 
--- what may still be nested bounds the calls with less of it; the rest orders the calls
+-- the first summand falls with each nested block; the rest orders the calls that leave it
 abbrev pub decreases-block : goal.decreases-block
 decreases-block l = l.nesting * 100
 

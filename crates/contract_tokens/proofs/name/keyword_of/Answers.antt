@@ -4,7 +4,7 @@ use Rattle.std.proofs.lemmas.Slice.Eq.{text_from_reads}
 use Rattle.contract_tokens.specs.Pieces.{keyword_of}
 use Rattle.contract_tokens.proofs.name.keyword_of.Goals as goal
 
--- the longest keyword, at which the search ends
+-- the longest keyword, for which the proof search gives up
 pub returns-in-return : goal.returns-in-return
 unfolding keyword_of
 returns-in-return c =

@@ -7,7 +7,7 @@ use Rattle.contract_grammar.specs.Reading.{operand, comma_then, level_of, binary
 use Rattle.contract_grammar.specs.declared.limits.TheConstants.{WHOLE}
 use Rattle.parse_expression.proofs.levels.+expression.Given as goal
 
--- what may still be pending bounds the calls with less of it; the rest orders the calls
+-- the first summand falls when more becomes pending; the rest orders the calls that leave it
 abbrev pub decreases-arguments : goal.decreases-arguments
 decreases-arguments l = l.depth * 1000 + 2
 
