@@ -156,7 +156,7 @@ module _ (place : Placer) (is_stricter : IsStricter place) where
       ∙ ap (λ (all : List Stored). standing_after place [] all (ended q.closes q.end)) (append_assoc held (s ∷ []) q.more) ∙ same (s ∷ q.more) (ended q.closes q.end)
       ∙ restood_other place held s q.more (ended q.closes q.end) other
 
-  -- what blocks end in that are all the next ones
+  -- what stored blocks end in, if all of them are next
   pub restood_all : (held more : List Stored) (gate : ℕ) (blocks : List Block) → blocks_of (standing_after place held more (λ held. Holds held gate)) ≡ Some blocks → standing_after place held more (λ held. Holds held gate) ≡ Holds (held ++ more) gate
   restood_all held [] gate blocks is = restood_none place held (λ held. Holds held gate) ∙ ap (λ (held : List Stored). Holds held gate) (sym (append-nil held))
   restood_all held (s ∷ more) gate blocks is = elim (cases_Bool (is_next_by place held s.block)) [

@@ -238,7 +238,7 @@ module _ {E : Obstacle → Type 0} {U : Type 0} {A : Type 0} {step : A → Rule 
   from_turns a prefix c (Over _) = inr Ret
   from_turns a prefix c (Turn _ b _ y z i j) = inl (Seq y z b c i j)
 
-  -- a number of turns, with the obstacle excused that no more are left
+  -- a limited number of turns; that none is left is excused as an obstacle
   below_rule : (n : ℕ) (a : A) → IsRule (λ why. Unit {0}) U (turns_below n test step a) (IsTurns IsStep a) T
   below_rule zero a = below_none a
   below_rule (suc n) a =

@@ -23,7 +23,7 @@ use Rattle.contract_grammar.proofs.Writable.{more_words, name_writable, mark_wri
 use Rattle.contract_grammar.specs.declared.limits.TheConstants.{MAX_PENDING, MAX_NESTING, MAX_HEIGHT, MAX_PARAMETERS, WHOLE}
 
 -- The limits of readers are kept, and heights are not limited. The limits are about the tokens that
--- pass the test: after such a token they do not stop what the grammar has from continuing.
+-- pass the test: after such a token they allow what the grammar needs to continue.
 pub record IsAbout (l : Limits) (test : Token → Bool) : Type 0 where
   pub pending_kept : (n : ℕ) → n ≤ MAX_PENDING → Within l.pending n
   pub nesting_kept : (n : ℕ) → n ≤ MAX_NESTING → Within l.nesting n

@@ -166,7 +166,7 @@ pub begin_by : (p : ℕ → Bool) → ((byte : ℕ) → p byte ≡ true → sign
 begin_by p apart [] h rest = absurd (no_false refl h)
 begin_by p apart (byte ∷ text) h rest = apart byte h
 
--- what a text begins with, it begins with also if more follows
+-- appending to a text does not change what it begins with
 pub begins_left : (a b : List ℕ) → ((rest : List ℕ) → Stops sign_goes_on (a ++ rest)) → (rest : List ℕ) → Stops sign_goes_on ((a ++ b) ++ rest)
 begins_left a b begins rest = subst (Stops sign_goes_on) (sym (append_assoc a b rest)) (begins (b ++ rest))
 

@@ -44,7 +44,7 @@ Tells at bytes old new (Err e) = (new ≡ old) ⊎ ((n : ℕ) × (new ≡ with_t
 
 -- ---- what was printed over several calls
 
--- Bytes are at the start of others.
+-- One list of bytes is a prefix of another.
 abbrev pub IsPrefix : List ℕ → List ℕ → Type 0
 IsPrefix prefix bytes = (rest : List ℕ) × (bytes ≡ prefix ++ rest)
 

@@ -7,8 +7,8 @@ use Rattle.std.proofs.lemmas.List.{length-take, length-append, length-replicate}
 abbrev pub zero_padded : ℕ → List ℕ → List ℕ
 zero_padded width bytes = bytes ++ replicate (width - length bytes) 0
 
--- If an array is its own first `len` bytes with zeros after them, then taking them takes `len`
--- bytes.
+-- An array that is its first `len` bytes, filled up with zeros to a width of at least `len`, has at
+-- least `len` bytes.
 pub length_of_prefix : (width len : ℕ) (bytes : List ℕ) → len ≤ width → bytes ≡ zero_padded width (take len bytes) →
     length (take len bytes) ≡ len
 length_of_prefix width len bytes short is_padded =
