@@ -23,7 +23,7 @@ use Rattle.skip_list.specs.Lookups.{turn_at, turn_by, IsBack}
 use Rattle.skip_list.specs.LookedAt.{next_entry, entry_block, entries_left}
 use Rattle.skip_list.proofs.Turns.{leads_to}
 
--- What is said of all these versions.
+-- This holds of the entries of all these versions.
 abbrev pub AllSay : (EntryId → Bool) → List Hop → Type 0
 AllSay says versions = AllByRecursion (λ (version : Hop). says version.id ≡ true) versions
 
