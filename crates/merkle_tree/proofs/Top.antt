@@ -57,7 +57,7 @@ drop-map f zero xs = refl
 drop-map f (suc n) [] = refl
 drop-map f (suc n) (x ∷ xs) = drop-map f n xs
 
--- The levels and the split at the largest power of two give one hash.
+-- The top of the levels and the split at the largest power of two have one hash.
 pub top_is_tree : (j : ℕ) (xs : List (List ℕ)) (d : Digest) → 0 < length xs → length xs ≤ 2 ^ j → (get_or (ups j (map digest_of xs)) 0 d).0 ≡ hash_to j xs
 unfolding ups hash_to
 top_is_tree zero [] d pos few = absurd (omega arith)

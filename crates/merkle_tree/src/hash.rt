@@ -1,4 +1,4 @@
-//! The hashes of leaves and nodes: SHA-256 (FIPS 180-4) of a first byte that tells the two apart,
+//! The hashes of leaves and nodes: SHA-256 (FIPS 180-4) of a first byte, which differs for the two,
 //! and of what follows it. They take no memory.
 
 ghost use Rattle.std.specs.Prelude.{◌≡◌, []};
