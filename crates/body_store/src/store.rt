@@ -1,5 +1,5 @@
-//! The bodies of versions in the order in which they were pushed. What a call returns doesn't
-//! depend on which of them are at hand.
+//! The bodies of versions in the order in which they were pushed. If it is known which bytes the
+//! device holds, a body that is read doesn't depend on which of them are at hand.
 
 ghost use Rattle.std.specs.{
   Prelude.{◌≡◌, ◌<◌, ◌≤◌, true, [], ◌∷◌, ◌++◌, length, take, Some, IfOk, OnOk, OnErr, IsErrOf},

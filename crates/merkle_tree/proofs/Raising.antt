@@ -68,7 +68,7 @@ pub put-none : (m : ℕ) (v : Digest) → put_through m v [] ≡ []
 unfolding put_through
 put-none m v = refl
 
--- The loop that puts into each level.
+-- One turn of the loop that puts a hash into each level.
 pub one_put : (vs : List (Vec Digest Global)) (i m : ℕ) (v up : Digest) (w d : Vec Digest Global) → i < length vs → w.items ≡ put (get_or vs i d).items m v → up ≡ hash_over (put (get_or vs i d).items m v) m v
     → map (λ (level : Vec Digest Global). level.items) (take (i + 1) (set vs i w)) ++ put_through (m / 2) up (map (λ (level : Vec Digest Global). level.items) (drop (i + 1) (set vs i w)))
     ≡ map (λ (level : Vec Digest Global). level.items) (take i vs) ++ put_through m v (map (λ (level : Vec Digest Global). level.items) (drop i vs))

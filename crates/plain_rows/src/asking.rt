@@ -69,7 +69,7 @@ fn list_of_row<'a>(
     }
 }
 
-/// The indexes of the rows that the answer to a question lists; `None` if it lists none.
+/// The indexes of the rows that the answer to a question lists; `None` if it has no list.
 fn list_of_answer<'a>(rows: &'a [KeptRow], index: &'a RowsIndex, query: &Query) -> Option<&'a [u32]>
     requires { Holds (rows_of rows.now) rows.now index.now }
     ensures { IsListAt (rows_of rows.now) (option_copied result) (list_in (scan (rows_of rows.now) query.now)) }

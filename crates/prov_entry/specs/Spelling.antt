@@ -1,4 +1,5 @@
--- How headers, bodies and leaves are spelled, each as its list of fields, and what is hashed of them.
+-- How headers, bodies and leaves are spelled, each as its list of fields, and what is hashed of
+-- them. Numbers are big-endian.
 use Rattle.std.specs.Prelude.{◌≡◌, ℕ, ◌^◌, ◌<◌, ◌≤◌, List, [], ◌∷◌, ◌++◌, length, Option, Some, None}
 use Rattle.std.specs.List.{concat, flat_map, AllByRecursion}
 use Rattle.std.specs.Int.{w16, w32, w64, to_be_bytes}

@@ -9,9 +9,9 @@ use Rattle.merkle_dag.specs.Ledger.{Ledger, IsHead}
 use Rattle.prov_query.specs.declared.questions.AskError.{AskError}
 use Rattle.prov_query.specs.declared.questions.AskError.TheVariants as errors
 
--- A question about a block of the ledger has the answer that its rows give, unless the scratch
--- device fails, or there is no memory for it; one past the last block is refused, with the number
--- of the last block.
+-- A question about a block of the ledger has the answer of scanning its rows, unless the scratch
+-- device fails or memory runs out; one past the last block is refused, with the number of the last
+-- block.
 abbrev pub IsAnswered : Ledger → Query → Result Answer AskError → Type 0
 IsAnswered ledger query (Ok answer) = (query.at < length ledger.digests)
     × (answer ≡ scan ledger.rows query)

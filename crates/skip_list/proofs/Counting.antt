@@ -48,7 +48,7 @@ abbrev pub HasClimbed : ℕ → List Hop → List Hop → ℕ → ℕ → Type 0
 HasClimbed start [] links at now = ⊥
 HasClimbed start (newest ∷ older) links at now = (come_to newest.block links ≡ at) × (now ≡ raised_count start (entries_climbed (newest ∷ older) links))
 
--- The newest version was read.
+-- A climb begins at the newest version, which was read.
 pub climb_begins : (entries : List Entry) (id : EntryId) (versions : List Hop) (rung : Rung) (start now : ℕ) → IsTowered entries id versions
     → ((version : Hop) (older : List Hop) → version.id ≡ id → HaveTowers entries (version ∷ older) → rung ≡ rung_over version older)
     → now ≡ raised_count start 1 → HasClimbed start versions [] rung.version.block now
@@ -58,7 +58,7 @@ climb_begins entries id (version ∷ older) rung start now towered reads step =
     let is = reads version older (same_Some version.id id towered.newest) towered.towers in
     (sym (ap (λ (r : Rung). r.version.block) is), step)
 
--- One level more.
+-- A climb goes on by one level.
 pub climbs_on : (start : ℕ) (versions links : List Hop) (link : Hop) (at now next : ℕ) → HasClimbed start versions links at now
     → next ≡ count_moved now at link.block → HasClimbed start versions (links ++ link ∷ []) link.block next
 climbs_on start [] links link at now next climbed step = absurd climbed

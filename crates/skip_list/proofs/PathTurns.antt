@@ -1,4 +1,5 @@
--- The versions that a lookup looks at, turn by turn.
+-- The versions that a lookup looks at, turn by turn: their blocks so far and the rest of the path
+-- are the path.
 use Rattle.std.proofs.Common.{◌≡◌, ◌∙◌, ℕ, ◌^◌, ◌<◌, Bool, true, List, [], ◌∷◌, ◌++◌, length, map, Option, Some, None, refl, sym, ap, arith, inl, inr}
 use Rattle.std.specs.Prelude.{slice_get, IsSomeAnd}
 use Rattle.std.specs.List.{AllByRecursion}

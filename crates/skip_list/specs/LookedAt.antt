@@ -24,8 +24,8 @@ abbrev pub AreAmong : List Hop → List EntryId → Type 0
 AreAmong versions ids =
     (says : EntryId → Bool) → AllByRecursion (λ (version : Hop). says version.id ≡ true) versions → AllByRecursion (λ (id : EntryId). says id ≡ true) ids
 
--- The number of entries that a lookup may still look at, from the next one on: it goes back at each
--- turn.
+-- The greatest number of entries that a lookup may still look at, from the next one on: it goes
+-- back at each turn.
 abbrev pub entries_left : Option EntryId → ℕ
 entries_left None = 0
 entries_left (Some id) = suc id.0

@@ -47,7 +47,7 @@ pub not_above : (t : ℕ) (blocks : List ℕ) → IsLow t blocks → is_above t 
 not_above t [] low = refl
 not_above t (u ∷ rest) low = le-ltb t u low
 
--- If the first block is above t, there is a first one.
+-- Blocks of which `is_above` holds have a first one, and that is above t.
 pub above_first : (t : ℕ) (blocks : List ℕ) → is_above t blocks ≡ true → (v : ℕ) × (rest : List ℕ) × (blocks ≡ v ∷ rest) × (t < v)
 above_first t [] above = absurd cc
 above_first t (u ∷ rest) above = (u, rest, refl, ltb-true t u above)
