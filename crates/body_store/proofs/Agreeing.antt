@@ -1,4 +1,4 @@
--- Bodies agree with a scratch device, one call on.
+-- The agreement of bodies with a scratch device stays from call to call.
 use Rattle.std.proofs.Common.{◌≡◌, ℕ, ◌<◌, true, zero, suc, List, [], ◌∷◌, ◌++◌, length, get_or}
 use Rattle.std.proofs.Common.{take, Contains, ◌⊎◌, Some, refl, sym, ap, ◌∙◌, subst, inl, inr}
 use Rattle.std.specs.List.{slice_get}
@@ -11,7 +11,7 @@ use Rattle.scratch_model.proofs.Retaining.{kept_stays}
 use Rattle.body_store.specs.Bodies.{KeptBody, BodiesState, body_at}
 use Rattle.body_store.specs.Agreement.{HasBody, IsBodyOf, Agrees}
 
--- the device went on
+-- bodies agree with a device that has kept what it kept
 pub agrees_on : (store : BodiesState) (s t : ScratchState) → Retains s t → Agrees store s
     → Agrees store t
 agrees_on store s t stays a = record {
@@ -32,7 +32,8 @@ agrees_fewer kept old new s from a = record {
       (All-contains_itself new);
 }
 
--- and one more, which is the one at its index
+-- the bodies at hand after a call are among those before it, and one more, which is the one at its
+-- index
 pub agrees_more : (kept : List KeptBody) (old new : List (ℕ × List ℕ)) (one : ℕ × List ℕ)
     (s : ScratchState)
     → ((pair : ℕ × List ℕ) → Contains new pair → Contains old pair ⊎ (pair ≡ one))
@@ -47,7 +48,7 @@ agrees_more kept old new one s from is a = record {
   ]) new (All-contains_itself new);
 }
 
--- a body stays where others follow
+-- a body stays at its index when others follow
 get_stays : (kept : List KeptBody) (more : List KeptBody) (index : ℕ) (body : List ℕ)
     → body_at kept index ≡ Some body → body_at (kept ++ more) index ≡ Some body
 get_stays [] more index body is = cc
@@ -75,7 +76,7 @@ is_last kept one = get_last kept one
 
 -- ---- the body at an index
 
--- what the device gave is what it keeps
+-- what the device returned is what it keeps
 got_is : (s : ScratchState) (place : ℕ) (body got : List ℕ) → IsKeptAt s place body
     → HoldsAt s place got → length got ≡ length body → is_known s ≡ true → body ≡ got
 got_is s place body got kept holds same told = sym (kept.held told)
@@ -85,7 +86,7 @@ pub one_kept : (store : BodiesState) (s : ScratchState) (index : ℕ) (one : Kep
     → Agrees store s → index < length store.kept → one ≡ get_or store.kept index one → HasBody s one
 one_kept store s index one a within is = subst (HasBody s) (sym is) (a.bodies index one within)
 
--- so it is the body at the index
+-- a body that was read is the one at its index
 pub body_read : (store : BodiesState) (s : ScratchState) (index : ℕ) (one : KeptBody) (got : List ℕ)
     → Agrees store s → index < length store.kept → one ≡ get_or store.kept index one
     → HoldsAt s one.place got → length got ≡ length one.body → is_known s ≡ true
@@ -97,7 +98,7 @@ body_read store s index one got a within is holds same told =
     ∙ ap Some (got_is s one.place one.body got (one_kept store s index one a within is) holds
     same told)
 
--- and so is one at hand
+-- a body at hand is the one at its index
 pub body_at_hand : (store : BodiesState) (s : ScratchState) (index : ℕ) (body : List ℕ)
     → Agrees store s → Contains store.cached (index, body) → is_known s ≡ true
     → body_at store.kept index ≡ Some body

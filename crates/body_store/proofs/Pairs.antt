@@ -1,4 +1,4 @@
--- What a cache has at hand after a call of it.
+-- What a cache has at hand after a call was at hand before, or is what was put.
 use Rattle.std.proofs.Common.{◌≡◌, ℕ, Bool, true, List, [], ◌∷◌, map, Contains, ◌⊎◌, Some, sym, ap}
 use Rattle.std.proofs.Common.{◌∙◌, subst, inl, inr}
 use Rattle.std.specs.Rc.{rc_slice_items}
@@ -33,7 +33,7 @@ module _ {Z : Type 0} where
   abbrev pair_of : BodyIndex × RcSlice ℕ Z → ℕ × List ℕ
   pair_of pair = (pair.0.0, rc_slice_items pair.1)
 
-  -- to look one up keeps them all
+  -- a lookup adds none to those at hand
   pub kept_pairs : (test : BodyIndex → Bool) (old new : Cache Z)
       → new ≡ lru_cache (promoted test old.entries) old.cap
       → (pair : ℕ × List ℕ) → Contains (pairs_of new.entries) pair
@@ -45,7 +45,7 @@ module _ {Z : Type 0} where
       subst (Contains (pairs_of old.entries)) there.2
       (contains_map pair_of old.entries there.0 before)
 
-  -- what is found is there
+  -- what a lookup finds was at hand
   pub found_pair : (test : BodyIndex → Bool) (old : Cache Z) (id : BodyIndex) (body : RcSlice ℕ Z)
       → ((k : BodyIndex) → test k ≡ true → k.0 ≡ id.0) → Some body ≡ lookup test old.entries
       → Contains (pairs_of old.entries) (id.0, rc_slice_items body)
@@ -54,7 +54,7 @@ module _ {Z : Type 0} where
       subst (λ (n : ℕ). Contains (pairs_of old.entries) (n, rc_slice_items body))
       (same there.0 there.2) (contains_map pair_of old.entries (there.0, body) there.1)
 
-  -- to put one leaves it, and others that were there
+  -- after one is put, each at hand is that one or was at hand before
   pub put_pairs : (eq : BodyIndex → BodyIndex → Bool) (old new : Cache Z) (id : BodyIndex)
       (body : RcSlice ℕ Z) → ((a b : BodyIndex) → eq a b ≡ true → a.0 ≡ b.0)
       → new ≡ lru_cache (put_entries eq old id body) old.cap

@@ -2,7 +2,7 @@
 use Rattle.std.specs.Prelude.{ℕ, List, map, Option, slice_get}
 use Rattle.std.specs.Option.{option_map}
 
--- Where a body is kept, and the body that was pushed.
+-- The place of a body on the device, and the body that was pushed.
 pub record KeptBody : Type 0 where
   pub place : ℕ
   pub body : List ℕ
@@ -21,10 +21,10 @@ bodies_of kept = map (λ (one : KeptBody). one.body) kept
 abbrev pub bodies_in : BodiesState → List (List ℕ)
 bodies_in bodies = bodies_of bodies.kept
 
--- The body at an index; none past the last one.
+-- The body at an index; `None` past the last one.
 abbrev pub body_at : List KeptBody → ℕ → Option (List ℕ)
 body_at kept index = option_map (λ (one : KeptBody). one.body) (slice_get kept index)
 
--- The body of a store at an index; none past the last one.
+-- The body of a store at an index; `None` past the last one.
 abbrev pub body_at_index : BodiesState → ℕ → Option (List ℕ)
 body_at_index bodies index = body_at bodies.kept index

@@ -1,4 +1,4 @@
-//! The bodies at hand.
+//! The bodies at hand. A cache without memory for one goes on without it.
 
 ghost use Rattle.std.specs.{
   Prelude.{◌≡◌, ◌⊎◌, ℕ, List, Contains, IfOk, IfSome},
@@ -27,7 +27,7 @@ pub(crate) fn keep(
     }
 }
 
-/// Puts a body at hand that is used besides, if there is memory for it.
+/// Puts at hand a body that its caller goes on to use, if there is memory for it.
 pub(crate) fn keep_shared(
     cache: &mut LruCache<BodyIndex, RcSlice<u8>>,
     index: BodyIndex,
@@ -43,7 +43,7 @@ pub(crate) fn keep_shared(
     }
 }
 
-/// A body, where it is at hand.
+/// The body at an index, if it is at hand.
 pub(crate) fn body_at_hand(
     cache: &mut LruCache<BodyIndex, RcSlice<u8>>,
     index: BodyIndex,

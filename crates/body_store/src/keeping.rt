@@ -1,4 +1,5 @@
-//! Keeping bodies on a scratch device, and reading them back.
+//! Keeps bodies on a scratch device, and reads them back. A body that is pushed is written first,
+//! and only then listed.
 
 ghost use Rattle.std.specs.{
   Prelude.{◌≡◌, ◌<◌, true, [], ◌∷◌, ◌++◌, length, map, Some, IfOk, OnErr, OnOk, IsErrOf},
@@ -25,7 +26,7 @@ use shared_list::Shared;
 use std::alloc::Global;
 use std::rc::RcSlice;
 
-/// The bytes that are kept at a place, so many.
+/// Reads the `len` bytes that are kept at a place.
 fn read<S: Scratch>(
     alloc: Global,
     scratch: &mut S,
@@ -74,7 +75,7 @@ pub(crate) fn body_from<S: Scratch>(
     Ok(body)
 }
 
-/// Appends a body, which the device is to keep.
+/// Appends a body, which the device keeps from then on. On an error the bodies stay as they were.
 pub(crate) fn push_to<S: Scratch>(
     kept: &mut Shared<Kept>,
     cache: &mut LruCache<BodyIndex, RcSlice<u8>>,

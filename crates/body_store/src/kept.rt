@@ -1,4 +1,5 @@
-//! Where bodies are kept.
+//! What is kept of a body in memory: its place and its length. The bytes are on the scratch device,
+//! and only contracts see them here.
 
 ghost use Rattle.std.specs.{Prelude.{◌≡◌, length}, Rc.{rc_slice_items}};
 
@@ -6,7 +7,7 @@ use std::marker::Model;
 use std::rc::RcSlice;
 use std::snapshot::Snapshot;
 
-/// Which body, in the order in which they were pushed, from 0.
+/// The index of a body in the order in which they were pushed, from 0.
 #[derive(Clone, Copy, Debug, PartialEq, Eq, Hash)]
 pub(crate) struct BodyIndex(pub u32);
 
@@ -37,7 +38,7 @@ impl Pushed {
     }
 }
 
-/// Where a body is kept, and how many bytes it has.
+/// The place of a body on the device, and its length in bytes.
 #[derive(Drop)]
 pub(crate) struct Kept {
     place: u64,
@@ -68,14 +69,14 @@ impl Kept {
         }
     }
 
-    /// Where it is kept.
+    /// Its place on the device.
     pub fn place(&self) -> u64
         ensures { result ≡ self.now.place }
     {
         self.place
     }
 
-    /// How many bytes it has.
+    /// Its length in bytes.
     pub fn len(&self) -> usize
         ensures { result ≡ length self.now.body }
     {

@@ -1,4 +1,4 @@
-//! How many bodies are at hand.
+//! The capacity of the cache of bodies.
 
 /// The greatest number of bodies at hand.
 pub const CACHED_BODIES: usize = 1_024;

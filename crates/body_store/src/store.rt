@@ -1,4 +1,5 @@
-//! The bodies that are kept, and those at hand.
+//! The bodies of versions in the order in which they were pushed. If it is known which bytes the
+//! device holds, a body that is read doesn't depend on which of them are at hand.
 
 ghost use Rattle.std.specs.{
   Prelude.{◌≡◌, ◌<◌, ◌≤◌, true, [], ◌∷◌, ◌++◌, length, take, Some, IfOk, OnOk, OnErr, IsErrOf},
@@ -66,8 +67,8 @@ impl Bodies {
         })
     }
 
-    /// Appends a body, which the device is to keep. Where the device fails, and out of memory, the
-    /// bodies stay as they were.
+    /// Appends a body, which the device keeps from then on. If the device fails or memory runs out,
+    /// the bodies stay as they were.
     pub fn push<S: Scratch>(&mut self, scratch: &mut S, body: RcSlice<u8>) -> Result<(), HostError>
         requires room { length self.old.kept < MAX_ROWS }
         requires agrees { Agrees self.old (S.state scratch.old) }
@@ -82,7 +83,8 @@ impl Bodies {
         push_to(&mut self.kept, &mut self.cache, scratch, body)
     }
 
-    /// The body at an index, in the order in which they were pushed, from 0.
+    /// The body at an index, in the order in which they were pushed, from 0: the one at hand, or
+    /// else the one that the device keeps.
     pub fn body<S: Scratch>(
         &mut self,
         scratch: &mut S,
@@ -110,7 +112,7 @@ impl Bodies {
         self.kept.len() as u32
     }
 
-    /// The first bodies, so many. None of them is at hand.
+    /// The first `count` bodies. None of them is at hand.
     pub fn front(&self, count: u32) -> Result<Bodies, Memory>
         requires { count ≤ length self.now.kept }
         ensures front { IfOk result

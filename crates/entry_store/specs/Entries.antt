@@ -1,4 +1,4 @@
--- The entries of a store.
+-- The entries of a store: what is kept of a version, and what holds of all.
 use Rattle.std.specs.Prelude.{◌≡◌, ℕ, ◌<◌, ◌≤◌, ◌∷◌, List, length, map, replicate, take, Option, Some, None, slice_get, IsSomeAnd}
 use Rattle.std.specs.List.{All}
 use Rattle.sha2.specs.Sha256.{sha256}
@@ -21,7 +21,7 @@ pub record Entry : Type 0 where
 
 -- ---- what is computed of a new entry
 
--- The digest of the header of an entry; zeros where there is no such entry.
+-- The digest of the header of an entry; zeros if there is no such entry.
 abbrev pub entry_digest : Option Entry → Digest
 entry_digest None = record { 0 = replicate 32 0 }
 entry_digest (Some entry) = entry.facts.digest
@@ -30,7 +30,7 @@ entry_digest (Some entry) = entry.facts.digest
 abbrev pub named_link : List Entry → Hop → Link
 named_link entries hop = record { block = hop.block; digest = entry_digest (slice_get entries hop.id.0) }
 
--- The header of a new entry, where these are the entries before.
+-- The header of a new entry, from the entries before it.
 abbrev pub new_header : List Entry → List ℕ → ℕ → ℕ → List Hop → ℕ → Digest → List ℕ → Header
 new_header entries key block tx hops closed closed_digest body = record {
   key = key;
@@ -54,7 +54,7 @@ facts_of header = record {
   digest = record { 0 = sha256 (header_text header) };
 }
 
--- A new entry, where these are the entries before.
+-- A new entry, from the entries before it.
 abbrev pub new_entry : List Entry → List ℕ → ℕ → ℕ → List Hop → ℕ → Digest → List ℕ → Entry
 new_entry entries key block tx hops closed closed_digest body = record {
   links = record { block = block; hops = hops };
@@ -64,7 +64,7 @@ new_entry entries key block tx hops closed closed_digest body = record {
 
 -- ---- what holds of all entries
 
--- A hop leads to an entry of this key, in the hop's block, which is before this one.
+-- A hop leads to an entry of this key in the hop's block, which is earlier than this one.
 abbrev pub LeadsBack : List Entry → List ℕ → ℕ → Hop → Type 0
 LeadsBack entries key block hop = (hop.block < block) × IsSomeAnd (slice_get entries hop.id.0) (λ older. (older.facts.key ≡ key) × (older.links.block ≡ hop.block))
 
@@ -74,7 +74,7 @@ pub record IsLinked (before : List Entry) (entry : Entry) : Type 0 where
   pub few : length entry.links.hops ≤ MAX_LINKS
   pub back : All (LeadsBack before entry.facts.key entry.links.block) entry.links.hops
 
--- The entries of a store.
+-- The entries of a store are at most MAX_ROWS, and each has links to entries before it.
 pub record AreEntries (entries : List Entry) : Type 0 where
   pub few : length entries ≤ MAX_ROWS
   pub linked : (index : ℕ) (entry : Entry) → slice_get entries index ≡ Some entry → IsLinked (take index entries) entry

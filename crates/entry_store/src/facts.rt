@@ -43,7 +43,7 @@ fn named_link(entries: &Shared<Kept>, hop: &Hop) -> Link
     }
 }
 
-/// The hops with the digests of the headers that they lead to.
+/// The links of a header: the hops, each with the digest of the header that it leads to.
 pub(crate) fn links_of(
     alloc: Global,
     entries: &Shared<Kept>,
@@ -59,7 +59,7 @@ pub(crate) fn links_of(
     Ok(links)
 }
 
-/// What is kept of a header.
+/// What is kept of a header: its fields but for the links, and its digest.
 pub(crate) fn facts_of(header: &Header) -> Facts
     requires { length header.now.links ≤ MAX_LINKS }
     ensures { result ≡ facts_of header.now }

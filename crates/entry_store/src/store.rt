@@ -1,4 +1,4 @@
-//! The arena of entries.
+//! The arena of entries: they are added at the end, and none is changed or removed.
 
 ghost use Rattle.std.specs.{
   Prelude.{◌≡◌, ◌<◌, ◌≤◌, [], ◌∷◌, ◌++◌, length, map, take, slice_get, Some, MatchOption, IfOk, OnOk, OnErr},
@@ -24,7 +24,7 @@ use std::alloc::Global;
 use std::marker::Model;
 
 /// Versions in the order in which they were pushed. An entry never changes, and a front shares its
-/// entries with the store that it is of.
+/// entries with the store that it was made from.
 #[derive(Drop)]
 pub struct Store {
     entries: Shared<Kept>,
@@ -51,9 +51,9 @@ impl Store {
         })
     }
 
-    /// Adds an entry, digests its header, and gives its id. `closed` is the number of versions that were
-    /// derived from the version of the key before, and `closed_digest` their digest as a forward list. Out
-    /// of memory, the store stays as it was.
+    /// Adds an entry at the end, digests its header, and returns its id. `closed` is the number of
+    /// versions that were derived from the version of the key before, and `closed_digest` their
+    /// digest as a forward list. If memory runs out, the store stays as it was.
     pub fn push(
         &mut self,
         key: Key,
@@ -101,7 +101,7 @@ impl Store {
         self.entries.at(id.0 as usize).links()
     }
 
-    /// The other facts of an entry.
+    /// The fields of an entry's header but for its links, and the header's digest.
     pub fn facts(&self, id: EntryId) -> Facts
         requires { id.0 < length self.now }
         ensures { option_map (λ (entry : Entry). entry.facts) (slice_get self.now id.0) ≡ Some result }
@@ -109,7 +109,7 @@ impl Store {
         self.entries.at(id.0 as usize).facts()
     }
 
-    /// Hops with the digests of the headers that they lead to.
+    /// The links of a header: hops, each with the digest of the header that it leads to.
     pub fn named_links(&self, alloc: Global, hops: &[Hop]) -> Result<LinkList, Memory>
         requires { All (λ (hop : Hop). hop.id.0 < length self.now) hops.now }
         ensures { IfOk result (λ links. links ≡ map (named_link self.now) hops.now) }
@@ -117,7 +117,7 @@ impl Store {
         links_of(alloc, &self.entries, hops)
     }
 
-    /// The number of entries. What holds of the entries of every store is said here.
+    /// The number of entries. By this call contracts know what holds of the entries of every store.
     pub fn count(&self) -> u32
         ensures count { result ≡ length self.now }
         ensures entries { AreEntries self.now }
@@ -134,7 +134,7 @@ impl Store {
         }
         None
     }
-    /// The store of the first entries, so many, which it shares with this store.
+    /// The store of the first `count` entries, which it shares with this store.
     pub fn front(&self, count: u32) -> Result<Store, Memory>
         requires { count ≤ length self.now }
         ensures { IfOk result (λ front. front ≡ take count self.now) }

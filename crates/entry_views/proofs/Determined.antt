@@ -1,4 +1,4 @@
--- What is read again after it was written is determined by its bytes.
+-- A value that is read back from its fields is determined by them.
 use Rattle.std.proofs.Common.{ℕ, List, sym, ap, ◌∙◌}
 use Rattle.byte_fields.specs.Reading.{Field}
 use Rattle.byte_fields.proofs.Laws.{IsField, ok_is}

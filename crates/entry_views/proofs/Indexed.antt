@@ -18,7 +18,7 @@ this_one (suc n) (y ∷ all) rest after x is parts = this_one n all rest after x
 pub none_there : {A : Type 0} (n i : ℕ) (all rest : List A) → rest ≡ drop n all → rest ≡ [] → n ≤ i → slice_get all i ≡ None
 none_there {A = A} n i all rest is none le = slice_get_past all i (let left = length-drop n all in omega (arith, le, left, ap (λ (t : List A). length t) (sym is ∙ none)))
 
--- what is next after so many
+-- what is next after n items
 pub next_is : {A : Type 0} (o : Option A) (n i : ℕ) (all rest after : List A) → i ≤ n → n ≤ i → rest ≡ drop n all → MatchOption o (rest ≡ []) (λ x. rest ≡ x ∷ after) → o ≡ slice_get all i
 next_is None n i all rest after le ge is end = sym (none_there n i all rest is end ge)
 next_is (Some x) n i all rest after le ge is parts =

@@ -1,4 +1,4 @@
--- Items one after the other, of which one is read.
+-- Items one after the other: the item at an index is what is read after those before it.
 use Rattle.std.proofs.Common.{◌≡◌, ℕ, zero, suc, ◌<◌, List, [], ◌∷◌, length, slice_get, Some, Result, Ok, Err, refl, sym, ap, ◌∙◌, arith}
 use Rattle.std.specs.Result.{result_ok}
 use Rattle.byte_fields.specs.Reading.{Field, ◌>>=◌, items_at}
@@ -96,7 +96,7 @@ module _ {A : Type 0} (item : List ℕ → Field A) where
   pub all_skipped : (r : Field (List A)) (xs : List A) (rest : List ℕ) → r ≡ Ok (xs, rest) → r ≡ Ok (items_read r, rest)
   all_skipped r xs rest e = e ∙ ap (λ (ys : List A). Ok (ys, rest)) (sym (ap items_read e))
 
-  -- so many items before this one are never invalid
+  -- the i items before this one are not invalid
   pub none_before : (n i : ℕ) (bytes : List ℕ) → AreRead (items_at item n bytes) → i < n → (left : ℕ) → items_at item i bytes ≡ Err left → ⊥
   none_before n i bytes are lt left e = let before = (nth n i bytes are lt).before_read in absurd cc
 

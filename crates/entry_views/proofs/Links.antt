@@ -1,4 +1,4 @@
--- Where the links stand, one after the other.
+-- Link i begins 36 · i bytes after the first.
 use Rattle.std.proofs.Common.{◌≡◌, ℕ, zero, suc, ◌+◌, ◌*◌, ◌<◌, List, [], length, drop, slice_get, Result, Ok, sym, ap, subst, ◌∙◌, arith}
 use Rattle.std.specs.List.{concat}
 use Rattle.std.specs.Result.{result_ok}
@@ -23,7 +23,7 @@ after_link bytes link after fits e =
     let long : length spelled ≡ 36 = omega (arith, t.is.digest_fits, length-append link.digest.0 []) in
     (IsBytes-after spelled after (subst IsBytes t.parts fits), sym (ap (drop 36) t.parts ∙ drop_at spelled after 36 long))
 
--- so many links before
+-- after i links, 36 · i bytes were read
 after_links : (i : ℕ) (bytes : List ℕ) (links : List Link) (after : List ℕ) → IsBytes bytes → items_at link_at i bytes ≡ Ok (links, after) → after ≡ drop (36 * i) bytes
 after_links zero bytes links after fits e = sym (none_read link_at bytes links after e).1
 after_links (suc i) bytes links after fits e =

@@ -1,4 +1,4 @@
--- What is read from an offset on stands there, and what stands there is read.
+-- A value is read from an offset on exactly if its fields are there.
 use Rattle.std.proofs.Common.{◌≡◌, ℕ, ◌+◌, ◌-◌, ◌≤◌, List, ◌++◌, length, take, drop, Result, Ok, Err, refl, sym, ap, subst, ◌∙◌, arith}
 use Rattle.std.specs.Prelude.{IfOk, IfErr}
 use Rattle.std.specs.List.{concat}
@@ -17,7 +17,7 @@ use Rattle.entry_views.specs.Standing.{StandsAt, IsInvalidAt, placed_value, read
 abbrev done : {A : Type 0} → Placed A → Result (Placed A) FieldError
 done view = Ok view
 
--- what a reader answered, where it is known
+-- the result of a reader, in place of an equal one
 pub reads_this : {A : Type 0} (result known : Result A Fault) (r : Field A) (after : List ℕ) → result ≡ known → Reads fault_left result r after → Reads fault_left known r after
 reads_this {A = A} result known r after e read = subst (λ (t : Result A Fault). Reads fault_left t r after) e read
 
@@ -59,7 +59,7 @@ module _ {A : Type 0} {read : List ℕ → Field A} {fields : A → List (List �
   pub fault : IsBytes bytes → (result : Result (Placed A) FieldError) → result ≡ read_from read bytes offset → IfErr result (λ error. IsInvalidAt fields Is bytes offset error.at)
   fault fits result e = subst (λ (r : Result (Placed A) FieldError). IfErr r (λ error. IsInvalidAt fields Is bytes offset error.at)) (sym e) (fault_by fits (read rest) refl)
 
-  -- no more is left than there was
+  -- what is left is no longer than what there was
   within : IsBytes bytes → left_of (read rest) ≤ length rest
   within fits = left_within field rest (IsBytes-drop offset bytes fits)
 

@@ -1,4 +1,4 @@
--- What is read of a body is spelled so, and what is spelled so is read.
+-- Bytes are read as a body exactly if they begin with its spelling.
 use Rattle.std.proofs.Common.{ℕ, List, refl, arith}
 use Rattle.byte_fields.proofs.Laws.{IsField, renamed, then_field, made_field}
 use Rattle.byte_fields.proofs.Pieces.{piece_field, number_piece, bytes_piece, wide32}

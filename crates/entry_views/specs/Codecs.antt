@@ -9,7 +9,7 @@ pub record Codec (A : Type 0) : Type 1 where
   pub fields : A → List (List ℕ)
   -- The lawful values.
   pub lawful : A → Type 0
-  -- What reading bytes as these fields gives.
+  -- The result of reading bytes as these fields.
   pub read : List ℕ → Field A
   -- What is read is spelled so, and what is spelled so is read.
   pub agrees : IsField read fields lawful

@@ -4,12 +4,12 @@ use Rattle.byte_fields.specs.Reading.{Field}
 use Rattle.byte_fields.specs.Reader.{fault_left, ReadsAs}
 use Rattle.byte_fields.specs.declared.fault.Fault.{Fault}
 
--- The items that were read, or none where one of them was invalid.
+-- The items that were read; none if one of them was invalid.
 abbrev pub items_read : {A : Type 0} → Field (List A) → List A
 items_read (Ok read) = read.0
 items_read (Err left) = []
 
--- All of them were read.
+-- All items were read.
 abbrev pub AreRead : {A : Type 0} → Field (List A) → Type 0
 AreRead (Ok read) = Unit {0}
 AreRead (Err left) = ⊥

@@ -1,4 +1,4 @@
--- What is read of a leaf is spelled so, and what is spelled so is read.
+-- Bytes are read as a leaf exactly if they begin with its spelling.
 use Rattle.std.proofs.Common.{◌≡◌, ℕ, zero, suc, ◌<◌, true, List, [], ◌∷◌, Option, Some, None, refl, arith, append_assoc}
 use Rattle.std.specs.Prelude.{nat_lt}
 use Rattle.std.proofs.lemmas.Bool.{ltb-true}
@@ -40,7 +40,7 @@ abbrev flag_of : Option (List ℕ) → ℕ
 flag_of None = 0
 flag_of (Some key) = 1
 
--- what stands after the flag
+-- what follows the flag
 abbrev after_flag : Option (List ℕ) → List (List ℕ)
 after_flag None = []
 after_flag (Some key) = string_fields key

@@ -1,4 +1,4 @@
--- A value that stands in bytes.
+-- A value that was read from bytes, with where it ends there.
 use Rattle.std.specs.Prelude.{◌≡◌, ℕ, List}
 use Rattle.std.specs.List.{concat}
 

@@ -15,7 +15,7 @@ use Rattle.prov_entry.specs.declared.entry.Leaf.{Leaf}
 
 -- ---- items of lists
 
--- A digest of its bytes.
+-- The digest with these bytes.
 abbrev pub digest_of_bytes : List ℕ → Digest
 digest_of_bytes bytes = record { 0 = bytes }
 
@@ -23,7 +23,7 @@ digest_of_bytes bytes = record { 0 = bytes }
 unfoldable pub digest_at : List ℕ → Field Digest
 digest_at = made_at digest_of_bytes (bytes_at 32)
 
--- A use of its parts.
+-- The use with these parts.
 abbrev pub use_of : List ℕ × ℕ → Dep
 use_of parts = record { key = parts.0; block = parts.1 }
 
@@ -31,13 +31,13 @@ use_of parts = record { key = parts.0; block = parts.1 }
 unfoldable pub use_at : List ℕ → Field Dep
 use_at = made_at use_of (then_at key_at (number_at w32))
 
--- At most so many items, after their number.
+-- At most `most` items, after a byte with their number.
 unfoldable pub short_list_at : {A : Type 0} → ℕ → (List ℕ → Field A) → List ℕ → Field (List A)
 short_list_at most item = bind_at (ruled_at (λ n. nat_le n most) byte_at) (items_at item)
 
 -- ---- headers
 
--- A link of its parts.
+-- The link with these parts.
 abbrev pub link_of : ℕ × List ℕ → Link
 link_of parts = record { block = parts.0; digest = record { 0 = parts.1 } }
 
@@ -49,7 +49,7 @@ link_at = made_at link_of (then_at (number_at w32) (bytes_at 32))
 abbrev pub links_at : List ℕ → Field (List Link)
 links_at = short_list_at MAX_LINKS link_at
 
--- A header of its parts.
+-- The header with these parts.
 abbrev pub header_of : List ℕ × (ℕ × (ℕ × (List ℕ × (ℕ × (List ℕ × List Link))))) → Header
 header_of parts = record {
   key = parts.0;
@@ -67,7 +67,7 @@ header_at = made_at header_of (then_at key_at (then_at (number_at w32) (then_at 
 
 -- ---- bodies
 
--- A dependency of its parts.
+-- The dependency with these parts.
 abbrev pub body_dep_of : List ℕ × (ℕ × List ℕ) → BodyDep
 body_dep_of parts = record { key = parts.0; block = parts.1.0; digest = record { 0 = parts.1.1 } }
 
@@ -79,7 +79,7 @@ body_dep_at = made_at body_dep_of (then_at key_at (then_at (number_at w32) (byte
 abbrev pub body_deps_at : List ℕ → Field (List BodyDep)
 body_deps_at = short_list_at MAX_DEPS body_dep_at
 
--- A body of its parts.
+-- The body with these parts.
 abbrev pub body_of : Value × List BodyDep → Body
 body_of parts = record { value = parts.0; deps = parts.1 }
 
@@ -94,11 +94,11 @@ abbrev pub flagged_at : ℕ → List ℕ → Field (Option (List ℕ))
 flagged_at zero = ret_at None
 flagged_at (suc flag) = made_at Some key_at
 
--- A next key, or none: the flag, and what it says.
+-- A next key, or none: the flag, and after the flag 1 the key.
 unfoldable pub next_at : List ℕ → Field (Option (List ℕ))
 next_at = bind_at (ruled_at (λ flag. nat_lt flag 2) byte_at) flagged_at
 
--- A leaf of its parts.
+-- The leaf with these parts.
 abbrev pub leaf_of : Option (List ℕ) × (Option (List ℕ) × (ℕ × (List ℕ × (ℕ × List ℕ)))) → Leaf
 leaf_of parts = record {
   key = parts.0;

@@ -1,4 +1,4 @@
--- What is read of a short list is spelled so, and what is spelled so is read.
+-- Bytes are read as a short list exactly if they begin with its spelling.
 use Rattle.std.proofs.Common.{ℕ, ◌<◌, ◌≤◌, List, [], ◌∷◌, length, refl, arith}
 use Rattle.std.specs.Prelude.{nat_le}
 use Rattle.std.specs.List.{flat_map, AllByRecursion}
@@ -10,7 +10,7 @@ use Rattle.byte_fields.proofs.Pieces.{piece_field, ruled_piece, byte_piece}
 use Rattle.entry_views.specs.Reading.{short_list_at}
 
 module _ {A : Type 0} {item : List ℕ → Field A} {fields : A → List (List ℕ)} {Is : A → Type 0} (most : ℕ) (fits : most < 256) (field : IsField item fields Is) where
-  -- at most so many lawful items
+  -- at most `most` lawful items
   abbrev pub AreFew : List A → Type 0
   AreFew items = (length items ≤ most) × AllByRecursion Is items
 

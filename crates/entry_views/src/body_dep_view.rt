@@ -1,4 +1,5 @@
-//! The dependencies of a body as they stand in bytes.
+//! The dependencies of a body, read in place. Their lengths differ, so one is found by reading
+//! those before it.
 
 ghost use Rattle.std.specs.Prelude.{◌≡◌, slice_get};
 

@@ -1,4 +1,4 @@
-//! Bodies as they stand in bytes.
+//! Bodies, read in place: a text value and the dependencies stay in the bytes.
 
 ghost use Rattle.std.specs.Prelude.{◌≡◌};
 ghost use Rattle.byte_fields.specs.Reader.{value_seen};
@@ -26,11 +26,11 @@ impl<'p> Model for BodyFields<'p> {
     ghost view = { λ fields. record { value = value_seen fields.value; deps = fields.deps } };
 }
 
-/// A body that stands in bytes.
+/// A body in the bytes that it was read from.
 pub type BodyView<'p> = EntryView<'p, BodyFields<'p>>;
 
 impl<'p> EntryView<'p, BodyFields<'p>> {
-    /// Its value, whose text stays where it lies.
+    /// Its value; a text is borrowed from the bytes.
     pub fn value(&self) -> ValueView<'p>
         ensures { value_seen result ≡ self.now.value.value }
     {
@@ -45,8 +45,8 @@ impl<'p> EntryView<'p, BodyFields<'p>> {
     }
 }
 
-/// The body that stands in the bytes from the offset `at` on, without the byte before it where it is
-/// hashed. An error exactly where none stands there.
+/// Reads the body at the offset `at` of the bytes, without the byte that comes first when it is
+/// hashed. An error exactly if there is none; it says where the first invalid field begins.
 pub fn read_body<'p>(bytes: &'p [u8], at: usize) -> Result<BodyView<'p>, FieldError>
     ensures { IsReadAt body_codec bytes.now at result }
 {

@@ -1,4 +1,4 @@
-//! How the fields of headers, bodies and leaves are read.
+//! Reads the fields of headers, bodies and leaves, in the order in which they are spelled.
 #![tactic(auto, unfolding(crate::specs::Reading::header_at, crate::specs::Reading::body_at, crate::specs::Reading::next_at, crate::specs::Reading::leaf_at))]
 
 ghost use Rattle.byte_fields.specs.Reader.{fault_left, Reads};

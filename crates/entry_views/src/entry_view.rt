@@ -1,4 +1,5 @@
-//! Entries as they stand in bytes.
+//! Entries in the bytes that they were read from: an entry is lawful, and these bytes are its
+//! fields.
 
 ghost use Rattle.std.specs.Prelude.{◌≡◌, ◌≤◌, ℕ, Ok, length, drop, IfOk, IfErr};
 ghost use Rattle.lc_base.specs.Answers.{Answers};
@@ -15,18 +16,18 @@ use std::marker::Model;
 
 /// The fields of an entry.
 pub trait EntryFields: Drop {
-    /// How they are spelled and read.
+    /// How the fields are spelled and read.
     ghost codec: { Codec Self };
 }
 
-/// Fields that are read where they stand.
+/// Fields that are read in place.
 pub trait ReadFields<'p>: EntryFields {
-    /// Reads them, the first one first.
+    /// Reads the fields in their order, and leaves the reader after them.
     fn read(reader: &mut Reader<'p>) -> Result<Self, Fault>
         ensures { Reads fault_left result (Self.codec.read reader.old) reader.new };
 }
 
-/// An entry that stands in bytes.
+/// An entry in the bytes that it was read from.
 #[derive(Drop)]
 pub struct EntryView<'p, F: EntryFields> {
     pub(crate) fields: F,
@@ -45,7 +46,7 @@ impl<'p, F: EntryFields> Model for EntryView<'p, F> {
 }
 
 impl<'p, F: EntryFields> EntryView<'p, F> {
-    /// The bytes that it was read from, which are its fields.
+    /// The bytes that it was read from: its fields, as they are hashed after their first byte.
     pub fn bytes(&self) -> &'p [u8]
         ensures spelled { IsSpelled F.codec.fields F.codec.lawful self.now.value result.now }
     {
@@ -61,16 +62,16 @@ impl<'p, F: EntryFields> EntryView<'p, F> {
 }
 
 impl<'p, F: ReadFields<'p>> EntryView<'p, F> {
-    /// The entry that stands in the bytes from the offset `at` on, without the byte before it where
-    /// it is hashed. An error exactly where none stands there.
+    /// Reads the entry at the offset `at` of the bytes, without the byte that comes first when it
+    /// is hashed. An error exactly if there is none.
     pub(crate) fn read_at(bytes: &'p [u8], at: usize) -> Result<EntryView<'p, F>, FieldError>
-        // What is read stands there.
+        // The entry that is returned is there.
         ensures found { IfOk result (λ entry. StandsAt F.codec.fields F.codec.lawful bytes.now at entry.value entry.end) }
-        // What stands there is read.
+        // An entry that is there is returned.
         ensures only { (value : F) (end : ℕ) → StandsAt F.codec.fields F.codec.lawful bytes.now at value end → result ≡ Ok (record { value = value; end = end }) }
-        // A fault is told at its offset.
+        // A fault is reported at its offset.
         ensures fault { IfErr result (λ error. IsInvalidAt F.codec.fields F.codec.lawful bytes.now at error.at) }
-        // What stands there is said by a function, and that is the answer.
+        // The result is a function of the bytes and the offset.
         ensures exact { result ≡ read_from F.codec.read bytes.now at }
     {
         let mut reader = Reader::new(tail(bytes, at));
@@ -78,7 +79,7 @@ impl<'p, F: ReadFields<'p>> EntryView<'p, F> {
         entry_of_fields(bytes, at, fields, &reader)
     }
 
-    /// The entry where a reader stands, and the reader after it.
+    /// Reads the entry at the reader's place, and leaves the reader after it.
     pub fn read(reader: &mut Reader<'p>) -> Result<EntryView<'p, F>, Fault>
         ensures { ReadsAs (λ entry. entry.value) fault_left result (F.codec.read reader.old) reader.new }
     {

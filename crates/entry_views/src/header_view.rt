@@ -1,4 +1,4 @@
-//! Headers as they stand in bytes.
+//! Headers, read in place: keys and digests are copied, and the links stay in the bytes.
 
 ghost use Rattle.std.specs.Prelude.{◌≡◌};
 ghost use Rattle.entry_views.specs.{Headers.{header_codec}, Standing.{IsReadAt}};
@@ -29,7 +29,7 @@ impl<'p> Model for HeaderFields<'p> {
     ghost view = { λ fields. record { key = fields.key; block = fields.block; tx = fields.tx; body = fields.body; closed = fields.closed; closed_digest = fields.closed_digest; links = fields.links } };
 }
 
-/// A header that stands in bytes.
+/// A header in the bytes that it was read from.
 pub type HeaderView<'p> = EntryView<'p, HeaderFields<'p>>;
 
 impl<'p> EntryView<'p, HeaderFields<'p>> {
@@ -84,8 +84,8 @@ impl<'p> EntryView<'p, HeaderFields<'p>> {
     }
 }
 
-/// The header that stands in the bytes from the offset `at` on, without the byte before it where it is
-/// hashed. An error exactly where none stands there.
+/// Reads the header at the offset `at` of the bytes, without the byte that comes first when it is
+/// hashed. An error exactly if there is none; it says where the first invalid field begins.
 pub fn read_header<'p>(bytes: &'p [u8], at: usize) -> Result<HeaderView<'p>, FieldError>
     ensures { IsReadAt header_codec bytes.now at result }
 {

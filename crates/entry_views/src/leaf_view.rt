@@ -1,4 +1,4 @@
-//! Leaves as they stand in bytes.
+//! Leaves that are read from bytes; their fields are copied.
 
 ghost use Rattle.std.specs.Prelude.{◌≡◌};
 ghost use Rattle.entry_views.specs.{Leaves.{leaf_codec}, Standing.{IsReadAt}};
@@ -8,18 +8,18 @@ use crate::fault::FieldError;
 use lc_base::{Digest, Key};
 use prov_entry::Leaf;
 
-/// A leaf that stands in bytes.
+/// A leaf with the bytes that it was read from.
 pub type LeafView<'p> = EntryView<'p, Leaf>;
 
 impl<'p> EntryView<'p, Leaf> {
-    /// None for the sentinel.
+    /// The key; `None` for the sentinel.
     pub fn key(&self) -> Option<Key>
         ensures { result ≡ self.now.value.key }
     {
         self.fields.key
     }
 
-    /// The least key that is greater and has a leaf; none where there is no greater one.
+    /// The least greater key that has a leaf; `None` if no key is greater.
     pub fn next(&self) -> Option<Key>
         ensures { result ≡ self.now.value.next }
     {
@@ -55,8 +55,8 @@ impl<'p> EntryView<'p, Leaf> {
     }
 }
 
-/// The leaf that stands in the bytes from the offset `at` on, without the byte before it where it is
-/// hashed. An error exactly where none stands there.
+/// Reads the leaf at the offset `at` of the bytes, without the byte that comes first when it is
+/// hashed. An error exactly if there is none; it says where the first invalid field begins.
 pub fn read_leaf<'p>(bytes: &'p [u8], at: usize) -> Result<LeafView<'p>, FieldError>
     ensures { IsReadAt leaf_codec bytes.now at result }
 {

@@ -1,4 +1,5 @@
-//! Headers, bodies and leaves as they stand in bytes, read without being copied.
+//! Headers, bodies and leaves, read in place from their bytes: they are checked, and lists and
+//! texts are not copied.
 #![tactic(auto)]
 
 mod body_dep_view;

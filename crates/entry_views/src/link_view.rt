@@ -1,4 +1,4 @@
-//! Links as they stand in bytes.
+//! The links of a header, read in place. They have one length, so each is found at once.
 
 ghost use Rattle.std.specs.Prelude.{◌≡◌, slice_get};
 ghost use Rattle.byte_fields.specs.Reading.{items_at};

@@ -1,4 +1,4 @@
-//! How the items of lists are read.
+//! Reads the items of lists, field by field.
 #![tactic(auto, unfolding(crate::specs::Reading::digest_at, crate::specs::Reading::use_at, crate::specs::Reading::link_at, crate::specs::Reading::body_dep_at))]
 
 ghost use Rattle.entry_views.specs.Reading.{digest_at, use_at, link_at, body_dep_at};

@@ -1,4 +1,5 @@
-//! Lists of items as they stand in bytes.
+//! Lists that are read in place: all items were read and checked once, so that none is invalid when
+//! it is taken.
 
 ghost use Rattle.std.specs.Prelude.{◌≡◌, ◌==◌, ◌∷◌, [], ℕ, List, length, MatchOption};
 ghost use Rattle.byte_fields.specs.{Reader.{fault_left, Reads}, Reading.{Field, items_at}};
@@ -9,15 +10,15 @@ use std::marker::{Model, PhantomData};
 
 /// An item of a list.
 pub trait ListItem: Drop {
-    /// What reading bytes as an item gives.
+    /// The result of reading bytes as an item.
     ghost item_at: { List ℕ → Field Self };
 
-    /// Reads an item.
+    /// Reads an item, and leaves the reader after it.
     fn read(reader: &mut Reader) -> Result<Self, Fault>
         ensures { Reads fault_left result (item_at reader.old) reader.new };
 }
 
-/// Items, the first one first.
+/// The items of a list, in the bytes that they were read from.
 #[derive(Drop)]
 pub struct ListView<'p, T: ListItem> {
     pub(crate) count: u32,
@@ -38,7 +39,7 @@ impl<'p, T: ListItem> Model for ListView<'p, T> {
 }
 
 impl<'p, T: ListItem> ListView<'p, T> {
-    /// Their number.
+    /// The number of items.
     #[tactic(auto, using(crate::proofs::Items::items_counted))]
     pub fn len(&self) -> usize
         ensures { result ≡ length self.now }
@@ -65,7 +66,7 @@ impl<'p, T: ListItem> ListView<'p, T> {
         }
     }
 
-    /// Takes the first item away; `None` exactly where there is none.
+    /// Takes the first item away and returns it; `None` exactly if there is none.
     pub fn next(&mut self) -> Option<T>
         ensures { MatchOption result (self.old ≡ []) (λ item. self.old ≡ item ∷ self.new) }
     {
@@ -93,7 +94,7 @@ fn skip_items<T: ListItem>(reader: &mut Reader, count: u32) -> Result<(), Fault>
     Ok(())
 }
 
-/// So many items.
+/// Reads `count` items, and leaves the reader after them.
 pub fn read_list<'p, T: ListItem>(
     reader: &mut Reader<'p>,
     count: u32,
@@ -109,7 +110,8 @@ pub fn read_list<'p, T: ListItem>(
     })
 }
 
-/// At most so many items, after their number.
+/// Reads at most `most` items, which follow a byte with their number, and leaves the reader after
+/// them.
 #[tactic(auto, unfolding(crate::specs::Reading::short_list_at))]
 pub(crate) fn read_short_list<'p, T: ListItem>(
     reader: &mut Reader<'p>,

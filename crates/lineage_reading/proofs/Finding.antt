@@ -1,4 +1,4 @@
--- The version that a lookup gives.
+-- The answer to a question is about the version that a lookup finds.
 use Rattle.std.proofs.Common.{◌≡◌, ◌∙◌, ◌==◌, ℕ, List, Some, sym, ap}
 use Rattle.lc_base.specs.declared.row.Row.{Row}
 use Rattle.lc_base.specs.declared.answer.Query.{Query}

@@ -1,4 +1,4 @@
--- The body of a row is read as the row has it.
+-- The body of a row is read as the row has it, because the rows are within their types.
 use Rattle.std.proofs.Common.{◌≡◌, ◌∙◌, ℕ, List, map, Some, ap, subst}
 use Rattle.std.specs.Prelude.{slice_get}
 use Rattle.std.specs.List.{concat}

@@ -1,4 +1,4 @@
--- The version that is found.
+-- What is known of a version that was found.
 use Rattle.std.specs.Prelude.{◌≡◌, map, Option, Some, None}
 use Rattle.std.specs.Rc.{rc_slice_items}
 use Rattle.lc_base.specs.declared.row.Row.{Row}
@@ -6,7 +6,7 @@ use Rattle.entry_views.specs.Reading.{body_at}
 use Rattle.row_bodies.specs.Bodies.{body_read, dep_without_digest}
 use Rattle.lineage_reading.specs.declared.found.Found.{Found}
 
--- What was found is this row: where it stands, and what the bytes of its body say.
+-- What was found is this row: its block and transaction, and what the bytes of its body say.
 pub record IsRow (row : Row) (found : Found) : Type 0 where
   pub block_is : found.block ≡ row.block
   pub tx_is : found.tx ≡ row.tx
@@ -14,7 +14,7 @@ pub record IsRow (row : Row) (found : Found) : Type 0 where
   pub deps_are : map dep_without_digest (body_read (body_at (rc_slice_items found.body))).deps ≡
       row.deps
 
--- It is that row, where there is one.
+-- What was found is that row; nothing was found if there is none.
 abbrev pub IsFound : Option Row → Option Found → Type 0
 IsFound None None = Unit {0}
 IsFound None (Some found) = ⊥

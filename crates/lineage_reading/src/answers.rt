@@ -1,4 +1,4 @@
-//! The answer to a question over all rows of a lineage.
+//! The answer to a question over all rows of a lineage, by one lookup and at most one body.
 
 ghost use Rattle.std.specs.Prelude.{◌≡◌, ◌<◌, true, length, slice_get, Some, IfOk, IsErrOf};
 ghost use Rattle.lc_base.specs.{History.{answer_about, scan}, declared.row.Row.{Row}};
@@ -15,7 +15,7 @@ use row_bodies::{deps_of_bytes, value_of_bytes};
 use scratch_model::Scratch;
 use std::alloc::Global;
 
-/// What is asked of the row at an index. Of its uses it is answered without its body.
+/// The answer about the row at an index. A question of its uses is answered without its body.
 fn about<S: Scratch>(
     alloc: Global,
     lineage: &mut Lineage,
@@ -50,9 +50,9 @@ fn about<S: Scratch>(
     }
 }
 
-/// The answer to a question over all rows of a lineage, by one lookup, where it is known which bytes
+/// The answer to a question over all rows of a lineage, by one lookup, if it is known which bytes
 /// the device holds. The count rises by the number of the versions of the key that are looked at,
-/// also where there is no answer.
+/// also if the call fails. The rows stay; `Fault` exactly if a call of the device failed.
 pub fn answer<S: Scratch>(
     alloc: Global,
     lineage: &mut Lineage,

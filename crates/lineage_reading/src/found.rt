@@ -1,4 +1,4 @@
-//! A version of a key, with its body.
+//! Finds a version of a key, and reads its body from the device.
 
 ghost use Rattle.std.specs.Prelude.{◌≡◌, ◌<◌, true, length, slice_get, Some, IfOk, IsErrOf};
 ghost use Rattle.lc_base.specs.{History.{latest}, declared.row.Row.{Row}};
@@ -24,7 +24,7 @@ pub(crate) struct Found {
 impl Found {
     ghost use Rattle.lineage_reading.specs.Found.{IsRow, IsFound};
 
-    /// The version that the row at an index is.
+    /// The version of the row at an index.
     pub(crate) fn at<S: Scratch>(
         lineage: &mut Lineage,
         scratch: &mut S,
@@ -37,7 +37,8 @@ impl Found {
         ensures leaves { LeavesLineage S.state S.scratch_faults lineage.old scratch.old lineage.new
             scratch.new (IsErrOf result HostError.Fault) }
     {
-        // So that the rows are known to be within their types: their bodies can be spelled.
+        // By this call contracts know that the rows are within their types, so their bodies can be
+        // spelled.
         let _count = lineage.row_count();
         let facts = lineage.row_facts(index);
         let (block, tx) = (facts.block, facts.tx);
@@ -47,7 +48,7 @@ impl Found {
         }
     }
 
-    /// The newest version of a key in the blocks up to `at`.
+    /// The newest version of a key in the blocks up to `at`; `None` if there is none.
     pub(crate) fn latest<S: Scratch>(
         lineage: &mut Lineage,
         scratch: &mut S,

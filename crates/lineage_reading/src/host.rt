@@ -30,7 +30,8 @@ impl<'a, S: Scratch> Host for Reading<'a, S> {
 
     ghost ready = { λ s. AgreesWith s.lineage.now (S.state s.scratch.now) };
 
-    // Both fields are still the references that it was made with.
+    // Both fields are still the references that it was made with, so whoever lent them has them
+    // back.
     ghost same = { λ s t. (t.lineage.ghost_name ≡ s.lineage.ghost_name)
         × (t.scratch.ghost_name ≡ s.scratch.ghost_name)
         × StaysSame s.lineage.now (S.state s.scratch.now) t.lineage.now (S.state t.scratch.now) };

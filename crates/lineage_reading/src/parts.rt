@@ -7,12 +7,13 @@ use lc_base::{Dep, Key, Kind};
 use lineage_store::Steps;
 use merkle_dag::Lineage;
 
-/// How many versions were derived from the version of the key in the blocks up to `at`.
+/// The number of versions that were derived from the newest version of the key in the blocks up to
+/// `at`; `None` if there is no such version.
 pub(crate) fn fwd_count(lineage: &Lineage, key: &Key, at: u32) -> Option<u64>
     ensures count { result ≡ count_in (scan lineage.now.rows (question Kind.Fwd key.now at)) }
     ensures bound { IfSome result (λ count. count < 2 ^ 63) }
 {
-    // So that the rows are known to be few.
+    // By this call contracts know that the rows are few.
     let _count = lineage.row_count();
     let mut steps = Steps::new();
     match lineage.latest_row(key, at, &mut steps) {
@@ -21,7 +22,7 @@ pub(crate) fn fwd_count(lineage: &Lineage, key: &Key, at: u32) -> Option<u64>
     }
 }
 
-/// The version at an index among those.
+/// The version at an index, from 0, of those that `fwd_count` counts.
 pub(crate) fn fwd_at(lineage: &Lineage, key: &Key, at: u32, index: u64) -> Option<Dep>
     ensures { result ≡ item_in index (scan lineage.now.rows (question Kind.Fwd key.now at)) }
 {

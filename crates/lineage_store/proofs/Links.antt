@@ -20,12 +20,12 @@ use Rattle.skip_list.specs.Towered.{blocks_of, links_over, HaveTowers, AreVersio
 use Rattle.lineage_store.specs.Versions.{versions_in_reverse, versions_of_key, newest_entry, links_after}
 use Rattle.lineage_store.proofs.Versions.{blocks_are}
 
--- The links of some rows, where these are the rows before them.
+-- The links of some rows, from the rows before them.
 abbrev pub all_links_after : List Row → List Row → List Links
 all_links_after before [] = []
 all_links_after before (row ∷ rows) = links_after before row ∷ all_links_after (before ++ row ∷ []) rows
 
--- Links and key of each entry are those of its row.
+-- The links and the key of each entry are those of its row.
 pub record HaveLinksOf (rows : List Row) (entries : List Entry) : Type 0 where
   pub links : map (λ (entry : Entry). entry.links) entries ≡ all_links_after [] rows
   pub keys : map (λ (entry : Entry). entry.facts.key) entries ≡ map (λ (row : Row). row.key) rows

@@ -1,4 +1,5 @@
--- Lookups over the entries of a history.
+-- Lookups over the entries of a history find the last row of a key up to a block, and read its
+-- path.
 use Rattle.std.proofs.Common.{◌≡◌, ◌∙◌, ℕ, ◌^◌, ◌<◌, List, [], length, Option, Some, None, sym, ap, arith}
 use Rattle.std.specs.Prelude.{slice_get, MatchOption, IfSome}
 use Rattle.lc_base.specs.declared.row.Row.{Row}
@@ -42,7 +43,7 @@ found_within rows key at newest entries (Some id) is towered there =
     let many : length entries ≡ length rows = ap length is.entries_are ∙ as_many rows [] rows in
     (omega (arith, many, within entries id towered.0 towered.1), there)
 
--- A key without versions.
+-- A key without versions has no row up to any block.
 pub none_found : (rows : List Row) (key : List ℕ) (at : ℕ) (newest : Option EntryId) (entries : List Entry) → IsNewestOf rows key newest entries → newest ≡ None → latest rows key at ≡ None
 none_found rows key at newest entries is none =
     let empty : versions_of_key rows key ≡ [] = rw none at (versions_are rows key newest entries is) in

@@ -1,4 +1,4 @@
--- Headers are made again of entries.
+-- The header that is made again from an entry is that of its row.
 use Rattle.std.proofs.Common.{◌≡◌, ◌∙◌, ℕ, zero, suc, List, [], ◌∷◌, ◌++◌, length, map, Option, Some, None, refl, sym, ap, subst}
 use Rattle.std.specs.Prelude.{slice_get}
 use Rattle.std.specs.Option.{option_map}
@@ -19,7 +19,7 @@ use Rattle.lineage_store.proofs.NextEntries.{HasRowsOf, header_links}
 
 -- ---- what is read
 
--- A header of facts and links.
+-- The header with these facts and links.
 abbrev pub header_with : Facts → List Link → Header
 header_with facts links = record {
   key = facts.key;

@@ -1,4 +1,4 @@
--- One row more becomes an entry.
+-- The entry that is pushed for the next row is the one that is defined over the history.
 use Rattle.std.proofs.Common.{◌≡◌, ◌∙◌, ℕ, zero, suc, ◌<◌, List, [], ◌∷◌, ◌++◌, length, map, get_or, Option, Some, None, refl, sym, ap, subst, arith}
 use Rattle.std.specs.Prelude.{slice_get, IsSomeAnd}
 use Rattle.std.proofs.lemmas.List.{get_or_append_left, length-append, append_assoc}

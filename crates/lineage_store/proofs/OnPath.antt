@@ -87,7 +87,7 @@ all_on_path rows key at newest entries found is blocks are =
     (λ (ids : List EntryId). AllByRecursion (λ (id : EntryId). is_of_key rows key id ≡ true) ids) (AreEntriesIn rows key (path rows key at))
     (λ ids b a. on_path rows key at newest entries ids is b a) blocks are
 
--- A key without versions.
+-- A key without versions has an empty path, and no entries on it.
 pub no_path : (rows : List Row) (key : List ℕ) (at : ℕ) (newest : Option EntryId) (entries : List Entry) → IsNewestOf rows key newest entries → newest ≡ None → AreEntriesIn rows key (path rows key at) []
 no_path rows key at newest entries is none =
     let empty : versions_of_key rows key ≡ [] = rw none at (versions_are rows key newest entries is) in

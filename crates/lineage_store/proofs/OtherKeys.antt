@@ -1,4 +1,4 @@
--- Rows of other keys change nothing of a key's versions.
+-- Rows of other keys don't change the versions of a key.
 use Rattle.std.proofs.Common.{◌≡◌, ◌≢◌, ◌∙◌, ◌==◌, ℕ, List, [], ◌∷◌, ◌++◌, reverse, refl, ap, inl, inr}
 use Rattle.std.specs.List.{All, AllByRecursion}
 use Rattle.std.specs.Cmp.Lexicographic.{pointwise}

@@ -1,4 +1,4 @@
--- Rows are read back from their entries.
+-- Rows are read back from their entries, if their bodies can be spelled.
 use Rattle.std.proofs.Common.{◌≡◌, ◌∙◌, List, [], ◌∷◌, ◌++◌, map, refl, ap}
 use Rattle.std.specs.List.{All, AllByRecursion}
 use Rattle.std.proofs.lemmas.List.Elements.{recursion_from_All}

@@ -1,4 +1,4 @@
--- The versions of a key among the rows of a history.
+-- The versions of a key have the blocks, the links and the paths that are defined over the rows.
 use Rattle.std.proofs.Common.{◌≡◌, ◌∙◌, ℕ, suc, ◌<◌, ◌≤◌, ◌==◌, List, [], ◌∷◌, ◌++◌, length, map, filter, reverse, Option, Some, None, refl, sym, ap, subst, arith, inl, inr}
 use Rattle.std.specs.Prelude.{slice_get, nat_le, MatchOption}
 use Rattle.std.specs.List.{find, All, AllByRecursion, AllPairs}
@@ -92,7 +92,7 @@ lookup_latest rows key at = moved (reverse (reverse rows) ++ []) rows (append-ni
 
 -- ---- the versions before a row are those of the rows before it
 
--- All rows before a row stand before it, and it stands before all after it.
+-- All rows before a row come before it, and it comes before all after it.
 pub split_pairs : (before : List Row) (row : Row) (after : List Row) → AllPairs StandsBefore (before ++ row ∷ after)
     → AllByRecursion (λ (other : Row). StandsBefore other row) before × AllByRecursion (λ (other : Row). StandsBefore row other) after
 split_pairs [] row after pairs = (tt, later after (λ j d l. pairs 0 (suc j) d (omega arith) (omega (arith, l))))

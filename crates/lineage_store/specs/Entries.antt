@@ -9,8 +9,8 @@ use Rattle.entry_store.specs.declared.entry.EntryId.{EntryId}
 use Rattle.entry_store.specs.Entries.{Entry, facts_of}
 use Rattle.lineage_store.specs.Versions.{links_after, newest_entry}
 
--- The entry of a row of a history, where these are the rows before it: the links to the versions of its
--- key before it, what its header says, and the fields of its body.
+-- The entry of a row of a history, from the rows before it: the links to the versions of its key
+-- before it, what its header says, and the fields of its body.
 abbrev pub entry_for : List Row → List Row → Row → Entry
 entry_for all before row = record {
   links = links_after before row;
@@ -18,7 +18,7 @@ entry_for all before row = record {
   body = concat (body_fields (body_of all row));
 }
 
--- The entries of some rows of a history, where these are the rows before them.
+-- The entries of some rows of a history, from the rows before them.
 unfoldable pub entries_after : List Row → List Row → List Row → List Entry
 entries_after all before [] = []
 entries_after all before (row ∷ rows) = entry_for all before row ∷ entries_after all (before ++ row ∷ []) rows

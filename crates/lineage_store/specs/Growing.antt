@@ -1,4 +1,4 @@
--- A version that is to become the next entry.
+-- What a version must be to become the next entry.
 use Rattle.std.specs.Prelude.{◌≡◌, ◌∷◌, ◌++◌, List, length, Option}
 use Rattle.std.specs.List.{concat}
 use Rattle.lc_base.specs.declared.row.Row.{Row}

@@ -1,4 +1,4 @@
--- Headers, made again of entries.
+-- Headers that are made again from entries.
 use Rattle.std.specs.Prelude.{List, map}
 use Rattle.prov_entry.specs.declared.entry.Header.{Header}
 use Rattle.entry_store.specs.Entries.{Entry, named_link}

@@ -10,7 +10,7 @@ use Rattle.entry_store.specs.declared.entry.EntryId.{EntryId}
 abbrev pub version_in : List ℕ → ℕ → Dep
 version_in key block = record { key = key; block = block }
 
--- The version whose entry this is, where the id of an entry is the index of its row.
+-- The version whose entry this is: the id of an entry is the index of its row.
 abbrev pub version_of_entry : List Row → EntryId → Option Dep
 version_of_entry rows id = option_map version_of (slice_get rows id.0)
 

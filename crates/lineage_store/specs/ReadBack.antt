@@ -1,4 +1,4 @@
--- The rows that entries are of, as they are read from them.
+-- The rows of entries, as they are read back from these.
 use Rattle.std.specs.Prelude.{List, map}
 use Rattle.lc_base.specs.declared.row.Row.{Row}
 use Rattle.prov_entry.specs.declared.entry.Body.{Body}
@@ -6,7 +6,7 @@ use Rattle.entry_views.specs.Reading.{body_at}
 use Rattle.row_bodies.specs.Bodies.{body_read, dep_without_digest}
 use Rattle.entry_store.specs.Entries.{Entry}
 
--- A row of the facts of an entry and of its body.
+-- The row of an entry with this body.
 abbrev pub row_with : Entry → Body → Row
 row_with entry body = record {
   key = entry.facts.key;

@@ -1,5 +1,5 @@
--- The versions of a key among the rows of a history, where the entry of a row has the row's index as its
--- id.
+-- The versions of a key among the rows of a history. The id of the entry of a row is the row's
+-- index.
 use Rattle.std.specs.Prelude.{◌==◌, if◌then◌else◌, List, ℕ, [], ◌∷◌, length, reverse, Option, slice_get}
 use Rattle.std.specs.Option.{option_map}
 use Rattle.std.specs.Cmp.Lexicographic.{pointwise}
@@ -19,10 +19,10 @@ versions_in_reverse (row ∷ before) key =
 unfoldable pub versions_of_key : List Row → List ℕ → List Hop
 versions_of_key rows key = versions_in_reverse (reverse rows) key
 
--- The entry of the newest version of a key.
+-- The entry of the newest version of a key; `None` if it has no version.
 abbrev pub newest_entry : List Row → List ℕ → Option EntryId
 newest_entry rows key = option_map (λ (version : Hop). version.id) (slice_get (versions_of_key rows key) 0)
 
--- The links of a row, where these are the rows before it.
+-- The links of a row, from the rows before it.
 abbrev pub links_after : List Row → Row → Links
 links_after before row = record { block = row.block; hops = links_over row.block (versions_of_key before row.key) }

@@ -1,9 +1,10 @@
-//! The count of the entries that lookups in a lineage read.
+//! The counter of the entries that lookups in a lineage read. It is the one counter of the program
+//! that may be begun: the crates below only raise counts that they are given.
 
 use entry_store::Counter;
 
-/// Who counts the entries that lookups in a lineage read. Counts of this counter may be begun, by
-/// whoever has lineages; the crates below are given them.
+/// The counter of the entries that lookups in a lineage read. Counts of it may be begun by whoever
+/// has lineages.
 pub struct LookupCounter;
 
 impl Counter for LookupCounter {
@@ -12,5 +13,5 @@ impl Counter for LookupCounter {
     ghost may_begin = { true };
 }
 
-/// How many entries lookups in a lineage read.
+/// The number of entries that lookups in a lineage read.
 pub type Steps = entry_store::Steps<LookupCounter>;

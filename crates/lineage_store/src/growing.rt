@@ -1,4 +1,5 @@
-//! One version more.
+//! Adds the version of the next row: its links are found over the versions before it, and then it
+//! is pushed.
 
 ghost use Rattle.std.specs.Prelude.{◌≡◌, ◌≤◌, ◌+◌, ◌++◌, ◌∷◌, [], List, length, OnOk, OnErr, IfOk};
 ghost use Rattle.lc_base.specs.declared.row.Row.{Row};
@@ -28,8 +29,8 @@ pub struct NewVersion {
     pub body: Bytes,
 }
 
-/// Adds the version of a row, with the links to older versions of its key. `newest` is the entry of
-/// the newest one of these. Out of memory, the store stays as it was.
+/// Adds the version of a row, with the links to older versions of its key, and returns its entry.
+/// `newest` is the entry of the newest one of these. If memory runs out, the store stays as it was.
 pub fn push_version(
     alloc: Global,
     store: &mut Store,

@@ -1,4 +1,5 @@
-//! The headers of entries, made again.
+//! Makes headers again from entries: the digests of their links are those of the entries that the
+//! hops lead to.
 
 ghost use Rattle.std.specs.{
   Prelude.{◌≡◌, ◌<◌, List, length, Some, slice_get, IfOk},
@@ -15,8 +16,8 @@ use lc_base::Memory;
 use prov_entry::Header;
 use std::alloc::Global;
 
-/// The header of an entry, made again; where the entries are those of a history, that of the entry's
-/// row. It reads the entry.
+/// The header of an entry; if the entries are those of a history, it is that of the entry's row. It
+/// reads one entry.
 pub fn entry_header(
     alloc: Global,
     store: &Store,

@@ -33,7 +33,7 @@ pub fn entries_are_towered()
     ensures { (all rows : List Row) (key : List ℕ) → IsLawful rows → AreVersions (entries_of all rows) (newest_entry rows key) (versions_of_key rows key) }
 {}
 
-/// The id of that entry is the index of the key's newest row.
+/// The id of the entry of a key's newest version is the index of its newest row.
 #[tactic(auto, using(crate::proofs::Versions::newest_is_index))]
 pub fn newest_entry_is_the_newest_row()
     ensures { (rows : List Row) (key : List ℕ) → option_map (λ (id : EntryId). id.0) (newest_entry rows key) ≡ newest_index rows key }
@@ -52,20 +52,20 @@ pub fn path_is_over_the_versions()
     ensures { (rows : List Row) (key : List ℕ) (at : ℕ) → IsLawful rows → path rows key at ≡ path_over (blocks_of (versions_of_key rows key)) at }
 {}
 
-/// A lookup gives the entry of the last row of the key up to a block.
+/// A lookup finds the entry of the last row of the key up to a block.
 #[tactic(auto, using(crate::proofs::Versions::lookup_latest))]
 pub fn lookup_ends_at_the_latest()
     ensures { (rows : List Row) (key : List ℕ) (at : ℕ)
         → MatchOption (latest_version at (versions_of_key rows key)) (latest rows key at ≡ None) (λ (id : EntryId). slice_get rows id.0 ≡ latest rows key at) }
 {}
 
-/// The store is towered at the newest versions of its first rows, too.
+/// The store is towered at the newest versions of its first rows too.
 pub fn earlier_versions_are_towered()
     ensures { (rows more : List Row) (key : List ℕ) → IsLawful rows
         → AreVersions (entries_of (rows ++ more) (rows ++ more)) (newest_entry rows key) (versions_of_key rows key) }
 {}
 
-/// A lookup up to a block gives the newest version of the rows up to it.
+/// A lookup up to a block finds the newest version of the rows up to it.
 pub fn lookup_gives_the_newest_of_the_rows_up_to_the_block()
     ensures { (rows more : List Row) (key : List ℕ) (at : ℕ) → All (λ (row : Row). row.block ≤ at) rows → All (λ (row : Row). at < row.block) more
         → latest_version at (versions_of_key (rows ++ more) key) ≡ newest_entry rows key }
@@ -84,19 +84,19 @@ pub fn digests_are_those_of_the_headers()
     ensures { (all rows : List Row) → map (λ (entry : Entry). entry.facts.digest) (entries_of all rows) ≡ map (digest_of_row all) rows }
 {}
 
-/// The rows are read back from their entries, where their bodies can be spelled.
+/// The rows are read back from their entries, if their bodies can be spelled.
 pub fn rows_are_read_back()
     ensures { (all rows : List Row) → All (λ (row : Row). IsBody (body_of all row)) rows → rows_read (entries_of all rows) ≡ rows }
 {}
 
 // ---- histories that grow
 
-/// With rows of other keys after them the versions of a key stay.
+/// The versions of a key stay when rows of other keys are appended.
 pub fn versions_stay_where_other_keys_are_added()
     ensures { (rows more : List Row) (key : List ℕ) → All (λ (row : Row). row.key ≢ key) more → versions_of_key (rows ++ more) key ≡ versions_of_key rows key }
 {}
 
-/// The entries of rows stay where rows of later blocks are added to the history.
+/// The entries of rows stay when rows of later blocks are appended to the history.
 pub fn entries_stay_where_later_blocks_are_added()
     ensures { (all more rows : List Row) (n : ℕ) → All (λ (row : Row). row.block < n) rows → AreFrom n more → entries_of (all ++ more) rows ≡ entries_of all rows }
 {}
@@ -106,7 +106,7 @@ pub fn first_entries_are_of_the_first_rows()
     ensures { (all rows : List Row) (n : ℕ) → take n (entries_of all rows) ≡ entries_of all (take n rows) }
 {}
 
-/// Those of the blocks up to one are the entries of the history that ends there.
+/// The entries of the blocks before one are those of the history that ends there.
 pub fn earlier_entries_are_of_the_earlier_history()
     ensures { (rows more : List Row) (n : ℕ) → All (λ (row : Row). row.block < n) rows → AreFrom n more
         → take (length rows) (entries_of (rows ++ more) (rows ++ more)) ≡ entries_of rows rows }

@@ -1,4 +1,5 @@
-//! Lookups over the entries of a history.
+//! Lookups over the entries of a history: each reads as many entries as its path over the rows has
+//! versions.
 
 ghost use Rattle.std.specs.Prelude.{◌≡◌, ◌<◌, ℕ, List, length, None, slice_get, IfOk, MatchOption};
 ghost use Rattle.lc_base.specs.{declared.row.Row.{Row}, History.{latest}};
@@ -12,9 +13,9 @@ use lc_base::Memory;
 use skip_list::{find, path_entries};
 use std::alloc::Global;
 
-/// The entry of the last row of a key in a block up to `at`; `None` exactly where there is no such
-/// row. `newest` is the entry of the key's newest version. The count rises by the length of the path,
-/// and by 0 for a key without versions.
+/// The entry of the last row of a key in a block up to `at`; `None` exactly if there is no such
+/// row. `newest` is the entry of the key's newest version. The count rises by the length of the
+/// path, and by 0 for a key without versions.
 pub fn latest_entry(
     store: &Store,
     newest: Option<EntryId>,
@@ -34,8 +35,8 @@ pub fn latest_entry(
     }
 }
 
-/// The entries that such a lookup looks at, in this order: those of the versions on the path. The count
-/// rises by their number.
+/// The entries that `latest_entry` looks at, in this order: those of the versions on the path. The
+/// count rises by their number.
 pub fn entries_on_path(
     alloc: Global,
     store: &Store,

@@ -87,7 +87,7 @@ agree_or_clash (p ∷ ps) cs = elim (against p cs) [
   ]
 ]
 
--- Not both.
+-- No two lists of texts both agree and clash.
 pub no_clash : (ps cs : List (List ℕ)) → Agree ps cs → Clash ps cs → ⊥
 no_clash ps cs a k = k.differ (a.same k.one k.other k.in_given k.in_own k.same)
 
@@ -101,7 +101,7 @@ agree_of_left a c d h = record { same = λ p q has has'. h.same p q has (Contain
 pub agree_of_right : (a c d : List (List ℕ)) → Agree a (c ++ d) → Agree a d
 agree_of_right a c d h = record { same = λ p q has has'. h.same p q has (Contains-append_right c d q has') }
 
--- The last of each.
+-- The last texts of two lists that agree are equal if their digests are.
 pub agree_last : (a c : List (List ℕ)) (p q : List ℕ) → Agree (a ++ p ∷ []) (c ++ q ∷ []) → sha256 p ≡ sha256 q → p ≡ q
 agree_last a c p q h = h.same p q (Contains-push a p) (Contains-push c q)
 

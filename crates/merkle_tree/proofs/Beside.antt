@@ -37,7 +37,7 @@ siblings-more : (m : ℕ) (l : List Digest) (ls : List (List Digest)) → siblin
 unfolding siblings_up
 siblings-more m l ls = refl
 
--- The loop over the levels.
+-- One turn of the loop over the levels.
 pub one_beside : (vs : List (Vec Digest Global)) (i m : ℕ) (path new : List Digest) (d : Vec Digest Global) → i < length vs → new ≡ path ++ sibling (get_or vs i d).items m
     → new ++ siblings_up (m / 2) (hashes_in (drop (i + 1) vs)) ≡ path ++ siblings_up m (hashes_in (drop i vs))
 one_beside vs i m path new d below is =

@@ -1,4 +1,5 @@
--- Lists and walks whose texts agree.
+-- If their texts agree, lists with one digest are equal, and walks go through the texts that they
+-- name.
 use Rattle.std.proofs.Common.{◌≡◌, ℕ, suc, List, [], ◌∷◌, Some, None, refl, sym, ap, ap₂, ◌∙◌, arith}
 use Rattle.std.specs.List.{Contains}
 use Rattle.sha2.specs.Sha256.{sha256}

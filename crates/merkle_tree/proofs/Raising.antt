@@ -1,4 +1,4 @@
--- What levels are after a hash was put.
+-- After a hash is put at the end of the lowest level, the levels are those over one leaf more.
 use Rattle.std.proofs.Common.{◌≡◌, ℕ, zero, suc, ◌+◌, ◌*◌, ◌/◌, ◌<◌, ◌≤◌, List, [], ◌∷◌, ◌++◌, length, take, drop, get_or, map, refl, sym, ap, ◌∙◌, arith, Vec, Global}
 use Rattle.std.proofs.Math.ListN.{set}
 use Rattle.std.proofs.lemmas.List.{get_or_past, take_more_set, map-append, drop-set-lt, drop_more, append_assoc, take_all, drop_all, append-nil}
@@ -9,7 +9,7 @@ use Rattle.merkle_tree.specs.Levels.{join, pair_up, levels_over, hash_over, put,
 use Rattle.merkle_tree.specs.declared.limits.TheConstants.{MAX_HEIGHT, MAX_LEAVES}
 use Rattle.lc_base.specs.declared.digest.Digest.{Digest}
 
--- One pair more.
+-- Half of a number grows by one with each pair.
 half_suc : (m : ℕ) → suc (suc m) / 2 ≡ suc (m / 2)
 half_suc m = omega arith
 
@@ -18,7 +18,7 @@ length-pair_up [] = refl
 length-pair_up (x ∷ []) = refl
 length-pair_up (x ∷ y ∷ xs) = omega (arith, length-pair_up xs)
 
--- ---- what stands over a place
+-- ---- what is over a place
 
 pub pair_at : (xs : List Digest) (p : ℕ) (d : Digest) → 2 * p + 1 < length xs → get_or (pair_up xs) p d ≡ join (get_or xs (2 * p) d) (get_or xs (2 * p + 1) d)
 pair_at [] p d h = absurd (omega arith)
@@ -40,7 +40,7 @@ last_at (x ∷ y ∷ xs) (suc p) d h =
     let e : 2 * suc p ≡ suc (suc (2 * p)) = omega arith in
     last_at xs p d (omega arith) ∙ sym (ap (λ (i : ℕ). get_or (x ∷ y ∷ xs) i d) e)
 
--- As the code has it.
+-- The hash over a place, as the code finds it.
 pub above_pair : (xs : List Digest) (m left : ℕ) (d l r : Digest) → left ≡ m / 2 * 2 → left + 1 < length xs → l ≡ get_or xs left d → r ≡ get_or xs (left + 1) d → hash_over xs m d ≡ join l r
 above_pair xs m left d l r is h le re =
     let e : 2 * (m / 2) ≡ left = omega arith in
@@ -59,7 +59,7 @@ above_none xs m left d is h = get_or_past (pair_up xs) (m / 2) d (omega (arith, 
 pub same_digest : (a b : Digest) → a.0 ≡ b.0 → a ≡ b
 same_digest a b e = ap (λ (bytes : List ℕ). record { 0 = bytes }) e
 
--- One level more.
+-- What is put through the levels, one level at a time.
 pub put-more : (m : ℕ) (v : Digest) (l : List Digest) (ls : List (List Digest)) → put_through m v (l ∷ ls) ≡ put l m v ∷ put_through (m / 2) (hash_over (put l m v) m v) ls
 unfolding put_through
 put-more m v l ls = refl
@@ -68,7 +68,7 @@ pub put-none : (m : ℕ) (v : Digest) → put_through m v [] ≡ []
 unfolding put_through
 put-none m v = refl
 
--- The loop that puts into each level.
+-- One turn of the loop that puts a hash into each level.
 pub one_put : (vs : List (Vec Digest Global)) (i m : ℕ) (v up : Digest) (w d : Vec Digest Global) → i < length vs → w.items ≡ put (get_or vs i d).items m v → up ≡ hash_over (put (get_or vs i d).items m v) m v
     → map (λ (level : Vec Digest Global). level.items) (take (i + 1) (set vs i w)) ++ put_through (m / 2) up (map (λ (level : Vec Digest Global). level.items) (drop (i + 1) (set vs i w)))
     ≡ map (λ (level : Vec Digest Global). level.items) (take i vs) ++ put_through m v (map (λ (level : Vec Digest Global). level.items) (drop i vs))
@@ -143,7 +143,7 @@ are_over new hs e few =
     let lowest : leaf_level new ≡ hs = ap leaf_level e ∙ leaf_level-over MAX_HEIGHT hs in
     (record { pairs = e ∙ ap (levels_over MAX_HEIGHT) (sym lowest); few = rw lowest few }, lowest)
 
--- All levels, after a hash was put after the others.
+-- All levels, after a hash was put behind those of the other leaves.
 pub are_put : (old new : List (List Digest)) (v : Digest) → AreLevels old → length (leaf_level old) < MAX_LEAVES → new ≡ put_through (length (leaf_level old)) v old → AreLevels new × (leaf_level new ≡ leaf_level old ++ v ∷ [])
 are_put old new v is room e =
     let more : length (leaf_level old ++ v ∷ []) ≡ length (leaf_level old) + 1 = length-append (leaf_level old) (v ∷ []) in

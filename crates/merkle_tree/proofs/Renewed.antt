@@ -1,4 +1,4 @@
--- What levels are after some leaves were added and some hashes were set.
+-- After leaves are added and hashes are set, the levels are those over the new leaves.
 use Rattle.std.proofs.Common.{◌≡◌, ℕ, zero, suc, ◌+◌, ◌*◌, ◌-◌, ◌/◌, ◌<◌, ◌≤◌, ◌==◌, ◌||◌, Bool, true, false, List, [], ◌∷◌, ◌++◌, length, take, drop, get_or, replicate, refl, sym, ap, ap₂, ◌∙◌, arith, inl, inr, Vec, Global}
 use Rattle.std.proofs.Math.ListN.{set}
 use Rattle.std.specs.List.{All}
@@ -51,7 +51,7 @@ set_all_is (one ∷ hashes) base level long own rest =
           | inr f ↦ rw f off
         ]
 
--- The hashes with those that are given set.
+-- Setting the hashes that are given makes the list before into the one after.
 set_renewed : (before after : List Digest) (hashes : List HashAt) (count : ℕ) → length after ≡ count → Renews before after hashes → set_each (level_of_length before count) hashes ≡ after
 set_renewed before after hashes count long is =
     set_all_is hashes (level_of_length before count) after
@@ -65,7 +65,7 @@ or_true : (b : Bool) → (b || true) ≡ true
 or_true true = refl
 or_true false = refl
 
--- What is over a place that is set is set.
+-- If a place is set, so is the one over it.
 half_set : (hashes : List HashAt) (level : List Digest) (i : ℕ) → is_set hashes i ≡ true → is_set (over_each level hashes) (i / 2) ≡ true
 half_set [] level i t = t
 half_set (one ∷ hashes) level i t = elim (cases_Bool (one.index == i)) [

@@ -45,7 +45,7 @@ len-higher i (suc d) m n h =
     let s : suc d + i ≡ suc (d + i) = omega arith in
     ap (λ (k : ℕ). audit_length_to k m n) s ∙ len-low (d + i) m n (omega (arith, up d i)) ∙ len-higher i d m n h
 
--- At any height that is high enough.
+-- The hash of a tree is the same at any height that is high enough.
 pub tree_at : (j i : ℕ) (xs : List (List ℕ)) → i ≤ j → length xs ≤ 2 ^ i → hash_to j xs ≡ hash_to i xs
 tree_at j i xs le h = let e : (j - i) + i ≡ j = omega arith in rw e at (tree-higher i (j - i) xs h)
 

@@ -77,7 +77,7 @@ up_low zero m (x ∷ []) h few = refl
 up_low zero m (x ∷ y ∷ a) h few = absurd (omega arith)
 up_low (suc j) m a h few = ap (λ (u : List Digest). sibling a m ++ u) (up_low j (m / 2) (pair_up a) (omega (arith, length-pair_up a)) (omega (arith, length-pair_up a, two-pow-succ j)))
 
--- By recursion on the height.
+-- They are, at any height, by recursion on it.
 pub up_is_audit : (j m : ℕ) (xs : List (List ℕ)) (d : Digest) → m < length xs → length xs ≤ 2 ^ j → bytes_of (siblings_up m (levels_over j (map digest_of xs))) ≡ audit_to j m xs
 unfolding siblings_up levels_over audit_to
 up_is_audit zero m [] d h few = absurd (omega arith)

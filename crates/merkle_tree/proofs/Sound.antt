@@ -1,4 +1,5 @@
--- What is at the top of a way up from a leaf.
+-- A way up from a leaf ends at the tree hash if it takes the audit path; and if the texts agree,
+-- only one that began at the hash of that leaf ends there.
 use Rattle.std.proofs.Common.{◌≡◌, ℕ, zero, suc, ◌+◌, ◌-◌, ◌^◌, ◌<◌, ◌≤◌, List, [], ◌∷◌, ◌++◌, length, take, drop, get_or, refl, sym, ap, ◌∙◌, arith, inl, inr}
 use Rattle.std.proofs.Math.Nat.{two-pow-succ}
 use Rattle.std.proofs.lemmas.Bool.{cases_lt, lt-ltb, le-ltb}
@@ -9,7 +10,7 @@ use Rattle.merkle_tree.specs.Tree.{node_text, node_hash, first_text, hash_to, no
 use Rattle.merkle_tree.specs.Clash.{Agree}
 use Rattle.merkle_tree.proofs.Agreeing.{agree_fronts, agree_of_left, agree_of_right, agree_last}
 
--- Prefixes of one length.
+-- Prefixes of one length of equal lists are equal.
 pub same_front : (a b c d : List ℕ) → length a ≡ length c → a ++ b ≡ c ++ d → a ≡ c
 same_front [] b [] d len e = refl
 same_front [] b (y ∷ c) d len e = absurd (omega arith)
@@ -19,7 +20,7 @@ same_front (x ∷ a) b (y ∷ c) d len e =
     let heads : x ≡ y = cc in
     let rest = same_front a b c d (omega arith) tails in cc
 
--- Suffixes of one length.
+-- Suffixes of one length of equal lists are equal.
 pub same_end : (a b c d : List ℕ) → length b ≡ length d → a ++ b ≡ c ++ d → b ≡ d
 same_end a b c d len e =
     let fronts : length a ≡ length c = omega (arith, length-append a b, length-append c d, ap length e) in
@@ -91,7 +92,7 @@ length-climb (suc j) m n s h = elim (cases_lt (2 ^ j) n) [
 
 -- ---- soundness
 
--- Where the texts agree, a way that ends at the tree hash began at the hash of the leaf.
+-- If the texts agree, a way that ends at the tree hash began at the hash of the leaf.
 pub climb_sound : (j m n : ℕ) (s : Climb) (xs : List (List ℕ)) → n ≡ length xs → m < n → n ≤ 2 ^ j → length s.hash ≡ 32
     → Agree (climb_texts_to j m n s) (node_texts_to j xs) → (climb_to j m n s).hash ≡ hash_to j xs → s.hash ≡ sha256 (get_or xs m [])
 unfolding climb_to hash_to
@@ -141,7 +142,7 @@ pub audit-low : (j m : ℕ) (xs : List (List ℕ)) → length xs ≤ 2 ^ j → a
 unfolding audit_to
 audit-low j m xs h = rw (le-ltb (2 ^ j) (length xs) h) refl
 
--- The audit path leads to the tree hash, and what is after it is left.
+-- The audit path leads to the tree hash, and the hashes after it are left over.
 pub climb_audit : (j m n : ℕ) (xs more : List (List ℕ)) → n ≡ length xs → m < n → n ≤ 2 ^ j
     → climb_to j m n (record { hash = sha256 (get_or xs m []); left = audit_to j m xs ++ more }) ≡ record { hash = hash_to j xs; left = more }
 unfolding climb_to hash_to audit_to

@@ -12,7 +12,7 @@ use Rattle.merkle_tree.proofs.Sound.{tree-split, tree-low}
 use Rattle.merkle_tree.proofs.Raising.{length-pair_up, are_over}
 use Rattle.merkle_tree.proofs.TheLaws.{tree_of_none}
 
--- The level j above some hashes.
+-- The level that is j levels above some hashes.
 unfoldable pub ups : ℕ → List Digest → List Digest
 ups zero hs = hs
 ups (suc j) hs = ups j (pair_up hs)
@@ -57,7 +57,7 @@ drop-map f zero xs = refl
 drop-map f (suc n) [] = refl
 drop-map f (suc n) (x ∷ xs) = drop-map f n xs
 
--- The levels and the split at the largest power of two give one hash.
+-- The top of the levels and the split at the largest power of two have one hash.
 pub top_is_tree : (j : ℕ) (xs : List (List ℕ)) (d : Digest) → 0 < length xs → length xs ≤ 2 ^ j → (get_or (ups j (map digest_of xs)) 0 d).0 ≡ hash_to j xs
 unfolding ups hash_to
 top_is_tree zero [] d pos few = absurd (omega arith)
@@ -128,7 +128,7 @@ root_is top hashes (text ∷ texts) hash is of few first some =
     ap (λ (d : Digest). d.0) (first ∙ ap (λ (l : List Digest). get_or l 0 hash) (is ∙ ap (ups MAX_HEIGHT) (sym of)))
     ∙ top_is_tree MAX_HEIGHT (text ∷ texts) hash (omega arith) small
 
--- The hash of a tree that has none.
+-- The hash of a tree whose top is empty, because it has no leaf.
 pub none_is : (top hashes : List Digest) (texts : List (List ℕ)) → top ≡ ups MAX_HEIGHT hashes → map digest_of texts ≡ hashes → length hashes ≤ MAX_LEAVES → length top ≡ 0
     → sha256 [] ≡ tree_hash texts
 none_is top hashes [] is of few none = sym tree_of_none

@@ -14,19 +14,20 @@ abbrev pub chain_texts : {A : Type 0} → (List ℕ → A → List ℕ) → List
 chain_texts text digest [] = []
 chain_texts text digest (item ∷ items) = text digest item ∷ chain_texts text (sha256 (text digest item)) items
 
--- The texts of two items of these lists are equal only where the items are, and the digests before
+-- The texts of two items of these lists are equal only if the items are, and the digests before
 -- them.
 pub record AreToldApart {A : Type 0} (text : List ℕ → A → List ℕ) (xs ys : List A) : Type 0 where
   pub apart : (d e : List ℕ) (x y : A) → Contains xs x → Contains ys y → length d ≡ 32 → length e ≡ 32 → text d x ≡ text e y → (d ≡ e) × (x ≡ y)
 
 -- ---- walks from text to text
 
--- Where the next text of a walk stands, and its digest.
+-- The place of the next text of a walk, and its digest.
 pub record Expected : Type 0 where
   pub place : ℕ
   pub digest : List ℕ
 
--- The texts of a walk have the digests that are expected, each as the text before it tells.
+-- The texts of a walk have the digests that are expected: that of each text is named by the one
+-- before it, and the last text names none.
 abbrev pub Walks : (List ℕ → Option Expected) → Option Expected → List (List ℕ) → Type 0
 Walks next None [] = Unit {0}
 Walks next (Some expected) [] = ⊥

@@ -1,4 +1,5 @@
--- The way up from a leaf, by hashes that a caller has.
+-- The way up from a leaf, by the hashes of a path that a caller has, whether it is an audit path or
+-- not.
 use Rattle.std.specs.Prelude.{ℕ, List, map}
 use Rattle.lc_base.specs.declared.digest.Digest.{Digest}
 use Rattle.merkle_tree.specs.Tree.{Climb, climb_to}

@@ -16,7 +16,7 @@ pub record IsSplit (k n : ℕ) : Type 0 where
   pub below : k < n
   pub largest : n ≤ 2 * k
 
--- A tree has no more leaves than it may.
+-- A tree has at most 2 ^ MAX_HEIGHT leaves.
 abbrev pub AreFew : List (List ℕ) → Type 0
 AreFew texts = length texts ≤ 2 ^ MAX_HEIGHT
 
@@ -68,7 +68,7 @@ PathsAreComplete =
     → climb_to MAX_HEIGHT m (length texts) (record { hash = sha256 (text_at texts m); left = audit_path m texts })
     ≡ record { hash = tree_hash texts; left = [] }
 
--- Where texts of the way up agree with those of a tree's nodes, and the way ends at the tree hash,
+-- If the texts of the way up agree with those of a tree's nodes, and the way ends at the tree hash,
 -- it began at the hash of that leaf, whatever hashes were taken.
 abbrev pub PathsAreSound : Type 0
 PathsAreSound =
@@ -77,8 +77,8 @@ PathsAreSound =
     → top_of m (length texts) climb ≡ tree_hash texts
     → climb.hash ≡ sha256 (text_at texts m)
 
--- Whether the texts agree or not: it began there, or a text of the way and a text of the tree
--- differ and have one digest.
+-- Whether the texts agree or not, a way that ends at the tree hash began at the hash of that leaf,
+-- or a text of the way and a text of the tree differ and have one digest.
 abbrev pub PathsAreSoundOrClash : Type 0
 PathsAreSoundOrClash =
     (m : ℕ) (climb : Climb) (texts : List (List ℕ)) → AreFew texts → m < length texts → length climb.hash ≡ 32
@@ -91,12 +91,11 @@ PathsAreSoundOrClash =
 abbrev pub TextsAgreeOrClash : Type 0
 TextsAgreeOrClash = (given own : List (List ℕ)) → Agree given own ⊎ Clash given own
 
--- Not both.
+-- No two lists of texts both agree and clash.
 abbrev pub NeverBoth : Type 0
 NeverBoth = (given own : List (List ℕ)) → Agree given own → Clash given own → ⊥
 
--- Lists of one length with one digest are equal, and began from one digest, where their texts
--- agree.
+-- Lists of one length with one digest are equal, and began from one digest, if their texts agree.
 abbrev pub ListsAreSound : Type 0 → Type 0
 ListsAreSound A =
     (text : List ℕ → A → List ℕ) (d e : List ℕ) (xs ys : List A) → AreToldApart text xs ys
@@ -104,7 +103,8 @@ ListsAreSound A =
     → Agree (chain_texts text d xs) (chain_texts text e ys) → chain_digest text d xs ≡ chain_digest text e ys
     → (d ≡ e) × (xs ≡ ys)
 
--- A walk from the digest of a text at a place goes through the texts at places, where they agree.
+-- A walk that begins at the digest of a text at a place goes through the texts at the places that
+-- it names, if its texts agree with these.
 abbrev pub WalksAreSound : Type 0
 WalksAreSound =
     (next : List ℕ → Option Expected) (text_at : ℕ → Option (List ℕ)) (given own : List (List ℕ)) (first : Option Expected)

@@ -40,14 +40,14 @@ leaf_level (level ∷ above) = level
 abbrev pub hashes_in : List (Vec Digest Global) → List (List Digest)
 hashes_in levels = map (λ (level : Vec Digest Global). level.items) levels
 
--- All levels over some leaves.
+-- These are all levels over their lowest one, and that is no longer than MAX_LEAVES.
 pub record AreLevels (levels : List (List Digest)) : Type 0 where
   pub pairs : levels ≡ levels_over MAX_HEIGHT (leaf_level levels)
   pub few : length (leaf_level levels) ≤ MAX_LEAVES
 
 -- ---- how they change
 
--- The hash over place m of a level; `none` where there is none.
+-- The hash over place m of a level; `none` if there is none.
 abbrev pub hash_over : List Digest → ℕ → Digest → Digest
 hash_over level m none = slice_index_or (pair_up level) (m / 2) none
 
@@ -55,11 +55,11 @@ hash_over level m none = slice_index_or (pair_up level) (m / 2) none
 abbrev pub set_each : List Digest → List HashAt → List Digest
 set_each level hashes = fold (λ (level : List Digest) (one : HashAt). slice_set level one.index one.hash) level hashes
 
--- The hash over one in a level, and its place.
+-- The hash over one in a level, and its place in the level above.
 abbrev pub over_one : List Digest → HashAt → HashAt
 over_one level one = record { index = one.index / 2; hash = hash_over level one.index NO_HASH }
 
--- The hashes over some in a level, and their places.
+-- The hashes over some in a level, and their places in the level above.
 abbrev pub over_each : List Digest → List HashAt → List HashAt
 over_each level hashes = map (over_one level) hashes
 
@@ -75,39 +75,40 @@ is_set hashes place = list_any (λ (one : HashAt). one.index == place) hashes
 abbrev pub IsOwn : List Digest → HashAt → Type 0
 IsOwn level one = (one.index < length level) × (slice_index_or level one.index NO_HASH ≡ one.hash)
 
--- Some hashes are given, and these are others: those at their places are among them, and the rest are
--- as before.
+-- The list after has each of these hashes at its place, and every other place as before. It is no
+-- shorter than before, and each new place is among those of these hashes.
 pub record Renews (before after : List Digest) (hashes : List HashAt) : Type 0 where
   pub fewer : length before ≤ length after
   pub own : All (IsOwn after) hashes
   pub others : (place : ℕ) → place < length after → is_set hashes place ≡ false → (place < length before) × (slice_index_or before place NO_HASH ≡ slice_index_or after place NO_HASH)
 
--- How many hashes are in the level above so many.
+-- The number of hashes in the level above `count` hashes.
 abbrev pub count_above : ℕ → ℕ
 count_above count = count - count / 2
 
--- A level with so many places. Nothing is known of the hashes in those that are new.
+-- A level that is made at least `count` places long; new places have NO_HASH.
 abbrev pub level_of_length : List Digest → ℕ → List Digest
 level_of_length level count = level ++ replicate (count - length level) NO_HASH
 
--- Levels with so many places in the lowest, after some hashes were set in it, one after another.
+-- Levels after the lowest was made at least `count` places long and some hashes were set in it, one
+-- after another, and so in each level above with the hashes over these.
 unfoldable pub renew_through : ℕ → List HashAt → List (List Digest) → List (List Digest)
 renew_through count hashes [] = []
 renew_through count hashes (level ∷ above) =
     set_each (level_of_length level count) hashes ∷ renew_through (count_above count) (over_each (set_each (level_of_length level count) hashes) hashes) above
 
--- Room for so many hashes in the lowest of these levels, and for those over them in the others.
+-- Room for `count` hashes in the lowest of these levels, and for those over them in the others.
 abbrev pub HaveRoom : ℕ → List (Vec Digest Global) → Type 0
 HaveRoom count [] = Unit {0}
 HaveRoom count (level ∷ above) = (count ≤ vec_capacity level) × HaveRoom (count_above count) above
 
--- A hash in the place of another, or one past the end.
+-- A level with a hash put in place of the one at place m, or at the end if there is none.
 abbrev pub put : List Digest → ℕ → Digest → List Digest
 put [] m hash = hash ∷ []
 put (x ∷ level) zero hash = hash ∷ level
 put (x ∷ level) (suc m) hash = x ∷ put level m hash
 
--- Levels after a hash was put at place m of the lowest.
+-- Levels after a hash was put at place m of the lowest, and the hashes over it in the others.
 unfoldable pub put_through : ℕ → Digest → List (List Digest) → List (List Digest)
 put_through m hash [] = []
 put_through m hash (level ∷ above) = put level m hash ∷ put_through (m / 2) (hash_over (put level m hash) m hash) above
@@ -118,7 +119,7 @@ HasRoom level = vec_len level < vec_capacity level
 
 -- ---- what is read from them
 
--- The hash beside place m, where there is one.
+-- The hash beside place m, or none if that has no partner.
 abbrev pub sibling : List Digest → ℕ → List Digest
 sibling [] m = []
 sibling (x ∷ []) m = []

@@ -23,8 +23,8 @@ first_text texts = slice_index_or texts 0 []
 
 -- ---- the tree
 
--- The hash of at most 2 ^ j leaves, given by their texts. Where there are more than 2 ^ (j - 1),
--- the first 2 ^ (j - 1) are the left part.
+-- The hash of at most 2 ^ j leaves, given by their texts. If there are more than 2 ^ (j - 1), the
+-- first 2 ^ (j - 1) are the left part.
 unfoldable pub hash_to : ℕ → List (List ℕ) → List ℕ
 hash_to zero texts = sha256 (first_text texts)
 hash_to (suc j) texts = if nat_lt (2 ^ j) (length texts) then node_hash (hash_to j (take (2 ^ j) texts)) (hash_to j (drop (2 ^ j) texts)) else hash_to j texts
@@ -62,7 +62,7 @@ audit_to (suc j) m texts =
 abbrev pub audit_path : ℕ → List (List ℕ) → List (List ℕ)
 audit_path m texts = audit_to MAX_HEIGHT m texts
 
--- How many hashes the audit path of leaf m of n has, where n is at most 2 ^ j.
+-- The number of hashes in the audit path of leaf m of n, for n of at most 2 ^ j.
 unfoldable pub audit_length_to : ℕ → ℕ → ℕ → ℕ
 audit_length_to zero m n = 0
 audit_length_to (suc j) m n =
@@ -70,7 +70,7 @@ audit_length_to (suc j) m n =
     then (if nat_lt m (2 ^ j) then audit_length_to j m (2 ^ j) + 1 else audit_length_to j (m - 2 ^ j) (n - 2 ^ j) + 1)
     else audit_length_to j m n
 
--- How many hashes the audit path of leaf m of n has.
+-- The number of hashes in the audit path of leaf m of n.
 abbrev pub audit_length : ℕ → ℕ → ℕ
 audit_length m n = audit_length_to MAX_HEIGHT m n
 
@@ -87,11 +87,11 @@ text_on_left climb = node_text climb.hash (first_text climb.left)
 abbrev pub text_on_right : Climb → List ℕ
 text_on_right climb = node_text (first_text climb.left) climb.hash
 
--- One node higher.
+-- The climb one node higher, at the node with this text.
 abbrev pub one_higher : Climb → List ℕ → Climb
 one_higher climb text = record { hash = sha256 text; left = drop 1 climb.left }
 
--- At the top, from leaf m of n, where n is at most 2 ^ j.
+-- The climb at the top, from leaf m of n, for n of at most 2 ^ j.
 unfoldable pub climb_to : ℕ → ℕ → ℕ → Climb → Climb
 climb_to zero m n climb = climb
 climb_to (suc j) m n climb =

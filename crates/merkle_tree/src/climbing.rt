@@ -1,4 +1,5 @@
-//! The way from a leaf to the root, by an audit path (RFC 6962, section 2.1.1). It takes no memory.
+//! Computes the root of a tree from one leaf and its audit path (RFC 6962, section 2.1.1). It takes
+//! no memory.
 
 ghost use Rattle.std.specs.Prelude.{◌≡◌, ◌+◌, ◌<◌, ◌≤◌, ◌^◌, length};
 ghost use Rattle.merkle_tree.specs.{
@@ -33,7 +34,7 @@ fn length_to(height: u32, index: usize, count: usize) -> u32
     }
 }
 
-/// How many hashes the audit path of a leaf has. Indexes are from 0; `count` is the number of
+/// The number of hashes in the audit path of a leaf. Indexes count from 0; `count` is the number of
 /// leaves.
 pub fn audit_length(index: u32, count: u32) -> u32
     ensures length { result ≡ audit_length index count }
@@ -42,7 +43,8 @@ pub fn audit_length(index: u32, count: u32) -> u32
     length_to(MAX_HEIGHT, index as usize, count as usize)
 }
 
-/// One node higher, where the next hash of the path is that of the right part.
+/// Climbs one node, whose left part has the hash so far and whose right part the next hash of the
+/// path.
 fn climb_on_left(hash: Digest, path: &[Digest]) -> (Digest, &[Digest])
     requires { 0 < length path.now }
     ensures climbed { start_at result.0 result.1.now ≡ one_higher (start_at hash path.now) (text_on_left (start_at hash path.now)) }
@@ -51,7 +53,8 @@ fn climb_on_left(hash: Digest, path: &[Digest]) -> (Digest, &[Digest])
     (node_hash(&hash, &path[0]), &path[1..])
 }
 
-/// One node higher, where the next hash of the path is that of the left part.
+/// Climbs one node, whose right part has the hash so far and whose left part the next hash of the
+/// path.
 fn climb_on_right(hash: Digest, path: &[Digest]) -> (Digest, &[Digest])
     requires { 0 < length path.now }
     ensures climbed { start_at result.0 result.1.now ≡ one_higher (start_at hash path.now) (text_on_right (start_at hash path.now)) }
@@ -60,7 +63,7 @@ fn climb_on_right(hash: Digest, path: &[Digest]) -> (Digest, &[Digest])
     (node_hash(&path[0], &hash), &path[1..])
 }
 
-/// The hash at the top of a tree of at most this height, and what is left of the path.
+/// The hash at the top of a tree of at most this height, and the rest of the path.
 #[tactic(auto, using(crate::proofs::Steps::upward))]
 fn climb_to(
     height: u32,
@@ -91,8 +94,8 @@ fn climb_to(
     }
 }
 
-/// The hash of the tree in which a leaf has this hash, index and audit path. Indexes are from 0;
-/// `count` is the number of leaves. Hashes after the audit length are not used.
+/// The hash of the tree in which a leaf has this hash, index and audit path. Indexes count from 0;
+/// `count` is the number of leaves. Hashes of `path` past the audit length are not used.
 pub fn root_from_leaf(index: u32, count: u32, leaf: &Digest, path: &[Digest]) -> Digest
     requires { audit_length index count ≤ length path.now }
     ensures { result.0 ≡ top_of index count (start_at leaf.now path.now) }

@@ -1,4 +1,5 @@
-//! The levels after the hash of one more leaf.
+//! Adds one leaf to all levels: room is taken in each level first, and from then on nothing can
+//! fail.
 
 ghost use Rattle.std.specs.Prelude.{◌≡◌, All, OnOk};
 ghost use Rattle.merkle_tree.specs.Levels.{hash_over, put, put_through, hashes_in, HasRoom};
@@ -17,7 +18,7 @@ pub(crate) fn make_room(levels: &mut [Vec<Digest>]) -> Result<(), Memory>
     Ok(())
 }
 
-/// Puts a hash in the place of another or at the end, and gives the one over it.
+/// Puts a hash in place of another, or at the end, and returns the hash over it.
 #[tactic(auto, using(crate::proofs::Raising::put_within, crate::proofs::Raising::put_past))]
 fn put_level(level: &mut Vec<Digest>, place: usize, hash: Digest) -> Digest
     requires { HasRoom level.old }
@@ -35,7 +36,8 @@ fn put_level(level: &mut Vec<Digest>, place: usize, hash: Digest) -> Digest
     hash_over(level.as_slice(), place, hash)
 }
 
-/// Puts the hash of a leaf, and those over it. It takes no memory.
+/// Puts the hash of the leaf at `index`, and the hashes over it in the levels above. It takes no
+/// memory.
 pub(crate) fn put_through(levels: &mut [Vec<Digest>], index: usize, hash: Digest)
     requires { All HasRoom levels.old }
     ensures { hashes_in levels.new ≡ put_through index hash (hashes_in levels.old) }

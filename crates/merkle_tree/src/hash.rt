@@ -1,4 +1,5 @@
-//! The hashes of leaves and nodes. They take no memory.
+//! The hashes of leaves and nodes: SHA-256 (FIPS 180-4) of a first byte, which differs for the two,
+//! and of what follows it. They take no memory.
 
 ghost use Rattle.std.specs.Prelude.{◌≡◌, []};
 ghost use Rattle.sha2.specs.Sha256.{sha256};
@@ -9,7 +10,7 @@ use digest_kit::TagHasher;
 use lc_base::Digest;
 use sha2::{Digest as _, Sha256};
 
-/// The hash of a tree with no leaf (RFC 6962, section 2.1): that of no bytes.
+/// The hash of a tree with no leaf (RFC 6962, section 2.1): SHA-256 of no bytes.
 pub fn empty_hash() -> Digest
     ensures { result.0 ≡ sha256 [] }
 {

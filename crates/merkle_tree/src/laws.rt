@@ -42,12 +42,12 @@ pub fn texts_agree_or_clash()
     ensures never_both { NeverBoth }
 {}
 
-/// Lists whose texts agree are equal where their digests are.
+/// Lists whose texts agree are equal if their digests are.
 pub fn lists_are_sound<T>()
     ensures { ListsAreSound T }
 {}
 
-/// A walk over texts that agree goes from each to the one that it names.
+/// A walk over texts that agree goes from each text to the one that it names.
 pub fn walks_are_sound()
     ensures { WalksAreSound }
 {}

@@ -1,4 +1,5 @@
-//! A tree that is changed leaf by leaf.
+//! A tree that keeps the hashes of all its nodes, so that a change of some leaves hashes only the
+//! nodes over these.
 
 ghost use Rattle.std.specs.Prelude.{◌≡◌, ◌<◌, ◌≤◌, [], ◌∷◌, ◌++◌, ℕ, List, length, map, OnOk, OnErr, IfOk};
 ghost use Rattle.merkle_tree.specs.{
@@ -56,7 +57,7 @@ impl Levels {
         self.levels[0].len() as u32
     }
 
-    /// Adds a leaf at the end, by its hash. Out of memory, the tree stays as it was.
+    /// Adds a leaf at the end, by its hash. If memory runs out, the tree stays as it was.
     pub fn push(&mut self, hash: Digest) -> Result<(), Memory>
         requires { length self.old < MAX_LEAVES }
         ensures ok { OnOk result (self.new ≡ self.old ++ hash ∷ []) }
@@ -68,9 +69,9 @@ impl Levels {
         Ok(())
     }
 
-    /// Adds leaves up to this number, and sets the hashes of some; and then those of the nodes over them.
-    /// Each leaf that is new is among these. Where the indexes ascend, each node is hashed once. Out of
-    /// memory, the tree stays as it was.
+    /// Adds leaves until there are `count`, sets the leaf hashes that are given, and hashes the
+    /// nodes over these again. Each new leaf must be among them. If the indexes ascend, each node
+    /// is hashed once. If memory runs out, the tree stays as it was.
     pub fn renew(&mut self, count: u32, hashes: Vec<HashAt>) -> Result<(), Memory>
         requires few { count ≤ MAX_LEAVES }
         requires renews { (leaves : List Digest) × (length leaves ≡ count) × Renews self.old leaves hashes.items }

@@ -1,6 +1,6 @@
-//! The first bytes of what is hashed, and the size of trees.
+//! The first bytes of the texts of leaves and nodes, and the greatest size of a tree.
 
-/// The byte before a leaf (RFC 6962, section 2.1).
+/// The byte before the bytes of a leaf (RFC 6962, section 2.1).
 pub const LEAF: u8 = 0;
 
 /// The byte before the two hashes of a node (RFC 6962, section 2.1).

@@ -11,7 +11,7 @@ use crate::hash::{empty_hash, leaf_hash, node_hash};
 use crate::limits::MAX_HEIGHT;
 use lc_base::{Bytes, Digest};
 
-/// What a leaf of a tree is hashed of.
+/// A value that may be a leaf of a tree: it has a text, and the hash of that text.
 pub trait TreeLeaf {
     /// The text of the leaf.
     ghost text: { Self → List ℕ };

@@ -1,4 +1,5 @@
-//! The audit path, from the levels of a tree.
+//! Reads the audit path of a leaf from the levels of its tree: from each level the hash beside the
+//! way up, if there is one.
 
 ghost use Rattle.std.specs.Prelude.{◌≡◌, ◌++◌, IfOk, OnOk};
 ghost use Rattle.merkle_tree.specs.Levels.{sibling, siblings_up, hashes_in};

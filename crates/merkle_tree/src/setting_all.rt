@@ -1,4 +1,4 @@
-//! One level after some hashes were set together, and the hashes over them. It takes no memory.
+//! Sets several hashes of one level, and computes those over them. It takes no memory.
 
 ghost use Rattle.std.specs.Prelude.{◌≡◌, IfSome};
 ghost use Rattle.merkle_tree.specs.Levels.{set_each, over_one, over_each, StandsOver};
@@ -6,7 +6,8 @@ ghost use Rattle.merkle_tree.specs.Levels.{set_each, over_one, over_each, Stands
 use crate::pairing::hash_over;
 use lc_base::Digest;
 
-/// What is taken for the hash over a place past the end of a level.
+/// The hash of a new place before it is set, and what is taken for the hash over a place past the
+/// end of a level.
 pub(crate) const NO_HASH: Digest = Digest([0; 32]);
 
 /// A hash, and its place in a level, from 0.
@@ -16,7 +17,7 @@ pub struct HashAt {
     pub hash: Digest,
 }
 
-/// Sets some hashes, one after another. Past the end of the level nothing is set.
+/// Sets some hashes, one after another. Those past the end of the level are passed over.
 pub(crate) fn set_each(level: &mut [Digest], hashes: &[HashAt])
     ensures { level.new ≡ set_each level.old hashes.now }
 {
@@ -28,8 +29,8 @@ pub(crate) fn set_each(level: &mut [Digest], hashes: &[HashAt])
     }
 }
 
-/// The hash over one, with its place. It is the one before where that has this place, so that
-/// neighbours are hashed once.
+/// The hash over `one`, with its place in the level above. If `before` has this place, it is the
+/// hash, so that two neighbours are hashed once.
 fn over_one(level: &[Digest], one: &HashAt, before: &Option<HashAt>) -> HashAt
     requires { IfSome before.now (StandsOver level.now) }
     ensures { result ≡ over_one level.now one.now }
@@ -44,7 +45,7 @@ fn over_one(level: &[Digest], one: &HashAt, before: &Option<HashAt>) -> HashAt
     }
 }
 
-/// Puts the hash over each in its place.
+/// Replaces each hash, and its place, by the hash over it and the place of that one.
 pub(crate) fn raise_each(level: &[Digest], hashes: &mut [HashAt])
     ensures { hashes.new ≡ over_each level.now hashes.old }
 {

@@ -1,4 +1,4 @@
--- Rows that are kept, and one row more.
+-- The rows that are kept are a lawful history, with one row more too.
 use Rattle.std.proofs.Common.{◌≡◌, ◌∙◌, ℕ, ◌<◌, List, [], ◌∷◌, ◌++◌, length, get_or, slice_get, Some, refl, sym, ap, subst, rules, arith}
 use Rattle.std.specs.List.{All}
 use Rattle.std.proofs.lemmas.List.{length-append}
@@ -54,7 +54,7 @@ rows_more rows before more kept row is so =
     ∙ ap (λ (l : List Row). l ++ row_of l kept ∷ []) is
     ∙ ap (λ (r : Row). before ++ r ∷ []) (row_is before kept row so)
 
--- a row is kept so, when it was made so
+-- a row is kept as it was made to be
 pub kept_as : (rows : List Row) (kept : KeptRow) (row : Row) (deps : List ℕ) → kept ≡ record { key = row.key; block = row.block; tx = row.tx; value = row.value; deps = deps } → AreVersionsAt rows deps row.deps → IsKeptAs rows kept row
 kept_as rows kept row deps is at = record {
   key_is = ap (λ (k : KeptRow). k.key) is;

@@ -1,4 +1,4 @@
--- How the rows of a history are kept.
+-- How the rows of a history are kept: a dependency as the index of its row.
 use Rattle.std.specs.Prelude.{◌≡◌, ℕ, List, [], ◌∷◌, ◌++◌, length, slice_get, Option, None, Some}
 use Rattle.std.specs.List.{filter_map, All}
 use Rattle.lc_base.specs.declared.row.Row.{Row}
@@ -23,7 +23,7 @@ rows_with rows (kept ∷ more) = rows_with (rows ++ row_of rows kept ∷ []) mor
 unfoldable pub rows_of : List KeptRow → List Row
 rows_of kept = rows_with [] kept
 
--- A row is kept so: its dependencies stand at their indexes.
+-- A row is kept so: its dependencies are the versions at the indexes that are kept.
 pub record IsKeptAs (rows : List Row) (kept : KeptRow) (row : Row) : Type 0 where
   pub key_is : kept.key ≡ row.key
   pub block_is : kept.block ≡ row.block
@@ -42,7 +42,7 @@ pub record Holds (rows : List Row) (kept : List KeptRow) (index : RowsIndex) : T
   pub kept_are : AreKept rows kept
   pub index_is : IsIndexOf rows index
 
--- This is the index over the rows, or there is none.
+-- The index over the rows, or none.
 abbrev pub IsIndexOrNone : List Row → Option RowsIndex → Type 0
 IsIndexOrNone rows None = Unit {0}
 IsIndexOrNone rows (Some index) = IsIndexOf rows index
@@ -54,12 +54,12 @@ pub record KeepsRows (rows : List Row) (kept : List KeptRow) (index : Option Row
   pub kept_are : AreKept rows kept
   pub index_is : IsIndexOrNone rows index
 
--- These indexes, or none, are those of the versions of a list that may be there.
+-- These are the indexes of the versions of a list; if there is no list, there are no indexes.
 abbrev pub IsListAt : List Row → Option (List ℕ) → Option (List Dep) → Type 0
 IsListAt rows None list = list ≡ None
 IsListAt rows (Some indexes) list = (deps : List Dep) × (list ≡ Some deps) × AreVersionsAt rows indexes deps
 
--- This kept row, or none, is a row that may be there.
+-- This is a row as it is kept; if there is no row, none is kept.
 abbrev pub IsFound : List Row → Option KeptRow → Option Row → Type 0
 IsFound rows None found = found ≡ None
 IsFound rows (Some kept) found = (row : Row) × (found ≡ Some row) × IsKeptAs rows kept row

@@ -1,4 +1,5 @@
-//! How rows are added to those that are kept.
+//! Adds rows to those that are kept. The index is taken away first, and put back only when all rows
+//! were added, so that one that was written in part is never used.
 
 ghost use Rattle.std.specs.{
   Prelude.{◌≡◌, true, List, ◌++◌, IfOk, OnOk, OnErr},
@@ -18,7 +19,7 @@ use lc_base::{Memory, Row};
 use rows_index::RowsIndex;
 use std::alloc::Global;
 
-/// Adds rows to the index, and gives them as they are kept.
+/// Adds rows to the index, and returns them as they are to be kept.
 fn add_to_index(alloc: Global, index: &mut RowsIndex, new: &[Row]) -> Result<Vec<KeptRow>, Memory>
     requires { (rows : List Row) × IsLawful (rows ++ new.now) × IsIndexOf rows index.old }
     ensures index { (rows : List Row) → IsLawful (rows ++ new.now) → IsIndexOf rows index.old → OnOk result (IsIndexOf (rows ++ new.now) index.new) }
@@ -36,7 +37,7 @@ fn add_to_index(alloc: Global, index: &mut RowsIndex, new: &[Row]) -> Result<Vec
     Ok(more)
 }
 
-/// The index over all rows.
+/// Makes the index over all rows again.
 fn index_over(alloc: Global, rows: &[KeptRow]) -> Result<RowsIndex, Memory>
     requires { (all : List Row) × IsLawful all × AreKept all rows.now }
     ensures { (all : List Row) → IsLawful all → AreKept all rows.now → IfOk result (IsIndexOf all) }
@@ -64,7 +65,7 @@ fn index_or_made(
     }
 }
 
-/// Appends rows. Out of memory, the rows stay as they were, without an index.
+/// Appends rows. If memory runs out, the rows stay as they were, without an index.
 pub(crate) fn append(
     kept: &mut Vec<KeptRow>,
     index: &mut Option<RowsIndex>,

@@ -1,4 +1,5 @@
-//! What is kept of a version, found by the index.
+//! Answers questions by the index: a version, a count or an item is looked up, and the rows are not
+//! scanned.
 
 ghost use Rattle.std.specs.{
   Prelude.{◌≡◌, ◌≤◌, ◌<◌, ◌^◌, Some, IfOk, IfSome},
@@ -17,7 +18,7 @@ use lc_base::{Answer, Dep, Duplicate, Key, Kind, Memory, Query, Version};
 use rows_index::RowsIndex;
 use std::alloc::Global;
 
-/// The last row of the key with a block up to `at`.
+/// The last row of the key with a block up to `at`; `None` if there is none.
 fn latest<'a>(rows: &'a [KeptRow], index: &RowsIndex, key: &Key, at: u32) -> Option<&'a KeptRow>
     requires { Holds (rows_of rows.now) rows.now index.now }
     ensures { IsFound (rows_of rows.now) (option_copied result) (latest (rows_of rows.now) key.now at) }
@@ -28,7 +29,7 @@ fn latest<'a>(rows: &'a [KeptRow], index: &RowsIndex, key: &Key, at: u32) -> Opt
     }
 }
 
-/// The version of the key in the blocks up to `at`.
+/// The newest version of the key in the blocks up to `at`; `None` if there is none.
 pub(crate) fn version(
     alloc: Global,
     rows: &[KeptRow],
@@ -49,8 +50,8 @@ pub(crate) fn version(
     }
 }
 
-/// The indexes that the answer about the row at a place has: those of the rows that it was derived
-/// from, or that were derived from it.
+/// The indexes that the answer about the row at a place lists: those of the rows that it was
+/// derived from, or that were derived from it; `None` if the question is about its value.
 fn list_of_row<'a>(
     rows: &'a [KeptRow],
     index: &'a RowsIndex,
@@ -68,7 +69,7 @@ fn list_of_row<'a>(
     }
 }
 
-/// The indexes of the rows that the answer to a question lists.
+/// The indexes of the rows that the answer to a question lists; `None` if it has no list.
 fn list_of_answer<'a>(rows: &'a [KeptRow], index: &'a RowsIndex, query: &Query) -> Option<&'a [u32]>
     requires { Holds (rows_of rows.now) rows.now index.now }
     ensures { IsListAt (rows_of rows.now) (option_copied result) (list_in (scan (rows_of rows.now) query.now)) }
@@ -79,7 +80,7 @@ fn list_of_answer<'a>(rows: &'a [KeptRow], index: &'a RowsIndex, query: &Query) 
     }
 }
 
-/// How many versions the answer to a question lists.
+/// The number of versions that the answer to a question lists; `None` if it has no list.
 pub(crate) fn count(rows: &[KeptRow], index: &RowsIndex, query: &Query) -> Option<u64>
     requires { Holds (rows_of rows.now) rows.now index.now }
     ensures count { result ≡ count_in (scan (rows_of rows.now) query.now) }
@@ -92,7 +93,7 @@ pub(crate) fn count(rows: &[KeptRow], index: &RowsIndex, query: &Query) -> Optio
     }
 }
 
-/// The version at an index, from 0, among those that the answer to a question lists.
+/// The version at the place `place`, from 0, of those that the answer to a question lists.
 pub(crate) fn item(rows: &[KeptRow], index: &RowsIndex, query: &Query, place: usize) -> Option<Dep>
     requires { Holds (rows_of rows.now) rows.now index.now }
     ensures { result ≡ item_in place (scan (rows_of rows.now) query.now) }

@@ -1,4 +1,5 @@
-//! The parts of answers, each looked up. No list is made for a count or an item.
+//! The rows as a host of contracts that run: each part of an answer is looked up, and no list is
+//! made for a count or an item.
 
 ghost use Rattle.std.{
   specs.Prelude.{◌≡◌, refl, ◌^◌, ◌<◌, ◌≤◌, Some, IfSome, IfOk, IsErrOf},
@@ -67,7 +68,7 @@ fn item_asked(
     }
 }
 
-/// How many dependencies there are, of which a version has few.
+/// A number of dependencies: a version has few.
 fn dep_count(count: Option<u64>) -> Option<u32>
     requires { IfSome count (λ n. n ≤ MAX_DEPS) }
     ensures { result ≡ count }

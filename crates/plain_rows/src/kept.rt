@@ -1,4 +1,5 @@
-//! Rows as they are kept: a dependency is the index of its row.
+//! Rows as they are kept: a dependency is the index of its row, and becomes a key and a block again
+//! when it is answered.
 
 ghost use Rattle.std.specs.Prelude.{◌≡◌, ◌<◌, List, Some, length, slice_get, IfOk};
 ghost use Rattle.lc_base.specs.{declared.row.Row.{Row}, declared.row.Dep.{Dep}};
@@ -76,7 +77,7 @@ pub(crate) fn versions_at(
     Ok(DepList::from_vec(collect_versions(alloc, rows, indexes)?))
 }
 
-/// The version at a place in a list of indexes.
+/// The version at a place in a list of indexes; `None` exactly past the end.
 pub(crate) fn nth_version(rows: &[KeptRow], indexes: &[u32], place: usize) -> Option<Dep>
     requires { (all : List Row) × (deps : List Dep) × AreKept all rows.now × AreVersionsAt all indexes.now deps }
     ensures { (all : List Row) (deps : List Dep) → AreKept all rows.now → AreVersionsAt all indexes.now deps → result ≡ slice_get deps place }
@@ -87,7 +88,7 @@ pub(crate) fn nth_version(rows: &[KeptRow], indexes: &[u32], place: usize) -> Op
     }
 }
 
-/// The row that is kept.
+/// The row that is kept, with its dependencies as keys and blocks.
 pub(crate) fn row_of(alloc: Global, rows: &[KeptRow], kept: &KeptRow) -> Result<Row, Memory>
     requires { (all : List Row) × (row : Row) × AreKept all rows.now × IsKeptAs all kept.now row }
     ensures { (all : List Row) (row : Row) → AreKept all rows.now → IsKeptAs all kept.now row → IfOk result (λ made. made ≡ row) }

@@ -13,9 +13,9 @@ use rows_index::RowsIndex;
 use std::alloc::Global;
 use std::marker::Model;
 
-/// The rows of all blocks so far: a lawful history. The index over them is `None` where a call that
-/// added rows was out of memory; the next call that adds rows makes it again, and until then each
-/// question is answered `Memory`.
+/// The rows of all blocks so far: a lawful history. The index over them is `None` after a call that
+/// was to add rows ran out of memory; the next call that adds rows makes it again, and until then
+/// each question is answered `Memory`.
 #[derive(Drop)]
 pub struct PlainRows {
     pub(crate) rows: Vec<KeptRow>,
@@ -46,7 +46,7 @@ impl PlainRows {
         }
     }
 
-    /// Appends these rows. Out of memory, the rows stay as they were.
+    /// Appends these rows. If memory runs out, the rows stay as they were.
     pub fn add(&mut self, rows: &RowList) -> Result<(), Memory>
         requires { IsLawful (self.old ++ rows.now) }
         ensures ok { OnOk result (self.new ≡ self.old ++ rows.now) }

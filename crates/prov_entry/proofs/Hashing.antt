@@ -1,4 +1,4 @@
--- What was added to a hasher, one item after the other.
+-- The items of a list are added to a hasher one after the other, and each is lawful.
 use Rattle.std.proofs.Common.{◌≡◌, ℕ, ◌+◌, ◌<◌, ◌≤◌, List, [], ◌∷◌, ◌++◌, length, get_or, take, sym, ap, subst, ◌∙◌, append_assoc}
 use Rattle.std.specs.List.{concat, flat_map, AllByRecursion}
 use Rattle.digest_kit.specs.Hasher.{HasAdded}

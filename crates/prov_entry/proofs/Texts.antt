@@ -1,4 +1,4 @@
--- The texts that are hashed, piece by piece.
+-- The pieces that are hashed, one after the other, are the text.
 use Rattle.std.proofs.Common.{◌≡◌, ℕ, List, [], ◌∷◌, ◌++◌, length, sym, ap, ◌∙◌, append_assoc}
 use Rattle.std.specs.List.{concat, flat_map}
 use Rattle.std.specs.Int.{w16, w32, w64, to_be_bytes}
@@ -13,7 +13,7 @@ use Rattle.prov_entry.specs.declared.entry.Header.{Header}
 use Rattle.prov_entry.specs.declared.entry.Leaf.{Leaf}
 use Rattle.prov_entry.specs.Spelling.{link_fields, key_or_empty, next_fields, header_text, leaf_bytes}
 
--- a string, as it stands before other fields
+-- a string, before other fields
 before_others : (bytes others : List ℕ) → concat (string_fields bytes) ++ others ≡ to_be_bytes w16 (length bytes) ++ (bytes ++ others)
 before_others bytes others = ap (λ (t : List ℕ). to_be_bytes w16 (length bytes) ++ (t ++ others)) (append-nil bytes)
 

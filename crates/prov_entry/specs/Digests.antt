@@ -1,8 +1,8 @@
--- What is added to a hasher.
+-- What is added to a hasher, whatever was added before.
 use Rattle.std.specs.Prelude.{ℕ, List, ◌++◌}
 use Rattle.digest_kit.specs.Hasher.{HasAdded}
 use Rattle.digest_kit.specs.declared.hasher.TagHasher.{TagHasher}
 
--- After what was added before, these bytes were.
+-- These bytes were added behind those that were added before.
 abbrev pub Adds : TagHasher → TagHasher → List ℕ → Type 0
 Adds old new bytes = (message : List ℕ) → HasAdded old message → HasAdded new (message ++ bytes)

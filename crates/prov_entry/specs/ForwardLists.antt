@@ -16,15 +16,15 @@ start_text = FORWARD_START ∷ []
 abbrev pub no_uses : List ℕ
 no_uses = sha256 start_text
 
--- One use: its key, and its block.
+-- The fields of one use: its key, and its block.
 abbrev pub use_fields : Dep → List (List ℕ)
 use_fields use_ = string_fields use_.key ++ to_be_bytes w32 use_.block ∷ []
 
--- The text of one use after those of this digest.
+-- The text that is hashed for one use more, behind those that have this digest.
 abbrev pub use_text : List ℕ → Dep → List ℕ
 use_text digest use_ = FORWARD_LINK ∷ digest ++ concat (use_fields use_)
 
--- The digest with one use more.
+-- The digest of a list with one use more.
 abbrev pub with_use : List ℕ → Dep → List ℕ
 with_use digest use_ = sha256 (use_text digest use_)
 

@@ -1,4 +1,5 @@
--- How headers, bodies and leaves are spelled, each as its list of fields, and what is hashed of them.
+-- How headers, bodies and leaves are spelled, each as its list of fields, and what is hashed of
+-- them. Numbers are big-endian.
 use Rattle.std.specs.Prelude.{◌≡◌, ℕ, ◌^◌, ◌<◌, ◌≤◌, List, [], ◌∷◌, ◌++◌, length, Option, Some, None}
 use Rattle.std.specs.List.{concat, flat_map, AllByRecursion}
 use Rattle.std.specs.Int.{w16, w32, w64, to_be_bytes}
@@ -42,12 +43,12 @@ pub record IsBody (body : Body) : Type 0 where
   pub few_deps : length body.deps ≤ MAX_DEPS
   pub deps_are_deps : AllByRecursion IsBodyDep body.deps
 
--- A key, where there is one.
+-- A key, if there is one.
 abbrev pub IsKeyIfAny : Option (List ℕ) → Type 0
 IsKeyIfAny None = Unit {0}
 IsKeyIfAny (Some key) = IsKey key
 
--- Keys where there are any, numbers that fit, and digests of 32 bytes.
+-- Keys, if there are any, numbers that fit, and digests of 32 bytes.
 pub record IsLeaf (leaf : Leaf) : Type 0 where
   pub key_is_key : IsKeyIfAny leaf.key
   pub next_is_key : IsKeyIfAny leaf.next
@@ -62,7 +63,7 @@ pub record IsLeaf (leaf : Leaf) : Type 0 where
 abbrev pub link_fields : Link → List (List ℕ)
 link_fields link = to_be_bytes w32 link.block ∷ link.digest.0 ∷ []
 
--- The key, the block, the transaction, the digest of the body, how many uses are closed and their
+-- The key, the block, the transaction, the digest of the body, the number of closed uses and their
 -- digest, the number of links in one byte, and these.
 abbrev pub header_fields : Header → List (List ℕ)
 header_fields header =
@@ -87,8 +88,8 @@ abbrev pub next_fields : Option (List ℕ) → List (List ℕ)
 next_fields None = (0 ∷ []) ∷ []
 next_fields (Some key) = (1 ∷ []) ∷ string_fields key
 
--- The key, the next key, the newest block, the digest of its header, how many uses are open and
--- their digest.
+-- The key, the next key, the block of the newest version and the digest of its header, and the
+-- number of open uses and their digest.
 abbrev pub leaf_fields : Leaf → List (List ℕ)
 leaf_fields leaf =
     string_fields (key_or_empty leaf.key) ++ next_fields leaf.next ++ to_be_bytes w32 leaf.newest_block ∷ leaf.newest.0

@@ -1,4 +1,5 @@
-//! Digests of headers and leaves, hashed piece by piece. None of these calls takes memory.
+//! Digests of headers and leaves: the same fields as are written, hashed piece by piece. None of
+//! these calls takes memory.
 
 ghost use Rattle.std.specs.{
   Prelude.{◌≡◌, ◌^◌, ◌<◌, ◌≤◌, length},
@@ -52,7 +53,8 @@ fn add_links(hasher: &mut TagHasher, links: &[Link])
     }
 }
 
-/// The digest of a header's text.
+/// The digest of a header: SHA-256 of the byte `HEADER` and its fields. The header has at most
+/// `MAX_LINKS` links.
 pub fn header_digest(header: &Header) -> Digest
     requires { length header.now.links ≤ MAX_LINKS }
     ensures digest { result.0 ≡ sha256 (header_text header.now) }

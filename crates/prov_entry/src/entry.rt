@@ -1,4 +1,5 @@
-//! Headers, bodies and leaves.
+//! What is hashed: a header and a body of each version, and a leaf of each key. They name older
+//! versions by the digests of their headers.
 
 use lc_base::{Digest, Key, Seq, Value};
 
@@ -11,10 +12,10 @@ pub struct Link {
     pub digest: Digest,
 }
 
-/// Links, one for each level from 0.
+/// The links of a version, one for each level from 0.
 pub type LinkList = Seq<Link>;
 
-/// What is hashed of a version: where it stands, and what it names by digests.
+/// A version without its value: its key, block and transaction, and what it names by digests.
 #[derive(Debug, Drop)]
 pub struct Header {
     pub key: Key,
@@ -54,12 +55,12 @@ pub struct Body {
     pub deps: BodyDepList,
 }
 
-/// What the tree over all keys has of a key, or of the sentinel, which stands before all keys.
+/// What the tree over all keys has of a key, or of the sentinel, which comes before all keys.
 #[derive(Clone, Copy, Debug, PartialEq, Eq)]
 pub struct Leaf {
-    /// None for the sentinel.
+    /// `None` for the sentinel.
     pub key: Option<Key>,
-    /// The least key that is greater and has a leaf; none where there is no greater one.
+    /// The least greater key that has a leaf; `None` if no key is greater.
     pub next: Option<Key>,
     /// The block of the newest version; 0 for the sentinel.
     pub newest_block: u32,

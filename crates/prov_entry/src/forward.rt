@@ -1,4 +1,5 @@
-//! Digests of forward lists. None of these calls takes memory.
+//! Digests of forward lists: each use is hashed with the digest of the list before it, so a list
+//! may grow without being kept. None of these calls takes memory.
 
 ghost use Rattle.std.specs.Prelude.{◌≡◌, [], ◌++◌};
 ghost use Rattle.prov_entry.specs.ForwardLists.{no_uses, with_use};
@@ -21,7 +22,7 @@ pub fn no_uses() -> Digest
     NO_USES
 }
 
-/// The digest of a forward list with one use more, where the digest of the list is given.
+/// The digest of a forward list with one use more, from the digest of the list without it.
 pub fn with_use(digest: &Digest, dep: &Dep) -> Digest
     ensures { result.0 ≡ with_use digest.now.0 dep.now }
 {

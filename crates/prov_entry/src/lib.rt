@@ -1,4 +1,5 @@
-//! The texts that are hashed of versions, of forward lists and of the leaves over all keys.
+//! The texts that are hashed of versions, of forward lists and of the leaves over all keys. Each
+//! kind begins with a byte of its own.
 #![tactic(auto)]
 
 mod digests;

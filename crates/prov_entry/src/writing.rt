@@ -1,5 +1,5 @@
-//! Writing headers, bodies and leaves as their fields, without the byte that stands before them
-//! where they are hashed.
+//! Writes headers, bodies and leaves as their fields, without the byte that comes first when they
+//! are hashed. What was written is within its limits, so it can be read back.
 
 ghost use Rattle.std.specs.{
   Prelude.{◌≡◌, ◌≤◌, ◌++◌, ℕ, List, length, IfOk, OnOk},
@@ -19,12 +19,12 @@ use std::alloc::Global;
 
 /// An item of an entry's list.
 trait Spelled {
-    /// Its fields.
+    /// The fields of an item.
     ghost fields: { Self → List (List ℕ) };
-    /// The lawful ones.
+    /// The items that can be spelled.
     ghost lawful: { Self → Type 0 };
 
-    /// Writes its fields.
+    /// Writes the fields of the item at the end of `out`.
     fn put(&self, out: &mut Vec<u8>) -> Result<(), Memory>
         ensures written { OnOk result (out.new.items ≡ out.old.items ++ concat (fields self.now)) }
         ensures is { OnOk result (lawful self.now) };
@@ -63,7 +63,7 @@ fn put_all<T: Spelled>(out: &mut Vec<u8>, items: &[T]) -> Result<(), Memory>
     Ok(())
 }
 
-/// The fields of a header, the first one first.
+/// The bytes of a header: its fields, in their order. The header has at most `MAX_LINKS` links.
 pub fn write_header(alloc: Global, header: &Header) -> Result<Bytes, Memory>
     requires { length header.now.links ≤ MAX_LINKS }
     ensures spelled { IfOk result (λ bytes. bytes ≡ concat (header_fields header.now)) }
@@ -81,7 +81,7 @@ pub fn write_header(alloc: Global, header: &Header) -> Result<Bytes, Memory>
     Ok(Bytes::from_vec(out))
 }
 
-/// The fields of a body, the first one first.
+/// The bytes of a body: its fields, in their order. The body has at most `MAX_DEPS` dependencies.
 pub fn write_body(alloc: Global, body: &Body) -> Result<Bytes, Memory>
     requires { length body.now.deps ≤ MAX_DEPS }
     ensures spelled { IfOk result (λ bytes. bytes ≡ concat (body_fields body.now)) }
@@ -117,7 +117,7 @@ fn put_next(out: &mut Vec<u8>, next: &Option<Key>) -> Result<(), Memory>
     }
 }
 
-/// The fields of a leaf, the first one first.
+/// The bytes of a leaf: its fields, in their order.
 pub fn write_leaf(alloc: Global, leaf: &Leaf) -> Result<Bytes, Memory>
     ensures spelled { IfOk result (λ bytes. bytes ≡ leaf_bytes leaf.now) }
     ensures lawful { IfOk result (λ bytes. IsLeaf leaf.now) }

@@ -1,4 +1,4 @@
--- What a question about a ledger is answered.
+-- How a question about a ledger is answered, refused and counted.
 use Rattle.std.specs.Prelude.{◌≡◌, ℕ, ◌<◌, ◌≤◌, length, Result, Ok, Err}
 use Rattle.lc_base.specs.History.{scan}
 use Rattle.lc_base.specs.declared.answer.Answer.{Answer}
@@ -9,9 +9,9 @@ use Rattle.merkle_dag.specs.Ledger.{Ledger, IsHead}
 use Rattle.prov_query.specs.declared.questions.AskError.{AskError}
 use Rattle.prov_query.specs.declared.questions.AskError.TheVariants as errors
 
--- A question about a block of the ledger has the answer that its rows give, unless the scratch
--- device fails, or there is no memory for it; one past the last block is refused, with the number
--- of the last block.
+-- A question about a block of the ledger has the answer of scanning its rows, unless the scratch
+-- device fails or memory runs out; one past the last block is refused, with the number of the last
+-- block.
 abbrev pub IsAnswered : Ledger → Query → Result Answer AskError → Type 0
 IsAnswered ledger query (Ok answer) = (query.at < length ledger.digests)
     × (answer ≡ scan ledger.rows query)
@@ -20,7 +20,7 @@ IsAnswered ledger query (Err (errors.Beyond head)) = (length ledger.digests ≤ 
 IsAnswered ledger query (Err errors.Fault) = query.at < length ledger.digests
 IsAnswered ledger query (Err errors.Memory) = query.at < length ledger.digests
 
--- A question is refused, with the number of the last block, exactly where it is past that block.
+-- A question is refused, with the number of the last block, exactly if it is past that block.
 abbrev pub IsRefusedBeyond : Ledger → Query → Result Answer AskError → Type 0
 IsRefusedBeyond ledger query (Ok answer) = query.at < length ledger.digests
 IsRefusedBeyond ledger query (Err (errors.Beyond head)) = (length ledger.digests ≤ query.at)
@@ -29,7 +29,7 @@ IsRefusedBeyond ledger query (Err errors.Fault) = query.at < length ledger.diges
 IsRefusedBeyond ledger query (Err errors.Memory) = query.at < length ledger.digests
 
 -- A count of the versions that lookups look at rises by the length of the path over the rows; it
--- stays where the question is past the last block.
+-- stays if the question is past the last block.
 abbrev pub IsCounted : Ledger → Query → Result Answer AskError → ℕ → ℕ → Type 0
 IsCounted ledger query (Err (errors.Beyond head)) before after = after ≡ before
 IsCounted ledger query (Ok answer) before after = after ≡ raised_count before

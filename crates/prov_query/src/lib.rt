@@ -1,4 +1,4 @@
-//! Questions about the rows of a lineage.
+//! Questions about the rows of a lineage, which are refused past its last block.
 #![tactic(auto)]
 
 mod questions;

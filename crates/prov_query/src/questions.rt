@@ -1,4 +1,5 @@
-//! The answer to a question about the rows of a lineage.
+//! Answers a question about the rows of a lineage up to a block, and refuses one past the last
+//! block before it reads anything.
 
 ghost use Rattle.std.specs.Prelude.{◌≡◌, true, IsErrOf};
 ghost use Rattle.scratch_model.specs.Scratch.{is_known};
@@ -17,7 +18,7 @@ use std::alloc::Global;
 pub enum AskError {
     /// It asks past the last block, or there is no block.
     Beyond {
-        /// The number of the last block; `None` where there is none.
+        /// The number of the last block; `None` if there is no block.
         head: Option<u32>,
     },
     /// The scratch device failed.
@@ -26,10 +27,11 @@ pub enum AskError {
     Memory,
 }
 
-/// The answer to a question about the blocks up to the one that it names, where it is known which
-/// bytes the device holds. The lineage stays as it was, but for the bodies at hand, also where there
-/// is no answer. The count rises by the number of the versions of the key that are looked at: those
-/// of the path, also where the device fails or out of memory, and none past the last block.
+/// The answer to a question about the blocks up to the one that it names, if it is known which
+/// bytes the device holds. The lineage stays as it was, but for the bodies at hand, whether there
+/// is an answer or not. The count rises by the number of the versions of the key that are looked
+/// at: those of the path, also if the device fails or memory runs out, and none past the last
+/// block.
 pub fn ask<S: Scratch>(
     alloc: Global,
     lineage: &mut Lineage,

@@ -1,4 +1,5 @@
--- The list that a version closes ends with the version's block.
+-- The list that a version closes ends with the version's block: no later row depends on the version
+-- before it.
 use Rattle.std.proofs.Common.{◌≡◌, ◌∙◌, ℕ, suc, ◌<◌, ◌≤◌, Bool, true, false, ◌&&◌, ◌==◌, nat_lt, nat_le, List, [], ◌∷◌, Option, Some, None, refl, sym, ap, arith, map, filter, reverse, inl, inr}
 use Rattle.std.specs.List.{find, list_any, AllPairs, AllByRecursion, Contains}
 use Rattle.std.specs.Option.{option_or, IsSomeAnd}
@@ -19,7 +20,7 @@ use Rattle.root_laws.proofs.Headers.{newest_has, below_are_before}
 
 -- ---- the newest version is in the greatest block
 
--- none is found from the back where none passes
+-- if none is found from the back, none passes
 none_passes : {X : Type 0} (p : X → Bool) (xs : List X) → find p (reverse xs) ≡ None → AllByRecursion (λ x. p x ≡ false) xs
 none_passes p [] e = tt
 none_passes {X = X} p (x ∷ xs) e =

@@ -1,4 +1,5 @@
--- What rows of later blocks change of the filters by the block, of what is named, and of the uses.
+-- Rows of later blocks change nothing of the rows up to a block, of what is named before it, or of
+-- uses among these rows.
 use Rattle.std.proofs.Common.{◌≡◌, ◌∙◌, ℕ, zero, suc, ◌≤◌, ◌<◌, true, false, ◌==◌, nat_lt, nat_le, List, ◌++◌, refl, ap, arith, map, filter, reverse}
 use Rattle.std.specs.List.{fold, All, AllByRecursion}
 use Rattle.std.specs.Option.{option_or}
@@ -25,7 +26,7 @@ IsBefore block row = row.block < block
 abbrev pub IsIn : ℕ → Row → Type 0
 IsIn block row = row.block ≡ block
 
--- ---- where rows of later blocks are appended
+-- ---- when rows of later blocks are appended
 
 pub up_to_low : (rows more : List Row) (m : ℕ) → AllByRecursion (IsFrom (suc m)) more → up_to (rows ++ more) m ≡ up_to rows m
 up_to_low rows more m later =
@@ -65,7 +66,7 @@ earlier_headers_stay rows more row later =
       ap (λ ns. body_among ns row) named,
     )
 
--- ---- where the rows of one block are appended to those of earlier ones
+-- ---- when the rows of one block are appended to those of earlier ones
 
 pub up_to_now : (rows new : List Row) (n : ℕ) → AllByRecursion (IsBefore n) rows → AllByRecursion (IsIn n) new → up_to (rows ++ new) n ≡ rows ++ new
 up_to_now rows new n old now = keep_all (λ (row : Row). nat_le row.block n) (rows ++ new)

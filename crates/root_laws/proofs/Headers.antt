@@ -1,4 +1,4 @@
--- By which digests the texts of a lawful history name the headers of its rows.
+-- The texts of a lawful history name its rows by the digests of their headers.
 use Rattle.std.proofs.Common.{◌≡◌, ◌∙◌, ℕ, zero, suc, ◌+◌, ◌<◌, Bool, true, false, ◌==◌, nat_lt, nat_le, List, get_or, map, filter, reverse, Option, Some, None, refl, sym, ap, arith, inl, inr}
 use Rattle.std.specs.List.{find, list_any, All, AllByRecursion, Contains, range_with_len}
 use Rattle.std.specs.Option.{option_map, option_or, IsSomeAnd}

@@ -1,4 +1,4 @@
--- The keys of a history.
+-- The keys of a history: each is there once, exactly if it has a version.
 use Rattle.std.proofs.Common.{◌≡◌, ◌≢◌, ◌∙◌, ℕ, Bool, true, ◌||◌, ◌==◌, ◌≤◌, ◌+◌, length, List, [], ◌∷◌, ◌++◌, refl, sym, ap, arith, inl, inr}
 use Rattle.std.specs.List.{list_any, fold, AllPairs, AllByRecursion}
 use Rattle.std.specs.Option.{is_some}
@@ -36,7 +36,7 @@ among_fold keys (row ∷ rows) k =
     ∙ ap (λ (b : Bool). b || list_any (λ (row : Row). pointwise ◌==◌ row.key k) rows) (among_with keys row k)
     ∙ or_assoc (is_among keys k) (pointwise ◌==◌ row.key k) (list_any (λ (row : Row). pointwise ◌==◌ row.key k) rows)
 
--- a key is among those of the rows where it has a newest version
+-- a key is among those of the rows exactly if it has a newest version
 pub among_is_some : (rows : List Row) (k : List ℕ) → is_among (keys_of rows) k ≡ is_some (newest rows k)
 among_is_some rows k = among_fold [] rows k ∙ sym (some_last (λ (row : Row). pointwise ◌==◌ row.key k) rows)
 
@@ -57,7 +57,7 @@ distinct_with keys (row ∷ rows) h = distinct_with (with_key keys row) rows (el
   | inr t ↦ rw t (all_pairs_push ◌≢◌ keys row.key h (λ k d l e. not_both (is_among keys row.key) (list_any_at (λ (other : List ℕ). pointwise ◌==◌ other row.key) keys k d l (rw e (key_is_key row.key))) t))
 ])
 
--- no key of a history stands twice
+-- no key of a history is there twice
 pub keys_distinct : (rows : List Row) → AllPairs ◌≢◌ (keys_of rows)
 keys_distinct rows = distinct_with [] rows (λ i j d l k. absurd (omega arith))
 

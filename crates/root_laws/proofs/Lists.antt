@@ -111,7 +111,7 @@ pub is_some_or : {X : Type 0} (a b : Option X) → is_some (option_or a b) ≡ (
 is_some_or None b = refl
 is_some_or (Some x) b = refl
 
--- there is a last one where there is one
+-- there is a last one exactly if there is one
 pub some_last : {X : Type 0} (p : X → Bool) (xs : List X) → is_some (find p (reverse xs)) ≡ list_any p xs
 some_last p [] = refl
 some_last p (x ∷ xs) =

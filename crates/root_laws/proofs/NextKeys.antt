@@ -54,7 +54,7 @@ order a b = go (slice_cmp nat_cmp a b) refl
 later : (x : List ℕ) (keys : List (List ℕ)) (n : List ℕ) → Contains keys n → Contains (x ∷ keys) n
 later x keys n c = (suc c.0, omega (arith, c.1), c.2)
 
--- where the first key is greater
+-- if the first key is greater
 first_greater : (x : List ℕ) (keys : List (List ℕ)) (key : List ℕ) (o : Option (List ℕ)) → is_below key x ≡ true → Next keys key o → Next (x ∷ keys) key (lesser x o)
 first_greater x keys key None b h = ((0, omega arith, refl), b, ((λ t. not_itself x), all_weaker (λ (other : List ℕ). is_below key other ≡ false) (λ (other : List ℕ). is_below key other ≡ true → is_below other x ≡ false) (λ other f t. absurd (not_both (is_below key other) t f)) keys h))
 first_greater x keys key (Some m) b h = elim (cases_Bool (is_below m x)) [
@@ -117,7 +117,7 @@ last_next keys new key (Some n) h = (
     here : (xs : List (List ℕ)) → AllByRecursion (Contains (xs ++ new ∷ [])) xs
     here xs = all_weaker (Contains xs) (Contains (xs ++ new ∷ [])) (λ x c. Contains-append_left xs (new ∷ []) x c) xs (all_contained xs)
 
--- the next key of each after a new key: the new one where it is greater, and smaller than what was next
+-- the next key after one more: the new one if it is greater, and less than what was next
 pub next_with : (keys : List (List ℕ)) (new key : List ℕ) → next_key (keys ++ new ∷ []) key ≡ (if is_below key new then lesser new (next_key keys key) else next_key keys key)
 next_with keys new key = elim (cases_Bool (is_below key new)) [
   | inl t ↦ rw t (one_next (keys ++ new ∷ []) key (next_key (keys ++ new ∷ []) key) (lesser new (next_key keys key)) (next_of (keys ++ new ∷ []) key)

@@ -1,4 +1,4 @@
--- The roots of earlier blocks stay.
+-- The roots of earlier blocks stay when later blocks are appended.
 use Rattle.std.proofs.Common.{◌≡◌, ◌∙◌, ℕ, suc, ◌<◌, List, [], ◌++◌, length, ap}
 use Rattle.std.proofs.lemmas.List.{get_or_append_left}
 use Rattle.std.proofs.lemmas.List.Elements.{recursion_from_All}

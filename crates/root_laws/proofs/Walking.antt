@@ -1,4 +1,5 @@
--- Walks over the headers of a key.
+-- A walk over the headers of a key is one over linked texts, which name each other by their
+-- digests.
 use Rattle.std.proofs.Common.{◌≡◌, ◌∙◌, ◌⊎◌, ℕ, true, ◌==◌, List, reverse, Option, Some, None, refl, sym, ap, subst, arith, inl, inr}
 use Rattle.std.specs.List.{find, Contains}
 use Rattle.std.specs.Option.{option_map}
@@ -33,7 +34,7 @@ text_found : (rows : List Row) (row : Row) (key : List ℕ) (block : ℕ) → Is
 text_found rows row key block lawful has k b =
     ap (λ (x : List ℕ). header_text_at rows x block) (sym k) ∙ ap (header_text_at rows row.key) (sym b) ∙ ap (option_map (text_of_row rows)) (version_found rows row lawful has)
 
--- the row whose text stands at a place
+-- the row whose header has the text at a place
 row_at : (rows : List Row) (key : List ℕ) (block : ℕ) (text : List ℕ) → header_text_at rows key block ≡ Some text → (row : Row) × Contains rows row × (row.key ≡ key) × (row.block ≡ block) × (text_of_row rows row ≡ text)
 row_at rows key block text e = go (find (is_version_in key block) (reverse rows)) refl e
   where

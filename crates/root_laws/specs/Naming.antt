@@ -22,7 +22,7 @@ digest_of_uses uses = record { 0 = uses_digest uses }
 
 -- ---- closed forward lists
 
--- The uses of a version among these rows; none where there is no version.
+-- The uses of a version among these rows; none if there is no version.
 abbrev pub uses_of : List Row → List ℕ → Option Row → List Dep
 uses_of rows key None = []
 uses_of rows key (Some version) = uses rows key version.block
@@ -32,18 +32,18 @@ uses_of rows key (Some version) = uses rows key version.block
 abbrev pub closed_uses : List Row → List ℕ → ℕ → List Dep
 closed_uses rows key block = uses_of rows key (newest (below rows block) key)
 
--- ---- headers and bodies, where the header digests of older versions are given
+-- ---- headers and bodies, from the header digests of older versions
 
 -- Whether this is the version of the key in this block.
 abbrev pub is_named : List ℕ → ℕ → BodyDep → Bool
 is_named key block name = pointwise ◌==◌ name.key key && name.block == block
 
--- The digest of a version's header; zeros where there is no such version.
+-- The digest of a version's header; zeros if there is no such version.
 abbrev pub digest_or_zeros : Option BodyDep → Digest
 digest_or_zeros None = record { 0 = replicate 32 0 }
 digest_or_zeros (Some name) = name.digest
 
--- The digest of the header of the key's version in this block, among those given.
+-- The digest of the header of the key's version in this block, from these named versions.
 abbrev pub digest_among : List BodyDep → List ℕ → ℕ → Digest
 digest_among named key block = digest_or_zeros (find (is_named key block) (reverse named))
 
@@ -51,7 +51,7 @@ digest_among named key block = digest_or_zeros (find (is_named key block) (rever
 abbrev pub with_digest : List BodyDep → Dep → BodyDep
 with_digest named dep = record { key = dep.key; block = dep.block; digest = digest_among named dep.key dep.block }
 
--- The body of a row.
+-- The body of a row, from these named versions.
 abbrev pub body_among : List BodyDep → Row → Body
 body_among named row = record { value = row.value; deps = map (with_digest named) row.deps }
 
@@ -59,7 +59,7 @@ body_among named row = record { value = row.value; deps = map (with_digest named
 abbrev pub link_among : List BodyDep → List ℕ → ℕ → Link
 link_among named key block = record { block = block; digest = digest_among named key block }
 
--- The header of a row, where these are the rows up to its block.
+-- The header of a row, from the rows up to its block and the named versions before it.
 abbrev pub header_among : List Row → List BodyDep → Row → Header
 header_among rows named row = record {
   key = row.key;

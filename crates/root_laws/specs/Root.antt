@@ -20,7 +20,7 @@ use Rattle.root_laws.specs.Naming.{digest_of_uses, header_digest}
 abbrev pub is_among : List (List ℕ) → List ℕ → Bool
 is_among keys key = list_any (λ other. pointwise ◌==◌ other key) keys
 
--- The keys, and after them this row's where it is not among them.
+-- The keys, and after them this row's key if it is not among them.
 abbrev pub with_key : List (List ℕ) → Row → List (List ℕ)
 with_key keys row = if is_among keys row.key then keys else keys ++ row.key ∷ []
 
@@ -32,23 +32,24 @@ keys_of rows = fold with_key [] rows
 abbrev pub is_below : List ℕ → List ℕ → Bool
 is_below key other = is_lt (slice_cmp nat_cmp key other)
 
--- The lesser of a key and another, where there is one.
+-- The lesser of a key and another, if there is one.
 abbrev pub lesser : List ℕ → Option (List ℕ) → Option (List ℕ)
 lesser key None = Some key
 lesser key (Some other) = if is_below other key then Some other else Some key
 
--- The least of the keys.
+-- The least of the keys; `None` if there is no key.
 abbrev pub least : List (List ℕ) → Option (List ℕ)
 least [] = None
 least (key ∷ keys) = lesser key (least keys)
 
--- The least of the keys that is greater than this one. The empty string is smaller than every key.
+-- The least of the keys that are greater than this one; `None` if no key is. The empty string is
+-- less than every key.
 abbrev pub next_key : List (List ℕ) → List ℕ → Option (List ℕ)
 next_key keys key = least (filter (is_below key) keys)
 
 -- ---- leaves
 
--- The leaf that stands before those of the keys.
+-- The leaf that comes before those of the keys.
 abbrev pub sentinel : List (List ℕ) → Leaf
 sentinel keys = record {
   key = None;
@@ -70,7 +71,7 @@ leaf_at rows keys key block = record {
   open_digest = digest_of_uses (uses rows key block);
 }
 
--- The block of a version; 0 where there is none.
+-- The block of a version; 0 if there is none.
 abbrev pub block_of : Option Row → ℕ
 block_of None = 0
 block_of (Some row) = row.block

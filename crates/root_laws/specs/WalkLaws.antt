@@ -20,7 +20,7 @@ is_version_in key block row = pointwise ◌==◌ row.key key && row.block == blo
 abbrev pub text_of_row : List Row → Row → List ℕ
 text_of_row rows row = header_text (header_of rows row)
 
--- The text of the header of the key's version in this block, where there is one.
+-- The text of the header of the key's version in this block; `None` if there is no such version.
 abbrev pub header_text_at : List Row → List ℕ → ℕ → Option (List ℕ)
 header_text_at rows key block = option_map (text_of_row rows) (find (is_version_in key block) (reverse rows))
 
@@ -28,7 +28,7 @@ header_text_at rows key block = option_map (text_of_row rows) (find (is_version_
 abbrev pub header_texts : List Row → List (List ℕ)
 header_texts rows = map (text_of_row rows) rows
 
--- A link is expected.
+-- The link names the block and the digest that are expected.
 pub record IsExpected (expected : Expected) (link : Link) : Type 0 where
   pub place : expected.place ≡ link.block
   pub digest : expected.digest ≡ link.digest.0

@@ -1,4 +1,4 @@
-//! Laws of headers, of keys and of roots.
+//! Laws of headers, of keys and of roots, each the contract of a function that does nothing.
 
 ghost use Rattle.root_laws.specs.{
   GrowthLaws.{EarlierVersionsStayNamed, EarlierHeadersStay, EarlierKeysStandFirst, EarlierRootsStay, VersionsOfABlockAreNamed, LinksAreOfTheHistory, ClosedListsAreOfTheHistory},
@@ -9,28 +9,29 @@ ghost use Rattle.root_laws.specs.{
 
 // ---- histories that grow
 
-/// What is named of the blocks before one stays where rows of this block or of later ones are
+/// What is named of the blocks before one stays when rows of this block or of later ones are
 /// appended.
 pub fn earlier_versions_stay_named()
     ensures { EarlierVersionsStayNamed }
 {}
 
-/// So do the header and the body of a row where rows of later blocks are appended.
+/// The header and the body of a row stay when rows of later blocks are appended.
 pub fn earlier_headers_stay()
     ensures { EarlierHeadersStay }
 {}
 
-/// A block's rows are named after the versions before, each over the history up to this block.
+/// The versions of a block are named behind those of the blocks before, each over the history up to
+/// this block.
 pub fn versions_of_a_block_are_named()
     ensures { VersionsOfABlockAreNamed }
 {}
 
-/// Keys stay in their places where rows are appended; new keys are put after them.
+/// Keys stay in their places when rows are appended; new keys are put after them.
 pub fn earlier_keys_stand_first()
     ensures { EarlierKeysStandFirst }
 {}
 
-/// A root stays where rows and digests of later blocks are appended.
+/// A root stays when rows and digests of later blocks are appended.
 pub fn earlier_roots_stay()
     ensures { EarlierRootsStay }
 {}
@@ -42,8 +43,8 @@ pub fn links_are_of_the_history()
     ensures { LinksAreOfTheHistory }
 {}
 
-/// So is the list that a version of a lawful history closes: no row of a later block is derived from
-/// the version before it.
+/// The list that a version of a lawful history closes is the same over both: no row of a later
+/// block is derived from the version before it.
 pub fn closed_lists_are_of_the_history()
     ensures { ClosedListsAreOfTheHistory }
 {}
@@ -78,12 +79,12 @@ pub fn header_walks_are_sound()
 
 // ---- keys
 
-/// A key is among those of the rows exactly where it has a version.
+/// A key is among those of the rows exactly if it has a version.
 pub fn keys_are_those_of_the_rows()
     ensures { KeysAreThoseOfTheRows }
 {}
 
-/// No key of the rows stands twice among their keys.
+/// No key is twice among the keys of the rows.
 pub fn keys_are_distinct()
     ensures { KeysAreDistinct }
 {}
@@ -93,13 +94,13 @@ pub fn next_key_is_the_least_greater()
     ensures { NextKeyIsTheLeastGreater }
 {}
 
-/// There is no other least key that is greater.
+/// Only one key is the least that is greater.
 pub fn next_key_is_unique()
     ensures { NextKeyIsUnique }
 {}
 
-/// What one key more changes of the next keys: it comes next where it is greater, and smaller than
-/// what came next.
+/// One key more comes next after a key if it is greater, and less than the one that came next; else
+/// the next key stays.
 pub fn new_key_is_threaded()
     ensures { NewKeyIsThreaded }
 {}

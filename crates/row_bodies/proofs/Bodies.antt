@@ -1,4 +1,4 @@
--- The bodies that bytes spell.
+-- What a reader of bodies finds at the start of bytes is the body that they spell.
 use Rattle.std.proofs.Common.{◌≡◌, ℕ, ◌+◌, List, [], ◌∷◌, ◌++◌, map, take, Result, Ok, Err, Some}
 use Rattle.std.proofs.Common.{refl, sym, ap, ◌∙◌}
 use Rattle.std.specs.List.{concat, slice_get}
@@ -23,7 +23,7 @@ body_back body is =
     ap (λ (bytes : List ℕ). body_read (body_at bytes))
     (sym (append-nil (concat (body_fields body)))) ∙ ap body_read (body_field.again body [] is)
 
--- what a reader of bodies gives
+-- the body that a reader of bodies returns
 abbrev body_given : Result (Placed Body) FieldError → Body
 body_given (Ok body) = body.value
 body_given (Err error) = no_body

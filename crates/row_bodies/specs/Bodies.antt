@@ -1,4 +1,4 @@
--- The body that bytes spell.
+-- The body that bytes spell; it is total, so that each list of bytes is read as some body.
 use Rattle.std.specs.Prelude.{pos, [], Option, Some, None, Ok, Err}
 use Rattle.lc_base.specs.declared.row.Dep.{Dep}
 use Rattle.lc_base.specs.declared.value.Value.TheVariants.{Int}
@@ -11,12 +11,12 @@ use Rattle.entry_views.specs.Placed.{Placed}
 abbrev pub no_body : Body
 no_body = record { value = Int (pos 0); deps = [] }
 
--- The body that was read; the value 0 without dependencies, where none stands there.
+-- The body that was read; the value 0 without dependencies if none was.
 abbrev pub body_read : Field Body → Body
 body_read (Ok read) = read.0
 body_read (Err left) = no_body
 
--- The body that stands in bytes, where one does; the value 0 without dependencies, where none does.
+-- The body that was found in bytes; the value 0 without dependencies if none was.
 abbrev pub body_standing : Option (Placed Body) → Body
 body_standing (Some body) = body.value
 body_standing None = no_body

@@ -1,4 +1,4 @@
-//! The bytes of a row's body, read: its value, and what it was derived from.
+//! Reads the bytes of a row's body: its value, and what it was derived from.
 #![tactic(auto)]
 
 mod laws;

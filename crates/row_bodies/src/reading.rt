@@ -1,5 +1,5 @@
-//! Reading the bytes of a body. Where a body doesn't stand at their start, they are read as the
-//! value 0 without dependencies.
+//! Reads the bytes of a body. Bytes that don't begin with a body are read as the value 0 without
+//! dependencies.
 
 ghost use Rattle.std.specs.Prelude.{◌≡◌, length, map, slice_get, IfOk};
 ghost use Rattle.lc_base.specs.declared.limits.TheConstants.{MAX_DEPS};
@@ -13,7 +13,7 @@ use lc_base::{Dep, DepList, Memory, Text, TextError, Value};
 use prov_entry::{Body, BodyDep, BodyDepList};
 use std::alloc::Global;
 
-/// The body that stands at the start of bytes, if any.
+/// The body at the start of bytes; `None` if there is none.
 #[tactic(auto, using(crate::proofs::Bodies::is_read, crate::proofs::Bodies::is_none))]
 fn body_view(bytes: &[u8]) -> Option<BodyView<'_>>
     ensures { body_standing result ≡ body_read (body_at bytes.now) }
@@ -21,7 +21,7 @@ fn body_view(bytes: &[u8]) -> Option<BodyView<'_>>
     read_body(bytes, 0).ok()
 }
 
-/// A value, with a text of its own.
+/// A copy of a value, which owns its text.
 fn owned_value(alloc: Global, view: &ValueView) -> Result<Value, Memory>
     requires { IsValue (value_seen view.now) }
     ensures { IfOk result (λ value. value ≡ value_seen view.now) }
@@ -45,7 +45,7 @@ fn without_digest(dep: &BodyDep) -> Dep
     }
 }
 
-/// Dependencies, in a list of their own.
+/// A copy of dependencies, which owns its list.
 fn owned_deps(alloc: Global, view: &BodyDepView) -> Result<BodyDepList, Memory>
     ensures { IfOk result (λ deps. deps ≡ view.now) }
 {
@@ -84,7 +84,7 @@ pub fn body_of_bytes(alloc: Global, bytes: &[u8]) -> Result<Body, Memory>
             deps: BodyDepList::new(alloc),
         }),
         Some(body) => {
-            // So that it is known to be one that can be spelled.
+            // By this call contracts know that the body can be spelled.
             let _spelled = body.bytes();
             let value = owned_value(alloc, &body.value())?;
             let deps = owned_deps(alloc, &body.deps())?;
@@ -93,21 +93,22 @@ pub fn body_of_bytes(alloc: Global, bytes: &[u8]) -> Result<Body, Memory>
     }
 }
 
-/// The value of the body that bytes spell.
+/// The value of the body that bytes spell; 0 if they spell none.
 pub fn value_of_bytes(alloc: Global, bytes: &[u8]) -> Result<Value, Memory>
     ensures { IfOk result (λ value. value ≡ (body_read (body_at bytes.now)).value) }
 {
     match body_view(bytes) {
         None => Ok(Value::Int(0)),
         Some(body) => {
-            // So that its value is known to be one.
+            // By this call contracts know that its value is one.
             let _spelled = body.bytes();
             owned_value(alloc, &body.value())
         }
     }
 }
 
-/// What the body that bytes spell was derived from, in the order in which it was recorded.
+/// The dependencies of the body that bytes spell, in the order in which they were recorded; they
+/// have no digests.
 pub fn deps_of_bytes(alloc: Global, bytes: &[u8]) -> Result<DepList, Memory>
     ensures { IfOk result (λ deps. deps ≡ map dep_without_digest
         (body_read (body_at bytes.now)).deps) }
@@ -118,14 +119,14 @@ pub fn deps_of_bytes(alloc: Global, bytes: &[u8]) -> Result<DepList, Memory>
     }
 }
 
-/// How many dependencies the body that bytes spell has: at most `MAX_DEPS`.
+/// The number of dependencies of the body that bytes spell, at most `MAX_DEPS`.
 pub fn dep_count_of_bytes(bytes: &[u8]) -> u32
     ensures { result ≡ length (body_read (body_at bytes.now)).deps }
 {
     match body_view(bytes) {
         None => 0,
         Some(body) => {
-            // So that they are known to be few.
+            // By this call contracts know that they are at most `MAX_DEPS`.
             let _spelled = body.bytes();
             body.deps().len() as u32
         }

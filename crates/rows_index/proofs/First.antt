@@ -1,4 +1,4 @@
--- What is kept of the first rows.
+-- The places and users of the first rows are those below an index.
 use Rattle.std.proofs.Common.{◌≡◌, ◌==◌, ℕ, zero, suc, ◌+◌, ◌<◌, ◌≤◌, ◌||◌, nat_lt, List, [], ◌∷◌}
 use Rattle.std.proofs.Common.{◌++◌, filter, take, map, get_or, length, Bool, true, false}
 use Rattle.std.proofs.Common.{cond, None, Some, refl, sym, ap, subst, ◌∙◌, inl, inr, arith}
@@ -57,7 +57,7 @@ Entry = List ℕ × List Place
 abbrev pub is_done : List Entry → List ℕ → Bool
 is_done done key = list_any (λ (e : Entry). pointwise ◌==◌ e.0 key) done
 
--- Of each of these entries the places below an index are kept.
+-- For each of these entries the places below an index are kept.
 abbrev pub AreBelow : ℕ → BTreeMap (List ℕ) (List Place) → List Entry
     → BTreeMap (List ℕ) (List Place) → Type 0
 AreBelow end kept done below = (key : List ℕ)

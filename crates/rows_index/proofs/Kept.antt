@@ -1,4 +1,4 @@
--- What is kept of keys, once a place more is kept of one.
+-- One place more of a key, or a new list of its places, changes what is kept of that key alone.
 use Rattle.std.proofs.Common.{◌≡◌, ◌==◌, ℕ, List, [], ◌∷◌, ◌++◌, cond, Some, ap, ◌∙◌, inl, inr}
 use Rattle.std.specs.BTreeMap.{BTreeMap, get}
 use Rattle.std.specs.Ordering.{nat_cmp, is_eq}

@@ -1,4 +1,4 @@
--- Lists of indexes, and the versions at them.
+-- Lists of indexes, and the versions at them: all, one of them, and one more.
 use Rattle.std.proofs.Common.{◌≡◌, ◌∙◌, ℕ, zero, suc, ◌<◌, List, [], ◌∷◌, ◌++◌, length, map, slice_get, drop, Option, Some, None, refl, sym, ap, arith}
 use Rattle.std.specs.List.{cons_option, filter_map}
 use Rattle.std.specs.Option.{option_map}

@@ -1,4 +1,5 @@
--- Marks of the items of a list that pass a test.
+-- The marks of the items that pass a test, with one item more; those of a key's versions are in
+-- order of their blocks.
 use Rattle.std.proofs.Common.{◌≡◌, ◌&&◌, ℕ, zero, suc, ◌+◌, ◌<◌, ◌≤◌, List, [], ◌∷◌, ◌++◌, length}
 use Rattle.std.proofs.Common.{get_or, reverse, slice_get, nat_le, Bool, true, false, cond, Option}
 use Rattle.std.proofs.Common.{None, Some, refl, sym, ap, ◌∙◌, arith}
@@ -171,7 +172,7 @@ pub latest_up_to : (rows : List Row) (key : List ℕ) (at : ℕ)
 latest_up_to rows key at = found_row rows (last_up_to at (places rows key)) (latest rows key at)
     (found_by_place key at 0 [] rows refl)
 
--- ---- a row more is kept
+-- ---- one row more is kept
 
 pub places_more : (rows : List Row) (before after : BTreeMap (List ℕ) (List Place)) (row : Row)
     (n : ℕ) → length rows ≡ n → ArePlaces rows before →

@@ -1,4 +1,5 @@
--- What one row of a lawful history asks of the rows before it.
+-- The next row of a lawful history can be added: its dependencies are on rows before it, and
+-- nothing was derived from it yet.
 use Rattle.std.proofs.Common.{◌≡◌, ℕ, ◌+◌, ◌<◌, ◌≤◌, List, [], ◌∷◌, ◌++◌, length, get_or, take}
 use Rattle.std.proofs.Common.{drop, sym, ap, subst, ◌∙◌, arith}
 use Rattle.std.proofs.lemmas.List.{append_assoc, length-append, take-append-drop, take_more}

@@ -1,4 +1,4 @@
--- The dependencies of a lawful row stand in the rows before it.
+-- The dependencies of a lawful row are on rows before it, and no row before it depends on it.
 use Rattle.std.proofs.Common.{◌≡◌, ◌==◌, ℕ, zero, suc, ◌<◌, ◌≤◌, nat_lt, List, [], ◌∷◌, ◌++◌, nat_le}
 use Rattle.std.proofs.Common.{reverse, slice_get, Bool, true, Option, None, Some, refl, ap, subst}
 use Rattle.std.proofs.Common.{inl, inr, arith}

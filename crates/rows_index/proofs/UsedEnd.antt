@@ -1,4 +1,4 @@
--- A row more, on which no row depends.
+-- A row on which no row depends is added at the end, with an empty list.
 use Rattle.std.proofs.Common.{◌≡◌, ℕ, zero, suc, ◌+◌, List, [], ◌∷◌, ◌++◌, length, slice_get, Bool}
 use Rattle.std.proofs.Common.{false, cond, Some, refl, sym, ap, subst, ◌∙◌, arith}
 use Rattle.std.proofs.lemmas.List.{length-append}

@@ -1,4 +1,4 @@
--- The rows that were derived from a row, and those of the definition.
+-- The rows that are kept as derived from a row are those of the definition.
 use Rattle.std.proofs.Common.{◌≡◌, ℕ, suc, List, [], ◌∷◌, ◌++◌, length, filter, map, slice_get}
 use Rattle.std.proofs.Common.{Bool, true, false, cond, Option, Some, refl, sym, ap, ◌∙◌, arith}
 use Rattle.std.specs.Option.{option_map}

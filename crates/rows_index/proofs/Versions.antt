@@ -1,4 +1,5 @@
--- Where a version stands in a lawful history.
+-- In a lawful history a version is the last one of its key up to its block, so its key and block
+-- lead to its row.
 use Rattle.std.proofs.Common.{◌≡◌, ◌==◌, ℕ, zero, suc, ◌+◌, ◌<◌, List, [], ◌∷◌, length, get_or}
 use Rattle.std.proofs.Common.{reverse, slice_get, nat_le, Bool, true, false, cond, None, Some, refl}
 use Rattle.std.proofs.Common.{sym, ap, subst, ◌∙◌, inl, inr, arith}

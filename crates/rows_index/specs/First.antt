@@ -1,4 +1,4 @@
--- What is kept of the first rows alone.
+-- What is kept of the first rows alone: the places and indexes that are below an end.
 use Rattle.std.specs.Prelude.{ℕ, Bool, List, filter, nat_lt}
 use Rattle.rows_index.specs.declared.places.Place.{Place}
 
@@ -6,7 +6,7 @@ use Rattle.rows_index.specs.declared.places.Place.{Place}
 abbrev pub is_below : ℕ → ℕ → Bool
 is_below end number = nat_lt number end
 
--- The indexes of rows below this one.
+-- The numbers below an end.
 abbrev pub numbers_below : ℕ → List ℕ → List ℕ
 numbers_below end numbers = filter (is_below end) numbers
 
@@ -14,6 +14,6 @@ numbers_below end numbers = filter (is_below end) numbers
 abbrev pub stands_below : ℕ → Place → Bool
 stands_below end place = nat_lt place.row end
 
--- The places of rows below this one.
+-- The places of rows below an end.
 abbrev pub places_below : ℕ → List Place → List Place
 places_below end places = filter (stands_below end) places

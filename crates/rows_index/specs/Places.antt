@@ -1,4 +1,4 @@
--- Where the versions of keys stand in a history.
+-- Where the versions of keys are in a history, and how that is kept.
 use Rattle.std.specs.Prelude.{◌≡◌, ◌==◌, ℕ, suc, Bool, if◌then◌else◌, List, [], ◌∷◌, Option, None}
 use Rattle.std.specs.Prelude.{Some, reverse, nat_le, slice_get}
 use Rattle.std.specs.List.{find}
@@ -21,7 +21,7 @@ marks_of keep passes n (x ∷ xs) =
 abbrev pub is_of : List ℕ → Row → Bool
 is_of key row = pointwise ◌==◌ row.key key
 
--- Where the row at this index stands.
+-- The place of the row at this index.
 abbrev pub place_of : ℕ → Row → Place
 place_of n row = record { block = row.block; row = n }
 
@@ -33,11 +33,11 @@ block_of place = place.block
 abbrev pub row_index : Place → ℕ
 row_index place = place.row
 
--- Where the versions of the key stand, in order.
+-- The places of the versions of the key, in order.
 abbrev pub places : List Row → List ℕ → List Place
 places rows key = marks_of place_of (is_of key) 0 rows
 
--- The list, or an empty one where there is none.
+-- The list, or an empty one if there is none.
 abbrev pub list_or_empty : {A : Type 0} → Option (List A) → List A
 list_or_empty None = []
 list_or_empty (Some list) = list
@@ -46,11 +46,11 @@ list_or_empty (Some list) = list
 abbrev pub places_in : BTreeMap (List ℕ) (List Place) → List ℕ → List Place
 places_in kept key = list_or_empty (get (slice_cmp nat_cmp) kept key)
 
--- Of each key the places of its versions are kept.
+-- For each key the places of its versions are kept.
 abbrev pub ArePlaces : List Row → BTreeMap (List ℕ) (List Place) → Type 0
 ArePlaces rows kept = (key : List ℕ) → places_in kept key ≡ places rows key
 
--- The last place of a block up to this one.
+-- The last place with a block up to this one.
 abbrev pub last_up_to : ℕ → List Place → Option Place
 last_up_to at places = find (λ place. nat_le place.block at) (reverse places)
 
@@ -63,7 +63,7 @@ abbrev pub StandsAt : List Row → Dep → ℕ → Type 0
 StandsAt rows dep index = (row : Row) × (slice_get rows index ≡ Some row) × (row.key ≡ dep.key)
     × (row.block ≡ dep.block)
 
--- This is the row at an index, and none where there is no index.
+-- This is the row at the index; there is none if there is no index.
 abbrev pub IsRowAt : List Row → Option ℕ → Option Row → Type 0
 IsRowAt rows None found = found ≡ None
 IsRowAt rows (Some index) found = (row : Row) × (found ≡ Some row)

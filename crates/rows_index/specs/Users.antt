@@ -1,4 +1,4 @@
--- Of each row the rows that were derived from it.
+-- For each row the rows that were derived from it, and how they are kept.
 use Rattle.std.specs.Prelude.{◌≡◌, ◌==◌, ◌&&◌, ◌++◌, ◌<◌, ◌≢◌, ℕ, Bool, false, if◌then◌else◌, List}
 use Rattle.std.specs.Prelude.{[], ◌∷◌, length, map, slice_get, slice_index_or, Option, Some}
 use Rattle.std.specs.List.{list_any, AllPairs}
@@ -23,8 +23,8 @@ users rows row = marks_of number_of (depends_on row.key row.block) 0 rows
 abbrev pub is_among : List Dep → Row → Bool
 is_among deps row = list_any (λ dep. pointwise ◌==◌ dep.key row.key && dep.block == row.block) deps
 
--- Of each row the rows that were derived from it are kept, and row n where it is one of these
--- versions.
+-- For each row the rows that were derived from it are kept, and after them row n if the row is one
+-- of these versions.
 pub record AreUsersWith (rows : List Row) (deps : List Dep) (n : ℕ) (lists : List (List ℕ)) : Type 0
   where
     pub long : length lists ≡ length rows
@@ -32,7 +32,7 @@ pub record AreUsersWith (rows : List Row) (deps : List Dep) (n : ℕ) (lists : L
         slice_get lists index ≡ Some
         (if is_among deps row then users rows row ++ n ∷ [] else users rows row)
 
--- Of each row the rows that were derived from it are kept.
+-- For each row the rows that were derived from it are kept.
 abbrev pub AreUsers : List Row → List (List ℕ) → Type 0
 AreUsers rows lists = AreUsersWith rows [] 0 lists
 
@@ -40,15 +40,15 @@ AreUsers rows lists = AreUsersWith rows [] 0 lists
 abbrev pub version_at : List Row → ℕ → Option Dep
 version_at rows index = option_map version_of (slice_get rows index)
 
--- A version that is there.
+-- A version, as one that is there.
 abbrev pub there : Dep → Option Dep
 there dep = Some dep
 
--- These versions stand at these indexes, in order.
+-- These are the versions at these indexes, in order.
 abbrev pub AreVersionsAt : List Row → List ℕ → List Dep → Type 0
 AreVersionsAt rows indexes deps = map (version_at rows) indexes ≡ map there deps
 
--- What it takes to add a row that depends on these versions: they stand in the rows, none twice.
+-- What it takes to add a row that depends on these versions: they are among the rows, none twice.
 pub record CanUse (rows : List Row) (deps : List Dep) (places : BTreeMap (List ℕ) (List Place))
     (lists : List (List ℕ)) : Type 0 where
   pub ordered : AllPairs StandsBefore rows

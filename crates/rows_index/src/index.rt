@@ -1,4 +1,5 @@
-//! The index over the rows of a history.
+//! The index over the rows of a history: it follows the rows one by one, and answers without going
+//! over them.
 
 ghost use Rattle.std.specs.{
   Prelude.{◌≡◌, ◌<◌, ◌≤◌, ℕ, List, [], ◌∷◌, ◌++◌, length, take, slice_get, Some, OnOk, IfOk},
@@ -17,15 +18,15 @@ use lc_base::{Key, Memory, Row};
 use std::alloc::Global;
 use std::collections::BTreeMap;
 
-/// Of each key the places of its versions, and of each row the rows that were derived from it. It
-/// does not keep the rows.
+/// The places of the versions of each key, and the rows that were derived from each row. It does
+/// not keep the rows.
 #[derive(Drop)]
 pub struct RowsIndex {
     places: BTreeMap<Key, PlaceList>,
     users: Vec<IndexList>,
 }
 
-/// Adds a row after those so far, and gives the indexes of its dependencies.
+/// Adds a row after those so far, and returns the indexes of its dependencies.
 fn add_row(
     alloc: Global,
     places: &mut BTreeMap<Key, PlaceList>,
@@ -54,7 +55,7 @@ fn add_row(
     Ok(deps)
 }
 
-/// The rows that were derived from the row at an index.
+/// The indexes of the rows that were derived from the row at an index.
 fn uses_of(users: &[IndexList], index: usize) -> &[u32]
     requires { (rows : List Row) × AreUsers rows users.now × (index < length rows) }
     ensures { (rows : List Row) (row : Row) → AreUsers rows users.now
@@ -75,8 +76,9 @@ impl RowsIndex {
         }
     }
 
-    /// Adds the next row of a lawful history, and gives the indexes of the rows that are its
-    /// dependencies. On `Memory` only a part of it may be there.
+    /// Adds the next row of a lawful history, and returns the indexes of the rows that it depends
+    /// on. If memory runs out, a part of the row may have been added, and the index is no longer of
+    /// use.
     pub fn add(&mut self, row: &Row) -> Result<IndexList, Memory>
         requires { (rows : List Row) × IsNext rows row.now × IsIndexOf rows self.old }
         ensures index { (rows : List Row) → IsNext rows row.now → IsIndexOf rows self.old
@@ -88,7 +90,7 @@ impl RowsIndex {
         add_row(alloc, &mut self.places, &mut self.users, row)
     }
 
-    /// The index of the last row of the key with a block up to `at`.
+    /// The index of the last row of the key with a block up to `at`; `None` if there is none.
     pub fn latest(&self, key: &Key, at: u32) -> Option<u32>
         requires { (rows : List Row) × AllPairs StandsBefore rows × IsIndexOf rows self.now }
         ensures { (rows : List Row) → IsIndexOf rows self.now
@@ -97,7 +99,7 @@ impl RowsIndex {
         row_up_to(&self.places, key, at)
     }
 
-    /// The indexes of the rows that were derived from the row at an index, in order.
+    /// The indexes of the rows that were derived from the row at an index, in ascending order.
     pub fn uses(&self, index: u32) -> &[u32]
         requires { (rows : List Row) × IsIndexOf rows self.now × (index < length rows) }
         ensures { (rows : List Row) (row : Row) → IsIndexOf rows self.now
@@ -106,7 +108,7 @@ impl RowsIndex {
     {
         uses_of(self.users.as_slice(), index as usize)
     }
-    /// The index over the first rows, so many, made of this one without the rows.
+    /// The index over the first `count` rows, made from this one without the rows.
     pub fn front(&self, count: u32) -> Result<RowsIndex, Memory>
         requires { (rows : List Row) × IsIndexOf rows self.now × (count ≤ length rows) }
         ensures { (rows : List Row) → IsIndexOf rows self.now

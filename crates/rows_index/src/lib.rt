@@ -1,4 +1,4 @@
-//! An index over the rows of a history: where the versions of each key stand, and which rows were
+//! An index over the rows of a history: where the versions of each key are, and which rows were
 //! derived from each row.
 #![tactic(auto)]
 

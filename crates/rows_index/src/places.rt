@@ -1,4 +1,5 @@
-//! Of each key the places of its versions.
+//! The places of the versions of each key, in the order of their rows, so that bisection finds the
+//! last one up to a block.
 
 ghost use Rattle.std.specs.{
   Prelude.{◌≡◌, ◌==◌, ℕ, List, [], ◌∷◌, ◌++◌, reverse, filter, nat_le, if◌then◌else◌, OnOk, IfOk},
@@ -16,14 +17,14 @@ use lc_base::{Key, Memory, Seq};
 use std::alloc::Global;
 use std::collections::BTreeMap;
 
-/// Where a version stands: its block, and the index of its row.
+/// Where a version is: its block, and the index of its row, from 0.
 #[derive(Clone, Copy, Debug, PartialEq, Eq)]
 pub struct Place {
     pub block: u32,
     pub row: u32,
 }
 
-/// Places.
+/// The places of the versions of a key, in order.
 pub type PlaceList = Seq<Place>;
 
 /// Appends a place to those of a key.
@@ -49,7 +50,7 @@ pub(crate) fn push_place(
     Ok(())
 }
 
-/// The last place of a block up to `at`, by bisection.
+/// The last place with a block up to `at`, by bisection.
 fn last_place(places: &[Place], at: u32) -> Option<Place>
     requires { IsNonDecreasingBy block_of places.now }
     ensures { result ≡ last_up_to at places.now }
@@ -79,7 +80,7 @@ pub(crate) fn row_up_to(places: &BTreeMap<Key, PlaceList>, key: &Key, at: u32) -
     }
 }
 
-/// Appends a place, where its row is below `end`.
+/// Appends a place, if its row is below `end`.
 fn push_below(list: &mut PlaceList, place: &Place, end: u32) -> Result<(), Memory>
     ensures { OnOk result (list.new ≡ list.old ++ filter (stands_below end) (place.now ∷ [])) }
 {
@@ -100,7 +101,7 @@ fn list_below(alloc: Global, places: &[Place], end: u32) -> Result<PlaceList, Me
     Ok(below)
 }
 
-/// Keeps these places of a key.
+/// Sets the places of a key.
 fn put_places(kept: &mut BTreeMap<Key, PlaceList>, key: &Key, list: PlaceList) -> Result<(), Memory>
     ensures { OnOk result ((other : List ℕ) → places_in kept.new other
         ≡ (if pointwise ◌==◌ key.now other then list else places_in kept.old other)) }
@@ -109,7 +110,7 @@ fn put_places(kept: &mut BTreeMap<Key, PlaceList>, key: &Key, list: PlaceList) -
     Ok(())
 }
 
-/// Of each key the places of rows below `end`.
+/// For each key its places of rows below `end`.
 pub(crate) fn places_below_end(
     alloc: Global,
     places: &BTreeMap<Key, PlaceList>,

@@ -1,4 +1,5 @@
-//! Of each row the indexes of the rows that were derived from it.
+//! For each row the indexes of the rows that were derived from it. A row that is added was derived
+//! from earlier rows, and nothing was derived from it yet.
 
 ghost use Rattle.std.specs.{
   Prelude.{◌≡◌, ◌<◌, ℕ, List, [], ◌∷◌, ◌++◌, length, map, filter, slice_index_or, slice_set, OnOk, IfOk},
@@ -16,7 +17,7 @@ use lc_base::{Dep, Key, Memory, Row, Seq};
 use std::alloc::Global;
 use std::collections::BTreeMap;
 
-/// Indexes of rows.
+/// A list of the indexes of rows, from 0.
 pub type IndexList = Seq<u32>;
 
 /// Appends a row to those that were derived from the row at an index.
@@ -41,7 +42,7 @@ fn row_of_version(places: &BTreeMap<Key, PlaceList>, dep: &Dep) -> u32
     }
 }
 
-/// Appends a row to those that were derived from each of these versions, and gives the indexes of
+/// Appends a row to those that were derived from each of these versions, and returns the indexes of
 /// the versions.
 fn add_to_versions(
     alloc: Global,
@@ -66,7 +67,7 @@ fn add_to_versions(
 }
 
 /// Adds a row after those so far: to the rows that were derived from its dependencies, and as one
-/// from which none was derived. It gives the indexes of its dependencies.
+/// from which none was derived. It returns the indexes of its dependencies.
 pub(crate) fn add_users(
     alloc: Global,
     places: &BTreeMap<Key, PlaceList>,
@@ -86,7 +87,7 @@ pub(crate) fn add_users(
     Ok(deps)
 }
 
-/// Appends the index of a row, where it is below `end`.
+/// Appends the index of a row, if it is below `end`.
 fn push_below(list: &mut IndexList, index: u32, end: u32) -> Result<(), Memory>
     ensures { OnOk result (list.new ≡ list.old ++ filter (is_below end) (index ∷ [])) }
 {
@@ -107,7 +108,7 @@ fn indexes_below(alloc: Global, indexes: &[u32], end: u32) -> Result<IndexList, 
     Ok(below)
 }
 
-/// Of each of these lists the indexes below `end`.
+/// For each of these lists its indexes below `end`.
 pub(crate) fn users_below(
     alloc: Global,
     users: &[IndexList],

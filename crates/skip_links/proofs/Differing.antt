@@ -1,4 +1,5 @@
--- Blocks that differ at a binary digit, and no higher one.
+-- Two blocks are in two intervals at the levels up to the highest binary digit in which they
+-- differ, and in one interval at each level above.
 use Rattle.std.proofs.Common.{◌≡◌, ◌∙◌, ℕ, suc, ◌*◌, ◌/◌, ◌^◌, ◌<◌, ◌≤◌, true, false, sym, ap, arith, inl, inr}
 use Rattle.std.specs.Prelude.{bit_xor, nat_lt}
 use Rattle.std.specs.Int.Bits.{xor_add_and, xor_self}
@@ -11,7 +12,7 @@ use Rattle.skip_links.proofs.Falls.{interval_mono}
 xor_equal : (a b : ℕ) → bit_xor a b ≡ 0 → a ≡ b
 xor_equal a b e = omega (arith, e, xor_add_and a b, and_le_l a b, and_le_r a b)
 
--- At each level up to the highest digit in which they differ they are in two intervals.
+-- Two blocks are in two intervals at each level up to the highest digit in which they differ.
 pub apart : (level p u : ℕ) → p < u → 2 ^ level ≤ bit_xor p u → nat_lt (p / 2 ^ level) (u / 2 ^ level) ≡ true
 apart level p u less high = elim (cases_lt (p / 2 ^ level) (u / 2 ^ level)) [
   | inl l ↦ lt-ltb (p / 2 ^ level) (u / 2 ^ level) l
@@ -22,7 +23,7 @@ apart level p u less high = elim (cases_lt (p / 2 ^ level) (u / 2 ^ level)) [
       absurd (omega (arith, some, none))
 ]
 
--- At each level above it they are in one.
+-- Two blocks are in one interval at each level above the highest digit in which they differ.
 pub together : (level p u : ℕ) → bit_xor p u < 2 ^ level → nat_lt (p / 2 ^ level) (u / 2 ^ level) ≡ false
 together level p u low =
     let same = xor_equal (p / 2 ^ level) (u / 2 ^ level) (sym (xor_shr p u level) ∙ div-eq_of_lt low) in

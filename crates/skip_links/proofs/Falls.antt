@@ -1,4 +1,4 @@
--- Falling lists of blocks: levels, and the versions from the last one at a level on.
+-- Falling lists of blocks: which versions are at a level, and which is the last one there.
 use Rattle.std.proofs.Common.{◌≡◌, ◌∙◌, ℕ, zero, suc, ◌+◌, ◌/◌, ◌^◌, ◌<◌, ◌≤◌, true, false, not, List, [], ◌∷◌, refl, sym, ap, arith, inl, inr}
 use Rattle.std.specs.List.{list_any, AllByRecursion}
 use Rattle.std.proofs.lemmas.Nat.{shr-shr}
@@ -34,7 +34,7 @@ pub from_past : (level block : ℕ) (older : List ℕ) → is_first level block 
 unfolding from_level
 from_past level block older h = rw h refl
 
--- From the last version at a level on, the last one at the level above is the same.
+-- The last version at the level above is found from the last one at this level on.
 pub from_next : (level : ℕ) (blocks : List ℕ) → from_level (suc level) (from_level level blocks) ≡ from_level (suc level) blocks
 unfolding from_level
 from_next level [] = refl
@@ -65,7 +65,7 @@ none_close level m u (q ∷ blocks) l h =
     let far = ne_eqb (q / 2 ^ level) (u / 2 ^ level) (λ e. omega (arith, l, e, low)) in
     rw far (none_close level m u blocks l h.1)
 
--- No older block is in the interval exactly where the one before is not.
+-- No older block is in the block's interval exactly if the one before is not.
 pub none_in_interval : (level u : ℕ) (older : List ℕ) → IsFalling (u ∷ older) → not (list_any (λ (p : ℕ). are_close level p u) older) ≡ is_first level u older
 none_in_interval level u [] h = refl
 none_in_interval level u (p ∷ older) h = elim (cases_lt (p / 2 ^ level) (u / 2 ^ level)) [

@@ -1,4 +1,4 @@
--- Laws of heights and links.
+-- The laws of heights and links, from what is known of the falling blocks of a key.
 use Rattle.std.proofs.Common.{◌≡◌, ◌∙◌, ℕ, ◌+◌, ◌*◌, ◌/◌, ◌^◌, ◌<◌, ◌≤◌, Bool, true, false, ◌&&◌, ◌||◌, ◌==◌, not, nat_lt, List, [], ◌∷◌, map, filter, reverse, Option, refl, sym, ap, arith, inl, inr}
 use Rattle.std.specs.Prelude.{Some, None, slice_get, bit_xor}
 use Rattle.std.specs.List.{find, list_any, filter_map, range_with_len, AllByRecursion}

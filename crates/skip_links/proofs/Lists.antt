@@ -49,7 +49,7 @@ pub find_on : {X : Type 0} (p q : X → Bool) (xs : List X) → AllByRecursion (
 find_on p q [] h = refl
 find_on p q (x ∷ xs) h = let rest = find_on p q xs h.1 in rw (h.0, rest) refl
 
--- what passes the first test alone is found in what is left by the second
+-- what passes the first test passes the second, so it is found in what the second leaves
 pub find_filter : {X : Type 0} (p q : X → Bool) (xs : List X) → ((x : X) → p x ≡ true → q x ≡ true) → find p (filter q xs) ≡ find p xs
 find_filter p q [] f = refl
 find_filter p q (x ∷ xs) f =

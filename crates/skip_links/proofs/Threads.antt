@@ -1,4 +1,4 @@
--- The newest rows of keys.
+-- The newest row of a key, as rows are appended.
 use Rattle.std.proofs.Common.{◌≡◌, ◌∙◌, ℕ, suc, ◌<◌, ◌≤◌, ◌==◌, nat_lt, Bool, ◌&&◌, List, [], ◌∷◌, ◌++◌, length, map, filter, reverse, Option, refl, sym, ap, arith, inl, inr}
 use Rattle.std.specs.Prelude.{Some, None, slice_get, if◌then◌else◌, MatchOption}
 use Rattle.std.specs.List.{AllByRecursion, AllPairs, find}
@@ -14,7 +14,7 @@ use Rattle.skip_links.proofs.Lists.{filter_reverse}
 
 -- ---- their indexes
 
--- An index, where there is one, is below a bound.
+-- An index, if there is one, is below a bound.
 abbrev pub IsBelow : ℕ → Option ℕ → Type 0
 IsBelow bound None = Unit {0}
 IsBelow bound (Some index) = index < bound
@@ -48,7 +48,7 @@ not_before row (other ∷ rows) h = (one h.0, not_before row rows h.1)
     one (inl less) = omega (arith, less)
     one (inr same) = omega (arith, same.0)
 
--- They stand first.
+-- The rows before a block come first in a history.
 pub below_front : (rows : List Row) (block : ℕ) → AllPairs StandsBefore rows → (rest : List Row) × (rows ≡ below rows block ++ rest)
 below_front [] block h = ([], refl)
 below_front (row ∷ rows) block h = elim (cases_lt row.block block) [

@@ -103,7 +103,7 @@ go rows key i (c ∷ rest) falling is =
     next_tail [] is h = tt
     next_tail (d ∷ rest) is h = tail_of rows key c d rest h.0 is h.1
 
--- A link leads where the skip list's does.
+-- A link is to the last version at its level among the blocks of the key, if these fall.
 pub link_is : (rows : List Row) (key : List ℕ) (b i : ℕ) → IsFalling (b ∷ older_blocks rows key b) → link rows key b i ≡ last_at_level (older_blocks rows key b) i
 unfolding link
 link_is rows key b i h =
@@ -158,7 +158,7 @@ ordered_fall rows key block ordered = older_falls key block block (reverse rows)
 pub blocks_fall : (rows : List Row) (key : List ℕ) (block : ℕ) → IsLawful rows → IsFalling (block ∷ older_blocks rows key block)
 blocks_fall rows key block lawful = ordered_fall rows key block lawful.ordered
 
--- So a link of a lawful history leads where the skip list's does.
+-- So each link of a lawful history is found in the blocks of the key alone.
 pub lawful_link : (rows : List Row) (key : List ℕ) (block level : ℕ) → IsLawful rows → link rows key block level ≡ last_at_level (older_blocks rows key block) level
 lawful_link rows key block level lawful = link_is rows key block level (blocks_fall rows key block lawful)
 
@@ -174,7 +174,7 @@ filter_twice t p (x ∷ xs) f =
       ]
     ]
 
--- ---- a part of the rows with all that are older gives the same links
+-- ---- a part of the rows with all that are older has the same links
 
 older_is_low : (key : List ℕ) (block : ℕ) (row : Row) → is_older key block row ≡ true → row.block < block
 older_is_low key block row t = ltb-true row.block block (and_parts (pointwise ◌==◌ row.key key) (nat_lt row.block block) t).1
@@ -210,7 +210,7 @@ link_of_part keeps rows key block level all = ap (option_map (λ (row : Row). ro
     each [] = tt
     each (row ∷ xs) = (linked_of_part keeps rows key block level row all, each xs)
 
--- Such a part gives the same links.
+-- The links over such a part are those over all rows.
 links_of_part : (keeps : Row → Bool) (rows : List Row) (key : List ℕ) (block : ℕ) → KeepsOlder keeps block → links (filter keeps rows) key block ≡ links rows key block
 unfolding links
 links_of_part keeps rows key block all =

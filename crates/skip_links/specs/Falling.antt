@@ -7,19 +7,19 @@ use Rattle.skip_links.specs.Links.{is_older}
 abbrev pub older_blocks : List Row → List ℕ → ℕ → List ℕ
 older_blocks rows key block = map (λ row. row.block) (filter (is_older key block) (reverse rows))
 
--- Each block is above the next.
+-- Each block is greater than the next one of the list.
 abbrev pub IsFalling : List ℕ → Type 0
 IsFalling [] = Unit {0}
 IsFalling (block ∷ []) = Unit {0}
 IsFalling (block ∷ previous ∷ older) = (previous < block) × IsFalling (previous ∷ older)
 
--- Whether the version in this block is at a level, where these are the blocks of the versions before
--- it: the one before it is in an earlier interval.
+-- Whether the version in this block is at a level, by the blocks of the versions before it: there
+-- is none, or the last of them is in an earlier interval.
 abbrev pub is_first : ℕ → ℕ → List ℕ → Bool
 is_first level block [] = true
 is_first level block (previous ∷ older) = nat_lt (previous / 2 ^ level) (block / 2 ^ level)
 
--- The versions from the last one on that is at a level.
+-- The last version that is at a level, and the versions before it.
 unfoldable pub from_level : ℕ → List ℕ → List ℕ
 from_level level [] = []
 from_level level (block ∷ older) = if is_first level block older then block ∷ older else from_level level older

@@ -1,4 +1,4 @@
--- What the laws of links say.
+-- Whether a key has older versions, for the laws of links.
 use Rattle.std.specs.Prelude.{ℕ, Bool, ◌&&◌, ◌==◌, List}
 use Rattle.std.specs.List.{list_any}
 use Rattle.lc_base.specs.declared.row.Row.{Row}

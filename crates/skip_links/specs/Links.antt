@@ -1,4 +1,5 @@
--- Levels and links of the versions of a key.
+-- The levels at which a key's versions are, and their links: one for each level, to the last
+-- version before that is at this level.
 use Rattle.std.specs.Prelude.{ℕ, zero, suc, ◌/◌, ◌^◌, ◌+◌, ◌==◌, ◌&&◌, nat_lt, not, Bool, if◌then◌else◌, List, Option, reverse}
 use Rattle.std.specs.List.{find, list_any, filter_map, range_with_len}
 use Rattle.std.specs.Option.{option_map}

@@ -14,13 +14,14 @@ ghost use Rattle.skip_links.specs.{
   Laws.{has_older, has_older_in},
 };
 
-/// The rows up to a block give the links of its versions.
+/// The links of a block's versions are those over the rows up to this block: later rows change
+/// none.
 #[tactic(auto, using(crate::proofs::Towers::links_up_to))]
 pub fn links_are_of_rows_up_to_the_block()
     ensures { (rows : List Row) (key : List ℕ) (block : ℕ) → IsLawful rows → links (up_to rows block) key block ≡ links rows key block }
 {}
 
-/// So do the rows before the block.
+/// They are also those over the rows of earlier blocks alone.
 #[tactic(auto, using(crate::proofs::Towers::links_below))]
 pub fn links_are_of_rows_before_the_block()
     ensures { (rows : List Row) (key : List ℕ) (block : ℕ) → IsLawful rows → links (below rows block) key block ≡ links rows key block }
@@ -34,8 +35,8 @@ pub fn height_is_the_highest_difference()
         → (2 ^ height rows key block ≤ bit_xor version.block block) × (bit_xor version.block block < 2 * 2 ^ height rows key block) }
 {}
 
-/// At a level whose first interval has the block, only the key's first version is. So no later
-/// version is at a level above `MAX_LEVEL`.
+/// If a block is in the first interval of a level, only the key's first version is at this level.
+/// So no later version is at a level above `MAX_LEVEL`.
 #[tactic(auto, using(crate::proofs::LinkLaws::first_alone))]
 pub fn first_version_alone_is_at_the_top()
     ensures { (rows : List Row) (key : List ℕ) (block level : ℕ) → block < 2 ^ level → is_at_level rows key block level ≡ not (has_older rows key block) }
@@ -54,7 +55,7 @@ pub fn first_version_has_no_links()
     ensures { (rows : List Row) (key : List ℕ) (block : ℕ) → has_older rows key block ≡ false → links rows key block ≡ [] }
 {}
 
-/// A later version has a link of each level from 0 to its height.
+/// A later version has one link for each level from 0 to its height.
 #[tactic(auto, using(crate::proofs::LinkLaws::link_at_each))]
 pub fn later_version_has_a_link_at_each_level()
     ensures { (rows : List Row) (key : List ℕ) (block : ℕ) → IsLawful rows → has_older rows key block ≡ true
@@ -74,21 +75,21 @@ pub fn blocks_of_a_key_fall()
     ensures { (rows : List Row) (key : List ℕ) (block : ℕ) → IsLawful rows → IsFalling (block ∷ older_blocks rows key block) }
 {}
 
-/// The link of a level is found in these blocks alone.
+/// The link of a level is found in the blocks of the key alone.
 #[tactic(auto, using(crate::proofs::Towers::lawful_link))]
 pub fn links_are_over_the_blocks_of_the_key()
     ensures { (rows : List Row) (key : List ℕ) (block level : ℕ) → IsLawful rows
         → link rows key block level ≡ last_at_level (older_blocks rows key block) level }
 {}
 
-/// With one row more, that is the newest of its key, and the newest of the other keys stay.
+/// A row that is appended becomes the newest of its key; the newest rows of other keys stay.
 #[tactic(auto, using(crate::proofs::Threads::newest_more))]
 pub fn newest_index_grows_row_by_row()
     ensures { (rows : List Row) (row : Row) (key : List ℕ)
         → newest_index (rows ++ row ∷ []) key ≡ (if pointwise ◌==◌ row.key key then Some (length rows) else newest_index rows key) }
 {}
 
-/// The index of the last row of a key is there exactly where the key has a row, and leads to it.
+/// The index is `None` if the key has no row, and else that of the key's newest row.
 #[tactic(auto, using(crate::proofs::Threads::newest_found))]
 pub fn newest_index_is_of_the_newest()
     ensures { (rows : List Row) (key : List ℕ)

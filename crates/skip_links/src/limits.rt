@@ -1,4 +1,4 @@
-//! How many levels there are.
+//! The highest level that a link may have.
 
 /// The highest level of a link, which is the greatest height of a version: the numbers of blocks
 /// have 32 bits, so at level 32 all blocks are in one interval, and only the first version of a key

@@ -1,4 +1,4 @@
-//! Links by scanning the rows of a history, as they are defined.
+//! Finds links by scanning the rows of a history as the definition does: this is plain and slow.
 
 ghost use Rattle.std.specs.{
   Prelude.{◌≡◌, ◌≤◌, ◌&&◌, ◌==◌, ◌+◌, ◌++◌, length, reverse, IfOk, OnOk},

@@ -1,6 +1,6 @@
-//! Lists of the blocks of versions.
+//! Versions of a key are given by their blocks: a key has at most one version in a block.
 
 use lc_base::Seq;
 
-/// The numbers of blocks.
+/// A list of block numbers.
 pub type BlockList = Seq<u32>;

@@ -1,4 +1,4 @@
--- How many entries a climb reads.
+-- A climb reads the newest version, and one entry more for each link that leads to another block.
 use Rattle.std.proofs.Common.{◌≡◌, ◌∙◌, ℕ, suc, ◌+◌, ◌<◌, ◌^◌, true, false, List, [], ◌∷◌, ◌++◌, refl, sym, ap, arith, inl, inr}
 use Rattle.std.specs.Prelude.{◌==◌, if◌then◌else◌}
 use Rattle.std.proofs.lemmas.Bool.{cases_Bool, eq-eqb, eqb-true}
@@ -42,12 +42,13 @@ unfolding moves_along
 moves_more block [] link = omega arith
 moves_more block (first ∷ links) link = let more = moves_more first.block links link in omega (arith, more)
 
--- The links have come to a version in this block, and so many entries were read.
+-- The links have come to a version in this block, and the count has risen by the entries that were
+-- read for them.
 abbrev pub HasClimbed : ℕ → List Hop → List Hop → ℕ → ℕ → Type 0
 HasClimbed start [] links at now = ⊥
 HasClimbed start (newest ∷ older) links at now = (come_to newest.block links ≡ at) × (now ≡ raised_count start (entries_climbed (newest ∷ older) links))
 
--- The newest version was read.
+-- A climb begins at the newest version, which was read.
 pub climb_begins : (entries : List Entry) (id : EntryId) (versions : List Hop) (rung : Rung) (start now : ℕ) → IsTowered entries id versions
     → ((version : Hop) (older : List Hop) → version.id ≡ id → HaveTowers entries (version ∷ older) → rung ≡ rung_over version older)
     → now ≡ raised_count start 1 → HasClimbed start versions [] rung.version.block now
@@ -57,7 +58,7 @@ climb_begins entries id (version ∷ older) rung start now towered reads step =
     let is = reads version older (same_Some version.id id towered.newest) towered.towers in
     (sym (ap (λ (r : Rung). r.version.block) is), step)
 
--- One level more.
+-- A climb goes on by one level.
 pub climbs_on : (start : ℕ) (versions links : List Hop) (link : Hop) (at now next : ℕ) → HasClimbed start versions links at now
     → next ≡ count_moved now at link.block → HasClimbed start versions (links ++ link ∷ []) link.block next
 climbs_on start [] links link at now next climbed step = absurd climbed
@@ -77,6 +78,6 @@ pub climb_counted : (start : ℕ) (versions links others : List Hop) (at now : �
 climb_counted start [] links others at now climbed same = absurd climbed
 climb_counted start (newest ∷ older) links others at now climbed same = climbed.1 ∙ ap (λ (ls : List Hop). raised_count start (entries_climbed (newest ∷ older) ls)) same
 
--- Where there are no versions nothing is read.
+-- If there are no versions, nothing is read.
 pub none_climbed : (count : ℕ) (versions links : List Hop) → versions ≡ [] → count < 2 ^ 64 → count ≡ raised_count count (entries_climbed versions links)
 none_climbed count versions links none few = rw none (omega (arith, few))

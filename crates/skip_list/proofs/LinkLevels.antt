@@ -35,7 +35,7 @@ pub from_older : {A : Type 0} (block_of : A → ℕ) (level : ℕ) (version : A)
 unfolding from_last
 from_older block_of level version older off = rw off refl
 
--- It leads on to the last one at the level above.
+-- The last version at the level above is found from the last one at this level on.
 pub from_again : {A : Type 0} (block_of : A → ℕ) (level : ℕ) (versions : List A) → from_last block_of (suc level) (from_last block_of level versions) ≡ from_last block_of (suc level) versions
 unfolding from_last
 from_again block_of level [] = refl
@@ -46,7 +46,7 @@ from_again block_of level (version ∷ older) = elim (cases_Bool (is_first level
       ∙ sym (from_older block_of (suc level) version older (not_higher level (block_of version) (map block_of older) off))
 ]
 
--- It is at that level.
+-- The last version at a level is at that level.
 pub is_at_level : {A : Type 0} (block_of : A → ℕ) (level : ℕ) (versions : List A) (version : A) (older : List A) → from_last block_of level versions ≡ version ∷ older
     → IsAt level (block_of version) (map block_of older)
 is_at_level block_of level versions version older e =
@@ -85,7 +85,7 @@ with_link links n link version is long = rw is (omega (arith, long, length-appen
     at_end [] version = refl
     at_end (link ∷ links) version = at_end links version
 
--- There is one for each level.
+-- There is one link for each level.
 pub levels_long : {A : Type 0} (block_of : A → ℕ) (n : ℕ) (version : A) (older : List A) → length (filter_map (last_at block_of (version ∷ older)) (range_with_len 0 n)) ≡ n
 levels_long block_of zero version older = refl
 levels_long {A = A} block_of (suc n) version older =
@@ -97,7 +97,7 @@ levels_long {A = A} block_of (suc n) version older =
     ∙ (with_link before n (last_at block_of (version ∷ older) n) link.0 link.1 (levels_long block_of n version older)).0
     ∙ sym e
 
--- The last one is that of the highest level.
+-- The last link is that of the highest level.
 pub levels_top : {A : Type 0} (block_of : A → ℕ) (n : ℕ) (version : A) (older : List A)
     → slice_get (filter_map (last_at block_of (version ∷ older)) (range_with_len 0 (n + 1))) n ≡ last_at block_of (version ∷ older) n
 levels_top {A = A} block_of n version older =
@@ -144,7 +144,7 @@ height_is (suc top) h u p rest less low high few = elim (cases_lt h (suc top)) [
 pub height_over_is : (h u p : ℕ) (rest : List ℕ) → p < u → 2 ^ h ≤ bit_xor p u → bit_xor p u < 2 * 2 ^ h → h ≤ MAX_LEVEL → height_over u (p ∷ rest) ≡ h
 height_over_is h u p rest less low high few = height_is MAX_LEVEL h u p rest less low high few
 
--- It is below the number of the block's binary digits.
+-- The height is below the number of the block's binary digits.
 pub height_fits : (h p u : ℕ) → p < u → u < 2 ^ 32 → 2 ^ h ≤ bit_xor p u → h < binary_digits u
 height_fits h p u less few low = elim (cases_lt h (binary_digits u)) [
   | inl fits ↦ fits

@@ -1,4 +1,5 @@
--- A lookup, turn by turn.
+-- A lookup, turn by turn: its answer stays, and the versions that were read and the rest of the
+-- path are the path.
 use Rattle.std.proofs.Common.{◌≡◌, ◌∙◌, ℕ, suc, ◌+◌, ◌^◌, ◌<◌, ◌≤◌, ◌⊎◌, List, [], ◌∷◌, length, Option, Some, None, refl, sym, ap, subst, arith, inl, inr}
 use Rattle.std.specs.Prelude.{nat_le}
 use Rattle.std.specs.List.{find}
@@ -22,7 +23,7 @@ use Rattle.skip_list.proofs.Turns.{leads_to}
 
 -- ---- what a turn was
 
--- A version up to `at` is the answer; from one above it a lookup goes on by a hop, or there is none.
+-- From a version above `at` a lookup goes on by a hop to older versions.
 record WasHop (at : ℕ) (version : Hop) (older : List Hop) (id : EntryId) : Type 0 where
   above : at < version.block
   hop : Hop
@@ -85,7 +86,8 @@ abbrev pub IsSmall : List Hop → Type 0
 IsSmall [] = Unit {0}
 IsSmall (version ∷ older) = version.block < 2 ^ 32
 
--- A lookup has looked at so many versions.
+-- A count has risen by the `taken` versions that a lookup has looked at; if it has looked at any,
+-- the block of the newest has 32 bits.
 abbrev HasTaken : ℕ → ℕ → ℕ → List Hop → List Hop → Type 0
 HasTaken taken start now versions here = ((taken ≡ 0) × (now ≡ start) × (here ≡ versions)) ⊎ ((now ≡ raised_count start taken) × IsSmall versions)
 
@@ -141,7 +143,7 @@ goes_on entries versions at id next start now more come turn small is = on come.
           long = omega (arith, long, step);
         }
 
--- What a lookup that ends gives.
+-- What a lookup that ends returns and has counted.
 pub record Ends (versions : List Hop) (at : ℕ) (result : Option EntryId) (start now : ℕ) : Type 0 where
   pub found : result ≡ latest_version at versions
   pub count : now ≡ raised_count start (steps_of at versions)

@@ -1,4 +1,5 @@
--- A store is towered at an entry with one list of versions.
+-- At an entry a store is towered with at most one list of versions: its hops of level 0 determine
+-- the others.
 use Rattle.std.proofs.Common.{◌≡◌, ◌∙◌, ℕ, ◌+◌, List, [], ◌∷◌, Option, Some, None, refl, sym, ap, subst}
 use Rattle.std.specs.Prelude.{slice_get, IsSomeAnd}
 use Rattle.std.specs.Option.{option_map}

@@ -1,4 +1,5 @@
--- The versions that a lookup looks at, turn by turn.
+-- The versions that a lookup looks at, turn by turn: their blocks so far and the rest of the path
+-- are the path.
 use Rattle.std.proofs.Common.{◌≡◌, ◌∙◌, ℕ, ◌^◌, ◌<◌, Bool, true, List, [], ◌∷◌, ◌++◌, length, map, Option, Some, None, refl, sym, ap, arith, inl, inr}
 use Rattle.std.specs.Prelude.{slice_get, IsSomeAnd}
 use Rattle.std.specs.List.{AllByRecursion}
@@ -23,7 +24,7 @@ use Rattle.skip_list.specs.Lookups.{turn_at, turn_by, IsBack}
 use Rattle.skip_list.specs.LookedAt.{next_entry, entry_block, entries_left}
 use Rattle.skip_list.proofs.Turns.{leads_to}
 
--- What is said of all these versions.
+-- This holds of the entries of all these versions.
 abbrev pub AllSay : (EntryId → Bool) → List Hop → Type 0
 AllSay says versions = AllByRecursion (λ (version : Hop). says version.id ≡ true) versions
 

@@ -1,4 +1,5 @@
--- A store stays towered, and is towered at a new entry.
+-- A store stays towered when entries are added, and is towered at a new one with the links over the
+-- versions before it.
 use Rattle.std.proofs.Common.{◌≡◌, ℕ, zero, suc, List, [], ◌∷◌, ◌++◌, length, refl, ap}
 use Rattle.std.specs.Prelude.{slice_get, IsSomeAnd}
 use Rattle.entry_store.specs.declared.entry.EntryId.{EntryId}

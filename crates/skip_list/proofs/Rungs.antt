@@ -1,4 +1,5 @@
--- Climbing, rung by rung.
+-- Climbing level by level: a version stays if it is at the level, and else its highest link leads
+-- to the one that is.
 use Rattle.std.proofs.Common.{◌≡◌, ◌∙◌, ℕ, suc, ◌+◌, ◌-◌, ◌*◌, ◌^◌, ◌<◌, ◌≤◌, true, false, List, [], ◌∷◌, ◌++◌, length, Some, None, refl, sym, ap, subst, arith, inl, inr}
 use Rattle.std.specs.Prelude.{slice_get, nat_lt, bit_xor}
 use Rattle.std.specs.List.{filter_map, range_with_len, AllByRecursion}
@@ -101,7 +102,7 @@ pub record Rises (entries : List Entry) (versions : List Hop) (level : ℕ) (hig
   pub above : 0 < level
   pub lower : higher.block < from
 
--- From a version that isn't at the level the highest link leads to it.
+-- From a version that isn't at the level the highest link leads to the last one there.
 pub rises : (entries : List Entry) (versions : List Hop) (level : ℕ) (rung : Rung) (higher : Hop) → IsAllBelow entries versions level rung → level ≤ MAX_LEVEL
     → Some higher ≡ beyond level rung → Rises entries versions level higher rung.version.block
 rises entries versions level rung higher below few some = on below.older below.is below.falling below.towers below.below below.reach
@@ -148,7 +149,7 @@ rises entries versions level rung higher below few some = on below.older below.i
               }
         ]
 
--- What was read of it is the rung there.
+-- What was read of that version is the rung of the level.
 pub risen : (entries : List Entry) (versions : List Hop) (level : ℕ) (higher : Hop) (from : ℕ) (rung : Rung) (r : Rises entries versions level higher from) → rung ≡ rung_over higher r.older → IsLastAt entries versions level rung
 risen entries versions level higher from rung r is =
     let same : higher ≡ rung.version = sym (ap (λ (x : Rung). x.version) is) in
@@ -233,7 +234,7 @@ pub newest_read : (entries : List Entry) (id : EntryId) (versions : List Hop) �
 newest_read entries id [] towered = absurd (none-some id towered.newest)
 newest_read entries id (version ∷ older) towered = (version, older, same_Some version.id id towered.newest, towered.towers)
 
--- The links up to the height are no more than the binary digits of the block.
+-- There are at most as many links up to the height as the block has binary digits.
 pub levels_fit : (entries : List Entry) (id : EntryId) (versions : List Hop) (rung : Rung) (block h : ℕ) → IsTowered entries id versions → AreOlder block versions
     → ((version : Hop) (older : List Hop) → version.id ≡ id → HaveTowers entries (version ∷ older) → rung ≡ rung_over version older)
     → block < 2 ^ 32 → 2 ^ h ≤ bit_xor rung.version.block block → h + 1 ≤ binary_digits block

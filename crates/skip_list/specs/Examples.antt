@@ -3,8 +3,8 @@ use Rattle.std.specs.Prelude.{ℕ, zero, suc, List, [], ◌∷◌}
 use Rattle.skip_path.specs.Towers.{height_over}
 use Rattle.skip_path.specs.Examples.{down_from}
 
--- The heights of the versions in the blocks from this one down to 1, where there is one in each block from
--- 0 on.
+-- The heights of the versions in the blocks from this one down to 1, with a version in each block
+-- from 0 on.
 unfoldable pub heights_down_from : ℕ → List ℕ
 heights_down_from zero = []
 heights_down_from (suc block) = height_over (suc block) (down_from block) ∷ heights_down_from block

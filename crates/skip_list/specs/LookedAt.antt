@@ -8,7 +8,7 @@ use Rattle.entry_store.specs.Entries.{Entry}
 use Rattle.skip_list.specs.declared.lookup.Turn.{Turn}
 use Rattle.skip_list.specs.declared.lookup.Turn.TheVariants as turns
 
--- The entry that a turn goes on to; none where the lookup ends.
+-- The entry that a turn goes on to; `None` if the lookup ends.
 abbrev pub next_entry : Turn → Option EntryId
 next_entry turns.Answer = None
 next_entry turns.Nothing = None
@@ -18,12 +18,14 @@ next_entry (turns.Hop id) = Some id
 abbrev pub entry_block : List Entry → EntryId → Option ℕ
 entry_block entries id = option_map (λ (entry : Entry). entry.links.block) (slice_get entries id.0)
 
--- What is said of the entry of each of these versions is said of each of these entries.
+-- These entries are among those of the versions: what holds of each of those holds of each of
+-- these.
 abbrev pub AreAmong : List Hop → List EntryId → Type 0
 AreAmong versions ids =
     (says : EntryId → Bool) → AllByRecursion (λ (version : Hop). says version.id ≡ true) versions → AllByRecursion (λ (id : EntryId). says id ≡ true) ids
 
--- How many entries there may be from one on.
+-- The greatest number of entries that a lookup may still look at, from the next one on: it goes
+-- back at each turn.
 abbrev pub entries_left : Option EntryId → ℕ
 entries_left None = 0
 entries_left (Some id) = suc id.0

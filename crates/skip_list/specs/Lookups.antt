@@ -10,23 +10,23 @@ use Rattle.skip_list.specs.declared.lookup.Turn.{Turn}
 use Rattle.skip_list.specs.declared.lookup.Turn.TheVariants as turns
 use Rattle.skip_list.specs.Towered.{block_of, links_over, IsTowered}
 
--- A turn that goes on by a link; there is nothing where there is none.
+-- A turn that goes on by a link, or finds nothing if there is no link.
 abbrev pub turn_by : Option Hop → Turn
 turn_by None = turns.Nothing
 turn_by (Some hop) = turns.Hop hop.id
 
--- What a look at the newest of these versions says.
+-- The outcome of a look at the newest of these versions.
 abbrev pub turn_at : ℕ → List Hop → Turn
 turn_at at [] = turns.Nothing
 turn_at at (version ∷ older) = if nat_le version.block at then turns.Answer else turn_by (onward block_of at (links_over version.block older))
 
--- Where a turn goes on to, the store is towered.
+-- The store is towered at the entry that a turn goes on to.
 abbrev pub IsTurnTowered : List Entry → Turn → Type 0
 IsTurnTowered entries turns.Answer = Unit {0}
 IsTurnTowered entries turns.Nothing = Unit {0}
 IsTurnTowered entries (turns.Hop id) = (versions : List Hop) × IsTowered entries id versions
 
--- It goes on to an entry before this one.
+-- An entry that a turn goes on to is before this one.
 abbrev pub IsBack : EntryId → Turn → Type 0
 IsBack id turns.Answer = Unit {0}
 IsBack id turns.Nothing = Unit {0}

@@ -15,7 +15,7 @@ block_of version = version.block
 abbrev pub blocks_of : List Hop → List ℕ
 blocks_of versions = map block_of versions
 
--- The links of a version in a block, where these are the versions before it.
+-- The links of a version in a block, over the versions before it.
 abbrev pub links_over : ℕ → List Hop → List Hop
 links_over block older = tower block_of block older
 
@@ -32,15 +32,15 @@ pub record IsTowered (entries : List Entry) (id : EntryId) (versions : List Hop)
   pub falling : IsFalling (blocks_of versions)
   pub towers : HaveTowers entries versions
 
--- The versions from a newest entry on; none, where there is no such entry.
+-- The versions from a newest entry on; none if there is no such entry.
 abbrev pub AreVersions : List Entry → Option EntryId → List Hop → Type 0
 AreVersions entries None versions = versions ≡ []
 AreVersions entries (Some id) versions = IsTowered entries id versions
 
--- They are of blocks before this one.
+-- The blocks of the versions are before this one, and fall.
 abbrev pub AreOlder : ℕ → List Hop → Type 0
 AreOlder block versions = IsFalling (block ∷ blocks_of versions)
 
--- It is towered at the entry of this version, too.
+-- The store is towered at the entry of this version.
 abbrev pub LeadsToTowered : List Entry → Hop → Type 0
 LeadsToTowered entries version = (older : List Hop) × IsTowered entries version.id (version ∷ older)

@@ -1,4 +1,5 @@
-//! The links of a new version, by climbing the links of older ones.
+//! Finds the links of a new version by climbing those of older ones, so that each entry that it
+//! links to is read once.
 
 ghost use Rattle.std.specs.{
   Prelude.{◌≡◌, ◌+◌, ◌*◌, ◌^◌, ◌<◌, ◌≤◌, List, length, IfOk, bit_xor},
@@ -17,7 +18,8 @@ use entry_store::{Counter, EntryId, HopList, Steps, Store};
 use lc_base::Memory;
 use std::alloc::Global;
 
-/// The height of a version, where `previous` is the block of the version before it.
+/// The height of a version, from the block `previous` of the version before it: the place of the
+/// highest binary digit in which the two blocks differ.
 fn height_over(previous: u32, block: u32) -> u32
     requires { previous < block }
     ensures most { result ≤ MAX_LEVEL }
@@ -44,7 +46,7 @@ pub fn links_for<C: Counter>(
     ensures towered { IfOk result (λ hops. All (LeadsToTowered store.now) hops) }
     ensures few { IfOk result (λ hops. length hops ≤ MAX_LEVEL + 1) }
 {
-    // So that the count is known to be one that a u64 has.
+    // By this call contracts know that the count fits into a u64.
     let _count = steps.count();
     let Some(newest) = newest else {
         return Ok(HopList::new(alloc));

@@ -11,7 +11,8 @@ pub fn low_heights()
     ensures { heights_down_from 63 ≡ 0 ∷ 1 ∷ 0 ∷ 2 ∷ 0 ∷ 1 ∷ 0 ∷ 3 ∷ 0 ∷ 1 ∷ 0 ∷ 2 ∷ 0 ∷ 1 ∷ 0 ∷ 4 ∷ 0 ∷ 1 ∷ 0 ∷ 2 ∷ 0 ∷ 1 ∷ 0 ∷ 3 ∷ 0 ∷ 1 ∷ 0 ∷ 2 ∷ 0 ∷ 1 ∷ 0 ∷ 5 ∷ 0 ∷ 1 ∷ 0 ∷ 2 ∷ 0 ∷ 1 ∷ 0 ∷ 3 ∷ 0 ∷ 1 ∷ 0 ∷ 2 ∷ 0 ∷ 1 ∷ 0 ∷ 4 ∷ 0 ∷ 1 ∷ 0 ∷ 2 ∷ 0 ∷ 1 ∷ 0 ∷ 3 ∷ 0 ∷ 1 ∷ 0 ∷ 2 ∷ 0 ∷ 1 ∷ 0 ∷ [] }
 {}
 
-/// Far after them, on both sides of 2 ^ 19, versions are high; a lookup among them reads at most 42.
+/// Versions far after these, on both sides of 2 ^ 19, are high; a lookup among them reads at most
+/// 42 entries.
 #[tactic(auto, unfolding(skip_path::specs::Towers::height_up_to, skip_path::specs::Paths::digits_up_to))]
 pub fn far_heights()
     ensures before { height_over 524287 (down_from 63) ≡ 18 }

@@ -1,4 +1,5 @@
-//! Lookups of the last version of a key up to a block.
+//! Looks up the last version of a key up to a block: from each version above that block by the
+//! highest link that leads to another one above it, or else by the lowest link.
 
 ghost use Rattle.std.specs.{
   Prelude.{◌≡◌, ◌^◌, ◌<◌, ◌≤◌, List, ◌∷◌, length, nat_lt, reverse, IfSome},
@@ -18,12 +19,12 @@ ghost use Rattle.skip_list.specs.{
 
 use entry_store::{Counter, EntryId, Hop, Steps, Store};
 
-/// What a look at a version says.
+/// The outcome of a look at a version.
 #[derive(Clone, Copy, Debug, PartialEq, Eq)]
 pub enum Turn {
     /// The version is the answer.
     Answer,
-    /// The lookup goes on to this one.
+    /// The lookup goes on to this entry.
     Hop(EntryId),
     /// There is no version up to the block.
     Nothing,
@@ -65,8 +66,9 @@ pub fn path_next<C: Counter>(store: &Store, id: EntryId, at: u32, steps: &mut St
     }
 }
 
-/// The last version in a block up to `at`, from the newest one on; `None` exactly where there is
-/// none.
+/// The last version in a block up to `at`, from the newest one on; `None` exactly if there is none.
+/// It reads at most 2 · B + 2 entries, where B is the number of binary digits of the newest
+/// version's block.
 pub fn find<C: Counter>(
     store: &Store,
     newest: EntryId,

@@ -1,4 +1,4 @@
-//! The versions that a lookup looks at.
+//! Lists the versions that a lookup looks at: their blocks are its path.
 
 ghost use Rattle.std.specs.Prelude.{◌≡◌, List, length, map, Some, IfOk};
 ghost use Rattle.skip_path.specs.Paths.{path_over};
@@ -23,8 +23,8 @@ fn next_entry(turn: Turn) -> Option<EntryId>
     }
 }
 
-/// The versions that a lookup from the newest one looks at, in this order: their blocks are the path,
-/// and what is said of all versions is true of them. The count rises by their number.
+/// The versions that a lookup from the newest one looks at, in this order. They are versions of the
+/// key, and their blocks are the path. The count rises by their number.
 pub fn path_entries<C: Counter>(
     alloc: Global,
     store: &Store,
@@ -38,7 +38,7 @@ pub fn path_entries<C: Counter>(
     ensures among { (versions : List Hop) → IsTowered store.now newest versions → IfOk result (AreAmong versions) }
     ensures count { IfOk result (λ ids. steps.new ≡ raised_count steps.old (length ids)) }
 {
-    // So that the count is known to be one that a u64 has.
+    // By this call contracts know that the count fits into a u64.
     let _count = steps.count();
     let mut ids = EntryList::new(alloc);
     let mut next = Some(newest);

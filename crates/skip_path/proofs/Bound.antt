@@ -22,7 +22,7 @@ unfoldable pub next : ℕ → ℕ → ℕ → List ℕ → List ℕ
 next t zero u rest = rest
 next t (suc level) u rest = if is_first level u rest && is_above t (from_level level rest) then from_level level rest else next t level u rest
 
--- The blocks that are looked at, at most n.
+-- The blocks that a lookup looks at, and at most n of them.
 unfoldable pub walk : ℕ → ℕ → List ℕ → List ℕ
 walk zero t blocks = []
 walk (suc n) t [] = []
@@ -47,7 +47,7 @@ pub not_above : (t : ℕ) (blocks : List ℕ) → IsLow t blocks → is_above t 
 not_above t [] low = refl
 not_above t (u ∷ rest) low = le-ltb t u low
 
--- Blocks whose first is above t.
+-- Blocks of which `is_above` holds have a first one, and that is above t.
 pub above_first : (t : ℕ) (blocks : List ℕ) → is_above t blocks ≡ true → (v : ℕ) × (rest : List ℕ) × (blocks ≡ v ∷ rest) × (t < v)
 above_first t [] above = absurd cc
 above_first t (u ∷ rest) above = (u, rest, refl, ltb-true t u above)
@@ -208,7 +208,7 @@ next_far (suc d) level t u rest off =
     let e : suc d + level ≡ suc (d + level) = omega arith in
     rw e (next_off t (d + level) u rest (levels_above d level u rest off) ∙ next_far d level t u rest off)
 
--- On the way up each step goes up by a level. Where the highest link does not lead above t, the way
+-- On the way up each step goes up by a level. When the highest link does not lead above t, the way
 -- down begins.
 up_bound : (n t digits h u : ℕ) (rest : List ℕ) → IsFalling (u ∷ rest) → u < 2 ^ digits → digits ≤ 32 → h ≤ digits → IsAt h u rest
     → length (walk n t (u ∷ rest)) + h ≤ 2 * digits + 2

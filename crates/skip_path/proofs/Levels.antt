@@ -1,4 +1,4 @@
--- Falling lists of blocks: the versions from the last one at a level on.
+-- Falling lists of blocks: where the link of a level leads, and at which levels that version is.
 use Rattle.std.proofs.Common.{◌≡◌, ◌∙◌, ℕ, zero, suc, ◌+◌, ◌*◌, ◌/◌, ◌^◌, ◌<◌, ◌≤◌, true, false, List, [], ◌∷◌, refl, sym, arith, inl, inr}
 use Rattle.std.proofs.lemmas.Bool.{cases_lt, cases_Bool, lt-ltb, le-ltb, ltb-true, ltb-false}
 use Rattle.skip_links.specs.Falling.{IsFalling, is_first, from_level}
@@ -44,7 +44,7 @@ leads_to_level level v (u ∷ older) rest e = elim (cases_Bool (is_first level u
   | inr off ↦ leads_to_level level v older rest (sym (from_past level u older off) ∙ e)
 ]
 
--- It is no higher than where it begins.
+-- From a block that is at most t a link leads to none above t.
 pub stays_low : (level t : ℕ) (blocks : List ℕ) → IsFalling blocks → IsLow t blocks → IsLow t (from_level level blocks)
 unfolding from_level
 stays_low level t [] falling low = tt
@@ -88,7 +88,7 @@ levels_below (suc level) v rest on k lt = elim (cases_lt k (suc level)) [
   | inr ge ↦ let e : k ≡ suc level = omega arith in rw e on
 ]
 
--- It is at no level above one at which it is not.
+-- A version is at no level above one at which it is not.
 pub levels_above : (d level u : ℕ) (rest : List ℕ) → is_first level u rest ≡ false → is_first (d + level) u rest ≡ false
 levels_above zero level u rest off = let e : 0 + level ≡ level = omega arith in rw e off
 levels_above (suc d) level u rest off =

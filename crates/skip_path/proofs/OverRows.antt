@@ -66,7 +66,7 @@ older_below rows key block = older_are key block (reverse rows)
 pub links_of_blocks : (rows : List Row) (key : List ℕ) (block : ℕ) → IsLawful rows → links rows key block ≡ links_among (blocks_of_key rows key) block
 links_of_blocks rows key block lawful = links_tower rows key block lawful ∙ ap (tower (λ (older : ℕ). older) block) (older_below rows key block)
 
--- A block above all rows.
+-- There is a block above those of all rows.
 above_all : (rows : List Row) → (top : ℕ) × AllByRecursion (λ (row : Row). row.block < top) rows
 above_all [] = (0, tt)
 above_all (row ∷ rows) = let deep = above_all rows in (deep.0 + suc row.block, (omega arith, higher deep.0 (suc row.block) rows deep.1))

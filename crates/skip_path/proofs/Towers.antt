@@ -159,7 +159,7 @@ tower_is_below block_of u rest falling = levels_to_height block_of 31 u rest (at
 
 -- ---- where the links lead
 
--- A link that was found is where a lookup goes on to; where none was found, that is to the version before.
+-- A lookup goes on by the link that was found, or to the version before if none was.
 abbrev Leads : {A : Type 0} → List A → List A → Option A → Type 0
 Leads to rest None = to ≡ rest
 Leads {A} to rest (Some version) = (older : List A) × (to ≡ version ∷ older)
@@ -237,7 +237,7 @@ first_link {A = A} block_of (suc level) u version older falling =
       | inr off ↦ ap (λ (links : List A). slice_get links 0) (below_off block_of (suc level) u (version ∷ older) off) ∙ before
     ]
 
--- Where the lookup goes on to, as the links say: nowhere, where there is no version before.
+-- Where the lookup goes on to, as the links say: nowhere if there is no version before.
 abbrev pub Goes : {A : Type 0} → List A → List A → Option A → Type 0
 Goes to rest None = rest ≡ []
 Goes {A} to rest (Some version) = (older : List A) × (to ≡ version ∷ older)
@@ -266,7 +266,7 @@ unfolding next_of from_last
 next_of_none block_of t zero u = refl
 next_of_none block_of t (suc level) u = next_of_none block_of t level u
 
--- What it goes on to is the first of the versions there.
+-- The link that a lookup takes is the first of the versions that it goes on to.
 pub goes_to : {A : Type 0} (to rest : List A) (link : Option A) → Goes to rest link → (rest ≡ [] → to ≡ []) → link ≡ slice_get to 0
 goes_to {A = A} to rest None is none = let e : to ≡ [] = none is in ap (λ (vs : List A). slice_get vs 0) (sym e)
 goes_to {A = A} to rest (Some version) is none = ap (λ (vs : List A). slice_get vs 0) (sym is.1)

@@ -1,4 +1,5 @@
--- Paths over falling blocks.
+-- Paths over falling blocks are walks of the bound's proof: they are as short, and end at the last
+-- version up to a block.
 use Rattle.std.proofs.Common.{◌≡◌, ◌∙◌, ℕ, zero, suc, ◌+◌, ◌*◌, ◌^◌, ◌<◌, ◌≤◌, nat_lt, List, [], ◌∷◌, length, filter, Option, None, refl, sym, ap, subst, arith, inl, inr}
 use Rattle.std.specs.Prelude.{slice_get, nat_le}
 use Rattle.std.specs.List.{find, AllByRecursion}
@@ -104,7 +105,7 @@ pub over_is_walk : (t : ℕ) (blocks : List ℕ) → IsFalling blocks → path_o
 unfolding path_over
 over_is_walk t blocks falling = path_is_walk (length blocks) t blocks blocks (all_last blocks falling)
 
--- With more fuel the path is the same.
+-- With more turns than blocks the path is the same.
 pub over_with_more : (n t : ℕ) (blocks : List ℕ) → IsFalling blocks → length blocks ≤ n → path_from n (links_among blocks) t (slice_get blocks 0) ≡ path_over blocks t
 over_with_more n t blocks falling short =
     path_is_walk n t blocks blocks (all_last blocks falling) ∙ walk_enough n (length blocks) t blocks short (omega arith) ∙ sym (over_is_walk t blocks falling)

@@ -12,13 +12,13 @@ use Rattle.skip_path.specs.Towers.{tower}
 
 -- ---- one turn
 
--- Of the links of a version, one for each level from 0, that of the highest level that leads above a
--- block, else the lowest one. There is none where the version has no links.
+-- Of the links of a version, one for each level from 0, that of the highest level that leads above
+-- a block, else the lowest one; `None` if the version has no links.
 abbrev pub onward : {A : Type 0} → (A → ℕ) → ℕ → List A → Option A
 onward block_of at links = option_or (find (λ version. nat_lt at (block_of version)) (reverse links)) (slice_get links 0)
 
--- The block that a lookup goes on to from the version in a block; none where that is the answer, or has
--- no links.
+-- The block that a lookup goes on to from the version in a block; `None` if that version is the
+-- answer, or has no links.
 abbrev pub next_block : (ℕ → List ℕ) → ℕ → ℕ → Option ℕ
 next_block links_of at block = if nat_le block at then None else onward (λ (link : ℕ). link) at (links_of block)
 
@@ -32,7 +32,7 @@ path_from (suc n) links_of at None = []
 path_from (suc n) links_of at (Some block) = block ∷ path_from n links_of at (next_block links_of at block)
 
 -- The path of a lookup of the last version of a key up to a block, over the rows of a history. It
--- begins at the newest version; a key without versions has none.
+-- begins at the newest version; that of a key without versions is empty.
 unfoldable pub path : List Row → List ℕ → ℕ → List ℕ
 path rows key at = path_from (length rows) (links rows key) at (option_map (λ (row : Row). row.block) (newest rows key))
 
@@ -52,7 +52,7 @@ path_over blocks at = path_from (length blocks) (links_among blocks) at (slice_g
 
 -- ---- how long a path may be
 
--- The number of binary digits of a number, where they are at most one more than these; 0 has one.
+-- The number of binary digits of a number that has at most `digits` + 1 of them; 0 has one.
 unfoldable pub digits_up_to : ℕ → ℕ → ℕ
 digits_up_to zero n = 1
 digits_up_to (suc digits) n = if nat_lt n (2 ^ suc digits) then digits_up_to digits n else suc (suc digits)

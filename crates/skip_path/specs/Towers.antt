@@ -1,12 +1,12 @@
--- The links of one version over the versions of its key before it, which are given with the newest
--- first. What stands for a version may be any value that has a block.
+-- The links of one version over the versions of its key before it, the newest first. Any value that
+-- has a block may be taken for a version.
 use Rattle.std.specs.Prelude.{ℕ, zero, suc, ◌+◌, if◌then◌else◌, List, [], ◌∷◌, map, Option, slice_get}
 use Rattle.std.specs.List.{filter_map, range_with_len}
 use Rattle.skip_links.specs.Falling.{is_first}
 use Rattle.skip_links.specs.declared.limits.TheConstants.{MAX_LEVEL}
 
--- The greatest level up to this one at which a version in this block is, where these are the blocks
--- of the versions before it. Every version is at level 0.
+-- The greatest level up to this one at which a version in this block is, by the blocks of the
+-- versions before it. Every version is at level 0.
 unfoldable pub height_up_to : ℕ → ℕ → List ℕ → ℕ
 height_up_to zero block older = 0
 height_up_to (suc level) block older = if is_first (suc level) block older then suc level else height_up_to level block older
@@ -15,7 +15,7 @@ height_up_to (suc level) block older = if is_first (suc level) block older then 
 abbrev pub height_over : ℕ → List ℕ → ℕ
 height_over block older = height_up_to MAX_LEVEL block older
 
--- The versions from the last one on that is at a level.
+-- The last version that is at a level, and the versions before it.
 unfoldable pub from_last : {A : Type 0} → (A → ℕ) → ℕ → List A → List A
 from_last block_of level [] = []
 from_last block_of level (version ∷ older) =

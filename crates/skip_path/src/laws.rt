@@ -24,7 +24,8 @@ pub fn path_is_over_the_blocks_of_the_key()
     ensures { (rows : List Row) (key : List ℕ) (at : ℕ) → IsLawful rows → path rows key at ≡ path_over (blocks_of_key rows key) at }
 {}
 
-/// A path is no longer than twice the binary digits of the newest version's block, and two.
+/// A path has at most 2 · B + 2 versions, where B is the number of binary digits of the newest
+/// version's block.
 #[tactic(auto, using(crate::proofs::OverRows::path_short))]
 pub fn path_is_short()
     ensures { (rows : List Row) (key : List ℕ) (at : ℕ) (version : Row) → IsLawful rows → newest rows key ≡ Some version → version.block < 2 ^ 32
@@ -38,20 +39,20 @@ pub fn path_ends_at_the_latest()
         → find (λ (block : ℕ). nat_le block at) (path rows key at) ≡ option_map (λ (row : Row). row.block) (latest rows key at) }
 {}
 
-/// A path over falling blocks is as short.
+/// A path over falling blocks has the same bound.
 #[tactic(auto, using(crate::proofs::Walks::path_over_short))]
 pub fn path_over_is_short()
     ensures { (block : ℕ) (older : List ℕ) (at : ℕ) → IsFalling (block ∷ older) → block < 2 ^ 32 → length (path_over (block ∷ older) at) ≤ 2 * binary_digits block + 2 }
 {}
 
-/// It comes to the first of the blocks that is no higher than `at`.
+/// The first block up to `at` of a path over falling blocks is the first such block of all.
 #[tactic(auto, using(crate::proofs::Walks::path_over_latest))]
 pub fn path_over_ends_at_the_latest()
     ensures { (blocks : List ℕ) (at : ℕ) → IsFalling blocks
         → find (λ (block : ℕ). nat_le block at) (path_over blocks at) ≡ find (λ (block : ℕ). nat_le block at) blocks }
 {}
 
-/// Where a lookup goes on to a version that is no higher than `at`, that is by the lowest link.
+/// If a lookup goes on to a version in a block up to `at`, it takes the lowest link.
 pub fn answers_are_reached_by_the_lowest_link()
     ensures { (links_of : ℕ → List ℕ) (at block next : ℕ) → next_block links_of at block ≡ Some next → next ≤ at → slice_get (links_of block) 0 ≡ Some next }
 {}

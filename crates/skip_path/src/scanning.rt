@@ -1,4 +1,4 @@
-//! Paths by the definition, over the rows of a history.
+//! The path of a lookup over the rows of a history, as it is defined: this is plain and slow.
 
 ghost use Rattle.std.specs.{
   Prelude.{◌≡◌, ◌==◌, ℕ, nat_lt, reverse, IfOk},
@@ -40,7 +40,7 @@ fn onward(links: &[u32], at: u32) -> Option<u32>
     }
 }
 
-/// The block that a lookup goes on to from the version in a block; none where it ends there.
+/// The block that a lookup goes on to from the version in a block; `None` if it ends there.
 fn next_block(
     alloc: Global,
     rows: &[Row],
@@ -57,7 +57,8 @@ fn next_block(
     Ok(onward(links.as_slice(), at))
 }
 
-/// The path of a lookup of the last version of a key up to a block, over these rows.
+/// The path of a lookup of a key's last version up to the block `at`: the blocks of the versions
+/// that it looks at, in order.
 pub fn path(alloc: Global, rows: &[Row], key: &Key, at: u32) -> Result<BlockList, Memory>
     ensures { IfOk result (λ blocks. blocks ≡ path rows.now key.now at) }
 {

@@ -1,4 +1,4 @@
--- One text more.
+-- The table of a list, after one text more, is the table of the longer list.
 use Rattle.std.proofs.Common.{◌≡◌, ◌≢◌, inl, inr, ℕ, ◌+◌, ◌<◌, ◌≤◌, Bool, true, false, cond, not, ◌&&◌, List, [], ◌∷◌, ◌++◌, length, Option, Some, None, refl, sym, ap, subst, ◌∙◌, arith}
 use Rattle.std.specs.Prelude.{◌==◌, is_none}
 use Rattle.std.specs.Ordering.{nat_cmp, is_eq}
@@ -25,7 +25,7 @@ module _ (texts : List (List ℕ)) (last : List ℕ) where
   at_end : text_at more (length texts) ≡ last
   at_end = get_or_push texts last [] (length texts) refl
 
-  -- what is so of each text, and of the last one
+  -- what holds of each text before, and of the last one, holds of all
   each_more : (P : List ℕ → Type 0) → ((i : ℕ) → i < length texts → P (text_at texts i)) → P last → (i : ℕ) → i < length more → P (text_at more i)
   each_more P each end i within = elim (cases_lt i (length texts)) [
     | inl low ↦ subst P (sym (inside i low)) (each i low)
@@ -89,7 +89,7 @@ module _ (texts : List (List ℕ)) (last : List ℕ) where
   EntryIs digest places other same =
       ArePlaces digest more (cond (is_none other && not same) (record { first = places.first; other = Some (length texts) }) (record { first = places.first; other = other }))
 
-  -- one more of the digest
+  -- the last one is a later one of its digest
   entry_more : (digest : List ℕ) (places : Places) → ArePlaces digest texts places → sha256 last ≡ digest → IsEntry digest more (Some (places_with texts last places))
   entry_more digest places are is = by places.other are.other_is (pointwise ◌==◌ (text_at texts places.first) last) refl
     where

@@ -1,4 +1,4 @@
--- The first clash, from what is found of each text.
+-- The first clash is at the first text for which another one is found.
 use Rattle.std.proofs.Common.{◌≡◌, inl, inr, ℕ, ◌<◌, ◌≤◌, List, [], length, Some, None, sym, ap, ◌∙◌, arith}
 use Rattle.std.specs.List.{Contains}
 use Rattle.std.proofs.lemmas.Bool.{cases_lt}
@@ -7,7 +7,7 @@ use Rattle.sha2.specs.Sha256.{sha256}
 use Rattle.text_clashes.specs.FirstClash.{text_at, ClashAt, IsFirstClash}
 use Rattle.text_clashes.specs.Places.{IsFirstOther}
 
--- none of the first texts, so many, clashes with one of the second list
+-- none of the first texts of a list, `end` of them, clashes with one of the second list
 abbrev pub NoneClashes : List (List ℕ) → List (List ℕ) → ℕ → Type 0
 NoneClashes given own end = (i : ℕ) → i < end → IsFirstOther (text_at given i) own None
 
@@ -38,7 +38,7 @@ first_is given own place other within none is = record {
       | inr high ↦ omega (arith, high)
     ]
 
--- what a list contains stands at a place
+-- if none clashes, there is no clash: each text that a list contains is at some place of it
 pub none_is : (given own : List (List ℕ)) → NoneClashes given own (length given) → IsFirstClash given own None
 none_is given own none clash =
     let one = placed given clash.one clash.in_given in

@@ -1,4 +1,4 @@
--- What a table tells of a text.
+-- What is found in the table of a list is the first other text of the digest that is looked up.
 use Rattle.std.proofs.Common.{◌≡◌, ℕ, ◌<◌, Bool, true, false, cond, List, length, Option, Some, None, refl, subst}
 use Rattle.std.specs.Prelude.{◌==◌, IfSome}
 use Rattle.std.specs.Cmp.Lexicographic.{pointwise, bytes_decides}

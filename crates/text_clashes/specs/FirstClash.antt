@@ -14,13 +14,13 @@ pub record ClashAt (given own : List (List ℕ)) (one other : ℕ) : Type 0 wher
   pub differ : text_at given one ≢ text_at own other
   pub same : sha256 (text_at given one) ≡ sha256 (text_at own other)
 
--- They do, and each other pair of places that does comes later, by the place in the first list and then
--- by that in the second.
+-- The texts at these places clash, and each other pair of places whose texts clash comes later, by
+-- the place in the first list and then by that in the second.
 pub record IsFirstAt (given own : List (List ℕ)) (pair : ℕ × ℕ) : Type 0 where
   pub clash : ClashAt given own pair.0 pair.1
   pub first : (one other : ℕ) → ClashAt given own one other → (pair.0 < one) ⊎ ((pair.0 ≡ one) × (pair.1 ≤ other))
 
--- The places of the first clash, or that there is none.
+-- The places of the first clash, or `None` if the lists have no clash.
 abbrev pub IsFirstClash : List (List ℕ) → List (List ℕ) → Option (ℕ × ℕ) → Type 0
 IsFirstClash given own None = Clash given own → ⊥
 IsFirstClash given own (Some pair) = IsFirstAt given own pair

@@ -1,4 +1,5 @@
-//! The first clash.
+//! Finds the first clash: one pass over the second list makes a table, and one over the first looks
+//! each text up in it.
 
 ghost use Rattle.std.specs.Prelude.{IfOk};
 ghost use Rattle.text_clashes.specs.{FirstClash.{IsFirstClash}, Places.{IsTable}};
@@ -21,9 +22,9 @@ fn clash_by(table: &Table, given: &[Bytes], own: &[Bytes]) -> Option<(usize, usi
     None
 }
 
-/// The places of the first clash: of a text of each list that differ and have one digest, with the
-/// least place in the first list, and then in the second; `None` exactly where there is none. Places
-/// count from 0. For each text it looks a digest up once or twice, and goes over no pairs.
+/// The places of the first clash: of a text of each list that differ and have one SHA-256 digest,
+/// with the least place in the first list, and then in the second; `None` exactly if no two do.
+/// Places count from 0. It looks up the digest of each text once or twice, and goes over no pairs.
 pub fn first_clash(
     alloc: Global,
     given: &TextList,

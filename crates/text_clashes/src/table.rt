@@ -1,4 +1,5 @@
-//! Of each digest where the texts of a list stand that have it.
+//! The table of a list of texts: for each digest the first text that has it, and the first that
+//! differs from that one and has it too.
 
 ghost use Rattle.std.specs.{
   Prelude.{◌≡◌, ◌==◌, ◌<◌, [], ◌∷◌, ◌++◌, length, IfSome, OnOk, IfOk},
@@ -12,16 +13,16 @@ use sha2::{Digest as _, Sha256};
 use std::alloc::Global;
 use std::collections::BTreeMap;
 
-/// Where texts of one digest stand.
+/// The places, from 0, of texts of a list that have one digest.
 #[derive(Clone, Copy, Debug, PartialEq, Eq)]
 pub(crate) struct Places {
     /// The first of them.
     pub(crate) first: usize,
-    /// The first of them that differs from that one.
+    /// The first of them that differs from the text at `first`; `None` if none does.
     pub(crate) other: Option<usize>,
 }
 
-/// Of each digest where its texts stand.
+/// The places of the texts of each digest.
 pub(crate) type Table = BTreeMap<[u8; 32], Places>;
 
 /// The digest of a text.
@@ -40,7 +41,7 @@ fn is_same(text: &[u8], other: &[u8]) -> bool
     text == other
 }
 
-/// Where texts of one digest stand, with one more text of it after these.
+/// The places of the texts of one digest, after one more text that has it was added behind `texts`.
 fn with_text(places: Places, texts: &[Bytes], text: &[u8]) -> Places
     requires { places.first < length texts.now }
     ensures { result ≡ places_with texts.now text.now places }
@@ -54,7 +55,8 @@ fn with_text(places: Places, texts: &[Bytes], text: &[u8]) -> Places
     places
 }
 
-/// Where texts of the digest of this one stand, with this one after these.
+/// The places of the texts with the digest of `text`, after `text` was added behind `texts`;
+/// `found` has those before.
 fn places_after(found: Option<Places>, texts: &[Bytes], text: &[u8]) -> Places
     requires { IfSome found (λ places. places.first < length texts.now) }
     ensures { result ≡ entry_with texts.now text.now found }
@@ -90,8 +92,8 @@ pub(crate) fn table_of(alloc: Global, texts: &[Bytes]) -> Result<Table, Memory>
     Ok(table)
 }
 
-/// The first place of a text that differs from this one and has its digest, by the places of the texts
-/// that have it.
+/// The first place of a text that differs from this one and has its digest, by the places of the
+/// texts with that digest.
 fn other_at(found: Option<Places>, texts: &[Bytes], text: &[u8]) -> Option<usize>
     requires { IfSome found (λ places. places.first < length texts.now) }
     ensures { result ≡ other_in texts.now text.now found }
@@ -108,7 +110,8 @@ fn other_at(found: Option<Places>, texts: &[Bytes], text: &[u8]) -> Option<usize
     }
 }
 
-/// The first place of a text that differs from this one and has its digest.
+/// The first place of a text that differs from this one and has its digest; `None` if there is
+/// none.
 pub(crate) fn first_other(table: &Table, texts: &[Bytes], text: &[u8]) -> Option<usize>
     requires { IsTable texts.now table.now }
     ensures { IsFirstOther text.now texts.now result }

@@ -1,4 +1,4 @@
--- The rows of a history up to a block.
+-- The rows of a typed history up to a block are a typed history.
 use Rattle.std.proofs.Common.{◌≡◌, ℕ, ◌≤◌, Bool, true, nat_lt, nat_le, List, [], ◌∷◌, length, sym, subst, arith, filter, inl, inr, IsSomeAnd}
 use Rattle.std.specs.List.{All}
 use Rattle.std.proofs.lemmas.Bool.{cases_Bool, ltb-true, leb-true, le-leb}
@@ -31,7 +31,7 @@ deps_up_to rows block row deps t = record {
       (sym (below_of_up_to rows block row.block (leb-true row.block block t))) deps.newest;
 }
 
--- The rows of a lawful history up to a block are one.
+-- The rows of a lawful history up to a block are a lawful history.
 pub lawful_up_to : (rows : List Row) (block : ℕ) → IsLawful rows → IsLawful (up_to rows block)
 lawful_up_to rows block lawful =
     let p : Row → Bool = λ (row : Row). nat_le row.block block in

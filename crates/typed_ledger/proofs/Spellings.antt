@@ -96,7 +96,7 @@ module _ (rows : List Row) (lawful : IsLawful rows) (are : All IsTypedRow rows) 
   named_key : (key : List ℕ) (block : ℕ) (digest : Digest) → NamesHeader rows key block digest → IsKey key
   named_key key block digest names = subst IsKey names.key_is (is_row names.row names.there).key_is_key
 
-  -- The header of a row.
+  -- The header of a row can be spelled.
   pub header_lawful : (row : Row) → Contains rows row → IsHeader (header_of rows row)
   header_lawful row has =
       let is = is_row row has in
@@ -114,7 +114,7 @@ module _ (rows : List Row) (lawful : IsLawful rows) (are : All IsTypedRow rows) 
             (header_of rows row).links (recursion_from_All (IsToOlder rows row) (header_of rows row).links (links_are_named rows row lawful));
       }
 
-  -- The body of a row.
+  -- The body of a row can be spelled.
   pub body_lawful : (row : Row) → Contains rows row → IsBody (body_of rows row)
   body_lawful row has =
       let is = is_row row has in
@@ -182,7 +182,7 @@ module _ (rows : List Row) (lawful : IsLawful rows) (are : All IsTypedRow rows) 
         open_digest_fits = length_uses_digest (uses rows key (block_of (newest rows key)));
       }
 
-  -- the one without a key, or that of a key
+  -- the sentinel, or the leaf of a key
   abbrev pub IsOneOf : Leaf → Type 0
   IsOneOf leaf = (leaf ≡ sentinel (keys_of rows)) ⊎ ((key : List ℕ) × Contains (keys_of rows) key × (leaf ≡ leaf_of rows key))
 

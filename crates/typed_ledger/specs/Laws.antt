@@ -9,7 +9,7 @@ use Rattle.root_laws.specs.Naming.{header_of, body_of}
 use Rattle.root_laws.specs.Root.{leaves, digest_at}
 use Rattle.typed_ledger.specs.TypedLedger.{IsTypedHistory, IsTypedLedger}
 
--- A history up to a block is one.
+-- The rows of a typed history up to a block are a typed history.
 abbrev pub PartsAreTyped : Type 0
 PartsAreTyped = (rows : List Row) (block : ℕ) → IsTypedHistory rows → IsTypedHistory (up_to rows block)
 
@@ -19,14 +19,14 @@ BlocksAreTyped =
     (rows : List Row) (digests : List Digest) (block : ℕ) → IsTypedLedger rows digests → block < length digests
     → (block < 2 ^ 32) × (length (digest_at digests block) ≡ 32)
 
--- The headers of a history can be spelled.
+-- The headers of a typed history can be spelled.
 abbrev pub HeadersAreHeaders : Type 0
 HeadersAreHeaders = (rows : List Row) → IsTypedHistory rows → All (λ (row : Row). IsHeader (header_of rows row)) rows
 
--- So can its bodies.
+-- The bodies of a typed history can be spelled.
 abbrev pub BodiesAreBodies : Type 0
 BodiesAreBodies = (rows : List Row) → IsTypedHistory rows → All (λ (row : Row). IsBody (body_of rows row)) rows
 
--- So can its leaves.
+-- The leaves of a typed history can be spelled.
 abbrev pub LeavesAreLeaves : Type 0
 LeavesAreLeaves = (rows : List Row) → IsTypedHistory rows → All IsLeaf (leaves rows)

@@ -1,5 +1,5 @@
--- Histories and ledgers whose parts are within their types. In contracts a row is made of plain numbers
--- and lists, which may be anything; what a program keeps is always within.
+-- Histories and ledgers whose parts are within their types. In contracts a row is made of plain
+-- numbers and lists, which may be anything; what a program keeps is always within its types.
 use Rattle.std.specs.Prelude.{◌≡◌, ◌^◌, ◌<◌, List, length}
 use Rattle.std.specs.List.{All}
 use Rattle.lc_names.specs.KeyBytes.{IsKey}
@@ -8,8 +8,9 @@ use Rattle.lc_base.specs.declared.row.Row.{Row}
 use Rattle.lc_base.specs.History.{IsLawful}
 use Rattle.byte_fields.specs.Spelling.{IsValue}
 
--- A key, a block number of 32 bits, the index of a transaction in 16 bits, and a value. What a row
--- depends on are rows of a lawful history, so their keys and blocks are within too.
+-- A key, a block number of 32 bits, the index of a transaction in 16 bits, and a value.
+-- Dependencies are on rows of a lawful history, so their keys and blocks are within their types
+-- too.
 pub record IsTypedRow (row : Row) : Type 0 where
   pub key_is_key : IsKey row.key
   pub block_fits : row.block < 2 ^ 32

@@ -2,7 +2,7 @@
 
 ghost use Rattle.typed_ledger.specs.Laws.{PartsAreTyped, BlocksAreTyped, HeadersAreHeaders, BodiesAreBodies, LeavesAreLeaves};
 
-/// The rows of a typed history up to a block are one.
+/// The rows of a typed history up to a block are a typed history.
 pub fn parts_are_typed()
     ensures { PartsAreTyped }
 {}
@@ -17,12 +17,12 @@ pub fn headers_are_headers()
     ensures { HeadersAreHeaders }
 {}
 
-/// So can the body.
+/// The body of each row of a typed history can be spelled too.
 pub fn bodies_are_bodies()
     ensures { BodiesAreBodies }
 {}
 
-/// So can the leaves over its keys.
+/// The leaves over the keys of a typed history can be spelled too.
 pub fn leaves_are_leaves()
     ensures { LeavesAreLeaves }
 {}

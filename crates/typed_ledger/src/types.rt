@@ -1,4 +1,5 @@
-//! What the fields of a row are by their types. These calls do nothing: contracts learn it by them.
+//! What the types of a row's fields say of their values. These calls do nothing: by them contracts
+//! know it.
 
 ghost use Rattle.std.specs.{Prelude.{◌^◌, ◌<◌, FitsSigned}, Int.{w64}};
 ghost use Rattle.byte_fields.specs.Spelling.{IsValue};
@@ -26,7 +27,7 @@ fn check_value(value: &Value)
     }
 }
 
-/// A row is within its types.
+/// By this call contracts know that a row is within its types; it does nothing.
 pub fn check_row(row: &Row)
     ensures { IsTypedRow row.now }
 {
