@@ -166,7 +166,8 @@ module _ (rows : List Row) (block : ℕ) (digest : List ℕ) (proof : Proof) (la
       go (inl none) = nothing passes none.0
       go (inr (row, has, found, last, low, claim)) = something passes row found (end.last_is ∙ ap (λ (h : Header). Some h) last) claim
 
-  -- If the leaf is the key's, the headers pass and end as those of the history do.
+  -- If the leaf is the key's, the headers pass, and end at the version that answers, or too late if
+  -- none does.
   by_key : is_of_key key proof.leaf.key ≡ true → (path_fault proof.query proof ≡ None) × Ends rows key at (claim_of_leaf proof.leaf) proof.headers
   by_key t =
       let own = own_key rows lawful are key proof.leaf one t in
@@ -181,7 +182,7 @@ module _ (rows : List Row) (block : ℕ) (digest : List ℕ) (proof : Proof) (la
   no_headers : newest rows key ≡ None → proof.headers ≡ []
   no_headers none = made.headers_are ∙ ap (filter_map (header_in rows key)) (path_none rows key at none)
 
-  -- The headers end as those of the history do; or there are none, and the key has no version.
+  -- The headers end like that; or there are none, and the key has no version.
   pub made_ends : ((proof.headers ≡ []) × (newest rows key ≡ None)) ⊎ Ends rows key at (claim_of_leaf proof.leaf) proof.headers
   made_ends = elim (cases_Bool (is_of_key key proof.leaf.key)) [
     | inl t ↦ inr (by_key t).1

@@ -99,7 +99,7 @@ one_walked : (rows : List Row) (key : List ℕ) (at step : ℕ) (row : Row) (hea
     → walk_fault at key step (Some (begun rows row)) (header_of rows row ∷ headers) ≡ None
 one_walked rows key at step row headers k rest = ap (λ (fault : Option Reject). option_or fault (walk_fault at key (suc step) (expected_after at (header_of rows row)) headers)) (own_fault rows key step row k) ∙ rest
 
--- The walk has no fault and ends as a walk over headers of the history does.
+-- The walk has no fault, and ends at the version that answers, or too late if none does.
 abbrev pub IsWalked : List Row → List ℕ → ℕ → ℕ → Claim → Row → List Header → Type 0
 IsWalked rows key at step claim row headers = (walk_fault at key step (Some (begun rows row)) headers ≡ None) × Ends rows key at claim headers
 

@@ -1,4 +1,5 @@
--- The latest version up to a block is the newest of all, or the one before some later block.
+-- The latest version up to a block is found as the newest of all, or as the last one before a later
+-- block.
 use Rattle.std.proofs.Common.{◌≡◌, ◌∙◌, ℕ, ◌<◌, ◌≤◌, Bool, true, ◌&&◌, ◌==◌, nat_lt, nat_le, List, [], ◌∷◌, Some, None, refl, sym, ap, arith, filter, reverse, inl, inr}
 use Rattle.std.specs.List.{find}
 use Rattle.std.specs.Cmp.Lexicographic.{pointwise}
