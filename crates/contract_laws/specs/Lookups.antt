@@ -129,9 +129,7 @@ applied_lookups s name args m = called_lookups s (builtin_of name) args m
 
 -- ---- expressions
 
--- The lookups of the right side of `&&` and `
---
--- `, unless the left one decides.
+-- The lookups of the right side of `&&` and `||`, unless the left one decides.
 abbrev pub undecided_lookups : Option ℤ → Lookups → Lookups
 undecided_lookups None rest = rest
 undecided_lookups (Some z) rest = no_lookups

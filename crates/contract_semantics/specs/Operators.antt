@@ -25,9 +25,7 @@ abbrev pub as_text : Option (List ℕ) → Result Value TxStatus
 as_text None = Err TextTooLong
 as_text (Some text) = Ok (values.Text text)
 
--- An operator on two numbers. For `&&` and `
---
--- ` the right side decides, since the left one did not.
+-- An operator on two numbers. For `&&` and `||` the right side decides, since the left one did not.
 abbrev pub on_ints : Sign → ℤ → ℤ → Result Value TxStatus
 on_ints signs.Or a b = as_truth (not (is_zero b))
 on_ints signs.And a b = as_truth (not (is_zero b))
@@ -66,9 +64,7 @@ prefix_result signs.Minus (values.Int a) = as_int (in_range (neg_ℤ a))
 prefix_result signs.Not (values.Int a) = as_truth (is_zero a)
 prefix_result _ value = Err WrongKind
 
--- What the left side of `&&` or `
---
--- ` decides alone.
+-- What the left side of `&&` or `||` decides alone.
 abbrev pub left_decision : Sign → Value → Option ℤ
 left_decision signs.And (values.Int a) = if is_zero a then Some (pos 0) else None
 left_decision signs.Or (values.Int a) = if is_zero a then None else Some (pos 1)

@@ -12,9 +12,7 @@ use contract_tree::Sign;
 use lc_base::{Memory, Text, TxStatus, Value};
 use std::alloc::Global;
 
-/// What the left side of `&&` or `
-///
-/// ` decides alone: 0 or 1, or `None` if the right side decides.
+/// What the left side of `&&` or `||` decides alone: 0 or 1, or `None` if the right side decides.
 pub fn left_decision(sign: Sign, value: &Value) -> Option<i64>
     ensures { result ≡ left_decision sign value.now }
 {
