@@ -1,5 +1,5 @@
--- How the results of the program are compared with the definitions: nothing is said of a result if
--- memory ran out or the host failed.
+-- How results of the program are compared with the definitions, which know neither a want of memory
+-- nor a host that fails.
 use Rattle.std.specs.Prelude.{◌≡◌, ℕ, ◌-◌, true, false, nat_le, List, Result, Ok, Err}
 use Rattle.std.specs.List.{All}
 use Rattle.lc_base.specs.declared.value.Value.{Value}

@@ -1,4 +1,4 @@
--- The block that a branch chooses does what the statement's definition says.
+-- A branch or a loop of the program does what the definition of its statement says.
 use Rattle.std.proofs.Common.{◌≡◌, Bool, List, map, Option, Some, None, Result, sym, subst}
 use Rattle.std.specs.Global.{Vec}
 use Rattle.contract_tree.specs.declared.tree.Expr.{Expr}

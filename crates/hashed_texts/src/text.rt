@@ -20,7 +20,7 @@ pub fn push_tagged(texts: &mut TextList, tag: u8, bytes: &[u8]) -> Result<(), Me
     texts.push(Bytes::from_vec(text))
 }
 
-/// Appends the text of a node over two hashes.
+/// Appends the text of a node over two hashes (RFC 6962, section 2.1).
 pub fn push_node(texts: &mut TextList, left: &Digest, right: &Digest) -> Result<(), Memory>
     ensures { OnOk result (texts.new ≡ texts.old ++ node_text left.now.0 right.now.0 ∷ []) }
 {

@@ -1,5 +1,5 @@
-//! A proof leads to a root: its leaf is hashed, the audit path is climbed, and the text of the root
-//! is hashed.
+//! A proof leads to a root: its leaf is hashed, the audit path is climbed (RFC 6962, section
+//! 2.1.1), and the text of the root is hashed.
 
 ghost use Rattle.std.specs.Prelude.{◌≡◌, length};
 ghost use Rattle.sha2.specs.Sha256.{sha256};
