@@ -1,4 +1,5 @@
--- What is exposed by the rows of a lineage, and what it says of answers.
+-- The texts over the rows of a lineage are those of its ledger, and if none of them clashes with
+-- the proof's, an accepted answer is right.
 use Rattle.std.proofs.Common.{◌≡◌, ◌∙◌, ℕ, ◌<◌, true, nat_eq, nat_le, List, [], length, slice_get}
 use Rattle.std.proofs.Common.{Option, Some, None, refl, sym, ap, arith, inl, inr, true≢false}
 use Rattle.std.specs.List.{All}
@@ -20,7 +21,7 @@ use Rattle.merkle_dag.specs.Ledger.{Ledger, IsHead}
 use Rattle.answer_exposing.specs.declared.exposing.Clash.{Clash}
 use Rattle.answer_exposing.specs.Exposing.{IsFound, Clears}
 
--- Where the rows up to a block are these, they have the texts of the ledger at it.
+-- If `part` is the rows up to a block, its texts are those of the ledger at that block.
 pub texts_of_part : (rows part : List Row) (digests : List Digest) (block : ℕ) (digest : Digest)
     → up_to rows block ≡ part → slice_get digests block ≡ Some digest
     → joined_texts (history_parts part block digest.0) ≡ ledger_texts rows digests block
@@ -32,7 +33,7 @@ texts_of_part rows part digests block digest is at =
     ap (λ (d : List ℕ). joined_texts (history_parts part block d)) (sym same)
     ∙ ap (λ (r : List Row). joined_texts (history_parts r block (digest_at digests block))) (sym is)
 
--- Up to the last block the rows are all.
+-- Up to the last block, the rows are all rows.
 pub all_up_to_head : (rows : List Row) (digests : List Digest) (head : Option ℕ) (block : ℕ)
     → true ≡ option_eq nat_eq head (Some block) → IsHead digests head
     → All (λ (row : Row). row.block < length digests) rows
@@ -46,7 +47,7 @@ all_up_to_head rows digests (Some head) block same last within =
     (λ (row : Row). nat_le row.block block ≡ true)
     (λ row low. le-leb row.block block (omega (arith, low, last, is))) rows are)
 
--- Where no clash is found, what is accepted is the answer of the rows.
+-- If no clash is found, the answer of an accepted proof is that of the rows.
 pub clears : (ledger : Ledger) (root_at : ℕ) (proof : Proof) (found : Option Clash)
     → IsTypedLedger ledger.rows ledger.digests → root_at < length ledger.digests
     → IsFound (proof_texts proof) (ledger_texts ledger.rows ledger.digests root_at) found

@@ -1,5 +1,5 @@
--- Texts of the items of a list, added one item after another: what is still to come is said of
--- those after an index.
+-- Texts of the items of a list, appended one item after another: the invariant is about the items
+-- after an index, whose texts are still to come.
 use Rattle.std.proofs.Common.{◌≡◌, ◌∙◌, ℕ, zero, suc, ◌+◌, ◌<◌, ◌≤◌, List, [], ◌∷◌, ◌++◌, length}
 use Rattle.std.proofs.Common.{map, drop, slice_get, Some, refl, sym, ap, arith, append-nil}
 use Rattle.std.proofs.Common.{append_assoc}
@@ -24,7 +24,7 @@ none_after [] (suc i) le = refl
 none_after (x ∷ xs) zero le = absurd (omega (arith, le))
 none_after (x ∷ xs) (suc i) le = none_after xs i (omega (arith, le))
 
--- ---- where an item has several texts
+-- ---- if an item has several texts
 
 pub texts_go_on : {A B : Type 0} (f : A → List B) (xs : List A) (i : ℕ) (x : A)
     (old new all : List B) → slice_get xs i ≡ Some x → new ≡ old ++ f x
@@ -40,7 +40,7 @@ texts_end {A = A} {B = B} f xs i old all le before =
     sym (append-nil old) ∙ ap (λ (ys : List A). old ++ flat_map f ys) (sym (none_after xs i le))
     ∙ before
 
--- ---- where it has one
+-- ---- if it has one
 
 pub text_goes_on : {A B : Type 0} (f : A → B) (xs : List A) (i : ℕ) (x : A) (old new all : List B)
     → slice_get xs i ≡ Some x → new ≡ old ++ f x ∷ []

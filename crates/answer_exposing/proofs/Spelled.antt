@@ -1,4 +1,4 @@
--- The texts of the header and the body of a row of a lineage.
+-- The headers and the bodies of a lineage's rows can be spelled, so both have a text.
 use Rattle.std.proofs.Common.{◌≡◌, ◌∙◌, ℕ, ◌<◌, ◌≤◌, List, [], ◌∷◌, ◌++◌, length, slice_get, Some}
 use Rattle.std.proofs.Common.{sym, ap, subst, append_assoc}
 use Rattle.std.proofs.lemmas.Option.{get_or_from_slice_get}
@@ -22,7 +22,7 @@ few_links rows index header history low are =
     (headers_spelled rows history index row.0 low) in
     subst (λ (h : Header). length h.links ≤ MAX_LINKS) (sym (are row.0 row.1)) lawful.few_links
 
--- Both texts are added.
+-- Both texts are appended.
 pub row_added : (old one done : List (List ℕ)) (header body : List ℕ) → one ≡ old ++ header ∷ []
     → done ≡ one ++ body ∷ [] → done ≡ old ++ (header ∷ body ∷ [])
 row_added old one done header body o d =

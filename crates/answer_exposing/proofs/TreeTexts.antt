@@ -1,4 +1,4 @@
--- The texts of a tree, where the height is counted down.
+-- The texts of a tree, for a height that is counted down from the top.
 use Rattle.std.proofs.Common.{◌≡◌, ℕ, zero, suc, ◌-◌, ◌^◌, ◌<◌, ◌≤◌, List, [], ◌∷◌, ◌++◌, length}
 use Rattle.std.proofs.Common.{take, drop, map, refl, sym, ap, ◌∙◌, arith, append_assoc}
 use Rattle.std.proofs.lemmas.List.{take-map, length-map, drop-map}
@@ -44,12 +44,12 @@ nodes_low f (suc j) half xs pos is small =
 
 pub ruleset nodes_upward = (nodes_none, nodes_two, nodes_low)
 
--- ---- both parts, and the node over them
+-- ---- both sides, and the node over them
 
 grouped : (old a b c : Texts) → ((old ++ a) ++ b) ++ c ≡ old ++ (a ++ b ++ c)
 grouped old a b c = simp append_assoc
 
--- The texts of two parts are added, and that of the node over both.
+-- The texts of both sides are appended, then that of the node over them.
 module _ (j half : ℕ) (xs front back : Texts) (left right : List ℕ) (pos : 0 < j)
     (is : half ≡ 2 ^ (j - 1)) (big : half < length xs) (front_is : front ≡ take half xs)
     (back_is : back ≡ drop half xs)

@@ -1,4 +1,5 @@
--- What is answered where the first clash of a proof's texts with those of a ledger is asked.
+-- What `expose` returns: the first clash between the texts of a proof and those of a ledger at a
+-- block.
 use Rattle.std.specs.Prelude.{◌≡◌, ◌<◌, ◌≤◌, ℕ, List, length, Option, Some, None, Result, Ok, Err}
 use Rattle.lc_base.specs.declared.answer.Query.{Query}
 use Rattle.lc_base.specs.declared.answer.Answer.{Answer}
@@ -16,19 +17,19 @@ use Rattle.answer_exposing.specs.declared.exposing.Clash.{Clash}
 use Rattle.answer_exposing.specs.declared.exposing.ExposeError.{ExposeError}
 use Rattle.answer_exposing.specs.declared.exposing.ExposeError.TheVariants as errors
 
--- These are the texts at two places: that of the first list, and that of the second.
+-- These are the texts at the two places: the first in the proof's texts, the second in the
+-- ledger's.
 abbrev pub AreTextsAt : List (List ℕ) → List (List ℕ) → ℕ × ℕ → Clash → Type 0
 AreTextsAt given own pair clash = (clash.proof_text ≡ text_at given pair.0)
     × (clash.chain_text ≡ text_at own pair.1)
 
--- The texts of the first clash of two lists, or that there is none.
+-- The texts of the first clash of two lists, or `None` if they don't clash.
 abbrev pub IsFound : List (List ℕ) → List (List ℕ) → Option Clash → Type 0
 IsFound given own None = HasClash given own → ⊥
 IsFound given own (Some clash) = (pair : ℕ × ℕ) × IsFirstAt given own pair
     × AreTextsAt given own pair clash
 
--- A block that is past the last one is refused, with the number of the last block, and no other one
--- is.
+-- A block is refused, with the number of the last block, exactly if it is after the last one.
 abbrev pub TellsBeyond : Ledger → ℕ → Result (Option Clash) ExposeError → Type 0
 TellsBeyond ledger root_at (Ok found) = root_at < length ledger.digests
 TellsBeyond ledger root_at (Err (errors.Beyond head)) = (length ledger.digests ≤ root_at)
@@ -36,9 +37,9 @@ TellsBeyond ledger root_at (Err (errors.Beyond head)) = (length ledger.digests �
 TellsBeyond ledger root_at (Err errors.Fault) = root_at < length ledger.digests
 TellsBeyond ledger root_at (Err errors.Memory) = root_at < length ledger.digests
 
--- A block of the ledger has the first clash of the proof's texts with those of the ledger at this
--- block, unless the scratch device fails or there is no memory for it; one that is past the last is
--- refused, with the number of the last block.
+-- For a block of the ledger, the first clash of the proof's texts with the ledger's texts at that
+-- block, unless the scratch device fails or memory runs out; a block after the last one is refused
+-- with the number of the last block.
 abbrev pub IsExposed : Ledger → ℕ → Proof → Result (Option Clash) ExposeError → Type 0
 IsExposed ledger root_at proof (Ok found) = (root_at < length ledger.digests)
     × IsFound (proof_texts proof) (ledger_texts ledger.rows ledger.digests root_at) found
@@ -47,8 +48,8 @@ IsExposed ledger root_at proof (Err (errors.Beyond head)) = (length ledger.diges
 IsExposed ledger root_at proof (Err errors.Fault) = root_at < length ledger.digests
 IsExposed ledger root_at proof (Err errors.Memory) = root_at < length ledger.digests
 
--- Where nothing was found, each answer with which the proof is accepted by one who has the root at
--- the block is that of the rows up to it.
+-- If no clash is found, each answer with which the proof is accepted under the root at the block is
+-- that of scanning the rows up to it.
 abbrev pub Clears : Ledger → ℕ → Proof → Option Clash → Type 0
 Clears ledger root_at proof None =
     (query : Query) (answer : Answer) → IsProof proof

@@ -1,4 +1,5 @@
-//! The first clash of a proof's texts with those of a ledger.
+//! If an accepted proof answers wrongly, a text of the proof and one of the ledger clash; `expose`
+//! finds the first such pair.
 
 ghost use Rattle.std.specs.Prelude.{◌≡◌, ◌<◌, true, Some, length, slice_get, IfOk, IsErrOf};
 ghost use Rattle.scratch_model.specs.Scratch.{is_known};
@@ -23,18 +24,18 @@ use text_clashes::first_clash;
 /// Two texts that differ and have one digest.
 #[derive(Debug, Drop)]
 pub struct Clash {
-    /// A text that a proof tells of.
+    /// A text that the proof shows.
     pub proof_text: Bytes,
     /// A text of the ledger.
     pub chain_text: Bytes,
 }
 
-/// Why nothing is exposed, nor that there is nothing to expose.
+/// Why it can't be said whether there is a clash.
 #[derive(Clone, Copy, Debug, PartialEq, Eq)]
 pub enum ExposeError {
-    /// The block is past the last one, or there is no block.
+    /// The block is after the last one, or there are no blocks.
     Beyond {
-        /// The number of the last block; `None` where there is none.
+        /// The number of the last block; `None` if there are no blocks.
         head: Option<u32>,
     },
     /// The scratch device failed.
@@ -43,7 +44,7 @@ pub enum ExposeError {
     Memory,
 }
 
-/// The text at a place.
+/// Copies the text at a place.
 fn text_of(texts: &TextList, place: usize) -> Result<Bytes, Memory>
     requires { place < length texts.now }
     ensures { IfOk result (λ text. text ≡ text_at texts.now place) }
@@ -51,7 +52,7 @@ fn text_of(texts: &TextList, place: usize) -> Result<Bytes, Memory>
     texts.as_slice()[place].copy()
 }
 
-/// The texts at the places of a clash.
+/// Copies the texts at the places of a clash.
 fn clash_at(given: &TextList, own: &TextList, pair: (usize, usize)) -> Result<Clash, Memory>
     requires { ClashAt given.now own.now pair.0 pair.1 }
     ensures { IfOk result (AreTextsAt given.now own.now pair) }
@@ -64,7 +65,7 @@ fn clash_at(given: &TextList, own: &TextList, pair: (usize, usize)) -> Result<Cl
     })
 }
 
-/// The first clash of two lists of texts.
+/// The first clash of two lists of texts; `None` if they don't clash.
 fn clash_of(alloc: Global, given: &TextList, own: &TextList) -> Result<Option<Clash>, Memory>
     ensures { IfOk result (IsFound given.now own.now) }
 {
@@ -86,8 +87,8 @@ fn clash_with(alloc: Global, view: &ProofView, own: &TextList) -> Result<Option<
     clash_of(alloc, &given, own)
 }
 
-/// The first clash with all rows of a lineage, where they are those up to a block, which has this
-/// digest.
+/// The first clash with all rows of a lineage, which must be those up to `root_at`, a block with
+/// this digest.
 fn exposed_by_rows<S: Scratch>(
     alloc: Global,
     lineage: &mut Lineage,
@@ -98,7 +99,7 @@ fn exposed_by_rows<S: Scratch>(
 ) -> Result<Option<Clash>, HostError>
     requires long { length view.now.audit ≡ audit_length view.now.leaf_index view.now.leaf_count }
     requires agrees { AgreesWith lineage.old (S.state scratch.old) }
-    // Where it is known which bytes the scratch device holds:
+    // If it is known which bytes the scratch device holds:
     ensures found { is_known (S.state scratch.old) ≡ true
         → IfOk result (IsFound (proof_texts view.now)
         (joined_texts (history_parts lineage.old.rows root_at block_digest.now.0))) }
@@ -115,8 +116,8 @@ fn exposed_by_rows<S: Scratch>(
     }
 }
 
-/// The first clash with the ledger at a block, which has this digest. Where that is the last block,
-/// the lineage is used as it is; else one of the blocks up to it is made.
+/// The first clash with the ledger at a block with this digest. If that is the last block, the
+/// lineage is used as it is; else the lineage of the blocks up to it is made.
 fn exposed_at<S: Scratch>(
     alloc: Global,
     lineage: &mut Lineage,
@@ -128,7 +129,7 @@ fn exposed_at<S: Scratch>(
     requires within { slice_get lineage.old.digests root_at ≡ Some block_digest.now }
     requires long { length view.now.audit ≡ audit_length view.now.leaf_index view.now.leaf_count }
     requires agrees { AgreesWith lineage.old (S.state scratch.old) }
-    // Where it is known which bytes the scratch device holds:
+    // If it is known which bytes the scratch device holds:
     ensures found { is_known (S.state scratch.old) ≡ true
         → IfOk result (IsFound (proof_texts view.now)
         (ledger_texts lineage.old.rows lineage.old.digests root_at)) }
@@ -136,7 +137,7 @@ fn exposed_at<S: Scratch>(
     ensures leaves { LeavesLineage S.state S.scratch_faults lineage.old scratch.old lineage.new
         scratch.new (IsErrOf result HostError.Fault) }
 {
-    // The rows are of blocks up to the last one.
+    // The call makes it known that no row is of a block after the last one.
     let _ledger = lineage.row_count();
     if lineage.head() == Some(root_at) {
         return exposed_by_rows(alloc, lineage, scratch, root_at, block_digest, view);
@@ -151,10 +152,10 @@ fn exposed_at<S: Scratch>(
     }
 }
 
-/// The first clash of the texts that a proof tells of with those of the ledger at a block: two
-/// texts that differ and have one digest; `None` exactly where there is no clash. The proof has as
-/// many hashes in its audit path as its leaf wants, as each one has that stands in bytes. The bytes
-/// of bodies are read from the scratch device. Only the bodies at hand may be others after it.
+/// The first clash of the texts of a proof with those of the ledger at a block: two texts that
+/// differ and have one digest; `None` exactly if they don't clash. The audit path must have as many
+/// hashes as the leaf's index implies, which holds of each proof that was read from bytes. Bodies
+/// are read from the scratch device; of the lineage, only which bodies are at hand may change.
 pub fn expose<S: Scratch>(
     alloc: Global,
     lineage: &mut Lineage,
@@ -164,11 +165,11 @@ pub fn expose<S: Scratch>(
 ) -> Result<Option<Clash>, ExposeError>
     requires long { length view.now.audit ≡ audit_length view.now.leaf_index view.now.leaf_count }
     requires agrees { AgreesWith lineage.old (S.state scratch.old) }
-    // Where it is known which bytes the scratch device holds:
+    // If it is known which bytes the scratch device holds:
     ensures exposed { is_known (S.state scratch.old) ≡ true
         → IsExposed (ledger_in lineage.old) root_at view.now result }
-    // Where there is none, each answer with which the proof is accepted by one who has the root at
-    // the block is that of the rows up to it.
+    // If there is no clash, each answer with which the proof is accepted under the root at the
+    // block is that of scanning the rows up to it.
     ensures clears { is_known (S.state scratch.old) ≡ true
         → IfOk result (Clears (ledger_in lineage.old) root_at view.now) }
     // Whether that is known or not:
@@ -176,7 +177,7 @@ pub fn expose<S: Scratch>(
     ensures leaves { LeavesLineage S.state S.scratch_faults lineage.old scratch.old lineage.new
         scratch.new (IsErrOf result ExposeError.Fault) }
 {
-    // The rows are within their types.
+    // The call makes it known that the rows are typed.
     let _typed = lineage.row_count();
     let Some(block_digest) = lineage.digest(root_at) else {
         return Err(ExposeError::Beyond {

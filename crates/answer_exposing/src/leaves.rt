@@ -1,4 +1,5 @@
-//! The leaves of a tree, and their texts.
+//! The leaves of a tree are written once; their bytes serve for the leaves' texts and for the nodes
+//! above.
 
 ghost use Rattle.std.specs.Prelude.{◌≡◌, ◌++◌, map, OnOk, IfOk};
 ghost use Rattle.merkle_tree.specs.Tree.{leaf_text};
@@ -22,7 +23,7 @@ pub(crate) fn bytes_of_leaves(alloc: Global, tree: &Tree) -> Result<TextList, Me
     Ok(list)
 }
 
-/// Adds the texts of leaves with these bytes.
+/// Appends the texts of the leaves with these bytes.
 pub(crate) fn push_leaves(texts: &mut TextList, leaves: &[Bytes]) -> Result<(), Memory>
     ensures { OnOk result (texts.new ≡ texts.old ++ map leaf_text leaves.now) }
 {

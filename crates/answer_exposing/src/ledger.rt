@@ -1,4 +1,4 @@
-//! The texts of a ledger.
+//! The texts of a ledger are everything that its root at a block rests on.
 
 ghost use Rattle.std.specs.{
   Prelude.{◌≡◌, true, [], ◌∷◌, ◌++◌, IfOk, OnOk, IsErrOf},
@@ -26,7 +26,7 @@ use scratch_model::Scratch;
 use state_tree::Tree;
 use std::alloc::Global;
 
-/// Adds the texts of the leaves of a tree, of its nodes, and of the root over it at a block with
+/// Appends the texts of the leaves of a tree, of its nodes, and of the root over it at a block with
 /// this digest.
 fn push_tree(
     texts: &mut TextList,
@@ -46,7 +46,7 @@ fn push_tree(
     push_root(texts, block, block_digest, count, &top)
 }
 
-/// Adds the texts of the empty forward list and of the uses of each row.
+/// Appends the texts of the empty forward list and of the uses of each row.
 fn push_lists(texts: &mut TextList, lineage: &Lineage) -> Result<(), Memory>
     ensures { OnOk result (texts.new ≡ texts.old ++
         (start_text ∷ flat_map (texts_of_row_uses lineage.now.rows) lineage.now.rows)) }
@@ -56,9 +56,9 @@ fn push_lists(texts: &mut TextList, lineage: &Lineage) -> Result<(), Memory>
 }
 
 /// The texts of the ledger of a lineage at its last block, which has this number and this digest:
-/// those of the leaves over all keys, of the nodes over these, of the root, of the header and the
-/// body of each row, of the empty forward list, and of the uses of each row. The bytes of bodies
-/// are read from the scratch device. Only the bodies at hand may be others after it.
+/// those of the leaves, of the nodes over them, of the root, of the header and the body of each
+/// row, of the empty forward list, and of the uses of each row. Bodies are read from the scratch
+/// device; of the lineage, only which bodies are at hand may change.
 pub fn ledger_texts<S: Scratch>(
     alloc: Global,
     lineage: &mut Lineage,
@@ -67,7 +67,7 @@ pub fn ledger_texts<S: Scratch>(
     block_digest: &Digest,
 ) -> Result<TextList, HostError>
     requires agrees { AgreesWith lineage.old (S.state scratch.old) }
-    // Where it is known which bytes the scratch device holds:
+    // If it is known which bytes the scratch device holds:
     ensures texts { is_known (S.state scratch.old) ≡ true
         → IfOk result (λ texts. texts ≡ joined_texts
         (history_parts lineage.old.rows block block_digest.now.0)) }

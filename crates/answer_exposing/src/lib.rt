@@ -1,4 +1,4 @@
-//! The first clash of a proof's texts with those of a ledger.
+//! Finds what a wrong answer with an accepted proof rests on: two different texts with one digest.
 #![tactic(auto)]
 
 mod exposing;

@@ -1,4 +1,5 @@
-//! The texts of the nodes of a tree.
+//! The nodes of a tree are hashed from below, each once, and each text is appended after those of
+//! its two sides.
 
 ghost use Rattle.std.specs.Prelude.{◌≡◌, ◌<◌, ◌≤◌, [], ◌∷◌, ◌++◌, length, map, OnOk, IfOk};
 ghost use Rattle.merkle_tree.specs.{
@@ -10,7 +11,7 @@ use hashed_texts::{half_of, push_node};
 use lc_base::{Bytes, Digest, Memory, TextList};
 use merkle_tree::{MAX_HEIGHT, leaf_hash, node_hash};
 
-/// Adds the text of a node, and gives its hash.
+/// Appends the text of a node and returns its hash.
 fn push_parts(texts: &mut TextList, left: &Digest, right: &Digest) -> Result<Digest, Memory>
     ensures hash { IfOk result (λ hash. hash.0 ≡ node_hash left.now.0 right.now.0) }
     ensures texts { OnOk result (texts.new ≡ texts.old ++ node_text left.now.0 right.now.0 ∷ []) }
@@ -19,9 +20,9 @@ fn push_parts(texts: &mut TextList, left: &Digest, right: &Digest) -> Result<Dig
     Ok(node_hash(left, right))
 }
 
-/// Adds the texts of the nodes over leaves with these bytes, in a tree of at most this height, and
-/// gives the hash at its top: each part's left side first, then its right side, then the node over
-/// both. There is at least one leaf.
+/// Appends the texts of the nodes over leaves with these bytes, in a tree of at most this height,
+/// and returns the hash at its top. The texts of the left side come first, then those of the right
+/// side, then that of the node over both. There must be at least one leaf.
 #[tactic(auto, using(merkle_tree::proofs::Steps::plain, crate::proofs::TreeTexts::nodes_upward))]
 pub(crate) fn push_nodes(
     texts: &mut TextList,

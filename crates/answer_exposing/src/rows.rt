@@ -1,4 +1,4 @@
-//! The texts of the rows of a lineage: their headers, their bodies and their uses.
+//! The texts of the rows of a lineage: their headers, bodies, and uses.
 
 ghost use Rattle.std.specs.{
   Prelude.{◌≡◌, ◌<◌, ◌≤◌, true, [], ◌∷◌, ◌++◌, Some, length, slice_get, OnOk, IsErrOf},
@@ -24,7 +24,7 @@ use merkle_dag::Lineage;
 use prov_entry::{BODY, HEADER, Header, no_uses, with_use, write_header};
 use scratch_model::Scratch;
 
-/// Adds the text of a header.
+/// Appends the text of a header.
 fn push_header(texts: &mut TextList, header: &Header) -> Result<(), Memory>
     requires { length header.now.links ≤ MAX_LINKS }
     ensures { OnOk result (texts.new ≡ texts.old ++ header_text header.now ∷ []) }
@@ -33,20 +33,20 @@ fn push_header(texts: &mut TextList, header: &Header) -> Result<(), Memory>
     push_tagged(texts, HEADER, bytes.as_bytes())
 }
 
-/// Adds the text of the header of the row at an index.
+/// Appends the text of the header of the row at an index.
 fn push_row_header(texts: &mut TextList, lineage: &Lineage, index: u32) -> Result<(), Memory>
     requires { index < length lineage.now.rows }
     ensures { (row : Row) → slice_get lineage.now.rows index ≡ Some row
         → OnOk result (texts.new ≡ texts.old ++ header_text (header_of lineage.now.rows row) ∷ []) }
 {
-    // The rows are within their types, so their headers can be spelled.
+    // The call makes it known that the rows are typed, so that their headers can be spelled.
     let _typed = lineage.row_count();
     let header = lineage.header(index)?;
     push_header(texts, &header)
 }
 
-/// Adds the texts of the header and of the body of the row at an index: the bytes of the body are
-/// those that the scratch device gives.
+/// Appends the texts of the header and the body of the row at an index; the body's bytes are those
+/// that the scratch device has.
 fn push_row<S: Scratch>(
     texts: &mut TextList,
     lineage: &mut Lineage,
@@ -55,7 +55,7 @@ fn push_row<S: Scratch>(
 ) -> Result<(), HostError>
     requires within { index < length lineage.old.rows }
     requires agrees { AgreesWith lineage.old (S.state scratch.old) }
-    // Where it is known which bytes the scratch device holds:
+    // If it is known which bytes the scratch device holds:
     ensures texts { is_known (S.state scratch.old) ≡ true → (row : Row)
         → slice_get lineage.old.rows index ≡ Some row
         → OnOk result (texts.new ≡ texts.old ++ texts_of_row lineage.old.rows row) }
@@ -69,14 +69,14 @@ fn push_row<S: Scratch>(
     Ok(())
 }
 
-/// Adds the texts of the header and of the body of each row, in order.
+/// Appends the texts of the header and the body of each row, in order.
 pub(crate) fn push_rows<S: Scratch>(
     texts: &mut TextList,
     lineage: &mut Lineage,
     scratch: &mut S,
 ) -> Result<(), HostError>
     requires agrees { AgreesWith lineage.old (S.state scratch.old) }
-    // Where it is known which bytes the scratch device holds:
+    // If it is known which bytes the scratch device holds:
     ensures texts { is_known (S.state scratch.old) ≡ true
         → OnOk result (texts.new ≡ texts.old ++ flat_map (texts_of_row lineage.old.rows)
         lineage.old.rows) }
@@ -93,7 +93,7 @@ pub(crate) fn push_rows<S: Scratch>(
     Ok(())
 }
 
-/// Adds the texts of uses, each after those before it.
+/// Appends the texts of uses, each with the digest of those before it.
 fn push_uses(texts: &mut TextList, uses: &[Dep]) -> Result<(), Memory>
     ensures { OnOk result (texts.new ≡ texts.old ++ texts_of_uses uses.now) }
 {
@@ -105,7 +105,7 @@ fn push_uses(texts: &mut TextList, uses: &[Dep]) -> Result<(), Memory>
     Ok(())
 }
 
-/// Adds the texts of the uses of the row at an index.
+/// Appends the texts of the uses of the row at an index.
 fn push_row_uses(texts: &mut TextList, lineage: &Lineage, index: u32) -> Result<(), Memory>
     requires { index < length lineage.now.rows }
     ensures { (row : Row) → slice_get lineage.now.rows index ≡ Some row
@@ -115,7 +115,7 @@ fn push_row_uses(texts: &mut TextList, lineage: &Lineage, index: u32) -> Result<
     push_uses(texts, uses.as_slice())
 }
 
-/// Adds the texts of the uses of each row, in order.
+/// Appends the texts of the uses of each row, in order.
 pub(crate) fn push_all_uses(texts: &mut TextList, lineage: &Lineage) -> Result<(), Memory>
     ensures { OnOk result (texts.new ≡ texts.old ++ flat_map (texts_of_row_uses lineage.now.rows)
         lineage.now.rows) }

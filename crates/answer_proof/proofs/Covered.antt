@@ -1,4 +1,4 @@
--- The leaf with the greatest key that is not above one covers it.
+-- A leaf covers a key if its own key is the greatest one that isn't above it.
 use Rattle.std.proofs.Common.{◌≡◌, ◌∙◌, ℕ, ◌<◌, true, List, length, slice_get, Some, refl, sym, ap, subst, inl, inr}
 use Rattle.std.specs.List.{All, Contains}
 use Rattle.std.proofs.lemmas.Option.{slice_get_within, get_or_from_slice_get}
@@ -14,7 +14,7 @@ use Rattle.state_tree.specs.Covering.{Covers}
 use Rattle.proof_checks.specs.Checks.{covers}
 use Rattle.proof_checks.proofs.MadeThere.{leaf_covers, leaf_of_key}
 
--- It names the next key.
+-- A leaf names the key that follows its own.
 next_is_own : (rows : List Row) (lawful : IsLawful rows) (are : All IsTypedRow rows) (leaf : Leaf) → Contains (leaves rows) leaf → leaf.next ≡ next_key (keys_of rows) (key_or_empty leaf.key)
 next_is_own rows lawful are leaf has =
     let P : Leaf → Type 0 = λ (l : Leaf). l.next ≡ next_key (keys_of rows) (key_or_empty l.key) in

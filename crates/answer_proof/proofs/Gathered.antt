@@ -1,4 +1,4 @@
--- What is gathered over the rows is the proof that is made of them.
+-- The parts that are gathered over the rows are the proof that is made of them.
 use Rattle.std.proofs.Common.{◌≡◌, ◌∙◌, ℕ, ◌+◌, ◌<◌, ◌≤◌, ◌^◌, true, nat_le, List, [], length, slice_get, Option, Some, None, is_some, Result, refl, sym, ap, subst, arith}
 use Rattle.std.specs.Prelude.{IfOk}
 use Rattle.std.specs.List.{All, concat}
@@ -37,14 +37,14 @@ use Rattle.answer_proof.proofs.Covered.{covers_key}
 
 -- ---- the rows
 
--- Where all rows are of blocks up to one, the rows up to it are all.
+-- If all rows are of blocks up to `block`, the rows up to it are all rows.
 pub all_up_to : (rows : List Row) (block : ℕ) → All (λ (row : Row). row.block < block + 1) rows → up_to rows block ≡ rows
 all_up_to rows block within =
     let are = recursion_from_All (λ (row : Row). row.block < block + 1) rows within in
     keep_all (λ (row : Row). nat_le row.block block) rows
     (all_weaker (λ (row : Row). row.block < block + 1) (λ (row : Row). nat_le row.block block ≡ true) (λ row low. le-leb row.block block (omega (arith, low))) rows are)
 
--- The proof of a ledger at a block, by the rows up to it.
+-- The proof made of a ledger at a block is the one made of the rows up to it.
 pub made_of_rows : (rows part : List Row) (digests : List Digest) (block : ℕ) (digest : Digest) (query : Query) → up_to rows block ≡ part → slice_get digests block ≡ Some digest
     → made_of part block digest.0 query ≡ made_proof rows digests block query
 unfolding made_proof
@@ -55,7 +55,7 @@ made_of_rows rows part digests block digest query is at =
 
 -- ---- the uses
 
--- The uses of the version that answers, by its own key.
+-- The uses of the version that answers are those of its own key.
 pub own_uses : (rows : List Row) (kind : Kind) (key : List ℕ) (at : ℕ)
     → uses_if kind (option_map (λ (row : Row). uses rows row.key row.block) (latest rows key at)) ≡ uses_if kind (option_map (λ (row : Row). uses rows key row.block) (latest rows key at))
 own_uses rows kind key at = ap (uses_if kind) (go (latest rows key at) refl)
@@ -64,7 +64,7 @@ own_uses rows kind key at = ap (uses_if kind) (go (latest rows key at) refl)
     go None e = refl
     go (Some row) e = ap (λ (k : List ℕ). Some (uses rows k row.block)) (latest_key rows key at row e)
 
--- Up to the last block, which has this number, the rows are all.
+-- Up to the last block, the rows are all rows.
 pub all_up_to_last : (rows : List Row) (block count : ℕ) → block + 1 ≡ count → All (λ (row : Row). row.block < count) rows → up_to rows block ≡ rows
 all_up_to_last rows block count last within = all_up_to rows block (subst (λ (n : ℕ). All (λ (row : Row). row.block < n) rows) (sym last) within)
 
@@ -75,7 +75,7 @@ bytes_of result proof other same are = subst (λ (p : Proof). IfOk result (λ by
 
 -- ---- all parts together
 
--- A proof is lawful with each body in place of its own.
+-- A proof stays lawful if another lawful body replaces its own.
 other_body : (proof : Proof) (body : Option Body) → IsProof proof → is_some body ≡ is_some proof.body → IsIfAny IsBody body → IsProof (record proof { body = body })
 other_body proof body is there lawful = record {
   key_is_key = is.key_is_key;

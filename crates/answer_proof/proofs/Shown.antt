@@ -1,4 +1,4 @@
--- The bytes of a made proof are accepted.
+-- The bytes of a made proof spell it, and it is accepted.
 use Rattle.std.proofs.Common.{◌≡◌, ℕ, ◌<◌, ◌≤◌, List, length}
 use Rattle.std.specs.List.{concat}
 use Rattle.lc_names.specs.KeyBytes.{IsKey}

@@ -1,4 +1,4 @@
--- The headers on a path, row by row.
+-- The entries on the path of a lookup have the headers that the proof needs, in order.
 use Rattle.std.proofs.Common.{◌≡◌, ◌∙◌, ℕ, ◌+◌, List, [], ◌∷◌, ◌++◌, length, get_or, take, Option, Some, None, refl, sym, ap}
 use Rattle.std.specs.Prelude.{slice_get}
 use Rattle.std.specs.List.{cons_option, filter_map, Contains}
@@ -21,7 +21,7 @@ some_version key block = Some (version_in key block)
 pub as_long : (rows : List Row) (key blocks : List ℕ) (ids : List EntryId) → AreEntriesIn rows key blocks ids → length ids ≡ length blocks
 as_long rows key blocks ids are = sym (length-map ids (version_of_entry rows)) ∙ ap length are ∙ length-map blocks (some_version key)
 
--- The row of an entry is the version of the key in its block.
+-- The row of an entry is the version of the key in the entry's block.
 pub row_in : (rows : List Row) (key blocks : List ℕ) (ids : List EntryId) (i : ℕ) (id : EntryId) → AreEntriesIn rows key blocks ids → slice_get ids i ≡ Some id
     → (row : Row) × (block : ℕ) × (slice_get rows id.0 ≡ Some row) × (row.key ≡ key) × (row.block ≡ block) × (slice_get blocks i ≡ Some block)
 row_in rows key blocks ids i id are at =

@@ -1,4 +1,5 @@
--- What is answered where a proof is asked.
+-- A query has a proof under the root at a block exactly if the ledger has the block and the query's
+-- block isn't after it.
 use Rattle.std.specs.Prelude.{◌≡◌, ◌<◌, ◌≤◌, ◌⊎◌, ℕ, List, length, Result, Ok, Err}
 use Rattle.std.specs.List.{concat}
 use Rattle.lc_base.specs.declared.answer.Query.{Query}
@@ -13,23 +14,23 @@ use Rattle.merkle_dag.specs.Ledger.{Ledger, IsHead}
 use Rattle.answer_proof.specs.declared.proving.ProveError.{ProveError}
 use Rattle.answer_proof.specs.declared.proving.ProveError.TheVariants as errors
 
--- The root's block is one of the ledger, and the query is of no later one.
+-- The ledger has the root's block, and the query's block isn't after it.
 abbrev pub IsWithin : Ledger → Query → ℕ → Type 0
 IsWithin ledger query root_at = (root_at < length ledger.digests) × (query.at ≤ root_at)
 
--- The root's block is past the last one, or the query is of a later block than the root.
+-- The root's block is after the last one, or the query's block is after the root's.
 abbrev pub IsBeyond : Ledger → Query → ℕ → Type 0
 IsBeyond ledger query root_at = (length ledger.digests ≤ root_at) ⊎ (root_at < query.at)
 
--- A query that goes beyond is refused, with the number of the last block, and no other one is.
+-- A query is refused, with the number of the last block, exactly if it goes beyond.
 abbrev pub TellsBeyond : Ledger → Query → ℕ → Result (List ℕ) ProveError → Type 0
 TellsBeyond ledger query root_at (Ok bytes) = IsWithin ledger query root_at
 TellsBeyond ledger query root_at (Err (errors.Beyond head)) = IsBeyond ledger query root_at × IsHead ledger.digests head
 TellsBeyond ledger query root_at (Err errors.Fault) = IsWithin ledger query root_at
 TellsBeyond ledger query root_at (Err errors.Memory) = IsWithin ledger query root_at
 
--- A query that is within has the bytes of the proof that is made of the ledger at the root's block,
--- unless the scratch device fails or there is no memory for it; one that goes beyond is refused, with
+-- A query within the ledger has the bytes of the proof that is made of the ledger at the root's
+-- block, unless the scratch device fails or memory runs out; one that goes beyond is refused with
 -- the number of the last block.
 abbrev pub IsProved : Ledger → Query → ℕ → Result (List ℕ) ProveError → Type 0
 IsProved ledger query root_at (Ok bytes) = IsWithin ledger query root_at × (bytes ≡ concat (proof_fields (made_proof ledger.rows ledger.digests root_at query)))
@@ -37,8 +38,8 @@ IsProved ledger query root_at (Err (errors.Beyond head)) = IsBeyond ledger query
 IsProved ledger query root_at (Err errors.Fault) = IsWithin ledger query root_at
 IsProved ledger query root_at (Err errors.Memory) = IsWithin ledger query root_at
 
--- The bytes are those of a proof that is accepted by one who has the root at the block, with the answer of
--- the rows up to it.
+-- The bytes spell a proof that is accepted by one who has the root at the block, with the answer of
+-- scanning the rows up to it.
 abbrev pub Shows : Ledger → Query → ℕ → List ℕ → Type 0
 Shows ledger query root_at bytes =
     (proof : Proof) × Spells bytes proof × (verdict (root_of ledger.rows ledger.digests root_at) query proof ≡ Ok (scan (up_to ledger.rows root_at) query))

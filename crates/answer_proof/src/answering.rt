@@ -1,4 +1,4 @@
-//! The body and the uses of the version that answers.
+//! The body of the version that answers is read from the scratch device; its uses are in memory.
 
 ghost use Rattle.std.specs.{
   Prelude.{◌≡◌, true, Option, IfOk, IsErrOf},
@@ -21,7 +21,7 @@ use row_bodies::body_of_bytes;
 use scratch_model::Scratch;
 use std::alloc::Global;
 
-/// The body of the row at an index, where there is one.
+/// The body of the row at an index; `None` if there is no index.
 pub(crate) fn body_if_any<S: Scratch>(
     alloc: Global,
     lineage: &mut Lineage,
@@ -30,7 +30,7 @@ pub(crate) fn body_if_any<S: Scratch>(
 ) -> Result<Option<Body>, HostError>
     requires row { (version : Option Row) × IsRowAt lineage.old.rows index version }
     requires agrees { AgreesWith lineage.old (S.state scratch.old) }
-    // Where it is known which bytes the scratch device holds:
+    // If it is known which bytes the scratch device holds:
     ensures body { is_known (S.state scratch.old) ≡ true → (version : Option Row) → IsRowAt lineage.old.rows index version
         → IfOk result (λ body. body ≡ option_map (body_of lineage.old.rows) version) }
     // Whether that is known or not:
@@ -39,7 +39,7 @@ pub(crate) fn body_if_any<S: Scratch>(
     ensures leaves { LeavesLineage S.state S.scratch_faults lineage.old scratch.old lineage.new
         scratch.new (IsErrOf result HostError.Fault) }
 {
-    // The rows are within their types, so their bodies can be spelled.
+    // All rows are typed, so their bodies can be spelled.
     let _typed = lineage.row_count();
     let Some(index) = index else {
         return Ok(None);
@@ -49,7 +49,7 @@ pub(crate) fn body_if_any<S: Scratch>(
     Ok(Some(body))
 }
 
-/// The uses of the row at an index, where there is one.
+/// The uses of the row at an index; `None` if there is no index.
 fn uses_if_any(lineage: &Lineage, index: Option<u32>) -> Result<Option<DepList>, Memory>
     requires { (version : Option Row) × IsRowAt lineage.now.rows index version }
     ensures { (version : Option Row) → IsRowAt lineage.now.rows index version → IfOk result (λ list. list ≡ option_map (λ (row : Row). uses lineage.now.rows row.key row.block) version) }
@@ -63,7 +63,7 @@ fn uses_if_any(lineage: &Lineage, index: Option<u32>) -> Result<Option<DepList>,
     }
 }
 
-/// The same, where uses are asked.
+/// The uses of the row at an index if the query asks for them, else `None`.
 pub(crate) fn uses_if_asked(
     lineage: &Lineage,
     kind: Kind,

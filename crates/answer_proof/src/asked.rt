@@ -1,8 +1,8 @@
-//! What a proof is asked of.
+//! What a proof is made for.
 
 use lc_base::{Digest, Query};
 
-/// The answer to a query, for one who has the root at a block, which has this digest.
+/// A query, and the block of the root under which it is to be proved, with that block's digest.
 #[derive(Clone, Copy)]
 pub(crate) struct Asked {
     pub query: Query,

@@ -1,4 +1,4 @@
-//! The proof that is made of all rows of a lineage.
+//! A proof is gathered from a lineage whose last block is the root's.
 
 ghost use Rattle.std.specs.{
   Prelude.{◌≡◌, ◌≤◌, true, IfOk, IsErrOf},
@@ -26,8 +26,8 @@ use prov_entry::Body;
 use scratch_model::Scratch;
 use std::alloc::Global;
 
-/// The proof that is made of all rows of a lineage, where they are those up to the root's block: with
-/// this body, and the uses of the version that answers, whose row has this index.
+/// The proof made of all rows of a lineage, with this body. `answer` is the index of the row that
+/// answers. The rows must be those up to the root's block.
 fn proof_with(
     alloc: Global,
     lineage: &Lineage,
@@ -67,7 +67,7 @@ fn proof_with(
     })
 }
 
-/// The bytes of the proof that is made of all rows of a lineage, where they are those up to the root's
+/// The bytes of the proof made of all rows of a lineage, which must be those up to the root's
 /// block.
 pub(crate) fn bytes_of_rows<S: Scratch>(
     alloc: Global,
@@ -77,7 +77,7 @@ pub(crate) fn bytes_of_rows<S: Scratch>(
 ) -> Result<Bytes, HostError>
     requires early { asked.now.query.at ≤ asked.now.root_at }
     requires agrees { AgreesWith lineage.old (S.state scratch.old) }
-    // Where it is known which bytes the scratch device holds:
+    // If it is known which bytes the scratch device holds:
     ensures bytes { is_known (S.state scratch.old) ≡ true
         → IfOk result (λ bytes. bytes ≡ concat (proof_fields (made_of lineage.old.rows
         asked.now.root_at asked.now.block_digest.0 asked.now.query))) }

@@ -1,4 +1,4 @@
-//! Proofs of answers, made from a lineage.
+//! Makes the proof of an answer from a lineage, for one who has only the root at a block.
 #![tactic(auto)]
 
 mod answering;

@@ -1,4 +1,5 @@
-//! Proofs of answers.
+//! A proof is made under the root at any block: if it isn't the last one, the lineage up to it is
+//! made first.
 
 ghost use Rattle.std.specs.{
   Prelude.{◌≡◌, ◌==◌, ◌≤◌, ◌+◌, true, Some, length, slice_get, IfOk, IsErrOf},
@@ -18,13 +19,13 @@ use merkle_dag::Lineage;
 use scratch_model::Scratch;
 use std::alloc::Global;
 
-/// Why a query has no proof.
+/// Why there is no proof for a query.
 #[derive(Clone, Copy, Debug, PartialEq, Eq)]
 pub enum ProveError {
-    /// The root's block is past the last one, or there is no block; or the query is of a later block
-    /// than the root.
+    /// The root's block is after the last one, or there are no blocks, or the query's block is
+    /// after the root's.
     Beyond {
-        /// The number of the last block; `None` where there is none.
+        /// The number of the last block; `None` if there are no blocks.
         head: Option<u32>,
     },
     /// The scratch device failed.
@@ -43,8 +44,8 @@ fn is_last(lineage: &Lineage, block: u32) -> bool
     }
 }
 
-/// The bytes of the proof that is made at the root's block. Where that is the last block, the lineage
-/// is used as it is; else one of the blocks up to it is made.
+/// The bytes of the proof made at the root's block. If that is the last block, the lineage is used
+/// as it is; else the lineage of the blocks up to it is made.
 fn bytes_at<S: Scratch>(
     alloc: Global,
     lineage: &mut Lineage,
@@ -54,7 +55,7 @@ fn bytes_at<S: Scratch>(
     requires within { slice_get lineage.old.digests asked.now.root_at ≡ Some asked.now.block_digest }
     requires early { asked.now.query.at ≤ asked.now.root_at }
     requires agrees { AgreesWith lineage.old (S.state scratch.old) }
-    // Where it is known which bytes the scratch device holds:
+    // If it is known which bytes the scratch device holds:
     ensures bytes { is_known (S.state scratch.old) ≡ true
         → IfOk result (λ bytes. bytes ≡ concat (proof_fields (made_proof lineage.old.rows
         lineage.old.digests asked.now.root_at asked.now.query))) }
@@ -76,8 +77,8 @@ fn bytes_at<S: Scratch>(
     }
 }
 
-/// The proof of the answer to a query, for one who has the root at a block: its bytes. Bodies are read
-/// from the scratch device. Only the bodies at hand may be others after it.
+/// The bytes of the proof for a query, for one who has the root at `root_at`. Bodies are read from
+/// the scratch device; of the lineage, only which bodies are at hand may change.
 pub fn prove<S: Scratch>(
     alloc: Global,
     lineage: &mut Lineage,
@@ -86,10 +87,10 @@ pub fn prove<S: Scratch>(
     root_at: u32,
 ) -> Result<Bytes, ProveError>
     requires agrees { AgreesWith lineage.old (S.state scratch.old) }
-    // Where it is known which bytes the scratch device holds:
+    // If it is known which bytes the scratch device holds:
     ensures proved { is_known (S.state scratch.old) ≡ true → IsProved (ledger_in lineage.old) query.now root_at result }
-    // The bytes are those of a proof, and whoever has the root accepts it with the answer of the rows up
-    // to the root's block.
+    // The bytes spell a proof, and whoever has the root accepts it with the answer of scanning the
+    // rows up to the root's block.
     ensures accepted { is_known (S.state scratch.old) ≡ true → IfOk result (Shows (ledger_in lineage.old) query.now root_at) }
     // Whether that is known or not:
     ensures beyond { TellsBeyond (ledger_in lineage.old) query.now root_at result }

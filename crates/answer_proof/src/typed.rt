@@ -1,4 +1,5 @@
-//! What is given is within its types. The calls do nothing: contracts learn it by these.
+//! Arguments are within the ranges of their types. These calls do nothing; contracts learn the
+//! ranges from them.
 
 ghost use Rattle.std.specs.Prelude.{◌≡◌, ◌<◌, ◌^◌, length};
 ghost use Rattle.lc_names.specs.KeyBytes.{IsKey};
@@ -18,8 +19,8 @@ fn check_digest(digest: &Digest)
     let _digest = digest.0;
 }
 
-/// A lineage is a typed ledger, a query is of a key, a block fits its number, and a digest has 32
-/// bytes.
+/// A lineage is a typed ledger, a query is of a key, a block number fits in 32 bits, and a digest
+/// has 32 bytes.
 pub(crate) fn check_types(lineage: &Lineage, asked: &Asked)
     ensures ledger { IsTypedLedger lineage.now.rows lineage.now.digests }
     ensures key { IsKey asked.now.query.key }

@@ -1,4 +1,4 @@
-//! The headers on the path of a lookup, from the newest version's on.
+//! The headers on the path of a lookup, the newest version's first.
 
 ghost use Rattle.std.specs.{Prelude.{◌≡◌, ℕ, List, IfOk}, List.{filter_map}};
 ghost use Rattle.lineage_store.specs.OnPath.{AreEntriesIn};
@@ -10,12 +10,12 @@ use merkle_dag::Lineage;
 use proof_codec::HeaderList;
 use std::alloc::Global;
 
-/// The headers of rows of a key, by their entries.
+/// The headers of the rows of a key, in the order of their entries.
 fn headers_of(alloc: Global, lineage: &Lineage, ids: &[EntryId]) -> Result<HeaderList, Memory>
     requires { (key : List ℕ) × (blocks : List ℕ) × AreEntriesIn lineage.now.rows key blocks ids.now }
     ensures { (key blocks : List ℕ) → AreEntriesIn lineage.now.rows key blocks ids.now → IfOk result (λ headers. headers ≡ filter_map (header_in lineage.now.rows key) blocks) }
 {
-    // So that the rows are known to be lawful.
+    // The call makes it known that the rows are lawful.
     let _rows = lineage.row_count();
     let mut headers = HeaderList::new(alloc);
     for id in ids {
@@ -25,7 +25,7 @@ fn headers_of(alloc: Global, lineage: &Lineage, ids: &[EntryId]) -> Result<Heade
     Ok(headers)
 }
 
-/// The headers on the path of a lookup of the last version of a key up to a block.
+/// The headers on the path from the newest version of a key to the last one up to a block.
 pub(crate) fn path_headers(
     alloc: Global,
     lineage: &Lineage,

@@ -1,4 +1,4 @@
--- The arguments of a function, one by one.
+-- Arguments match their parameters if there are as many, and each is of its parameter's kind.
 use Rattle.std.proofs.Common.{◌≡◌, ℕ, suc, arith, inl, inr, Bool, true, false, eqb, List, [], ◌∷◌, length, refl, sym, ap, ◌∙◌}
 use Rattle.std.specs.Prelude.{◌&&◌, ◌==◌}
 use Rattle.std.specs.List.{list_all, zip}

@@ -1,4 +1,5 @@
--- A call over a history.
+-- A call over a world that stands for the rows of a history has the result of the call over that
+-- history.
 use Rattle.std.proofs.Common.{◌≡◌, ℕ, Bool, true, false, cond, List, [], ◌∷◌, map, Option, Some, Result, Ok, Err, refl, sym, ap, ◌∙◌}
 use Rattle.std.specs.Prelude.{IfOk}
 use Rattle.std.specs.Option.{option_map}
@@ -18,7 +19,7 @@ use Rattle.contract_semantics.specs.Statements.{Ending, Goes, Returns, block_end
 use Rattle.contract_semantics.specs.Calls.{call_ended, function_of_name, function_called, call_result}
 use Rattle.contract_semantics.specs.Answers.{scene_in}
 
--- where the world stands for the rows, its scene is that of the history
+-- If the world stands for the rows, its scene is that of the history.
 same_scene : {C : Type 0} (world : Known C) (rows : List Row) (site : CallSite) → StandsForRows world rows → scene_in rows world site ≡ scene_of rows (is_written world) site
 same_scene world rows site stands = λ i. record { rows = rows; place = record { newest = λ key. stands key i; written = is_written world }; site = site }
 
@@ -43,7 +44,7 @@ pub ok_so : {T E : Type 0} (P Q : T → Type 0) (result : Result T E) → ((x : 
 ok_so P Q (Ok x) f h = f x h
 ok_so P Q (Err e) f h = tt
 
--- the names that end with a block are no part of how a call ends
+-- That a block's names end with it doesn't change how a call ends.
 pub block_ends : (budget : ℕ) (step : Step Ending) (outer : List Variable) → call_ended budget step ≡ call_ended budget (and_then step (block_ended outer))
 block_ends budget (Done (Goes variables) m) outer = refl
 block_ends budget (Done Returns m) outer = refl

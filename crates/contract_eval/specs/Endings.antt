@@ -1,4 +1,4 @@
--- How functions end in the program, for their definition.
+-- How the result of a function's body in the program becomes the status of a call.
 use Rattle.std.specs.Prelude.{◌≡◌, Result, Ok, Err}
 use Rattle.lc_base.specs.declared.host_error.HostError.{HostError}
 use Rattle.lc_base.specs.declared.host_error.HostError.TheVariants as hosts
@@ -8,7 +8,7 @@ use Rattle.contract_semantics.specs.declared.stop.EvalStop.{EvalStop}
 use Rattle.contract_semantics.specs.declared.stop.EvalStop.TheVariants as stops
 use Rattle.eval_simple.specs.declared.flow.Flow.{Flow}
 
--- The status of a function that ended so, or why it has none.
+-- The status of a function whose body ended like this, or why it has none.
 abbrev pub IsStatusOf : Result Flow EvalStop → Result TxStatus HostError → Type 0
 IsStatusOf (Ok flow) answer = answer ≡ Ok statuses.Ok
 IsStatusOf (Err (stops.Status status)) answer = answer ≡ Ok status

@@ -1,4 +1,5 @@
-//! Calls of contracts.
+//! A call is refused at no cost if the function doesn't exist or doesn't take the arguments; else
+//! its body runs.
 
 ghost use Rattle.std.specs.{
   Prelude.{◌≡◌, ◌≤◌, IfSome, IfOk, IsErrOf},
@@ -48,7 +49,7 @@ fn are_of_kinds(params: &[Param], args: &[Value]) -> bool
         .all(|(param, arg)| is_of_kind(param.kind, arg))
 }
 
-/// Whether arguments are those that a function takes: as many as its parameters, each of its kind.
+/// Whether a function takes these arguments: one for each parameter, of that parameter's kind.
 #[tactic(auto, using(crate::proofs::Arguments::are_arguments_is))]
 fn are_arguments(params: &[Param], args: &[Value]) -> bool
     ensures { result ≡ are_arguments params.now args.now }
@@ -56,7 +57,7 @@ fn are_arguments(params: &[Param], args: &[Value]) -> bool
     params.len() == args.len() && are_of_kinds(params, args)
 }
 
-/// The variables that a function begins with.
+/// The variables that a function's body begins with: its parameters, with these values.
 fn first_variables(alloc: Global, params: &[Param], args: &[Value]) -> Result<Variables, Memory>
     ensures { IfOk result (λ variables. variables ≡ first_variables params.now args.now) }
 {
@@ -70,7 +71,8 @@ fn first_variables(alloc: Global, params: &[Param], args: &[Value]) -> Result<Va
     Ok(variables)
 }
 
-/// How the statements of a function ended: its status, where neither the host nor memory failed.
+/// The status of a function whose body ended like this; an error if the host failed or memory ran
+/// out.
 fn status_of(ended: Result<Flow, EvalStop>) -> Result<TxStatus, HostError>
     ensures { IsStatusOf ended result }
 {
@@ -82,7 +84,7 @@ fn status_of(ended: Result<Flow, EvalStop>) -> Result<TxStatus, HostError>
     }
 }
 
-/// A function within the budget of the call, where the arguments are those that it takes.
+/// Runs a function within the budget of the call, if it takes the arguments.
 #[tactic(auto, using(crate::proofs::Called::block_ends))]
 fn function_called<C, H: Host>(
     alloc: Global,
@@ -132,13 +134,13 @@ fn refused_call(status: TxStatus) -> Outcome
     Outcome { status, cost: 0 }
 }
 
-/// Calls a function of a contract: there must be the function, then the arguments must be those that
-/// it takes, and then its statements run within the budget. What it read and put is in the capture
-/// afterwards. The host is left the same.
+/// Calls a function of a contract: it must exist and take the arguments; then its statements run
+/// within the budget. Afterwards `capture` has what was read and put, and the host is the same as
+/// before.
 ///
 /// # Errors
 ///
-/// `Fault` where the host failed, or `Memory`; the status of the call is no error.
+/// `Fault` if the host failed, or `Memory`; the status of the call isn't an error.
 pub fn call<H: Host>(
     alloc: Global,
     code: &Checked,

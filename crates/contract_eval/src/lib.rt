@@ -1,4 +1,4 @@
-//! Contracts, run within a budget over what a host and a world tell.
+//! Runs contracts within a budget, over a world and a host.
 #![tactic(auto)]
 
 mod calling;

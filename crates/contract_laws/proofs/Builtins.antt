@@ -1,4 +1,4 @@
--- Builtins keep the laws.
+-- Every builtin keeps the laws, as a step with its lookups.
 use Rattle.std.proofs.Common.{◌≡◌, ℕ, ℤ, pos, negsuc, ◌<◌, Bool, true, false, if◌then◌else◌, arith, List, [], length, Contains, Option, Some, None, Result, Ok, Err, refl, ap, subst, ◌∙◌}
 use Rattle.std.specs.Prelude.{nat_lt}
 use Rattle.std.proofs.lemmas.Bool.Decides.{nat_tests}
@@ -32,7 +32,7 @@ use Rattle.contract_laws.proofs.Reading.{TameTaken, tame_taken, taken_fixed, cle
 
 -- ---- what reads nothing of the present
 
--- a value of the scene that meets no key
+-- A result that meets no key and is the same in scenes that agree on its questions.
 taken_seen : (f : Scene → Result Value TxStatus) (look : Scene → Lookups) → ((s : Scene) → IsBad (f s)) → ((s t : Scene) (reads : List Read) → Agree s t (look s) reads → (f t ≡ f s) × (look t ≡ look s)) → ((s : Scene) → (look s).met ≡ []) → ((s : Scene) → AsksBefore s (look s)) → TameTaken (λ s c. (f s, c)) (λ s c. look s)
 taken_seen f look bad h e before = record {
   told = λ s c. (moves_same s c, λ t a. let k = h s t c.reads a in (ap (λ r. (r, c)) k.0, k.1));
@@ -50,7 +50,7 @@ scanned s t kind (Ok key) (Ok block) h = ap Ok (h (question kind key block) (con
 scanned s t kind (Ok key) (Err status) h = refl
 scanned s t kind (Err status) q h = refl
 
--- the answer to a question is the same where the scenes agree on it
+-- The answer to a question is the same in scenes that agree on it.
 asked_same : (s t : Scene) (reads : List Read) (kind : Kind) (text : List ℕ) (at : ℤ) → Agree s t (question_lookup (question_of s.site.number kind text at)) reads → answer_up_to t.rows t.site.number kind text at ≡ answer_up_to s.rows s.site.number kind text at
 asked_same s t reads kind text at a = ap (λ n. answer_up_to t.rows n kind text at) a.number ∙ scanned s t kind (key_of_text text) (block_before s.site.number at) a.history
 

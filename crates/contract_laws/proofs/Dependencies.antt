@@ -1,4 +1,4 @@
--- What a put does to the puts before it, and that its dependencies are reads.
+-- A put keeps the puts before it, and its dependencies are reads.
 use Rattle.std.proofs.Common.{◌≡◌, ◌==◌, ℕ, zero, suc, Bool, true, false, List, [], ◌∷◌, get_or, set, Contains, Option, Some, None, refl, sym, ap, ◌∙◌, find, filter_map, cond, not, ◌||◌, option_map}
 use Rattle.std.specs.Prelude.{IfSome}
 use Rattle.std.specs.List.{All, list_any, cons_option}
@@ -72,7 +72,7 @@ any-set q (x ∷ xs) (suc i) y d e = ap (λ b. q x || b) (any-set q xs i y d e)
 abbrev has_key : List ℕ → Put → Bool
 has_key key put = pointwise ◌==◌ put.key key
 
--- the put at the place of a key has that key
+-- The put at the index of a key has that key.
 at_place : (puts : List Put) (put : Put) (i : ℕ) → index_of puts put.key ≡ Some i → put.key ≡ (get_or puts i put).key
 at_place puts put i e = sym ((bytes_decides (get_or puts i put).key put.key).0 (position-Some (has_key put.key) puts i put e).1)
 
@@ -80,7 +80,7 @@ put_at_keeps : (puts : List Put) (put : Put) (key : List ℕ) (o : Option ℕ) �
 put_at_keeps puts put key None e h = list_any-append (has_key key) puts (put ∷ []) ∙ or_left _ _ h
 put_at_keeps puts put key (Some i) e h = any-set (has_key key) puts i put put (ap (λ k. pointwise ◌==◌ k key) (at_place puts put i e)) ∙ h
 
--- what was put is put still
+-- What was put before is still put after a put.
 pub put_keeps_key : (puts : List Put) (put : Put) (key : List ℕ) → was_put puts key ≡ true → was_put (with_put puts put) key ≡ true
 put_keeps_key puts put key h = put_at_keeps puts put key (index_of puts put.key) refl h
 
@@ -90,6 +90,6 @@ put_at_has puts put (Some i) e =
     any-set (has_key put.key) puts i put put (ap (λ k. pointwise ◌==◌ k put.key) (at_place puts put i e))
     ∙ list_any_at (has_key put.key) puts i put (position-Some (has_key put.key) puts i put e).0 (position-Some (has_key put.key) puts i put e).1
 
--- the key of a put is put
+-- The key of a put is put after it.
 pub put_has_key : (puts : List Put) (put : Put) → was_put (with_put puts put) put.key ≡ true
 put_has_key puts put = put_at_has puts put (index_of puts put.key) refl

@@ -1,4 +1,5 @@
--- Laws of calls that end well, and of the order of two calls.
+-- Of a call that ends with Ok, the keys that it met are unwritten, so it can be exchanged with
+-- another.
 use Rattle.std.proofs.Common.{◌≡◌, ◌==◌, ◌||◌, ℕ, Bool, true, false, List, Contains, Option, Some, None, refl, sym, ap, ap₂, subst, ◌∙◌, get_or, true≢false, ⊎_elim, ◌⊎◌, inl, inr}
 use Rattle.std.specs.List.{All, list_any}
 use Rattle.std.specs.Cmp.Lexicographic.{pointwise, bytes_decides, nat_list_eq_equiv}
@@ -53,7 +54,7 @@ pub questions_are_of_blocks_before : QuestionsAreOfBlocksBefore
 unfolding call_lookups
 questions_are_of_blocks_before functions s args = called_asks s args (function_of_name functions s.site.function)
 
--- ---- keys met where a call ends well
+-- ---- keys met by a call that ends with Ok
 
 each_of : {X : Type 0} (P : X → Type 0) (xs : List X) → ((x : X) → Contains xs x → P x) → All P xs
 each_of P xs h k d lt = h (get_or xs k d) (Contains-get_or xs k d lt)
@@ -84,7 +85,7 @@ keys_met_are_read_or_put functions s args well = called_meets s args (function_o
 
 -- ---- keys that were read or put
 
--- what holds of the key of each holds of a key that is among them
+-- What holds of the key of each item holds of a key that is among them.
 key_holds : {X : Type 0} (key_in : X → List ℕ) (P : List ℕ → Type 0) (xs : List X) → All (λ x. P (key_in x)) xs → (key : List ℕ) → list_any (λ x. pointwise ◌==◌ (key_in x) key) xs ≡ true → P key
 key_holds key_in P xs h key w =
     let a = Any-from_list_any (λ x. pointwise ◌==◌ (key_in x) key) xs w in
@@ -106,7 +107,7 @@ apart_key written c apart key used = ⊎_elim
     (key_holds (λ (put : Put). put.key) (λ key. written key ≡ false) c.puts apart.puts key)
     (either_of (was_read c.reads key) (was_put c.puts key) used)
 
--- ---- calls that end well
+-- ---- calls that end with Ok
 
 pub reads_and_puts_are_complete : ReadsAndPutsAreComplete
 reads_and_puts_are_complete functions s t args well site hold answer apart =
@@ -141,7 +142,7 @@ not_true : (b : Bool) → (b ≡ true → ⊥) → b ≡ false
 not_true true h = absurd (h refl)
 not_true false h = refl
 
--- a key that the first call put, the second did not put after it
+-- The second call did not put a key that the first call had put before it.
 put_once : (functions' : List FunctionTree) (s : Scene) (puts : List Put) (args' : List Value) (key : List ℕ) → was_put puts key ≡ true → was_put (call_result functions' (after_puts puts s) args').capture.puts key ≡ false
 put_once functions' s puts args' key w =
     let t : Scene = after_puts puts s in

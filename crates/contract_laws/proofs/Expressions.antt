@@ -1,4 +1,4 @@
--- Expressions keep the laws.
+-- Every expression keeps the laws, by the cases of the tree.
 use Rattle.std.proofs.Common.{List, [], ◌∷◌, ◌++◌}
 use Rattle.lc_base.specs.declared.value.Value.{Value}
 use Rattle.lc_base.specs.declared.value.Value.TheVariants as values

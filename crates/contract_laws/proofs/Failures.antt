@@ -1,4 +1,4 @@
--- Where a part of a contract fails, its status is not Ok.
+-- If a part of a contract fails, its status isn't Ok.
 use Rattle.std.proofs.Common.{ℕ, ℤ, negsuc, pos, Bool, true, false, List, [], ◌∷◌, ◌++◌, Option, Some, None, Result, Ok, Err, refl, slice_get, int_div, int_rem, ◌+ℤ◌, ◌-ℤ◌, ◌*ℤ◌, neg_ℤ, if◌then◌else◌}
 use Rattle.std.specs.Prelude.{nat_lt}
 use Rattle.lc_base.specs.History.{scan}

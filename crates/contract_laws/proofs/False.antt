@@ -1,4 +1,4 @@
--- Runs by which the false laws are false.
+-- Each false law is refuted by one call in two scenes.
 use Rattle.std.proofs.Common.{◌≡◌, ℤ, pos, Bool, true, false, List, [], ◌∷◌, None, refl, sym, ap, subst, ◌∙◌, true≢false, codes, drop}
 use Rattle.std.proofs.lemmas.List.Elements.{All-nil}
 use Rattle.lc_base.specs.History.{scan}
@@ -20,7 +20,7 @@ use Rattle.contract_laws.specs.CallLookups.{questions_of, call_lookups}
 use Rattle.contract_laws.specs.Laws.{HoldAlike, AnswerAlike}
 use Rattle.contract_laws.specs.FalseLaws.{AllReadsButOneAreComplete, QuestionsDoNotMatter, KeysMetDoNotMatter}
 
--- a call of `f` of the contract `c`, in block 1
+-- A call of the function `f` of the contract `c`, in block 1.
 abbrev site : CallSite
 site = record { contract = codes "c"; function = codes "f"; sender = codes "s"; number = 1; budget = 100 }
 
@@ -31,13 +31,13 @@ ended_well _ = false
 abbrev ends_well : List FunctionTree → Scene → Bool
 ends_well functions s = ended_well (call_result functions s []).outcome.status
 
--- fn f() { .. }
+-- The contract `fn f() { .. }`.
 abbrev one_function : StatementTrees → List FunctionTree
 one_function body = record { at = 0; name = codes "f"; params = []; body = body } ∷ []
 
 -- ---- a key that was read may hold something else
 
--- if has("k") { fail; }
+-- The body `if has("k") { fail; }`.
 abbrev fails_with_key : List FunctionTree
 fails_with_key = one_function (statements (If 0 (tree.Call 0 (codes "has") (more (tree.Text 0 (codes "k")) none)) (statements (Fail 0) no_statement)) no_statement)
 
@@ -47,7 +47,7 @@ over rows = scene_of rows (λ key. false) site
 abbrev row : ℤ → Row
 row z = record { key = codes "k"; block = 0; tx = 0; value = values.Int z; deps = [] }
 
--- premises on an empty list
+-- A premise about each read holds if there are no reads.
 nothing_held : (s t : Scene) (reads : List Read) → reads ≡ [] → HoldAlike s t reads
 nothing_held s t reads e = subst (HoldAlike s t) (sym e) (All-nil (λ (read : Read). t.place.newest read.key ≡ s.place.newest read.key))
 
@@ -79,9 +79,9 @@ all_reads_but_one_are_not_complete law =
     differ fails_with_key (over []) t well_without ill_with
     (law fails_with_key (over []) t [] refl (nothing_held (over []) t _ one_read, (nothing_answered (over []) t _ nothing_asked, λ k d lt. refl)))
 
--- ---- rows may answer otherwise
+-- ---- rows may answer differently
 
--- if hist_int("k", 0) { fail; }
+-- The body `if hist_int("k", 0) { fail; }`.
 abbrev fails_with_past : List FunctionTree
 fails_with_past = one_function (statements (If 0 (tree.Call 0 (codes "hist_int") (more (tree.Text 0 (codes "k")) (more (tree.Int 0 (pos 0)) none))) (statements (Fail 0) no_statement)) no_statement)
 
@@ -105,7 +105,7 @@ questions_matter law =
 
 -- ---- keys that were met may be written
 
--- put "c/k" = 1;
+-- The body `put "c/k" = 1;`.
 abbrev puts_key : List FunctionTree
 puts_key = one_function (statements (Put 0 (tree.Text 0 (codes "c/k")) (tree.Int 0 (pos 1)) None) no_statement)
 

@@ -1,4 +1,4 @@
--- The turns of a loop keep the laws, and its clock is no limit of its own.
+-- The turns of a loop keep the laws, and a loop never ends by its clock before its budget.
 use Rattle.std.proofs.Common.{◌≡◌, ◌+◌, ◌-◌, ◌≤◌, ◌<◌, ℕ, zero, suc, Bool, true, false, List, refl, sym, ap, arith, true≢false, le_refl, not-suc-le-zero, le_of_suc-le-suc}
 use Rattle.std.specs.Prelude.{nat_le}
 use Rattle.std.proofs.lemmas.Bool.Decides.{nat_tests}
@@ -16,7 +16,7 @@ tame_after_turn : (next : Scene → List Variable → Machine → Step Ending) (
 tame_after_turn next look h (Again variables) = h variables
 tame_after_turn next look h (Ended ending) = tame_done ending
 
--- at a clock that stands still
+-- With a clock that doesn't change with the budget.
 tame_turns : (turn : Scene → List Variable → Machine → Step Turn) (look : Scene → List Variable → Machine → Lookups) → ((variables : List Variable) → Tame (λ s m. turn s variables m) (λ s m. look s variables m)) → (n : ℕ) (variables : List Variable)
     → Tame (λ s m. turns n (turn s) variables m) (λ s m. turns_lookups n (turn s) (look s) variables m)
 unfolding turns turns_lookups
@@ -28,7 +28,7 @@ after_turn_scales : (k : ℕ) (next next' : List Variable → Machine → Step E
 after_turn_scales k next next' h (Again variables) m o = h variables m o
 after_turn_scales k next next' h (Ended ending) m o = refl
 
--- with more of the budget, and more turns
+-- With a larger budget and more turns.
 turns_scale : (turn : List Variable → Machine → Step Turn) (k : ℕ) → ((variables : List Variable) (m : Machine) → ran_out (turn variables m) ≡ false → turn variables (richer k m) ≡ raised k (turn variables m))
     → (n n' : ℕ) → n ≤ n' → (variables : List Variable) (m : Machine) → ran_out (turns n turn variables m) ≡ false → turns n' turn variables (richer k m) ≡ raised k (turns n turn variables m)
 unfolding turns
@@ -37,7 +37,7 @@ turns_scale turn k h (suc n) zero le variables m o = absurd (not-suc-le-zero le)
 turns_scale turn k h (suc n) (suc n') le variables m o = then_scales k (turn variables m) (turn variables (richer k m)) (after_turn (turns n turn)) (after_turn (turns n' turn)) (h variables m)
     (after_turn_scales k (turns n turn) (turns n' turn) (turns_scale turn k h n n' (le_of_suc-le-suc le))) o
 
--- a loop, whose clock is what is left of the budget
+-- A loop, whose clock is what is left of the budget.
 pub tame_loop : (turn : Scene → List Variable → Machine → Step Turn) (look : Scene → List Variable → Machine → Lookups) → ((variables : List Variable) → Tame (λ s m. turn s variables m) (λ s m. look s variables m)) → (variables : List Variable)
     → Tame (λ s m. turns m.left (turn s) variables m) (λ s m. turns_lookups m.left (turn s) (look s) variables m)
 tame_loop turn look h variables = record {
@@ -61,8 +61,8 @@ next_same m next next' h (Done (Again variables) n) lt = h variables n lt
 next_same m next next' h (Done (Ended ending) n) lt = refl
 next_same m next next' h (Failed status n) lt = refl
 
--- where each turn takes something, and none begins with nothing left, two clocks of at least what
--- is left give the same
+-- If each turn takes something from the budget, and none begins with an empty one, two clocks that
+-- are at least what is left have the same result.
 pub clocks_same : (turn : List Variable → Machine → Step Turn) → ((variables : List Variable) (m : Machine) → Lowered m.left (turn variables m)) → ((variables : List Variable) (m : Machine) → m.left ≡ 0 → turn variables m ≡ Failed OutOfSteps m)
     → (n n' : ℕ) (variables : List Variable) (m : Machine) → m.left ≤ n → m.left ≤ n' → turns n turn variables m ≡ turns n' turn variables m
 unfolding turns
@@ -75,7 +75,7 @@ lowered_by : {A : Type 0} (left : ℕ) (step : Step A) → 1 ≤ left → (after
 lowered_by left (Done x n) p h = omega arith
 lowered_by left (Failed status n) p h = tt
 
--- a step that begins with a charge
+-- A step that begins with a charge lowers what is left.
 pub charge_lowers : {A B : Type 0} (f : Machine → Step A) (g : A → Machine → Step B) → ((m : Machine) → (after (f m)).left ≤ m.left) → ((x : A) (m : Machine) → (after (g x m)).left ≤ m.left)
     → (m : Machine) (b : Bool) → nat_le 1 m.left ≡ b → Lowered m.left (and_then (charge_by b 1 m f) g)
 charge_lowers f g h k m true e = lowered_by m.left (and_then (f (paid 1 m)) g) (grind (arith, nat_tests)) (then_lowers (f (paid 1 m)) g (m.left - 1) k (h (paid 1 m)))

@@ -1,4 +1,4 @@
--- A put keeps the laws.
+-- A put keeps the laws, by the tests that may refuse it.
 use Rattle.std.proofs.Common.{◌≡◌, ◌≤◌, ℕ, Bool, true, false, not, ◌&&◌, List, length, Option, Result, Ok, Err, refl, ap, ap₂, ◌∙◌, le_refl, if◌then◌else◌}
 use Rattle.std.specs.Prelude.{IfOk, nat_le, nat_lt}
 use Rattle.std.specs.List.{All}
@@ -51,7 +51,7 @@ moves_put s c key value named own unwritten = record {
   fresh = λ h. with_put_all (IsOwnAndUnwritten s) c.puts (the_put c key value named) (record { own = own; unwritten = unwritten }) h;
 }
 
--- a put by the tests that may refuse it
+-- The result of a put, by the tests that may refuse it.
 abbrev refused_by : Bool → Bool → Bool → Captured → Result Captured TxStatus
 refused_by full unread many new = put_recorded (if full then Err errors.TooMany else (if unread then Err errors.NotRead else (if many then Err errors.TooMany else Ok new)))
 
@@ -123,7 +123,7 @@ done_fails : (variables : List Variable) (r : Result Captured TxStatus) (m : Mac
 done_fails variables (Ok new) m h = tt
 done_fails variables (Err status) m h = h
 
--- ---- the key of a put that is done is unwritten, and is put
+-- ---- the key of a put that succeeds is unwritten, and is put
 
 refused_clear : (s : Scene) (lookups : Lookups) (new : Captured) (full unread many : Bool) → AreClear s lookups new → IfOk (refused_by full unread many new) (AreClear s lookups)
 refused_clear s lookups new true unread many h = tt

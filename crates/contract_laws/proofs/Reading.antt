@@ -1,4 +1,5 @@
--- Reads keep the laws.
+-- A read keeps the laws: it records the version that its key had, so scenes that agree on it read
+-- alike.
 use Rattle.std.proofs.Common.{◌≡◌, ℕ, Bool, true, false, List, [], ◌∷◌, ◌++◌, length, Contains, Option, Some, None, Result, Ok, Err, refl, ap, ap₂, subst, ◌∙◌, le_refl, ◌≤◌, if◌then◌else◌, ◌||◌, ⊎_elim, not-suc-le-zero}
 use Rattle.std.specs.Prelude.{nat_le, is_some}
 use Rattle.std.specs.List.{All}
@@ -75,7 +76,7 @@ tame_taken {f} {look} h = record {
   asks = λ s m. h.asks s m.capture;
 }
 
--- what looks nothing up and is the same in each scene
+-- A result that looks nothing up and is the same in every scene.
 pub taken_fixed : (r : Result Value TxStatus) → IsBad r → TameTaken (λ s c. (r, c)) (λ s c. no_lookups)
 taken_fixed r bad = record { told = λ s c. (moves_same s c, λ t a. (refl, refl)); clear = λ s c. clear_by s no_lookups c r (no_keys s c); fails = λ s c. bad; asks = λ s c. no_questions s }
 
@@ -90,7 +91,7 @@ clear_one s key c w r k there = ⊎_elim
     (λ e. subst (λ k. (s.place.written k ≡ false) × ((was_read c.reads k || was_put c.puts k) ≡ true)) e (w, r))
     (Contains-push_cases [] key k there)
 
--- ---- a read that is added, with the version that its key had
+-- ---- one more read, with the version that its key had
 
 abbrev pub with_read : Captured → List ℕ → Option Held → Captured
 with_read c key held = record c { reads = c.reads ++ record { key = key; version = block_of held } ∷ [] }
@@ -110,7 +111,7 @@ moves_read s c key =
           (λ put k. All-weaker (WasBacked c.reads) (WasBacked (c.reads ++ read ∷ [])) (λ dep there. Contains-append_left c.reads (read ∷ []) _ there) put.deps k) c.puts h;
     }
 
--- ---- a read by what the scene says of its key, and what the capture says
+-- ---- a read, by what the scene and the capture say of its key
 
 abbrev read_by : Bool → Bool → Bool → Option Held → List ℕ → (Option Held → Result Value TxStatus) → Captured → BuiltinResult
 read_by written known full held key gives c =
@@ -147,7 +148,7 @@ taken_read key gives bad = record {
   asks = λ s c. no_questions s;
 }
 
--- ---- what the builtins do that read
+-- ---- the builtins that read
 
 version_fails : (held : Option Held) → IsBad (value_of_version held)
 version_fails None = refl

@@ -1,4 +1,4 @@
--- Statements keep the laws.
+-- Every statement keeps the laws, by the cases of the tree.
 use Rattle.std.proofs.Common.{Bool, List, [], length, take, Option, Some, None, refl, if◌then◌else◌}
 use Rattle.lc_base.specs.declared.tx_status.TxStatus.TheVariants as statuses
 use Rattle.contract_tree.specs.Tree.{Tree, Trees, StatementTree, StatementTrees, no_statement, statements}
@@ -34,7 +34,7 @@ tame_turn_again Returns = tame_done (Ended Returns)
 pub tame_condition : (test : Tree) (variables : List Variable) → Tame (λ s m. condition_step s test variables m) (λ s m. tested_lookups s test variables m)
 tame_condition test variables = tame_charged CHARGE_NODE (tame_then_quiet (tame_value variables test) (λ value. tame_done (holds value)))
 
--- the rest of a turn, once its condition is known
+-- The rest of a turn, once its condition is known.
 pub tame_after_test : (body : Scene → List Variable → Machine → Step Ending) (look : Scene → List Variable → Machine → Lookups) → ((variables : List Variable) → Tame (λ s m. body s variables m) (λ s m. look s variables m)) → (variables : List Variable) (goes_on : Bool)
     → Tame (λ s m. if goes_on then and_then (and_then (body s variables m) (block_ended variables)) turn_again else Done (Ended (Goes variables)) m) (λ s m. if goes_on then look s variables m else no_lookups)
 tame_after_test body look h variables goes_on = tame_if goes_on (tame_then_quiet (tame_then_quiet (h variables) (tame_block_ended variables)) tame_turn_again) (tame_done (Ended (Goes variables)))

@@ -1,4 +1,5 @@
--- What holds of each step of an evaluation, and of what steps are made of.
+-- Each step is tame: what it records determines it, it only adds reads, and a larger budget changes
+-- nothing.
 use Rattle.std.proofs.Common.{◌≡◌, ◌+◌, ◌-◌, ◌≤◌, ◌<◌, ℕ, ℤ, Bool, true, false, List, [], ◌++◌, Contains, Option, Some, None, Result, Ok, Err, refl, sym, ap, ap₂, subst, ◌∙◌, arith, true≢false, append-nil, append_assoc, le_refl, le_trans, not-suc-le-zero, if◌then◌else◌, ◌||◌, ⊎_elim}
 use Rattle.std.specs.Prelude.{nat_le}
 use Rattle.std.specs.List.{All}
@@ -25,20 +26,20 @@ use Rattle.contract_laws.specs.Lookups.{Lookups, no_lookups, lookups_of_both, th
 
 -- ---- what a step does to a capture
 
--- what was read before stands first
+-- What was read before is a prefix of what is read after.
 abbrev pub Grows : List Read → List Read → Type 0
 Grows old new = (added : List Read) × (new ≡ old ++ added)
 
--- each dependency of each put is a read
+-- Each dependency of each put is a read.
 abbrev pub IsBacked : Captured → Type 0
 IsBacked c = All (λ (put : Put). All (WasBacked c.reads) put.deps) c.puts
 
--- a read has the version that its key had before the block
+-- A read has the version that its key had before the block.
 abbrev pub IsOf : Scene → Read → Type 0
 IsOf s read = read.version ≡ block_of (s.place.newest read.key)
 
--- reads are added; puts stay, maybe with another value; what was true of reads, puts and
--- dependencies is
+-- Reads are only added; a key that was put stays put, maybe with another value; what held of reads,
+-- puts, and dependencies still holds.
 pub record Moves (s : Scene) (old new : Captured) : Type 0 where
   pub reads : Grows old.reads new.reads
   pub puts : (key : List ℕ) → was_put old.puts key ≡ true → was_put new.puts key ≡ true
@@ -52,7 +53,7 @@ grows_same xs = ([], sym (append-nil xs))
 pub grows_then : (xs ys zs : List Read) → Grows xs ys → Grows ys zs → Grows xs zs
 grows_then xs ys zs (a, p) (b, q) = (a ++ b, q ∙ ap (λ r. r ++ b) p ∙ append_assoc xs a b)
 
--- what was read is read after more reads
+-- A key that was read is still read after more reads.
 pub still_read : (xs ys : List Read) (key : List ℕ) → Grows xs ys → was_read xs key ≡ true → was_read ys key ≡ true
 still_read xs ys key (a, p) h = ap (λ r. was_read r key) p ∙ list_any-append _ xs a ∙ or_left _ _ h
 
@@ -98,15 +99,15 @@ agree_second l k xs a = record {
   written = λ key h. a.written key (Contains-append_right l.met k.met key h);
 }
 
--- a step told by what it recorded: it is the same in each scene that agrees on that
+-- What a step records determines it: it is the same in each scene that agrees on that.
 abbrev pub Told : {A : Type 0} → Scene → Machine → (Scene → Step A) → (Scene → Lookups) → Step A → Lookups → Type 0
 Told s m again look step lookups =
     Moves s m.capture (after step).capture
     × ((t : Scene) → Agree s t lookups (after step).capture.reads → (again t ≡ step) × (look t ≡ lookups))
 
--- ---- keys met where a step is done
+-- ---- keys met by a step that is done
 
--- each key met is unwritten, and was read or put
+-- Each key that was met is unwritten, and was read or put.
 abbrev pub AreClear : Scene → Lookups → Captured → Type 0
 AreClear s lookups c = (key : List ℕ) → Contains lookups.met key → (s.place.written key ≡ false) × ((was_read c.reads key || was_put c.puts key) ≡ true)
 
@@ -133,12 +134,12 @@ abbrev pub is_out_of_steps : TxStatus → Bool
 is_out_of_steps statuses.OutOfSteps = true
 is_out_of_steps _ = false
 
--- the budget was too small
+-- The step failed because the budget was too small.
 abbrev pub ran_out : {A : Type 0} → Step A → Bool
 ran_out (Done x m) = false
 ran_out (Failed status m) = is_out_of_steps status
 
--- with so much more left
+-- The machine with `k` more left.
 abbrev pub richer : ℕ → Machine → Machine
 richer k m = record m { left = m.left + k }
 
@@ -152,26 +153,26 @@ abbrev pub is_ok_status : TxStatus → Bool
 is_ok_status statuses.Ok = true
 is_ok_status _ = false
 
--- where a result is a failure, its status is not Ok
+-- If a result is a failure, its status isn't Ok.
 abbrev pub IsBad : {A : Type 0} → Result A TxStatus → Type 0
 IsBad (Ok x) = Unit {0}
 IsBad (Err status) = is_ok_status status ≡ false
 
--- where a step failed, its status is not Ok
+-- If a step fails, its status isn't Ok.
 abbrev pub FailsBadly : {A : Type 0} → Step A → Type 0
 FailsBadly (Done x n) = Unit {0}
 FailsBadly (Failed status n) = is_ok_status status ≡ false
 
 -- ---- questions
 
--- each question is about a block before the call's own
+-- Each question is about a block before the call's own.
 abbrev pub AsksBefore : Scene → Lookups → Type 0
 AsksBefore s lookups = All (λ (query : Query). query.at < s.site.number) lookups.asked
 
 pub no_questions : (s : Scene) → AsksBefore s no_lookups
 no_questions s = All-nil (λ (query : Query). query.at < s.site.number)
 
--- ---- what holds of each computation, with what it looks up
+-- ---- what holds of each computation with its lookups
 
 pub record Tame {A : Type 0} (f : Scene → Machine → Step A) (look : Scene → Machine → Lookups) : Type 0 where
   pub told : (s : Scene) (m : Machine) → Told s m (λ t. f t m) (λ t. look t m) (f s m) (look s m)
@@ -216,7 +217,7 @@ what_is_left n k left h = grind (arith, nat_tests)
 abbrev pub paid : ℕ → Machine → Machine
 paid n m = record m { left = m.left - n }
 
--- a charge by its test
+-- A charge, given whether it can be taken.
 abbrev pub charge_by : {A : Type 0} → Bool → ℕ → Machine → (Machine → Step A) → Step A
 charge_by b n m next = if b then next (paid n m) else Failed statuses.OutOfSteps m
 
@@ -261,12 +262,12 @@ tame_charged {A} n {f} {look} h = record {
   asks = λ s m. charged_asks n look s m (nat_le n m.left) (h.asks s (paid n m));
 }
 
--- a charge before what looks nothing up
+-- A charge before a step that looks nothing up.
 quiet_by : (b : Bool) (n : ℕ) (m : Machine) → look_by b n m (λ m. no_lookups) ≡ no_lookups
 quiet_by true n m = refl
 quiet_by false n m = refl
 
--- ---- the same lookups, put otherwise
+-- ---- the same lookups, written differently
 
 told_as : {A : Type 0} (s : Scene) (m : Machine) (again : Scene → Step A) (look look' : Scene → Lookups) (step : Step A) → ((t : Scene) → look t ≡ look' t) → Told s m again look step (look s) → Told s m again look' step (look' s)
 told_as s m again look look' step e h = (
@@ -352,7 +353,7 @@ tame_then {A} {B} {f} {look} {g} {next} h j = record {
   asks = λ s m. then_asks s (look s m) (f s m) (λ x m. next x s m) (λ x n. (j x).asks s n) (h.asks s m);
 }
 
--- where the second step looks nothing up
+-- If the second step looks nothing up.
 joined_none : (l : Lookups) → lookups_of_both l no_lookups ≡ l
 joined_none l = ap₂ (λ asked met. record { asked = asked; met = met }) (append-nil l.asked) (append-nil l.met)
 

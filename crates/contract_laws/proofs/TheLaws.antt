@@ -1,4 +1,4 @@
--- The laws of calls, from what holds of each step.
+-- The laws of calls follow from what holds of each step.
 use Rattle.std.proofs.Common.{◌≡◌, ◌≢◌, ◌≤◌, ◌+◌, ◌-◌, ◌==◌, ℕ, Bool, true, false, List, Option, Some, None, is_some, refl, sym, ap, subst, ◌∙◌, arith, le_refl, true≢false, if◌then◌else◌}
 use Rattle.std.specs.Prelude.{nat_le, IsSomeAnd}
 use Rattle.std.specs.List.{All}
@@ -186,7 +186,7 @@ dependencies_are_newest_rows functions rows written site args =
 
 -- ---- what a call depends on
 
--- the same for each key that was read, from the same for each read
+-- What holds of each read holds of each key that was read.
 each_key : (f g : List ℕ → Option Held) (reads : List Read) → All (λ (read : Read). f read.key ≡ g read.key) reads → (key : List ℕ) → was_read reads key ≡ true → f key ≡ g key
 each_key f g reads h key w =
     let a = Any-from_list_any (λ (read : Read). pointwise ◌==◌ read.key key) reads w in
@@ -216,7 +216,7 @@ fit_told : (s t : Scene) (again run : CallResult) (look lookups : Lookups) (fits
 fit_told s t again run look lookups true h a = h a
 fit_told s t again run look lookups false h a = (refl, refl)
 
--- the scene with this site
+-- The scene `t` with the call site of `s`.
 abbrev at_site : Scene → Scene → Scene
 at_site s t = record t { site = s.site }
 

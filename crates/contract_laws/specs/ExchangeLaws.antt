@@ -1,4 +1,5 @@
--- Laws of calls that end well, and of the order of two calls in one block.
+-- A call that ends with Ok depends on its block only through the keys that it read and put, so two
+-- such calls can be exchanged.
 use Rattle.std.specs.Prelude.{◌≡◌, ◌||◌, ℕ, Bool, true, false, List}
 use Rattle.std.specs.List.{All}
 use Rattle.lc_base.specs.declared.value.Value.{Value}
@@ -14,12 +15,12 @@ use Rattle.contract_semantics.specs.Calls.{call_result}
 use Rattle.contract_laws.specs.CallLookups.{questions_of, keys_met}
 use Rattle.contract_laws.specs.Laws.{HoldAlike, AnswerAlike}
 
--- The block has not written a key, and the key was read or put.
+-- The block hasn't written the key, and the key was read or put.
 pub record IsUsedAndUnwritten (s : Scene) (c : Captured) (key : List ℕ) : Type 0 where
   pub unwritten : s.place.written key ≡ false
   pub used : (was_read c.reads key || was_put c.puts key) ≡ true
 
--- Where a call ends well, the block has written none of the keys that it met before, and each of
+-- If a call ends with Ok, the block has written none of the keys that the call met, and each of
 -- them was read or put.
 abbrev pub KeysMetAreReadOrPut : Type 0
 KeysMetAreReadOrPut =
@@ -27,14 +28,14 @@ KeysMetAreReadOrPut =
     → (call_result functions s args).outcome.status ≡ statuses.Ok
     → All (IsUsedAndUnwritten s (call_result functions s args).capture) (keys_met functions s args)
 
--- None of the keys that were read and put is written.
+-- None of the keys that were read or put is written.
 pub record IsApartFrom (written : List ℕ → Bool) (c : Captured) : Type 0 where
   pub reads : All (λ (read : Read). written read.key ≡ false) c.reads
   pub puts : All (λ (put : Put). written put.key ≡ false) c.puts
 
--- A call that ended well ends alike in each scene of its site that has the same newest versions of
--- the keys that it read, answers alike what it asked, and where the block has written none of the
--- keys that it read and put.
+-- A call that ended with Ok has the same result in each scene of its site that has the same newest
+-- versions of the keys that it read, the same answers to its questions, and none of the keys that
+-- it read or put written by the block.
 abbrev pub ReadsAndPutsAreComplete : Type 0
 ReadsAndPutsAreComplete =
     (functions : List FunctionTree) (s t : Scene) (args : List Value)
@@ -52,8 +53,8 @@ after_puts puts s =
       place = record s.place { written = λ key. s.place.written key || was_put puts key };
     }
 
--- A call that ended well ends alike after a transaction of its block that put none of the keys that
--- it read and put.
+-- A call that ended with Ok has the same result after a transaction of its block that put none of
+-- the keys that it read or put.
 abbrev pub PutsOfOthersChangeNothing : Type 0
 PutsOfOthersChangeNothing =
     (functions : List FunctionTree) (s : Scene) (args : List Value) (others : List Put)
@@ -65,8 +66,8 @@ PutsOfOthersChangeNothing =
 abbrev pub with_site : CallSite → Scene → Scene
 with_site site s = record s { site = site }
 
--- Two calls of one block can be exchanged: where the first ends well, and the second after it, and
--- the first read no key that the second put, each ends alike in the other order.
+-- Two calls of one block can be exchanged: if the first ends with Ok, the second after it too, and
+-- the first read no key that the second put, each has the same result in the other order.
 abbrev pub CallsCanBeExchanged : Type 0
 CallsCanBeExchanged =
     (functions functions' : List FunctionTree) (s : Scene) (site' : CallSite)

@@ -1,5 +1,5 @@
--- Laws of the meaning of contracts. `functions` are the functions of a contract, a scene is where
--- it is called, and a call has the same meaning wherever it is worked out.
+-- Laws of the meaning of contracts. `functions` are the functions of a contract, and a scene is
+-- where it is called; the same call in the same scene always has the same result.
 use Rattle.std.specs.Prelude.{◌≡◌, ◌≢◌, ◌≤◌, ◌<◌, ◌+◌, ℕ, Bool, true, false, List, ◌++◌, Some, IsSomeAnd}
 use Rattle.std.specs.List.{All}
 use Rattle.lc_base.specs.History.{scan, newest}
@@ -27,7 +27,7 @@ use Rattle.contract_laws.specs.CallLookups.{questions_of, keys_met}
 
 -- ---- the budget
 
--- The cost of a function, and what its body leaves of the budget, are the whole budget.
+-- The cost of a function and what its body leaves of the budget add up to the budget.
 abbrev pub CostAndLeftAreTheBudget : Type 0
 CostAndLeftAreTheBudget =
     (s : Scene) (function : FunctionTree) (args : List Value)
@@ -36,25 +36,25 @@ CostAndLeftAreTheBudget =
     (machine s.site.budget captured_none))).left
     ≡ s.site.budget
 
--- What is left of a budget never rises, whatever statements run.
+-- What is left of a budget never grows, whatever statements run.
 abbrev pub NothingIsPaidBack : Type 0
 NothingIsPaidBack =
     (s : Scene) (body : StatementTrees) (variables : List Variable) (m : Machine)
     → (after (statements_run s body variables m)).left ≤ m.left
 
--- A scene with another budget.
+-- The scene with another budget.
 abbrev pub with_budget : ℕ → Scene → Scene
 with_budget budget s = record s { site = record s.site { budget = budget } }
 
--- A call that did not end with OutOfSteps ends alike with a larger budget: with the same status,
--- cost, reads and puts.
+-- A call that didn't end with OutOfSteps has the same result with a larger budget: the same status,
+-- cost, reads, and puts.
 abbrev pub LargerBudgetChangesNothing : Type 0
 LargerBudgetChangesNothing =
     (functions : List FunctionTree) (s : Scene) (args : List Value) (more : ℕ)
     → (call_result functions s args).outcome.status ≢ statuses.OutOfSteps
     → call_result functions (with_budget (s.site.budget + more) s) args ≡ call_result functions s args
 
--- The clock of a loop is no limit of its own: with any clock of at least what is left of the
+-- The clock of a loop isn't a limit of its own: with any clock that is at least what is left of the
 -- budget, the turns of a loop do what the loop does.
 abbrev pub LongerClockChangesNothing : Type 0
 LongerClockChangesNothing =
@@ -65,7 +65,7 @@ LongerClockChangesNothing =
 
 -- ---- dependencies
 
--- What was read before stands first among what was read after.
+-- What was read before is a prefix of what is read after.
 abbrev pub ReadsAreOnlyAdded : Type 0
 ReadsAreOnlyAdded =
     (s : Scene) (body : StatementTrees) (variables : List Variable) (m : Machine)
@@ -79,7 +79,7 @@ ReadsAreOfVersionsBefore =
     → All (λ (read : Read). read.version ≡ block_of (s.place.newest read.key))
     (call_result functions s args).capture.reads
 
--- A dependency was read, and names the version that its key had before the block.
+-- The dependency was read, and names the version that its key had before the block.
 pub record IsReadVersion (s : Scene) (reads : List Read) (dep : Dep) : Type 0 where
   pub read : WasBacked reads dep
   pub version : block_of (s.place.newest dep.key) ≡ Some dep.block
@@ -92,8 +92,8 @@ DependenciesAreReads =
     → All (λ (put : Put). All (IsReadVersion s (call_result functions s args).capture.reads) put.deps)
     (call_result functions s args).capture.puts
 
--- So where a call runs over a history, each dependency names the block of the newest row of its key
--- in the rows of the blocks before.
+-- So if a call runs over a history, each dependency names the block of the newest row of its key
+-- among the rows of the blocks before.
 abbrev pub DependenciesAreNewestRows : Type 0
 DependenciesAreNewestRows =
     (functions : List FunctionTree) (rows : List Row) (written : List ℕ → Bool) (site : CallSite)
@@ -103,19 +103,19 @@ DependenciesAreNewestRows =
     put.deps)
     (call_result functions (scene_of rows written site) args).capture.puts
 
--- A put of a key that is the contract's own, and that the block has not written before.
+-- A put of a key that is the contract's own and that the block hasn't written before.
 pub record IsOwnAndUnwritten (s : Scene) (put : Put) : Type 0 where
   pub own : is_own s.site.contract put.key ≡ true
   pub unwritten : s.place.written put.key ≡ false
 
--- Each key that a call puts is the contract's own, and the block has not written it before, however
+-- Each key that a call puts is the contract's own, and the block hasn't written it before, however
 -- the call ends.
 abbrev pub PutsAreOwnAndUnwritten : Type 0
 PutsAreOwnAndUnwritten =
     (functions : List FunctionTree) (s : Scene) (args : List Value)
     → All (IsOwnAndUnwritten s) (call_result functions s args).capture.puts
 
--- Statements that fail give a status other than Ok. So a call has the status Ok exactly where its
+-- Statements that fail have a status other than Ok. So a call has the status Ok exactly if its
 -- function came to its end or returned.
 abbrev pub FailuresAreNotOk : Type 0
 FailuresAreNotOk =
@@ -126,29 +126,29 @@ FailuresAreNotOk =
 
 -- ---- what a call depends on
 
--- Two scenes have the same newest version of each key that was read.
+-- The scenes have the same newest version of each key that was read.
 abbrev pub HoldAlike : Scene → Scene → List Read → Type 0
 HoldAlike s t reads = All (λ (read : Read). t.place.newest read.key ≡ s.place.newest read.key) reads
 
--- The rows of two scenes give the same answer to each question.
+-- The rows of the scenes answer each question alike.
 abbrev pub AnswerAlike : Scene → Scene → List Query → Type 0
 AnswerAlike s t questions = All (λ query. scan t.rows query ≡ scan s.rows query) questions
 
--- Two scenes agree, of each key, on whether the block has written it.
+-- The scenes agree for each key on whether the block has written it.
 abbrev pub AreWrittenAlike : Scene → Scene → List (List ℕ) → Type 0
 AreWrittenAlike s t keys = All (λ key. t.place.written key ≡ s.place.written key) keys
 
--- What may be said of a call in two scenes.
+-- A statement about a call in two scenes.
 abbrev pub InTwoScenes : Type 1
 InTwoScenes = List FunctionTree → Scene → Scene → List Value → Type 0
 
--- Of each call in two scenes of one call site the second is true, where the first is.
+-- For each call in two scenes of one call site, the premise implies the law.
 abbrev pub AtOneSite : InTwoScenes → InTwoScenes → Type 0
 AtOneSite Premise Law =
     (functions : List FunctionTree) (s t : Scene) (args : List Value)
     → t.site ≡ s.site → Premise functions s t args → Law functions s t args
 
--- Both are true of a call.
+-- Both statements hold.
 abbrev pub Both : InTwoScenes → InTwoScenes → InTwoScenes
 Both One Other functions s t args = One functions s t args × Other functions s t args
 
@@ -156,20 +156,21 @@ Both One Other functions s t args = One functions s t args × Other functions s 
 abbrev pub ReadsHoldAlike : InTwoScenes
 ReadsHoldAlike functions s t args = HoldAlike s t (call_result functions s args).capture.reads
 
--- They answer alike each question that the call asked in the first.
+-- The scenes answer alike each question that the call asked in the first.
 abbrev pub QuestionsAnswerAlike : InTwoScenes
 QuestionsAnswerAlike functions s t args = AnswerAlike s t (questions_of functions s args)
 
--- They agree, of each key that the call met in the first, on whether the block has written it.
+-- The scenes agree, for each key that the call met in the first, on whether the block has written
+-- it.
 abbrev pub KeysAreWrittenAlike : InTwoScenes
 KeysAreWrittenAlike functions s t args = AreWrittenAlike s t (keys_met functions s args)
 
--- All that is recorded of the call in the first is the same in both.
+-- Everything that is recorded of the call in the first scene is the same in both.
 abbrev pub IsRecordedAlike : InTwoScenes
 IsRecordedAlike = Both ReadsHoldAlike (Both QuestionsAnswerAlike KeysAreWrittenAlike)
 
--- The call ends alike in both: with the same status, cost, reads and puts, so with the same rows and
--- dependencies.
+-- The call has the same result in both: the same status, cost, reads, and puts, and so the same
+-- rows and dependencies.
 abbrev pub EndsAlike : InTwoScenes
 EndsAlike functions s t args = call_result functions t args ≡ call_result functions s args
 
@@ -183,7 +184,7 @@ LooksUpAlike functions s t args =
 abbrev pub WhatIsRecordedIsComplete : Type 0
 WhatIsRecordedIsComplete = AtOneSite IsRecordedAlike EndsAlike
 
--- And where that is the same, it asks the same questions, and meets the same keys.
+-- If what is recorded is the same, the call asks the same questions and meets the same keys.
 abbrev pub LookupsAreTheSame : Type 0
 LookupsAreTheSame = AtOneSite IsRecordedAlike LooksUpAlike
 
@@ -193,9 +194,9 @@ QuestionsAreOfBlocksBefore =
     (functions : List FunctionTree) (s : Scene) (args : List Value)
     → All (λ (query : Query). query.at < s.site.number) (questions_of functions s args)
 
--- The same of two histories: where the newest rows of the keys that were read hold the same, the
--- rows answer alike what was asked, and the keys that were met are written alike, a call ends
--- alike.
+-- The same for two histories: if the newest rows of the keys that were read hold the same, the rows
+-- answer the questions alike, and the keys that were met are written alike, a call has the same
+-- result.
 abbrev pub HistoriesWithTheSameReadsGiveTheSame : Type 0
 HistoriesWithTheSameReadsGiveTheSame =
     (functions : List FunctionTree) (rows rows' : List Row) (written written' : List ℕ → Bool)

@@ -1,4 +1,5 @@
--- What an evaluation looks up beside its reads, given part by part beside what each part means.
+-- What an evaluation looks up besides its reads, defined part by part beside the meaning of each
+-- part.
 use Rattle.std.specs.Prelude.{ℕ, ℤ, ◌-◌, nat_le, if◌then◌else◌, List, [], ◌∷◌, ◌++◌, Option, Some, None, Result, Ok, Err}
 use Rattle.lc_base.specs.Parts.{question}
 use Rattle.lc_base.specs.declared.answer.Query.{Query}
@@ -24,8 +25,8 @@ use Rattle.contract_semantics.specs.Asking.{block_before}
 use Rattle.contract_semantics.specs.Builtins.{one_text, text_and_int, text_and_ints}
 use Rattle.contract_semantics.specs.Expressions.{value_of, values_of}
 
--- The questions that are asked of the rows of the blocks before, and the keys of which it is asked
--- whether the block has written them.
+-- The questions that are asked about the rows of the blocks before, and the keys for which it is
+-- checked whether the block has written them.
 pub record Lookups : Type 0 where
   pub asked : List Query
   pub met : List (List ℕ)
@@ -34,24 +35,24 @@ pub record Lookups : Type 0 where
 abbrev pub no_lookups : Lookups
 no_lookups = record { asked = []; met = [] }
 
--- A question is asked.
+-- One question is asked.
 abbrev pub one_asked : Query → Lookups
 one_asked query = record { asked = query ∷ []; met = [] }
 
--- It is asked whether the block has written a key.
+-- It is checked whether the block has written one key.
 abbrev pub one_met : List ℕ → Lookups
 one_met key = record { asked = []; met = key ∷ [] }
 
--- What one part looks up, then what the next one does.
+-- The lookups of one part, then those of the next.
 abbrev pub lookups_of_both : Lookups → Lookups → Lookups
 lookups_of_both first next = record { asked = first.asked ++ next.asked; met = first.met ++ next.met }
 
--- What a step looks up, then what the next one does, where the first did not fail.
+-- The lookups of a step, then those of the next one if the first didn't fail.
 abbrev pub then_lookups : {A : Type 0} → Lookups → Step A → (A → Machine → Lookups) → Lookups
 then_lookups first (Done x m) next = lookups_of_both first (next x m)
 then_lookups first (Failed status m) next = first
 
--- What is looked up after a charge: nothing where the charge is not taken.
+-- The lookups after a charge: none if the charge isn't taken.
 abbrev pub charged_lookups : ℕ → Machine → (Machine → Lookups) → Lookups
 charged_lookups charge m next =
     if nat_le charge m.left then next (record m { left = m.left - charge }) else no_lookups
@@ -63,38 +64,38 @@ abbrev pub unput_lookup : List ℕ → Option Value → Lookups
 unput_lookup key None = one_met key
 unput_lookup key (Some value) = no_lookups
 
--- A read of a key, where the bytes are one.
+-- The same, if the bytes are a key.
 abbrev pub key_lookup : Result (List ℕ) TxStatus → Captured → Lookups
 key_lookup (Ok key) c = unput_lookup key (pending c.puts key)
 key_lookup (Err status) c = no_lookups
 
--- A read of the key that a text is.
+-- A read of the key that a text spells.
 abbrev pub read_lookup : Option (List ℕ) → Captured → Lookups
 read_lookup None c = no_lookups
 read_lookup (Some text) c = key_lookup (key_of_text text) c
 
--- The question about the key that a text is, up to a block before this one.
+-- The question about the key that a text spells, up to a block before this one.
 abbrev pub question_of : ℕ → Kind → List ℕ → ℤ → Result Query TxStatus
 question_of number kind text at =
     and_so (key_of_text text)
     (λ key. and_so (block_before number at) (λ block. Ok (question kind key block)))
 
--- A question, where there is one.
+-- One question, if there is one.
 abbrev pub question_lookup : Result Query TxStatus → Lookups
 question_lookup (Ok query) = one_asked query
 question_lookup (Err status) = no_lookups
 
--- A question about a text and a number.
+-- The question for a text and a number.
 abbrev pub version_lookup : ℕ → Kind → Option (List ℕ × ℤ) → Lookups
 version_lookup number kind None = no_lookups
 version_lookup number kind (Some arg) = question_lookup (question_of number kind arg.0 arg.1)
 
--- A question about a text and the first of two numbers.
+-- The question for a text and the first of two numbers.
 abbrev pub item_lookup : ℕ → Kind → Option (List ℕ × (ℤ × ℤ)) → Lookups
 item_lookup number kind None = no_lookups
 item_lookup number kind (Some arg) = question_lookup (question_of number kind arg.0 arg.1.0)
 
--- What a builtin looks up, in the block of this number.
+-- The lookups of a builtin, in the block `number`.
 abbrev pub builtin_lookups : ℕ → Builtin → List Value → Captured → Lookups
 builtin_lookups number b.GetInt args c = read_lookup (one_text args) c
 builtin_lookups number b.GetText args c = read_lookup (one_text args) c
@@ -115,7 +116,7 @@ builtin_lookups number b.FwdKey args c = item_lookup number Fwd (text_and_ints a
 builtin_lookups number b.BackBlock args c = item_lookup number Back (text_and_ints args)
 builtin_lookups number b.FwdBlock args c = item_lookup number Fwd (text_and_ints args)
 
--- A call of a builtin looks something up once its charge is taken.
+-- A call of a builtin looks something up only once its charge is taken.
 abbrev pub called_lookups : Scene → Option Builtin → List Value → Machine → Lookups
 called_lookups s None args m = no_lookups
 called_lookups s (Some builtin) args m =
@@ -128,13 +129,13 @@ applied_lookups s name args m = called_lookups s (builtin_of name) args m
 
 -- ---- expressions
 
--- The right side of `&&` and `||`, unless the left one decides.
+-- The lookups of the right side of `&&` and `||`, unless the left one decides.
 abbrev pub undecided_lookups : Option ℤ → Lookups → Lookups
 undecided_lookups None rest = rest
 undecided_lookups (Some z) rest = no_lookups
 
 abbrev mutual
-  -- What an expression looks up.
+  -- The lookups of an expression.
   pub value_lookups : Scene → List Variable → Tree → Machine → Lookups
   value_lookups s variables (tree.Int at z) m = no_lookups
   value_lookups s variables (tree.Text at text) m = no_lookups
@@ -150,7 +151,7 @@ abbrev mutual
       (λ m. then_lookups (value_lookups s variables left m) (value_of s variables left m)
       (λ first m. undecided_lookups (left_decision sign first) (value_lookups s variables right m)))
 
-  -- What expressions look up, one after another, after those that are done.
+  -- The lookups of expressions, one after another, after those that are done.
   pub values_lookups : Scene → List Variable → List Value → Trees → Machine → Lookups
   values_lookups s variables done none m = no_lookups
   values_lookups s variables done (more x xs) m =

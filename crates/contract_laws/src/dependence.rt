@@ -1,4 +1,4 @@
-//! Laws of what calls depend on.
+//! What is recorded of a call determines its result.
 
 ghost use Rattle.contract_laws.specs.Laws.{WhatIsRecordedIsComplete, LookupsAreTheSame, QuestionsAreOfBlocksBefore, HistoriesWithTheSameReadsGiveTheSame};
 
@@ -7,7 +7,7 @@ pub fn what_is_recorded_is_complete()
     ensures { WhatIsRecordedIsComplete }
 {}
 
-/// Where that is the same, a call asks the same questions and meets the same keys.
+/// If what is recorded is the same, a call asks the same questions and meets the same keys.
 pub fn lookups_are_the_same()
     ensures { LookupsAreTheSame }
 {}
@@ -17,7 +17,7 @@ pub fn questions_are_of_blocks_before()
     ensures { QuestionsAreOfBlocksBefore }
 {}
 
-/// The same of two histories.
+/// A call over two histories that agree on what is recorded has the same result.
 pub fn histories_with_the_same_reads_give_the_same()
     ensures { HistoriesWithTheSameReadsGiveTheSame }
 {}

@@ -1,4 +1,4 @@
-//! Laws of the meaning of contracts, each the contract of a function that does nothing.
+//! Laws of the meaning of contracts. Each is the contract of a function that does nothing.
 #![tactic(auto)]
 
 mod budget;

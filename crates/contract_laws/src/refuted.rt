@@ -1,18 +1,18 @@
-//! Laws with a premise left out, which are false.
+//! No premise of completeness can be left out: without any one of them the law is false.
 
 ghost use Rattle.contract_laws.specs.FalseLaws.{AllReadsButOneAreComplete, QuestionsDoNotMatter, KeysMetDoNotMatter};
 
-/// A call may end otherwise where one key that it read holds something else.
+/// A call may have another result if one key that it read holds something else.
 pub fn all_reads_but_one_are_not_complete()
     ensures { AllReadsButOneAreComplete → ⊥ }
 {}
 
-/// A call may end otherwise where the rows answer otherwise what it asked.
+/// A call may have another result if the rows answer its questions differently.
 pub fn questions_matter()
     ensures { QuestionsDoNotMatter → ⊥ }
 {}
 
-/// A call may end otherwise where a key that it met is written.
+/// A call may have another result if a key that it met is written.
 pub fn keys_met_matter()
     ensures { KeysMetDoNotMatter → ⊥ }
 {}

@@ -1,8 +1,9 @@
-//! Laws of what calls read and put, and of the dependencies of what they put.
+//! The dependencies of what a call puts are versions that it read, each the newest before its
+//! block.
 
 ghost use Rattle.contract_laws.specs.Laws.{ReadsAreOnlyAdded, ReadsAreOfVersionsBefore, DependenciesAreReads, DependenciesAreNewestRows, PutsAreOwnAndUnwritten, FailuresAreNotOk};
 
-/// What was read before stands first among what was read after.
+/// What was read before is a prefix of what is read after.
 pub fn reads_are_only_added()
     ensures { ReadsAreOnlyAdded }
 {}
@@ -22,12 +23,12 @@ pub fn dependencies_are_newest_rows()
     ensures { DependenciesAreNewestRows }
 {}
 
-/// Each key that is put is the contract's own, and the block has not written it before.
+/// Each key that is put is the contract's own, and the block hasn't written it before.
 pub fn puts_are_own_and_unwritten()
     ensures { PutsAreOwnAndUnwritten }
 {}
 
-/// Statements that fail give a status other than `Ok`.
+/// Statements that fail have a status other than `Ok`.
 pub fn failures_are_not_ok()
     ensures { FailuresAreNotOk }
 {}

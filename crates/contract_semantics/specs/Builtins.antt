@@ -1,4 +1,4 @@
--- What the builtins give.
+-- A builtin returns a value or fails with a status; each is charged before it does anything.
 use Rattle.std.specs.Prelude.{ℕ, ℤ, pos, List, [], ◌∷◌, length, Option, Some, None, Result, Ok, Err}
 use Rattle.std.specs.Fmt.{signed_decimal}
 use Rattle.lc_base.specs.declared.answer.Kind.{Kind}
@@ -23,40 +23,40 @@ use Rattle.contract_semantics.specs.Asking.{version_asked, list_asked, value_tol
 
 -- ---- arguments
 
--- The text that the only argument is.
+-- The text, if it is the only argument.
 abbrev pub one_text : List Value → Option (List ℕ)
 one_text (values.Text text ∷ []) = Some text
 one_text _ = None
 
--- The number that the only argument is.
+-- The number, if it is the only argument.
 abbrev pub one_int : List Value → Option ℤ
 one_int (values.Int z ∷ []) = Some z
 one_int _ = None
 
--- A text and a number.
+-- The arguments, if they are a text and a number.
 abbrev pub text_and_int : List Value → Option (List ℕ × ℤ)
 text_and_int (values.Text text ∷ values.Int z ∷ []) = Some (text, z)
 text_and_int _ = None
 
--- A text and two numbers.
+-- The arguments, if they are a text and two numbers.
 abbrev pub text_and_ints : List Value → Option (List ℕ × (ℤ × ℤ))
 text_and_ints (values.Text text ∷ values.Int y ∷ values.Int z ∷ []) = Some (text, (y, z))
 text_and_ints _ = None
 
--- What is given of arguments, where they are what the builtin takes; those of a checked contract
--- are.
+-- What a builtin returns for its arguments, or WrongKind if they aren't those that it takes, which
+-- no checked contract reaches.
 abbrev pub with_args : {A : Type 0} → Option A → (A → Result Value TxStatus) → Result Value TxStatus
 with_args None next = Err statuses.WrongKind
 with_args (Some x) next = next x
 
--- The same of a builtin that may read.
+-- The same for a builtin that may read.
 abbrev pub reading_args : {A : Type 0} → Option A → Captured → (A → BuiltinResult) → BuiltinResult
 reading_args None c next = (Err statuses.WrongKind, c)
 reading_args (Some x) c next = next x
 
--- ---- what they give
+-- ---- what builtins return
 
--- What a builtin tells of a version; the others tell nothing of one.
+-- What a builtin returns of a version; the builtins that aren't about a version are WrongKind.
 abbrev pub version_value : Builtin → Option Version → Result Value TxStatus
 version_value b.HistInt version = and_so (value_told version) int_in
 version_value b.HistText version = and_so (value_told version) text_in
@@ -65,7 +65,8 @@ version_value b.HistTx version = tx_told version
 version_value b.Seen version = seen_told version
 version_value _ version = Err statuses.WrongKind
 
--- What a builtin tells of a dependency or a use; the others tell nothing of one.
+-- What a builtin returns of a dependency or a use; the builtins that aren't about one are
+-- WrongKind.
 abbrev pub item_value : Builtin → Dep → Result Value TxStatus
 item_value b.BackKey dep = key_value dep
 item_value b.FwdKey dep = key_value dep
@@ -73,25 +74,25 @@ item_value b.BackBlock dep = block_value dep
 item_value b.FwdBlock dep = block_value dep
 item_value _ dep = Err statuses.WrongKind
 
--- What is told of the version of a key up to a block.
+-- What a builtin returns of the version of a key up to a block.
 abbrev pub version_part : List Row → ℕ → Builtin → List Value → Result Value TxStatus
 version_part rows number builtin args =
     with_args (text_and_int args)
     (λ arg. and_so (version_asked rows number arg.0 arg.1) (version_value builtin))
 
--- How many dependencies or uses the version of a key up to a block has.
+-- The number of dependencies or uses of the version of a key up to a block.
 abbrev pub count_part : List Row → ℕ → Kind → List Value → Result Value TxStatus
 count_part rows number kind args =
     with_args (text_and_int args)
     (λ arg. and_so (list_asked rows number kind arg.0 arg.1) count_told)
 
--- What is told of one of them.
+-- What a builtin returns of one of these dependencies or uses.
 abbrev pub item_part : List Row → ℕ → Kind → Builtin → List Value → Result Value TxStatus
 item_part rows number kind builtin args =
     with_args (text_and_ints args)
     (λ arg. and_so (item_asked rows number kind arg.0 arg.1.0 arg.1.1) (item_value builtin))
 
--- What a builtin gives that reads nothing of the present.
+-- What a builtin returns that reads nothing of the present.
 abbrev pub plain_value : List Row → CallSite → Builtin → List Value → Result Value TxStatus
 plain_value rows site b.Caller args = Ok (values.Text site.sender)
 plain_value rows site b.Block args = Ok (values.Int (pos site.number))
@@ -114,7 +115,7 @@ plain_value rows site b.GetInt args = Err statuses.WrongKind
 plain_value rows site b.GetText args = Err statuses.WrongKind
 plain_value rows site b.Has args = Err statuses.WrongKind
 
--- What a builtin gives, and what was read and put by then.
+-- What a builtin returns, and the capture after it.
 abbrev pub builtin_result : Scene → Builtin → List Value → Captured → BuiltinResult
 builtin_result s b.GetInt args c = reading_args (one_text args) c (λ text. of_kind int_in (get_result s.place text c))
 builtin_result s b.GetText args c =
@@ -122,13 +123,13 @@ builtin_result s b.GetText args c =
 builtin_result s b.Has args c = reading_args (one_text args) c (λ text. has_result s.place text c)
 builtin_result s builtin args c = (plain_value s.rows s.site builtin args, c)
 
--- What was taken, as a step.
+-- The step of a builtin's result.
 abbrev pub taken_step : BuiltinResult → Machine → Step Value
 taken_step (Ok value, c) m = Done value (record m { capture = c })
 taken_step (Err status, c) m = Failed status (record m { capture = c })
 
--- A call of a builtin: its charge comes before all that it does. A name that is none of a builtin
--- is in no checked contract.
+-- A call of a builtin, which is charged before it does anything. No checked contract calls a name
+-- that isn't a builtin's.
 abbrev pub builtin_call : Scene → Option Builtin → List Value → Machine → Step Value
 builtin_call s None args m = Failed statuses.WrongKind m
 builtin_call s (Some builtin) args m =

@@ -1,10 +1,11 @@
--- What is charged to the budget of a call.
+-- Every part of a call has a fixed charge, so the cost of a call doesn't depend on the machine that
+-- runs it.
 use Rattle.std.specs.Prelude.{ℕ}
 use Rattle.contract_tree.specs.declared.builtin.Builtin.{Builtin}
 use Rattle.contract_tree.specs.declared.builtin.Builtin.TheVariants as b
 use Rattle.contract_semantics.specs.declared.charge.TheConstants.{CHARGE_READ, CHARGE_HISTORY}
 
--- What a builtin costs beside its own part, once its arguments have their values.
+-- What a builtin costs in addition to its node, once its arguments have been evaluated.
 abbrev pub charge_of : Builtin → ℕ
 charge_of b.GetInt = CHARGE_READ
 charge_of b.GetText = CHARGE_READ

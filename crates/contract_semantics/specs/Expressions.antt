@@ -1,4 +1,4 @@
--- What expressions mean.
+-- An expression has a value or fails with a status; its operands are evaluated from left to right.
 use Rattle.std.specs.Prelude.{ℕ, ℤ, ◌==◌, List, [], ◌∷◌, ◌++◌, find, Option, Some, None, Result, Ok, Err}
 use Rattle.std.specs.Cmp.Lexicographic.{pointwise}
 use Rattle.lc_base.specs.declared.value.Value.{Value}
@@ -15,24 +15,24 @@ use Rattle.contract_semantics.specs.Scenes.{Scene}
 use Rattle.contract_semantics.specs.Builtins.{call_by_name}
 use Rattle.contract_semantics.specs.Steps.{Machine, Step, Done, and_then, after_charge, step_of_result}
 
--- The variable of a name.
+-- The variable with this name.
 abbrev pub variable_of : List Variable → List ℕ → Option Variable
 variable_of variables name =
     find (λ (variable : Variable). pointwise ◌==◌ variable.name name) variables
 
--- The value of a variable; in a checked contract each name that is used is visible.
+-- The value of a variable. Every name that a checked contract uses is visible.
 abbrev pub value_found : Option Variable → Result Value TxStatus
 value_found None = Err WrongKind
 value_found (Some variable) = Ok variable.value
 
--- What the left side decides, or else the rest.
+-- The left side's decision, or else the rest.
 abbrev pub unless_decided : Option ℤ → Step Value → Machine → Step Value
 unless_decided None rest m = rest
 unless_decided (Some z) rest m = Done (values.Int z) m
 
 abbrev mutual
-  -- The value of an expression. Each part takes its charge when it begins, before its operands,
-  -- which come from left to right.
+  -- The value of an expression. Each part is charged when it begins, before its operands, which are
+  -- evaluated from left to right.
   pub value_of : Scene → List Variable → Tree → Machine → Step Value
   value_of s variables (tree.Int at z) m = after_charge CHARGE_NODE m (λ m. Done (values.Int z) m)
   value_of s variables (tree.Text at text) m =
@@ -59,19 +59,19 @@ abbrev mutual
       and_then (value_of s variables x m)
       (λ value m. values_of s variables (done ++ value ∷ []) xs m)
 
--- A call of a builtin by its name, once its own part is charged.
+-- A call of a builtin by its name, after its node has been charged.
 abbrev pub call_value : Scene → List Variable → List ℕ → Trees → Machine → Step Value
 call_value s variables name args m =
     and_then (values_of s variables [] args m) (λ args m. call_by_name s name args m)
 
--- What an operator gives, once its left side has its value.
+-- What an operator returns, once its left side has been evaluated.
 abbrev pub right_value : Scene → List Variable → Sign → Value → Tree → Machine → Step Value
 right_value s variables sign first right m =
     unless_decided (left_decision sign first)
     (and_then (value_of s variables right m) (λ second m. step_of_result (binary_result sign first second) m))
     m
 
--- The value of an expression, once its own part is charged.
+-- The value of an expression, after its node has been charged.
 abbrev pub node_value : Scene → List Variable → Tree → Machine → Step Value
 node_value s variables (tree.Int at z) m = Done (values.Int z) m
 node_value s variables (tree.Text at text) m = Done (values.Text text) m

@@ -1,4 +1,4 @@
--- What calls leave that may ask a host.
+-- A question leaves the host as it was, whatever it answers.
 use Rattle.std.specs.Prelude.{List, Result, IfSome, IsErrOf}
 use Rattle.lc_base.specs.Faults.{HasCause}
 use Rattle.lc_base.specs.declared.host.Host.{Ghosts as Host}
@@ -8,9 +8,9 @@ use Rattle.contract_semantics.specs.declared.stop.EvalStop.{EvalStop}
 use Rattle.contract_semantics.specs.declared.stop.EvalStop.TheVariants as stops
 use Rattle.contract_semantics.specs.Answers.{IsResultOf}
 
--- What a question of a host leaves: the host is the same as before, and the answer is this result of
--- its rows, where they are known, unless it is out of memory or the host failed. A fault is told
--- exactly where the host failed.
+-- What a question to a host leaves. The host is the same as before. If its rows are known, the
+-- answer is this result of them, unless memory ran out or the host failed. A fault is returned
+-- exactly if the host failed.
 pub record Asks {H A B : Type 0} (host : Host H) (old new : H) (view : A → B) (wanted : List Row → Result B TxStatus) (result : Result A EvalStop) : Type 0 where
   pub same : host.same old new
   pub answer : IfSome (host.rows old) (λ rows. IsResultOf view (wanted rows) result)

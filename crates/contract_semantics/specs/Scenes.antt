@@ -1,4 +1,5 @@
--- Where a contract runs.
+-- A scene is everything that a call can depend on besides the functions of its contract and its
+-- arguments.
 use Rattle.std.specs.Prelude.{ℕ, Bool, List, Option}
 use Rattle.lc_base.specs.declared.row.Row.{Row}
 use Rattle.world_state.specs.declared.held.Held.{Held}
@@ -12,13 +13,13 @@ pub record Place : Type 0 where
   pub written : List ℕ → Bool
 
 -- What a contract can learn where it runs: the rows of the blocks before, what keys hold, and who
--- calls which contract in which block.
+-- calls which function in which block.
 pub record Scene : Type 0 where
   pub rows : List Row
   pub place : Place
   pub site : CallSite
 
--- The scene of a history: the rows of the blocks before are these.
+-- The scene over a history: `rows` are the rows of the blocks before.
 abbrev pub scene_of : List Row → (List ℕ → Bool) → CallSite → Scene
 scene_of rows written site =
     record { rows = rows; place = record { newest = held_in rows; written = written }; site = site }

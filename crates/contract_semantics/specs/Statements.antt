@@ -1,4 +1,5 @@
--- What statements do.
+-- A statement ends by going on with new variables, by returning from the function, or by failing
+-- with a status.
 use Rattle.std.specs.Prelude.{ℕ, zero, suc, ◌==◌, Bool, if◌then◌else◌, List, [], ◌∷◌, ◌++◌, length, take, position, slice_set, Option, Some, None, Result, Ok, Err}
 use Rattle.std.specs.Cmp.Lexicographic.{pointwise}
 use Rattle.lc_base.specs.declared.value.Value.{Value}
@@ -15,28 +16,29 @@ use Rattle.contract_semantics.specs.Puts.{captured_by_put}
 use Rattle.contract_semantics.specs.Expressions.{value_of, values_of}
 use Rattle.contract_semantics.specs.Steps.{Machine, Step, Done, Failed, and_then, after_charge}
 
--- How a statement ends: what follows it runs, with these variables, or the function has returned.
+-- How a statement ends without failing: the next one runs, with these variables, or the function
+-- has returned.
 pub data Ending : Type 0 where
   Goes : List Variable → Ending
   Returns : Ending
 
--- What follows runs, unless the function has returned.
+-- Runs what follows, unless the function has returned.
 abbrev pub unless_returned : (List Variable → Machine → Step Ending) → Ending → Machine → Step Ending
 unless_returned next (Goes variables) m = next variables m
 unless_returned next Returns m = Done Returns m
 
--- The names of a block end with it.
+-- The names that a block declares end with it.
 abbrev pub block_ended : List Variable → Ending → Machine → Step Ending
 block_ended outer (Goes variables) m = Done (Goes (take (length outer) variables)) m
 block_ended outer Returns m = Done Returns m
 
 -- ---- variables
 
--- A new variable.
+-- Declares a variable.
 abbrev pub with_variable : List Variable → List ℕ → Value → List Variable
 with_variable variables name value = variables ++ record { name = name; value = value } ∷ []
 
--- The index of the variable of a name.
+-- The index of the variable with this name.
 abbrev pub variable_index : List Variable → List ℕ → Option ℕ
 variable_index variables name =
     position (λ (variable : Variable). pointwise ◌==◌ variable.name name) variables
@@ -60,17 +62,17 @@ condition_step s test variables m =
     after_charge CHARGE_NODE m
     (λ m. and_then (value_of s variables test m) (λ value m. Done (holds value) m))
 
--- How a turn of a loop ends: with another turn to come, or as the loop ends.
+-- How a turn of a loop ends: another turn follows, or the loop ends.
 pub data Turn : Type 0 where
   Again : List Variable → Turn
   Ended : Ending → Turn
 
--- After the body of a loop comes another turn, unless the function has returned.
+-- After the body of a loop another turn follows, unless the function has returned.
 abbrev pub turn_again : Ending → Machine → Step Turn
 turn_again (Goes variables) m = Done (Again variables) m
 turn_again Returns m = Done (Ended Returns) m
 
--- A turn of a loop: its charge and its condition, then the body where that holds.
+-- A turn of a loop: its charge and its condition, then the body if the condition holds.
 abbrev pub loop_turn : Scene → Tree → (List Variable → Machine → Step Ending) → List Variable → Machine → Step Turn
 loop_turn s test body variables m =
     and_then (condition_step s test variables m)
@@ -82,15 +84,15 @@ abbrev pub after_turn : (List Variable → Machine → Step Ending) → Turn →
 after_turn next (Again variables) m = next variables m
 after_turn next (Ended ending) m = Done ending m
 
--- At most so many turns of a loop. Each takes at least one charge, so a clock of what is left of
--- the budget never ends a loop before the budget does.
+-- At most `clock` turns of a loop. Each turn takes at least one charge, so a clock of what is left
+-- of the budget never ends a loop before the budget does.
 unfoldable pub turns : ℕ → (List Variable → Machine → Step Turn) → List Variable → Machine → Step Ending
 turns zero turn variables m = Failed statuses.OutOfSteps m
 turns (suc more) turn variables m = and_then (turn variables m) (after_turn (turns more turn))
 
 -- ---- put
 
--- The values of the keys that a value is said to come from, where there is a `from`.
+-- The values of the keys in a `from`, if there is one.
 abbrev pub parts_values : Scene → List Variable → Option Trees → Machine → Step (Option (List Value))
 parts_values s variables None m = Done None m
 parts_values s variables (Some parts) m =
@@ -101,8 +103,7 @@ abbrev pub put_done : List Variable → Result Captured TxStatus → Machine →
 put_done variables (Ok c) m = Done (Goes variables) (record m { capture = c })
 put_done variables (Err status) m = Failed status m
 
--- A put: its key, its value and the keys that it is said to come from, then a charge, then what it
--- does.
+-- A put: its key, its value, and the keys in its `from` are evaluated, then it is charged and done.
 abbrev pub put_run : Scene → Tree → Tree → Option Trees → List Variable → Machine → Step Ending
 put_run s key value parts variables m =
     after_charge CHARGE_NODE m
@@ -166,24 +167,24 @@ branch_run s (tree.IfElse at test first second) chosen variables m =
     if chosen then block_run s first variables m else block_run s second variables m
 branch_run s _ chosen variables m = Done (Goes variables) m
 
--- At most so many turns of a loop over a body.
+-- At most `clock` turns of a loop over a body.
 abbrev pub loop_run : Scene → Tree → StatementTrees → ℕ → List Variable → Machine → Step Ending
 loop_run s test body clock variables m =
     turns clock (loop_turn s test (statements_run s body)) variables m
 
--- The end of a put, once its parts have their values: its further charge, and what it does.
+-- The end of a put, once its parts have been evaluated: its further charge, and what it does.
 abbrev pub put_end : List ℕ → Place → Value → Value → Option (List Value) → List Variable → Machine → Step Ending
 put_end contract place key value parts variables m =
     after_charge CHARGE_PUT m
     (λ m. put_done variables (captured_by_put contract place key value parts m.capture) m)
 
--- A put, once its key and its value have theirs.
+-- A put, once its key and its value have been evaluated.
 abbrev pub put_of_values : Scene → Value → Value → Option Trees → List Variable → Machine → Step Ending
 put_of_values s key value parts variables m =
     and_then (parts_values s variables parts m)
     (λ parts m. put_end s.site.contract s.place key value parts variables m)
 
--- A put, once its key has its value.
+-- A put, once its key has been evaluated.
 abbrev pub put_of_key : Scene → Value → Tree → Option Trees → List Variable → Machine → Step Ending
 put_of_key s key value parts variables m =
     and_then (value_of s variables value m)

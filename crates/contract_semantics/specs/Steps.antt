@@ -1,19 +1,20 @@
--- Steps of an evaluation, each from one machine to the next.
+-- A step goes from one machine to the next; a failure keeps the machine, so its cost and its reads
+-- are known.
 use Rattle.std.specs.Prelude.{ℕ, ◌-◌, nat_le, if◌then◌else◌, Result, Ok, Err}
 use Rattle.lc_base.specs.declared.tx_status.TxStatus.{TxStatus}
 use Rattle.lc_base.specs.declared.tx_status.TxStatus.TheVariants.{OutOfSteps}
 use Rattle.dep_capture.specs.Captured.{Captured}
 
--- What is left of the budget of a call, and what the call has read and put.
+-- What is left of a call's budget, and what the call has read and put.
 pub record Machine : Type 0 where
   pub left : ℕ
   pub capture : Captured
 
--- A machine of its parts.
+-- The machine with these parts.
 abbrev pub machine : ℕ → Captured → Machine
 machine left capture = record { left = left; capture = capture }
 
--- What a part of a contract gives, or the status with which it fails; and the machine after it.
+-- A result or the status of a failure, with the machine after it.
 pub data Step (A : Type 0) : Type 0 where
   Done : A → Machine → Step A
   Failed : TxStatus → Machine → Step A
@@ -23,12 +24,13 @@ abbrev pub after : {A : Type 0} → Step A → Machine
 after (Done x m) = m
 after (Failed status m) = m
 
--- The next step, with what the first gave, where that did not fail.
+-- The next step, with the result of the first; a failure stops here.
 abbrev pub and_then : {A B : Type 0} → Step A → (A → Machine → Step B) → Step B
 and_then (Done x m) next = next x m
 and_then (Failed status m) next = Failed status m
 
--- The next step after a charge. A charge that is larger than what is left is not taken.
+-- The next step after a charge. A charge larger than what is left isn't taken, and the step is
+-- OutOfSteps.
 abbrev pub after_charge : {B : Type 0} → ℕ → Machine → (Machine → Step B) → Step B
 after_charge charge m next =
     if nat_le charge m.left then next (record m { left = m.left - charge }) else Failed OutOfSteps m
@@ -38,7 +40,7 @@ abbrev pub step_of_result : {A : Type 0} → Result A TxStatus → Machine → S
 step_of_result (Ok x) m = Done x m
 step_of_result (Err status) m = Failed status m
 
--- The second result, with what the first gave, where that is no failure.
+-- The next result, made from the first; a failure stops here.
 abbrev pub and_so : {A B : Type 0} → Result A TxStatus → (A → Result B TxStatus) → Result B TxStatus
 and_so (Ok x) next = next x
 and_so (Err status) next = Err status

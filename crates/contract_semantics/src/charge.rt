@@ -1,23 +1,24 @@
-//! What is charged to the budget of a call.
+//! The charges of a call: fixed numbers, so that every machine finds the same cost.
 
 ghost use Rattle.std.specs.Prelude.{◌≡◌};
 ghost use Rattle.contract_semantics.specs.Charges.{charge_of};
 
 use contract_tree::Builtin;
 
-/// What each statement, each turn of a loop and each part of an expression costs, when it begins.
+/// The charge of each statement, each turn of a loop, and each node of an expression, taken when it
+/// begins.
 pub const CHARGE_NODE: u32 = 1;
 
-/// What a builtin that reads the present value of a key costs, beside its own part.
+/// The further charge of a builtin that reads the present value of a key.
 pub const CHARGE_READ: u32 = 8;
 
-/// What a builtin that asks the history costs, beside its own part.
+/// The further charge of a builtin that asks about the past.
 pub const CHARGE_HISTORY: u32 = 80;
 
-/// What a `put` costs beside its statement, once its parts have their values.
+/// The further charge of a `put`, taken once its parts have been evaluated.
 pub const CHARGE_PUT: u32 = 16;
 
-/// What a builtin costs beside its own part, once its arguments have their values.
+/// The further charge of a builtin, taken once its arguments have been evaluated.
 pub fn charge_of(builtin: Builtin) -> u32
     ensures { result ≡ charge_of builtin }
 {

@@ -1,4 +1,4 @@
-//! What contracts mean when they run: the definitions, and the types that they speak of.
+//! What contracts mean when they run: the definitions, and the types that they need.
 #![tactic(auto)]
 
 mod charge;

@@ -1,4 +1,5 @@
-//! Why an evaluation stops.
+//! Only a status belongs to the ledger; a fault or a want of memory ends the evaluation without
+//! one.
 
 ghost use Rattle.std.specs.Prelude.{◌≡◌};
 ghost use Rattle.contract_semantics.specs.declared.stop.EvalStop.TheVariants as stops;
@@ -9,7 +10,7 @@ use std::alloc::{AllocError, AllocFailed};
 /// Why an evaluation stopped before its end.
 #[derive(Clone, Copy, Debug, PartialEq, Eq)]
 pub enum EvalStop {
-    /// The transaction fails, with this status.
+    /// The transaction fails with this status.
     Status(TxStatus),
     /// The host failed.
     Fault,

@@ -1,10 +1,10 @@
 use lc_base::{Name, Value};
 
-/// A name that is visible, and its value.
+/// A visible name and its value.
 #[derive(Debug, Drop)]
 pub struct Variable {
-    /// The name.
+    /// The name, as the contract declares it.
     pub name: Name,
-    /// What it stands for.
+    /// The value that the name stands for.
     pub value: Value,
 }

@@ -1,4 +1,4 @@
--- Reads and puts keep to what the place says of keys.
+-- A recorded read has the version that its key had.
 use Rattle.std.proofs.Common.{◌≡◌, ℕ, Bool, true, false, cond, List, [], ◌∷◌, ◌++◌, Ok, Err, refl, subst}
 use Rattle.std.specs.Prelude.{nat_le, length}
 use Rattle.std.proofs.lemmas.List.Elements.{All-push}
@@ -12,7 +12,7 @@ use Rattle.contract_semantics.specs.Scenes.{Place}
 use Rattle.contract_semantics.specs.Reading.{block_of, read_result, captured_by_read}
 use Rattle.contract_semantics.specs.Answers.{IsFaithful}
 
--- what is recorded is one of two
+-- The capture after a read is the old one, or the old one with the read.
 of_two : (P : Captured → Type 0) (written known full : Bool) (old pushed new : Captured)
     → cond written (Err Conflict) (read_result (cond known (Ok old) (cond full (Err errors.TooMany) (Ok pushed)))) ≡ Ok new → P old → P pushed → P new
 of_two P true known full old pushed new e is also = absurd cc

@@ -1,4 +1,5 @@
--- What the parts of an evaluation leave of the run that is lent to them.
+-- Every part of an evaluation gets the same run lent, and leaves it a run of the same world, site,
+-- host, and capture.
 use Rattle.std.specs.Prelude.{◌≡◌, ◌≤◌, Result, IfSome, IsErrOf}
 use Rattle.lc_base.specs.Faults.{HasCause}
 use Rattle.lc_base.specs.declared.host.Host.{Ghosts as Host}
@@ -16,14 +17,14 @@ pub record IsLent {C H : Type 0} (old new : Run C H) : Type 0 where
   pub host : new.host.ghost_name ≡ old.host.ghost_name
   pub capture : new.capture.ghost_name ≡ old.capture.ghost_name
 
--- Where the rows of the host are known, a part of an evaluation means this: in their scene, from
--- the machine before it to the machine after it.
+-- If the rows of the host are known, a part of an evaluation means this: in their scene, from the
+-- machine before it to the machine after it.
 abbrev pub Tells : {C H : Type 0} → Host H → Run C H → Run C H → (Scene → Machine → Machine → Type 0) → Type 0
 Tells host old new Means = IfSome (host.rows old.host.now) (λ rows. Means (scene_in rows old.world.now old.site.now) (machine old.left old.capture.now) (machine new.left new.capture.now))
 
--- What holds whether they are known or not: the host is the same as before, nothing of the budget is
--- paid back, what was read and put keeps to the world, and a fault is told exactly where the host
--- failed.
+-- What holds whether the rows are known or not. The host is the same as before, nothing of the
+-- budget is paid back, what was read and put keeps to the world, and a fault is returned exactly if
+-- the host failed.
 pub record KeepsRun {C H A : Type 0} (host : Host H) (old new : Run C H) (result : Result A EvalStop) : Type 0 where
   pub lent : IsLent old new
   pub same : host.same old.host.now new.host.now

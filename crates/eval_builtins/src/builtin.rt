@@ -1,4 +1,5 @@
-//! What builtins give.
+//! A builtin is charged before it does anything; the past is asked of the host, the present of the
+//! world.
 
 ghost use Rattle.std.specs.{Prelude.{◌≡◌, ℕ, pos, length, Ok}, Fmt.{signed_decimal}};
 ghost use Rattle.lc_base.specs.declared.value.Value.TheVariants as values;
@@ -23,7 +24,7 @@ use eval_history::{
 use lc_base::{Dep, Host, Name, Text, TxStatus, Value, Version};
 use std::alloc::Global;
 
-/// Takes a charge from what is left of the budget. One that is larger is not taken.
+/// Takes a charge from the budget. `OutOfSteps` if less than that is left; then nothing is taken.
 pub fn charge(left: &mut u32, charge: u32) -> Result<(), TxStatus>
     ensures { Charges left.old charge result left.new }
 {
@@ -61,7 +62,7 @@ fn item_value(alloc: Global, builtin: Builtin, dep: &Dep) -> Result<Value, EvalS
     }
 }
 
-/// What is told of the version of a key up to a block.
+/// What is wanted of the version of a key up to a block.
 fn version_told<H: Host>(
     alloc: Global,
     number: u32,
@@ -86,7 +87,7 @@ fn version_told<H: Host>(
     }
 }
 
-/// What a builtin tells of one of the dependencies or uses of that version.
+/// What a builtin returns of one of the dependencies or uses of that version.
 fn item_part<H: Host>(
     alloc: Global,
     number: u32,
@@ -135,7 +136,7 @@ fn sender_text(alloc: Global, site: &CallSite) -> Result<Value, EvalStop>
     Ok(Value::Text(Text::from_key(alloc, &site.sender)?))
 }
 
-/// What a builtin gives that reads nothing of the present.
+/// What a builtin returns that reads nothing of the present.
 #[tactic(auto, unfolding(eval_history::specs::Sides::kind_of))]
 fn plain_value<H: Host>(
     alloc: Global,
@@ -175,7 +176,7 @@ fn plain_value<H: Host>(
     }
 }
 
-/// What a builtin gives, and what was read by then.
+/// What a builtin returns; the capture has what it read.
 fn builtin_result<C, H: Host>(
     run: &mut Run<C, H>,
     builtin: Builtin,
@@ -203,7 +204,7 @@ fn builtin_result<C, H: Host>(
     }
 }
 
-/// A call of a builtin, whose charge comes first.
+/// A call of a builtin, which is charged first.
 fn builtin_call<C, H: Host>(
     run: &mut Run<C, H>,
     builtin: Option<Builtin>,
@@ -222,7 +223,7 @@ fn builtin_call<C, H: Host>(
     }
 }
 
-/// A call of a builtin by its name: its charge, then what it does.
+/// A call of a builtin by its name: it is charged first.
 ///
 /// # Errors
 ///

@@ -1,4 +1,4 @@
-//! What builtins give.
+//! Evaluates builtins over a world, a capture, and a host.
 #![tactic(auto)]
 
 mod arguments;

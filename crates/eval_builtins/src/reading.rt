@@ -1,4 +1,5 @@
-//! What a contract reads of the present: the value of a key.
+//! A contract reads what its transaction has put, or else the version that the key had before the
+//! block, which is recorded.
 
 ghost use Rattle.std.specs.Prelude.{◌≡◌, Ok};
 ghost use Rattle.dep_capture.specs.Capture.{pending};
@@ -18,7 +19,7 @@ use lc_base::{Duplicate, Key, Text, TxStatus, Value};
 use std::alloc::Global;
 use world_state::World;
 
-/// The same value again.
+/// A copy of a value.
 pub fn copy_of(alloc: Global, value: &Value) -> Result<Value, EvalStop>
     ensures value { IsResultOf (λ value. value) (Ok value.now) result }
     ensures no_fault { IsNoFault result }
@@ -26,7 +27,7 @@ pub fn copy_of(alloc: Global, value: &Value) -> Result<Value, EvalStop>
     Ok(value.copy(alloc)?)
 }
 
-/// A value, where it is of this kind.
+/// The value if it is of this kind, else `WrongKind`.
 pub(crate) fn in_kind(kind: ValueKind, value: Value) -> Result<Value, TxStatus>
     ensures { result ≡ in_kind kind value }
 {
@@ -46,7 +47,7 @@ fn version_block<C>(world: &World<C>, key: &Key) -> Option<u32>
     }
 }
 
-/// Records the read of a key that the block has not written.
+/// Records the read of a key; `Conflict` if the block has written the key.
 fn read<C>(world: &World<C>, capture: &mut Capture, key: &Key) -> Result<(), EvalStop>
     ensures taken { ReadsOrRefuses (captured_by_read (place_in world.now) key.now capture.old) capture.old result capture.new }
     ensures faithful { IsFaithful (place_in world.now) capture.old → IsFaithful (place_in world.now) capture.new }
@@ -106,7 +107,7 @@ fn is_held<C>(world: &World<C>, capture: &mut Capture, key: &Key) -> Result<Valu
     }
 }
 
-/// The value of this kind at the key that a text is.
+/// The value of this kind at the key that a text spells.
 pub(crate) fn get<C>(
     alloc: Global,
     world: &World<C>,
@@ -123,7 +124,7 @@ pub(crate) fn get<C>(
     Ok(in_kind(kind, value)?)
 }
 
-/// Whether there is a value at the key that a text is: 1 or 0.
+/// Whether there is a value at the key that a text spells: 1 or 0.
 pub(crate) fn has<C>(
     world: &World<C>,
     capture: &mut Capture,

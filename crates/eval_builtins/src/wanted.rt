@@ -1,10 +1,10 @@
 use contract_tree::Builtin;
 use eval_history::Side;
 
-/// What is wanted of a version.
+/// What a builtin wants of a version.
 #[derive(Clone, Copy)]
 pub(crate) enum Wanted {
-    /// What this builtin tells of it.
+    /// What this builtin returns of it.
     Part(Builtin),
     /// The length of one of its lists.
     Count(Side),

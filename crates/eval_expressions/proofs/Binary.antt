@@ -1,4 +1,4 @@
--- An operator of the tree, once its left side has its value.
+-- An operator of the tree, once its left side has been evaluated.
 use Rattle.std.proofs.Common.{◌≡◌, ℕ, List, Result, sym, ap, subst, ◌∙◌}
 use Rattle.std.specs.Global.{Box}
 use Rattle.lc_base.specs.declared.value.Value.{Value}

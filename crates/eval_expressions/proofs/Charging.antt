@@ -1,4 +1,4 @@
--- Each part of an expression is charged, and then goes on.
+-- Each part of an expression is charged first, and then goes on as its node does.
 use Rattle.std.proofs.Common.{◌≡◌, List, refl}
 use Rattle.contract_tree.specs.Tree.{Tree}
 use Rattle.contract_tree.specs.Tree as tree

@@ -1,4 +1,4 @@
--- A plain number is the value of its expression; and the value that a name is found to stand for.
+-- A number taken without a call is the value of its expression.
 use Rattle.std.proofs.Common.{◌≡◌, ℕ, ℤ, List, Option, Some, None, Result, Ok, Err, refl, ap}
 use Rattle.std.specs.Option.{option_map}
 use Rattle.lc_base.specs.declared.value.Value.{Value}
@@ -30,7 +30,7 @@ plain_is s variables (tree.Call at name args) m z e = absurd cc
 plain_is s variables (tree.Prefix at sign operand) m z e = absurd cc
 plain_is s variables (tree.Binary at sign left right) m z e = absurd cc
 
--- the value of a name, by what it stands for
+-- The value of a name, given what it stands for.
 abbrev pub stands_for : Option Value → Result Value TxStatus
 stands_for None = Err WrongKind
 stands_for (Some value) = Ok value

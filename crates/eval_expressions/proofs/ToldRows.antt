@@ -1,4 +1,4 @@
--- What holds where an option is told, and where no host failed.
+-- Facts that hold only if a host's rows are known, and if no host failed.
 use Rattle.std.proofs.Common.{◌≡◌, ℕ, eqb, inl, inr, Option, Some, None, refl, sym, ◌∙◌, subst, true≢false}
 use Rattle.std.specs.Prelude.{IfSome}
 use Rattle.std.proofs.lemmas.Bool.{cases_Bool, eqb-true, eq-eqb}
@@ -10,7 +10,7 @@ pub told_all : {T : Type 0} (P : T → Type 0) (o : Option T) → ((x : T) → o
 told_all P None h = tt
 told_all P (Some x) h = h x refl
 
--- a call that blames no host leaves its count of faults as it was
+-- A call that doesn't report a fault leaves the host's count of faults as it was.
 pub unblamed : (before now : ℕ) → ((now ≡ before → ⊥) → ⊥) → now ≡ before
 unblamed before now told =
     elim (cases_Bool (eqb now before)) [

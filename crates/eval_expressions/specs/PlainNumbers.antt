@@ -1,4 +1,4 @@
--- Numbers that take no further step.
+-- A literal, or a name that stands for a number, is a number without any further step.
 use Rattle.std.specs.Prelude.{ℤ, List, Option, Some, None}
 use Rattle.lc_base.specs.declared.value.Value.{Value}
 use Rattle.lc_base.specs.declared.value.Value.TheVariants as values
@@ -7,17 +7,17 @@ use Rattle.contract_tree.specs.Tree as tree
 use Rattle.contract_semantics.specs.declared.variable.Variable.{Variable}
 use Rattle.eval_variables.specs.Named.{value_in}
 
--- The number that a value is, where it is one.
+-- The number, if the value is one.
 abbrev pub number_in : Value → Option ℤ
 number_in (values.Int z) = Some z
 number_in (values.Text text) = None
 
--- The number that a name stands for, where it stands for one.
+-- The number that a name stands for, if it stands for one.
 abbrev pub number_found : Option Value → Option ℤ
 number_found None = None
 number_found (Some value) = number_in value
 
--- The number of an expression that is a literal or a name, where it is one.
+-- The number of an expression that is a literal, or a name that stands for a number.
 abbrev pub plain_number : List Variable → Tree → Option ℤ
 plain_number variables (tree.Int at z) = Some z
 plain_number variables (tree.Text at text) = None

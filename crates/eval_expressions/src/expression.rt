@@ -1,4 +1,4 @@
-//! The values of expressions.
+//! Expressions are evaluated by recursion over the tree; each part is charged before its operands.
 
 ghost use Rattle.std.specs.{Prelude.{◌≡◌, [], Ok, map}, Option.{option_copied}};
 ghost use Rattle.contract_tree.specs.Tree.{tree_of, trees};
@@ -28,7 +28,7 @@ fn named_value(alloc: Global, variables: &Variables, name: &Name) -> Result<Valu
     }
 }
 
-/// The number that a name stands for.
+/// The number that a name stands for, if it stands for one.
 fn number_found(value: Option<&Value>) -> Option<i64>
     ensures { result ≡ number_found (option_copied value.entry) }
 {
@@ -38,7 +38,7 @@ fn number_found(value: Option<&Value>) -> Option<i64>
     }
 }
 
-/// The number of a literal, or of a name that stands for one: a value that takes no further step.
+/// The number of a literal, or of a name that stands for one: it takes no further step.
 fn plain_number(variables: &Variables, x: &Expr) -> Option<i64>
     ensures { result ≡ plain_number variables.now (tree_of x.now) }
 {
@@ -49,7 +49,7 @@ fn plain_number(variables: &Variables, x: &Expr) -> Option<i64>
     }
 }
 
-/// The value of an expression.
+/// The value of an expression, within what is left of the budget.
 #[inline(always)]
 #[cycle(value)]
 #[tactic(auto, using(crate::proofs::Charging::charged_node, crate::proofs::PlainNumbers::plain_is))]
@@ -69,7 +69,7 @@ pub fn value<C, H: Host>(
     }
 }
 
-/// The value of an expression, once its own part is charged.
+/// The value of an expression, after its node has been charged.
 #[cycle(value)]
 #[inline(never)]
 fn node<C, H: Host>(run: &mut Run<C, H>, variables: &Variables, x: &Expr) -> Result<Value, EvalStop>
@@ -97,7 +97,7 @@ fn node<C, H: Host>(run: &mut Run<C, H>, variables: &Variables, x: &Expr) -> Res
     }
 }
 
-/// What an operator gives, once its left side has its value.
+/// What an operator returns, once its left side has been evaluated.
 #[cycle(value)]
 fn right<C, H: Host>(
     run: &mut Run<C, H>,
@@ -119,7 +119,7 @@ fn right<C, H: Host>(
     }
 }
 
-/// A call of a builtin, once its part is charged.
+/// A call of a builtin, after its node has been charged.
 #[cycle(value)]
 fn call<C, H: Host>(
     run: &mut Run<C, H>,

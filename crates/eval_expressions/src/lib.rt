@@ -1,4 +1,4 @@
-//! What expressions give.
+//! Evaluates expressions within what is left of a budget.
 #![tactic(auto)]
 
 mod expression;

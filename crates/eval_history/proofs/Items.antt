@@ -1,4 +1,5 @@
--- Counts and items of lists, as a host tells them.
+-- The count and the items that a host returns one by one are those of the list that scanning its
+-- rows returns.
 use Rattle.std.proofs.Common.{◌≡◌, ℕ, ℤ, pos, negsuc, Bool, true, false, cond, ltb, List, length, Option, Some, None, Ok, Err, refl, ap, ◌∙◌, arith}
 use Rattle.std.specs.Prelude.{slice_get, IfSome}
 use Rattle.std.specs.Option.{option_map}
@@ -40,7 +41,7 @@ no_item (Some deps) (negsuc n) status e = let same : BadIndex ≡ status = cc in
 no_item_is : (answer : Answer) (index : ℤ) (status : TxStatus) → index_told (count_in answer) index ≡ Err status → item_part_of answer index ≡ Err status
 no_item_is answer index status e = no_item (list_in answer) index status e
 
--- Where the count that a host tells refuses an index, there is no item.
+-- If the host's count refuses an index, there is no item at it.
 pub no_item_told : (rows : Option (List Row)) (query : Query) (count : Option ℕ) (index : ℤ) (status : TxStatus) → IfSome rows (λ rows. IsResultOf (λ (told : Option ℕ). told) (Ok (count_in (scan rows query))) (Ok count)) → index_told count index ≡ Err status → IfSome rows (λ rows. IsResultOf (λ (dep : Dep). dep) (item_part_of (scan rows query) index) (Err (stops.Status status)))
 no_item_told None query count index status told refused = _
 no_item_told (Some rows) query count index status told refused =

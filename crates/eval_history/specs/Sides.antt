@@ -1,4 +1,4 @@
--- The two lists of a version, and what a host tells of them.
+-- A version has two lists: what it was derived from, and what was derived from it.
 use Rattle.std.specs.Prelude.{ℕ, ◌^◌, Result, Ok, Err}
 use Rattle.lc_base.specs.declared.answer.Kind.{Kind}
 use Rattle.lc_base.specs.declared.answer.Kind.TheVariants as kinds
@@ -9,17 +9,17 @@ use Rattle.contract_semantics.specs.declared.stop.EvalStop.TheVariants as stops
 use Rattle.eval_history.specs.declared.side.Side.{Side}
 use Rattle.eval_history.specs.declared.side.Side.TheVariants.{Back, Fwd}
 
--- The kind of a question about a list.
+-- The kind of the question about a list.
 unfoldable pub kind_of : Side → Kind
 kind_of Back = kinds.Back
 kind_of Fwd = kinds.Fwd
 
--- A list has fewer items than this.
+-- The number of items of a list is below this.
 abbrev pub room_of : Side → ℕ
 room_of Back = 2 ^ 32
 room_of Fwd = 2 ^ 63
 
--- What a host gave, or why it gave nothing.
+-- The host's answer, or why it returned none.
 abbrev pub host_answer : {A : Type 0} → Result A HostError → Result A EvalStop
 host_answer (Ok told) = Ok told
 host_answer (Err errors.Fault) = Err stops.Fault

@@ -1,4 +1,5 @@
-//! What a contract asks of the past.
+//! Questions about the past go to the host, the count of a list before an item of it: so an index
+//! past the end and a version that doesn't exist are reported apart.
 
 ghost use Rattle.std.specs.Prelude.{◌≡◌, ◌<◌, ◌^◌, ℕ, Ok, Some, IfSome, IfOk};
 ghost use Rattle.lc_base.specs.{
@@ -21,7 +22,7 @@ use eval_operators::truth;
 use lc_base::{Dep, Host, HostError, Key, Text, TxStatus, Value, Version};
 use std::alloc::Global;
 
-/// The key that a text is.
+/// The key that a text spells; `BadKey` if it isn't one.
 pub fn key_of_text(text: &Text) -> Result<Key, TxStatus>
     ensures { result ≡ key_of_text text.now }
 {
@@ -31,7 +32,7 @@ pub fn key_of_text(text: &Text) -> Result<Key, TxStatus>
     }
 }
 
-/// A block before the one of this number.
+/// A block before the block `number`; else `BadBlock`.
 pub fn block_before(number: u32, at: i64) -> Result<u32, TxStatus>
     ensures { result ≡ block_before number at }
 {
@@ -42,9 +43,9 @@ pub fn block_before(number: u32, at: i64) -> Result<u32, TxStatus>
     }
 }
 
-// ---- what is told of a version
+// ---- what a contract can learn of a version
 
-/// Its value.
+/// The value of the version; `NoKey` if there is none.
 pub fn value_told(version: Option<Version>) -> Result<Value, TxStatus>
     ensures { result ≡ value_told version }
 {
@@ -54,7 +55,7 @@ pub fn value_told(version: Option<Version>) -> Result<Value, TxStatus>
     }
 }
 
-/// Its block.
+/// The block of the version; `NoKey` if there is none.
 pub fn block_told(version: Option<Version>) -> Result<Value, TxStatus>
     ensures { result ≡ block_told version }
 {
@@ -64,7 +65,7 @@ pub fn block_told(version: Option<Version>) -> Result<Value, TxStatus>
     }
 }
 
-/// The index of its transaction in that block.
+/// The index of the version's transaction in its block; `NoKey` if there is no version.
 pub fn tx_told(version: Option<Version>) -> Result<Value, TxStatus>
     ensures { result ≡ tx_told version }
 {
@@ -74,16 +75,16 @@ pub fn tx_told(version: Option<Version>) -> Result<Value, TxStatus>
     }
 }
 
-/// 1 where there is a version, else 0.
+/// 1 if there is a version, else 0.
 pub fn seen_told(version: Option<Version>) -> Value
     ensures { Ok result ≡ seen_told version }
 {
     Value::Int(truth(version.is_some()))
 }
 
-// ---- what is told of an item of a list
+// ---- what a contract can learn of an item of a list
 
-/// Its key, as a text.
+/// The key of the item, as a text.
 pub fn key_value(alloc: Global, dep: &Dep) -> Result<Value, EvalStop>
     ensures value { IsResultOf (λ value. value) (key_value dep.now) result }
     ensures no_fault { IsNoFault result }
@@ -91,14 +92,14 @@ pub fn key_value(alloc: Global, dep: &Dep) -> Result<Value, EvalStop>
     Ok(Value::Text(Text::from_key(alloc, &dep.key)?))
 }
 
-/// Its block.
+/// The block of the item.
 pub fn block_value(dep: &Dep) -> Value
     ensures { Ok result ≡ block_value dep.now }
 {
     Value::Int(i64::from(dep.block))
 }
 
-/// An index below a count.
+/// The index, if it is from 0 to `count - 1`.
 fn index_below(count: u64, index: i64) -> Option<u64>
     requires { count < 2 ^ 63 }
     ensures index { result ≡ index_in count index }
@@ -113,7 +114,7 @@ fn index_below(count: u64, index: i64) -> Option<u64>
 
 // ---- questions
 
-/// What a host gave, or why it gave nothing.
+/// The host's answer, or why it returned none.
 fn host_answer<T>(given: Result<T, HostError>) -> Result<T, EvalStop>
     ensures { result ≡ host_answer given }
 {
@@ -169,7 +170,8 @@ fn count_value(count: Option<u64>) -> Result<Value, TxStatus>
     }
 }
 
-/// The number of dependencies or of uses of the version of a key up to a block.
+/// The number of dependencies or uses of the version of a key up to a block; `NoKey` if there is no
+/// version.
 #[tactic(auto, using(crate::proofs::Items::count_is))]
 pub fn count_asked<H: Host>(
     host: &mut H,
@@ -204,7 +206,7 @@ fn item_at<H: Host>(
     }
 }
 
-/// The index of a dependency or a use, where it is one of so many.
+/// The index of an item; `NoKey` if there is no version, `BadIndex` if it has no such item.
 fn index_told(count: Option<u64>, index: i64) -> Result<u64, TxStatus>
     requires { IfSome count (λ n. n < 2 ^ 63) }
     ensures index { result ≡ index_told count index }
@@ -225,7 +227,7 @@ fn item_told(dep: Option<Dep>) -> Result<Dep, TxStatus>
     dep.ok_or(TxStatus::BadIndex)
 }
 
-/// A dependency or a use of the version of a key up to a block.
+/// The dependency or use at an index, from 0, of the version of a key up to a block.
 #[tactic(auto, using(crate::proofs::Items::item_is))]
 pub fn item_asked<H: Host>(
     host: &mut H,

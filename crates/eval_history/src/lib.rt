@@ -1,4 +1,4 @@
-//! What a contract asks of the past, by the host.
+//! What a contract asks about the past, answered by a host.
 #![tactic(auto)]
 
 mod asking;

@@ -1,8 +1,8 @@
-/// A list that belongs to a version.
+/// One of the two lists that belong to a version.
 #[derive(Clone, Copy, Debug)]
 pub enum Side {
-    /// What it was derived from: its dependencies.
+    /// What the version was derived from: its dependencies.
     Back,
-    /// What was derived from it: its uses.
+    /// What was derived from the version: its uses.
     Fwd,
 }

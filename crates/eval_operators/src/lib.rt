@@ -1,4 +1,4 @@
-//! What operators give.
+//! Operators on values: each returns a value or fails with a status, as contract_semantics defines.
 #![tactic(auto)]
 
 mod number;

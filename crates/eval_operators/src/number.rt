@@ -1,4 +1,5 @@
-//! Whole numbers of 64 bits.
+//! Arithmetic on whole numbers of 64 bits: a result out of range is `Overflow`, and never wraps
+//! around.
 
 ghost use Rattle.std.specs.Prelude.{◌≡◌, ◌+ℤ◌, ◌-ℤ◌, ◌*ℤ◌, neg_ℤ};
 ghost use Rattle.contract_semantics.specs.Numbers.{in_range, quotient, remainder, truth};
@@ -23,7 +24,8 @@ pub(crate) fn product(a: i64, b: i64) -> Result<i64, TxStatus>
     a.checked_mul(b).ok_or(TxStatus::Overflow)
 }
 
-/// The quotient, truncated toward 0.
+/// The quotient, truncated toward 0. `DivZero` if `b` is 0, `Overflow` if the result is out of
+/// range.
 pub(crate) fn quotient(a: i64, b: i64) -> Result<i64, TxStatus>
     ensures { result ≡ quotient a b }
 {
@@ -33,7 +35,8 @@ pub(crate) fn quotient(a: i64, b: i64) -> Result<i64, TxStatus>
     a.checked_div(b).ok_or(TxStatus::Overflow)
 }
 
-/// The remainder, with the sign of the left side.
+/// The remainder, with the sign of `a`. `DivZero` if `b` is 0, `Overflow` if the quotient is out of
+/// range.
 pub(crate) fn remainder(a: i64, b: i64) -> Result<i64, TxStatus>
     ensures { result ≡ remainder a b }
 {
@@ -49,7 +52,7 @@ pub(crate) fn negation(a: i64) -> Result<i64, TxStatus>
     a.checked_neg().ok_or(TxStatus::Overflow)
 }
 
-/// 1 for what holds, 0 for what does not.
+/// 1 for true, 0 for false.
 pub fn truth(holds: bool) -> i64
     ensures { result ≡ truth holds }
 {

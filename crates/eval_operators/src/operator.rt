@@ -1,4 +1,4 @@
-//! Operators on values.
+//! Operators on values: a checked contract never applies one to values that it doesn't take.
 
 ghost use Rattle.std.specs.Prelude.{◌≡◌};
 ghost use Rattle.contract_semantics.specs.{
@@ -12,7 +12,7 @@ use contract_tree::Sign;
 use lc_base::{Memory, Text, TxStatus, Value};
 use std::alloc::Global;
 
-/// What the left side of `&&` or `||` decides alone: 0 or 1, or `None` where the right side counts.
+/// What the left side of `&&` or `||` decides alone: 0 or 1, or `None` if the right side decides.
 pub fn left_decision(sign: Sign, value: &Value) -> Option<i64>
     ensures { result ≡ left_decision sign value.now }
 {
@@ -59,12 +59,12 @@ fn on_texts(alloc: Global, sign: Sign, a: &Text, b: &Text) -> Result<Value, Eval
     }
 }
 
-/// What two values give under an operator.
+/// The value of an operator applied to two values.
 ///
 /// # Errors
 ///
-/// `Overflow`, `DivZero` and `TextTooLong` as the operator says, or `Memory` for a text. `WrongKind`
-/// where the operator does not take these values, which no checked contract comes to.
+/// `Overflow`, `DivZero`, and `TextTooLong` as the operator says, or `Memory` for a text.
+/// `WrongKind` if the operator doesn't take these values, which no checked contract reaches.
 pub fn binary_result(
     alloc: Global,
     sign: Sign,
@@ -81,12 +81,12 @@ pub fn binary_result(
     }
 }
 
-/// What a value gives under a prefix.
+/// The value of a prefix applied to a value.
 ///
 /// # Errors
 ///
-/// `Overflow` for the least number negated. `WrongKind` where the prefix does not take the value,
-/// which no checked contract comes to.
+/// `Overflow` for the least number negated. `WrongKind` if the prefix doesn't take the value, which
+/// no checked contract reaches.
 pub fn prefix_result(sign: Sign, value: &Value) -> Result<Value, TxStatus>
     ensures { result ≡ prefix_result sign value.now }
 {
@@ -97,7 +97,7 @@ pub fn prefix_result(sign: Sign, value: &Value) -> Result<Value, TxStatus>
     }
 }
 
-/// Whether a condition of this value holds: whether it is not 0.
+/// Whether a condition with this value holds: whether it is a number other than 0.
 pub fn holds(value: &Value) -> bool
     ensures { result ≡ holds value.now }
 {

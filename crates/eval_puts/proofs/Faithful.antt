@@ -1,4 +1,4 @@
--- Puts keep to what the place says of keys.
+-- A put never adds a key that the block has written.
 use Rattle.std.proofs.Common.{◌≡◌, ℕ, Bool, true, false, cond, List, Option, Some, None, Ok, Err, subst}
 use Rattle.std.specs.List.{All}
 use Rattle.std.proofs.lemmas.List.Elements.{All-push, All-set}
@@ -14,7 +14,7 @@ all_with : (P : Put → Type 0) (puts : List Put) (place : Option ℕ) (put : Pu
 all_with P puts None put is all = All-push P puts put all is
 all_with P puts (Some i) put is all = All-set P puts i put is all
 
--- what is put is one of these
+-- The capture after a put that isn't refused is the one with the put.
 of_put : (P : Captured → Type 0) (full unread long : Bool) (put new : Captured)
     → cond full (Err errors.TooMany) (cond unread (Err errors.NotRead) (cond long (Err errors.TooMany) (Ok put))) ≡ Ok new → P put → P new
 of_put P true unread long put new e is = absurd cc

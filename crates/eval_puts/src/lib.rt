@@ -1,4 +1,5 @@
-//! What a put does to what was read and put.
+//! Records puts, or refuses them: only the contract's own keys, and none that the block has
+//! written.
 #![tactic(auto)]
 
 mod putting;

@@ -1,4 +1,4 @@
-//! What a `put` does.
+//! The key of a put is checked first, then the keys that its value is said to come from.
 
 ghost use Rattle.std.specs.{Prelude.{◌≡◌, [], false, Ok, OnOk}, Option.{option_map, option_copied}};
 ghost use Rattle.dep_capture.specs.Capture.{captured_after_put};
@@ -16,7 +16,7 @@ use lc_base::{Key, KeyList, Name, TxStatus, Value};
 use std::alloc::Global;
 use world_state::World;
 
-/// Whether a contract may write the key.
+/// Whether a contract may write the key: it begins with the contract's name and a slash.
 fn is_own(contract: &Name, key: &Key) -> bool
     ensures { result ≡ is_own contract.now key.now }
 {
@@ -45,7 +45,7 @@ fn keys_in(alloc: Global, values: &[Value]) -> Result<KeyList, EvalStop>
     Ok(keys)
 }
 
-/// Whether a put of the key would be one more than a transaction may make.
+/// Whether a put of the key would exceed the number of keys that a transaction may put.
 fn is_one_too_many(capture: &Capture, key: &Key) -> bool
     ensures { result ≡ is_one_too_many capture.now.puts key.now }
 {
@@ -86,7 +86,7 @@ fn key_to_put<C>(
     Ok(())
 }
 
-/// Records a put.
+/// Records a put, or returns the status with which it is refused.
 #[tactic(auto, using(crate::proofs::Faithful::put_faithful))]
 fn record_put(
     capture: &mut Capture,
@@ -106,8 +106,8 @@ fn record_put(
     }
 }
 
-/// Records a put of a value to the key that another value is: the key is looked at first, then the
-/// keys that the value is said to come from.
+/// Records a put of `value` to the key that the value `key` spells. The key is checked first, then
+/// `parts`, the keys that `value` is said to come from.
 ///
 /// # Errors
 ///

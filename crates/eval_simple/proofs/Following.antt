@@ -1,4 +1,4 @@
--- What follows a step.
+-- If a step is done, what follows it is what follows its result.
 use Rattle.std.proofs.Common.{◌≡◌, List, Result, sym, subst}
 use Rattle.contract_semantics.specs.declared.variable.Variable.{Variable}
 use Rattle.contract_semantics.specs.declared.stop.EvalStop.{EvalStop}
@@ -7,7 +7,7 @@ use Rattle.contract_semantics.specs.Statements.{Ending}
 use Rattle.eval_simple.specs.declared.flow.Flow.{Flow}
 use Rattle.eval_simple.specs.Flows.{Flows}
 
--- what follows a step that is done
+-- What follows a step that is done.
 pub then_flows : {A : Type 0} (step : Step A) (x : A) (n : Machine) (next : A → Machine → Step Ending) (result : Result Flow EvalStop) (variables : List Variable) (k : Machine)
     → step ≡ Done x n → Flows (next x n) result variables k → Flows (and_then step next) result variables k
 then_flows step x n next result variables k done flows = subst (λ step. Flows (and_then step next) result variables k) (sym done) flows

@@ -1,4 +1,4 @@
--- Statements that give a name a value.
+-- A declaration and an assignment differ only in what they do with the name.
 use Rattle.std.specs.Prelude.{ℕ, List}
 use Rattle.contract_tree.specs.Tree.{Tree}
 use Rattle.contract_semantics.specs.declared.variable.Variable.{Variable}

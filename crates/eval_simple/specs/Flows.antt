@@ -1,4 +1,4 @@
--- What the statements of the program answer, for their definition.
+-- How the results of the program's statements are compared with the definitions.
 use Rattle.std.specs.Prelude.{◌≡◌, List, Result, Ok, Err}
 use Rattle.contract_semantics.specs.declared.variable.Variable.{Variable}
 use Rattle.contract_semantics.specs.declared.stop.EvalStop.{EvalStop}
@@ -8,8 +8,8 @@ use Rattle.contract_semantics.specs.Statements.{Ending, Goes, Returns}
 use Rattle.eval_simple.specs.declared.flow.Flow.{Flow}
 use Rattle.eval_simple.specs.declared.flow.Flow.TheVariants as flows
 
--- The answer, and the variables and the machine after it, are those of the step, unless it is out
--- of memory, or the host failed.
+-- The result, and the variables and the machine after it, are those of the step, unless memory ran
+-- out or the host failed.
 abbrev pub Flows : Step Ending → Result Flow EvalStop → List Variable → Machine → Type 0
 Flows step (Ok flows.Goes) variables m = step ≡ Done (Goes variables) m
 Flows step (Ok flows.Returns) variables m = step ≡ Done Returns m

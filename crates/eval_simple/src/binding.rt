@@ -3,6 +3,6 @@
 pub enum Binding {
     /// The name becomes visible, and stands for the value.
     Declares,
-    /// The name, which is visible, stands for the value from now on.
+    /// The visible name stands for the value from now on.
     Assigns,
 }

@@ -1,7 +1,7 @@
-/// How a statement ended.
+/// How a statement ended, if it didn't fail.
 #[derive(Clone, Copy, Debug, PartialEq, Eq)]
 pub enum Flow {
-    /// What follows it runs.
+    /// The next statement runs.
     Goes,
     /// The function has returned.
     Returns,

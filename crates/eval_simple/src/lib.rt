@@ -1,5 +1,5 @@
-//! What statements do that have no block: declarations, assignments, puts, `fail` and `return`; and
-//! the conditions of those that have one.
+//! Statements without a block (declarations, assignments, puts, `fail`, and `return`), and the
+//! conditions of those with one.
 #![tactic(auto)]
 
 mod binding;

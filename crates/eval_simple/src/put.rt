@@ -1,4 +1,4 @@
-//! The statement `put`.
+//! A `put` is charged twice: when it begins, and once its parts have been evaluated.
 
 ghost use Rattle.std.specs.{Prelude.{List}, Option.{option_map}};
 ghost use Rattle.contract_tree.specs.Tree.{tree_of, parts_of};
@@ -19,7 +19,7 @@ use eval_puts::put;
 use eval_variables::Variables;
 use lc_base::{Host, Value};
 
-/// The values of the keys that a value is said to come from, where it is said.
+/// The values of the keys in a `from`, if there is one.
 fn parts_values<C, H: Host>(
     run: &mut Run<C, H>,
     variables: &Variables,
@@ -38,7 +38,7 @@ fn parts_values<C, H: Host>(
     }
 }
 
-/// The end of a put, once its parts have their values: its further charge, and what it does.
+/// The end of a put, once its parts have been evaluated: its further charge, and what it does.
 fn put_end<C, H: Host>(
     run: &mut Run<C, H>,
     variables: &Variables,
@@ -63,7 +63,7 @@ fn put_end<C, H: Host>(
     Ok(Flow::Goes)
 }
 
-/// A put, once its key and its value have theirs.
+/// A put, once its key and its value have been evaluated.
 fn put_of_values<C, H: Host>(
     run: &mut Run<C, H>,
     variables: &Variables,
@@ -79,7 +79,7 @@ fn put_of_values<C, H: Host>(
     put_end(run, variables, &key, value, parts)
 }
 
-/// A put, once its key has its value.
+/// A put, once its key has been evaluated.
 fn put_of_key<C, H: Host>(
     run: &mut Run<C, H>,
     variables: &Variables,
@@ -95,7 +95,7 @@ fn put_of_key<C, H: Host>(
     put_of_values(run, variables, key, value, parts)
 }
 
-/// `put key = x from parts;`
+/// Runs `put key = x from parts;`.
 pub fn put_statement<C, H: Host>(
     run: &mut Run<C, H>,
     variables: &Variables,

@@ -1,4 +1,4 @@
-//! Statements that have no block but `put`, and conditions.
+//! Each statement without a block, and each condition, is charged when it begins.
 
 ghost use Rattle.std.specs.Prelude.{◌≤◌, List};
 ghost use Rattle.lc_base.specs.declared.tx_status.TxStatus.TheVariants as statuses;
@@ -24,7 +24,7 @@ use eval_operators::holds;
 use eval_variables::Variables;
 use lc_base::{Host, Name, TxStatus};
 
-/// The charge of a statement, and whether its condition holds.
+/// Charges a statement, and returns whether its condition holds.
 #[inline(always)]
 pub fn condition_step<C, H: Host>(
     run: &mut Run<C, H>,
@@ -40,7 +40,7 @@ pub fn condition_step<C, H: Host>(
     Ok(holds(&value))
 }
 
-/// `let name = x;` or `name = x;`
+/// Runs `let name = x;` or `name = x;`.
 pub fn bind_statement<C, H: Host>(
     run: &mut Run<C, H>,
     variables: &mut Variables,
@@ -61,7 +61,7 @@ pub fn bind_statement<C, H: Host>(
     Ok(Flow::Goes)
 }
 
-/// `fail;`
+/// Runs `fail;`.
 pub fn fail_statement(left: &mut u32) -> Result<Flow, EvalStop>
     ensures step { (variables : List Variable) (c : Captured) → Flows (after_charge CHARGE_NODE (machine left.old c) (λ m. Failed statuses.Failed m)) result variables (machine left.new c) }
     ensures left { left.new ≤ left.old }
@@ -71,7 +71,7 @@ pub fn fail_statement(left: &mut u32) -> Result<Flow, EvalStop>
     Err(EvalStop::Status(TxStatus::Failed))
 }
 
-/// `return;`
+/// Runs `return;`.
 pub fn return_statement(left: &mut u32) -> Result<Flow, EvalStop>
     ensures step { (variables : List Variable) (c : Captured) → Flows (after_charge CHARGE_NODE (machine left.old c) (λ m. Done Returns m)) result variables (machine left.new c) }
     ensures left { left.new ≤ left.old }

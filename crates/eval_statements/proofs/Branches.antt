@@ -1,4 +1,4 @@
--- Statements with blocks, as the program goes about them.
+-- A branch or a loop of the program does what the definition of its statement says.
 use Rattle.std.proofs.Common.{◌≡◌, Bool, List, map, Option, Some, None, Result, sym, subst}
 use Rattle.std.specs.Global.{Vec}
 use Rattle.contract_tree.specs.declared.tree.Expr.{Expr}
@@ -15,7 +15,7 @@ use Rattle.eval_simple.specs.declared.flow.Flow.{Flow}
 use Rattle.eval_simple.specs.Flows.{Flows}
 use Rattle.eval_simple.proofs.Following.{then_flows}
 
--- the same statement, as another tree
+-- The same statement, as another tree.
 as_tree : (run : StatementTree → Step Ending) (s t : StatementTree) (result : Result Flow EvalStop) (variables : List Variable) (k : Machine) → s ≡ t → Flows (run t) result variables k → Flows (run s) result variables k
 as_tree run s t result variables k same flows = subst (λ (u : StatementTree). Flows (run u) result variables k) (sym same) flows
 

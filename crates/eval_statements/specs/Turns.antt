@@ -1,4 +1,4 @@
--- How turns of a loop end in the program, for their definition.
+-- How the results of a loop's turns in the program are compared with the definitions.
 use Rattle.std.specs.Prelude.{◌≡◌, List, Option, Some, None, Result, Ok, Err}
 use Rattle.contract_semantics.specs.declared.variable.Variable.{Variable}
 use Rattle.contract_semantics.specs.declared.stop.EvalStop.{EvalStop}
@@ -8,9 +8,8 @@ use Rattle.contract_semantics.specs.Statements.{Goes, Returns, Turn, Again, Ende
 use Rattle.eval_simple.specs.declared.flow.Flow.{Flow}
 use Rattle.eval_simple.specs.declared.flow.Flow.TheVariants as flows
 
--- The answer of a turn of a loop, and the variables and the machine after it, are those of the
--- step, unless it is out of memory, or the host failed. Where no flow is answered, another turn
--- comes.
+-- The result of a turn of a loop, and the variables and the machine after it, are those of the
+-- step, unless memory ran out or the host failed. `None` means that another turn follows.
 abbrev pub Turns : Step Turn → Result (Option Flow) EvalStop → List Variable → Machine → Type 0
 Turns step (Ok None) variables m = step ≡ Done (Again variables) m
 Turns step (Ok (Some flows.Goes)) variables m = step ≡ Done (Ended (Goes variables)) m

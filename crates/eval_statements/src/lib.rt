@@ -1,4 +1,4 @@
-//! The statements of contracts, one after another, with branches, loops and blocks.
+//! Runs statements one after another, with branches, loops, and blocks.
 #![tactic(auto)]
 
 mod statement;

@@ -1,4 +1,4 @@
-//! Statements in turn: branches, loops, and blocks, whose names end with them.
+//! Branches, loops, and blocks; the names that a block declares end with it.
 
 ghost use Rattle.std.specs.Prelude.{map};
 ghost use Rattle.contract_tree.specs.Tree.{tree_of, statement_of, statement_list};
@@ -16,7 +16,7 @@ use eval_simple::{
 use eval_variables::Variables;
 use lc_base::{Host, TxStatus};
 
-/// A statement.
+/// Runs a statement.
 #[cycle(statement)]
 fn statement<C, H: Host>(
     run: &mut Run<C, H>,
@@ -45,7 +45,7 @@ fn statement<C, H: Host>(
     }
 }
 
-/// The chosen block of an `if`.
+/// Runs the chosen block of an `if`.
 #[cycle(statement)]
 fn branch<C, H: Host>(
     run: &mut Run<C, H>,
@@ -72,7 +72,7 @@ fn branch<C, H: Host>(
     }
 }
 
-/// A turn of a loop: `None` where another turn comes.
+/// Runs a turn of a loop; `None` if another turn follows.
 #[inline(always)]
 #[cycle(statement)]
 fn turn<C, H: Host>(
@@ -94,7 +94,7 @@ fn turn<C, H: Host>(
     }
 }
 
-/// A loop. Each of its turns takes a charge, so that it ends with what is left of the budget.
+/// Runs a loop. Each of its turns takes a charge, so it ends with the budget at the latest.
 #[cycle(statement)]
 #[tactic(auto, using(crate::proofs::Loops::no_turn))]
 fn turns<C, H: Host>(
@@ -118,7 +118,7 @@ fn turns<C, H: Host>(
     Err(EvalStop::Status(TxStatus::OutOfSteps))
 }
 
-/// A block: its statements, one after another, whose names end with it.
+/// Runs the statements of a block, one after another. The names that it declares end with it.
 #[cycle(statement)]
 pub fn block<C, H: Host>(
     run: &mut Run<C, H>,

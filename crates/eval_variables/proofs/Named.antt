@@ -1,4 +1,5 @@
--- Variables in a table by their names.
+-- A table by names stands for the list of its variables: a look-up, an assignment, and the end of a
+-- block agree with the list.
 use Rattle.std.proofs.Common.{◌≡◌, ◌∙◌, ℕ, suc, Bool, true, false, cond, ◌==◌, List, [], ◌∷◌, map, take, position, Option, Some, None, inl, inr, refl, sym, ap}
 use Rattle.std.specs.Option.{option_map}
 use Rattle.std.specs.Map.{lookup, set_value}
@@ -13,7 +14,7 @@ use Rattle.eval_variables.specs.Named.{variable_in, value_in}
 
 -- ---- the value of a name
 
--- equality of names, the other way round
+-- Equality of names, with its sides exchanged.
 turned : (name other : List ℕ) (b : Bool) → pointwise ◌==◌ name other ≡ b → pointwise ◌==◌ other name ≡ b
 turned name other b e = nat_list_eq_equiv.symm other name ∙ e
 
@@ -24,7 +25,7 @@ value_found (e ∷ es) name = elim (cases_Bool (pointwise ◌==◌ name e.0)) [
   | inr f ↦ rw (f, turned name e.0 false f) (value_found es name)
 ]
 
--- ---- another value
+-- ---- an assignment
 
 replaced_after : (at : Option ℕ) (v : Variable) (variables : List Variable) (name : List ℕ) (value : Value) → value_replaced (option_map suc at) (v ∷ variables) name value ≡ v ∷ value_replaced at variables name value
 replaced_after None v variables name value = refl
@@ -51,7 +52,7 @@ value_set (e ∷ es) name value = elim (cases_Bool (pointwise ◌==◌ name e.0)
       ∙ sym (assigned_later (variable_in e) (map variable_in es) name value (turned name e.0 false f))
 ]
 
--- ---- what is kept
+-- ---- the end of a block
 
 pub oldest_kept : (n : ℕ) (entries : List (List ℕ × Value)) → map variable_in (take n entries) ≡ take n (map variable_in entries)
 oldest_kept n entries = sym (take-map variable_in n entries)

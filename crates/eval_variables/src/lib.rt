@@ -1,4 +1,4 @@
-//! The variables of a call, found by their names.
+//! The visible variables of a function, found by their names.
 #![tactic(auto)]
 
 mod variables;

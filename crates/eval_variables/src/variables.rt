@@ -1,4 +1,5 @@
-//! Variables, oldest first.
+//! Variables are kept in the order of their declaration, so the end of a block forgets the newest
+//! ones.
 
 ghost use Rattle.std.specs.{Prelude.{◌≡◌, [], length, take, OnOk, OnErr}, Option.{option_copied}};
 ghost use Rattle.contract_semantics.specs.Statements.{with_variable, with_assignment};
@@ -9,10 +10,10 @@ use name_table::NameTable;
 use std::alloc::Global;
 use std::marker::Model;
 
-/// The visible variables of a function.
+/// The visible variables of a function, the oldest first.
 ///
-/// They stand in a table by their names, so the time of a look-up grows with the logarithm of their
-/// number, whatever their names.
+/// They are kept in a table by their names, so the time of a look-up grows with the logarithm of
+/// their number, whatever their names are.
 #[derive(Drop)]
 pub struct Variables {
     named: NameTable<Value>,
@@ -29,7 +30,7 @@ impl Model for Variables {
 }
 
 impl Variables {
-    /// No variable. It takes no memory.
+    /// No variables. This takes no memory.
     pub fn new(alloc: Global) -> Variables
         ensures { result ≡ [] }
     {
@@ -45,7 +46,7 @@ impl Variables {
         self.named.len()
     }
 
-    /// The value of the variable of a name; `None` exactly where the name isn't visible.
+    /// The value of the variable with this name; `None` exactly if the name isn't visible.
     #[tactic(auto, using(crate::proofs::Named::value_found))]
     pub fn get(&self, name: &Name) -> Option<&Value>
         ensures { option_copied result ≡ value_in self.now name.now }
@@ -53,7 +54,8 @@ impl Variables {
         self.named.get(name)
     }
 
-    /// Gives the variable of a name another value. A name that isn't visible changes nothing.
+    /// Assigns another value to the variable with this name. A name that isn't visible changes
+    /// nothing.
     #[tactic(auto, using(crate::proofs::Named::value_set))]
     pub fn assign(&mut self, name: &Name, value: Value)
         ensures { self.new ≡ with_assignment self.old name.now value }
@@ -61,7 +63,7 @@ impl Variables {
         self.named.set(name, value);
     }
 
-    /// Makes a name visible, with this value. Out of memory, nothing changes.
+    /// Makes a name visible, with this value. If memory runs out, nothing changes.
     pub fn declare(&mut self, name: &Name, value: Value) -> Result<(), Memory>
         ensures ok { OnOk result (self.new ≡ with_variable self.old name.now value) }
         ensures err { OnErr result (self.new ≡ self.old) }
@@ -69,7 +71,7 @@ impl Variables {
         self.named.push(name, value)
     }
 
-    /// Forgets all variables but so many of the oldest.
+    /// Forgets all variables but the oldest `count`.
     #[tactic(auto, using(crate::proofs::Named::oldest_kept))]
     pub fn keep(&mut self, count: usize)
         ensures { self.new ≡ take count self.old }

@@ -1,4 +1,4 @@
--- The parts of a proof's texts, one after another.
+-- The parts that are pushed one after another are the texts of the proof.
 use Rattle.std.proofs.Common.{◌≡◌, ℕ, List, [], ◌∷◌, ◌++◌, map, sym, ap, ◌∙◌, append-nil, append_assoc}
 use Rattle.merkle_tree.specs.Tree.{leaf_text, climb_texts_to}
 use Rattle.merkle_tree.specs.declared.limits.TheConstants.{MAX_HEIGHT}

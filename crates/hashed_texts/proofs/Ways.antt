@@ -1,4 +1,4 @@
--- The texts of the nodes on a way, where the height is counted down.
+-- The texts of the nodes on the climb, for a height that is counted down from the top.
 use Rattle.std.proofs.Common.{◌≡◌, ℕ, zero, suc, ◌-◌, ◌^◌, ◌<◌, ◌≤◌, [], ◌∷◌, ◌++◌, refl, ap, ◌∙◌, arith}
 use Rattle.std.proofs.lemmas.Bool.{le-ltb}
 use Rattle.merkle_tree.specs.Tree.{climb_to, climb_texts_to, Climb, text_on_left, text_on_right}

@@ -1,4 +1,5 @@
-//! The texts that a proof tells of, as a list; and texts of any kind, added to a list.
+//! Collects the texts that a proof shows; each text is what one digest of the proof is computed
+//! from.
 #![tactic(auto)]
 
 mod lists;

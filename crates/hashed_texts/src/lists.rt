@@ -1,4 +1,4 @@
-//! The texts of the lists of a proof.
+//! The texts of a proof's headers, body, and uses, each appended in the order in which it is read.
 
 ghost use Rattle.std.specs.{Prelude.{◌≡◌, [], ◌∷◌, ◌++◌, map, OnOk}, Option.{option_map}};
 ghost use Rattle.merkle_tree.specs.Chains.{chain_texts};
@@ -17,7 +17,7 @@ fn push_header(texts: &mut TextList, header: &HeaderView) -> Result<(), Memory>
     push_tagged(texts, HEADER, header.bytes())
 }
 
-/// Adds the texts of some headers.
+/// Appends the texts of headers.
 pub(crate) fn push_headers(texts: &mut TextList, headers: HeadersView) -> Result<(), Memory>
     ensures { OnOk result (texts.new ≡ texts.old ++ map header_text headers.entry) }
 {
@@ -34,7 +34,7 @@ fn push_one_body(texts: &mut TextList, body: &BodyView) -> Result<(), Memory>
     push_tagged(texts, BODY, body.bytes())
 }
 
-/// Adds the text of a body, where there is one.
+/// Appends the text of the body, if there is one.
 pub(crate) fn push_body(texts: &mut TextList, body: Option<&BodyView>) -> Result<(), Memory>
     ensures { OnOk result (texts.new ≡ texts.old ++ body_texts (option_map (λ body. body.now.value) body.entry)) }
 {
@@ -44,7 +44,7 @@ pub(crate) fn push_body(texts: &mut TextList, body: Option<&BodyView>) -> Result
     }
 }
 
-/// Adds the texts of uses, after those of this digest.
+/// Appends the texts of uses; `digest` is that of the uses before them.
 fn push_uses_after(texts: &mut TextList, digest: Digest, uses: UseView) -> Result<(), Memory>
     ensures { OnOk result (texts.new ≡ texts.old ++ chain_texts use_text digest.0 uses.entry) }
 {
@@ -57,7 +57,7 @@ fn push_uses_after(texts: &mut TextList, digest: Digest, uses: UseView) -> Resul
     Ok(())
 }
 
-/// Adds the texts of uses, where there are any.
+/// Appends the texts of the uses, if there are any.
 pub(crate) fn push_uses(texts: &mut TextList, uses: Option<UseView>) -> Result<(), Memory>
     ensures { OnOk result (texts.new ≡ texts.old ++ uses_texts uses.entry) }
 {

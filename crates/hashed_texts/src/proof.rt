@@ -1,4 +1,4 @@
-//! The texts of a proof.
+//! The texts of a proof are in the order in which a verifier computes their digests.
 
 ghost use Rattle.std.specs.Prelude.{◌≡◌, [], ◌∷◌, ◌++◌, length, OnOk, IfOk};
 ghost use Rattle.merkle_tree.specs.{
@@ -24,7 +24,7 @@ fn push_leaf(texts: &mut TextList, leaf: &LeafView) -> Result<(), Memory>
     push_tagged(texts, LEAF, leaf.bytes())
 }
 
-/// Adds the texts of the nodes from the leaf upward, and that of the root.
+/// Appends the texts of the nodes from the leaf upward, then that of the root.
 fn push_upward(texts: &mut TextList, proof: &ProofView) -> Result<(), Memory>
     requires { length proof.now.audit ≡ audit_length proof.now.leaf_index proof.now.leaf_count }
     ensures { OnOk result (texts.new ≡ texts.old ++ (climb_texts_to MAX_HEIGHT proof.now.leaf_index proof.now.leaf_count (climb_of proof.now) ++ root_text_of proof.now ∷ [])) }
@@ -35,8 +35,8 @@ fn push_upward(texts: &mut TextList, proof: &ProofView) -> Result<(), Memory>
     push_root(texts, proof.root_at(), &proof.block_digest(), count, &top)
 }
 
-/// The texts that a proof tells of: that of its leaf, those of the nodes from there upward, that of the
-/// root, those of its headers and of its body, that of the empty forward list, and those of its uses.
+/// The texts of a proof: its leaf, the nodes from there upward, the root, the headers, the body,
+/// the empty forward list, and the uses. `Memory` if the allocator has no room.
 pub fn proof_texts(alloc: Global, proof: &ProofView) -> Result<TextList, Memory>
     requires { length proof.now.audit ≡ audit_length proof.now.leaf_index proof.now.leaf_count }
     ensures { IfOk result (λ texts. texts ≡ proof_texts proof.now) }

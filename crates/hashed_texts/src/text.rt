@@ -1,4 +1,4 @@
-//! Texts, one by one, added to a list.
+//! Every text begins with the tag of its kind, so texts of different kinds differ.
 
 ghost use Rattle.std.specs.Prelude.{◌≡◌, [], ◌∷◌, ◌++◌, OnOk};
 ghost use Rattle.merkle_tree.specs.Tree.{node_text};
@@ -10,7 +10,7 @@ use lc_base::{Bytes, Dep, Digest, Memory, TextList};
 use merkle_tree::NODE;
 use prov_entry::{FORWARD_LINK, ROOT};
 
-/// Adds the text of a tag and these bytes.
+/// Appends the text of a tag and these bytes.
 pub fn push_tagged(texts: &mut TextList, tag: u8, bytes: &[u8]) -> Result<(), Memory>
     ensures { OnOk result (texts.new ≡ texts.old ++ (tag ∷ bytes.now) ∷ []) }
 {
@@ -20,7 +20,7 @@ pub fn push_tagged(texts: &mut TextList, tag: u8, bytes: &[u8]) -> Result<(), Me
     texts.push(Bytes::from_vec(text))
 }
 
-/// Adds the text of a node.
+/// Appends the text of a node over two hashes (RFC 6962, section 2.1).
 pub fn push_node(texts: &mut TextList, left: &Digest, right: &Digest) -> Result<(), Memory>
     ensures { OnOk result (texts.new ≡ texts.old ++ node_text left.now.0 right.now.0 ∷ []) }
 {
@@ -31,7 +31,7 @@ pub fn push_node(texts: &mut TextList, left: &Digest, right: &Digest) -> Result<
     texts.push(Bytes::from_vec(text))
 }
 
-/// Adds the text of a root.
+/// Appends the text of a root: numbers are big-endian.
 pub fn push_root(
     texts: &mut TextList,
     block: u32,
@@ -50,7 +50,7 @@ pub fn push_root(
     texts.push(Bytes::from_vec(text))
 }
 
-/// Adds the text of a use after those of this digest.
+/// Appends the text of a use; `digest` is that of the uses before it.
 pub fn push_use(texts: &mut TextList, digest: &Digest, dep: &Dep) -> Result<(), Memory>
     ensures { OnOk result (texts.new ≡ texts.old ++ use_text digest.now.0 dep.now ∷ []) }
 {

@@ -1,4 +1,5 @@
-//! The texts of the nodes on the way up from a leaf.
+//! The nodes on the climb from a leaf to the top: each is hashed once, and its hash is used for the
+//! next.
 
 ghost use Rattle.std.specs.Prelude.{◌≡◌, ◌+◌, ◌-◌, ◌<◌, ◌≤◌, ◌^◌, [], ◌∷◌, ◌++◌, length, OnOk, IfOk};
 ghost use Rattle.merkle_tree.specs.{
@@ -13,8 +14,8 @@ use lc_base::{Digest, DigestList, Memory, TextList};
 use merkle_tree::{MAX_HEIGHT, node_hash};
 use proof_lists::AuditView;
 
-/// Half of 2 to the power `height`: how many leaves the left part has of a tree that has more of them, and
-/// at most twice as many.
+/// 2 to the power `height - 1`: the number of leaves on the left of a tree that has more of them
+/// than that, and at most twice as many.
 pub fn half_of(height: u32) -> usize
     requires positive { 0 < height }
     requires low { height ≤ MAX_HEIGHT }
@@ -23,8 +24,8 @@ pub fn half_of(height: u32) -> usize
     1usize << (height - 1)
 }
 
-/// Adds the text of the node of which one part has this hash, and the other is the next one of the
-/// path, and goes up to it.
+/// Appends the text of the node that has `hash` on one side and the first hash of `path` on the
+/// other. Returns the node's hash and the rest of the path.
 fn push_above<'a>(
     texts: &mut TextList,
     is_left: bool,
@@ -44,8 +45,8 @@ fn push_above<'a>(
     }
 }
 
-/// Adds the texts of the nodes up to the top of a tree of at most this height, and gives the hash there
-/// and what is left of the path.
+/// Appends the texts of the nodes up to the top of a tree of at most this height. Returns the hash
+/// at the top and the rest of the path.
 #[tactic(auto, using(merkle_tree::proofs::Steps::upward, crate::proofs::Ways::texts_upward))]
 fn push_nodes<'a>(
     texts: &mut TextList,
@@ -82,7 +83,7 @@ fn push_nodes<'a>(
     }
 }
 
-/// The hashes of an audit path.
+/// Copies the hashes of an audit path.
 fn path_of(texts: &TextList, audit: AuditView) -> Result<DigestList, Memory>
     ensures { IfOk result (λ path. path ≡ audit.entry) }
 {
@@ -94,7 +95,7 @@ fn path_of(texts: &TextList, audit: AuditView) -> Result<DigestList, Memory>
     Ok(path)
 }
 
-/// Adds the texts of the nodes on the way up from a leaf, and gives the hash at the top.
+/// Appends the texts of the nodes on the climb from a leaf, and returns the hash at the top.
 pub(crate) fn push_way(
     texts: &mut TextList,
     index: u32,

@@ -1,4 +1,5 @@
--- What the latest version answers, where the proof's body and uses are told by its header.
+-- If the header before the last records the uses that the proof has, and the last header its body,
+-- the proof answers what the latest version does.
 use Rattle.std.proofs.Common.{◌≡◌, ◌∙◌, ℕ, true, ◌==◌, List, [], ◌∷◌, ◌++◌, length, map, drop, Option, Some, None, is_some, refl, sym, ap, arith}
 use Rattle.std.specs.List.{All, AllByRecursion, Contains, concat}
 use Rattle.std.specs.Cmp.Lexicographic.{pointwise}
@@ -50,7 +51,7 @@ deps_are : (named : List BodyDep) (deps : List Dep) → map dep_of (map (with_di
 deps_are named [] = refl
 deps_are named (dep ∷ deps) = ap (λ (t : List Dep). dep ∷ t) (deps_are named deps)
 
--- ---- where there is no body
+-- ---- without a body
 
 pub no_body_fault : (last : Option Header) (body : Option Body) → body ≡ None → fault_of_body last body ≡ None
 no_body_fault None body e = refl
@@ -80,7 +81,7 @@ same_uses xs ys all all' agree e =
 
 -- ---- the answer
 
--- What is known of a proof whose last header is that of a version that answers.
+-- What is known of a proof whose last header is that of the version that answers.
 pub record IsKnown (rows : List Row) (key : List ℕ) (kind : Kind) (row : Row) (last : Header) (claim : Claim) (body : Option Body) (list : Option (List Dep)) : Type 0 where
   pub there : Contains rows row
   pub last_is : last ≡ header_of rows row

@@ -1,4 +1,5 @@
--- Where the headers of a proof link_to, by its leaf.
+-- Which header a proof begins with follows from its leaf: the newest version's, if the leaf is the
+-- key's.
 use Rattle.std.proofs.Common.{◌≡◌, ◌∙◌, ℕ, true, false, ◌&&◌, List, [], Option, Some, None, refl, sym, ap, inl, inr}
 use Rattle.std.specs.List.{All}
 use Rattle.std.proofs.lemmas.Bool.{and_parts}
@@ -18,7 +19,7 @@ use Rattle.typed_ledger.proofs.Spellings.{IsOneOf, newest_there, is_among_keys}
 use Rattle.proof_checks.proofs.Covering.{no_version}
 use Rattle.proof_checks.proofs.Onward.{begun, claim_of_uses, StandsAt, link_to}
 
--- Where a leaf covers the key and is not the key's, the key has no version.
+-- If a leaf covers the key and isn't the key's own, the key has no version.
 pub no_version_of : (rows : List Row) (lawful : IsLawful rows) (are : All IsTypedRow rows) (key : List ℕ) (leaf : Leaf) → IsOneOf rows lawful are leaf → covers key leaf ≡ true → is_of_key key leaf.key ≡ false → newest rows key ≡ None
 no_version_of rows lawful are key leaf one t f =
     let both : (is_below (key_or_empty leaf.key) key && is_before_next key leaf.next) ≡ true = rw f at t in
@@ -29,7 +30,8 @@ no_version_of rows lawful are key leaf one t f =
     by_one (inl first) low next = no_version rows [] key (ap (λ (leaf : Leaf). is_below (key_or_empty leaf.key) key) (sym first) ∙ low) (ap (λ (leaf : Leaf). is_before_next key leaf.next) (sym first) ∙ next)
     by_one (inr of_key) low next = no_version rows of_key.0 key (ap (λ (leaf : Leaf). is_below (key_or_empty leaf.key) key) (sym of_key.2) ∙ low) (ap (λ (leaf : Leaf). is_before_next key leaf.next) (sym of_key.2) ∙ next)
 
--- Where the leaf is that of the key, the key has versions, and it is the history's.
+-- If the leaf is the key's own, the key has versions, and the leaf is the one that the history has
+-- for it.
 pub own_key : (rows : List Row) (lawful : IsLawful rows) (are : All IsTypedRow rows) (key : List ℕ) (leaf : Leaf) → IsOneOf rows lawful are leaf → is_of_key key leaf.key ≡ true → (is_among (keys_of rows) key ≡ true) × (leaf ≡ leaf_of rows key)
 own_key rows lawful are key leaf one t = by_one one
   where
@@ -39,7 +41,7 @@ own_key rows lawful are key leaf one t = by_one one
         let same : of_key.0 ≡ key = same_key of_key.0 key (ap (λ (leaf : Leaf). is_of_key key leaf.key) (sym of_key.2) ∙ t) in
         (ap (is_among (keys_of rows)) (sym same) ∙ is_among_keys rows lawful are of_key.0 of_key.1, of_key.2 ∙ ap (leaf_of rows) same)
 
--- The newest version is expected first.
+-- The newest version's header is expected first.
 pub begins : (rows : List Row) (lawful : IsLawful rows) (are : All IsTypedRow rows) (key : List ℕ) (leaf : Leaf) (row : Row) → newest rows key ≡ Some row → leaf ≡ leaf_of rows key → is_of_key key leaf.key ≡ true → expected_first key leaf ≡ Some (begun rows row)
 begins rows lawful are key leaf row e is t =
     let named = leaf_is_named rows key row lawful e in
@@ -49,7 +51,7 @@ begins rows lawful are key leaf row e is t =
     same_start : (m n : ℕ) (d e : Digest) → m ≡ n → d ≡ e → Some (link_to m d) ≡ Some (link_to n e)
     same_start m n d e block digest = rw (block, digest) refl
 
--- It stands where it is expected, and the leaf tells of its uses.
+-- The newest version is where its header is expected, and the leaf records its uses.
 pub stands : (rows : List Row) (lawful : IsLawful rows) (are : All IsTypedRow rows) (key : List ℕ) (at : ℕ) (leaf : Leaf) (row : Row) → newest rows key ≡ Some row → leaf ≡ leaf_of rows key → StandsAt rows key at (claim_of_leaf leaf) row
 stands rows lawful are key at leaf row e is = record {
   there = newest_there rows lawful are key row e;

@@ -1,4 +1,4 @@
--- Where a leaf covers a key that is not its own, the key has no version.
+-- If a leaf covers a key that isn't its own, the key has no version.
 use Rattle.std.proofs.Common.{◌≡◌, ◌∙◌, ℕ, true, false, List, [], ◌∷◌, refl, ◌==◌, Option, Some, None, ap, subst, is_some, inl, inr}
 use Rattle.std.specs.List.{AllByRecursion}
 use Rattle.std.specs.Cmp.Lexicographic.{pointwise}
@@ -13,7 +13,7 @@ use Rattle.root_laws.proofs.Keys.{same_key, among_is_some}
 use Rattle.root_laws.proofs.NextKeys.{next_is}
 use Rattle.proof_checks.specs.Checks.{is_before_next}
 
--- what is so of all keys is so of one that is among them
+-- What holds of all keys holds of one that is among them.
 pub of_one : (P : List ℕ → Type 0) (keys : List (List ℕ)) (key : List ℕ) → AllByRecursion P keys → is_among keys key ≡ true → P key
 of_one P [] key all t = absurd (not_both false t refl)
 of_one P (other ∷ keys) key all t = elim (cases_Bool (pointwise ◌==◌ other key)) [
@@ -28,7 +28,7 @@ not_among keys low key (Some next) is low_below before t =
     let P : List ℕ → Type 0 = λ (other : List ℕ). is_below low other ≡ true → is_below other next ≡ false in
     not_both (is_below key next) before (of_one P keys key (recursion_from_All P keys is.2) t low_below)
 
--- Between a key and the next one there is none.
+-- No key of the history lies between a leaf's own key and the next one.
 pub no_version : (rows : List Row) (low key : List ℕ) → is_below low key ≡ true → is_before_next key (next_key (keys_of rows) low) ≡ true → newest rows key ≡ None
 no_version rows low key low_below before = elim (option_cases (newest rows key)) [
   | inl none ↦ none

@@ -1,4 +1,4 @@
--- The proof that is made of a history is accepted, with its answer.
+-- The proof made of a history passes every check, and its answer is the history's.
 use Rattle.std.proofs.Common.{◌≡◌, ◌∙◌, ◌⊎◌, ℕ, suc, ◌<◌, Bool, true, false, ◌==◌, nat_le, List, [], ◌∷◌, length, get_or, Option, Some, None, Result, Ok, is_some, refl, sym, ap, ap₂, subst, arith, inl, inr}
 use Rattle.std.specs.List.{All, Contains, filter_map}
 use Rattle.std.specs.Option.{option_map}
@@ -53,11 +53,11 @@ given answer = Ok answer
 same_text : (a a' : ℕ) (d d' : List ℕ) (n n' : ℕ) (h h' : List ℕ) → a ≡ a' → d ≡ d' → n ≡ n' → h ≡ h' → text_of_root a d n h ≡ text_of_root a' d' n' h'
 same_text a a' d d' n n' h h' a_is d_is n_is h_is = rw (a_is, d_is, n_is, h_is) refl
 
--- no check fails
+-- If none of the six checks fails, there is no fault.
 none_fails : (a b c d e f : Option Reject) → a ≡ None → b ≡ None → c ≡ None → d ≡ None → e ≡ None → f ≡ None → first_fault (a ∷ b ∷ c ∷ d ∷ e ∷ f ∷ []) ≡ None
 none_fails a b c d e f a_is b_is c_is d_is e_is f_is = rw (a_is, b_is, c_is, d_is, e_is, f_is) refl
 
--- what is told of the uses is so
+-- A claim made from a list passes the check of that list.
 own_claim : (list : List Dep) → fault_of_uses (claim_of_uses list) (Some list) ≡ None
 own_claim list = rw (eq-eqb (length list) (length list) refl, key_is_key (uses_digest list)) refl
 
@@ -109,7 +109,7 @@ module _ (rows : List Row) (block : ℕ) (digest : List ℕ) (proof : Proof) (la
   one : IsOneOf rows lawful are proof.leaf
   one = leaf_cases rows lawful are proof.leaf (proof.leaf_index, within, get_or_from_slice_get (leaves rows) proof.leaf_index proof.leaf proof.leaf made.leaf_is)
 
-  -- where the headers pass, and nothing answers
+  -- If the headers pass and no version answers, the verdict is the scan's answer.
   nothing : path_fault proof.query proof ≡ None → latest rows key at ≡ None → verdict (sha256 (root_text block digest (leaves rows))) proof.query proof ≡ Ok (scan rows proof.query)
   unfolding fault_in answer_in
   nothing passes none =
@@ -124,7 +124,7 @@ module _ (rows : List Row) (block : ℕ) (digest : List ℕ) (proof : Proof) (la
       no_list Back = refl
       no_list Fwd = refl
 
-  -- where a version answers
+  -- If the headers pass and a version answers, the verdict is the scan's answer.
   something : path_fault proof.query proof ≡ None → (row : Row) → latest rows key at ≡ Some row → last_of proof.headers ≡ Some (header_of rows row) → claim_before (claim_of_leaf proof.leaf) proof.headers ≡ claim_of_uses (uses rows key row.block)
       → verdict (sha256 (root_text block digest (leaves rows))) proof.query proof ≡ Ok (scan rows proof.query)
   unfolding fault_in answer_in
@@ -166,7 +166,8 @@ module _ (rows : List Row) (block : ℕ) (digest : List ℕ) (proof : Proof) (la
       go (inl none) = nothing passes none.0
       go (inr (row, has, found, last, low, claim)) = something passes row found (end.last_is ∙ ap (λ (h : Header). Some h) last) claim
 
-  -- where the leaf is that of the key
+  -- If the leaf is the key's, the headers pass, and end at the version that answers, or too late if
+  -- none does.
   by_key : is_of_key key proof.leaf.key ≡ true → (path_fault proof.query proof ≡ None) × Ends rows key at (claim_of_leaf proof.leaf) proof.headers
   by_key t =
       let own = own_key rows lawful are key proof.leaf one t in
@@ -181,7 +182,7 @@ module _ (rows : List Row) (block : ℕ) (digest : List ℕ) (proof : Proof) (la
   no_headers : newest rows key ≡ None → proof.headers ≡ []
   no_headers none = made.headers_are ∙ ap (filter_map (header_in rows key)) (path_none rows key at none)
 
-  -- The headers end where a walk over those of the history ends; or there are none, and the key has no version.
+  -- The headers end like that; or there are none, and the key has no version.
   pub made_ends : ((proof.headers ≡ []) × (newest rows key ≡ None)) ⊎ Ends rows key at (claim_of_leaf proof.leaf) proof.headers
   made_ends = elim (cases_Bool (is_of_key key proof.leaf.key)) [
     | inl t ↦ inr (by_key t).1

@@ -1,4 +1,4 @@
--- A proof that is made of a history is lawful: it can be written.
+-- A proof made of a history is lawful, so it can be spelled.
 use Rattle.std.proofs.Common.{◌≡◌, ◌∙◌, ◌⊎◌, ℕ, zero, suc, ◌-◌, ◌<◌, ◌≤◌, ◌^◌, Bool, true, false, ◌==◌, nat_lt, nat_le, List, [], ◌∷◌, length, take, drop, reverse, slice_get, Option, Some, None, is_some, is_none, refl, sym, ap, subst, arith, inl, inr}
 use Rattle.std.specs.List.{find, All, AllByRecursion, Contains}
 use Rattle.std.specs.Option.{option_map}

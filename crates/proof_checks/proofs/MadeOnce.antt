@@ -1,4 +1,4 @@
--- The proof that is made is the only one of its query.
+-- Only one proof is made for a query, since only one leaf covers its key.
 use Rattle.std.proofs.Common.{◌≡◌, ◌∙◌, ◌⊎◌, ℕ, zero, suc, ◌<◌, true, false, List, [], ◌∷◌, length, map, slice_get, Option, Some, None, refl, sym, ap, subst, arith, inl, inr}
 use Rattle.std.specs.List.{All, filter_map}
 use Rattle.std.specs.Option.{option_map}
@@ -35,7 +35,7 @@ use Rattle.proof_checks.proofs.Covering.{of_one}
 
 -- ---- the leaf that covers a key
 
--- Its own key is the key; or it is smaller, and the next one greater.
+-- The leaf's own key is `key`, or it is smaller and the next key is greater.
 abbrev CoversBy : List ℕ → Leaf → Type 0
 CoversBy key leaf = (key_or_empty leaf.key ≡ key) ⊎ ((is_below (key_or_empty leaf.key) key ≡ true) × (is_before_next key leaf.next ≡ true))
 
@@ -51,7 +51,7 @@ covers_by key leaf t = elim (cases_Bool (is_of_key key leaf.key)) [
     of_key None e = absurd cc
     of_key (Some own) e = same_key own key e
 
--- A key that is no greater than this one.
+-- `other` is at most `key`.
 abbrev IsUpTo : List ℕ → List ℕ → Type 0
 IsUpTo key other = (other ≡ key) ⊎ (is_below other key ≡ true)
 
@@ -59,7 +59,8 @@ up_to_key : (key : List ℕ) (leaf : Leaf) → CoversBy key leaf → IsUpTo key 
 up_to_key key leaf (inl own) = inl own
 up_to_key key leaf (inr between) = inr between.0
 
--- Behind a leaf that covers a key there is no other key up to it.
+-- No key of the list lies after the own key of a covering leaf and is at most the key that it
+-- covers.
 none_after : (keys : List (List ℕ)) (key low other : List ℕ) (next : Option (List ℕ)) → IsNext keys low next
     → (low ≡ key) ⊎ ((is_below low key ≡ true) × (is_before_next key next ≡ true))
     → is_below low other ≡ true → is_among keys other ≡ true → IsUpTo key other → ⊥
@@ -85,7 +86,7 @@ module _ (rows : List Row) (lawful : IsLawful rows) (are : All IsTypedRow rows) 
   next_of leaf (inl first) = subst (λ (l : Leaf). IsNext (keys_of rows) (key_or_empty l.key) l.next) (sym first) (next_is (keys_of rows) [])
   next_of leaf (inr of_key) = subst (λ (l : Leaf). IsNext (keys_of rows) (key_or_empty l.key) l.next) (sym of_key.2) (next_is (keys_of rows) of_key.0)
 
-  -- A key that is greater than another is among the keys.
+  -- A leaf's key that is above another key is among the keys.
   greater_among : (low : List ℕ) (leaf : Leaf) → IsOneOf rows lawful are leaf → is_below low (key_or_empty leaf.key) ≡ true → is_among (keys_of rows) (key_or_empty leaf.key) ≡ true
   greater_among low leaf (inl first) below = absurd (not_below_none low (ap (λ (l : Leaf). is_below low (key_or_empty l.key)) (sym first) ∙ below))
   greater_among low leaf (inr of_key) below = ap (λ (l : Leaf). is_among (keys_of rows) (key_or_empty l.key)) of_key.2 ∙ is_among_keys rows lawful are of_key.0 of_key.1
@@ -101,7 +102,7 @@ module _ (rows : List Row) (lawful : IsLawful rows) (are : All IsTypedRow rows) 
     | inr (inr above) ↦ absurd (not_greater key other leaf two one by' by above)
   ]
 
-  -- ---- where it stands
+  -- ---- the index of the leaf
 
   one_at : (index : ℕ) (leaf : Leaf) → slice_get (leaves rows) index ≡ Some leaf → IsOneOf rows lawful are leaf
   one_at index leaf e = leaf_cases rows lawful are leaf (index, slice_get_within (leaves rows) index leaf e, get_or_from_slice_get (leaves rows) index leaf leaf e)

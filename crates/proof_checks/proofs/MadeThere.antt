@@ -1,4 +1,4 @@
--- Some leaf covers each key, so that a proof is made of each query of a key.
+-- Some leaf covers each key, so there is a proof for each query of a key.
 use Rattle.std.proofs.Common.{◌≡◌, ◌∙◌, ◌⊎◌, ℕ, suc, ◌<◌, Bool, true, false, ◌&&◌, ◌||◌, List, [], ◌∷◌, length, map, Option, Some, None, refl, sym, ap, arith, inl, inr}
 use Rattle.std.specs.List.{AllByRecursion, Contains, position_or_len}
 use Rattle.std.proofs.lemmas.Bool.{cases_Bool, cases_lt}
@@ -31,7 +31,8 @@ none_below : (key : List ℕ) → is_below key [] ≡ false
 none_below [] = refl
 none_below (byte ∷ key) = refl
 
--- This is the greatest of the keys that are not above one; the empty string where all are.
+-- `low` is the greatest of the keys that aren't above `key`, or the empty string if all of them
+-- are.
 record IsGreatest (keys : List (List ℕ)) (key low : List ℕ) : Type 0 where
   there : (low ≡ []) ⊎ Contains keys low
   not_above : is_below key low ≡ false
@@ -80,7 +81,7 @@ covers_by : (of_key below before : Bool) → (of_key ≡ true) ⊎ ((below ≡ t
 covers_by of_key below before (inl own) = rw own refl
 covers_by of_key below before (inr between) = rw (between.0, between.1) (or_true of_key)
 
--- A leaf covers a key whose own key is the greatest up to it.
+-- A leaf covers a key if its own key is the greatest one that isn't above it.
 pub leaf_covers : (keys : List (List ℕ)) (key : List ℕ) (leaf : Leaf) → 0 < length key → leaf.next ≡ next_key keys (key_or_empty leaf.key) → is_below key (key_or_empty leaf.key) ≡ false
     → AllByRecursion (λ (other : List ℕ). is_below (key_or_empty leaf.key) other ≡ true → is_below key other ≡ true) keys → covers key leaf ≡ true
 leaf_covers keys key leaf some next not_above above =
@@ -101,7 +102,7 @@ leaf_of_low : (rows : List Row) (low : List ℕ) → (low ≡ []) ⊎ Contains (
 leaf_of_low rows low (inl none) = (sentinel (keys_of rows), (0, omega arith, refl), sym none, ap (next_key (keys_of rows)) (sym none))
 leaf_of_low rows low (inr has) = (leaf_of rows low, leaf_of_key rows low has, refl, refl)
 
--- What passes a test stands at or after the first that does.
+-- If an item passes a test, the first one that does is within the list.
 first_within : {X : Type 0} (test : X → Bool) (xs : List X) (x : X) → Contains xs x → test x ≡ true → position_or_len test xs < length xs
 first_within test xs x has passes = elim (cases_lt (position_or_len test xs) (length xs)) [
   | inl within ↦ within

@@ -1,4 +1,4 @@
--- The walk over the headers of a made proof has no fault, and ends at the version that answers.
+-- The walk over the headers of a made proof has no fault and ends at the version that answers.
 use Rattle.std.proofs.Common.{◌≡◌, ◌∙◌, ℕ, zero, suc, ◌<◌, true, false, ◌==◌, nat_lt, nat_le, List, [], ◌∷◌, map, reverse, slice_get, Option, Some, None, refl, sym, ap, subst, arith, inl, inr}
 use Rattle.std.specs.List.{find, filter_map, Contains}
 use Rattle.std.specs.Option.{option_map, option_or}
@@ -81,7 +81,7 @@ pub path_on : (more : ℕ) (rows : List Row) (key : List ℕ) (at block : ℕ) (
 unfolding path_from
 path_on more rows key at block o f e = rw f (ap (λ (next : Option ℕ). block ∷ path_from more (links rows key) at next) e)
 
--- Where the path ends at a version that leads nowhere.
+-- The path ends at a version that has no link to follow.
 pub path_stops : (more : ℕ) (rows : List Row) (key : List ℕ) (at block : ℕ) → nat_le block at ≡ false → next_block at (links rows key block) ≡ None
     → path_from (suc more) (links rows key) at (Some block) ≡ block ∷ []
 path_stops more rows key at block f e = path_on more rows key at block None f e ∙ ap (λ (rest : List ℕ). block ∷ rest) (ended more at (links rows key))
@@ -99,7 +99,7 @@ one_walked : (rows : List Row) (key : List ℕ) (at step : ℕ) (row : Row) (hea
     → walk_fault at key step (Some (begun rows row)) (header_of rows row ∷ headers) ≡ None
 one_walked rows key at step row headers k rest = ap (λ (fault : Option Reject). option_or fault (walk_fault at key (suc step) (expected_after at (header_of rows row)) headers)) (own_fault rows key step row k) ∙ rest
 
--- It has no fault, and ends where a walk over headers of the history ends.
+-- The walk has no fault, and ends at the version that answers, or too late if none does.
 abbrev pub IsWalked : List Row → List ℕ → ℕ → ℕ → Claim → Row → List Header → Type 0
 IsWalked rows key at step claim row headers = (walk_fault at key step (Some (begun rows row)) headers ≡ None) × Ends rows key at claim headers
 

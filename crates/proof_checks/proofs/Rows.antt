@@ -1,4 +1,5 @@
--- Rows up to a block, and what is found among them.
+-- The latest version up to a block is found as the newest of all, or as the last one before a later
+-- block.
 use Rattle.std.proofs.Common.{◌≡◌, ◌∙◌, ℕ, ◌<◌, ◌≤◌, Bool, true, ◌&&◌, ◌==◌, nat_lt, nat_le, List, [], ◌∷◌, Some, None, refl, sym, ap, arith, filter, reverse, inl, inr}
 use Rattle.std.specs.List.{find}
 use Rattle.std.specs.Cmp.Lexicographic.{pointwise}
@@ -11,7 +12,7 @@ use Rattle.root_laws.proofs.Keys.{same_key}
 
 -- ---- what is found
 
--- the first that passes one test, where it passes a stricter one too
+-- The first item that passes a test is the first that passes a stricter one, if it passes that too.
 pub find_within : {X : Type 0} (p q : X → Bool) (xs : List X) (x : X) → ((y : X) → q y ≡ true → p y ≡ true) → find p xs ≡ Some x → q x ≡ true → find q xs ≡ Some x
 find_within p q [] x stricter e t = absurd (none-some x e)
 find_within {X = X} p q (y ∷ xs) x stricter e t = elim (cases_Bool (p y)) [
@@ -54,7 +55,7 @@ find_in_filter p q (x ∷ xs) = let rest = find_in_filter p q xs in elim (cases_
 
 -- ---- the latest version
 
--- the latest version is the newest one, where that is of a block that is early enough
+-- The latest version is the newest one if the newest one's block is early enough.
 pub latest_is_newest : (rows : List Row) (key : List ℕ) (at : ℕ) (row : Row) → newest rows key ≡ Some row → nat_le row.block at ≡ true → latest rows key at ≡ Some row
 latest_is_newest rows key at row e t =
     find_within (λ (r : Row). pointwise ◌==◌ r.key key) (is_version key at) (reverse rows) row
@@ -67,7 +68,7 @@ pub latest_none : (rows : List Row) (key : List ℕ) (at : ℕ) → newest rows 
 latest_none rows key at e =
     none_within (λ (r : Row). pointwise ◌==◌ r.key key) (is_version key at) (reverse rows) (λ r u. (and_parts (pointwise ◌==◌ r.key key) (nat_le r.block at) u).0) e
 
--- the last version before a block
+-- The versions of the key before a block.
 is_before : List ℕ → ℕ → Row → Bool
 is_before key block row = nat_lt row.block block && pointwise ◌==◌ row.key key
 
@@ -84,7 +85,7 @@ early_is_before key at block l row t =
     let low : row.block ≤ at = leb-true row.block at parts.1 in
     and_from (nat_lt row.block block) (pointwise ◌==◌ row.key key) (lt-ltb row.block block (omega (arith, low, l))) parts.0
 
--- the latest version is the last one before a later block, where that is of a block that is early enough
+-- The latest version is the last one before a later block, if that version's block is early enough.
 pub latest_before : (rows : List Row) (key : List ℕ) (at block : ℕ) (row : Row) → at < block → newest (below rows block) key ≡ Some row → pointwise ◌==◌ row.key key ≡ true → nat_le row.block at ≡ true → latest rows key at ≡ Some row
 latest_before rows key at block row l e k t =
     find_within (is_before key block) (is_version key at) (reverse rows) row (early_is_before key at block l) (sym (newest_before rows key block) ∙ e) (and_from (pointwise ◌==◌ row.key key) (nat_le row.block at) k t)

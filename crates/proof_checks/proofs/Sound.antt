@@ -1,4 +1,4 @@
--- An accepted proof answers what the history does, or two texts have one digest.
+-- An accepted proof answers what the history does, unless two different texts have one digest.
 use Rattle.std.proofs.Common.{◌≡◌, ◌∙◌, ◌⊎◌, ℕ, zero, suc, ◌<◌, ◌^◌, true, false, nat_le, List, [], ◌∷◌, ◌++◌, length, map, drop, get_or, Option, Some, None, is_some, refl, sym, ap, subst, arith, inl, inr}
 use Rattle.std.specs.List.{All, Contains, flat_map}
 use Rattle.std.proofs.lemmas.Bool.{cases_Bool}
@@ -87,7 +87,7 @@ module _ (root : List ℕ) (proof : Proof) (rows : List Row) (block : ℕ) (dige
   few_leaves : length (leaves rows) < 2 ^ 32
   few_leaves = let few = keys_short [] rows in omega (arith, few, lawful.few, length-map (keys_of rows) (leaf_of rows))
 
-  -- the roots
+  -- Both roots have the same text.
   same_roots : root_text_of proof ≡ root_text block digest (leaves rows)
   same_roots = agree.same (root_text_of proof) (root_text block digest (leaves rows))
       (in_part (proof_parts proof) 2 (root_text_of proof ∷ []) (root_text_of proof) refl (alone (root_text_of proof)))
@@ -99,7 +99,7 @@ module _ (root : List ℕ) (proof : Proof) (rows : List Row) (block : ℕ) (dige
       is.root_at_fits block_fits is.leaf_count_fits few_leaves
       (length-climb MAX_HEIGHT proof.leaf_index proof.leaf_count (climb_of proof) (length-sha256 (leaf_text (leaf_bytes proof.leaf)))) (length-tree MAX_HEIGHT texts) same_roots
 
-  -- the leaf
+  -- The proof's leaf is the history's leaf at that index.
   counted : length texts ≡ proof.leaf_count
   counted = texts_counted ∙ sym root_parts.1
 
@@ -133,11 +133,11 @@ module _ (root : List ℕ) (proof : Proof) (rows : List Row) (block : ℕ) (dige
   one : IsOneOf rows lawful are proof.leaf
   one = subst (λ (leaf : Leaf). IsOneOf rows lawful are leaf) (sym leaf_is) (leaf_cases rows lawful are own_leaf own_there)
 
-  -- the way over the headers
+  -- The walk over the headers has no fault.
   path_passes : walk_fault at key 0 (expected_first key proof.leaf) proof.headers ≡ None
   path_passes = sym (path_is proof.query proof) ∙ pass.path_passes
 
-  -- ---- where the leaf is not that of the key
+  -- ---- if the leaf isn't the key's
 
   nothing : latest rows key at ≡ None → is_some proof.body ≡ false → answer_in proof ≡ scan rows proof.query
   unfolding answer_in
@@ -154,7 +154,7 @@ module _ (root : List ℕ) (proof : Proof) (rows : List Row) (block : ℕ) (dige
       let nil : proof.headers ≡ [] = no_more at key 0 proof.headers (sym (ap (λ (o : Option Link). walk_fault at key 0 o proof.headers) none) ∙ path_passes) in
       nothing (latest_none rows key at (no_version_of rows lawful are key proof.leaf one (passed (covers key proof.leaf) rejects.LeafShape pass.leaf_passes) f)) (is.body_if_answered ∙ ap (λ (hs : List Header). is_answer at (last_of hs)) nil)
 
-  -- ---- where it is
+  -- ---- if the leaf is the key's
 
   own_headers : Agree (map header_text proof.headers) (header_texts rows)
   own_headers = agree_parts (joined_texts (proof_parts proof)) (joined_texts (history_parts rows block digest)) (map header_text proof.headers) (header_texts rows) agree

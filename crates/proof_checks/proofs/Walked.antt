@@ -1,4 +1,5 @@
--- Where a walk over headers ends that has no fault.
+-- A walk over headers that has no fault ends at the latest version, or at one that is too late if
+-- none answers.
 use Rattle.std.proofs.Common.{◌≡◌, ◌∙◌, ◌⊎◌, ℕ, zero, suc, ◌+◌, true, false, ◌==◌, nat_le, List, [], ◌∷◌, ◌++◌, length, map, drop, slice_get, Option, Some, None, refl, sym, ap, subst, arith, inl, inr}
 use Rattle.std.specs.List.{All, AllByRecursion, Contains, range_with_len}
 use Rattle.std.specs.Option.{option_or, option_and_then}
@@ -33,12 +34,12 @@ use Rattle.proof_checks.proofs.Onward.{begun, claim_of_uses, StandsAt, GoesOn, o
 
 -- ---- the first fault, from header to header
 
--- the first fault of some headers from a step on, where this is expected there
+-- The first fault of the headers from this step on, with `expected` at the step itself.
 abbrev pub walk_fault : ℕ → List ℕ → ℕ → Option Link → List Header → Option Reject
 walk_fault at key step expected [] = fault_of_step key step expected None
 walk_fault at key step expected (header ∷ headers) = option_or (fault_of_step key step expected (Some header)) (walk_fault at key (suc step) (expected_after at header) headers)
 
--- what is expected so many steps later
+-- The link that is expected after `i` headers.
 abbrev pub expected_from : ℕ → Option Link → List Header → ℕ → Option Link
 expected_from at first headers zero = first
 expected_from at first headers (suc i) = option_and_then (expected_after at) (slice_get headers i)
@@ -79,7 +80,7 @@ walk_is (header ∷ headers) at key step first =
     same zero = let e : step + 1 ≡ suc step + 0 = omega arith in ap (λ (s : ℕ). fault_of_step key s (expected_after at header) (slice_get headers 0)) e
     same (suc i) = let e : step + suc (suc i) ≡ suc step + suc i = omega arith in ap (λ (s : ℕ). fault_of_step key s (option_and_then (expected_after at) (slice_get headers i)) (slice_get headers (suc i))) e
 
--- what is wrong with the headers as a whole is found from header to header
+-- The first fault of the steps is the fault of this walk.
 pub path_is : (query : Query) (proof : Proof) → path_fault query proof ≡ walk_fault query.at query.key 0 (expected_first query.key proof.leaf) proof.headers
 path_is query proof =
     ap first_fault (map_same (step_fault query proof.leaf proof.headers) (fault_from query.at query.key 0 (expected_first query.key proof.leaf) proof.headers) (range_with_len 0 (length proof.headers + 1)) same_step)
@@ -103,7 +104,8 @@ pub no_more : (at : ℕ) (key : List ℕ) (step : ℕ) (headers : List Header) �
 no_more at key step [] e = refl
 no_more at key step (header ∷ headers) e = absurd cc
 
--- The last header is that of the latest version, of whose uses this is told; or no version answers, and the last one is too late.
+-- The last header is that of the latest version, whose uses the claim is of; or no version answers,
+-- and the last header's block is too late.
 pub record Ends (rows : List Row) (key : List ℕ) (at : ℕ) (claim : Claim) (headers : List Header) : Type 0 where
   pub last : Header
   pub last_is : last_of headers ≡ Some last

@@ -1,4 +1,5 @@
--- The proof that is made of an answer.
+-- For each query of a key, one proof is made of a ledger at a block: it can be spelled, and the
+-- root accepts it.
 use Rattle.std.specs.Prelude.{◌≡◌, ◌<◌, ◌≤◌, true, ℕ, List, length, map, reverse, slice_get, slice_index_or, Option, Some, None, Ok}
 use Rattle.std.specs.List.{find, filter_map, position_or_len}
 use Rattle.std.specs.Option.{option_map}
@@ -33,15 +34,15 @@ header_in rows key block = option_map (header_of rows) (find (is_version_in key 
 abbrev pub path_headers : List Row → List ℕ → ℕ → List Header
 path_headers rows key at = filter_map (header_in rows key) (path rows key at)
 
--- Uses, where they are asked.
+-- The uses, if the query asks for them.
 abbrev pub uses_if : Kind → Option (List Dep) → Option (List Dep)
 uses_if Hist list = None
 uses_if Back list = None
 uses_if Fwd list = list
 
--- A proof is made of the rows of a ledger up to a block, which has this digest. It gives the leaf that
--- covers the key, with its audit path; the header of each version on the path of a lookup; the body of
--- the version that answers; and its uses, where they are asked.
+-- The proof is made of the rows of a ledger up to a block with this digest. It has the leaf that
+-- covers the key, with its audit path; the header of each version on the path of the lookup; the
+-- body of the version that answers; and its uses, if the query asks for them.
 pub record IsMade (rows : List Row) (block : ℕ) (digest : List ℕ) (proof : Proof) : Type 0 where
   pub root_at_is : proof.root_at ≡ block
   pub block_digest_is : proof.block_digest.0 ≡ digest
@@ -53,21 +54,21 @@ pub record IsMade (rows : List Row) (block : ℕ) (digest : List ℕ) (proof : P
   pub body_is : proof.body ≡ option_map (body_of rows) (latest rows proof.query.key proof.query.at)
   pub uses_are : proof.uses ≡ uses_if proof.query.kind (option_map (λ (row : Row). uses rows proof.query.key row.block) (latest rows proof.query.key proof.query.at))
 
--- A proof is made of a ledger at a block: of the rows up to it.
+-- The proof is made of a ledger at a block: of the rows up to it.
 abbrev pub IsMadeAt : List Row → List Digest → ℕ → Proof → Type 0
 IsMadeAt rows digests block proof = IsMade (up_to rows block) block (digest_at digests block) proof
 
 -- ---- the proof as a function
 
--- The index of the first leaf that covers a key, from 0; the number of leaves where none does.
+-- The index of the first leaf that covers a key, from 0; the number of leaves if none does.
 abbrev pub covering_index : List Leaf → List ℕ → ℕ
 covering_index leaves key = position_or_len (covers key) leaves
 
--- The first leaf of a history that covers a key; the one without a key where none does.
+-- The first leaf that covers a key, or the leaf without a key if none does.
 abbrev pub covering_leaf : List Row → List ℕ → Leaf
 covering_leaf rows key = slice_index_or (leaves rows) (covering_index (leaves rows) key) (sentinel (keys_of rows))
 
--- The proof of a query that is made of the rows up to a block, which has this digest.
+-- The proof for a query, made of the rows up to a block with this digest.
 abbrev pub made_of : List Row → ℕ → List ℕ → Query → Proof
 made_of rows block digest query = record {
   query = query;
@@ -82,39 +83,40 @@ made_of rows block digest query = record {
   uses = uses_if query.kind (option_map (λ (row : Row). uses rows query.key row.block) (latest rows query.key query.at));
 }
 
--- The proof of a query that is made of a ledger at a block: of the rows up to it.
+-- The proof for a query, made of a ledger at a block: of the rows up to it.
 unfoldable pub made_proof : List Row → List Digest → ℕ → Query → Proof
 made_proof rows digests block query = made_of (up_to rows block) block (digest_at digests block) query
 
 -- ---- laws
 
--- The function gives a proof that is made, where the query is of a key: some leaf covers the key.
+-- `made_proof` returns a proof that is made of the ledger, if the query is of a key: some leaf
+-- covers the key.
 abbrev pub MadeProofIsMade : Type 0
 MadeProofIsMade =
     (rows : List Row) (digests : List Digest) (block : ℕ) (query : Query) → IsTypedHistory rows → IsKey query.key
     → IsMadeAt rows digests block (made_proof rows digests block query) × ((made_proof rows digests block query).query ≡ query)
 
--- Of a query only one proof is made.
+-- Only one proof is made for a query.
 abbrev pub MadeProofsAreUnique : Type 0
 MadeProofsAreUnique =
     (rows : List Row) (digests : List Digest) (block : ℕ) (proof other : Proof) → IsTypedHistory rows
     → IsMadeAt rows digests block proof → IsMadeAt rows digests block other → other.query ≡ proof.query → other ≡ proof
 
--- The proof that is made of a ledger at a block is accepted by one who has the root at that block, with
--- the answer of the history up to it.
+-- Whoever has the root at a block accepts the proof that is made of the ledger there, with the
+-- answer of scanning the rows up to that block.
 abbrev pub MadeProofsAreAccepted : Type 0
 MadeProofsAreAccepted =
     (rows : List Row) (digests : List Digest) (block : ℕ) (proof : Proof) → IsTypedHistory rows → IsMadeAt rows digests block proof
     → verdict (root_of rows digests block) proof.query proof ≡ Ok (scan (up_to rows block) proof.query)
 
--- It can be spelled, where the query is of a key, and of no later block.
+-- The proof can be spelled if the query is of a key and its block isn't after the root's.
 abbrev pub MadeProofsAreProofs : Type 0
 MadeProofsAreProofs =
     (rows : List Row) (digests : List Digest) (block : ℕ) (proof : Proof) → IsTypedLedger rows digests → block < length digests
     → IsKey proof.query.key → proof.query.at ≤ block → IsMadeAt rows digests block proof → IsProof proof
 
--- The proof that the function gives can be spelled and is accepted, where the query is of a key and of no
--- later block than the root.
+-- The result of `made_proof` can be spelled and is accepted if the query is of a key and its block
+-- isn't after the root's.
 abbrev pub MadeProofIsAccepted : Type 0
 MadeProofIsAccepted =
     (rows : List Row) (digests : List Digest) (block : ℕ) (query : Query) → IsTypedLedger rows digests → block < length digests

@@ -1,4 +1,4 @@
--- The texts that a proof tells of, by what it gives of them.
+-- The texts that a proof shows: what its reader hashes to check it.
 use Rattle.std.specs.Prelude.{ℕ, List, [], ◌∷◌, map, Option, Some, None}
 use Rattle.std.specs.List.{flat_map}
 use Rattle.lc_base.specs.declared.row.Dep.{Dep}
@@ -15,22 +15,22 @@ use Rattle.proof_checks.specs.Checks.{climb_of, root_text_of}
 abbrev pub joined_texts : List (List (List ℕ)) → List (List ℕ)
 joined_texts parts = flat_map (λ (texts : List (List ℕ)). texts) parts
 
--- The texts that are hashed for the digest of a forward list, without the one of the empty list.
+-- The texts that are hashed for the digest of a forward list, without that of the empty list.
 abbrev pub texts_of_uses : List Dep → List (List ℕ)
 texts_of_uses uses = chain_texts use_text no_uses uses
 
--- The text of a body, where there is one.
+-- The text of the body, if there is one.
 abbrev pub body_texts : Option Body → List (List ℕ)
 body_texts None = []
 body_texts (Some body) = body_text body ∷ []
 
--- The texts of uses, where there are any.
+-- The texts of the uses, if there are any.
 abbrev pub uses_texts : Option (List Dep) → List (List ℕ)
 uses_texts None = []
 uses_texts (Some uses) = texts_of_uses uses
 
--- The parts of a proof's texts: the leaf, the nodes from it upward, the root, the headers, the body,
--- the empty forward list, and the uses.
+-- The texts of a proof, in parts: the leaf, the nodes from it upward, the root, the headers, the
+-- body, the empty forward list, and the uses.
 abbrev pub proof_parts : Proof → List (List (List ℕ))
 proof_parts proof =
     (leaf_text (leaf_bytes proof.leaf) ∷ []) ∷ climb_texts_to MAX_HEIGHT proof.leaf_index proof.leaf_count (climb_of proof)

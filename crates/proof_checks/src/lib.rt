@@ -1,5 +1,5 @@
-//! Which proofs are accepted by one who has the root at a block, what they answer, and which proof is
-//! made of an answer: definitions, and laws of them.
+//! Which proofs are accepted by one who has the root at a block, what they answer, and which proof
+//! is made of an answer: definitions, and the laws that bind them together.
 #![tactic(auto)]
 
 mod claim;

@@ -1,4 +1,5 @@
--- How proofs are spelled, as their list of fields.
+-- A proof is spelled as a list of fields in a fixed order; which optional parts it has follows from
+-- its other fields.
 use Rattle.std.specs.Prelude.{◌≡◌, ℕ, ◌^◌, ◌<◌, ◌≤◌, ◌==◌, Bool, false, nat_le, is_none, is_some, List, [], ◌∷◌, ◌++◌, length, Option, Some, None}
 use Rattle.std.specs.List.{flat_map, AllByRecursion}
 use Rattle.std.specs.Int.{w32, to_be_bytes}
@@ -16,26 +17,27 @@ use Rattle.prov_entry.specs.ForwardLists.{use_fields}
 use Rattle.proof_codec.specs.declared.limits.TheConstants.{MAGIC}
 use Rattle.proof_codec.specs.declared.proof.Proof.{Proof}
 
--- ---- which parts are there
+-- ---- which parts are present
 
--- The last of some items.
+-- The last item, or `None` for an empty list.
 abbrev pub last_of : {A : Type 0} → List A → Option A
 last_of [] = None
 last_of (x ∷ []) = Some x
 last_of (x ∷ y ∷ items) = last_of (y ∷ items)
 
--- Whether the version of a header answers: its block is at most this one.
+-- Whether the version of the last header answers a query at this block: the header's block is at
+-- most `at`.
 abbrev pub is_answer : ℕ → Option Header → Bool
 is_answer at None = false
 is_answer at (Some header) = nat_le header.block at
 
--- Whether uses are asked of a version that answers.
+-- Whether a query asks for uses, given whether a version answers it.
 abbrev pub asks_uses : Kind → Bool → Bool
 asks_uses Hist answered = false
 asks_uses Back answered = false
 asks_uses Fwd answered = answered
 
--- What stands before the leaf.
+-- What comes before the leaf.
 pub record Front : Type 0 where
   pub query : Query
   pub root_at : ℕ
@@ -43,23 +45,23 @@ pub record Front : Type 0 where
   pub leaf_count : ℕ
   pub leaf_index : ℕ
 
--- That of a proof.
+-- The front of a proof.
 abbrev pub front_in : Proof → Front
 front_in proof = record { query = proof.query; root_at = proof.root_at; block_digest = proof.block_digest.0; leaf_count = proof.leaf_count; leaf_index = proof.leaf_index }
 
--- ---- what they may be
+-- ---- which proofs can be spelled
 
--- A use: a key, and a block number of 32 bits.
+-- A use: a key and a block number of 32 bits.
 pub record IsUse (use_ : Dep) : Type 0 where
   pub key_is_key : IsKey use_.key
   pub block_fits : use_.block < 2 ^ 32
 
--- Uses that a number of 32 bits counts.
+-- Uses whose number fits in 32 bits.
 pub record AreUses (uses : List Dep) : Type 0 where
   pub counted : length uses < 2 ^ 32
   pub uses_are_uses : AllByRecursion IsUse uses
 
--- What is so of an item, where there is one.
+-- What holds of the item, if there is one.
 abbrev pub IsIfAny : {A : Type 0} → (A → Type 0) → Option A → Type 0
 IsIfAny Is None = Unit {0}
 IsIfAny Is (Some x) = Is x
@@ -68,9 +70,10 @@ IsIfAny Is (Some x) = Is x
 abbrev pub IsDigest : Digest → Type 0
 IsDigest digest = length digest.0 ≡ 32
 
--- A query of a key at a block no later than the root's; a leaf of the tree, of which the first is
--- the one without a key, with its audit path; headers that one byte counts; the body exactly where
--- the version of the last header answers; and the uses exactly where they are asked of it.
+-- The query's block is at most the root's; the leaf is one of the tree's, without a key exactly if
+-- it is the first, and comes with its audit path; the number of headers fits in one byte; the body
+-- is present exactly if the version of the last header answers; the uses are present exactly if the
+-- query asks for them and there is a body.
 pub record IsProof (proof : Proof) : Type 0 where
   pub key_is_key : IsKey proof.query.key
   pub root_at_fits : proof.root_at < 2 ^ 32
@@ -89,7 +92,7 @@ pub record IsProof (proof : Proof) : Type 0 where
   pub uses_if_asked : is_some proof.uses ≡ asks_uses proof.query.kind (is_some proof.body)
   pub uses_are_uses : IsIfAny AreUses proof.uses
 
--- ---- how they are spelled, field by field
+-- ---- how proofs are spelled, field by field
 
 -- The byte of a kind.
 abbrev pub kind_byte : Kind → ℕ
@@ -97,34 +100,34 @@ kind_byte Hist = 0
 kind_byte Back = 1
 kind_byte Fwd = 2
 
--- The kind, the key, the block.
+-- The kind, the key, and the block.
 abbrev pub query_fields : Query → List (List ℕ)
 query_fields query = (kind_byte query.kind ∷ []) ∷ string_fields query.key ++ to_be_bytes w32 query.at ∷ []
 
--- The number of digests in one byte, and these.
+-- The number of digests in one byte, then the digests.
 abbrev pub audit_fields : List Digest → List (List ℕ)
 audit_fields audit = (length audit ∷ []) ∷ flat_map (λ (digest : Digest). digest.0 ∷ []) audit
 
--- The number of headers in one byte, and these.
+-- The number of headers in one byte, then the headers.
 abbrev pub headers_fields : List Header → List (List ℕ)
 headers_fields headers = (length headers ∷ []) ∷ flat_map header_fields headers
 
--- The number of uses in four bytes, and these.
+-- The number of uses in four bytes, then the uses.
 abbrev pub uses_fields : List Dep → List (List ℕ)
 uses_fields uses = to_be_bytes w32 (length uses) ∷ flat_map use_fields uses
 
--- The fields of an item, where there is one.
+-- The fields of the item, or none for `None`.
 abbrev pub fields_if_any : {A : Type 0} → (A → List (List ℕ)) → Option A → List (List ℕ)
 fields_if_any fields None = []
 fields_if_any fields (Some x) = fields x
 
--- The first bytes, the query, the root's block and its digest, the number of leaves, and the index of
--- the one that is given.
+-- The magic bytes, the query, the root's block and that block's digest, the number of leaves, and
+-- the index of the proof's leaf.
 abbrev pub front_fields : Front → List (List ℕ)
 front_fields front =
     MAGIC ∷ query_fields front.query ++ to_be_bytes w32 front.root_at ∷ front.block_digest ∷ to_be_bytes w32 front.leaf_count ∷ to_be_bytes w32 front.leaf_index ∷ []
 
--- The front, the leaf and its audit path, the headers, the body, and the uses.
+-- The front, the leaf, its audit path, the headers, the body, and the uses.
 abbrev pub proof_fields : Proof → List (List ℕ)
 proof_fields proof =
     front_fields (front_in proof) ++ leaf_fields proof.leaf ++ audit_fields proof.audit ++ headers_fields proof.headers

@@ -1,4 +1,4 @@
--- Of an input one thing is answered, and that is what the functions give.
+-- For each input there is exactly one verification, and the functions return it.
 use Rattle.std.proofs.Common.{◌≡◌, ◌∙◌, ℕ, ◌+◌, ◌%◌, ◌<◌, List, length, take, slice_index, Result, Ok, Err, IfOk, inl, inr, refl, sym, ap, subst, true, arith}
 use Rattle.std.specs.List.{AllPass}
 use Rattle.std.proofs.lemmas.Bool.{cases_eq, cases_lt}
@@ -21,7 +21,7 @@ use Rattle.proof_commands.specs.declared.verification.Verification.{Verification
 use Rattle.proof_commands.specs.declared.verification.Verification.TheVariants.{BadHex}
 use Rattle.proof_commands.specs.Verifying.{hex_text, of_verdict, hex_fault, bytes_or_fault, of_decoded, verification, IsFirstNoDigit, IsVerification, OddDigits, NoDigit, NoProof, Judged}
 
--- ---- bytes, as a proof is read from them
+-- ---- the bytes, read as a proof
 
 spelled : (bytes : List ℕ) (proof : Proof) → IsBytes bytes → proof_in bytes ≡ Ok proof → Spells bytes proof
 spelled bytes proof fits read = let result : Result Proof ViewError = Ok proof in found_this bytes result fits read
@@ -39,7 +39,7 @@ unread : (bytes : List ℕ) → IsBytes bytes → ((proof : Proof) → Spells by
 unread bytes fits none at longest (Ok proof) read = absurd (none proof (spelled bytes proof fits read))
 unread bytes fits none at longest (Err other) read = ap malformed (one_prefix bytes other at (invalid bytes other fits read) longest)
 
--- ---- the first byte that is no digit
+-- ---- the first byte that isn't a hex digit
 
 digit_before : (text : List ℕ) (at past : ℕ) → at < past → past < length text → AllPass is_hex_digit (take past text) → is_hex_digit (slice_index text at) ≡ true
 digit_before text at past low within before =
@@ -59,7 +59,7 @@ one_first text a b is_a is_b =
       ]
     ]
 
--- where a text has no first byte that is no digit, it decodes
+-- A text of even length that doesn't decode has a first byte that isn't a hex digit.
 found_first : (text : List ℕ) (error : FromHexError) → decode_of text ≡ Err error → length text % 2 ≡ 0 → (at : ℕ) × IsFirstNoDigit text at × (error ≡ InvalidHexCharacter (slice_index text at) at)
 found_first text error decoded even =
     elim (decode_of-err text error decoded) [
@@ -84,7 +84,7 @@ first_decoded text at is (Err error) decoded =
     ap refused first.2 ∙ ap (λ (n : ℕ). refused (InvalidHexCharacter (slice_index text n) n)) same
 
 module _ (root : List ℕ) (query : Query) (input : List ℕ) where
-  -- ---- what the functions give is answered
+  -- ---- what the functions return is a verification
 
   by_reading : (bytes : List ℕ) → decode_of (hex_text input) ≡ Ok bytes → IsBytes bytes → (r : Result Proof ℕ) → proof_in bytes ≡ r → IsVerification root query input (of_verdict (answer_of_proof root query r))
   by_reading bytes decoded fits (Ok proof) read = Judged bytes decoded proof (spelled bytes proof fits read)
@@ -112,7 +112,7 @@ module _ (root : List ℕ) (query : Query) (input : List ℕ) where
   pub is_verification : IsVerification root query input (verification root query input)
   is_verification = by_decoding (decode_of (hex_text input)) refl
 
-  -- ---- and nothing else
+  -- ---- and no other is one
 
   abbrev after : Result (List ℕ) FromHexError → Verification
   after r = of_decoded root query (bytes_or_fault r)

@@ -1,10 +1,10 @@
--- The lines of proofs that are not accepted.
+-- The line that is printed for a proof that isn't accepted.
 use Rattle.std.specs.Prelude.{ℕ, List, [], ◌∷◌, ◌++◌, codes, decimal}
 use Rattle.hex.specs.Hex.{encode_lower}
 use Rattle.proof_checks.specs.declared.reject.Reject.{Reject}
 use Rattle.proof_checks.specs.declared.reject.Reject.TheVariants as rejects
 
--- Why a proof is not accepted.
+-- The words for the check that failed.
 abbrev pub reject_text : Reject → List ℕ
 reject_text (rejects.Malformed at) = codes "malformed " ++ decimal at
 reject_text rejects.OtherQuery = codes "query"
@@ -15,6 +15,6 @@ reject_text (rejects.PathShape step) = codes "path " ++ decimal step
 reject_text (rejects.BodyDiffers computed) = codes "body " ++ encode_lower computed.0
 reject_text (rejects.ListDiffers computed) = codes "list " ++ encode_lower computed.0
 
--- The line that tells why; it ends with the byte 0x0A.
+-- The line for a proof that isn't accepted, with its line end (0x0A).
 abbrev pub rejected_line : Reject → List ℕ
 rejected_line reject = codes "rejected " ++ reject_text reject ++ 10 ∷ []

@@ -1,4 +1,4 @@
-//! The answer that a proof has, held by itself.
+//! An answer that borrows from a proof is copied, so that it outlives the proof's bytes.
 
 ghost use Rattle.std.specs.Prelude.{◌≡◌, map, IfOk, OnOk};
 ghost use Rattle.lc_base.specs.TextBytes.{IsText};
@@ -15,7 +15,7 @@ use proof_verifier::Found;
 use prov_entry::BodyDep;
 use std::alloc::Global;
 
-/// A text, which these bytes are.
+/// Copies the bytes of a text.
 fn text_of(alloc: Global, bytes: &[u8]) -> Result<Text, Memory>
     requires { IsText bytes.now }
     ensures { IfOk result (λ text. text ≡ bytes.now) }
@@ -70,7 +70,7 @@ fn uses_of(alloc: Global, uses: &UseView) -> Result<DepList, Memory>
     Ok(list)
 }
 
-/// What was found, with texts and lists of its own.
+/// Copies an answer, with its texts and lists. `Memory` if the allocator has no room.
 pub(crate) fn answer_of(alloc: Global, found: &Found) -> Result<Answer, Memory>
     requires { HasValue (answer_seen found.now) }
     ensures { IfOk result (λ answer. answer ≡ answer_seen found.now) }

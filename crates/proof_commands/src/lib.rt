@@ -1,4 +1,4 @@
-//! What the command `verify` is to tell of a proof in hex.
+//! Verifies proofs in hex, and says in a line why one isn't accepted.
 #![tactic(auto)]
 
 mod answering;

@@ -1,4 +1,5 @@
-//! The lines of proofs that are not accepted.
+//! The line for a proof that isn't accepted names the check that failed and the digest that was
+//! computed.
 
 ghost use Rattle.std.specs.Prelude.{◌≡◌, [], ◌∷◌, ◌++◌, codes, string_bytes, IfOk};
 ghost use Rattle.hex.specs.Hex.{encode_lower};
@@ -8,7 +9,7 @@ use lc_base::{Bytes, Digest, Memory};
 use proof_checks::Reject;
 use std::alloc::{AllocError, Global};
 
-/// A digest in lower-case hex, after a word.
+/// The word, then the digest in lower-case hex.
 fn digest_text(alloc: Global, word: &str, digest: &Digest) -> Result<String, AllocError>
     ensures { IfOk result (λ text. string_bytes text ≡ word.now ++ encode_lower digest.now.0) }
 {
@@ -24,7 +25,7 @@ fn link_text(alloc: Global, step: u8, computed: &Digest) -> Result<String, Alloc
     digest_text(alloc, word.as_str(), computed)
 }
 
-/// Why a proof is not accepted.
+/// The words for the check that failed.
 fn reject_text(alloc: Global, reject: &Reject) -> Result<String, AllocError>
     ensures { IfOk result (λ text. string_bytes text ≡ reject_text reject.now) }
 {
@@ -47,7 +48,8 @@ fn line_of(alloc: Global, text: &str) -> Result<Bytes, Memory>
     Ok(Bytes::from_vec(line.into_bytes()))
 }
 
-/// A proof is not accepted, for this cause.
+/// The line to print for a proof that isn't accepted: `rejected`, the check that failed, and a line
+/// end.
 pub fn rejected_line(alloc: Global, reject: &Reject) -> Result<Bytes, Memory>
     ensures { IfOk result (λ bytes. bytes ≡ rejected_line reject.now) }
 {

@@ -1,24 +1,24 @@
-//! What is answered of a proof in hex.
+//! An input is either not hex, or a proof that is accepted or rejected.
 
 use lc_base::Answer;
 use proof_checks::Reject;
 
-/// Why a text is no hex.
+/// Why a text isn't hex.
 #[derive(Clone, Copy, Debug, PartialEq, Eq)]
 pub enum HexFault {
     /// The number of its bytes is odd.
     Odd,
-    /// The offset of the first byte that is no digit.
+    /// The offset of the first byte that isn't a hex digit.
     At(usize),
 }
 
-/// What is answered of a proof in hex.
+/// The outcome for a proof in hex.
 #[derive(Debug, Drop)]
 pub enum Verification {
-    /// The proof is accepted, with this answer.
+    /// The proof is accepted with this answer.
     Accepted(Answer),
-    /// It is not accepted.
+    /// The proof isn't accepted: this is the first check that fails.
     Rejected(Reject),
-    /// The input is no hex.
+    /// The input isn't hex.
     BadHex(HexFault),
 }

@@ -1,4 +1,4 @@
-//! A proof in hex, verified.
+//! An input is decoded from hex, then read and checked as a proof.
 
 ghost use Rattle.std.specs.Prelude.{◌≡◌, IfOk};
 ghost use Rattle.proof_verifier.specs.Answering.{verdict_on};
@@ -12,7 +12,7 @@ use lc_base::{Bytes, Digest, Memory, Query};
 use proof_verifier::verify;
 use std::alloc::Global;
 
-/// The input, without one line end at its end.
+/// The input without the line end that it may end with.
 fn hex_text(input: &[u8]) -> &[u8]
     ensures { result.now ≡ hex_text input.now }
 {
@@ -22,7 +22,7 @@ fn hex_text(input: &[u8]) -> &[u8]
     }
 }
 
-/// What is answered of the bytes of a proof.
+/// The verification of the bytes of a proof.
 fn verify_bytes(
     alloc: Global,
     root: &Digest,
@@ -37,8 +37,8 @@ fn verify_bytes(
     }
 }
 
-/// The bytes that the input has in hex, with digits of either case and at most one line end, which is its
-/// last byte; or why it is no hex.
+/// Decodes hex with digits of either case; the input may end with one line end. The bytes, or why
+/// the input isn't hex.
 pub fn decode_hex(alloc: Global, input: &[u8]) -> Result<Result<Bytes, HexFault>, Memory>
     ensures { IfOk result (λ told. told ≡ bytes_or_fault (decode_of (hex_text input.now))) }
 {
@@ -64,7 +64,7 @@ fn verify_input(
     }
 }
 
-/// What is answered of a proof to one who has the root and the query. The input is the proof in hex, with
+/// Verifies a proof for one who has the root and the query. The input is the proof in hex, with
 /// digits of either case, and may end with one line end.
 pub fn verify_hex(
     alloc: Global,

@@ -1,4 +1,5 @@
-//! Audit paths as they stand in bytes.
+//! An audit path is read in place, after a byte that must be the length that the leaf's index
+//! implies.
 
 ghost use Rattle.byte_fields.specs.Reader.{fault_left, Reads};
 ghost use Rattle.proof_codec.specs.Reading.{audit_at};
@@ -10,7 +11,7 @@ use lc_base::Digest;
 /// The digests of an audit path, from the leaf upward.
 pub type AuditView<'p> = ListView<'p, Digest>;
 
-/// So many digests, after their number.
+/// Reads a byte that must be `count`, then `count` digests of 32 bytes each.
 #[tactic(auto, unfolding(proof_codec::specs::Reading::audit_at))]
 pub fn read_audit<'p>(reader: &mut Reader<'p>, count: u8) -> Result<AuditView<'p>, Fault>
     ensures { Reads fault_left result (audit_at count reader.old) reader.new }

@@ -1,4 +1,5 @@
-//! Lists of headers as they stand in bytes.
+//! Headers are checked once, when the list is read; afterwards each can be read again from the same
+//! bytes.
 
 ghost use Rattle.std.specs.Prelude.{◌≡◌, ◌∷◌, [], length, MatchOption};
 ghost use Rattle.byte_fields.specs.{Reader.{fault_left, Reads}, Reading.{items_at}};
@@ -9,7 +10,7 @@ use byte_fields::{Fault, Reader};
 use entry_views::HeaderView;
 use std::marker::Model;
 
-/// Headers, the newest first.
+/// Headers read in place, the newest first.
 #[derive(Drop)]
 pub struct HeadersView<'p> {
     count: u8,
@@ -31,7 +32,7 @@ impl<'p> Model for HeadersView<'p> {
 }
 
 impl<'p> HeadersView<'p> {
-    /// Their number.
+    /// The number of headers that are left.
     #[tactic(auto, using(entry_views::proofs::Items::items_counted))]
     pub fn len(&self) -> usize
         ensures { result ≡ length self.now }
@@ -39,7 +40,7 @@ impl<'p> HeadersView<'p> {
         self.count as usize
     }
 
-    /// The same headers again.
+    /// A second view of the same headers.
     pub fn again(&self) -> HeadersView<'p>
         ensures { result ≡ self.now }
     {
@@ -49,7 +50,7 @@ impl<'p> HeadersView<'p> {
         }
     }
 
-    /// Takes the first header away; `None` exactly where there is none.
+    /// Removes and returns the first header, or `None` if the list is empty.
     pub fn next(&mut self) -> Option<HeaderView<'p>>
         ensures { MatchOption result (self.old ≡ []) (λ header. self.old ≡ header.value ∷ self.new) }
     {
@@ -75,7 +76,7 @@ fn skip_headers(reader: &mut Reader, count: u8) -> Result<(), Fault>
     Ok(())
 }
 
-/// Headers, after their number.
+/// Reads the number of headers in one byte, then the headers.
 #[tactic(auto, unfolding(proof_codec::specs::Reading::headers_at))]
 pub fn read_headers<'p>(reader: &mut Reader<'p>) -> Result<HeadersView<'p>, Fault>
     ensures { Reads fault_left result (headers_at reader.old) reader.new }

@@ -1,4 +1,4 @@
-//! The lists of a proof as they stand in bytes: its audit path, its headers and its uses.
+//! The lists of a proof, read in place: its audit path, its headers, and its uses.
 #![tactic(auto)]
 
 mod audit_view;

@@ -1,4 +1,4 @@
-//! Forward lists as they stand in bytes.
+//! Uses are read in place, after their number.
 
 ghost use Rattle.byte_fields.specs.Reader.{fault_left, Reads};
 ghost use Rattle.proof_codec.specs.Reading.{uses_at};
@@ -10,7 +10,7 @@ use lc_base::Dep;
 /// What was derived from a version, in the order of the rows.
 pub type UseView<'p> = ListView<'p, Dep>;
 
-/// Uses, after their number.
+/// Reads the number of uses in four bytes (big-endian), then the uses.
 #[tactic(auto, unfolding(proof_codec::specs::Reading::uses_at))]
 pub fn read_uses<'p>(reader: &mut Reader<'p>) -> Result<UseView<'p>, Fault>
     ensures { Reads fault_left result (uses_at reader.old) reader.new }

@@ -1,4 +1,4 @@
--- What an accepted proof shows, from the verdict on its bytes.
+-- What an accepted proof shows follows from the verdict on the proof that its bytes spell.
 use Rattle.std.proofs.Common.{◌≡◌, ◌∙◌, ◌<◌, ◌^◌, ℕ, List, Option, Some, None, Result, Ok, Err, IfOk, IfSome, IsSomeAnd, sym, ap, subst}
 use Rattle.lc_base.specs.Answers.{Answers}
 use Rattle.lc_base.specs.declared.digest.Digest.{Digest}
@@ -45,7 +45,7 @@ pub unread_exact : (root : List ℕ) (query : Query) (bytes : List ℕ) (error :
 unfolding verdict_on
 unread_exact root query bytes (views.Malformed at) fault same is = ap (answer_of_proof root query) is ∙ ap refused (sym same)
 
--- Of the bytes of a proof, what is answered is the verdict on it.
+-- If the bytes spell a proof, the result is the verdict on it.
 pub read_spelled : (root : List ℕ) (query : Query) (view given : Proof) (result : Result Found Reject) → Ok view ≡ read given → Answers answer_seen fault_told result (verdict root query view) → Answers answer_seen fault_told result (verdict root query given)
 read_spelled root query view given result same told = let e : view ≡ given = cc in subst (λ (p : Proof). Answers answer_seen fault_told result (verdict root query p)) e told
 
@@ -75,7 +75,7 @@ pub read_value : (root : List ℕ) (query : Query) (proof : Proof) (result : Res
 read_value root query proof (Ok found) is told = let accept = accepted (fault_in root query proof) (answer_in proof) (answer_seen found) told in subst HasValue accept.1 (value_in proof is)
 read_value root query proof (Err fault) is told = tt
 
--- ---- bytes that are no proof
+-- ---- bytes that aren't a proof
 
 pub unread_malformed : (P : ℕ → Type 0) (error : ViewError) (fault : Reject) → fault ≡ fault_of_view error → IfSome (told_at error) P → IsSomeAnd (malformed_at fault) P
 unread_malformed P (views.Malformed at) fault same is = rw same is

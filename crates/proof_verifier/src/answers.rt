@@ -1,4 +1,5 @@
-//! The body and the uses of a proof, and what it answers by them.
+//! The body must be the one that the last header names, and the uses those that the header before
+//! it records.
 
 ghost use Rattle.std.specs.Prelude.{◌≡◌, Some};
 ghost use Rattle.lc_base.specs.Answers.{Answers};
@@ -26,7 +27,7 @@ fn fault_of_body(header: &HeaderView, body: &BodyView) -> Option<Reject>
     None
 }
 
-/// The digest of uses.
+/// The digest of a list of uses: the empty list's, extended by each use in order.
 fn uses_digest(uses: &UseView) -> Digest
     ensures { result.0 ≡ uses_digest uses.now }
 {
@@ -38,7 +39,7 @@ fn uses_digest(uses: &UseView) -> Digest
     digest
 }
 
-/// What is wrong with uses of which this is told.
+/// What is wrong with uses that have this claim: their number is checked before their digest.
 fn fault_of_uses(claim: &Claim, uses: &UseView) -> Option<Reject>
     ensures { result ≡ fault_of_uses claim.now (Some uses.now) }
 {
@@ -52,7 +53,7 @@ fn fault_of_uses(claim: &Claim, uses: &UseView) -> Option<Reject>
     None
 }
 
-/// What a version answers, by its header, its body, and its uses where they are asked.
+/// What a version answers, given its header, its body, and its uses if they are asked for.
 fn answer_by<'p>(
     kind: Kind,
     header: &HeaderView,
@@ -81,7 +82,7 @@ fn answer_by<'p>(
     }
 }
 
-/// What is wrong with uses, where there are any.
+/// What is wrong with the uses, if there are any.
 fn fault_of_any_uses(claim: &Claim, uses: &Option<UseView>) -> Option<Reject>
     ensures { result ≡ fault_of_uses claim.now uses.now }
 {
@@ -91,7 +92,8 @@ fn fault_of_any_uses(claim: &Claim, uses: &Option<UseView>) -> Option<Reject>
     }
 }
 
-/// What a proof answers by its last header, its body, and its uses; or what is wrong with these.
+/// What a proof answers, given its last header, its body, and its uses; or what is wrong with
+/// these.
 pub(crate) fn answer<'p>(
     kind: Kind,
     told: &ToldHeader<'p>,

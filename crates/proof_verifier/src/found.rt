@@ -1,12 +1,12 @@
-//! What an accepted proof answers.
+//! What an accepted proof answers, borrowed from the bytes of the proof.
 
 use entry_views::{BodyDepView, ValueView};
 use proof_lists::UseView;
 
-/// What an accepted proof answers. Texts, dependencies and uses stay where the proof lies.
+/// What an accepted proof answers. Texts, dependencies, and uses are read in place, from its bytes.
 #[derive(Drop)]
 pub enum Found<'p> {
-    /// There is no such version.
+    /// The key has no version up to the block of the query.
     Nothing,
     /// The version's block, the index of its transaction there, and its value.
     Hist {

@@ -1,4 +1,4 @@
-//! The headers of a proof, one after another.
+//! Every header names the versions that may come next, so the headers are checked in one pass.
 
 ghost use Rattle.std.specs.Prelude.{◌≡◌, ◌≤◌, ◌+◌, None, length, Option};
 ghost use Rattle.proof_checks.specs.Checks.{next_link, expected_after, claim_of_header, header_fault};
@@ -12,7 +12,8 @@ use proof_lists::HeadersView;
 use prov_entry::Link;
 use std::marker::Model;
 
-/// A header, and what is told of the uses of its version before it.
+/// A header, and what was recorded of its version's uses before it: by the header before, or by the
+/// leaf.
 #[derive(Drop)]
 pub(crate) struct ToldHeader<'p> {
     pub(crate) header: HeaderView<'p>,
@@ -27,7 +28,7 @@ impl<'p> Model for ToldHeader<'p> {
     ghost view = { λ told. record { header = told.header.value; claim = told.claim } };
 }
 
-/// A link, where it is to a block after this, in place of one that was chosen before.
+/// Replaces the link chosen so far by `link` if that leads to a block after `at`.
 fn higher(at: u32, best: Option<Link>, link: Option<Link>) -> Option<Link>
     ensures { result ≡ higher at best link }
 {
@@ -37,7 +38,7 @@ fn higher(at: u32, best: Option<Link>, link: Option<Link>) -> Option<Link>
     }
 }
 
-/// The link to follow: the highest one to a block after this, or else the lowest.
+/// The link to follow: the highest one to a block after `at`, or else the lowest one.
 fn next_link(links: &LinkView, at: u32) -> Option<Link>
     ensures { result ≡ next_link at links.now }
 {
@@ -48,7 +49,7 @@ fn next_link(links: &LinkView, at: u32) -> Option<Link>
     best
 }
 
-/// The version whose header is to follow a header.
+/// The version whose header must follow this one; `None` if this version answers or has no link.
 fn expected_after(at: u32, header: &HeaderView) -> Option<Link>
     ensures { result ≡ expected_after at header.now.value }
 {
@@ -67,7 +68,7 @@ fn claim_of_header(header: &HeaderView) -> Claim
     }
 }
 
-/// What is wrong with a header where this version's is expected.
+/// What is wrong with a header at a step where this version's is expected.
 fn header_fault(key: &Key, step: u8, expected: &Link, header: &HeaderView) -> Option<Reject>
     ensures { result ≡ header_fault key.now step expected.now header.now.value }
 {
@@ -84,8 +85,8 @@ fn header_fault(key: &Key, step: u8, expected: &Link, header: &HeaderView) -> Op
     None
 }
 
-/// The last header, or what is wrong with the first that is wrong, where this version's is expected
-/// first.
+/// Checks the headers, the first of which must be `expected`'s. The last header, or the first
+/// fault.
 pub(crate) fn walk<'p>(
     key: &Key,
     at: u32,

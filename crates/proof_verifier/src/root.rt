@@ -1,4 +1,5 @@
-//! The root to which a proof leads.
+//! A proof leads to a root: its leaf is hashed, the audit path is climbed (RFC 6962, section
+//! 2.1.1), and the text of the root is hashed.
 
 ghost use Rattle.std.specs.Prelude.{◌≡◌, length};
 ghost use Rattle.sha2.specs.Sha256.{sha256};
@@ -13,10 +14,10 @@ use proof_lists::AuditView;
 use proof_views::ProofView;
 use prov_entry::ROOT;
 
-/// The greatest number of hashes of an audit path.
+/// The greatest number of hashes that an audit path can have.
 const MAX_PATH_HASHES: usize = MAX_HEIGHT as usize;
 
-/// The hash at the top of the way up from a leaf.
+/// The hash at the top of the tree, climbed to from the leaf.
 fn top(index: u32, count: u32, leaf: &Digest, audit: AuditView) -> Digest
     requires { length audit ≡ audit_length index count }
     ensures { result.0 ≡ top_of index count (start_at leaf.now audit.entry) }
@@ -31,7 +32,7 @@ fn top(index: u32, count: u32, leaf: &Digest, audit: AuditView) -> Digest
     root_from_leaf(index, count, leaf, &path[..length])
 }
 
-/// The digest of the text of a root.
+/// The digest of a root's text.
 fn root_digest(block: u32, block_digest: &Digest, count: u32, top: &Digest) -> Digest
     ensures { result.0 ≡ sha256 (text_of_root block block_digest.now.0 count top.now.0) }
 {
@@ -43,7 +44,7 @@ fn root_digest(block: u32, block_digest: &Digest, count: u32, top: &Digest) -> D
     hasher.finish()
 }
 
-/// The root to which a proof leads.
+/// The root that a proof leads to.
 pub(crate) fn root_of(proof: &ProofView) -> Digest
     requires { length proof.now.audit ≡ audit_length proof.now.leaf_index proof.now.leaf_count }
     ensures { result.0 ≡ sha256 (root_text_of proof.now) }

@@ -1,4 +1,5 @@
-//! Checking proofs.
+//! The checks of a proof run in a fixed order: the query, the root, the leaf, the headers, the
+//! body, the uses.
 
 ghost use Rattle.std.specs.Prelude.{◌≡◌, ◌<◌, ◌^◌, ℕ, List, Err, true, is_ok, IfOk, IfErr, IsErrAnd, IsSomeAnd};
 ghost use Rattle.lc_base.specs.{
@@ -31,7 +32,7 @@ use proof_checks::Reject;
 use proof_codec::kind_byte;
 use proof_views::{ProofView, ViewError, view};
 
-/// Whether a proof is of the query.
+/// Whether the proof's own query is the one that is asked.
 fn is_same_query(asked: &Query, own: &Query) -> bool
     ensures { result ≡ is_same_query asked.now own.now }
 {
@@ -44,7 +45,7 @@ fn is_same_query(asked: &Query, own: &Query) -> bool
     own.at == asked.at
 }
 
-/// The fault of bytes that are no proof.
+/// The fault for bytes that aren't a proof.
 fn fault_of_view(error: ViewError) -> Reject
     ensures { result ≡ fault_of_view error }
 {
@@ -80,23 +81,23 @@ fn judge<'p>(root: &Digest, query: &Query, proof: &ProofView<'p>) -> Result<Foun
     }
 }
 
-/// What a proof shows to one who has the root at a block: the answer to the query, or the first check
-/// of the proof that fails.
+/// Checks a proof for one who has the root at a block: returns the answer to the query, or the
+/// first check that fails.
 pub fn verify<'p>(root: &Digest, query: &Query, proof: &'p [u8]) -> Result<Found<'p>, Reject>
-    // Where the bytes are a proof, its answer is found exactly where no check of it fails; else the first
-    // that fails is told.
+    // If the bytes are a proof, the answer is returned exactly if no check fails; else the first
+    // check that fails is reported.
     ensures spelled { (given : ProofValue) → Spells proof.now given → Answers answer_seen fault_told result (verdict root.now.0 query.now given) }
-    // Where they are none, the offset is told at which the first field begins that is invalid.
+    // If they aren't, the offset of the first invalid field is reported.
     ensures malformed { ((given : ProofValue) → Spells proof.now given → ⊥)
         → IsErrAnd result (λ fault. IsSomeAnd (malformed_at fault) (IsLongestPrefix proof_fields IsProof proof.now)) }
-    // What is found is the answer of every typed history that has the root at some block, or a text of
-    // the proof and one of the history differ and have one digest.
+    // The answer is that of every typed history that has the root at some block; or a text of the
+    // proof and one of the history differ and have one digest.
     ensures sound { (given : ProofValue) → Spells proof.now given
         → (rows : List Row) (digests : List DigestValue) (block : ℕ) → IsTypedHistory rows → block < 2 ^ 32 → root_of rows digests block ≡ root.now.0
         → IfOk result (λ found. AnswersOrClashes rows digests block query.now (proof_texts given) (answer_seen found)) }
-    // A value that is found is one.
+    // If the answer has a value, the value is lawful.
     ensures value { IfOk result (λ found. HasValue (answer_seen found)) }
-    // What bytes answer is said by a function, and that is the answer.
+    // The result is that of the function that defines what bytes answer.
     ensures exact { Answers answer_seen fault_told result (verdict_on root.now.0 query.now proof.now) }
 {
     match view(proof) {
@@ -105,12 +106,12 @@ pub fn verify<'p>(root: &Digest, query: &Query, proof: &'p [u8]) -> Result<Found
     }
 }
 
-/// The proof that bytes are, where `verify` finds its answer; else the first check of it that fails.
+/// The proof that the bytes spell, if `verify` accepts it; else the first check that fails.
 pub fn accept<'p>(root: &Digest, query: &Query, proof: &'p [u8]) -> Result<ProofView<'p>, Reject>
-    // What is accepted is the proof that the bytes are, and no check of it fails.
+    // The bytes spell the proof that is returned, and no check of it fails.
     ensures spelled { IfOk result (λ given. Spells proof.now given) }
     ensures passes { IfOk result (λ given. is_ok (verdict root.now.0 query.now given) ≡ true) }
-    // What is not accepted, `verify` refuses so.
+    // A fault is the one that `verify` reports.
     ensures fails { IfErr result (λ fault. verdict_on root.now.0 query.now proof.now ≡ Err fault) }
 {
     match view(proof) {

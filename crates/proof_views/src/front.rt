@@ -1,4 +1,4 @@
-//! What stands before the leaf of a proof.
+//! Reads what comes before the leaf: the magic bytes, the query, the root, and the leaf's index.
 
 ghost use Rattle.std.specs.{Prelude.{nat_le, nat_lt}, Int.{w32}};
 ghost use Rattle.byte_fields.specs.{
@@ -12,7 +12,7 @@ use lc_base::{Digest, Kind, Query};
 use proof_codec::MAGIC;
 use std::marker::Model;
 
-/// What stands before the leaf.
+/// The fields before the leaf, without the magic bytes.
 #[derive(Clone, Copy, Debug)]
 pub(crate) struct FrontView {
     pub query: Query,
@@ -54,7 +54,7 @@ fn magic<'p>(reader: &mut Reader<'p>) -> Result<&'p [u8], Fault>
     Ok(bytes)
 }
 
-/// A number of four bytes that is at least this one.
+/// Reads a big-endian number of four bytes that is at least `least`.
 fn u32_at_least(reader: &mut Reader, least: u32) -> Result<u32, Fault>
     ensures { Reads fault_left result (ruled_at (λ n. nat_le least n) (number_at w32) reader.old) reader.new }
 {
@@ -66,7 +66,7 @@ fn u32_at_least(reader: &mut Reader, least: u32) -> Result<u32, Fault>
     Ok(number)
 }
 
-/// A number of four bytes that is below this one.
+/// Reads a big-endian number of four bytes that is below `limit`.
 fn u32_below(reader: &mut Reader, limit: u32) -> Result<u32, Fault>
     ensures { Reads fault_left result (ruled_at (λ n. nat_lt n limit) (number_at w32) reader.old) reader.new }
 {
@@ -78,7 +78,7 @@ fn u32_below(reader: &mut Reader, limit: u32) -> Result<u32, Fault>
     Ok(number)
 }
 
-/// All before the leaf.
+/// Reads everything before the leaf.
 #[tactic(auto, unfolding(proof_codec::specs::Reading::front_at))]
 pub(crate) fn front(reader: &mut Reader) -> Result<FrontView, Fault>
     ensures { ReadsAs (λ front. record { query = front.query; root_at = front.root_at; block_digest = front.block_digest.0; leaf_count = front.leaf_count; leaf_index = front.leaf_index }) fault_left result (front_at reader.old) reader.new }

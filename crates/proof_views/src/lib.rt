@@ -1,4 +1,4 @@
-//! Proofs as they stand in bytes, read without being copied.
+//! Proofs read in place: a view is checked once and borrows from the bytes.
 #![tactic(auto)]
 
 mod front;

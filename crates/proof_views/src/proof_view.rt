@@ -1,4 +1,4 @@
-//! Proofs as they stand in bytes.
+//! `view` checks a whole proof; every part of a `ProofView` is read from the bytes that it checked.
 
 ghost use Rattle.std.specs.{Prelude.{◌≡◌, Ok, IfOk, IfErr, IfSome}, Option.{option_map}};
 ghost use Rattle.lc_base.specs.Answers.{Answers};
@@ -23,14 +23,14 @@ use merkle_tree::audit_length;
 use proof_lists::{AuditView, HeadersView, UseView, read_audit, read_headers, read_uses};
 use std::marker::Model;
 
-/// Why bytes are no proof.
+/// Why bytes aren't a proof.
 #[derive(Clone, Copy, Debug, PartialEq, Eq)]
 pub enum ViewError {
-    /// The offset at which the first field begins that is cut short or breaks its rule.
+    /// The offset of the first field that is cut short or breaks its rule.
     Malformed { at: usize },
 }
 
-/// A proof that stands in bytes.
+/// A proof read in place.
 #[derive(Drop)]
 pub struct ProofView<'p> {
     front: FrontView,
@@ -62,7 +62,7 @@ impl<'p> Model for ProofView<'p> {
 }
 
 impl<'p> ProofView<'p> {
-    /// The question that it answers.
+    /// The query that the proof answers.
     pub fn query(&self) -> Query
         ensures { result ≡ self.now.query }
     {
@@ -76,21 +76,21 @@ impl<'p> ProofView<'p> {
         self.front.root_at
     }
 
-    /// The digest of that block.
+    /// The digest of the root's block.
     pub fn block_digest(&self) -> Digest
         ensures { result ≡ self.now.block_digest }
     {
         self.front.block_digest
     }
 
-    /// How many leaves the tree has.
+    /// The number of leaves of the tree.
     pub fn leaf_count(&self) -> u32
         ensures { result ≡ self.now.leaf_count }
     {
         self.front.leaf_count
     }
 
-    /// Which of them is given, from 0.
+    /// The index of the proof's leaf, from 0.
     pub fn leaf_index(&self) -> u32
         ensures { result ≡ self.now.leaf_index }
     {
@@ -125,7 +125,7 @@ impl<'p> ProofView<'p> {
         self.body.as_ref()
     }
 
-    /// What was derived from it, where that is asked.
+    /// What was derived from the version that answers; `None` if the query doesn't ask for it.
     pub fn uses(&self) -> Option<UseView<'p>>
         ensures { result ≡ self.now.uses }
     {
@@ -136,7 +136,7 @@ impl<'p> ProofView<'p> {
     }
 }
 
-/// Whether the version of the last header answers.
+/// Whether the version of the last header answers a query at block `at`.
 fn is_answered(headers: &HeadersView, at: u32) -> bool
     ensures { result ≡ is_answer at (last_of headers.now) }
 {
@@ -191,7 +191,7 @@ fn proof<'p>(reader: &mut Reader<'p>) -> Result<ProofView<'p>, Fault>
     })
 }
 
-/// Whether uses are asked of a version that answers.
+/// Whether a query of this kind asks for uses, given whether a version answers it.
 fn asks_uses(kind: Kind, answered: bool) -> bool
     ensures { result ≡ asks_uses kind answered }
 {
@@ -222,15 +222,15 @@ fn proof_in<'p>(bytes: &'p [u8]) -> Result<ProofView<'p>, ViewError>
     }
 }
 
-/// The proof that the bytes are. Malformed exactly where they are none.
+/// Reads the bytes as a proof. `Malformed` exactly if they aren't one.
 pub fn view<'p>(bytes: &'p [u8]) -> Result<ProofView<'p>, ViewError>
-    // What is read is spelled so.
+    // What is read is spelled by the bytes.
     ensures found { IfOk result (λ proof. Spells bytes.now proof) }
-    // What is spelled so is read.
+    // What the bytes spell is read.
     ensures only { (proof : ProofValue) → Spells bytes.now proof → result ≡ Ok proof }
-    // A fault is told at its offset.
+    // An error has the offset of the fault.
     ensures fault { IfErr result (λ error. IfSome (told_at error) (IsLongestPrefix proof_fields IsProof bytes.now)) }
-    // What bytes are is said by a function, and that is the answer.
+    // The result is that of the function that defines what bytes are as a proof.
     ensures exact { Answers (λ proof. proof) told_at result (proof_in bytes.now) }
 {
     proof_in(bytes)
