@@ -1,4 +1,4 @@
-//! The commands about proofs.
+//! The commands about proofs: they read the log, and change nothing.
 #![tactic(auto)]
 
 mod exposing;
