@@ -26,8 +26,8 @@ use lc_base::{Digest, HostError, Memory};
 use scratch_model::Scratch;
 use std::alloc::Global;
 
-/// A chain of which something is kept while its blocks run one after another. A scratch device may
-/// keep a part of it.
+/// What is kept of a chain while its blocks run one after another. A scratch device may keep a part
+/// of it.
 pub trait Replay: Drop {
     /// The state that is kept of the chain.
     ghost kept: { Self → ChainState };

@@ -1,4 +1,4 @@
-//! Printing a line, which begins only when the disk keeps what the line promises.
+//! Printing lines: the disk stays as it is, so it goes on keeping what a line promises.
 
 ghost use Rattle.std.specs.Prelude.{◌≡◌, [], ◌∷◌, IfOk, IsErr, IsErrOf, is_ok};
 ghost use Rattle.lc_base.specs.Faults.{HasCause};

@@ -1,4 +1,4 @@
-//! The words that the program was started with: words that can't be read are no command.
+//! The words that the program was started with: if one of them is no text, they are no command.
 
 ghost use Rattle.std.specs.{
   Prelude.{◌≡◌, true, [], drop, Err, IfOk, IfErr, MatchOption, is_ok},

@@ -168,7 +168,7 @@ IsAlone word words false = words ≡ word ∷ [] → ⊥
 
 -- ---- single words
 
--- Whether a text is `0`, or begins with another digit than that.
+-- Whether a text is `0`, or begins with a digit from 1 to 9.
 abbrev pub starts_as_number : List ℕ → Bool
 starts_as_number [] = false
 starts_as_number (first ∷ others) = first == 48 && length others == 0 || nat_le 49 first && nat_le first 57

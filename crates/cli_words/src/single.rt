@@ -17,7 +17,7 @@ pub(crate) fn is_text(text: &str, word: &str) -> bool
     text == word
 }
 
-/// Whether the text is `0`, or begins with another digit than that.
+/// Whether the text is `0`, or begins with a digit from 1 to 9.
 fn starts_as_number(bytes: &[u8]) -> bool
     ensures { result ≡ starts_as_number bytes.now }
 {

@@ -187,7 +187,7 @@ is_refusal errors.DiskFault = false
 is_refusal errors.ScratchFault = false
 is_refusal errors.Memory = false
 
--- Whether the disk was called to change it: a block was added, or the disk failed.
+-- Whether the disk was touched: a block was added, or the disk failed.
 abbrev pub reaches_disk : {N B : Type 0} → Result (N × Appended) (B × AppendError) → Bool
 reaches_disk (Ok done) = was_added done.1
 reaches_disk (Err back) = is_disk_fault back.1
