@@ -79,7 +79,7 @@ usage_output input = record { lines = plain usage_line ∷ []; status = statuses
 abbrev pub beyond_outcome : Option ℕ → Outcome
 beyond_outcome head = outcome_with (beyond_line head ∷ []) endings.Beyond
 
--- The same, by the blocks of the chain.
+-- The outcome for a block past the last one of these, or for no block.
 abbrev pub beyond_head : List Block → Outcome
 beyond_head blocks = if length blocks == 0 then beyond_outcome None else beyond_outcome (Some (length blocks - 1))
 
@@ -192,7 +192,8 @@ on_log over input NotALog = not_a_log_output input
 on_log over input (Damaged before at) = damaged_output at input
 on_log over input (Holds stored gate) = over (blocks_in stored)
 
--- The same for a command whose output over blocks is defined by a relation.
+-- An output of a command over the blocks that the bytes on the disk stand for, if its outputs over
+-- blocks are those that `Over` admits.
 abbrev pub IsOnLog : (List Block → Output → Type 0) → List ℕ → Standing → Output → Type 0
 IsOnLog Over input Blank output = Over [] output
 IsOnLog Over input NotALog output = output ≡ not_a_log_output input
