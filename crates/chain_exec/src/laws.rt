@@ -7,7 +7,7 @@ ghost use Rattle.chain_exec.specs.{
   Laws.{OneCompiler, ReceiptsIgnoreIndexes, FailuresLeaveNothing, CostsAreWithinBudgets, NextBlocksAreWithinBudget, ReplayGrows, BlocksKeepLawful, BlocksKeepOrder},
 };
 
-/// There is one compiler, so a source is deployed as the same contract, or as none, by all.
+/// There is one right compiler, so each source is deployed as one contract, or is refused.
 pub fn one_compiler()
     ensures { OneCompiler }
 {}

@@ -23,7 +23,7 @@ added_stands block other (Number want) is = absurd (cc is)
 added_stands block other (Parent want) is = absurd (cc is)
 added_stands block other (Budget sum) is = absurd (cc is)
 
--- a block that a chain reports as its next one is judged so and placed so
+-- a block that a chain reports as its next one is judged and placed as the next one
 pub record IsAdded (compile : Compiler) (blocks : List Block) (kept : ChainState) (bytes : List ℕ) (block : Block) (digest : Digest) : Type 0 where
   pub judgement : judgement_of compile blocks (block_in bytes) ≡ Ok (Added block)
   pub stands : placement_in compile blocks block ≡ Next

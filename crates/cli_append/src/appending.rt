@@ -1,4 +1,4 @@
-//! Taking all frames of an input: each is stored before its line is printed.
+//! Taking all frames of an input: a block is stored before its line is printed.
 
 ghost use Rattle.std.specs.Prelude.{◌≡◌, true, ◌+◌, ℕ, List, Some, IsErrOf};
 ghost use Rattle.lc_base.specs.Faults.{HasCause};

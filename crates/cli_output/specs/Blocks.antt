@@ -1,4 +1,4 @@
--- What is printed of blocks that are made from drafts.
+-- What is printed for blocks that are made, and for drafts.
 use Rattle.std.specs.Prelude.{◌≡◌, ℕ, List, [], length, ◌++◌, map, codes, decimal, Some, Result, Ok, Err}
 use Rattle.std.specs.Int.{w32, to_be_bytes}
 use Rattle.chain_pack.specs.Draft.{pack_fault}

@@ -13,7 +13,8 @@ use Rattle.cli_lines.specs.declared.status.Status.{Status}
 use Rattle.cli_lines.specs.declared.status.Status.TheVariants as statuses
 use Rattle.cli_output.specs.Output.{Output, Wants, next_by, reads_input, uses_disk, uses_scratch, takes_frames, asks_for_block, checks_proof, reads_whole}
 
--- Whether a run with this status came to its end: nothing outside failed, and memory did not run out.
+-- Whether a run with this status came to its end: nothing outside failed, and memory did not run
+-- out.
 abbrev pub came_to_end : Status → Bool
 came_to_end statuses.Unreadable = false
 came_to_end statuses.Untold = false

@@ -43,8 +43,8 @@ pub record IsGeneration (generation : Generation) : Type 0 where
   pub count : IsCount generation.blocks
   pub seed_fits : generation.seed < 2 ^ 32
 
--- The words of a question over the log: KIND KEY, or KIND KEY BLOCK, BLOCK in decimal digits without
--- a leading zero.
+-- The words of a question over the log: KIND KEY, or KIND KEY BLOCK, BLOCK in decimal digits
+-- without a leading zero.
 abbrev pub ask_words : Kind → List ℕ → Option ℕ → List (List ℕ)
 ask_words kind key None = kind_word kind ∷ key ∷ []
 ask_words kind key (Some at) = kind_word kind ∷ key ∷ decimal at ∷ []

@@ -84,7 +84,7 @@ fn bodies_at_hand_are_not_read(rt: HostRuntime) {
         assert!(rt; false);
         return;
     };
-    // The first body is no longer at hand, and is so once it was read; the last one still is.
+    // The first body is no longer at hand, and is again after it was read; the last one still is.
     assert!(rt; scratch.gets() == 0);
     assert!(rt; int_of(alloc, &mut lineage, &mut scratch, 0) == Ok(Some(5)));
     assert!(rt; scratch.gets() == 1);

@@ -77,7 +77,7 @@ pub(crate) fn tells_numbers<S: Scratch>(
     true
 }
 
-/// Whether the questions are answered well, and each body is read once.
+/// Whether the questions are answered as they must be, and each body is read once.
 fn reads_each_body_once(alloc: Global) -> Option<bool> {
     let key = Key::new(b"raw/a").ok()?;
     let blocks = numbered_blocks(alloc, key)?;

@@ -53,7 +53,8 @@ fn keep_run<W: Write>(out: &mut W, number: u32, run: BlockRun, rows: &mut RowLis
     }
 }
 
-/// Runs the block of a frame after the blocks so far, prints what it did, and appends its rows to theirs.
+/// Runs the block of a frame after the blocks so far, prints what it did, and appends its rows to
+/// theirs.
 fn run_frame<W: Write>(
     alloc: Global,
     out: &mut W,
