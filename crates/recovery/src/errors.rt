@@ -13,7 +13,7 @@ pub enum StartError {
     DiskFault,
     /// A call of the scratch device failed.
     ScratchFault,
-    /// Out of memory.
+    /// Memory ran out.
     Memory,
 }
 
@@ -26,6 +26,6 @@ pub enum AppendError {
     DiskFault,
     /// A call of the scratch device failed.
     ScratchFault,
-    /// Out of memory.
+    /// Memory ran out.
     Memory,
 }
