@@ -1,4 +1,4 @@
--- What is told where a block of a chain is asked for.
+-- What is printed for a question about a block of a chain.
 use Rattle.std.proofs.Common.{◌≡◌, ℕ, ◌-◌, ◌<◌, ◌≤◌, Bool, cond, ltb, List, [], ◌∷◌, length, Option, Some, None, Result, Ok, Err, refl, sym, ap, ◌∙◌, arith}
 use Rattle.std.specs.Prelude.{IfOk, unwrap_or}
 use Rattle.std.proofs.lemmas.Bool.{ne_eqb, eq-eqb, lt-ltb, le-ltb}
@@ -36,13 +36,13 @@ told_beyond at blocks lines digests (Some head) last past count =
     ∙ ap (λ (has : Bool). where_it_has has blocks lines) (le-ltb at (length blocks) (omega (arith, last, past, count)))
     ∙ ap (λ (n : ℕ). beyond_outcome (Some n)) (omega (arith, last, count))
 
--- ---- of a chain that stands for blocks
+-- ---- questions to a chain that stands for blocks
 
 at_is : (kept : ChainState) (blocks : List Block) (at : Option ℕ) → StandsFor kept blocks → unwrap_or at (length kept.digests - 1) ≡ at_or_last at blocks
 at_is kept blocks None stands = ap (λ (n : ℕ). n - 1) (as_many kept blocks stands)
 at_is kept blocks (Some at) stands = refl
 
--- where no block is named, the last one is asked for
+-- if no block is named, the question is about the last one
 pub last_asked : {E : Type 0} (told : Result Outcome E) (kept : ChainState) (kind : Kind) (key : List ℕ) (at : Option ℕ) (asked : ℕ) → asked ≡ unwrap_or at (length kept.digests - 1)
     → IfOk told (λ outcome. (blocks : List Block) → StandsFor kept blocks → outcome ≡ answer_outcome compiled_in (record { kind = kind; key = key; at = asked }) blocks)
     → IfOk told (λ outcome. (blocks : List Block) → StandsFor kept blocks → outcome ≡ answer_outcome compiled_in (record { kind = kind; key = key; at = at_or_last at blocks }) blocks)

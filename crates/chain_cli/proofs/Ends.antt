@@ -1,4 +1,4 @@
--- Which commands end how.
+-- Each command ends only with statuses that it may end with.
 use Rattle.std.proofs.Common.{◌≡◌, true, false, List, ℕ, [], Option, Some, None, Result, Ok, Err}
 use Rattle.std.proofs.Common.{refl, sym, subst}
 use Rattle.std.specs.Prelude.{IfOk, IfErr}
@@ -85,7 +85,7 @@ answer_has_log (Err stops.Memory) = refl
 
 -- ---- whole runs
 
--- a command that tells what it makes
+-- a command that prints what it makes
 pub done_ends : (result : Result Ending RunStop) (command : Command)
     → IfOk result (λ ending. ending ≡ endings.Done) → OnlyTells result
     → MayEnd (status_of_result result) (Some command)
@@ -112,7 +112,7 @@ load_stops generation (Err outcomes.Unreadable) reads = absurd (reads refl)
 load_stops generation (Err outcomes.ScratchFault) reads = refl
 load_stops generation (Err outcomes.Memory) reads = tt
 
--- a load that can be given is of as many blocks as may be made
+-- a load that words can spell is of a number of blocks that may be made
 pub is_count : (command : Command) (generation : Generation) → command ≡ Load generation
     → CanBeGiven command → IsCount generation.blocks
 is_count command generation is given = let can : CanBeGiven (Load generation) = subst CanBeGiven is
@@ -140,7 +140,7 @@ no_log_uses statuses.Rejected command none ends = absurd (cc none)
 no_log_uses statuses.BadInput command none ends = absurd (cc none)
 no_log_uses statuses.ScratchFault command none ends = absurd (cc none)
 
--- so one that uses none did not find that there is none
+-- so a command that doesn't use the disk does not end as if it had found no log
 pub found_log : (status : Status) (given : Command) → uses_disk (Some given) ≡ false
     → MayEnd status (Some given) → found_no_log status ≡ true → ⊥
 found_log status given unused ends none = cc (unused, no_log_uses status (Some given) none ends)

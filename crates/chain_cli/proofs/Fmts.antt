@@ -1,4 +1,4 @@
--- What `fmt` tells, by cases.
+-- The output of `fmt`, by cases.
 use Rattle.std.proofs.Common.{◌≡◌, ℕ, ◌+◌, ◌≤◌, List, [], length, drop, Option, Some, None, sym, subst}
 use Rattle.std.specs.Prelude.{codes, IfSome}
 use Rattle.contract_parse.specs.Syntax.{Outcome as SourceOutcome, IsOutcome}

@@ -1,4 +1,4 @@
--- The canonical text that `fmt` tells is told again of that text.
+-- The canonical text that `fmt` prints is printed again for that text.
 use Rattle.std.proofs.Common.{◌≡◌, ℕ, Bool, true, false, cond, eqb, List, [], ◌∷◌, ◌++◌, Option, Some, None, Ok, Err, refl, sym, ap, ◌∙◌, subst, map, append_assoc}
 use Rattle.std.specs.List.{concat}
 use Rattle.contract_tree.specs.Tree.{FunctionTree}
@@ -35,7 +35,7 @@ lines_joined begun (byte ∷ bytes) = joined_by (eqb byte 10) begun bytes byte (
 text_joined : (text : List ℕ) → concat (lines_of text) ≡ text
 text_joined text = lines_joined [] text
 
--- lines that promise nothing have these texts
+-- the texts of lines that promise nothing are these
 plain_texts : (lines : List (List ℕ)) → map (λ (line : Line). line.text) (map plain lines) ≡ lines
 plain_texts [] = refl
 plain_texts (line ∷ lines) = ap (λ (others : List (List ℕ)). line ∷ others) (plain_texts lines)

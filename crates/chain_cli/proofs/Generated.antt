@@ -1,4 +1,5 @@
--- Blocks that are told one after another, as they are made.
+-- Blocks are printed as they are made: so far the frames of the first blocks, all of them or a
+-- prefix.
 use Rattle.std.proofs.Common.{◌≡◌, ℕ, zero, suc, ◌+◌, ◌-◌, ◌<◌, ◌≤◌, Bool, true, false, cond, eqb, List, [], ◌∷◌, ◌++◌, length, map, Option, Some, None, refl, sym, ap, ◌∙◌, subst, arith, append_assoc}
 use Rattle.std.proofs.lemmas.List.{append-nil, map-append, map_push, length-append}
 use Rattle.std.proofs.lemmas.Bool.Decides.{nat_tests}
@@ -18,7 +19,7 @@ use Rattle.cli_output.proofs.Plain.{plain_more, plain_cut}
 abbrev pub frames_of : ℕ → ℕ → List (List ℕ)
 frames_of count seed = map frame (blocks_of_seed count seed)
 
--- ---- more blocks have the first ones in front
+-- ---- the first blocks of a seed are a prefix of more of them
 
 one_more : (seed count : ℕ) → (block : List ℕ) × (blocks_of_seed (suc count) seed ≡ blocks_of_seed count seed ++ block ∷ [])
 unfolding first_blocks
@@ -57,7 +58,7 @@ frames_split seed count whole within =
 
 -- ---- the loop
 
--- so far the frames of some first blocks were told, and the disk is as it was
+-- so far the frames of the first blocks were printed, and the disk is as it was
 pub record IsGenerating {D : Type 0} (now : D → ℕ) (disk : D → ℕ → Option DiskState) (told : D → Option (List Tell)) (first machine : D) (seed count : ℕ) (gen : Progress) (parent : Digest) : Type 0 where
   pub is_progress : gen ≡ progress seed count gen.given
   pub within : gen.given ≤ count
@@ -65,24 +66,24 @@ pub record IsGenerating {D : Type 0} (now : D → ℕ) (disk : D → ℕ → Opt
   pub stays : Stays now disk first machine
   pub lines : (next : NextBlock) → Telling next now disk told first machine (map plain (frames_of gen.given seed)) true
 
--- what a block that is given next tells of the generator
+-- what it says of the generator that it makes a block next
 record GivesNext (seed count : ℕ) (gen more : Progress) (block : List ℕ) : Type 0 where
   room : gen.given < count
   count_is : gen.count ≡ count
   goes_on : GoesOn seed gen (Some (block, more))
 
--- where a block is given, not all were given before
+-- if a block is made, not all were made before
 not_all : (ended : Bool) (next : List ℕ × Progress) (gen : Progress) (other : Option (List ℕ × Progress)) → eqb gen.given gen.count ≡ ended → Some next ≡ cond ended None other → ended ≡ false
 not_all true next gen other is found = absurd cc
 not_all false next gen other is found = refl
 
--- none were drawn first
+-- the frames of no block
 none_framed : (seed : ℕ) → frames_of 0 seed ≡ []
 unfolding first_blocks
 none_framed seed = refl
 
 module _ {D : Type 0} (now : D → ℕ) (disk : D → ℕ → Option DiskState) (told : D → Option (List Tell)) where
-  -- none were told yet
+  -- no frame was printed yet
   pub begins : (first : D) (seed count : ℕ) (gen : Progress) (parent : Digest) → gen ≡ progress seed count 0 → first_blocks seed 0 ≡ none_made seed → parent ≡ no_parent → IsGenerating now disk told first first seed count gen parent
   begins first seed count gen parent start none is =
       let given_is : gen.given ≡ 0 = ap (λ (p : Progress). p.given) start in
@@ -106,7 +107,7 @@ module _ {D : Type 0} (now : D → ℕ) (disk : D → ℕ → Option DiskState) 
         goes_on = goes_on seed (is.is_progress ∙ ap (λ (n : ℕ). progress seed n gen.given) (sym count_is)) is.is_parent;
       }
 
-  -- some were told, and no more
+  -- some frames were printed, and others were not
   pub prefix_told : (first machine : D) (seed count : ℕ) (gen : Progress) (parent : Digest) → IsGenerating now disk told first machine seed count gen parent
       → (next : NextBlock) → Telling next now disk told first machine (map plain (frames_of count seed)) false
   prefix_told first machine seed count gen parent is next =
@@ -134,7 +135,7 @@ module _ {D : Type 0} (now : D → ℕ) (disk : D → ℕ → Option DiskState) 
             (plain_more now disk told next first before after (frames_of gen.given seed) (frame block) true (is.lines next) stays (subst (λ (bytes : List ℕ). Telling next now disk told before after (plain (frame bytes) ∷ []) true) piece_is (tells next))));
       }
 
-  -- a frame that was not told whole
+  -- a frame that was not printed whole
   pub last_told : (first before after : D) (seed count : ℕ) (gen more : Progress) (parent : Digest) (block piece : List ℕ)
       → IsGenerating now disk told first before seed count gen parent → Some (block, more) ≡ next_block gen parent
       → ((s : ℕ) → gen ≡ progress s gen.count gen.given → parent ≡ (first_blocks s gen.given).parent → GoesOn s gen (Some (block, more)))

@@ -1,4 +1,5 @@
--- What `verify` tells where it accepts a proof is the answer of each chain with the root.
+-- What `verify` prints for a proof that it accepts is the answer of each chain with the root,
+-- unless texts clash.
 use Rattle.std.proofs.Common.{◌≡◌, inl, inr, ℕ, List, map, Result, Ok, Err, refl, ap}
 use Rattle.lc_base.specs.declared.answer.Answer.{Answer}
 use Rattle.lc_base.specs.declared.answer.Query.{Query}

@@ -1,4 +1,4 @@
--- What a crash at any moment of a run may leave, whatever the source tells.
+-- What a crash at any moment of a run may leave, whatever the source returns.
 use Rattle.std.proofs.Common.{◌≡◌, ℕ, Bool, true, false, List, ◌++◌, length, refl, sym, ap, ◌∙◌}
 use Rattle.std.specs.Prelude.{Option, Some, None, Ok}
 use Rattle.std.specs.Option.{is_some}
@@ -34,7 +34,7 @@ module _ {D : Type 0} (now : D → ℕ) (disk : D → ℕ → Option DiskState) 
       (still next now disk told old new (λ c. c ≡ content) (rests_each (disk old (now old)) (λ c. c ≡ content) (rests_told (disk old (now old)) content settled here)) stays)
       (λ c same. (NoChange, same))
 
-  -- in two steps
+  -- the disk is left as it is, in two steps
   pub stays_twice : (next : NextBlock) (old mid new : D) → IsSettled (disk old (now old)) → Stays now disk old mid → Stays now disk mid new → (content : List ℕ) → content_of (disk old (now old)) ≡ Some content → Keeps now disk old new (MayLeaveAny next content)
   stays_twice next old mid new settled begins stays content here = stays_any next old new content settled here (stays_on now disk old mid new begins stays)
 
@@ -51,7 +51,7 @@ module _ {D : Type 0} (now : D → ℕ) (disk : D → ℕ → Option DiskState) 
       (weaker now disk mid new (GoesFrom blocks) (MayLeaveAny next_in_chain content) (goes blocks s.2 still_known)
       (λ c more. (Appends more.0, (blocks, s.1, (length more.0, more.1 ∙ ap (λ (b : List Block). Some (blocks ++ b)) (sym (take-length more.0)))))))
 
-  -- and so by the log alone, over any node that is ready
+  -- the same by the log alone, over any node that is ready
   pub append_log : (old mid new : D) (log : LogState) → IsSettled (disk old (now old)) → Stays now disk old mid → Rests (disk mid (now mid)) (Agrees log)
       → ((content : List ℕ) → content_of (disk mid (now mid)) ≡ Some content → Keeps now disk mid new (GoesOn next_in_log content))
       → (content : List ℕ) → content_of (disk old (now old)) ≡ Some content → Keeps now disk old new (MayLeaveAny next_in_log content)
@@ -65,7 +65,7 @@ module _ {D : Type 0} (now : D → ℕ) (disk : D → ℕ → Option DiskState) 
       let more = on blocks stands.1 in
       (Appends more.0, (blocks, stands.1, (length more.0, more.1 ∙ ap (λ (b : List Block). Some (blocks ++ b)) (sym (take-length more.0)))))))
 
-  -- a command that changes the log or does not
+  -- a command, whether it changes the log or not
   pub any_command : (next : NextBlock) (changes : Bool) (old new : D) → IsSettled (disk old (now old)) → (changes ≡ false → Stays now disk old new)
       → (changes ≡ true → (content : List ℕ) → content_of (disk old (now old)) ≡ Some content → Keeps now disk old new (MayLeaveAny next content))
       → (content : List ℕ) → content_of (disk old (now old)) ≡ Some content → Keeps now disk old new (MayLeaveAny next content)

@@ -1,4 +1,4 @@
--- Of an input of bytes and a disk of bytes, a command wants one output.
+-- For an input of bytes and a disk of bytes, a command has exactly one output.
 use Rattle.std.proofs.Common.{◌≡◌, ℕ, zero, suc, ◌+◌, ◌-◌, ◌<◌, ◌≤◌, Bool, true, false, cond, eqb, ltb, leb, ◌&&◌, List, [], ◌∷◌, ◌++◌, length, take, drop, Option, Some, None, Result, Ok, Err, refl, sym, ap, ◌∙◌, inl, inr, subst, arith}
 use Rattle.std.specs.Int.{w32, from_be_bytes}
 use Rattle.std.proofs.lemmas.Bool.{cases_lt}
@@ -96,7 +96,7 @@ module _ (place : Placer) (a b : Decoder) (is_a : IsDecoder a) (is_b : IsDecoder
   unfolding standing
   standing_same image fits = either (is_log image) _ _ (cond (is_blank image) Blank NotALog) (records_same (MAX_BLOCKS + 1) FIRST_GATE [] (drop FIRST_GATE image) (IsBytes-drop FIRST_GATE image fits))
 
--- ---- an output that is wanted
+-- ---- there is an output
 
 some_fmt : (input : List ℕ) → (output : Output) × IsFmtOutput input output
 some_fmt input =
@@ -112,7 +112,7 @@ some_verify root query input =
       | inr fits ↦ (output_of (verification_outcome (verification root query input)) [], Verified fits (verification root query input) (is_verification root query input))
     ]
 
--- a command, or that the words are none, wants an output
+-- a command, or words that are none, has an output
 pub some_output : (command : Option Command) (input content : List ℕ) → (output : Output) × Wants block_in compiled_in command input content output
 some_output None input content = (usage_output input, refl)
 some_output (Some (Scan query)) input content = (scan_output compiled_in query (fold_input block_in compiled_in input), refl)
@@ -130,7 +130,7 @@ some_output (Some (Expose root query root_at)) input content =
     let stands : Standing = standing (next_by block_in compiled_in) content in
     (on_log over input stands, some_on_log (IsExposeOutput compiled_in root.0 query root_at input) over (λ blocks. (some_expose root.0 query input compiled_in root_at blocks).1) input stands)
 
--- ---- and no other
+-- ---- and only one
 
 on_log_same : (over other : List Block → Output) (input : List ℕ) → ((blocks : List Block) → over blocks ≡ other blocks) → (stands : Standing) → on_log over input stands ≡ on_log other input stands
 on_log_same over other input same Blank = same []
@@ -161,7 +161,7 @@ only_verify root query input _ _ (LongProof long) (Verified fits told is) = absu
 only_verify root query input _ _ (Verified fits told is) (LongProof long) = absurd (omega (arith, long, fits))
 only_verify root query input _ _ (Verified _ told is) (Verified _ other i) = ap (λ (v : Verification). output_of (verification_outcome v) []) (one_answer root query input told other is i)
 
--- by whatever decoder that is right, what is wanted of bytes is one
+-- by any right decoder, the output for bytes is the same
 same_output : (read : Decoder) (compile : Compiler) → IsDecoder read → compile ≡ compiled_in → (command : Option Command) (input content : List ℕ) → IsBytes input → IsBytes content
     → (other : Output) → Wants read compile command input content other → other ≡ (some_output command input content).0
 unfolding some_output

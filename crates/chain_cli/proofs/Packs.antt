@@ -1,4 +1,4 @@
--- What `pack` tells, by cases.
+-- The output of `pack`, by cases.
 use Rattle.std.proofs.Common.{◌≡◌, ℕ, ◌+◌, ◌<◌, ◌≤◌, Bool, true, false, cond, ltb, List, [], length, drop, Option, Some, None, Result, Ok, Err, sym, ap, ◌∙◌, subst, arith}
 use Rattle.std.specs.Prelude.{codes, IfOk, IfSome}
 use Rattle.std.proofs.lemmas.Bool.Decides.{nat_tests}
@@ -45,7 +45,7 @@ draft_packed first left found bytes outcome some whole is = draft_here first lef
 
 -- ---- a draft at fault
 
--- what is told of it, by its cause as it was put together
+-- what is printed for it, by its cause as the text was made
 pub told_fault : {E : Type 0} (result : Result Outcome E) (error fault : PackError) (text : List ℕ) → error ≡ fault → pack_fault fault ≡ Some fault → text ≡ draft_cause fault → IfOk result (λ outcome. outcome ≡ bad_input text)
     → IfOk result (TellsFault error)
 told_fault (Err e) error fault text is own same told = tt
@@ -57,7 +57,7 @@ by_fault (Some fault) told outcome found is wanted same =
     let one : fault ≡ told = cc in
     same ∙ ap (λ (f : PackError). bad_input (draft_cause f)) (sym one) ∙ ap draft_outcome (sym wanted)
 
--- it is what is wanted of the draft, whose fault the error tells
+-- it is the outcome of the draft whose fault the error reports
 pub fault_wanted : {E : Type 0} (result : Result Outcome E) (error : PackError) (found : Result (List (List ℕ)) PackError) → IfSome (pack_fault error) (λ fault. found ≡ Err fault)
     → IfOk result (TellsFault error) → IfOk result (λ outcome. outcome ≡ draft_outcome found)
 fault_wanted (Err e) error found is told = tt

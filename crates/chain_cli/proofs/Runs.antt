@@ -1,4 +1,4 @@
--- Whole runs do what is wanted of them.
+-- Whole runs have the output of their command.
 use Rattle.std.proofs.Common.{◌≡◌, ℕ, ◌+◌, Bool, true, false, cond, List, [], ◌∷◌, ◌++◌, map}
 use Rattle.std.proofs.Common.{Option, Some, None, Result, Ok, Err, refl, sym, ap, ◌∙◌, subst}
 use Rattle.std.specs.Prelude.{IfOk, IfSome, is_ok}
@@ -53,7 +53,7 @@ use Rattle.cli_output.proofs.Meets.{ending_ends, stop_stops, told_input, left_sa
 use Rattle.cli_output.proofs.Meets.{rests_given, on_log_blocks, content_stays, quiet_images}
 use Rattle.cli_output.proofs.Meets.{said_met, reading_since, start_met}
 
--- ---- what is given
+-- ---- what is known
 
 told_disk : (state : Option DiskState) (content : List ℕ) → IsGiven true (content_of state) content
     → IsKnown state
@@ -72,7 +72,7 @@ log_may_leave : (content : List ℕ) (blocks added : List Block) (c : List ℕ)
 log_may_leave content blocks added c is same =
     (blocks, is, (0, ap (chain_of next_in_chain) same ∙ is ∙ ap Some (sym (append-nil blocks))))
 
--- what `append` gives over the blocks of the log
+-- the output of `append` over the blocks of the log
 abbrev appended : List ℕ → List Block → Output
 appended input blocks = append_output compiled_in blocks
     (fold_from block_in compiled_in (MAX_FRAMES + 1) blocks input)
@@ -100,7 +100,7 @@ verify_no_change : (root : List ℕ) (query : Query) (input : List ℕ) (output 
 verify_no_change root query input _ (LongProof long) = refl
 verify_no_change root query input _ (Verified fits told is) = refl
 
--- a change that appends none, for blocks that are appended
+-- a change that appends no block has none to append
 no_blocks : (added : List Block) → appends_none (Appends added) ≡ true → added ≡ []
 no_blocks [] none = refl
 no_blocks (block ∷ blocks) none = absurd (cc none)

@@ -26,7 +26,8 @@ use lc_io::Source;
 use std::alloc::{AllocError, Global};
 use std::mem;
 
-/// One byte more of a text that is cut into lines: `line` has the bytes after the last line end.
+/// Takes one more byte of a text that is cut into lines: `line` has the bytes after the last line
+/// end.
 fn put_byte(
     alloc: Global,
     lines: &mut Seq<Bytes>,
@@ -43,7 +44,7 @@ fn put_byte(
     Ok(())
 }
 
-/// Puts what stands after the last line end after the lines, where something does.
+/// Adds the bytes after the last line end as a last line, if there are any.
 fn put_rest(lines: &mut Seq<Bytes>, line: Vec<u8>) -> Result<(), Memory>
     ensures { OnOk result (lines.new ≡ lines.old ++ last_line line.items) }
 {
@@ -53,7 +54,7 @@ fn put_rest(lines: &mut Seq<Bytes>, line: Vec<u8>) -> Result<(), Memory>
     lines.push(Bytes::from_vec(line))
 }
 
-/// A text, cut after each line end.
+/// The lines of a text, each with its line end.
 fn lines_of(alloc: Global, text: &[u8]) -> Result<Seq<Bytes>, Memory>
     ensures { IfOk result (λ lines. lines ≡ lines_of text.now) }
 {
@@ -105,7 +106,7 @@ fn check_cause(alloc: Global, at: u32, kind: CheckKind) -> Result<String, AllocE
     Ok(text)
 }
 
-/// What is told of a contract: its canonical text, unless a name or a kind is invalid.
+/// The outcome for a contract: its canonical text, unless a name or a kind is invalid.
 fn contract_outcome(alloc: Global, contract: Contract) -> Result<Outcome, Memory>
     ensures { IfOk result (λ outcome. outcome ≡ fmt_outcome (contract_of contract) (check_fault (contract_of contract))) }
 {
@@ -125,7 +126,7 @@ fn contract_outcome(alloc: Global, contract: Contract) -> Result<Outcome, Memory
     }
 }
 
-/// What is told of a source that was read whole.
+/// The outcome for a source that was read whole.
 fn source_outcome(alloc: Global, source: &[u8]) -> Result<Outcome, Memory>
     requires { length source.now ≤ MAX_WHOLE_INPUT_BYTES }
     ensures { IfOk result (λ outcome. IsFmtOutput source.now (output_of outcome [])) }
@@ -144,7 +145,7 @@ fn source_outcome(alloc: Global, source: &[u8]) -> Result<Outcome, Memory>
     }
 }
 
-/// The canonical text of the contract that the input is, or its first fault.
+/// The outcome of `fmt`: the canonical text of the contract that the input is, or its first fault.
 pub fn fmt<I: Source>(alloc: Global, source: &mut I) -> Result<Outcome, HostError>
     ensures outcome { IfSome (I.left source.old) (λ input. IfOk result (λ outcome. IsFmtOutcome outcome (I.left source.new) input)) }
     ensures ends { IfOk result (λ outcome. MayEnd (status_of outcome.ending) (Some Fmt)) }

@@ -1,4 +1,4 @@
-//! The command `gen`: blocks that are drawn from a seed.
+//! The command `gen`: each block is printed as soon as it is made, so only one is held.
 
 ghost use Rattle.std.specs.Prelude.{◌≡◌, [], ◌∷◌, map, is_ok, IfOk, IsErrOf};
 ghost use Rattle.lc_base.specs.Faults.{HasCause};
@@ -18,7 +18,7 @@ use lc_base::Memory;
 use lc_io::{Failed, Wire};
 use std::alloc::Global;
 
-/// Tells the frame of a block.
+/// Prints the frame of a block.
 fn tell_frame<M: Wire>(alloc: Global, machine: &mut M, block: &[u8]) -> Result<(), RunStop>
     ensures lines { (next : NextBlock) → Telling next M.now M.disk M.told machine.old machine.new (plain (frame block.now) ∷ []) (is_ok result) }
     ensures only { OnlyTells result }
@@ -34,7 +34,7 @@ fn tell_frame<M: Wire>(alloc: Global, machine: &mut M, block: &[u8]) -> Result<(
     }
 }
 
-/// Tells the frame of each block, one after another, as it is made.
+/// Prints the frame of each block, one after another, as it is made.
 pub fn generate<M: Wire>(
     alloc: Global,
     machine: &mut M,

@@ -1,4 +1,4 @@
-//! The ledger at the command line: what each command tells of its words and its input.
+//! The ledger at the command line: what each command prints for its words, its input and the log.
 #![tactic(auto)]
 
 mod fmt;

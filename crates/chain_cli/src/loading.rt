@@ -1,4 +1,4 @@
-//! The command `load`: the blocks of a seed in a chain, and look-ups of it.
+//! The command `load`: the blocks of a seed are added to a chain, which is then queried.
 
 ghost use Rattle.std.specs.Prelude.{◌≡◌, true, IfOk, IsErrOf};
 ghost use Rattle.lc_base.specs.Faults.{HasCause};
@@ -15,16 +15,16 @@ use lc_base::HostError;
 use scratch_model::Scratch;
 use std::alloc::Global;
 
-/// What is told of a load of these blocks.
+/// The outcome of `load` for these blocks.
 pub fn load_outcome<S: Scratch>(
     alloc: Global,
     scratch: &mut S,
     generation: &Generation,
 ) -> Result<Outcome, OutcomeStop>
     requires { IsCount generation.now.blocks }
-    // Where it is known which bytes the scratch device holds:
+    // Holds if it is known which bytes the scratch device holds.
     ensures outcome { is_known (S.state scratch.old) ≡ true → IfOk result (λ outcome. outcome ≡ load_outcome compiled_in generation.now) }
-    // Whether that is known or not:
+    // Holds in either case.
     ensures ending { IfOk result (λ outcome. outcome.ending ≡ Ending.Done) }
     ensures reads { IsErrOf result OutcomeStop.Unreadable → ⊥ }
     ensures cause { HasCause (S.scratch_faults scratch.old) (S.scratch_faults scratch.new) (IsErrOf result OutcomeStop.ScratchFault) }

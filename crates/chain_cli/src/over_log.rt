@@ -30,7 +30,7 @@ use recovery::{Node, stored_chain};
 use scratch_model::Scratch;
 use std::alloc::Global;
 
-/// How a command ends that appended.
+/// How the command `append` ends, by the result of appending.
 fn append_answer(answer: Result<AppendEnd, RunStop>) -> Result<Ending, RunStop>
     ensures { result ≡ append_answer answer }
 {
@@ -41,7 +41,7 @@ fn append_answer(answer: Result<AppendEnd, RunStop>) -> Result<Ending, RunStop>
     }
 }
 
-/// Takes the blocks of the input into the chain of the log, and tells of each.
+/// Takes the blocks of the input into the chain of the log, and prints a line for each.
 pub fn append<I: Source, M: Disk + Wire, S: Scratch>(
     alloc: Global,
     source: &mut I,
@@ -65,8 +65,8 @@ pub fn append<I: Source, M: Disk + Wire, S: Scratch>(
     }
 }
 
-/// The answer over the rows of a chain that is given up, if it is asked for up to one of its blocks;
-/// where none is named, up to the last one.
+/// The answer over the rows of the chain, if the chain has the block up to which it is asked for:
+/// `at`, or else the last one. The chain is discarded.
 fn last_answer(
     alloc: Global,
     kind: Kind,
@@ -81,7 +81,7 @@ fn last_answer(
     whole_outcome(alloc, &Query { kind, key, at }, chain)
 }
 
-/// Tells the answer to a question over the blocks of the log.
+/// Prints the answer to a question over the blocks of the log.
 pub fn ask<M: Disk + Wire>(
     alloc: Global,
     kind: Kind,
@@ -103,7 +103,7 @@ pub fn ask<M: Disk + Wire>(
     }
 }
 
-/// The root at a block of a node's chain; where none is named, at the last one.
+/// The root at a block of a node's chain: `at`, or else the last one.
 fn root_outcome(alloc: Global, at: Option<u32>, node: &Node) -> Result<Outcome, Memory>
     ensures outcome { IfOk result (λ outcome. (blocks : List Blocks) → StandsFor node.now.chain blocks → outcome ≡ root_outcome compiled_in (at_or_last at blocks) blocks) }
     ensures ends { IfOk result (λ outcome. EndsAsked outcome.ending) }
@@ -119,7 +119,7 @@ fn root_outcome(alloc: Global, at: Option<u32>, node: &Node) -> Result<Outcome, 
     }
 }
 
-/// The same of a node that is given up.
+/// The same, for a node that is discarded.
 fn last_root(alloc: Global, at: Option<u32>, node: Node) -> Result<Outcome, Memory>
     ensures outcome { IfOk result (λ outcome. (blocks : List Blocks) → StandsFor node.chain blocks → outcome ≡ root_outcome compiled_in (at_or_last at blocks) blocks) }
     ensures ends { IfOk result (λ outcome. EndsAsked outcome.ending) }
@@ -129,7 +129,7 @@ fn last_root(alloc: Global, at: Option<u32>, node: Node) -> Result<Outcome, Memo
     outcome
 }
 
-/// Tells the root at a block of the log.
+/// Prints the root at a block of the log.
 pub fn root<M: Disk + Wire, S: Scratch>(
     alloc: Global,
     at: Option<u32>,

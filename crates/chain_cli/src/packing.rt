@@ -19,8 +19,8 @@ use lc_base::{Bytes, HostError, Memory, Seq, TextList};
 use lc_io::Source;
 use std::alloc::Global;
 
-/// The frame of a block: its length in four bytes, and its bytes. For a block whose length has no
-/// four bytes, which is longer than any block is, there is no memory.
+/// The frame of a block: its length in four bytes, the most significant first, and its bytes. A
+/// length that doesn't fit four bytes, which no block has, is answered with `Memory`.
 pub fn frame(alloc: Global, block: &[u8]) -> Result<Bytes, Memory>
     ensures { IfOk result (λ bytes. bytes ≡ frame block.now) }
 {
@@ -33,7 +33,7 @@ pub fn frame(alloc: Global, block: &[u8]) -> Result<Bytes, Memory>
     Ok(Bytes::from_vec(bytes))
 }
 
-/// The frames of blocks.
+/// The frame of each block, in order.
 fn frames(alloc: Global, blocks: &[Bytes]) -> Result<Seq<Bytes>, Memory>
     ensures { IfOk result (λ frames. frames ≡ map frame blocks.now) }
 {
@@ -44,7 +44,7 @@ fn frames(alloc: Global, blocks: &[Bytes]) -> Result<Seq<Bytes>, Memory>
     Ok(frames)
 }
 
-/// What is told of a draft that is no list of blocks.
+/// The outcome for a draft that is no list of blocks.
 fn refusal_outcome(alloc: Global, error: &PackError) -> Result<Outcome, Memory>
     ensures { IfOk result (TellsFault error.now) }
 {
@@ -63,7 +63,7 @@ fn refusal_outcome(alloc: Global, error: &PackError) -> Result<Outcome, Memory>
     }
 }
 
-/// What is told of a draft that was read whole.
+/// The outcome for a draft that was read whole.
 fn draft_outcome(alloc: Global, draft: &[u8]) -> Result<Outcome, Memory>
     ensures { IfOk result (λ outcome. outcome ≡ draft_outcome (texts_of_draft draft.now)) }
 {
@@ -76,7 +76,7 @@ fn draft_outcome(alloc: Global, draft: &[u8]) -> Result<Outcome, Memory>
     }
 }
 
-/// The block file of the draft that the input is, or its first fault.
+/// The outcome of `pack`: the block file of the draft that the input is, or its first fault.
 pub fn pack<I: Source>(alloc: Global, source: &mut I) -> Result<Outcome, HostError>
     ensures outcome { IfSome (I.left source.old) (λ input. IfOk result (λ outcome. GivesOutput outcome (I.left source.new) (pack_output input))) }
     ensures ends { IfOk result (λ outcome. MayEnd (status_of outcome.ending) (Some Pack)) }

@@ -1,4 +1,4 @@
-//! The top call: everything that the program does.
+//! The top call: everything that the program does follows from the words, the input and the disk.
 
 ghost use Rattle.std.specs.Prelude.{◌≡◌, ℕ, List, Option, Some, map, string_bytes, true, false, IfSome, IsErrOf};
 ghost use Rattle.lc_base.specs.{Faults.{HasCause}, declared.answer.Query.{Query}};
@@ -37,7 +37,7 @@ use lc_io::{Source, Wire};
 use scratch_model::Scratch;
 use std::alloc::Global;
 
-/// Does what a command is for.
+/// Runs a command.
 fn run_command<I: Source, M: Disk + Wire, S: Scratch>(
     alloc: Global,
     command: &Command,
@@ -83,7 +83,7 @@ fn run_command<I: Source, M: Disk + Wire, S: Scratch>(
     }
 }
 
-/// What the program does on a command, or on words that are none.
+/// Runs a command, or prints `usage` for words that are none.
 fn run_words<I: Source, M: Disk + Wire, S: Scratch>(
     alloc: Global,
     command: Option<Command>,
@@ -122,8 +122,8 @@ fn run_words<I: Source, M: Disk + Wire, S: Scratch>(
     }
 }
 
-/// Everything that the program does: it reads the words, the input and the disk, keeps bodies of versions
-/// on the scratch device, tells the lines, and appends to the log.
+/// Everything that the program does: it reads the words, the input and the disk, keeps bodies of
+/// versions on the scratch device, prints the lines, and appends to the log.
 #[tactic(auto, using(crate::proofs::OneOutput::one_output, crate::proofs::Formatted::formats_again, crate::proofs::Held::verified_holds, cli_output::proofs::WrongTold::wrong_answers_are_told, block_codec::proofs::WholeBlocks::decided, chain_exec::proofs::TheLaws::one_compiler))]
 pub fn run<I: Source, M: Disk + Wire, S: Scratch>(
     alloc: Global,
@@ -132,60 +132,61 @@ pub fn run<I: Source, M: Disk + Wire, S: Scratch>(
     machine: &mut M,
     scratch: &mut S,
 ) -> Status
-    // Where the disk is known, nothing is pending.
+    // If the disk is known, nothing is pending.
     requires settled { IsSettled (M.disk machine.old (M.now machine.old)) }
     // The words are one command, or none.
     ensures command { (command : Option Commands) × IsOneCommand (map string_bytes words.now) command }
-    // What is told, the status, what is left of the input, and what a crash at any moment may leave of
-    // the log, are those that the words, the input and the content of the disk want; of a command that uses
-    // the scratch device, where it is known which bytes this holds.
+    // What is printed, the status, what is left of the input, and what a crash at any moment may
+    // leave of the log, are determined by the words, the input and the content of the disk; for a
+    // command that uses the scratch device, if it is known which bytes that holds.
     ensures output { (read : Decoder) × IsDecoder read × ((compile : Compiler) × IsCompiler compile
         × ((command : Option Commands) → IsCommand (map string_bytes words.now) command
         → IsRun M.now M.disk M.told machine.old machine.new result (I.left source.old) (I.left source.new) (is_known (S.state scratch.old)) read compile command)) }
-    // A command, an input of bytes and a disk of bytes want one output.
+    // For a command, an input of bytes and a disk of bytes there is exactly one output.
     ensures one { (command : Option Commands) (input content : List ℕ) → IsBytes input → IsBytes content
         → IsOneOutput (IsWanted command input content) }
-    // The canonical text that `fmt` tells, it tells again of that text.
+    // The canonical text that `fmt` prints, it prints again for that text.
     ensures formats_again { (input : List ℕ) → FormatsAgain input }
-    // The answer that `verify` tells is that of replaying any chain with the root, up to the block where it
-    // has it; or a text of the proof and one of that chain's ledger differ and have one digest.
+    // The answer that `verify` prints is that of replaying any chain with the root, up to the block
+    // at which the chain has it; or a text of the proof and one of that chain's ledger differ and
+    // have one digest.
     ensures verified { (root : List ℕ) (query : Query) (input : List ℕ) → VerifiedAnswersHold root query input }
-    // Of a proof that is accepted with another answer than that of a chain with the root, `expose` tells a
-    // text of the proof and one of that chain's ledger that differ and have one digest.
+    // For a proof that is accepted with another answer than that of a chain with the root, `expose`
+    // prints a text of the proof and one of that chain's ledger that differ and have one digest.
     ensures exposed { (root : List ℕ) (query : Query) (root_at : ℕ) (input : List ℕ) → WrongAnswersAreTold root query root_at input }
-    // Whatever the source has left, where the disk is known, and which bytes the scratch device holds: a crash
-    // at any moment leaves what the disk held, or the chain of that with further blocks.
+    // Whatever the source has left, if the disk is known, and which bytes the scratch device holds:
+    // a crash at any moment leaves what the disk held, or the chain of that with further blocks.
     ensures goes_on { (read : Decoder) × IsDecoder read × ((compile : Compiler) × IsCompiler compile
         × (is_known (S.state scratch.old) ≡ true → (content : List ℕ) → content_of (M.disk machine.old (M.now machine.old)) ≡ Some content
         → Keeps M.now M.disk machine.old machine.new (MayLeaveAny (next_by read compile) content))) }
-    // The same whatever the scratch device gives, rows not counted: the blocks from before stay, and what
-    // follows them is blocks, each placed by its digest, its number and its budget.
+    // The same whatever the scratch device returns, with rows not counted: the blocks from before
+    // stay, and only blocks follow them, each placed by its digest, its number and its budget.
     ensures log_goes_on { (read : Decoder) × IsDecoder read
         × ((content : List ℕ) → content_of (M.disk machine.old (M.now machine.old)) ≡ Some content
         → Keeps M.now M.disk machine.old machine.new (MayLeaveAny (log_next_by read) content)) }
-    // Whatever the source has left and the disk holds: a command that does not change the log leaves
-    // the disk as it is;
+    // Whatever the source has left and the disk holds: a command that does not change the log
+    // leaves the disk as it is;
     ensures untouched { (command : Option Commands) → IsCommand (map string_bytes words.now) command
         → changes_log command ≡ false → Stays M.now M.disk machine.old machine.new }
-    // in one that does not use the disk no call of it fails;
+    // if a command does not use the disk, no call of the disk fails;
     ensures unused { (command : Option Commands) → IsCommand (map string_bytes words.now) command
         → uses_disk command ≡ false → M.disk_faults machine.new ≡ M.disk_faults machine.old }
-    // one that does not use the scratch device leaves it as it is, and so no call of it fails;
+    // a command that does not use the scratch device leaves it as it is, so no call of it fails;
     ensures unused_scratch { (command : Option Commands) → IsCommand (map string_bytes words.now) command
         → uses_scratch command ≡ false → scratch.new ≡ scratch.old }
-    // one that reads no input leaves the source as it is;
+    // a command that reads no input leaves the source as it is;
     ensures unread { (command : Option Commands) → IsCommand (map string_bytes words.now) command
         → reads_input command ≡ false → source.new ≡ source.old }
     // and so does one that found no log that it could read;
     ensures no_log { found_no_log result ≡ true → source.new ≡ source.old }
-    // one in which the source, the disk or the scratch device failed, or memory ran out, told nothing,
-    // unless it tells lines while it makes others;
+    // a command that the source, the disk or the scratch device fails, or that runs out of memory,
+    // prints nothing, unless it prints lines while it makes others;
     ensures silent { (command : Option Commands) → IsCommand (map string_bytes words.now) command
         → tells_as_it_goes command ≡ false → IsSilent result (M.told machine.old) (M.told machine.new) }
-    // a status comes only of the commands that may end with it;
+    // each command ends only with a status that it may end with;
     ensures ends { (command : Option Commands) → IsCommand (map string_bytes words.now) command
         → MayEnd result command }
-    // and a source, a wire, a disk or a scratch device is blamed where it failed, and only there.
+    // and a source, a wire, a disk or a scratch device is blamed exactly if it failed.
     ensures unreadable { HasCause (I.source_faults source.old) (I.source_faults source.new) (result ≡ Status.Unreadable) }
     ensures untold { HasCause (M.wire_faults machine.old) (M.wire_faults machine.new) (result ≡ Status.Untold) }
     ensures disk_fault { HasCause (M.disk_faults machine.old) (M.disk_faults machine.new) (result ≡ Status.DiskFault) }

@@ -1,4 +1,4 @@
-//! The command `scan`: a question answered over the blocks of an input.
+//! The command `scan`: a question over the blocks of an input, which a refused frame decides.
 
 ghost use Rattle.lc_base.specs.Faults.{HasCause};
 ghost use Rattle.std.specs.Prelude.{◌≡◌, [], ◌∷◌, IfOk, IfSome, List, Some, IsErrOf};
@@ -22,14 +22,14 @@ use lc_base::{HostError, Memory, Query};
 use lc_io::Source;
 use std::alloc::Global;
 
-/// A frame is refused.
+/// The outcome for a refused frame.
 fn refusal_outcome(alloc: Global, frame: u32, cause: &Cause) -> Result<Outcome, Memory>
     ensures { IfOk result (λ outcome. outcome ≡ outcome_with (refused_line frame cause.now ∷ []) Ending.Refused) }
 {
     Outcome::from_line(alloc, refused_line(alloc, frame, cause)?, Ending::Refused)
 }
 
-/// The answer over the rows of a chain, if it is asked for up to one of its blocks.
+/// The answer over the rows of a chain, if the chain has the block up to which it is asked for.
 fn answer_outcome(alloc: Global, query: &Query, chain: &mut Chain) -> Result<Outcome, Memory>
     ensures outcome { IfOk result (λ outcome. (blocks : List Blocks) → StandsFor chain.old blocks → outcome ≡ answer_outcome compiled_in query.now blocks) }
     ensures ends { IfOk result (λ outcome. EndsAsked outcome.ending) }
@@ -48,7 +48,7 @@ fn answer_outcome(alloc: Global, query: &Query, chain: &mut Chain) -> Result<Out
     })
 }
 
-/// The same of a chain that is given up.
+/// The same, for a chain that is discarded.
 pub fn whole_outcome(alloc: Global, query: &Query, chain: Chain) -> Result<Outcome, Memory>
     ensures outcome { IfOk result (λ outcome. (blocks : List Blocks) → StandsFor chain blocks → outcome ≡ answer_outcome compiled_in query.now blocks) }
     ensures ends { IfOk result (λ outcome. EndsAsked outcome.ending) }
@@ -59,7 +59,7 @@ pub fn whole_outcome(alloc: Global, query: &Query, chain: Chain) -> Result<Outco
     outcome
 }
 
-/// The answer to a question over the blocks of an input.
+/// The outcome of `scan`: the answer to a question over the blocks of the input.
 pub fn scan<I: Source>(alloc: Global, query: &Query, source: &mut I) -> Result<Outcome, HostError>
     ensures outcome { IfSome (I.left source.old) (λ input. IfOk result (λ outcome. GivesOutput outcome (I.left source.new) (scan_output compiled_in query.now (fold_input block_in compiled_in input)))) }
     ensures ends { IfOk result (λ outcome. MayEnd (status_of outcome.ending) (Some (Scan query.now))) }

@@ -1,4 +1,4 @@
--- What holds of a block after one more transaction.
+-- One more transaction of a block: its rows and receipt keep what holds of those before.
 use Rattle.std.proofs.Common.{◌≡◌, ◌≢◌, ◌==◌, eqb, ℕ, ◌+◌, ◌*◌, ◌<◌, ◌≤◌, suc, false, List, [], ◌∷◌, ◌++◌, length, get_or, take, drop, map, Option, None, Some, sym, ap, ◌∙◌, subst, arith}
 use Rattle.std.specs.Prelude.{IfSome}
 use Rattle.std.specs.List.{All, AllPairs}
@@ -41,7 +41,7 @@ pairs_append R xs (y ∷ ys) first second cross =
 
 -- ---- rows
 
--- a key that is not staged is none of the rows' keys
+-- a key that is not staged is the key of none of the rows
 unstaged : (key : List ℕ) (rows : List Row) → is_staged (map entry_of rows) key ≡ false → All (λ (row : Row). row.key ≢ key) rows
 unstaged key [] none = All-nil (λ (row : Row). row.key ≢ key)
 unstaged key (row ∷ rows) none =
@@ -113,7 +113,7 @@ more_effects rows start old new before after run number at tx stands newest code
     let now : staged_in new after ≡ with_effect (staged_in old before) effect = λ i. record { rows = all_rows i; codes = has.codes i; receipts = all_receipts i } in
     now ∙ ap (with_effect (staged_in old before)) is
 
--- what is done so far, and what is left to do, where the rows are told
+-- what is done so far, and then what is left to do, over a host of these rows
 abbrev so_far : List Row → Known Contract → ℕ → ℕ → Staged → List Tx → Staged
 so_far rows start number at done txs = effects_after compiled_in (history_in rows start) number at done txs
 

@@ -1,4 +1,4 @@
--- There is one compiler.
+-- There is only one right compiler: a source has an outcome, and no other.
 use Rattle.std.proofs.Common.{◌≡◌, sym, ap, ◌∙◌}
 use Rattle.contract_parse.proofs.Outcomes.{some_outcome, one_outcome}
 use Rattle.chain_exec.specs.Compiled.{Compiler, IsCompiler, functions_of, compiled_in}

@@ -1,4 +1,5 @@
--- What transactions and blocks cost.
+-- Costs stay within budgets: of a transaction, of a block, and of a block that is placed as the
+-- next.
 use Rattle.std.proofs.Common.{◌≡◌, ℕ, ◌+◌, ◌≤◌, Bool, true, false, List, [], ◌∷◌, ◌++◌}
 use Rattle.std.proofs.Common.{Option, Some, None, refl, sym, subst, arith}
 use Rattle.std.specs.Prelude.{not, ◌||◌, ◌==◌, nat_lt, if◌then◌else◌, codes}

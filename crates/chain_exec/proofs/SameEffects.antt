@@ -48,7 +48,7 @@ found_is key (r ∷ rows) row e =
       | inr other ↦ found_is key rows row (sym (ap (λ (b : Bool). cond b (Some r) (find (λ (q : Row). pointwise ◌==◌ q.key key) rows)) other) ∙ e)
     ]
 
--- the dependency on what is held of a version
+-- the dependency on a version, by what is held of it
 abbrev dep_held : List ℕ → Option Held → Option Dep
 dep_held key held = option_map (λ (h : Held). record { key = key; block = h.block }) held
 

@@ -1,4 +1,4 @@
--- The laws of what transactions and blocks do.
+-- The proofs of the laws of transactions and blocks.
 use Rattle.std.proofs.Common.{◌≡◌, ◌≢◌, eqb, ℕ, ◌<◌, ◌≤◌, ◌+◌, ltb, Bool, true, false, cond, not, List, [], ◌∷◌, ◌++◌, filter, Option, Some, None, refl, sym, ap, ◌∙◌, subst, arith, inl, inr}
 use Rattle.std.specs.Prelude.{codes as codes_of}
 use Rattle.std.specs.Option.{IsSomeAnd, option_map}
@@ -34,7 +34,7 @@ one_compiler = record { is_compiler = compiled_is; only = only_compiler }
 
 -- ---- one transaction
 
--- a Set, by its two tests
+-- the effect of a Set, by its two tests
 abbrev pub tested : Bool → Bool → Row → Effect
 tested foreign conflict row =
     cond foreign (refused_effect statuses.Foreign) (cond conflict (refused_effect statuses.Conflict) (record { receipt = free statuses.Ok; rows = row ∷ []; codes = [] }))
@@ -117,7 +117,7 @@ recorded None block e = absurd cc
 recorded (Some row) block e = cc
 
 module _ (rows more : List Row) (number : ℕ) (old : All (λ (row : Row). row.block < number) rows) (new : All (λ (row : Row). row.block ≡ number) more) where
-  -- rows of a block are below no earlier one
+  -- the rows of a block lie below no earlier block
   below_stays : (block : ℕ) → block ≤ number → below (rows ++ more) block ≡ below rows block
   below_stays block le =
       filter-append (λ (row : Row). ltb row.block block) rows more

@@ -1,4 +1,4 @@
--- What holds of an answer, whatever is told of the host, and of a host that didn't fail.
+-- Properties of a result, whether or not the host's rows are known, and of a host that didn't fail.
 use Rattle.std.proofs.Common.{◌≡◌, ℕ, eqb, inl, inr, Option, None, Some, Result, Ok, Err, sym, ◌∙◌, subst, true≢false}
 use Rattle.std.specs.Prelude.{IfSome, IfOk}
 use Rattle.std.proofs.lemmas.Bool.{cases_Bool, eqb-true, eq-eqb}
@@ -14,7 +14,7 @@ pub unless_memory : (P : TxRun → Type 0) (result : Result TxRun HostError) (gi
 unless_memory P (Ok run) given is all = subst (λ r. IfOk r P) is all
 unless_memory P (Err error) given is all = tt
 
--- what is handed on has what it had
+-- what is returned unchanged keeps its properties
 pub handed_on : (P : TxRun → Type 0) (result : Result TxRun Memory) (run : TxRun) → IfOk result (λ staged. staged ≡ run) → P run → IfOk result P
 handed_on P (Ok staged) run is holds = subst P (sym is) holds
 handed_on P (Err memory) run is holds = tt

@@ -1,4 +1,4 @@
--- What holds of the rows of one transaction.
+-- The rows of one transaction are few, of distinct keys, and have dependencies on newest versions.
 use Rattle.std.proofs.Common.{◌≡◌, ◌≢◌, ℕ, ◌≤◌, ◌+◌, false, not, List, [], ◌∷◌, length, Option, Some, None, refl, sym, ap, subst, arith}
 use Rattle.std.specs.Option.{option_map}
 use Rattle.std.specs.List.{list_any, filter_map, cons_option, All, AllPairs}

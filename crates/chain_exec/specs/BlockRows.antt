@@ -1,4 +1,5 @@
--- What holds of the rows and receipts of a block, whatever the contracts do and the host tells.
+-- The shape of the rows and receipts of a block, whatever its contracts do and whether or not what
+-- the host holds is known.
 use Rattle.std.specs.Prelude.{◌≡◌, ◌≢◌, ℕ, ◌<◌, ◌≤◌, ◌*◌, false, List, length, Option, Some}
 use Rattle.std.specs.List.{All, AllPairs, AllZip}
 use Rattle.lc_base.specs.declared.limits.TheConstants.{MAX_DEPS}
@@ -22,12 +23,12 @@ pub record HasNewestDeps (newest : List ℕ → Option Held) (row : Row) : Type 
   pub once : AllPairs ◌≢◌ row.deps
   pub on_newest : All (IsOnNewest newest) row.deps
 
--- Rows of different keys.
+-- No two rows have the same key.
 abbrev pub AreKeysOnce : List Row → Type 0
 AreKeysOnce rows = AllPairs (λ (a b : Row). a.key ≢ b.key) rows
 
--- The rows of one transaction: at most MAX_KEYS_PUT, of its block and its index, of different keys
--- that the block has not written before, their dependencies on newest versions.
+-- The rows of one transaction: at most MAX_KEYS_PUT, all of its block and its index, of distinct
+-- keys that the block has not written before, with dependencies on newest versions.
 pub record AreTxRows (place : Place) (number at : ℕ) (rows : List Row) : Type 0 where
   pub few : length rows ≤ MAX_KEYS_PUT
   pub of_block : All (λ (row : Row). row.block ≡ number) rows
@@ -36,9 +37,9 @@ pub record AreTxRows (place : Place) (number at : ℕ) (rows : List Row) : Type 
   pub unwritten : All (λ (row : Row). place.written row.key ≡ false) rows
   pub deps : All (HasNewestDeps place.newest) rows
 
--- The rows of a block of so many transactions: at most MAX_KEYS_PUT for each, of its number, in the
--- order of their transactions, of different keys, their dependencies on the newest versions before
--- the block.
+-- The rows of a block of `count` transactions: at most MAX_KEYS_PUT for each, all of the block's
+-- number, in the order of their transactions, of distinct keys, with dependencies on the newest
+-- versions before the block.
 pub record AreBlockRows (newest : List ℕ → Option Held) (number count : ℕ) (rows : List Row) : Type 0 where
   pub few : length rows ≤ MAX_KEYS_PUT * count
   pub of_block : All (λ (row : Row). row.block ≡ number) rows
@@ -51,6 +52,6 @@ pub record AreBlockRows (newest : List ℕ → Option Held) (number count : ℕ)
 abbrev pub IsWithinBudget : Tx → Receipt → Type 0
 IsWithinBudget tx receipt = receipt.cost ≤ tx_budget tx
 
--- There is one receipt for each transaction, and it is within its budget.
+-- There is one receipt for each transaction, within its budget.
 abbrev pub AreWithinBudgets : List Tx → List Receipt → Type 0
 AreWithinBudgets txs receipts = AllZip IsWithinBudget txs receipts

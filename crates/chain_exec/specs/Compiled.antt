@@ -1,4 +1,4 @@
--- What the sources of contracts are made into.
+-- Compiling: a source determines the functions that it is deployed as, or that it is refused.
 use Rattle.std.specs.Prelude.{◌≡◌, ℕ, List, Option, Some, None, Ok, Err}
 use Rattle.contract_tree.specs.Tree.{FunctionTree}
 use Rattle.contract_parse.specs.Syntax.{Outcome, IsOutcome}
@@ -6,29 +6,29 @@ use Rattle.contract_parse.proofs.Outcomes.{some_outcome}
 use Rattle.contract_check.specs.declared.fault.Fault.{Fault}
 use Rattle.contract_check.specs.Faults.{check_fault}
 
--- What makes a contract of a source: its functions, where it is one without a fault.
+-- A compiler maps a source to the functions of its contract, or to None if it is refused.
 abbrev pub Compiler : Type 0
 Compiler = List ℕ → Option (List FunctionTree)
 
--- The functions, unless they have a fault.
+-- The functions, or None if they have a fault.
 abbrev pub faultless : List FunctionTree → Option Fault → Option (List FunctionTree)
 faultless functions None = Some functions
 faultless functions (Some fault) = None
 
--- The functions that a source is deployed as: those that it reads as, where names and kinds have no
--- fault in them.
+-- The functions that a source is deployed as, by its outcome: those that it parses to, if their
+-- names and kinds have no fault.
 abbrev pub functions_of : Outcome → Option (List FunctionTree)
 functions_of (Ok functions) = faultless functions (check_fault functions)
 functions_of (Err fault) = None
 
--- A compiler makes of each source the functions that its outcome says. Each source has one outcome,
--- so there is one compiler.
+-- A compiler is right if it maps each source to the functions that its outcome says. Each source
+-- has one outcome, so there is only one such compiler.
 abbrev pub IsCompiler : Compiler → Type 0
 IsCompiler compile =
     (source : List ℕ) (outcome : Outcome) → IsOutcome source outcome
     → compile source ≡ functions_of outcome
 
--- The compiler: what the outcome of the source says. `some_outcome` is the lemma that each source
--- has an outcome; a source has no other, so nothing depends on how the lemma finds it.
+-- The right compiler: what the outcome of the source says. `some_outcome` is the lemma that each
+-- source has an outcome; a source has no other, so nothing depends on how the lemma finds it.
 unfoldable pub compiled_in : Compiler
 compiled_in source = functions_of (some_outcome source).0

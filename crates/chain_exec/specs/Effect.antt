@@ -20,17 +20,17 @@ use Rattle.block_codec.specs.declared.block.Tx.TheVariants.{Set, Deploy, Call}
 use Rattle.chain_exec.specs.declared.receipt.Receipt.{Receipt}
 use Rattle.chain_exec.specs.Compiled.{Compiler}
 
--- The codes of contracts, by their names, in the order of deployment.
+-- The codes of contracts by name, in the order of deployment.
 abbrev pub Codes : Type 0
 Codes = List (List ℕ × List FunctionTree)
 
--- What blocks have left: their rows, in order, and the codes that can be called.
+-- What blocks have left: their rows, in order, and the contracts that can be called.
 pub record History : Type 0 where
   pub rows : List Row
   pub codes : Codes
 
 -- What a transaction does: its receipt, the rows that it writes, and the code that it deploys, if
--- it deploys one.
+-- any.
 pub record Effect : Type 0 where
   pub receipt : Receipt
   pub rows : List Row
@@ -40,33 +40,33 @@ pub record Effect : Type 0 where
 abbrev pub free : TxStatus → Receipt
 free status = record { status = status; cost = 0 }
 
--- A transaction that fails before it costs anything: it leaves nothing.
+-- A transaction that fails before it costs anything leaves nothing.
 abbrev pub refused_effect : TxStatus → Effect
 refused_effect status = record { receipt = free status; rows = []; codes = [] }
 
 -- ---- dependencies
 
--- The newest version of a key, as others depend on it.
+-- The newest version of a key, as a dependency of other rows.
 abbrev pub version_to_depend_on : List Row → List ℕ → Option Dep
 version_to_depend_on rows key = option_map version_of (newest rows key)
 
--- What is derived from these keys: from the newest version of each that has one, in order, repeats
--- dropped.
+-- The dependencies that keys name: the newest version of each key that has one, in order, without
+-- repeats.
 abbrev pub deps_on : List Row → List (List ℕ) → List Dep
 deps_on rows keys = without_repeats (filter_map (version_to_depend_on rows) keys)
 
 -- ---- writing a value
 
--- Whether one of these rows is of the key.
+-- Whether one of the rows has the key.
 abbrev pub is_written : List Row → List ℕ → Bool
 is_written rows key = list_any (λ (row : Row). pointwise ◌==◌ row.key key) rows
 
--- Whether a Set meets a conflict: one of its dependency keys, or its key, was written.
+-- A Set meets a conflict if its key or one of its dependency keys has been written.
 abbrev pub meets_conflict : (List ℕ → Bool) → List ℕ → List (List ℕ) → Bool
 meets_conflict written key deps = list_any written deps || written key
 
--- A Set writes this row, where it meets no conflict. It is Foreign where the key does not begin
--- raw/, and that is tested first.
+-- The effect of a Set: Foreign if the key does not begin raw/, which is tested first; else Conflict
+-- if it meets one; else it writes the row.
 abbrev pub set_effect : Bool → Row → Effect
 set_effect conflict row =
     if not (starts_with ◌==◌ row.key (codes "raw/")) then refused_effect statuses.Foreign
@@ -75,29 +75,29 @@ set_effect conflict row =
 
 -- ---- deploying a contract
 
--- The functions of the contract of a name.
+-- The functions of the contract with this name.
 abbrev pub code_in : Codes → List ℕ → Option (List FunctionTree)
 code_in codes name = lookup (pointwise ◌==◌ name) codes
 
--- Whether no contract of a name can be deployed: the name is `raw`, or a contract has it, of the
--- blocks before or of this one.
+-- Whether a name cannot be deployed under: it is `raw`, or a contract of an earlier block or of
+-- this one has it.
 abbrev pub is_taken_in : Codes → Codes → List ℕ → Bool
 is_taken_in codes staged name =
     is_raw name || (is_some (code_in codes name) || is_some (code_in staged name))
 
--- A Deploy of what the source was made into.
+-- The effect of a Deploy, by what its source compiles to.
 abbrev pub code_effect : List ℕ → Option (List FunctionTree) → Effect
 code_effect name None = refused_effect statuses.BadSource
 code_effect name (Some functions) =
     record { receipt = free statuses.Ok; rows = []; codes = (name, functions) ∷ [] }
 
--- A Deploy under a name: Taken, where the name is taken, is tested before the source.
+-- The effect of a Deploy under a name. Taken is tested before the source.
 abbrev pub deploy_effect : Bool → List ℕ → Option (List FunctionTree) → Effect
 deploy_effect taken name code = if taken then refused_effect statuses.Taken else code_effect name code
 
 -- ---- calling a contract
 
--- How a call ends, with the rows that it writes where it ends well.
+-- How a call ends, with the rows that it writes if it ends well.
 abbrev pub result_effect : ℕ → ℕ → CallResult → Effect
 result_effect number at result =
     record {
@@ -106,7 +106,7 @@ result_effect number at result =
       codes = [];
     }
 
--- A Call of a contract, where there is one.
+-- The effect of a Call, by the contract that it names, if there is one.
 abbrev pub call_effect : Option (List FunctionTree) → Scene → List Value → ℕ → Effect
 call_effect None s args at = refused_effect statuses.NoContract
 call_effect (Some functions) s args at =
@@ -114,8 +114,8 @@ call_effect (Some functions) s args at =
 
 -- ---- together
 
--- What a transaction does at the index `at` of the block of this number: on the history of the
--- blocks before, after the block's earlier transactions wrote and deployed what is staged.
+-- The effect of the transaction at the index `at` of the block `number`: on the history of the
+-- blocks before, after the block's earlier transactions have staged these rows and codes.
 abbrev pub effect_of : Compiler → History → List Row → Codes → ℕ → ℕ → Tx → Effect
 effect_of compile history staged_rows staged_codes number at (Set sender key value deps) =
     set_effect (meets_conflict (is_written staged_rows) key deps)

@@ -1,4 +1,4 @@
--- What a block does: its transactions, one after another.
+-- What a block does: the effects of its transactions, all on the history before the block.
 use Rattle.std.specs.Prelude.{ℕ, ◌+◌, List, [], ◌∷◌, ◌++◌}
 use Rattle.lc_base.specs.declared.row.Row.{Row}
 use Rattle.block_codec.specs.declared.block.Tx.{Tx}
@@ -7,18 +7,18 @@ use Rattle.chain_exec.specs.declared.receipt.Receipt.{Receipt}
 use Rattle.chain_exec.specs.Compiled.{Compiler}
 use Rattle.chain_exec.specs.Effect.{Codes, History, Effect, effect_of}
 
--- What the transactions of a block did so far: the rows that they wrote, the codes that they
+-- What the transactions of a block have done so far: the rows that they wrote, the codes that they
 -- deployed, and a receipt for each.
 pub record Staged : Type 0 where
   pub rows : List Row
   pub codes : Codes
   pub receipts : List Receipt
 
--- Nothing done yet.
+-- No transaction has run yet.
 abbrev pub nothing_staged : Staged
 nothing_staged = record { rows = []; codes = []; receipts = [] }
 
--- What is done after one more transaction.
+-- The same with the effect of one more transaction.
 abbrev pub with_effect : Staged → Effect → Staged
 with_effect done effect =
     record {
@@ -27,8 +27,8 @@ with_effect done effect =
       receipts = done.receipts ++ effect.receipt ∷ [];
     }
 
--- What is done after these transactions, the first at the index `at` of its block. All run on the
--- history of the blocks before.
+-- What is done after these transactions too, the first of which has the index `at` in its block.
+-- All of them run on the history of the blocks before.
 abbrev pub effects_after : Compiler → History → ℕ → ℕ → Staged → List Tx → Staged
 effects_after compile history number at done [] = done
 effects_after compile history number at done (tx ∷ txs) =

@@ -1,4 +1,4 @@
--- Laws of what transactions and blocks do.
+-- Laws of what transactions and blocks do, for every compiler and history.
 use Rattle.std.specs.Prelude.{◌≡◌, ◌≢◌, ℕ, ◌+◌, ◌<◌, ◌≤◌, List, [], ◌∷◌, ◌++◌, length, Option}
 use Rattle.std.specs.List.{All, sum_by}
 use Rattle.lc_base.specs.History.{IsLawful}
@@ -19,7 +19,7 @@ use Rattle.chain_exec.specs.Effect.{Codes, History, effect_of}
 use Rattle.chain_exec.specs.Fold.{block_effects}
 use Rattle.chain_exec.specs.Replay.{history_after, replay, receipts_of}
 
--- There is one compiler, and it is `compiled_in`.
+-- There is one right compiler, and it is `compiled_in`.
 pub record OneCompiler : Type 0 where
   pub is_compiler : IsCompiler compiled_in
   pub only : (compile : Compiler) → IsCompiler compile → compile ≡ compiled_in
@@ -41,33 +41,33 @@ FailuresLeaveNothing =
     → ((effect_of compile history rows codes number at tx).rows ≡ [])
     × ((effect_of compile history rows codes number at tx).codes ≡ [])
 
--- A block has one receipt for each transaction, whose cost is at most the transaction's budget.
+-- A block has one receipt for each transaction, and its cost is at most the transaction's budget.
 abbrev pub CostsAreWithinBudgets : Type 0
 CostsAreWithinBudgets =
     (compile : Compiler) (history : History) (block : Block)
     → AreWithinBudgets block.txs (block_effects compile history block).receipts
 
--- The costs of some receipts, together.
+-- The sum of the costs of receipts.
 abbrev pub cost_of : List Receipt → ℕ
 cost_of receipts = sum_by (λ (receipt : Receipt). receipt.cost) receipts
 
--- A block that is placed as the next one costs at most MAX_BLOCK_BUDGET, whatever the history.
+-- A block that is placed as the next one costs at most MAX_BLOCK_BUDGET in all, whatever the
+-- history.
 abbrev pub NextBlocksAreWithinBudget : Type 0
 NextBlocksAreWithinBudget =
     (compile : Compiler) (history : History) (rows : ℕ) (blocks : List Block) (block : Block)
     → placement_after rows blocks block ≡ Next
     → cost_of (block_effects compile history block).receipts ≤ MAX_BLOCK_BUDGET
 
--- One more block adds to a replay what it does on the history of the blocks before it, and changes
--- nothing of theirs.
+-- Another block adds to a replay what it does on the history of the blocks before it, and changes
+-- nothing of what they did.
 pub record ReplayGrows (compile : Compiler) (blocks : List Block) (block : Block) : Type 0 where
   pub history : replay compile (blocks ++ block ∷ []) ≡ history_after compile (replay compile blocks) block
   pub receipts :
       receipts_of compile (blocks ++ block ∷ [])
       ≡ receipts_of compile blocks ++ (block_effects compile (replay compile blocks) block).receipts ∷ []
 
--- The rows of a block, after a lawful history of earlier blocks that has room for them, make a
--- lawful history.
+-- A lawful history of earlier blocks that has room for the rows of a block is lawful with them.
 abbrev pub BlocksKeepLawful : Type 0
 BlocksKeepLawful =
     (rows more : List Row) (number count : ℕ)
@@ -76,7 +76,7 @@ BlocksKeepLawful =
     → AreBlockRows (held_in rows) number count more
     → IsLawful (rows ++ more)
 
--- Each row of a history of earlier blocks, and of the block's own, is of a block up to this one.
+-- Each row of a history of earlier blocks, and of the block after it, is of a block up to this one.
 abbrev pub BlocksKeepOrder : Type 0
 BlocksKeepOrder =
     (rows more : List Row) (newest : List ℕ → Option Held) (number count : ℕ)

@@ -1,4 +1,4 @@
--- What a block at work does to a world.
+-- What transactions do to a world that holds a block at work.
 use Rattle.std.specs.Prelude.{◌≡◌, ℕ, List, ◌++◌, map, Option}
 use Rattle.std.specs.Option.{option_map}
 use Rattle.std.specs.List.{filter_map}
@@ -26,15 +26,16 @@ use Rattle.chain_exec.specs.Fold.{Staged}
 abbrev pub code_seen : List ℕ × Contract → List ℕ × List FunctionTree
 code_seen code = (code.0, contract_of code.1)
 
--- The codes of a world, as definitions see them.
+-- The codes of a world, in the form of a history's codes.
 abbrev pub codes_seen : List (List ℕ × Contract) → Codes
 codes_seen codes = map code_seen codes
 
--- The history that a world stands for, where its rows are these.
+-- The history that a world stands for if its rows are these.
 abbrev pub history_in : List Row → Known Contract → History
 history_in rows world = record { rows = rows; codes = codes_seen world.codes }
 
--- What a block at work did so far: the rows and receipts of a run, and the codes that are staged.
+-- What a block at work has done so far: the rows and receipts of the run, and the codes that are
+-- staged in the world.
 abbrev pub staged_in : Known Contract → BlockRun → Staged
 staged_in world run =
     record { rows = run.rows; codes = codes_seen world.staged_codes; receipts = run.receipts }
@@ -44,11 +45,11 @@ abbrev pub dep_in : Known Contract → List ℕ → Option Dep
 dep_in world key =
     option_map (λ (held : Held). record { key = key; block = held.block }) (newest_of world key)
 
--- The dependencies on these keys, repeats dropped.
+-- The dependencies on these keys, without repeats.
 abbrev pub deps_in : Known Contract → List (List ℕ) → List Dep
 deps_in world keys = without_repeats (filter_map (dep_in world) keys)
 
--- The row of a Set.
+-- The row that a Set writes.
 abbrev pub row_in : Known Contract → ℕ → ℕ → List ℕ → Value → List (List ℕ) → Row
 row_in world number at key value deps =
     record { key = key; block = number; tx = at; value = value; deps = deps_in world deps }
@@ -62,16 +63,16 @@ set_in world number at key value deps =
 abbrev pub deploy_in : Known Contract → List ℕ → List ℕ → Effect
 deploy_in world name source = deploy_effect (is_taken world name) name (compiled_in source)
 
--- The scene of a call in a world, over a host of these rows.
+-- The scene of a call in a world, if the host holds these rows.
 abbrev pub scene_at : List Row → Known Contract → CallSite → Scene
 scene_at rows world site = scene_of rows (is_written world) site
 
--- What a Call does in a world, over a host of these rows.
+-- What a Call does in a world, if the host holds these rows.
 abbrev pub call_in : List Row → Known Contract → CallSite → List Value → ℕ → Effect
 call_in rows world site args at =
     call_effect (option_map contract_of (code_of world site.contract)) (scene_at rows world site) args at
 
--- What a transaction does in a world, over a host of these rows.
+-- What a transaction does in a world, if the host holds these rows.
 abbrev pub effect_in : List Row → Known Contract → ℕ → ℕ → Tx → Effect
 effect_in rows world number at (Set sender key value deps) = set_in world number at key value deps
 effect_in rows world number at (Deploy sender name source) = deploy_in world name source
@@ -80,13 +81,14 @@ effect_in rows world number at (Call sender contract function args budget) =
     (record { contract = contract; function = function; sender = sender; number = number; budget = budget })
     args at
 
--- A transaction has staged rows in a world, and nothing else has changed but the codes staged.
+-- A transaction has staged these rows in a world. Nothing else may have changed but the staged
+-- codes.
 pub record StagesRows (old new : Known Contract) (rows : List Row) : Type 0 where
   pub newest : new.newest ≡ old.newest
   pub codes : new.codes ≡ old.codes
   pub staged : new.staged ≡ old.staged ++ map entry_of rows
 
--- What a transaction of this effect hands to its block.
+-- What a transaction with this effect hands to its block.
 abbrev pub run_left : Effect → TxRun
 run_left effect = record { receipt = effect.receipt; rows = effect.rows }
 

@@ -1,4 +1,5 @@
-//! A whole block.
+//! Running a block: its transactions run in order, each on the rows and codes that earlier blocks
+//! left.
 
 ghost use Rattle.std.specs.{
   Prelude.{◌≡◌, ◌≤◌, [], ◌∷◌, ◌++◌, length, map, IfSome, IfOk, OnOk, IsErrOf},
@@ -51,7 +52,7 @@ impl BlockRun {
     }
 }
 
-/// Runs the transactions of a block, one after another.
+/// Runs the transactions of a block, one after another, from the one at index 0.
 fn run_txs<H: Host>(
     alloc: Global,
     host: &mut H,
@@ -87,13 +88,13 @@ fn run_txs<H: Host>(
 }
 
 /// Runs a block on the state before it: `world` is that state, with nothing staged, and `host`
-/// answers what contracts ask of its history. Each transaction sees the rows and codes of the
-/// blocks before alone. What the block writes and deploys is staged in the world, for `commit`.
+/// answers what contracts ask of its history. Each transaction sees the rows and codes of earlier
+/// blocks only. What the block writes and deploys is staged in the world, for `commit`.
 ///
 /// # Errors
 ///
-/// `Fault` only where the host failed, and `Memory`. The world must be given up then: some of the
-/// block may be staged in it.
+/// `Fault` only if the host failed; `Memory` if memory ran out. The world must be discarded after
+/// an error: a part of the block may be staged in it.
 pub fn run_block<H: Host>(
     alloc: Global,
     host: &mut H,

@@ -1,4 +1,4 @@
-//! Transactions that call a contract.
+//! Running a Call: a call that fails writes no rows.
 
 ghost use Rattle.std.specs.Prelude.{◌≡◌, ◌≤◌, Some, IfSome, IfOk, IsErrOf};
 ghost use Rattle.lc_base.specs.Faults.{HasCause};
@@ -22,7 +22,7 @@ use lc_base::{Host, HostError, Memory, RowList, TxStatus, ValueList};
 use std::alloc::Global;
 use world_state::World;
 
-/// The rows of what was put; none where the call failed.
+/// The rows of the puts of a call, or no row if the call failed.
 fn rows_written(
     alloc: Global,
     number: u32,
@@ -39,7 +39,7 @@ fn rows_written(
     }
 }
 
-/// What a call does that ended so, with these reads and puts.
+/// What a call hands to its block, by how it ended, and what it read and put.
 fn run_of_outcome(
     alloc: Global,
     number: u32,
@@ -64,7 +64,8 @@ fn run_of_outcome(
     }
 }
 
-/// Runs a Call at the index `at` of a block, and stages its rows.
+/// Runs a Call at the index `at` of a block, and stages its rows. The status is `NoContract`, at
+/// cost 0, if no contract has the name.
 pub(crate) fn run_call<H: Host>(
     alloc: Global,
     site: &CallSite,

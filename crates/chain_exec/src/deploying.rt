@@ -1,4 +1,4 @@
-//! Transactions that deploy a contract.
+//! Running a Deploy: the name is tested before the source is read, and the code is staged only.
 
 ghost use Rattle.std.specs.{
   Prelude.{◌≡◌, ◌<◌, ◌^◌, [], ◌++◌, length, IfOk, OnOk},
@@ -20,7 +20,7 @@ use lc_base::{Memory, Name, TxStatus};
 use std::alloc::Global;
 use world_state::World;
 
-/// The contract, where its names and kinds have no fault.
+/// The checked contract, or `None` if its names or kinds have a fault.
 fn faultless(alloc: Global, contract: Contract) -> Result<Option<Checked>, Memory>
     ensures { IfOk result (λ code. option_map contract_of code
         ≡ faultless (contract_of contract) (check_fault (contract_of contract))) }
@@ -32,7 +32,7 @@ fn faultless(alloc: Global, contract: Contract) -> Result<Option<Checked>, Memor
     }
 }
 
-/// The contract that a source is; `None` where it is none, or has a fault.
+/// Compiles a source; `None` if it doesn't parse as a contract, or its names or kinds have a fault.
 fn compile(alloc: Global, source: &[u8]) -> Result<Option<Checked>, Memory>
     requires { length source.now < 2 ^ 32 }
     ensures { IfOk result (λ code. option_map contract_of code ≡ compiled_in source.now) }
@@ -44,8 +44,9 @@ fn compile(alloc: Global, source: &[u8]) -> Result<Option<Checked>, Memory>
     }
 }
 
-/// Runs a Deploy, which writes no row: stages the contract that a source is under a name, unless the
-/// name is taken or the source is no contract.
+/// Runs a Deploy, which writes no row and costs nothing: stages the contract of the source under
+/// the name. The status is `Taken` if the name is taken, else `BadSource` if the source is no
+/// contract.
 pub(crate) fn run_deploy(
     alloc: Global,
     world: &mut World<Checked>,

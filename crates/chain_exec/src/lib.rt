@@ -1,4 +1,5 @@
-//! What blocks do: their transactions run one after another, on the state before the block.
+//! What blocks do: the transactions of a block run one after another, on the state before the
+//! block.
 #![tactic(auto)]
 
 mod block;

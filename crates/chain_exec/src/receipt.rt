@@ -1,4 +1,4 @@
-//! How transactions ended.
+//! Receipts of transactions: the only trace that a failed transaction leaves.
 
 use lc_base::{Seq, TxStatus};
 
@@ -6,9 +6,9 @@ use lc_base::{Seq, TxStatus};
 #[derive(Clone, Copy, Debug, PartialEq, Eq)]
 pub struct Receipt {
     pub status: TxStatus,
-    /// In steps: at most the budget of a Call, 0 for a Set and a Deploy.
+    /// In steps: at most the budget of a Call, and 0 for a Set or a Deploy.
     pub cost: u32,
 }
 
-/// Receipts.
+/// The receipts of a block, one for each of its transactions, in order.
 pub type ReceiptList = Seq<Receipt>;

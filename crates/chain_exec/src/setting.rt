@@ -1,4 +1,4 @@
-//! Transactions that write a value.
+//! Running a Set: its key begins `raw/`, and it writes one row unless it meets a conflict.
 
 ghost use Rattle.std.specs.{
   Prelude.{◌≡◌, ◌≤◌, ◌==◌, [], ◌∷◌, length, codes, IfOk},
@@ -20,10 +20,10 @@ use lc_base::{Dep, DepList, Duplicate, Key, Memory, Row, RowList, TxStatus, Valu
 use std::alloc::{AllocError, Global};
 use world_state::World;
 
-/// What the keys begin with that a Set writes.
+/// The prefix of the keys that a Set may write.
 const RAW_PREFIX: [u8; 4] = *b"raw/";
 
-/// The dependency on the newest version of a key; `None` where it has none.
+/// The dependency on the newest version of a key; `None` if it has no version.
 fn dep_on(world: &World<Checked>, key: &Key) -> Option<Dep>
     ensures { result ≡ dep_in world.now key.now }
 {
@@ -55,21 +55,21 @@ fn is_any_written(world: &World<Checked>, keys: &[Key]) -> bool
     keys.iter().any(|key| world.written(key))
 }
 
-/// Whether the block has written the key or one of the dependency keys.
+/// Whether the block has already written the key or one of the dependency keys.
 fn meets_conflict(world: &World<Checked>, key: &Key, deps: &[Key]) -> bool
     ensures { result ≡ meets_conflict (is_written world.now) key.now deps.now }
 {
     is_any_written(world, deps) || world.written(key)
 }
 
-/// Whether a Set may write the key.
+/// Whether a Set may write the key: only keys that begin `raw/`.
 fn is_raw(key: &Key) -> bool
     ensures { result ≡ starts_with ◌==◌ key.now (codes "raw/") }
 {
     key.as_bytes().starts_with(&RAW_PREFIX)
 }
 
-/// The one row of a transaction.
+/// A list of one row: all that a Set writes.
 fn one_row(alloc: Global, row: Row) -> Result<RowList, Memory>
     ensures { IfOk result (λ rows. rows ≡ row ∷ []) }
 {
@@ -78,7 +78,8 @@ fn one_row(alloc: Global, row: Row) -> Result<RowList, Memory>
     Ok(rows)
 }
 
-/// Runs a Set at the index `at` of a block, and stages its row.
+/// Runs a Set at the index `at` of a block, and stages its row. The status is `Foreign` if the key
+/// doesn't begin `raw/`, else `Conflict` if the block has written the key or a dependency key.
 pub(crate) fn run_set(
     alloc: Global,
     world: &mut World<Checked>,

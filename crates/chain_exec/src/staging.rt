@@ -1,4 +1,5 @@
-//! What a transaction hands to its block, and staging its rows.
+//! What a transaction hands to its block: a receipt, and the rows that are staged before the next
+//! transaction runs.
 
 ghost use Rattle.std.specs.Prelude.{◌≡◌, [], Ok, IfOk, OnOk, IsErrOf};
 ghost use Rattle.chain_exec.specs.{Effect.{free}, Running.{StagesRows}};
@@ -16,7 +17,7 @@ pub(crate) struct TxRun {
     pub(crate) rows: RowList,
 }
 
-/// The receipt of a transaction that costs nothing.
+/// A receipt with this status and cost 0.
 pub(crate) fn free(status: TxStatus) -> Receipt
     ensures { result ≡ free status }
 {
@@ -33,7 +34,7 @@ pub(crate) fn without_rows(alloc: Global, status: TxStatus) -> TxRun
     }
 }
 
-/// Stages the rows of a transaction, which is given back.
+/// Stages the rows of a transaction, and returns the transaction as it was.
 pub(crate) fn stage(world: &mut World<Checked>, run: TxRun) -> Result<TxRun, Memory>
     ensures same { IfOk result (λ staged. staged ≡ run) }
     ensures staged { OnOk result (StagesRows world.old world.new run.rows) }
@@ -43,7 +44,7 @@ pub(crate) fn stage(world: &mut World<Checked>, run: TxRun) -> Result<TxRun, Mem
     Ok(run)
 }
 
-/// A run that only memory can stop, as one that a host can stop too.
+/// The same result with the error type of calls, which a host can stop too.
 pub(crate) fn or_memory(run: Result<TxRun, Memory>) -> Result<TxRun, HostError>
     ensures same { IfOk result (λ given. run ≡ Ok given) }
     ensures no_fault { IsErrOf result HostError.Fault → ⊥ }

@@ -1,4 +1,4 @@
-//! One transaction.
+//! Running one transaction: a Set, a Deploy or a Call, each by its own rules.
 
 ghost use Rattle.std.specs.Prelude.{◌≡◌, ◌≤◌, IfSome, IfOk, IsErrOf};
 ghost use Rattle.lc_base.specs.Faults.{HasCause};
@@ -22,7 +22,7 @@ use std::alloc::Global;
 use world_state::World;
 
 /// Runs the transaction at the index `at` of a block, and stages in the world what it writes or
-/// deploys.
+/// deploys. An error is `Fault` only if the host failed; the world may then be changed in part.
 pub(crate) fn run_transaction<H: Host>(
     alloc: Global,
     host: &mut H,

@@ -1,4 +1,5 @@
--- The frames taken so far, and those that are left.
+-- The fold's invariant: the frames taken so far, and then the fold of what is left, are the whole
+-- fold.
 use Rattle.std.proofs.Common.{◌≡◌, ℕ, ◌+◌, ◌-◌, suc, ◌≤◌, List, [], ◌∷◌, ◌++◌, Option, Some, None, refl, sym, ap, subst, ◌∙◌, arith, append-nil, append_assoc}
 use Rattle.std.specs.Prelude.{IfSome}
 use Rattle.std.proofs.lemmas.Grind.{flat_map-append}
@@ -17,7 +18,7 @@ use Rattle.chain_input.specs.declared.folding.Turn.{Turn}
 use Rattle.chain_input.specs.declared.folding.Turn.TheVariants as turns
 use Rattle.chain_input.specs.declared.folding.Folded.TheVariants as found
 
--- what is left of the input goes on as the whole input does, after the frames that were taken
+-- the fold of what is left, after the frames that were taken, is the fold of the whole input
 pub record IsLeft (input : List ℕ) (left : Option (List ℕ)) (count : ℕ) (chain : ChainState) : Type 0 where
   pub taken : List Taken
   pub rest : List ℕ
@@ -41,11 +42,11 @@ begun left faults = record {
   told = λ input is. record { taken = []; rest = input; left_is = is; stands = no_blocks; same = refl };
 }
 
--- the blocks that one frame more adds
+-- the blocks that one more frame adds
 added_push : (taken : List Taken) (frame : Taken) → added_by_all (taken ++ frame ∷ []) ≡ added_by_all taken ++ added_by frame
 added_push taken frame = flat_map-append added_by taken (frame ∷ []) ∙ ap (λ (blocks : List Block). added_by_all taken ++ blocks) (append-nil (added_by frame))
 
--- one frame more, taken before the others
+-- one more frame, taken before the others
 taken_then : (taken : List Taken) (frame : Taken) (fold : Fold) → taken_before (taken ++ frame ∷ []) fold ≡ taken_before taken (taken_before (frame ∷ []) fold)
 taken_then taken frame fold = ap (λ (all : List Taken). record { taken = all; end = fold.end; left = fold.left }) (append_assoc taken (frame ∷ []) fold.taken)
 

@@ -5,10 +5,10 @@ use chain_replay::Refusal;
 pub enum Cause {
     /// The input ends within it.
     Truncated,
-    /// No frame has this length.
+    /// No frame may have this length, in bytes.
     Length(u32),
-    /// As many frames as an input may have stand before it.
+    /// It follows `MAX_FRAMES` frames, the most that an input may have.
     Many,
-    /// The chain refuses its bytes.
+    /// The chain refuses its bytes, for this reason.
     Block(Refusal),
 }

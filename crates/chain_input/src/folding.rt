@@ -1,4 +1,4 @@
-//! The frames of an input, taken one after another into a chain.
+//! Folding an input into a chain: its frames are judged and taken in order, until one is refused.
 
 ghost use Rattle.lc_base.specs.Faults.{HasCause, Rose};
 ghost use Rattle.std.specs.Prelude.{◌≡◌, [], IfOk, IfSome, List, IsErrOf};
@@ -17,27 +17,28 @@ use lc_base::{HostError, Memory};
 use lc_io::Source;
 use std::alloc::Global;
 
-/// Where the frames of an input end.
+/// How the frames of an input end.
 #[derive(Drop)]
 pub enum Folded {
-    /// All were taken into this chain.
+    /// All frames were taken, and make this chain.
     Whole(Chain),
-    /// One is refused: its number, from 0, and why.
+    /// A frame was refused: its number, from 0, and the cause.
     Refused { frame: u32, cause: Cause },
 }
 
-/// What became of looking once at the start of the input.
+/// What one look at the start of the input found.
 #[derive(Drop)]
 enum Turn {
     /// The input has ended.
     Ended(Chain),
-    /// A frame was taken in.
+    /// A frame was taken into the chain.
     Taken(Chain, Frames),
-    /// A frame is refused.
+    /// The next frame is refused.
     Refused(Cause),
 }
 
-/// A frame as what its bytes are to the chain.
+/// Takes a frame into the chain: its block is added if it is the next one, and the chain is
+/// unchanged if it holds the block already. If the frame is refused, the chain is discarded.
 fn take_frame(alloc: Global, chain: Chain, frame: &[u8]) -> Result<Result<Chain, Refusal>, Memory>
     ensures { IfOk result (λ taken. (blocks : List Blocks) → StandsFor chain blocks → IsTakenIn blocks taken (judgement_of compiled_in blocks (block_in frame.now))) }
 {
@@ -58,8 +59,8 @@ fn take_frame(alloc: Global, chain: Chain, frame: &[u8]) -> Result<Result<Chain,
     }
 }
 
-/// Why no further frame could be taken: what it says of the input, or, where it says nothing of it,
-/// the first of these errors if reading failed, and the second out of memory.
+/// The cause for which a frame is refused, or an error that says nothing of the input: `fault` if
+/// reading failed, and `memory` if memory ran out.
 pub fn cause_of<E: Copy>(error: FrameError, fault: E, memory: E) -> Result<Cause, E>
     ensures { IsCauseOf fault memory error result }
 {
@@ -72,7 +73,7 @@ pub fn cause_of<E: Copy>(error: FrameError, fault: E, memory: E) -> Result<Cause
     }
 }
 
-/// Looks once at the start of the input.
+/// Looks once at the start of the input, and takes a frame from it.
 fn look<I: Source>(
     alloc: Global,
     chain: Chain,
@@ -96,7 +97,7 @@ fn look<I: Source>(
     }
 }
 
-/// Takes the frames of the input one after another into a chain, from no block.
+/// Takes the frames of an input one after another, starting from the chain of no block.
 pub fn fold<I: Source>(alloc: Global, source: &mut I) -> Result<Folded, HostError>
     ensures fold { IfSome (I.left source.old) (λ input. IfOk result (λ folded. IsFoldResult folded (I.left source.new) (fold_input block_in compiled_in input))) }
     ensures cause { HasCause (I.source_faults source.old) (I.source_faults source.new) (IsErrOf result HostError.Fault) }

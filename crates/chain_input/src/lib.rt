@@ -1,4 +1,4 @@
-//! The chain that the frames of an input make, one after another, and its state.
+//! The chain that the frames of an input make, one after another.
 #![tactic(auto)]
 
 mod cause;

@@ -1,4 +1,4 @@
--- Look-ups, made one after another.
+-- Look-ups made one after another: their counts add up.
 use Rattle.std.proofs.Common.{◌≡◌, ◌∙◌, ℕ, ◌+◌, ◌-◌, ◌*◌, ◌^◌, ◌<◌, ◌≤◌, max, List, [], ◌∷◌, ◌++◌}
 use Rattle.std.proofs.Common.{length, map, refl, sym, ap, arith}
 use Rattle.std.specs.List.{sum}
@@ -13,7 +13,7 @@ use Rattle.chain_load.specs.Lookups.{lookup_counts}
 use Rattle.chain_load.specs.declared.looking.LookupCounts.{LookupCounts}
 use Rattle.chain_load.proofs.Lengths.{path_few}
 
--- ---- one number more
+-- ---- one more number
 
 sum_more : (numbers : List ℕ) (number : ℕ) → sum (numbers ++ number ∷ []) ≡ sum numbers + number
 sum_more numbers number = sum_by_push (λ (n : ℕ). n) numbers number
@@ -33,7 +33,7 @@ counted_more numbers number =
     ∙ ap (λ (n : ℕ). let looked : LookupCounts = record { entries = sum numbers + number; most = n } in
     looked) (greatest_more numbers number)
 
--- ---- one look-up more
+-- ---- one more look-up
 
 drawn_more : (blocks count state : ℕ)
     → draw_list (lookup_drawn blocks) (count + 1) state ≡
@@ -47,7 +47,7 @@ pub count_few : (rows : List Row) (lookup : Lookup) (count : ℕ) → length row
 count_few rows lookup count few is = let short = path_few rows lookup.key lookup.at few in omega
     (arith, short, is)
 
--- So many look-ups were drawn from a state, and made.
+-- `made` look-ups were drawn from a state, made, and counted.
 pub record IsLooking (rows : List Row) (blocks state made : ℕ) (generator : Progress)
     (looked : LookupCounts) : Type 0 where
   pub state_is : generator.state ≡ (draw_list (lookup_drawn blocks) made state).1

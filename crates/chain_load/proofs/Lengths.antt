@@ -1,4 +1,4 @@
--- How many versions a look-up looks at: all of them are counted.
+-- A look-up looks at no more versions than there are rows, so its count fits.
 use Rattle.std.proofs.Common.{◌≡◌, ℕ, zero, suc, ◌^◌, ◌<◌, ◌≤◌, List, length, Option, Some, None}
 use Rattle.std.proofs.Common.{arith}
 use Rattle.lc_base.specs.declared.row.Row.{Row}
@@ -13,7 +13,7 @@ path_from_within (suc n) links_of at None = omega arith
 path_from_within (suc n) links_of at (Some block) = let rest = path_from_within n links_of at
     (next_block links_of at block) in omega (arith, rest)
 
--- no more than there are rows
+-- at most as many as there are rows
 path_within : (rows : List Row) (key : List ℕ) (at : ℕ) → length (path rows key at) ≤ length rows
 unfolding path
 path_within rows key at = path_from_within (length rows) _ at _

@@ -1,4 +1,4 @@
--- The next block of a seed is the next one of the chain of those before it.
+-- The next block of a seed is placed as the next one of the chain of those before it.
 use Rattle.std.proofs.Common.{◌≡◌, ◌∙◌, Bool, true, ℕ, zero, suc, ◌+◌, ◌-◌, ◌*◌, ◌<◌, ◌≤◌, List, []}
 use Rattle.std.proofs.Common.{◌∷◌, ◌++◌, length, map, Option, Some, None, refl, sym, ap, subst}
 use Rattle.std.proofs.Common.{arith}
@@ -86,7 +86,7 @@ pub rows_are : (chain : ChainState) (blocks : List Block) → StandsFor chain bl
     → chain.rows ≡ (replay compiled_in blocks).rows
 rows_are chain blocks stands = ap (λ (h : History). h.rows) stands.history_is
 
--- what is given next
+-- what the generator makes next
 pub record GivesNext (told : Bool) (seed count added : ℕ) (chain : ChainState)
     (generator : Progress) (parent : Digest) (block : Block) : Type 0 where
   pub given_is : generator.given ≡ added
@@ -166,7 +166,7 @@ added_more told seed count added chain longer generator after parent digest bloc
       parent_is = digest_is ∙ ap (λ (n : ℕ). (first_blocks seed n).parent) next;
     }
 
--- no block was added yet
+-- the chain before any block was added
 none_stand : StandsFor nothing_kept []
 unfolding replay
 none_stand = record {

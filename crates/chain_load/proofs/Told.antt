@@ -1,4 +1,4 @@
--- What a load tells of a chain, and of its look-ups.
+-- What a load reports of a chain and of its look-ups is what it is defined to be.
 use Rattle.std.proofs.Common.{◌≡◌, ◌∙◌, ℕ, zero, suc, ◌-◌, List, [], ◌∷◌, length, map, refl, sym}
 use Rattle.std.proofs.Common.{ap, arith}
 use Rattle.std.proofs.lemmas.List.{length-map, length-append}

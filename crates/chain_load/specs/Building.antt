@@ -1,4 +1,4 @@
--- Adding the blocks of a seed to a chain.
+-- A chain while the blocks of a seed are added to it.
 use Rattle.std.specs.Prelude.{◌≡◌, ℕ, ◌*◌, ◌≤◌, Bool, true, length, map}
 use Rattle.lc_base.specs.declared.digest.Digest.{Digest}
 use Rattle.dep_capture.specs.declared.limits.TheConstants.{MAX_KEYS_PUT}
@@ -7,9 +7,9 @@ use Rattle.chain_replay.specs.Chain.{ChainState, StandsFor}
 use Rattle.chain_gen.specs.declared.limits.TheConstants.{MAX_TXS_MADE}
 use Rattle.chain_gen.specs.Generator.{Progress, first_blocks, progress}
 
--- The chain holds the first blocks of a seed, so many, which the generator has given; the last of
--- them is the parent of the next one. What these blocks did is known where it is known which bytes
--- the scratch device holds.
+-- The chain holds the first `added` blocks of a seed, which the generator has made; the last of
+-- them is the parent of the next one. What these blocks did is known only if it is known which
+-- bytes the scratch device holds.
 pub record HasAdded (known : Bool) (seed count added : ℕ) (chain : ChainState) (generator : Progress)
     (parent : Digest) : Type 0 where
   pub digests_are : chain.digests ≡ map digest_of (first_blocks seed added).blocks

@@ -1,4 +1,4 @@
--- What a load tells.
+-- What a load reports, by replaying the blocks of its seed.
 use Rattle.std.specs.Prelude.{ℕ, ◌-◌, List, length, map}
 use Rattle.std.specs.List.{sum}
 use Rattle.lc_base.specs.declared.row.Row.{Row}
@@ -10,23 +10,23 @@ use Rattle.chain_gen.specs.Generator.{first_blocks}
 use Rattle.chain_load.specs.declared.loading.Load.{Load}
 use Rattle.chain_load.specs.Lookups.{lookups_drawn, looked_at, greatest}
 
--- The blocks of a load: so many of a seed.
+-- The first `blocks` blocks of a seed.
 abbrev pub blocks_of : ℕ → ℕ → List Block
 blocks_of blocks seed = (first_blocks seed blocks).blocks
 
--- The rows that replaying them gives.
+-- The rows of replaying these blocks.
 abbrev pub rows_of : Compiler → ℕ → ℕ → List Row
 rows_of compile blocks seed = (replay compile (blocks_of blocks seed)).rows
 
--- How many versions each look-up looks at. There are as many of them as blocks, and they are drawn
+-- How many versions each look-up looks at. There are as many look-ups as blocks, and they are drawn
 -- after the blocks.
 abbrev pub counts_of : Compiler → ℕ → ℕ → List ℕ
 counts_of compile blocks seed = map (looked_at (rows_of compile blocks seed))
     (lookups_drawn blocks blocks (first_blocks seed blocks).state)
 
--- What a load of so many blocks of a seed tells: how many blocks and rows there are, and the root
--- at the last block; how many look-ups, how many versions all of them look at, and the most that
--- one does.
+-- What a load of `blocks` blocks of a seed reports: the numbers of blocks and rows, the root at the
+-- last block, and the number of look-ups, with how many versions all of them look at, and the most
+-- that one does.
 abbrev pub load_of : Compiler → ℕ → ℕ → Load
 load_of compile blocks seed =
     let counts = counts_of compile blocks seed in

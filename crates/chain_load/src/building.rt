@@ -1,4 +1,5 @@
-//! The chain of the blocks of a seed.
+//! Building the chain of a seed: each block is made with the digest of the one before as its
+//! parent.
 
 ghost use Rattle.std.specs.Prelude.{◌≡◌, ℕ, ◌+◌, ◌*◌, ◌<◌, ◌≤◌, true, List, [], ◌∷◌, ◌++◌, length, IfOk, IsErrOf};
 ghost use Rattle.lc_base.specs.Faults.{HasCause};
@@ -26,8 +27,8 @@ use rooted_chain::LineageChain;
 use scratch_model::Scratch;
 use std::alloc::Global;
 
-/// The chain with its next block after the others, which these bytes spell. On an error the chain
-/// is given up.
+/// Adds the block that these bytes spell, which is the chain's next one. On an error the chain is
+/// discarded.
 fn with_block<S: Scratch>(
     alloc: Global,
     scratch: &mut S,
@@ -67,14 +68,14 @@ fn with_block<S: Scratch>(
     }
 }
 
-/// A chain that holds the blocks that a generator has given, and the parent of the next one.
+/// A chain of the blocks that a generator has made so far, and the parent of the next one.
 struct Building {
     chain: LineageChain,
     generator: Gen,
     parent: Digest,
 }
 
-/// The same with one block more. On an error the chain is given up.
+/// Adds the next block of the generator. On an error the chain is discarded.
 fn with_next<S: Scratch>(
     alloc: Global,
     scratch: &mut S,
@@ -119,7 +120,7 @@ fn with_next<S: Scratch>(
     }
 }
 
-/// The chain of so many blocks of a seed, and the generator that has given them.
+/// The chain of the first `blocks` blocks of a seed, and the generator after these.
 pub(crate) fn chain_made<S: Scratch>(
     alloc: Global,
     scratch: &mut S,

@@ -1,4 +1,5 @@
-//! A load: the blocks of a seed in a chain, and look-ups of it, whose steps are counted.
+//! A load: the blocks of a seed are added to a chain, which is then queried, and the steps of the
+//! look-ups are counted.
 #![tactic(auto)]
 
 mod building;

@@ -1,4 +1,4 @@
-//! A load of the blocks of a seed.
+//! Running a load: as many look-ups as blocks, over a chain that takes no further block.
 
 ghost use Rattle.std.specs.Prelude.{◌≡◌, ℕ, ◌<◌, ◌≤◌, ◌-◌, true, length, IfOk, IsErrOf};
 ghost use Rattle.lc_base.specs.Faults.{HasCause};
@@ -19,7 +19,7 @@ use rooted_chain::LineageChain;
 use scratch_model::Scratch;
 use std::alloc::Global;
 
-/// What a load tells.
+/// What a load reports.
 #[derive(Clone, Copy, Debug, PartialEq, Eq)]
 pub struct Load {
     /// The number of blocks.
@@ -28,15 +28,15 @@ pub struct Load {
     pub rows: usize,
     /// The root at the last block.
     pub root: Digest,
-    /// The number of look-ups.
+    /// The number of look-ups, which is that of blocks.
     pub lookups: u32,
-    /// How many versions all look-ups looked at,
+    /// The number of versions that all look-ups looked at,
     pub entries: u64,
-    /// and the most that one of them looked at.
+    /// and the most versions that one of them looked at.
     pub most: u64,
 }
 
-/// The root at the last of so many blocks of a chain.
+/// The root at the last block of a chain of `blocks` blocks.
 fn last_root(chain: &LineageChain, blocks: u32) -> Digest
     requires some { 0 < blocks }
     requires blocks { length chain.now.digests ≡ blocks }
@@ -49,7 +49,7 @@ fn last_root(chain: &LineageChain, blocks: u32) -> Digest
     }
 }
 
-/// What a load tells, once its blocks are in the chain, which takes no further one.
+/// Makes the look-ups over the chain, which takes no further block, and reports the load.
 fn load_over<S: Scratch>(
     alloc: Global,
     scratch: &mut S,
@@ -85,9 +85,9 @@ fn load_over<S: Scratch>(
     }
 }
 
-/// Adds so many blocks of a seed to a chain in memory, whose bodies are on the scratch device, and
-/// makes as many look-ups of it, which are drawn after the blocks. What the load is is known
-/// where it is known which bytes the device holds.
+/// Adds the first `blocks` blocks of a seed to a chain in memory, whose bodies are on the scratch
+/// device, and makes as many look-ups, which are drawn after the blocks. What the load reports is
+/// known only if it is known which bytes the device holds.
 pub fn load_chain<S: Scratch>(
     alloc: Global,
     scratch: &mut S,

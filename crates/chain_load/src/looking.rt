@@ -1,4 +1,4 @@
-//! The look-ups of a load.
+//! The look-ups of a load: each asks for the versions of a drawn key at a drawn block.
 
 ghost use Rattle.std.specs.Prelude.{◌≡◌, ◌<◌, ◌+◌, ◌^◌, max, length, map, IfOk, IsErrOf};
 ghost use Rattle.skip_path.specs.Paths.{path};
@@ -14,17 +14,17 @@ use prov_query::{AskError, ask};
 use scratch_model::Scratch;
 use std::alloc::Global;
 
-/// What was counted of look-ups.
+/// Counts over look-ups.
 #[derive(Clone, Copy, Debug, PartialEq, Eq)]
 pub struct LookupCounts {
-    /// How many versions all of them looked at.
+    /// The number of versions that all of them looked at.
     pub entries: u64,
-    /// The most that one of them looked at.
+    /// The most versions that one of them looked at.
     pub most: u64,
 }
 
 impl LookupCounts {
-    /// With one look-up more, which looked at so many versions.
+    /// The counts with one more look-up, which looked at `count` versions.
     fn with(self, count: u64) -> LookupCounts
         requires { self.entries + count < 2 ^ 64 }
         ensures { result ≡ record { entries = self.entries + count; most = max self.most count } }
@@ -36,7 +36,8 @@ impl LookupCounts {
     }
 }
 
-/// Asks a question about a block of the lineage: how many versions were looked at for its answer.
+/// Asks a question of the lineage at one of its blocks, and returns how many versions were looked
+/// at.
 fn versions_looked_at<S: Scratch>(
     alloc: Global,
     lineage: &mut Lineage,
@@ -60,7 +61,7 @@ fn versions_looked_at<S: Scratch>(
     }
 }
 
-/// Draws a look-up over so many blocks, and makes it: how many versions it looked at.
+/// Draws a look-up over `blocks` blocks, makes it, and returns how many versions it looked at.
 #[tactic(auto, unfolding(crate::specs::Lookups::lookup_drawn))]
 fn look_up<S: Scratch>(
     alloc: Global,

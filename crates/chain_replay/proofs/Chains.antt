@@ -1,4 +1,4 @@
--- A chain with its next block.
+-- A chain and its next block are a chain, and what is kept after that block stands for it.
 use Rattle.std.proofs.Common.{◌≡◌, ℕ, List, [], ◌∷◌, ◌++◌, length, get_or, take, map, sym, ap, ◌∙◌, arith, inl, inr}
 use Rattle.std.specs.Prelude.{slice_get}
 use Rattle.std.proofs.lemmas.Bool.{cases_lt}
@@ -19,7 +19,7 @@ use Rattle.chain_exec.specs.Running.{code_seen, codes_seen, history_in, staged_i
 use Rattle.chain_exec.proofs.TheLaws.{replay_grows}
 use Rattle.chain_replay.specs.Chain.{ChainState, IsAfter, StandsFor, placement_in, placement_kept, IsChain}
 
--- what is kept tells where a block stands
+-- what is kept determines the placement of a block
 pub placed_as_kept : (kept : ChainState) (blocks : List Block) (block : Block) (digest : Digest) → StandsFor kept blocks → digest ≡ digest_of block
     → placement_kept kept block digest ≡ placement_in compiled_in blocks block
 placed_as_kept kept blocks block digest stands is =
@@ -43,7 +43,7 @@ chain_more blocks block chain next i d within =
 abbrev history : List Row → Codes → History
 history rows codes = record { rows = rows; codes = codes }
 
--- a block that has run is the next one of what is kept
+-- what is kept with a block that has run is what it is defined to be
 pub is_after : (digests new_digests : List Digest) (rows new_rows : List Row) (world run_world new_world : Known Contract) (block : Block) (digest : Digest) (run : BlockRun)
     → staged_in run_world run ≡ block_effects compiled_in (history_in rows world) block → run_world.codes ≡ world.codes → new_world.codes ≡ run_world.codes ++ run_world.staged_codes
     → new_digests ≡ digests ++ digest ∷ [] → new_rows ≡ rows ++ run.rows

@@ -1,4 +1,4 @@
--- Where the block of a judgement stands.
+-- A judgement that adds a block says that its placement is the next one.
 use Rattle.std.proofs.Common.{◌≡◌, ℕ, List, refl, sym, ap, subst, ◌∙◌}
 use Rattle.std.specs.Prelude.{Result, Ok}
 use Rattle.lc_base.specs.declared.digest.Digest.{Digest}
@@ -23,7 +23,7 @@ added_stands block other (Number want) is = absurd (cc is)
 added_stands block other (Parent want) is = absurd (cc is)
 added_stands block other (Budget sum) is = absurd (cc is)
 
--- a block that a chain tells to be next is so judged, and stands so
+-- a block that a chain reports as its next one is judged and placed as the next one
 pub record IsAdded (compile : Compiler) (blocks : List Block) (kept : ChainState) (bytes : List ℕ) (block : Block) (digest : Digest) : Type 0 where
   pub judgement : judgement_of compile blocks (block_in bytes) ≡ Ok (Added block)
   pub stands : placement_in compile blocks block ≡ Next
@@ -44,7 +44,7 @@ added compile blocks kept bytes told block digest is is_judged next =
 pub added_is_next : (compile : Compiler) (blocks : List Block) (decoded : Result Block ℕ) (block other : Block) → decoded ≡ Ok block → judgement_of compile blocks decoded ≡ Ok (Added other) → placement_in compile blocks block ≡ Next
 added_is_next compile blocks decoded block other is judgement = added_stands block other (placement_in compile blocks block) (sym (ap (judgement_of compile blocks) is) ∙ judgement)
 
--- ---- what a block is to a chain, where it stands so
+-- ---- what a block is to a chain, by its placement
 
 -- the judgement of a block is that of the bytes that spell it
 pub judged_of_bytes : (told : Judged) (compile : Compiler) (blocks : List Block) (bytes : List ℕ) (block : Block) (placement : Placement)
@@ -53,13 +53,13 @@ judged_of_bytes told compile blocks bytes block placement is spelled placed =
     subst (λ (decoded : Result Block ℕ). IsJudged told (judgement_of compile blocks decoded)) (sym spelled)
     (subst (λ (place : Placement). IsJudged told (judged_by_placement block place)) placed is)
 
--- what is so of the block that is next
+-- what holds of the block that is reported as next implies this of it
 if_next : (told : Judged) (P Q : Block → Digest → Type 0) → IfNext told P → ((block : Block) (digest : Digest) → P block digest → Q block digest) → IfNext told Q
 if_next (judgements.Known number) P Q is leads = tt
 if_next (judgements.Next block digest) P Q is leads = leads block digest is
 if_next (judgements.Refused refusal) P Q is leads = tt
 
--- a block that is next is the next block of what is kept
+-- a block that is reported as next is the next block of what is kept
 pub next_of_bytes : (told : Judged) (kept : ChainState) (bytes : List ℕ) (block : Block) (digest : Digest) (placement : Placement)
     → IfNext told (IsPlacedBlock block digest placement) → block_in bytes ≡ Ok block → IsBlock block → digest ≡ digest_of block → placement ≡ placement_kept kept block digest → (placement ≡ Next → HasRoom kept block)
     → IfNext told (IsNextBlock kept bytes)

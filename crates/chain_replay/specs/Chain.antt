@@ -1,4 +1,5 @@
--- Chains of blocks, and what is kept of them.
+-- Chains of blocks, and the state that is kept of them: it determines where the next block is
+-- placed.
 use Rattle.std.specs.Prelude.{◌≡◌, ℕ, ◌<◌, ◌≤◌, Bool, true, List, [], ◌∷◌, ◌++◌, length, map, slice_get, slice_index_or, take}
 use Rattle.std.specs.List.{All}
 use Rattle.lc_base.specs.History.{IsLawful}
@@ -20,51 +21,52 @@ use Rattle.chain_exec.specs.Fold.{block_effects}
 use Rattle.chain_exec.specs.Running.{codes_seen}
 use Rattle.chain_exec.specs.Replay.{history_after, replay}
 
--- Where a block stands to a chain of blocks.
+-- The placement of a block after a chain of blocks.
 abbrev pub placement_in : Compiler → List Block → Block → Placement
 placement_in compile blocks block = placement_after (length (replay compile blocks).rows) blocks block
 
--- A chain: each of its blocks is the next one after those before it.
+-- A chain: each of its blocks is placed as the next one after those before it.
 abbrev pub IsChain : Compiler → List Block → Type 0
 IsChain compile blocks = (i : ℕ) (block : Block) → i < length blocks → placement_in compile (take i blocks) (slice_index_or blocks i block) ≡ placements.Next
 
 -- ---- what is kept
 
--- What is kept of a chain: the digests of the blocks, their rows, and the contracts that they
+-- What is kept of a chain: the digests of its blocks, their rows, and the contracts that they
 -- deployed, by name.
 pub record ChainState : Type 0 where
   pub digests : List Digest
   pub rows : List Row
   pub codes : List (List ℕ × Contract)
 
--- The rows and the codes.
+-- The history that is kept: the rows and the codes.
 abbrev pub history_kept : ChainState → History
 history_kept kept = record { rows = kept.rows; codes = codes_seen kept.codes }
 
--- No block.
+-- What is kept of the chain of no block.
 abbrev pub nothing_kept : ChainState
 nothing_kept = record { digests = []; rows = []; codes = [] }
 
--- Where a block with this digest stands to what is kept.
+-- The placement of a block with this digest, by what is kept.
 abbrev pub placement_kept : ChainState → Block → Digest → Placement
 placement_kept kept block digest =
     placement (length kept.digests) (length kept.rows) (slice_get kept.digests block.number) (last_digest kept.digests) block digest
 
--- The block has the number that the next one has, and there is room for it.
+-- The block has the number of the next one, and there is room for it and its rows.
 pub record HasRoom (kept : ChainState) (block : Block) : Type 0 where
   pub number : block.number ≡ length kept.digests
   pub room : length kept.digests < MAX_BLOCKS
   pub few_rows : length kept.rows ≤ MAX_ROWS_BEFORE_BLOCK
 
--- What one more block did, and what is kept after it: its digest, and the history with what it did.
+-- What is kept after one more block: its digest too, and the history with what it did; and this is
+-- what the run reports.
 pub record IsAfter (old : ChainState) (block : Block) (digest : Digest) (new : ChainState) (run : BlockRun) : Type 0 where
   pub digests : new.digests ≡ old.digests ++ digest ∷ []
   pub history : history_kept new ≡ history_after compiled_in (history_kept old) block
   pub rows : run.rows ≡ (block_effects compiled_in (history_kept old) block).rows
   pub receipts : run.receipts ≡ (block_effects compiled_in (history_kept old) block).receipts
 
--- What is kept has at most MAX_BLOCKS blocks, a lawful history of rows of these alone, and a world
--- that stands for the rows, with no block at work.
+-- What is kept is of at most MAX_BLOCKS blocks: a lawful history of rows of these blocks only, and
+-- a world that stands for the rows, with no block at work.
 pub record IsKeptChain (digests : List Digest) (rows : List Row) (world : Known Contract) : Type 0 where
   pub few : length digests ≤ MAX_BLOCKS
   pub lawful : IsLawful rows
@@ -81,6 +83,6 @@ pub record StandsFor (kept : ChainState) (blocks : List Block) : Type 0 where
 
 -- ---- a scratch device that a chain may be lent
 
--- Where the device is called, it is known which bytes it holds.
+-- If the device is called, it is known which bytes it holds.
 abbrev pub IsKnownFor : Bool → ScratchState → Type 0
 IsKnownFor calls_scratch scratch = calls_scratch ≡ true → is_known scratch ≡ true

@@ -1,4 +1,4 @@
--- What bytes are to a chain.
+-- Judging bytes: a decoded block is judged by its placement, and other bytes are refused.
 use Rattle.std.specs.Prelude.{◌≡◌, ℕ, List, [], ◌∷◌, Result, Ok, Err}
 use Rattle.std.specs.List.{flat_map}
 use Rattle.lc_base.specs.declared.digest.Digest.{Digest}
@@ -15,12 +15,12 @@ use Rattle.chain_replay.specs.declared.refusal.Refusal.TheVariants as refusals
 use Rattle.chain_replay.specs.declared.judging.Judged.{Judged}
 use Rattle.chain_replay.specs.declared.judging.Judged.TheVariants as judgements
 
--- Bytes that are not refused spell a block that the chain holds already, or its next one.
+-- What bytes spell that are not refused: a block that the chain holds already, or its next one.
 pub data Taken : Type 0 where
   Known : Block → Taken
   Added : Block → Taken
 
--- Where a block stands decides.
+-- The judgement of a block, by its placement.
 abbrev pub judged_by_placement : Block → Placement → Result Taken Refusal
 judged_by_placement block placements.Known = Ok (Known block)
 judged_by_placement block placements.Next = Ok (Added block)
@@ -30,12 +30,12 @@ judged_by_placement block (placements.Number want) = Err (refusals.Number want)
 judged_by_placement block (placements.Parent want) = Err (refusals.Parent want)
 judged_by_placement block (placements.Budget sum) = Err (refusals.Budget sum)
 
--- What the bytes spell decides: a block, or the offset at which they are invalid.
+-- The judgement of bytes, by what they spell: a block, or the offset from which they are invalid.
 abbrev pub judgement_of : Compiler → List Block → Result Block ℕ → Result Taken Refusal
 judgement_of compile blocks (Ok block) = judged_by_placement block (placement_in compile blocks block)
 judgement_of compile blocks (Err offset) = Err (refusals.Malformed offset)
 
--- The blocks that are added by bytes that were taken: none, or their own.
+-- The blocks that taken bytes add to the chain: their own if it is the next one, else none.
 abbrev pub added_by : Taken → List Block
 added_by (Known block) = []
 added_by (Added block) = block ∷ []
@@ -44,27 +44,27 @@ added_by (Added block) = block ∷ []
 abbrev pub added_by_all : List Taken → List Block
 added_by_all taken = flat_map added_by taken
 
--- ---- what a chain tells
+-- ---- what a chain reports
 
--- A chain tells the judgement.
+-- The chain reports this judgement.
 abbrev pub IsJudged : Judged → Result Taken Refusal → Type 0
 IsJudged (judgements.Known number) judgement = (block : Block) × (judgement ≡ Ok (Known block)) × (number ≡ block.number)
 IsJudged (judgements.Next block digest) judgement = judgement ≡ Ok (Added block)
 IsJudged (judgements.Refused refusal) judgement = judgement ≡ Err refusal
 
--- The block and its digest are so, where one is next.
+-- If a block is reported as the next one, this holds of it and its digest.
 abbrev pub IfNext : Judged → (Block → Digest → Type 0) → Type 0
 IfNext (judgements.Known number) P = Unit {0}
 IfNext (judgements.Next block digest) P = P block digest
 IfNext (judgements.Refused refusal) P = Unit {0}
 
--- It is this block with its digest, and this is where the next block stands.
+-- The reported block and digest are these, and the placement is that of the next block.
 pub record IsPlacedBlock (block : Block) (digest : Digest) (placement : Placement) (next : Block) (next_digest : Digest) : Type 0 where
   pub block_is : next ≡ block
   pub digest_is : next_digest ≡ digest
   pub is_next : placement ≡ placements.Next
 
--- Bytes spell this block, which has this digest and is the next one of what is kept.
+-- The bytes spell this block, which has this digest and is the next one of what is kept.
 pub record IsNextBlock (kept : ChainState) (bytes : List ℕ) (block : Block) (digest : Digest) : Type 0 where
   pub decoded : block_in bytes ≡ Ok block
   pub lawful : IsBlock block

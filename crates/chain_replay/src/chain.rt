@@ -1,4 +1,4 @@
-//! A chain of blocks.
+//! A chain in memory: its digests, rows and world always belong to the same blocks.
 
 ghost use Rattle.std.specs.Prelude.{◌≡◌, false, List, [], ◌∷◌, ◌++◌, length, IfOk, OnOk};
 ghost use Rattle.lc_base.specs.History.{IsLawful, scan};
@@ -21,8 +21,8 @@ use std::alloc::Global;
 use std::marker::Model;
 use world_state::World;
 
-/// What is kept of a chain: the digest of each block, the rows of all, and the state that the next
-/// block runs on.
+/// A chain with all of its rows in memory: the digest of each block, the rows of all, and the state
+/// that the next block runs on.
 #[derive(Drop)]
 pub struct Chain {
     digests: DigestList,
@@ -44,8 +44,8 @@ impl Model for Chain {
     ghost invariant = { λ chain. IsKeptChain chain.digests chain.rows chain.world };
 }
 
-/// Keeps the digest and the rows of a block after those of the others. On `Memory` only some of
-/// them may be kept.
+/// Keeps the digest and the rows of a block after those of the others. On `Memory` a part of them
+/// may have been kept.
 fn record(
     digests: &mut DigestList,
     digest: Digest,
@@ -60,11 +60,11 @@ fn record(
     rows.add(more)
 }
 
-/// Drops a world, whose many parts are dropped here alone.
+/// Drops a world. It has many parts, so this is the one place where it is dropped.
 fn discard(_world: World<Checked>) {}
 
 impl Chain {
-    /// No block yet. It takes no memory.
+    /// The chain of no block. It takes no memory.
     pub fn new(alloc: Global) -> Chain
         ensures { result ≡ nothing_kept }
     {
@@ -90,7 +90,7 @@ impl Chain {
         self.rows.ask(query)
     }
 
-    /// The digest of the last block, or `NO_PARENT` where there is none.
+    /// The digest of the last block, or `NO_PARENT` if the chain has no block.
     fn last_digest(&self) -> Digest
         ensures { result ≡ last_digest self.now.digests }
     {
@@ -100,8 +100,8 @@ impl Chain {
         }
     }
 
-    /// The chain with the next block after the others, and what this block did. On `Memory` the
-    /// chain is given up.
+    /// Runs the next block: the chain with this block after the others, and what the block did. On
+    /// `Memory` the chain is discarded.
     pub fn with_block(
         self,
         alloc: Global,

@@ -1,4 +1,4 @@
-//! What bytes are to a chain.
+//! Judging a block by its placement: it is held already, it is the next one, or it is refused.
 
 ghost use Rattle.chain_replay.specs.Judging.{judged_by_placement, IsJudged, IsPlacedBlock, IfNext};
 
@@ -6,18 +6,18 @@ use crate::refusal::Refusal;
 use block_codec::{Block, Placement};
 use lc_base::Digest;
 
-/// What some bytes are to a chain.
+/// What bytes are to a chain.
 #[derive(Debug, Drop)]
 pub enum Judged {
-    /// The block that it holds at this number.
+    /// They spell the block that the chain holds at this number.
     Known { number: u32 },
-    /// Its next block, which has this digest.
+    /// They spell the chain's next block, which has this digest.
     Next { block: Block, digest: Digest },
-    /// No block that it takes.
+    /// They spell no block that the chain takes.
     Refused(Refusal),
 }
 
-/// What a block with this digest is to a chain to which it stands so.
+/// Judges a block with this digest by its placement in a chain.
 pub fn judge_block(block: Block, digest: Digest, placement: Placement) -> Judged
     ensures judged { IsJudged result (judged_by_placement block placement) }
     ensures next { IfNext result (IsPlacedBlock block digest placement) }

@@ -1,4 +1,5 @@
-//! Blocks, run one after another.
+//! What every chain can do, wherever it keeps its rows: place a block, judge bytes, and run the
+//! next block.
 
 ghost use Rattle.std.specs.Prelude.{◌≡◌, Bool, false, List, [], ◌∷◌, ◌++◌, IfOk, IsErrOf};
 ghost use Rattle.lc_base.specs.{
@@ -25,32 +26,32 @@ use lc_base::{Digest, HostError, Memory};
 use scratch_model::Scratch;
 use std::alloc::Global;
 
-/// What is kept of a chain while its blocks are run, one after another, with a scratch device that
-/// may keep a part of it.
+/// What is kept of a chain while its blocks run one after another. A scratch device may keep a part
+/// of it.
 pub trait Replay: Drop {
-    /// What is kept.
+    /// The state that is kept of the chain.
     ghost kept: { Self → ChainState };
 
-    /// Whether the device is called.
+    /// Whether the chain calls the device.
     ghost calls_scratch: { Bool };
 
-    /// Whether it agrees with the device.
+    /// Whether the chain agrees with the device.
     ghost agrees: { Self → ScratchState → Type 0 };
 
-    /// No block yet. It agrees with every device.
+    /// The chain of no block. It agrees with every device.
     fn start(alloc: Global) -> Result<Self, Memory>
         ensures kept { IfOk result (λ chain. kept chain ≡ nothing_kept) }
         ensures agrees { IfOk result (λ chain. (scratch : ScratchState) → agrees chain scratch) };
 
-    /// Where a block with this digest stands to the chain.
+    /// The placement of a block with this digest in the chain.
     fn place(&self, block: &Block, digest: Digest) -> Placement
         requires { IsBlock block.now }
         ensures placement { result ≡ placement_kept (kept self.now) block.now digest }
         ensures stands { (blocks : List Blocks) → StandsFor (kept self.now) blocks → digest ≡ digest_of block.now → result ≡ placement_in compiled_in blocks block.now }
         ensures room { result ≡ Placement.Next → HasRoom (kept self.now) block.now };
 
-    /// The chain with the next block after the others, which has run. On an error the chain is given
-    /// up.
+    /// Runs the next block and returns the chain with it after the others. On an error the chain is
+    /// discarded.
     fn replay<S: Scratch>(
         self,
         alloc: Global,
@@ -61,20 +62,20 @@ pub trait Replay: Drop {
         requires room { HasRoom (kept self) block.now }
         requires is_block { IsBlock block.now }
         requires agrees { agrees self (S.state scratch.old) }
-        // Where the device is not called, or it is known which bytes it holds.
+        // Holds if the device is not called, or if it is known which bytes it holds.
         ensures stands { IfOk result (λ longer. IsKnownFor calls_scratch (S.state scratch.old) → (blocks : List Blocks) → StandsFor (kept self) blocks → digest ≡ digest_of block.now → placement_in compiled_in blocks block.now ≡ Placement.Next → StandsFor (kept longer) (blocks ++ block.now ∷ [])) }
-        // Whether that is known or not.
+        // Holds in either case.
         ensures digests { IfOk result (λ longer. (kept longer).digests ≡ (kept self).digests ++ digest ∷ []) }
         ensures agrees { IfOk result (λ longer. agrees longer (S.state scratch.new)) }
         ensures retains { Retains (S.state scratch.old) (S.state scratch.new) }
         ensures cause { HasCause (S.scratch_faults scratch.old) (S.scratch_faults scratch.new) (IsErrOf result Fault) }
         ensures unused { calls_scratch ≡ false → (scratch.new ≡ scratch.old) × (IsErrOf result Fault → ⊥) };
 
-    /// Ends the chain. What it keeps has many parts; a function that ends it by this call, and not
-    /// where its scope ends, is checked in much less time.
+    /// Discards the chain. What it keeps has many parts, and a function that discards it by this
+    /// call, instead of at the end of its scope, is checked in much less time.
     fn give_up(self);
 
-    /// What some bytes are to the chain.
+    /// Judges bytes: decodes them and places the block that they spell.
     final fn judge(&self, alloc: Global, bytes: &[u8]) -> Result<Judged, Memory>
         ensures judged { IfOk result (λ answer. (blocks : List Blocks) → StandsFor (kept self.now) blocks → IsJudged answer (judgement_of compiled_in blocks (block_in bytes.now))) }
         ensures next { IfOk result (λ answer. IfNext answer (IsNextBlock (kept self.now) bytes.now)) }

@@ -1,4 +1,4 @@
-//! The tests, by what they are of.
+//! The tests, by what they are about.
 
 mod clashes;
 mod crashes;

@@ -1,4 +1,5 @@
--- What `append` leaves of the log by itself, rows not counted, whatever the scratch device gives.
+-- What `append` leaves of the log by itself, with rows not counted, whatever the scratch device
+-- returns.
 use Rattle.std.proofs.Common.{◌≡◌, inl, inr, ℕ, Bool, true, false, List, [], ◌∷◌, ◌++◌, refl, sym, ◌∙◌, ap, arith, append_assoc, append-nil}
 use Rattle.std.specs.Prelude.{Option, Some, Result, Ok, Err, MatchBool}
 use Rattle.lc_io.specs.Disk.{DiskState, Stays}
@@ -33,7 +34,7 @@ agreed log content false agrees = ([], ap blocks_of agrees.stands)
 pub log_stands : (log : LogState) (state : Option DiskState) (content : List ℕ) → Rests state (Agrees log) → content_of state ≡ Some content → (blocks : List Block) × (chain_of next_in_log content ≡ Some blocks)
 log_stands log state content rests told = agreed log content log.is_ready (rests_at (Agrees log) state content rests told).1
 
--- a step of it goes on from the content
+-- a step of the log goes on from the content
 step_goes_on : (content : List ℕ) (blocks : List Block) (spelled : Result Block ℕ) (image : List ℕ) → chain_of next_in_log content ≡ Some blocks → IsLogStepOf blocks spelled image → GoesOn next_in_log content image
 step_goes_on content blocks (Ok block) image stands (inl is) others was =
     let same : others ≡ blocks = cc (stands, was) in
@@ -50,7 +51,7 @@ module _ {D : Type 0} (now : D → ℕ) (disk : D → ℕ → Option DiskState) 
   pub log_begun : (old : D) (log : LogState) → Rests (disk old (now old)) (Agrees log) → (content : List ℕ) → content_of (disk old (now old)) ≡ Some content → Keeps now disk old old (GoesOn next_in_log content)
   log_begun old log rests content told = rests_keeps now disk old (GoesOn next_in_log content) content (rests_at (Agrees log) (disk old (now old)) content rests told).0 (same_goes_on next_in_log content)
 
-  -- a frame was taken, or refused, or it was stopped
+  -- a frame was taken, or refused, or taking it was stopped
   pub log_taken : (old new : D) (log : LogState) (content : List ℕ) (spelled : Result Block ℕ) → Rests (disk old (now old)) (Agrees log) → content_of (disk old (now old)) ≡ Some content
       → ((blocks : List Block) (content : List ℕ) → content_of (disk old (now old)) ≡ Some content → chain_of next_in_log content ≡ Some blocks → Keeps now disk old new (IsLogStepOf blocks spelled))
       → Keeps now disk old new (GoesOn next_in_log content)
@@ -58,7 +59,7 @@ module _ {D : Type 0} (now : D → ℕ) (disk : D → ℕ → Option DiskState) 
       let stands = log_stands log (disk old (now old)) content rests told in
       weaker now disk old new (IsLogStepOf stands.0 spelled) (GoesOn next_in_log content) (images stands.0 content told stands.1) (λ image. step_goes_on content stands.0 spelled image stands.1)
 
-  -- and then a line was told
+  -- and then a line was printed
   pub log_told : (old mid new : D) (log : LogState) (content : List ℕ) (spelled : Result Block ℕ) → Rests (disk old (now old)) (Agrees log) → content_of (disk old (now old)) ≡ Some content
       → ((blocks : List Block) (content : List ℕ) → content_of (disk old (now old)) ≡ Some content → chain_of next_in_log content ≡ Some blocks → Keeps now disk old mid (IsLogStepOf blocks spelled))
       → Stays now disk mid new → Keeps now disk old new (GoesOn next_in_log content)

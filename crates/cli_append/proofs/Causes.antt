@@ -1,14 +1,14 @@
--- Counts of faults over two calls, of which one leaves a count as it was.
+-- Counts of faults over two calls, one of which leaves a count as it was.
 use Rattle.std.proofs.Common.{◌≡◌, ℕ, sym, subst}
 use Rattle.lc_base.specs.Faults.{HasCause}
 
--- What is blamed by the second is blamed by both, where they blame alike.
+-- What the second call blames, both blame, if they blame for the same.
 pub carried : (before mid now : ℕ) (B C : Type 0) → mid ≡ before → HasCause mid now B → (B → C) → (C → B) → HasCause before now C
 carried before mid now B C same cause there back =
     subst (λ (n : ℕ). HasCause n now C) same (record { later = cause.later; failed = λ blames. cause.failed (back blames); told = λ differ. there (cause.told differ) })
 
--- What is blamed by the first is blamed by both, where the second leaves the count as it was, and they
--- blame alike.
+-- What the first call blames, both blame, if the second leaves the count as it was and they blame
+-- for the same.
 pub kept : (before mid now : ℕ) (B C : Type 0) → now ≡ mid → HasCause before mid B → (B → C) → (C → B) → HasCause before now C
 kept before mid now B C same cause there back =
     subst (λ (n : ℕ). HasCause before n C) (sym same) (record { later = cause.later; failed = λ blames. cause.failed (back blames); told = λ differ. there (cause.told differ) })

@@ -1,4 +1,4 @@
--- One frame: what was told of it, and what a crash may leave.
+-- One frame: what was printed for it, and what a crash may leave.
 use Rattle.std.proofs.Common.{◌≡◌, inr, ℕ, Bool, true, false, List, [], ◌∷◌, ◌++◌, refl, sym, ◌∙◌, ap, subst}
 use Rattle.std.specs.Prelude.{Option, Some, None, Result, Ok, Err}
 use Rattle.lc_io.specs.Disk.{DiskState, Stays}
@@ -22,7 +22,7 @@ use Rattle.cli_append.specs.Steps.{appended_text, lines_for, added_for, Takes}
 use Rattle.cli_append.specs.declared.ending.RunStop.{RunStop}
 use Rattle.cli_append.proofs.Promised.{line_sure}
 
--- a disk that is told has a content
+-- a disk that is known has a content
 pub content_known : (state : Option DiskState) → IsKnown state → (content : List ℕ) × (content_of state ≡ Some content)
 content_known None is_told = absurd (cc is_told)
 content_known (Some state) is_told = (state.content, refl)
@@ -32,35 +32,35 @@ pub stands_at : (log : LogState) (blocks : List Block) (state : Option DiskState
 stands_at log blocks None rests = tt
 stands_at log blocks (Some state) rests = (rests.0, rests.1.stands)
 
--- where nothing is pending, each image that a crash may leave is the content
+-- if nothing is pending, each image that a crash may leave is the content
 pub rests_each : (state : Option DiskState) (P : List ℕ → Type 0) → Rests state P → (s : DiskState) (image : List ℕ) → state ≡ Some s → IsImage s image → P image
 rests_each state P rests s image is at =
     let r = subst (λ (o : Option DiskState). Rests o P) is rests in
     subst P (sym (settled_image s.content image (subst (λ (u : DiskState). IsImage u image) r.0 at))) r.1
 
--- what is told of a frame that was taken is its line
+-- what is printed for a frame that was taken is its line
 pub took : (old node : NodeState) (appended : Appended) (blocks : List Block) (judgement : Result Taken Refusal) → IsAppended old blocks judgement node appended
     → (frame : Taken) × (judgement ≡ Ok frame) × (appended_text appended ≡ (line_of compiled_in blocks frame).text)
 took old node (appendeds.Known number) blocks judgement (block, is, number_is, same) = (Known block, is, rw number_is refl)
 took old node (appendeds.Added number rows receipts root) blocks judgement (block, is, number_is, rows_is, receipts_are, root_is) = (Added block, is, rw (number_is, rows_is, receipts_are, root_is) refl)
 
--- a block that is not added is told of as one that is held
+-- a block that is not added is reported as one that is held
 not_added : (old node : NodeState) (appended : Appended) (blocks : List Block) (judgement : Result Taken Refusal) → IsAppended old blocks judgement node appended → added_for judgement ≡ [] → was_added appended ≡ false
 not_added old node (appendeds.Known number) blocks judgement is none = refl
 not_added old node (appendeds.Added number rows receipts root) blocks judgement (block, is, number_is, rows_is, receipts_are, root_is) none = absurd (cc (sym (ap added_for is) ∙ none))
 
 module _ {D : Type 0} (now : D → ℕ) (disk : D → ℕ → Option DiskState) (told : D → Option (List Tell)) where
-  -- a disk that was told stays told
+  -- a disk that was known stays known
   pub still_known : (old new : D) (P : List ℕ → Type 0) → Keeps now disk old new P → IsKnown (disk old (now old)) → IsKnown (disk new (now new))
   still_known old new P keeps is_told = keeps.told ∙ is_told
 
-  -- while the line of a frame is told, the disk holds its chain
+  -- while the line of a frame is printed, the disk holds its chain
   after_images : (mid new : D) (blocks : List Block) (frame : Taken) → Rests (disk mid (now mid)) (λ image. chain_in image ≡ Some (blocks ++ added_by frame)) → Stays now disk mid new → Keeps now disk mid new (IsStepOf blocks (Ok frame))
   after_images mid new blocks frame rests stays =
       let P : List ℕ → Type 0 = λ image. chain_in image ≡ Some (blocks ++ added_by frame) in
       weaker now disk mid new P (IsStepOf blocks (Ok frame)) (still next_in_chain now disk told mid new P (rests_each (disk mid (now mid)) P rests) stays) (λ image is. inr is)
 
-  -- a frame was stored, and its line told, or some first bytes of it
+  -- a frame was stored, and its line printed, or its first bytes
   pub stored : (old mid new : D) (blocks : List Block) (spelled : Result Block ℕ) (start node : NodeState) (appended : Appended) (bytes : List ℕ) (all : Bool)
       → IsAppended start blocks (judgement_of compiled_in blocks spelled) node appended → bytes ≡ appended_text appended
       → (IsKnown (disk old (now old)) → Keeps now disk old mid (IsStepOf blocks (judgement_of compiled_in blocks spelled))) → told mid ≡ told old
@@ -112,7 +112,7 @@ module _ {D : Type 0} (now : D → ℕ) (disk : D → ℕ → Option DiskState) 
       let s = stored old mid new blocks spelled start node appended bytes false is text images same is_node tell stays in
       subst (λ (j : Result Taken Refusal). Takes now disk told old new blocks j (Err stop)) (sym s.1) (record { images = s.3; lines = s.4; unwritten = λ ok none. absurd (cc ok); answer = tt })
 
-  -- nothing was told of a frame
+  -- nothing was printed for a frame
   pub takes_none : (old new : D) (blocks : List Block) (judgement : Result Taken Refusal) (stop : RunStop) → (IsKnown (disk old (now old)) → Keeps now disk old new (IsStepOf blocks judgement)) → told new ≡ told old
       → Takes now disk told old new blocks judgement (Err stop)
   takes_none old new blocks judgement stop images same = record { images = images; lines = λ is_told. none_told next_in_chain now disk told old new (lines_for blocks judgement) same; unwritten = λ ok none. absurd (cc ok); answer = tt }
@@ -127,7 +127,7 @@ module _ {D : Type 0} (now : D → ℕ) (disk : D → ℕ → Option DiskState) 
     answer = (is, stands_at node.log blocks (disk new (now new)) is_node.log);
   }
 
-  -- what an append of a node says of images, where the disk is known
+  -- what an append of a node says of images, if the disk is known
   pub images_told : (old new : D) (blocks : List Block) (judgement : Result Taken Refusal) → ((content : List ℕ) → content_of (disk old (now old)) ≡ Some content → Keeps now disk old new (IsStepOf blocks judgement))
       → IsKnown (disk old (now old)) → Keeps now disk old new (IsStepOf blocks judgement)
   images_told old new blocks judgement images is_told = let c = content_known (disk old (now old)) is_told in images c.0 c.1

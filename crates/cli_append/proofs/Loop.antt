@@ -1,4 +1,5 @@
--- The frames taken so far, and those that are left.
+-- The loop's invariant: the frames taken so far, and then the fold of what is left, are the whole
+-- fold.
 use Rattle.std.proofs.Common.{◌≡◌, inl, inr, ℕ, suc, ◌+◌, ◌-◌, ◌≤◌, Bool, true, false, List, [], ◌∷◌, ◌++◌, drop, refl, sym, ◌∙◌, ap, subst, arith, append_assoc, append-nil}
 use Rattle.std.specs.Prelude.{Option, Some, None, Result, Ok, Err, is_ok, IfOk, IfSome, take}
 use Rattle.lc_io.specs.Disk.{DiskState, Stays}
@@ -35,7 +36,7 @@ use Rattle.cli_append.proofs.Frames.{rests_each, stands_at, still_known}
 
 -- ---- the fold
 
--- all frames of an input, from these blocks on
+-- the fold of all frames of an input, from these blocks on
 abbrev fold_all : List Block → List ℕ → Fold
 fold_all blocks input = fold_from block_in compiled_in (MAX_FRAMES + 1) blocks input
 
@@ -72,7 +73,7 @@ both_empty : (a b : List Block) → a ++ b ≡ [] → (a ≡ []) × (b ≡ [])
 both_empty [] b none = (refl, none)
 both_empty (block ∷ a) b none = absurd (cc none)
 
--- ---- what is left of the input goes on as the whole input does
+-- ---- the fold of what is left, after the frames that were taken, is the fold of the whole input
 
 pub record Leads (input : List ℕ) (left : Option (List ℕ)) (count : ℕ) (first blocks : List Block) (taken : List Taken) : Type 0 where
   pub rest : List ℕ
@@ -120,7 +121,7 @@ judged_added : (next : List Block → List ℕ → Fold) (count : ℕ) (blocks :
 judged_added next count blocks rest (Ok frame) = (added_by_all (next (blocks ++ added_by frame) rest).taken, refl)
 judged_added next count blocks rest (Err refusal) = ([], refl)
 
--- the lines of all frames, where some were taken before the others
+-- the lines of all frames, if some were taken before the others
 lines_before : (first : List Block) (taken : List Taken) (fold : Fold) → fold_lines compiled_in first (taken_before taken fold) ≡ lines_of compiled_in first taken ++ fold_lines compiled_in (first ++ added_by_all taken) fold
 lines_before first taken fold =
     ap (λ (l : List Line). l ++ end_lines fold.end) (lines_append first taken fold.taken) ∙ append_assoc (lines_of compiled_in first taken) (lines_of compiled_in (first ++ added_by_all taken) fold.taken) (end_lines fold.end)
@@ -157,7 +158,7 @@ module _ {D : Type 0} (now : D → ℕ) (disk : D → ℕ → Option DiskState) 
   pub node_is : (old new : D) (node : NodeState) (count : ℕ) (left_old left_new : Option (List ℕ)) (first : List Block) → Progress old new node count left_old left_new first → (blocks : List Block) × IsNodeOf node (disk new (now new)) blocks
   node_is old new node count left_old left_new first p = (p.blocks, p.is_node)
 
-  -- a frame more
+  -- one more frame
   pub goes_on : (old mid new : D) (node longer_node : NodeState) (count more : ℕ) (left_old left_mid left_new : Option (List ℕ)) (first : List Block) (bytes : List ℕ)
       → Progress old mid node count left_old left_mid first → count ≤ MAX_FRAMES → more ≡ count + 1 → IfSome left_mid (λ input. IsFrameAnswer count input (Ok (Some (bytes, more))) left_new)
       → ((blocks : List Block) → IsNodeOf node (disk mid (now mid)) blocks → Takes now disk told mid new blocks (judgement_of compiled_in blocks (block_in bytes)) (Ok (Ok longer_node)))
@@ -216,7 +217,7 @@ module _ {D : Type 0} (now : D → ℕ) (disk : D → ℕ → Option DiskState) 
       → (l : Leads input left_mid count first p.blocks p.taken) → (s : FoldEnds count p.blocks l.rest left end) → taken_before p.taken (ends_at end s.after_it) ≡ fold_all first input
   ends_same old new node count left_old left_mid left first end input p bound l s = sym (l.same ∙ ap (taken_before p.taken) (folded_turn count p.blocks l.rest bound ∙ s.is_end (fold_from block_in compiled_in (MAX_FRAMES - count))))
 
-  -- what was told and left up to the end of the fold
+  -- what was printed and left up to the end of the fold
   all_of : (old new : D) (left : Option (List ℕ)) (first blocks : List Block) (taken : List Taken) (end : FoldEnd) (rest : List ℕ) (result : Result AppendEnd RunStop)
       → (IsKnown (disk old (now old)) → Keeps now disk old new (IsPartly next_in_chain first (added_by_all taken))) → blocks ≡ first ++ added_by_all taken
       → (IsKnown (disk old (now old)) → Telling next_in_chain now disk told old new (lines_of compiled_in first taken ++ end_lines end) (is_ok result)) → IfOk result (λ answer. fold_end answer ≡ end)
@@ -252,7 +253,7 @@ module _ {D : Type 0} (now : D → ℕ) (disk : D → ℕ → Option DiskState) 
   refused_end frame count cause (Ok answer) number is = ap fold_end is ∙ ap (λ (n : ℕ). Refused n cause) number
   refused_end frame count cause (Err stop) number is = tt
 
-  -- a frame is refused, and that is told
+  -- a frame is refused, and its line is printed
   refused_at : (old mid new : D) (node : NodeState) (count frame : ℕ) (left_old left_mid left : Option (List ℕ)) (first : List Block) (input : List ℕ) (cause : Cause) (result : Result AppendEnd RunStop) → (p : Progress old mid node count left_old left_mid first)
       → count ≤ MAX_FRAMES → frame ≡ count → (l : Leads input left_mid count first p.blocks p.taken) → FoldEnds count p.blocks l.rest left (Refused count cause)
       → (IsKnown (disk mid (now mid)) → Keeps now disk mid new (λ image. chain_in image ≡ Some p.blocks)) → (IsKnown (disk mid (now mid)) → Telling next_in_chain now disk told mid new (plain (refused_line frame cause) ∷ []) (is_ok result))
@@ -358,7 +359,7 @@ module _ {D : Type 0} (now : D → ℕ) (disk : D → ℕ → Option DiskState) 
       (lines_before first p.taken f ∙ ap (λ (b : List Block). lines ++ fold_lines compiled_in b f) (sym p.blocks_are) ∙ ap (λ (ls : List Line). lines ++ ls) line.1 ∙ sym (append_assoc lines (lines_for p.blocks j) line.0))
       (added_append p.taken f.taken ∙ ap (λ (b : List Block). added ++ b) others.1 ∙ sym (append_assoc added (added_for j) others.0)))
 
-  -- ---- whether the source tells or not
+  -- ---- whether or not it is known what the source has left
 
   step_goes : (first blocks added : List Block) (judgement : Result Taken Refusal) (image : List ℕ) → blocks ≡ first ++ added → IsStepOf blocks judgement image → GoesFrom first image
   step_goes first blocks added (Ok frame) image same (inl is) = (added, is ∙ ap Some same)

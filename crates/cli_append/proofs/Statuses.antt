@@ -7,12 +7,12 @@ use Rattle.chain_exec.specs.declared.receipt.Receipt.{Receipt}
 use Rattle.cli_append.specs.Lines.{status_text, statuses_text}
 use Rattle.cli_append.specs.declared.lines.TheConstants.{COMMA}
 
--- the first one, and each other one after a comma
+-- the first status, and then each other one after a comma
 joined : (receipt : Receipt) (others : List Receipt) → status_text receipt ++ flat_map (λ r. COMMA ∷ status_text r) others ≡ statuses_text (receipt ∷ others)
 joined receipt [] = append-nil (status_text receipt)
 joined receipt (other ∷ others) = ap (λ (bytes : List ℕ). status_text receipt ++ (COMMA ∷ bytes)) (joined other others)
 
--- all of them
+-- all statuses
 pub all_statuses : (receipts : List Receipt) (default : Receipt) → false ≡ (length receipts == 0)
     → status_text (slice_index_or receipts 0 default) ++ flat_map (λ r. COMMA ∷ status_text r) (take (length receipts - 1) (drop 1 receipts)) ≡ statuses_text receipts
 all_statuses [] default some = absurd (cc some)

@@ -1,4 +1,4 @@
--- What `append` tells of the frames of an input, and how it ends.
+-- What `append` prints for the frames of an input, and how it ends.
 use Rattle.std.specs.Prelude.{◌≡◌, ℕ, true, List, [], ◌∷◌, ◌++◌, length, Option, Some, Result, IfOk, is_ok, slice_index_or}
 use Rattle.std.specs.Option.{is_some}
 use Rattle.lc_io.specs.Disk.{DiskState, Stays}
@@ -27,12 +27,12 @@ line_of compile blocks (Added block) =
     let effects = block_effects compile (replay compile blocks) block in
     record { text = block_line block.number (length effects.rows) effects.receipts (root_in compile (blocks ++ block ∷ []) block.number); promise = Holds block.number block }
 
--- The lines of frames that were taken, one after another, into a chain of these blocks.
+-- The lines of frames that were taken one after another into a chain of these blocks.
 abbrev pub lines_of : Compiler → List Block → List Taken → List Line
 lines_of compile blocks [] = []
 lines_of compile blocks (frame ∷ taken) = line_of compile blocks frame ∷ lines_of compile (blocks ++ added_by frame) taken
 
--- The last line, where a frame is refused. It promises nothing.
+-- The last line, if a frame is refused. It promises nothing.
 abbrev pub end_lines : FoldEnd → List Line
 end_lines Whole = []
 end_lines (Refused frame cause) = plain (refused_line frame cause) ∷ []
@@ -41,7 +41,7 @@ end_lines (Refused frame cause) = plain (refused_line frame cause) ∷ []
 abbrev pub fold_lines : Compiler → List Block → Fold → List Line
 fold_lines compile blocks fold = lines_of compile blocks fold.taken ++ end_lines fold.end
 
--- Where the frames end, as it is answered.
+-- How the frames end, by what is returned.
 abbrev pub fold_end : AppendEnd → FoldEnd
 fold_end ends.Whole = Whole
 fold_end (ends.Refused frame cause) = Refused frame cause
@@ -50,24 +50,24 @@ fold_end (ends.Refused frame cause) = Refused frame cause
 abbrev pub IsKnown : Option DiskState → Type 0
 IsKnown state = is_some state ≡ true
 
--- It came to the end of this fold, from these blocks on: what follows what was taken of the input is
--- left; and where the disk is known, nothing is pending, and its content stands for the blocks and
+-- It came to the end of this fold, from these blocks on: what follows what was taken of the input
+-- is left; and if the disk is known, nothing is pending, and its content stands for the blocks and
 -- those that the fold adds.
 pub record HasEnded (state : Option DiskState) (left : Option (List ℕ)) (blocks : List Block) (fold : Fold) (end : AppendEnd) : Type 0 where
   pub end_is : fold_end end ≡ fold.end
   pub left_is : left ≡ Some fold.left
   pub log : Rests state (λ image. chain_in image ≡ Some (blocks ++ added_by_all fold.taken))
 
--- What becomes of the disk and of the wire, whatever is answered, where the frames of the input fold
--- so from these blocks on.
+-- What becomes of the disk and of the wire, whatever is returned, if this is the fold of the frames
+-- of the input from these blocks on.
 pub record AppendsAll {D : Type 0} (now : D → ℕ) (disk : D → ℕ → Option DiskState) (told : D → Option (List Tell)) (old new : D) (left : Option (List ℕ)) (blocks : List Block) (fold : Fold) (result : Result AppendEnd RunStop) : Type 0 where
-  -- A crash at any moment leaves the chain from before, and some first ones of the blocks that the
-  -- fold adds.
+  -- A crash at any moment leaves the chain from before, and the first blocks, any number of them,
+  -- of those that the fold adds.
   pub images : IsKnown (disk old (now old)) → Keeps now disk old new (IsPartly next_in_chain blocks (added_by_all fold.taken))
-  -- All lines were told where it came to its end, else a prefix of them; and each line that was begun
-  -- keeps its promise from then on.
+  -- All lines were printed if it came to its end, else a prefix of them; and each line that was
+  -- begun keeps its promise from then on.
   pub lines : IsKnown (disk old (now old)) → Telling next_in_chain now disk told old new (fold_lines compiled_in blocks fold) (is_ok result)
-  -- Where it came to its end and the fold adds no block, the disk is as it was.
+  -- If it came to its end and the fold adds no block, the disk is as it was.
   pub unwritten : is_ok result ≡ true → added_by_all fold.taken ≡ [] → Stays now disk old new
   pub ended : IfOk result (HasEnded (disk new (now new)) left blocks fold)
 

@@ -1,4 +1,4 @@
-//! Taking all frames of an input.
+//! Taking all frames of an input: a block is stored before its line is printed.
 
 ghost use Rattle.std.specs.Prelude.{◌≡◌, true, ◌+◌, ℕ, List, Some, IsErrOf};
 ghost use Rattle.lc_base.specs.Faults.{HasCause};
@@ -27,8 +27,8 @@ use recovery::Node;
 use scratch_model::Scratch;
 use std::alloc::Global;
 
-/// Takes the frames of the input one after another, up to the first that is refused: the block of
-/// each is stored where it is the chain's next one, and then a line is told of it.
+/// Takes the frames of the input one after another, up to the first that is refused: a block that
+/// is the chain's next one is stored, and then its line is printed.
 pub fn append<I: Source, M: Disk + Wire, S: Scratch>(
     alloc: Global,
     source: &mut I,
@@ -37,19 +37,19 @@ pub fn append<I: Source, M: Disk + Wire, S: Scratch>(
     node: Node,
 ) -> Result<AppendEnd, RunStop>
     requires ready { IsReady node (M.disk machine.old (M.now machine.old)) (S.state scratch.old) }
-    // Where it is known what the source has left, and which bytes the scratch device holds, the frames
-    // are taken, and told, as they fold.
+    // If it is known what the source has left, and which bytes the scratch device holds, the frames
+    // are taken, and their lines printed, as the fold of the input says.
     ensures appends { is_known (S.state scratch.old) ≡ true → (blocks : List Block) (input : List ℕ) → IsNodeOf node (M.disk machine.old (M.now machine.old)) blocks → I.left source.old ≡ Some input
         → AppendsAll M.now M.disk M.told machine.old machine.new (I.left source.new) blocks (fold_from block_in compiled_in (MAX_FRAMES + 1) blocks input) result }
-    // Whether or not it is known what the source has left, where it is known which bytes the scratch
+    // Whether or not it is known what the source has left, if it is known which bytes the scratch
     // device holds: a crash at any moment leaves the chain from before, and any blocks after it.
     ensures goes_on { is_known (S.state scratch.old) ≡ true → (blocks : List Block) → IsNodeOf node (M.disk machine.old (M.now machine.old)) blocks → IsKnown (M.disk machine.old (M.now machine.old)) → Keeps M.now M.disk machine.old machine.new (GoesFrom blocks) }
-    // Whatever the source has left and the scratch device gives, where the disk is known: a crash at any
-    // moment leaves the chain from before, and any blocks after it, rows not counted.
+    // Whatever the source has left and the scratch device returns, if the disk is known: a crash at
+    // any moment leaves the chain from before, and any blocks after it, with rows not counted.
     ensures log_goes_on { (content : List ℕ) → content_of (M.disk machine.old (M.now machine.old)) ≡ Some content → Keeps M.now M.disk machine.old machine.new (GoesOn next_in_log content) }
     // What was on the scratch device stays there.
     ensures retains { Retains (S.state scratch.old) (S.state scratch.new) }
-    // A source, a disk, a scratch device or a wire is blamed only where it failed.
+    // A source, a disk, a scratch device or a wire is blamed exactly if it failed.
     ensures unreadable { HasCause (I.source_faults source.old) (I.source_faults source.new) (IsErrOf result RunStop.Unreadable) }
     ensures disk_fault { HasCause (M.disk_faults machine.old) (M.disk_faults machine.new) (IsErrOf result RunStop.DiskFault) }
     ensures scratch_fault { HasCause (S.scratch_faults scratch.old) (S.scratch_faults scratch.new) (IsErrOf result RunStop.ScratchFault) }

@@ -10,22 +10,22 @@ use lc_base::Memory;
 pub enum AppendEnd {
     /// All frames of the input were taken.
     Whole,
-    /// One is refused, and that was told: its number in the input, from 0, and why.
+    /// A frame was refused, and its line printed: its number in the input, from 0, and the cause.
     Refused { frame: u32, cause: Cause },
 }
 
-/// Why a command stopped before its end.
+/// Why a command stopped before its end: something outside failed, or memory ran out.
 #[derive(Clone, Copy, Debug, PartialEq, Eq)]
 pub enum RunStop {
-    /// The source failed.
+    /// Reading the input failed.
     Unreadable,
-    /// The wire failed.
+    /// Printing failed.
     Untold,
     /// A call of the disk failed.
     DiskFault,
     /// A call of the scratch device failed.
     ScratchFault,
-    /// Out of memory.
+    /// Memory ran out.
     Memory,
 }
 

@@ -1,5 +1,5 @@
-//! The command `append`: the frames of an input are taken into the chain of a log, one after
-//! another.
+//! The command `append`: the frames of an input are taken into the chain of a log one after
+//! another, and the line of a block is printed after the block is stored.
 #![tactic(auto)]
 
 mod appending;

@@ -1,4 +1,4 @@
-//! The lines that tell of blocks that were appended.
+//! The lines of blocks that were taken: `known` or `block`, with the block's number.
 
 ghost use Rattle.std.specs.{Prelude.{◌≡◌, ◌∷◌, ◌++◌, IfOk, string_bytes}, List.{flat_map}};
 ghost use Rattle.cli_append.specs.{
@@ -12,13 +12,13 @@ use lc_base::{Bytes, Digest, Memory};
 use recovery::Appended;
 use std::alloc::{AllocError, Global};
 
-/// What stands between two statuses.
+/// What separates two statuses.
 const COMMA: u8 = b',';
 
-/// What stands where there is no status.
+/// What is printed for a block without transactions.
 const NO_STATUS: &[u8] = b"-";
 
-/// The block of this number is held already.
+/// The line of a block that the chain holds already.
 fn known_line(alloc: Global, number: u32) -> Result<Bytes, Memory>
     ensures { IfOk result (λ bytes. bytes ≡ known_line number) }
 {
@@ -26,7 +26,7 @@ fn known_line(alloc: Global, number: u32) -> Result<Bytes, Memory>
     Ok(Bytes::from_vec(text.into_bytes()))
 }
 
-/// How a transaction ended, by its number.
+/// The number of a transaction's status, in decimal digits.
 fn status_text(alloc: Global, receipt: &Receipt) -> Result<String, AllocError>
     ensures { IfOk result (λ text. string_bytes text ≡ status_text receipt.now) }
 {
@@ -34,7 +34,7 @@ fn status_text(alloc: Global, receipt: &Receipt) -> Result<String, AllocError>
     format!(in alloc; "{number}")
 }
 
-/// A comma and the number of its status for each transaction, after other bytes.
+/// The text, and then for each transaction a comma and the number of its status.
 fn with_statuses(alloc: Global, text: Vec<u8>, receipts: &[Receipt]) -> Result<Vec<u8>, AllocError>
     ensures { IfOk result (λ longer. longer.items ≡ text.items ++ flat_map (λ r. COMMA ∷ status_text r) receipts.now) }
 {
@@ -46,7 +46,8 @@ fn with_statuses(alloc: Global, text: Vec<u8>, receipts: &[Receipt]) -> Result<V
     Ok(longer)
 }
 
-/// How transactions ended, by their numbers, with a comma between each two; `-` where there is none.
+/// The numbers of the statuses of transactions, with a comma between each two, or `-` if there are
+/// none.
 fn statuses_text(alloc: Global, receipts: &[Receipt]) -> Result<Vec<u8>, AllocError>
     ensures { IfOk result (λ text. text.items ≡ statuses_text receipts.now) }
 {
@@ -57,8 +58,8 @@ fn statuses_text(alloc: Global, receipts: &[Receipt]) -> Result<Vec<u8>, AllocEr
     with_statuses(alloc, first.into_bytes(), &receipts[1..])
 }
 
-/// The block of this number was stored: how many rows it wrote, how its transactions ended, and the
-/// root at it.
+/// The line of a block that was stored: the number of rows that it wrote, how its transactions
+/// ended, and the root at it.
 fn block_line(
     alloc: Global,
     number: u32,

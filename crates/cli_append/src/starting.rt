@@ -1,4 +1,4 @@
-//! The node that appending starts with.
+//! Starting to append: the disk is synced before anything is read, so nothing is then pending.
 
 ghost use Rattle.std.specs.Prelude.{◌≡◌, true, ℕ, List, Some, IfOk, IsErr, IsErrOf};
 ghost use Rattle.lc_base.specs.Faults.{HasCause};
@@ -17,8 +17,8 @@ use recovery::{Node, StartError};
 use scratch_model::Scratch;
 use std::alloc::Global;
 
-/// Syncs a disk, whatever is pending of it. An earlier run may have ended between a write and its
-/// sync: a loss of power could still take what that wrote, which it then can't.
+/// Syncs a disk, whatever is pending. An earlier run may have ended between a write and its sync,
+/// and without this a loss of power could still take what it wrote.
 fn settle<M: Disk>(machine: &mut M) -> Result<(), Failed>
     // After Ok nothing is pending; after Err the disk is as it was;
     ensures disk { Syncs M.now M.disk machine.old machine.new result }
@@ -31,24 +31,25 @@ fn settle<M: Disk>(machine: &mut M) -> Result<(), Failed>
     machine.sync()
 }
 
-/// The node of the log on a disk, for one who appends. It writes nothing, and whatever is pending at
-/// entry, it syncs the disk first: what is then told of the content, or written after it, stands on
-/// bytes that no crash takes any more.
+/// The node of the log on a disk, for a caller who appends. It writes nothing, and syncs the disk
+/// first, whatever is pending at entry: what is then printed of the content, or written after it,
+/// rests on bytes that no crash can take.
 pub fn start<M: Disk, S: Scratch>(
     alloc: Global,
     machine: &mut M,
     scratch: &mut S,
 ) -> Result<Node, StartError>
-    // Where there is a node, nothing is pending.
+    // If a node is returned, nothing is pending.
     ensures settled { IfOk result (λ node. IsSettled (M.disk machine.new (M.now machine.new))) }
-    // Where it is known which bytes the scratch device holds, the node is that of the chain that the
-    // content at entry stands for, or it stands for none.
+    // If it is known which bytes the scratch device holds, the node is that of the chain that the
+    // content at entry stands for, or the content stands for no chain.
     ensures answer { is_known (S.state scratch.old) ≡ true → (content : List ℕ) → content_of (M.disk machine.old (M.now machine.old)) ≡ Some content
         → IsNodeStarted (M.disk machine.new (M.now machine.new)) (standing next_in_chain content) result }
-    // Whether or not it is known what the disk and the device hold, it is ready to take blocks.
+    // Whether or not it is known what the disk and the device hold, the node is ready to take
+    // blocks.
     ensures ready { IfOk result (λ node. IsReady node (M.disk machine.new (M.now machine.new)) (S.state scratch.new)) }
-    // Whatever is answered: the content is as it was; a crash at any moment leaves what one at entry
-    // could have left; and where nothing was pending at entry, the disk stays as it is.
+    // Whatever is returned: the content is as it was; a crash at any moment leaves what one at
+    // entry could have left; and if nothing was pending at entry, the disk stays as it is.
     ensures content { content_of (M.disk machine.new (M.now machine.new)) ≡ content_of (M.disk machine.old (M.now machine.old)) }
     ensures images { (state : DiskState) → M.disk machine.old (M.now machine.old) ≡ Some state → Keeps M.now M.disk machine.old machine.new (IsImage state) }
     ensures stays { IsSettled (M.disk machine.old (M.now machine.old)) → Stays M.now M.disk machine.old machine.new }

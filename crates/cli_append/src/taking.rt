@@ -1,4 +1,4 @@
-//! Taking one frame.
+//! Taking one frame: its line is printed only after the node has taken it.
 
 ghost use Rattle.std.specs.Prelude.{◌≡◌, true, ℕ, List, Some, IsErrOf};
 ghost use Rattle.lc_base.specs.Faults.{HasCause};
@@ -23,14 +23,14 @@ use recovery::{AppendError, Node};
 use scratch_model::Scratch;
 use std::alloc::Global;
 
-/// Ends the node that was handed back, if any.
+/// Discards the node that an error returned, if any.
 fn give_up(back: Option<Node>) {
     if let Some(node) = back {
         node.give_up();
     }
 }
 
-/// Takes a frame: its block is stored where it is the next one, and then its line is told.
+/// Takes a frame: its block is stored if it is the next one, and then its line is printed.
 pub fn take_frame<M: Disk + Wire, S: Scratch>(
     alloc: Global,
     machine: &mut M,

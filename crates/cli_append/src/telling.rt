@@ -1,4 +1,4 @@
-//! Telling a line, and what it promises.
+//! Printing lines: the disk stays as it is, so it goes on keeping what a line promises.
 
 ghost use Rattle.std.specs.Prelude.{◌≡◌, [], ◌∷◌, IfOk, IsErr, IsErrOf, is_ok};
 ghost use Rattle.lc_base.specs.Faults.{HasCause};
@@ -14,9 +14,9 @@ use lc_base::Memory;
 use lc_io::{Failed, Wire};
 use std::alloc::Global;
 
-/// Tells one line.
+/// Prints one line.
 pub fn tell_line<M: Wire>(machine: &mut M, line: &[u8]) -> Result<(), Failed>
-    // Whatever the line promises that each image of the disk keeps now, each image since keeps.
+    // If each image of the disk keeps now what the line promises, each image since then keeps it.
     ensures lines { (next : NextBlock) (promise : Promise) → IsKeptAt next M.now M.disk machine.old promise
         → Telling next M.now M.disk M.told machine.old machine.new (record { text = line.now; promise = promise } ∷ []) (is_ok result) }
     ensures disk { LeavesDisk M.now M.disk M.disk_faults machine.old machine.new }
@@ -25,7 +25,7 @@ pub fn tell_line<M: Wire>(machine: &mut M, line: &[u8]) -> Result<(), Failed>
     machine.tell(line)
 }
 
-/// Tells that a frame is refused.
+/// Prints the line of a refused frame.
 pub fn refuse<M: Wire>(
     alloc: Global,
     machine: &mut M,

@@ -1,4 +1,4 @@
--- The lines that are told.
+-- The lines that commands print, as bytes.
 use Rattle.std.specs.Prelude.{ℕ, List, [], ◌∷◌, ◌++◌, length, map, codes, decimal, Option, Some, None}
 use Rattle.std.specs.Fmt.{signed_decimal}
 use Rattle.lc_base.specs.declared.value.Value.{Value}
@@ -27,38 +27,38 @@ abbrev pub value_text : Value → List ℕ
 value_text (Int number) = codes "int " ++ signed_decimal number
 value_text (Text text) = codes "text " ++ text
 
--- A version, as others depend on it.
+-- A version, as others depend on it: its key and its block.
 abbrev pub dep_line : Dep → List ℕ
 dep_line dep = line (dep.key ++ codes " " ++ decimal dep.block)
 
--- The lines of an answer: one, and after the heads of lists one for each version.
+-- The lines of an answer: one, and for a list one more for each of its versions.
 abbrev pub answer_lines : Answer → List (List ℕ)
 answer_lines Nothing = line (codes "none") ∷ []
 answer_lines (Hist block tx value) = line (codes "block " ++ decimal block ++ codes " tx " ++ decimal tx ++ codes " " ++ value_text value) ∷ []
 answer_lines (Back block deps) = line (codes "block " ++ decimal block ++ codes " deps " ++ decimal (length deps)) ∷ map dep_line deps
 answer_lines (Fwd block uses) = line (codes "block " ++ decimal block ++ codes " uses " ++ decimal (length uses)) ∷ map dep_line uses
 
--- The words are no command.
+-- The line for words that are no command.
 abbrev pub usage_line : List ℕ
 usage_line = line (codes "usage")
 
--- The head of the chain, past which was asked; or that there is no block at all.
+-- The line for a block past the head of the chain, or for a chain of no block.
 abbrev pub beyond_line : Option ℕ → List ℕ
 beyond_line None = line (codes "beyond empty")
 beyond_line (Some head) = line (codes "beyond head " ++ decimal head)
 
--- The root at a block.
+-- The line of the root at a block.
 abbrev pub root_line : ℕ → List ℕ → List ℕ
 root_line number root = line (codes "root " ++ decimal number ++ codes " " ++ encode_lower root)
 
--- What a load tells, after a word for each: the blocks, the rows and the root at the last block; the
--- look-ups, the entries that all of them looked at, and the most that one did.
+-- The line of a load, with a word before each number: the blocks, the rows and the root at the last
+-- block; the look-ups, the versions that all of them looked at, and the most that one did.
 abbrev pub load_line : Load → List ℕ
 load_line load =
     line (codes "blocks " ++ decimal load.blocks ++ codes " rows " ++ decimal load.rows ++ codes " root " ++ encode_lower load.root.0
     ++ codes " lookups " ++ decimal load.lookups ++ codes " entries " ++ decimal load.entries ++ codes " most " ++ decimal load.most)
 
--- Why a chain refuses bytes.
+-- Why a chain refuses bytes, in words.
 abbrev pub refusal_text : Refusal → List ℕ
 refusal_text (refusals.Malformed offset) = codes "malformed " ++ decimal offset
 refusal_text (refusals.Fork have) = codes "fork " ++ encode_lower have.0
@@ -67,36 +67,37 @@ refusal_text (refusals.Number want) = codes "number " ++ decimal want
 refusal_text (refusals.Parent want) = codes "parent " ++ encode_lower want.0
 refusal_text (refusals.Budget sum) = codes "budget " ++ decimal sum
 
--- Why a frame is refused.
+-- Why a frame is refused, in words.
 abbrev pub cause_text : Cause → List ℕ
 cause_text causes.Truncated = codes "truncated"
 cause_text (causes.Length count) = codes "length " ++ decimal count
 cause_text causes.Many = codes "many"
 cause_text (causes.Block refusal) = refusal_text refusal
 
--- Which frame of the input was refused, from 0, and why.
+-- The line for a refused frame: its number, from 0, and the cause.
 abbrev pub refused_line : ℕ → Cause → List ℕ
 refused_line frame cause = line (codes "refused frame " ++ decimal frame ++ codes " " ++ cause_text cause)
 
 -- ---- inputs that are not of their grammar
 
--- The input is not of its grammar, or too long.
+-- The line for an input that is not of its grammar, or too long.
 abbrev pub bad_input_line : List ℕ → List ℕ
 bad_input_line cause = line (codes "badinput " ++ cause)
 
 -- ---- disks that hold no chain
 
--- The disk holds something else than a log.
+-- The line for a disk that holds something other than a log.
 abbrev pub not_a_log_line : List ℕ
 not_a_log_line = line (codes "not a log")
 
--- The log is damaged: the gate at this offset has no record of the chain's next block.
+-- The line for a log that is damaged: the gate at this offset has no record of the chain's next
+-- block.
 abbrev pub damaged_line : ℕ → List ℕ
 damaged_line at = line (codes "damaged at " ++ decimal at)
 
--- ---- what is wrong with contracts
+-- ---- faults of contracts
 
--- What is wrong with a source.
+-- The word for a fault of a source's syntax.
 abbrev pub syntax_word : SyntaxKind → List ℕ
 syntax_word syntax.Byte = codes "byte"
 syntax_word syntax.Literal = codes "literal"
@@ -104,17 +105,17 @@ syntax_word syntax.Expected = codes "expected"
 syntax_word syntax.End = codes "end"
 syntax_word syntax.Deep = codes "deep"
 
--- The offset of the fault, and what it is.
+-- The cause for a fault of the syntax: its offset, and its word.
 abbrev pub syntax_cause : ℕ → SyntaxKind → List ℕ
 syntax_cause at kind = codes "syntax " ++ decimal at ++ codes " " ++ syntax_word kind
 
--- What is wrong with the names and kinds of a contract.
+-- The word for a fault of the names and kinds of a contract.
 abbrev pub check_word : CheckKind → List ℕ
 check_word checks.Unknown = codes "unknown"
 check_word checks.Again = codes "again"
 check_word checks.Count = codes "count"
 check_word checks.Kind = codes "kind"
 
--- The offset of the fault of a name or a kind, and what it is.
+-- The cause for a fault of a name or a kind: its offset, and its word.
 abbrev pub check_cause : Fault → List ℕ
 check_cause fault = codes "check " ++ decimal fault.at ++ codes " " ++ check_word fault.kind

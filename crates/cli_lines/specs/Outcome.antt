@@ -1,4 +1,4 @@
--- What a command tells, and how it ends.
+-- What a command prints, and how it ends, if nothing fails.
 use Rattle.std.specs.Prelude.{ℕ, List, [], ◌∷◌}
 use Rattle.cli_lines.specs.Lines.{bad_input_line}
 use Rattle.cli_lines.specs.declared.outcome.Outcome.{Outcome}
@@ -7,7 +7,7 @@ use Rattle.cli_lines.specs.declared.outcome.Ending.TheVariants as endings
 use Rattle.cli_lines.specs.declared.status.Status.{Status}
 use Rattle.cli_lines.specs.declared.status.Status.TheVariants as statuses
 
--- The status that an ending gives.
+-- The exit status of an ending.
 abbrev pub status_of : Ending → Status
 status_of endings.Done = statuses.Done
 status_of endings.Refused = statuses.Refused
@@ -17,10 +17,10 @@ status_of endings.BadInput = statuses.BadInput
 status_of endings.NotALog = statuses.NotALog
 status_of endings.Damaged = statuses.Damaged
 
--- Some pieces, and an ending.
+-- The outcome of these pieces and this ending.
 abbrev pub outcome_with : List (List ℕ) → Ending → Outcome
 outcome_with pieces ending = record { pieces = pieces; ending = ending }
 
--- An input that is not of its grammar, or too long.
+-- The outcome for an input that is not of its grammar, or too long.
 abbrev pub bad_input : List ℕ → Outcome
 bad_input cause = outcome_with (bad_input_line cause ∷ []) endings.BadInput

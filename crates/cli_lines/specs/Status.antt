@@ -1,9 +1,9 @@
--- Exit statuses.
+-- Exit statuses: each has a number of its own.
 use Rattle.std.specs.Prelude.{ℕ}
 use Rattle.cli_lines.specs.declared.status.Status.{Status}
 use Rattle.cli_lines.specs.declared.status.Status.TheVariants as statuses
 
--- The number with which the program exits.
+-- The exit number of a status.
 abbrev pub status_number : Status → ℕ
 status_number statuses.Done = 0
 status_number statuses.Usage = 1

@@ -1,5 +1,5 @@
-//! What commands have in common: inputs that are read whole, the lines that are told, and how the
-//! program ends.
+//! What commands have in common: inputs that are read whole, the lines that they print, and the
+//! statuses with which the program ends.
 #![tactic(auto)]
 
 mod lines;

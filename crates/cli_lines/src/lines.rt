@@ -1,4 +1,4 @@
-//! The lines that are told.
+//! Building the lines that commands print: each ends with the byte 0x0A.
 
 ghost use Rattle.std.specs.{
   Prelude.{◌≡◌, [], ◌∷◌, ◌++◌, codes, decimal, map, string_bytes, IfOk},
@@ -21,14 +21,14 @@ fn line(alloc: Global, text: &str) -> Result<Bytes, Memory>
     Ok(Bytes::from_vec(bytes))
 }
 
-/// The words are no command.
+/// The line for words that are no command.
 pub fn usage_line(alloc: Global) -> Result<Bytes, Memory>
     ensures { IfOk result (λ bytes. bytes ≡ usage_line) }
 {
     line(alloc, "usage")
 }
 
-/// A block past the head was asked for, or there is no block at all.
+/// The line for a block past the head of the chain, or for a chain of no block.
 pub fn beyond_line(alloc: Global, head: Option<u32>) -> Result<Bytes, Memory>
     ensures { IfOk result (λ bytes. bytes ≡ beyond_line head) }
 {
@@ -41,7 +41,7 @@ pub fn beyond_line(alloc: Global, head: Option<u32>) -> Result<Bytes, Memory>
     }
 }
 
-/// Bytes in lower-case hex, after a word.
+/// A text of the word and then the bytes in lower-case hex.
 pub fn hex_after(alloc: Global, word: &str, bytes: &[u8]) -> Result<String, AllocError>
     ensures { IfOk result (λ text. string_bytes text ≡ word.now ++ encode_lower bytes.now) }
 {
@@ -57,7 +57,7 @@ fn digest_text(alloc: Global, word: &str, digest: &Digest) -> Result<String, All
     hex_after(alloc, word, digest.0.as_slice())
 }
 
-/// The root at the block of this number.
+/// The line of the root at the block `number`.
 pub fn root_line(alloc: Global, number: u32, root: &Digest) -> Result<Bytes, Memory>
     ensures { IfOk result (λ bytes. bytes ≡ root_line number root.now.0) }
 {
@@ -66,7 +66,7 @@ pub fn root_line(alloc: Global, number: u32, root: &Digest) -> Result<Bytes, Mem
     line(alloc, text.as_str())
 }
 
-/// How many blocks and rows a load has.
+/// The first part of the line of a load: its blocks and rows.
 fn load_head(alloc: Global, load: &Load) -> Result<String, AllocError>
     ensures { IfOk result (λ text. string_bytes text ≡ codes "blocks " ++ decimal load.now.blocks ++ codes " rows " ++ decimal load.now.rows ++ codes " root ") }
 {
@@ -75,7 +75,7 @@ fn load_head(alloc: Global, load: &Load) -> Result<String, AllocError>
     format!(in alloc; "blocks {blocks} rows {rows} root ")
 }
 
-/// What a load counted, after a word for each number.
+/// The last part of the line of a load: what its look-ups counted.
 fn counts_text(alloc: Global, load: &Load) -> Result<String, AllocError>
     ensures { IfOk result (λ text. string_bytes text ≡ codes " lookups " ++ decimal load.now.lookups ++ codes " entries " ++ decimal load.now.entries ++ codes " most " ++ decimal load.now.most) }
 {
@@ -85,7 +85,7 @@ fn counts_text(alloc: Global, load: &Load) -> Result<String, AllocError>
     format!(in alloc; " lookups {lookups} entries {entries} most {most}")
 }
 
-/// What a load tells.
+/// The line of a load.
 pub fn load_line(alloc: Global, load: &Load) -> Result<Bytes, Memory>
     ensures { IfOk result (λ bytes. bytes ≡ load_line load.now) }
 {
@@ -96,7 +96,7 @@ pub fn load_line(alloc: Global, load: &Load) -> Result<Bytes, Memory>
     line(alloc, text.as_str())
 }
 
-/// Why a chain refuses bytes.
+/// Why a chain refuses bytes, in words.
 fn refusal_text(alloc: Global, refusal: &Refusal) -> Result<String, AllocError>
     ensures { IfOk result (λ text. string_bytes text ≡ refusal_text refusal.now) }
 {
@@ -110,7 +110,7 @@ fn refusal_text(alloc: Global, refusal: &Refusal) -> Result<String, AllocError>
     }
 }
 
-/// Why a frame is refused.
+/// Why a frame is refused, in words.
 fn cause_text(alloc: Global, cause: &Cause) -> Result<String, AllocError>
     ensures { IfOk result (λ text. string_bytes text ≡ cause_text cause.now) }
 {
@@ -129,7 +129,7 @@ fn refused_text(alloc: Global, frame: u32, cause: &str) -> Result<Bytes, Memory>
     line(alloc, text.as_str())
 }
 
-/// The frame of this number, from 0, is refused for this cause.
+/// The line for a refused frame: its number, from 0, and the cause.
 pub fn refused_line(alloc: Global, frame: u32, cause: &Cause) -> Result<Bytes, Memory>
     ensures { IfOk result (λ bytes. bytes ≡ refused_line frame cause.now) }
 {
@@ -137,7 +137,7 @@ pub fn refused_line(alloc: Global, frame: u32, cause: &Cause) -> Result<Bytes, M
     refused_text(alloc, frame, text.as_str())
 }
 
-/// An input is not of its grammar, or too long.
+/// The line for an input that is not of its grammar, or too long.
 pub fn bad_input_line(alloc: Global, cause: &str) -> Result<Bytes, Memory>
     ensures { IfOk result (λ bytes. bytes ≡ bad_input_line cause.now) }
 {
@@ -145,14 +145,14 @@ pub fn bad_input_line(alloc: Global, cause: &str) -> Result<Bytes, Memory>
     line(alloc, text.as_str())
 }
 
-/// The disk holds something else than a log.
+/// The line for a disk that holds something other than a log.
 pub fn not_a_log_line(alloc: Global) -> Result<Bytes, Memory>
     ensures { IfOk result (λ bytes. bytes ≡ not_a_log_line) }
 {
     line(alloc, "not a log")
 }
 
-/// The log is damaged at this offset.
+/// The line for a log that is damaged at this offset, in bytes.
 pub fn damaged_line(alloc: Global, at: u64) -> Result<Bytes, Memory>
     ensures { IfOk result (λ bytes. bytes ≡ damaged_line at) }
 {
@@ -186,7 +186,7 @@ fn dep_line(alloc: Global, dep: &Dep) -> Result<Bytes, Memory>
     Ok(Bytes::from_vec(bytes))
 }
 
-/// A line, and after it one for each version.
+/// The head line, and then a line for each version.
 fn dep_lines(alloc: Global, head: Bytes, deps: &[Dep]) -> Result<Seq<Bytes>, Memory>
     ensures { IfOk result (λ lines. lines ≡ head ∷ map dep_line deps.now) }
 {
@@ -234,7 +234,7 @@ fn fwd_lines(alloc: Global, block: u32, uses: &DepList) -> Result<Seq<Bytes>, Me
     dep_lines(alloc, head, uses.as_slice())
 }
 
-/// The lines of an answer.
+/// The lines of an answer: one, and for a list one more for each of its versions.
 pub fn answer_lines(alloc: Global, answer: &Answer) -> Result<Seq<Bytes>, Memory>
     ensures { IfOk result (λ lines. lines ≡ answer_lines answer.now) }
 {

@@ -1,4 +1,4 @@
-//! What a command tells, and how it ends where nothing fails.
+//! What a command prints, and how it ends, if nothing fails.
 
 ghost use Rattle.std.specs.Prelude.{◌≡◌, [], ◌∷◌, IfOk};
 ghost use Rattle.cli_lines.specs.Outcome.{status_of, outcome_with, bad_input};
@@ -8,7 +8,7 @@ use crate::status::Status;
 use lc_base::{Bytes, Memory, Seq};
 use std::alloc::Global;
 
-/// How a command ends where nothing fails.
+/// How a command ends if nothing fails.
 #[derive(Clone, Copy, Debug, PartialEq, Eq)]
 pub enum Ending {
     Done,
@@ -20,16 +20,16 @@ pub enum Ending {
     Damaged,
 }
 
-/// What a command tells, and how it ends.
+/// What a command prints, and how it ends.
 #[derive(Debug, Drop)]
 pub struct Outcome {
-    /// What is told, each piece by a tell of its own: the lines, or the frames of blocks.
+    /// The pieces to print, each by a call of its own: lines, or frames of blocks.
     pub pieces: Seq<Bytes>,
     pub ending: Ending,
 }
 
 impl Outcome {
-    /// One line, and an ending.
+    /// The outcome of one line.
     pub fn from_line(alloc: Global, line: Bytes, ending: Ending) -> Result<Outcome, Memory>
         ensures { IfOk result (λ outcome. outcome ≡ outcome_with (line ∷ []) ending) }
     {
@@ -38,7 +38,7 @@ impl Outcome {
         Ok(Outcome { pieces, ending })
     }
 
-    /// An input that is not of its grammar, or too long: why.
+    /// The outcome for an input that is not of its grammar, or too long, with the cause.
     pub fn bad_input(alloc: Global, cause: &str) -> Result<Outcome, Memory>
         ensures { IfOk result (λ outcome. outcome ≡ bad_input cause.now) }
     {
@@ -47,7 +47,7 @@ impl Outcome {
 }
 
 impl Ending {
-    /// The status that it gives.
+    /// The exit status of this ending.
     pub fn status(self) -> Status
         ensures { result ≡ status_of self }
     {

@@ -1,4 +1,4 @@
-//! How the program ends.
+//! The statuses with which the program exits: each failure has a number of its own.
 
 ghost use Rattle.std.specs.Prelude.{◌≡◌};
 ghost use Rattle.cli_lines.specs.Status.{status_number};
@@ -6,19 +6,19 @@ ghost use Rattle.cli_lines.specs.Status.{status_number};
 /// How the program ends.
 #[derive(Clone, Copy, Debug, PartialEq, Eq)]
 pub enum Status {
-    /// The command did what it does.
+    /// The command did its work.
     Done,
     /// The words are no command.
     Usage,
-    /// The source failed.
+    /// Reading the input failed.
     Unreadable,
-    /// The wire failed.
+    /// Printing failed.
     Untold,
     /// A call of the disk failed.
     DiskFault,
-    /// Out of memory.
+    /// Memory ran out.
     Memory,
-    /// The disk holds something else than a log.
+    /// The disk holds something other than a log.
     NotALog,
     /// The log is damaged.
     Damaged,
@@ -35,7 +35,7 @@ pub enum Status {
 }
 
 impl Status {
-    /// The number with which the program exits.
+    /// The exit number of this status, from 0 to 12.
     pub fn number(self) -> u8
         ensures { result ≡ status_number self }
     {

@@ -1,4 +1,4 @@
-//! Inputs that are read whole.
+//! Reading an input whole: an input past the bound costs one byte more than the bound, and no more.
 
 ghost use Rattle.lc_base.specs.Faults.{HasCause};
 ghost use Rattle.std.specs.Prelude.{◌≡◌, ◌<◌, ◌≤◌, length, IfOk, IfSome, IsErrOf};
@@ -11,21 +11,21 @@ use lc_base::{Bytes, HostError, Memory, zeros};
 use lc_io::Source;
 use std::alloc::Global;
 
-/// The greatest number of bytes of an input that is read whole.
+/// The greatest number of bytes of an input that is read whole: 64 MiB.
 pub const MAX_WHOLE_INPUT_BYTES: usize = 67_108_864;
 
-/// How many bytes a pull asks for.
+/// The number of bytes that one pull asks for.
 const CHUNK: usize = 65_536;
 
-/// Room for so many bytes.
+/// A buffer of `count` bytes.
 fn room(alloc: Global, count: usize) -> Result<Vec<u8>, Memory>
     ensures { IfOk result (λ room. length room.items ≡ count) }
 {
     zeros(alloc, count)
 }
 
-/// All bytes that the source has left, pulled by way of the chunk; `None` where there are more than
-/// `MAX_WHOLE_INPUT_BYTES`, of which one too many is taken then.
+/// All bytes that the source has left, pulled through the chunk; `None` if these are more than
+/// `MAX_WHOLE_INPUT_BYTES`, and then one byte more than that was taken.
 fn read_by<I: Source>(
     alloc: Global,
     source: &mut I,
@@ -50,8 +50,8 @@ fn read_by<I: Source>(
     }
 }
 
-/// All bytes that the source has left; `None` where there are more than `MAX_WHOLE_INPUT_BYTES`, of
-/// which one too many is taken then.
+/// All bytes that the source has left; `None` if these are more than `MAX_WHOLE_INPUT_BYTES`, and
+/// then one byte more than that was taken.
 pub fn read_whole<I: Source>(alloc: Global, source: &mut I) -> Result<Option<Bytes>, HostError>
     ensures whole { IfSome (I.left source.old) (λ input. IfOk result (λ found. IsWholeInput found input (I.left source.new))) }
     ensures bound { IfOk result (λ found. IfSome found (λ bytes. length bytes ≤ MAX_WHOLE_INPUT_BYTES)) }

@@ -1,4 +1,4 @@
--- Which commands may end as they do whose outcome was told, or that have none.
+-- A command that printed an outcome, or has none, ends only with statuses that it may end with.
 use Rattle.std.proofs.Common.{◌≡◌, true, Option, Some, None, Result, Ok, Err, refl, sym, subst}
 use Rattle.std.specs.Prelude.{IfOk, IfErr}
 use Rattle.cli_words.specs.declared.words.Command.{Command}
@@ -13,17 +13,17 @@ use Rattle.cli_output.specs.Telling.{status_of_result, status_of_stop}
 use Rattle.cli_append.specs.declared.ending.RunStop.{RunStop}
 use Rattle.cli_append.specs.declared.ending.RunStop.TheVariants as stops
 
--- an outcome that was told, or that the wire failed for
+-- an outcome that was printed, or whose printing failed
 told_ends : (outcome : Outcome) (result : Result Ending RunStop) (command : Option Command) → IfOk result (λ ending. ending ≡ outcome.ending) → IfErr result (λ stop. stop ≡ stops.Untold) → MayEnd (status_of outcome.ending) command → MayEnd (status_of_result result) command
 told_ends outcome (Ok ending) command same halts ends = subst (λ (e : Ending). MayEnd (status_of e) command) (sym same) ends
 told_ends outcome (Err stop) command same halts ends = subst (λ (s : RunStop). MayEnd (status_of_stop s) command) (sym halts) tt
 
--- of what was made
+-- the outcome that was made
 pub made_ends : {E : Type 0} (found : Result Outcome E) (outcome : Outcome) (result : Result Ending RunStop) (command : Option Command) → found ≡ Ok outcome → IfOk result (λ ending. ending ≡ outcome.ending) → IfErr result (λ stop. stop ≡ stops.Untold)
     → IfOk found (λ o. MayEnd (status_of o.ending) command) → MayEnd (status_of_result result) command
 made_ends found outcome result command is same halts ends = told_ends outcome result command same halts (subst (λ r. IfOk r (λ o. MayEnd (status_of o.ending) command)) is ends)
 
--- of one that is known
+-- an outcome that is known
 pub known_ends : {E : Type 0} (found : Result Outcome E) (wanted : Outcome) (command : Option Command) → MayEnd (status_of wanted.ending) command → IfOk found (λ outcome. outcome ≡ wanted) → IfOk found (λ outcome. MayEnd (status_of outcome.ending) command)
 known_ends (Ok outcome) wanted command ends is = subst (λ (o : Outcome). MayEnd (status_of o.ending) command) (sym is) ends
 known_ends (Err e) wanted command ends is = tt

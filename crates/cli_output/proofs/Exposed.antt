@@ -1,4 +1,4 @@
--- Of an input and the blocks of a log, `expose` tells one thing.
+-- For an input and the blocks of a log, `expose` has one output.
 use Rattle.std.proofs.Common.{◌≡◌, ◌∙◌, ℕ, ◌≤◌, true, false, List, [], length, Option, Result, Ok, Err, is_ok, inl, inr, refl, sym, ap, subst, arith}
 use Rattle.std.proofs.lemmas.Bool.{cases_lt}
 use Rattle.lc_base.specs.declared.answer.Answer.{Answer}

@@ -51,7 +51,7 @@ stop_stops stops.DiskFault = refl
 stop_stops stops.ScratchFault = refl
 stop_stops stops.Memory = refl
 
--- ---- what is given
+-- ---- what is known of the input
 
 pub told_input : (left : Option (List ℕ)) (input : List ℕ) → IsGiven true left input
     → left ≡ Some input
@@ -73,14 +73,14 @@ rests_given uses None content rests given = tt
 rests_given true (Some s) content rests given = (rests, given)
 rests_given false (Some s) content rests given = (rests, given)
 
--- ---- what is asked of the blocks of the log
+-- ---- outputs over the blocks of the log
 
 pub same_may_leave : (content : List ℕ) (what : Change) (c : List ℕ) → what ≡ NoChange → c ≡ content
     → MayLeave next_in_chain content what c
 same_may_leave content what c is same = subst (λ (x : Change). MayLeave next_in_chain content x c)
     (sym is) same
 
--- what is asked of the blocks of the log
+-- the output of an outcome over the blocks of the log
 abbrev pub asked : (List Block → Outcome) → List ℕ → List Block → Output
 asked over input blocks = output_of (over blocks) input
 
@@ -91,7 +91,7 @@ asked_no_change over input NotALog = refl
 asked_no_change over input (Damaged before at_gate) = refl
 asked_no_change over input (Holds stored gate) = refl
 
--- what a command wants over the blocks of the log
+-- the output of a command, by the blocks of the log
 pub on_log_blocks : (over : List Block → Output) (input : List ℕ) (stands : Standing)
     (blocks : List Block) → blocks_of stands ≡ Some blocks → on_log over input stands ≡ over blocks
 on_log_blocks over input Blank blocks is = let same : [] ≡ blocks = cc is in ap over same
@@ -110,7 +110,7 @@ is_on_log_blocks Over input (Damaged before at) blocks output is over = absurd (
 is_on_log_blocks Over input (Holds stored gate) blocks output is over = let same : blocks_in stored
     ≡ blocks = cc is in subst (λ (b : List Block). Over b output) (sym same) over
 
--- where an output of any blocks is wanted, one of any log is
+-- if there is an output over any blocks, there is one over any log
 pub some_on_log : (Over : List Block → Output → Type 0) (over : List Block → Output)
     → ((blocks : List Block) → Over blocks (over blocks)) → (input : List ℕ) (stands : Standing)
     → IsOnLog Over input stands (on_log over input stands)
@@ -119,7 +119,7 @@ some_on_log Over over wanted input NotALog = refl
 some_on_log Over over wanted input (Damaged before at) = refl
 some_on_log Over over wanted input (Holds stored gate) = wanted (blocks_in stored)
 
--- and where one alone is, one alone of any log is
+-- and if it is the only one over any blocks, it is the only one over any log
 pub one_on_log : (Over : List Block → Output → Type 0)
     → ((blocks : List Block) (a b : Output) → Over blocks a → Over blocks b → a ≡ b)
     → (input : List ℕ) (stands : Standing) (a b : Output) → IsOnLog Over input stands a
@@ -137,7 +137,7 @@ on_log_no_change over none input NotALog = refl
 on_log_no_change over none input (Damaged before at) = refl
 on_log_no_change over none input (Holds stored gate) = none (blocks_in stored)
 
--- an outcome that is so for blocks that are so, for these blocks
+-- an outcome that is right for all blocks with a property is right for these
 pub of_blocks : {E : Type 0} (found : Result Outcome E) (P : List Block → Type 0)
     (answer : List Block → Outcome)
     → IfOk found (λ outcome. (blocks : List Block) → P blocks → outcome ≡ answer blocks)
@@ -213,7 +213,7 @@ module _ {D : Type 0} (now : D → ℕ) (disk : D → ℕ → Option DiskState)
         ended = λ e. absurd (cc (halts, e));
       }
 
-  -- nothing was told
+  -- nothing was printed
   pub silent_met : (old new : D) (content : List ℕ) (output : Output) (stop : RunStop)
       (result : Result Ending RunStop) (left_old left_new : Option (List ℕ))
       → Keeps now disk old new (MayLeave next_in_chain content output.change)
@@ -281,7 +281,7 @@ module _ {D : Type 0} (now : D → ℕ) (disk : D → ℕ → Option DiskState)
             (record { stop_is = says.stop_is; silent = says.silent ∙ same }),
       )
 
-  -- the same of one that may have been stopped by the scratch device
+  -- the same for one that the scratch device may have stopped
   pub answer_since : (old mid new : D) (Wanted : Output → Type 0) (some : Output) → Wanted some
       → some.change ≡ NoChange
       → (found : Result Outcome OutcomeStop) (result : Result Ending RunStop)
@@ -313,7 +313,7 @@ module _ {D : Type 0} (now : D → ℕ) (disk : D → ℕ → Option DiskState)
 
   -- ---- disks that hold no chain
 
-  -- nothing was told before, or that there is no chain
+  -- nothing was printed before, or it is printed that there is no chain
   pub start_met : (old mid new : D) (over : List Block → Output) (error : StartError)
       (result : Result Ending RunStop) (left_old left_new : Option (List ℕ))
       (input content : List ℕ)

@@ -1,4 +1,4 @@
--- Lines that promise nothing, told one after another.
+-- Lines that promise nothing, printed one after another.
 use Rattle.std.proofs.Common.{◌≡◌, ◌⊎◌, ℕ, ◌+◌, ◌<◌, ◌≤◌, Bool, true, false, List, [], ◌∷◌, ◌++◌, length, get_or, take, drop, map, Option, sym, ◌∙◌, subst}
 use Rattle.std.proofs.lemmas.List.{take_all, take_more, get_or_read, take-append-drop, map-append, map_push}
 use Rattle.lc_io.specs.Disk.{DiskState, Stays}
@@ -12,12 +12,12 @@ plain_kept next [] image = tt
 plain_kept next (piece ∷ pieces) image = (tt, plain_kept next pieces image)
 
 module _ {D : Type 0} (now : D → ℕ) (disk : D → ℕ → Option DiskState) (told : D → Option (List Tell)) (next : NextBlock) where
-  -- one piece was told
+  -- one piece was printed
   pub plain_ok : (old new : D) (bytes text : List ℕ) → bytes ≡ text → Stays now disk old new → told new ≡ with_tells (told old) (record { at = now old; bytes = bytes } ∷ []) → Telling next now disk told old new (plain text ∷ []) true
   plain_ok old new bytes text is stays tells =
       subst (λ (b : List ℕ). Telling next now disk told old new (plain b ∷ []) true) is (told_ok next now disk told old new bytes NoPromise (λ state image at shows. tt) stays tells)
 
-  -- one piece was not told whole
+  -- one piece was not printed whole
   pub plain_err : (old new : D) (bytes text : List ℕ) → bytes ≡ text → Stays now disk old new
       → (told new ≡ told old) ⊎ ((n : ℕ) × (told new ≡ with_tells (told old) (record { at = now old; bytes = take n bytes } ∷ []))) → Telling next now disk told old new (plain text ∷ []) false
   plain_err old new bytes text is stays tells =
@@ -30,7 +30,7 @@ module _ {D : Type 0} (now : D → ℕ) (disk : D → ℕ → Option DiskState) 
       subst (λ (l : List Line). Telling next now disk told old new l all) (sym (map_push plain pieces piece))
       (join next now disk told old mid new (λ c. Unit {0}) (map plain pieces) (plain piece ∷ []) all so_far (still next now disk told mid new (λ c. Unit {0}) (λ s c at image. tt) stays) (λ c at. plain_kept next pieces c) one)
 
-  -- some pieces, and others of which none is told
+  -- some pieces, and others of which none is printed
   pub plain_cut : (old new : D) (pieces rest : List (List ℕ)) (all : Bool) → Telling next now disk told old new (map plain pieces) all → Telling next now disk told old new (map plain (pieces ++ rest)) false
   plain_cut old new pieces rest all so_far =
       subst (λ (l : List Line). Telling next now disk told old new l false) (sym (map-append plain pieces rest)) (longer next now disk told old new (map plain pieces) (map plain rest) all so_far)

@@ -1,4 +1,4 @@
--- `expose` tells a clash of a proof that is accepted with a wrong answer.
+-- `expose` prints a clash for a proof that is accepted with a wrong answer.
 use Rattle.std.proofs.Common.{◌≡◌, ℕ, List, [], Option, Some, None, Result, Ok, Err, refl, ap, arith}
 use Rattle.std.specs.Prelude.{IsSomeAnd}
 use Rattle.lc_base.specs.declared.answer.Answer.{Answer}

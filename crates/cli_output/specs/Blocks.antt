@@ -1,4 +1,4 @@
--- What is told of blocks that are made.
+-- What is printed for blocks that are made, and for drafts.
 use Rattle.std.specs.Prelude.{◌≡◌, ℕ, List, [], length, ◌++◌, map, codes, decimal, Some, Result, Ok, Err}
 use Rattle.std.specs.Int.{w32, to_be_bytes}
 use Rattle.chain_pack.specs.Draft.{pack_fault}
@@ -8,11 +8,12 @@ use Rattle.cli_lines.specs.Outcome.{outcome_with, bad_input}
 use Rattle.cli_lines.specs.declared.outcome.Outcome.{Outcome}
 use Rattle.cli_lines.specs.declared.outcome.Ending.TheVariants as endings
 
--- The frame of a block: how many bytes it has, in four bytes, the most significant first, and these.
+-- The frame of a block: the number of its bytes, in four bytes, the most significant first, and
+-- then these.
 abbrev pub frame : List ℕ → List ℕ
 frame block = to_be_bytes w32 (length block) ++ block
 
--- What is wrong with a draft; being out of memory is nothing wrong with it.
+-- The cause for a fault of a draft. Memory is no fault of it, and has an empty cause.
 abbrev pub draft_cause : PackError → List ℕ
 draft_cause Json = codes "json"
 draft_cause Top = codes "top"
@@ -20,11 +21,11 @@ draft_cause (Shape block tx) = codes "draft " ++ decimal block ++ codes " " ++ d
 draft_cause (BlockLimit block) = codes "block " ++ decimal block
 draft_cause Memory = []
 
--- What is told of a draft: the frame of each of its blocks, or its first fault.
+-- What is printed for a draft: the frame of each of its blocks, or its first fault.
 abbrev pub draft_outcome : Result (List (List ℕ)) PackError → Outcome
 draft_outcome (Ok blocks) = outcome_with (map frame blocks) endings.Done
 draft_outcome (Err fault) = bad_input (draft_cause fault)
 
--- An error says a fault of the draft, and this is told of it.
+-- The error reports a fault of the draft, and the outcome is that of the fault.
 abbrev pub TellsFault : PackError → Outcome → Type 0
 TellsFault error outcome = (fault : PackError) × (pack_fault error ≡ Some fault) × (outcome ≡ bad_input (draft_cause fault))

@@ -1,5 +1,5 @@
--- What a command wants told of an input and of the content of the disk, how it ends, what it leaves of
--- the input, and what it does to the log.
+-- What each command must print for an input and the content of the disk, how it ends, what it
+-- leaves of the input, and what it does to the log. There is one such output.
 use Rattle.std.specs.Prelude.{◌≡◌, ℕ, ◌+◌, ◌-◌, ◌<◌, ◌≤◌, ◌==◌, ◌&&◌, ◌||◌, nat_le, nat_lt, Bool, true, false, if◌then◌else◌, List, [], ◌∷◌, length, drop, map, Option, Some, None, Ok, Err, codes}
 use Rattle.std.specs.List.{concat}
 use Rattle.lc_base.specs.History.{scan}
@@ -51,52 +51,54 @@ use Rattle.cli_output.specs.Proofs.{proof_line, verification_outcome, is_accepte
 
 -- ---- outputs
 
--- What is told, each line by itself, and what each promises of the log; how the command ends; what is
--- left of the input; and what becomes of the log. A frame that is told is a line that promises nothing.
+-- The lines to print, each by itself, with what each promises of the log; how the command ends;
+-- what is left of the input; and what becomes of the log. A frame is printed as a line that
+-- promises nothing.
 pub record Output : Type 0 where
   pub lines : List Line
   pub status : Status
   pub left : List ℕ
   pub change : Change
 
--- The bytes that are told.
+-- The bytes that are printed.
 abbrev pub told_bytes : Output → List ℕ
 told_bytes output = concat (map (λ line. line.text) output.lines)
 
--- An outcome, and what is left of the input. It promises nothing, and the log stays as it is.
+-- The output of an outcome, with what is left of the input. It promises nothing, and the log stays
+-- as it is.
 abbrev pub output_of : Outcome → List ℕ → Output
 output_of outcome left = record { lines = map plain outcome.pieces; status = status_of outcome.ending; left = left; change = NoChange }
 
--- Words that are no command give `usage`, and leave the input.
+-- The output for words that are no command: `usage`, with the input left.
 abbrev pub usage_output : List ℕ → Output
 usage_output input = record { lines = plain usage_line ∷ []; status = statuses.Usage; left = input; change = NoChange }
 
 -- ---- a question over the blocks of an input
 
--- What is told where a block past the head is asked for, or where there is none.
+-- The outcome for a block past the head, or for a chain of no block.
 abbrev pub beyond_outcome : Option ℕ → Outcome
 beyond_outcome head = outcome_with (beyond_line head ∷ []) endings.Beyond
 
--- The same, by the blocks of the chain.
+-- The outcome for a block past the last one of these, or for no block.
 abbrev pub beyond_head : List Block → Outcome
 beyond_head blocks = if length blocks == 0 then beyond_outcome None else beyond_outcome (Some (length blocks - 1))
 
--- What is told where a block of a chain is asked for: these lines, where the chain has the block.
+-- The outcome for a question about a block of a chain: these lines, if the chain has the block.
 abbrev pub outcome_at : ℕ → List Block → List (List ℕ) → Outcome
 outcome_at at blocks lines =
     if length blocks == 0 then beyond_outcome None
     else (if nat_lt at (length blocks) then outcome_with lines endings.Done else beyond_outcome (Some (length blocks - 1)))
 
--- The answer over the rows of a chain, where it is asked for up to one of its blocks.
+-- The answer over the rows of a chain, if the chain has the block up to which it is asked for.
 abbrev pub answer_outcome : Compiler → Query → List Block → Outcome
 answer_outcome compile query blocks = outcome_at query.at blocks (answer_lines (scan (replay compile blocks).rows query))
 
--- What `scan` tells of blocks, where the frames end so.
+-- The outcome of `scan` over blocks, by how the frames end.
 abbrev pub scan_outcome : Compiler → Query → List Block → FoldEnd → Outcome
 scan_outcome compile query blocks Whole = answer_outcome compile query blocks
 scan_outcome compile query blocks (Refused frame cause) = outcome_with (refused_line frame cause ∷ []) endings.Refused
 
--- What `scan` tells: a refused frame decides, wherever it stands.
+-- The output of `scan`: a refused frame decides it, wherever that is in the input.
 abbrev pub scan_output : Compiler → Query → Fold → Output
 scan_output compile query fold = output_of (scan_outcome compile query (added_by_all fold.taken) fold.end) fold.left
 
@@ -106,43 +108,43 @@ scan_output compile query fold = output_of (scan_outcome compile query (added_by
 abbrev pub FitsInput : List ℕ → Type 0
 FitsInput input = length input ≤ MAX_WHOLE_INPUT_BYTES
 
--- What a command tells of an input that is too long: what follows the first byte too many is left.
+-- The output for an input that is too long: what follows the first byte past the bound is left.
 abbrev pub long_output : List ℕ → Output
 long_output input = output_of (bad_input (codes "long")) (drop (MAX_WHOLE_INPUT_BYTES + 1) input)
 
--- What is told of functions: their canonical text, line by line, unless one of their names or kinds
--- is invalid.
+-- The outcome of `fmt` for functions: their canonical text, line by line, unless one of their names
+-- or kinds is invalid.
 abbrev pub fmt_outcome : List FunctionTree → Option Fault → Outcome
 fmt_outcome functions (Some fault) = bad_input (check_cause fault)
 fmt_outcome functions None = outcome_with (lines_of (contract_text functions)) endings.Done
 
--- What is told of a source: the first fault of its syntax, or what is told of the functions that it
--- reads as.
+-- The outcome of `fmt` for a source: the first fault of its syntax, or the outcome for the
+-- functions that it parses to.
 abbrev pub source_outcome : SourceOutcome → Outcome
 source_outcome (Ok functions) = fmt_outcome functions (check_fault functions)
 source_outcome (Err fault) = bad_input (syntax_cause fault.0 fault.1)
 
--- What `fmt` tells of an input: what is told of the source that it is, or that it is too long.
+-- The output of `fmt` for an input: the outcome for the source that it is, or that it is too long.
 pub data IsFmtOutput (input : List ℕ) : Output → Type 0 where
   Long : MAX_WHOLE_INPUT_BYTES < length input → IsFmtOutput input (long_output input)
   Source : FitsInput input → (outcome : SourceOutcome) → IsOutcome input outcome →
       IsFmtOutput input (output_of (source_outcome outcome) [])
 
--- What `fmt` tells of an input without a fault, it tells of what it told, where that is short
--- enough to be read whole.
+-- What `fmt` prints for an input without a fault, it prints again for what it printed, if that is
+-- short enough to be read whole.
 abbrev pub FormatsAgain : List ℕ → Type 0
 FormatsAgain input =
     (output : Output) → IsFmtOutput input output → output.status ≡ statuses.Done → FitsInput (told_bytes output) →
     IsFmtOutput (told_bytes output) output
 
--- What `verify` tells of an input to one who has the root: what is told of what is answered of it as a
--- proof in hex, or that it is too long.
+-- The output of `verify` for an input and a root: the outcome of verifying the proof that the input
+-- is, in hex, or that it is too long.
 pub data IsVerifyOutput (root : List ℕ) (query : Query) (input : List ℕ) : Output → Type 0 where
   LongProof : MAX_WHOLE_INPUT_BYTES < length input → IsVerifyOutput root query input (long_output input)
   Verified : FitsInput input → (told : Verification) → IsVerification root query input told →
       IsVerifyOutput root query input (output_of (verification_outcome told) [])
 
--- What `pack` tells of an input: what is told of the draft that it is, or that it is too long.
+-- The output of `pack` for an input: the outcome for the draft that it is, or that it is too long.
 abbrev pub pack_output : List ℕ → Output
 pack_output input =
     if nat_lt MAX_WHOLE_INPUT_BYTES (length input) then long_output input
@@ -150,16 +152,16 @@ pack_output input =
 
 -- ---- blocks that are made
 
--- What `gen` tells: the frame of each block. It leaves the input.
+-- The output of `gen`: the frame of each block. It leaves the input.
 abbrev pub gen_output : Generation → List ℕ → Output
 gen_output generation input =
     record { lines = map plain (map frame (blocks_of_seed generation.blocks generation.seed)); status = statuses.Done; left = input; change = NoChange }
 
--- What `load` tells: one line of the load of these blocks.
+-- The outcome of `load`: the line of the load of these blocks.
 abbrev pub load_outcome : Compiler → Generation → Outcome
 load_outcome compile generation = outcome_with (load_line (load_of compile generation.blocks generation.seed) ∷ []) endings.Done
 
--- The same as an output, which leaves the input.
+-- The output of `load`, which leaves the input.
 abbrev pub load_output : Compiler → Generation → List ℕ → Output
 load_output compile generation input = output_of (load_outcome compile generation) input
 
@@ -169,40 +171,42 @@ load_output compile generation input = output_of (load_outcome compile generatio
 abbrev pub next_by : Decoder → Compiler → NextBlock
 next_by read compile = next_block read (placement_in compile)
 
--- The next block of a log by itself, which runs none and so counts no row, by a decoder.
+-- The next block of a log by itself, by a decoder: no block runs, so no row is counted.
 abbrev pub log_next_by : Decoder → NextBlock
 log_next_by read = next_block read log_placement
 
--- What is told where the bytes on the disk are something else than a log. The input stays as it is.
+-- The output for a disk that holds something other than a log. The input stays as it is.
 abbrev pub not_a_log_output : List ℕ → Output
 not_a_log_output input = output_of (outcome_with (not_a_log_line ∷ []) endings.NotALog) input
 
--- What is told where the log is damaged at an offset. The input stays as it is.
+-- The output for a log that is damaged at an offset. The input stays as it is.
 abbrev pub damaged_output : ℕ → List ℕ → Output
 damaged_output at input = output_of (outcome_with (damaged_line at ∷ []) endings.Damaged) input
 
--- A command over the blocks that the bytes on the disk stand for. Where they are something else than a
--- log, or damaged, this is told, and the input and the disk stay as they are.
+-- The output of a command over the blocks that the bytes on the disk stand for. If they are
+-- something other than a log, or damaged, that is printed, and the input and the disk stay as they
+-- are.
 abbrev pub on_log : (List Block → Output) → List ℕ → Standing → Output
 on_log over input Blank = over []
 on_log over input NotALog = not_a_log_output input
 on_log over input (Damaged before at) = damaged_output at input
 on_log over input (Holds stored gate) = over (blocks_in stored)
 
--- The same of a command that may want this output of blocks.
+-- An output of a command over the blocks that the bytes on the disk stand for, if its outputs over
+-- blocks are those that `Over` admits.
 abbrev pub IsOnLog : (List Block → Output → Type 0) → List ℕ → Standing → Output → Type 0
 IsOnLog Over input Blank output = Over [] output
 IsOnLog Over input NotALog output = output ≡ not_a_log_output input
 IsOnLog Over input (Damaged before at) output = output ≡ damaged_output at input
 IsOnLog Over input (Holds stored gate) output = Over (blocks_in stored) output
 
--- How `append` ends, by where the frames end.
+-- How `append` ends, by how the frames end.
 abbrev pub fold_ending : FoldEnd → Ending
 fold_ending Whole = endings.Done
 fold_ending (Refused frame cause) = endings.Refused
 
--- What `append` gives of the frames of an input, from these blocks on: a line of each frame that was
--- taken, and one of a refusal. The blocks that are added are appended to the log.
+-- The output of `append` for the frames of an input, from these blocks on: a line for each frame
+-- that was taken, and one for a refusal. The blocks that are added are appended to the log.
 abbrev pub append_output : Compiler → List Block → Fold → Output
 append_output compile blocks fold =
     record { lines = fold_lines compile blocks fold; status = status_of (fold_ending fold.end); left = fold.left; change = Appends (added_by_all fold.taken) }
@@ -212,25 +216,25 @@ abbrev pub at_or_last : Option ℕ → List Block → ℕ
 at_or_last (Some at) blocks = at
 at_or_last None blocks = length blocks - 1
 
--- The answer to a question over the blocks of the log. It leaves the input.
+-- The output of a question over the blocks of the log: its answer. It leaves the input.
 abbrev pub ask_output : Compiler → Kind → List ℕ → Option ℕ → List ℕ → List Block → Output
 ask_output compile kind key at input blocks =
     output_of (answer_outcome compile (record { kind = kind; key = key; at = at_or_last at blocks }) blocks) input
 
--- The root at a block of a chain, where it has this block.
+-- The outcome of `root` for a block of a chain: the root at it, if the chain has the block.
 abbrev pub root_outcome : Compiler → ℕ → List Block → Outcome
 root_outcome compile at blocks = outcome_at at blocks (root_line at (root_in compile blocks at) ∷ [])
 
--- The root at a block of the log. It leaves the input.
+-- The output of `root` for a block of the log. It leaves the input.
 abbrev pub root_output : Compiler → Option ℕ → List ℕ → List Block → Output
 root_output compile at input blocks = output_of (root_outcome compile (at_or_last at blocks) blocks) input
 
--- The proof of the answer to a question that is made of the blocks of a chain, for one who has the root
--- at a block.
+-- The proof that is made of the answer to a question over the blocks of a chain, for one who has
+-- the root at a block.
 abbrev pub made_in : Compiler → List Block → Query → ℕ → Proof
 made_in compile blocks query root_at = made_proof (replay compile blocks).rows (map digest_of blocks) root_at query
 
--- What is told where a proof is asked for: its line, where the chain has the block of the root and the
+-- The outcome of `prove`: the line of the proof, if the chain has the block of the root and the
 -- question is about no later one.
 abbrev pub prove_outcome : Compiler → Query → ℕ → List Block → Outcome
 prove_outcome compile query root_at blocks =
@@ -238,7 +242,7 @@ prove_outcome compile query root_at blocks =
     then outcome_with (proof_line (made_in compile blocks query root_at) ∷ []) endings.Done
     else beyond_head blocks
 
--- The proof of the answer to a question over the blocks of the log. It leaves the input.
+-- The output of `prove` over the blocks of the log. It leaves the input.
 abbrev pub prove_output : Compiler → Query → ℕ → List ℕ → List Block → Output
 prove_output compile query root_at input blocks = output_of (prove_outcome compile query root_at blocks) input
 
@@ -246,11 +250,11 @@ prove_output compile query root_at input blocks = output_of (prove_outcome compi
 abbrev pub Reach : List Block → Query → ℕ → Type 0
 Reach blocks query root_at = (root_at < length blocks) × (query.at ≤ root_at)
 
--- What `expose` tells of an input to one who has the root, against the blocks of the log up to one. Where
--- the log has no such block, or the question is about a later one, that is told, and the input is left as
--- it is. Else an input that is too long, and one that `verify` does not accept, are told as `verify` tells
--- them. Of a proof that is accepted the first clash is told, a text of it and one of the log that differ
--- and have one digest, or that there is none.
+-- The output of `expose` for an input and a root, against the blocks of the log up to `root_at`. If
+-- the log has no such block, or the question is about a later one, that is printed, and the input
+-- is left as it is. Else, for an input that is too long, or that `verify` does not accept, the
+-- output is that of `verify`. For a proof that is accepted the first clash is printed, a text of it
+-- and one of the log that differ and have one digest, or that there is none.
 pub data IsExposeOutput (compile : Compiler) (root : List ℕ) (query : Query) (root_at : ℕ) (input : List ℕ) (blocks : List Block) : Output → Type 0 where
   OutOfReach : (Reach blocks query root_at → ⊥) → IsExposeOutput compile root query root_at input blocks (output_of (beyond_head blocks) input)
   LongExposed : Reach blocks query root_at → MAX_WHOLE_INPUT_BYTES < length input →
@@ -261,10 +265,10 @@ pub data IsExposeOutput (compile : Compiler) (root : List ℕ) (query : Query) (
       (clash : Option (ℕ × ℕ)) → IsFirstClash (proof_texts proof) (replayed_texts compile blocks root_at) clash →
       IsExposeOutput compile root query root_at input blocks (output_of (clash_outcome (proof_texts proof) (replayed_texts compile blocks root_at) clash) [])
 
--- ---- what is wanted
+-- ---- the output of a command
 
--- A command, or that the words are none, wants this output of an input and of the content of the disk,
--- by a decoder and a compiler.
+-- The output that a command, or words that are none, must have for an input and the content of the
+-- disk, by a decoder and a compiler.
 abbrev pub Wants : Decoder → Compiler → Option Command → List ℕ → List ℕ → Output → Type 0
 Wants read compile None input content output = output ≡ usage_output input
 Wants read compile (Some (Scan query)) input content output = output ≡ scan_output compile query (fold_input read compile input)
@@ -284,12 +288,12 @@ Wants read compile (Some (Verify root query)) input content output = IsVerifyOut
 Wants read compile (Some (Expose root query root_at)) input content output =
     IsOnLog (IsExposeOutput compile root.0 query root_at input) input (standing (next_by read compile) content) output
 
--- An output is wanted, by a decoder and a compiler that are right.
+-- This is the output of the command, by a right decoder and a right compiler.
 abbrev pub IsWanted : Option Command → List ℕ → List ℕ → Output → Type 0
 IsWanted command input content output =
     (read : Decoder) × IsDecoder read × (compile : Compiler) × IsCompiler compile × Wants read compile command input content output
 
--- There is an output that is wanted, and no other.
+-- There is an output that is wanted, and only one.
 pub record IsOneOutput (Wanted : Output → Type 0) : Type 0 where
   pub output : Output
   pub wanted : Wanted output
@@ -324,8 +328,8 @@ uses_disk (Some (Prove query root_at)) = true
 uses_disk (Some (Expose root query root_at)) = true
 uses_disk other = false
 
--- Whether it uses the scratch device: as those that use the disk do, but for the questions `hist`, `back`
--- and `fwd`, which run the blocks of the log into rows in memory; and as `load` does.
+-- Whether it uses the scratch device: all that use the disk do, except the questions `hist`, `back`
+-- and `fwd`, which run the blocks of the log into rows in memory; and so does `load`.
 abbrev pub uses_scratch : Option Command → Bool
 uses_scratch (Some (Load generation)) = true
 uses_scratch (Some (Ask kind key at)) = false
@@ -336,8 +340,8 @@ abbrev pub changes_log : Option Command → Bool
 changes_log (Some Append) = true
 changes_log other = false
 
--- Whether it asks for a block of a chain: of the input, as `scan` does, or of the log, as those that use the
--- disk do, but for `append`.
+-- Whether it asks for a block of a chain: of the input, as `scan` does, or of the log, as all that
+-- use the disk do, except `append`.
 abbrev pub asks_for_block : Option Command → Bool
 asks_for_block (Some (Scan query)) = true
 asks_for_block (Some Append) = false
@@ -349,7 +353,7 @@ checks_proof (Some (Verify root query)) = true
 checks_proof (Some (Expose root query root_at)) = true
 checks_proof other = false
 
--- Whether it tells lines while it makes others.
+-- Whether it prints lines while it makes others.
 abbrev pub tells_as_it_goes : Option Command → Bool
 tells_as_it_goes (Some (Gen generation)) = true
 tells_as_it_goes (Some Append) = true

@@ -1,4 +1,4 @@
--- What is told of proofs.
+-- What is printed for proofs, by what verifying them returns.
 use Rattle.std.specs.Prelude.{◌≡◌, ℕ, Bool, true, false, List, [], ◌∷◌, ◌++◌, codes, decimal, Option, Some, None, Ok, is_ok}
 use Rattle.std.specs.List.{concat}
 use Rattle.hex.specs.Hex.{encode_lower, decode_of}
@@ -23,13 +23,13 @@ use Rattle.cli_lines.specs.declared.outcome.Ending.TheVariants as endings
 abbrev pub proof_line : Proof → List ℕ
 proof_line proof = line (encode_lower (concat (proof_fields proof)))
 
--- Why an input is no hex.
+-- Why an input is no hex, in words.
 abbrev pub hex_cause : HexFault → List ℕ
 hex_cause Odd = codes "odd"
 hex_cause (At at) = codes "at " ++ decimal at
 
--- What is told of what is answered of a proof in hex: the lines of the answer; why the proof is not
--- accepted; or why the input is no hex.
+-- The outcome of verifying a proof in hex: the lines of the answer; why the proof is not accepted;
+-- or why the input is no hex.
 abbrev pub verification_outcome : Verification → Outcome
 verification_outcome (Accepted answer) = outcome_with (answer_lines answer) endings.Done
 verification_outcome (Rejected reject) = outcome_with (rejected_line reject ∷ []) endings.Rejected
@@ -43,23 +43,23 @@ is_accepted (Accepted answer) = true
 is_accepted (Rejected reject) = false
 is_accepted (BadHex fault) = false
 
--- An input is this proof in hex, which is accepted by one who has the root.
+-- An input is this proof in hex, and it is accepted under the root.
 pub record IsAcceptedHex (root : List ℕ) (query : Query) (input : List ℕ) (proof : Proof) : Type 0 where
   pub bytes : List ℕ
   pub decoded : decode_of (hex_text input) ≡ Ok bytes
   pub spelled : Spells bytes proof
   pub accepted : is_ok (verdict root query proof) ≡ true
 
--- The line that tells that no text of a proof clashes with one of a chain.
+-- The line for no clash: no text of the proof clashes with one of the chain.
 abbrev pub no_clash_line : List ℕ
 no_clash_line = line (codes "no clash")
 
--- The line that tells a text of a proof and one of a chain, each in lower-case hex.
+-- The line of a clash: a text of the proof and one of the chain, each in lower-case hex.
 abbrev pub clash_line : List ℕ → List ℕ → List ℕ
 clash_line given own = line (codes "clash " ++ encode_lower given ++ codes " " ++ encode_lower own)
 
--- What is told of the first clash of the texts of a proof with those of a chain: the text at each of its
--- two places, or that there is none.
+-- The outcome for the first clash of the texts of a proof with those of a chain: the text at each
+-- of its two places, or that there is none.
 abbrev pub clash_outcome : List (List ℕ) → List (List ℕ) → Option (ℕ × ℕ) → Outcome
 clash_outcome given own None = outcome_with (no_clash_line ∷ []) endings.Done
 clash_outcome given own (Some places) = outcome_with (clash_line (text_at given places.0) (text_at own places.1) ∷ []) endings.Done

@@ -1,4 +1,4 @@
--- What a run is to tell, and to leave of the disk and of the input, at each moment.
+-- What a run must print, and leave of the disk and of the input, at each moment.
 use Rattle.std.specs.Prelude.{◌≡◌, ℕ, Bool, true, false, List, [], ◌∷◌, Option, Some, None}
 use Rattle.std.specs.Option.{option_map, is_some}
 use Rattle.lc_io.specs.Disk.{DiskState, Stays}
@@ -13,7 +13,8 @@ use Rattle.cli_lines.specs.declared.status.Status.{Status}
 use Rattle.cli_lines.specs.declared.status.Status.TheVariants as statuses
 use Rattle.cli_output.specs.Output.{Output, Wants, next_by, reads_input, uses_disk, uses_scratch, takes_frames, asks_for_block, checks_proof, reads_whole}
 
--- Whether a run with this status came to its end: nothing outside failed, and memory did not run out.
+-- Whether a run with this status came to its end: nothing outside failed, and memory did not run
+-- out.
 abbrev pub came_to_end : Status → Bool
 came_to_end statuses.Unreadable = false
 came_to_end statuses.Untold = false
@@ -22,7 +23,8 @@ came_to_end statuses.ScratchFault = false
 came_to_end statuses.Memory = false
 came_to_end other = true
 
--- Which commands may end with a status. Every one may be out of memory, or have a wire that fails.
+-- Which commands may end with a status. Memory may run out, and printing may fail, for every
+-- command.
 abbrev pub MayEnd : Status → Option Command → Type 0
 MayEnd statuses.Done command = is_some command ≡ true
 MayEnd statuses.Usage command = command ≡ None
@@ -45,7 +47,7 @@ found_no_log statuses.NotALog = true
 found_no_log statuses.Damaged = true
 found_no_log other = false
 
--- What is left of the input, where that is known.
+-- What is left of the input, if that is known.
 abbrev pub leaves : Option (List ℕ) → List ℕ → Option (List ℕ)
 leaves before left = option_map (λ input. left) before
 
@@ -55,8 +57,8 @@ appends_none NoChange = true
 appends_none (Appends []) = true
 appends_none (Appends (block ∷ blocks)) = false
 
--- A run that came to its end has the status of the output, and leaves of the input what that says.
--- Where the disk is known, nothing is pending, and the log has all blocks that are appended.
+-- A run that came to its end has the status of the output, and leaves of the input what the output
+-- says. If the disk is known, nothing is pending, and the log has all blocks that are appended.
 pub record HasEnded (next : NextBlock) (state : Option DiskState) (status : Status) (left_old left_new : Option (List ℕ)) (content : List ℕ) (output : Output) : Type 0 where
   pub status_is : status ≡ output.status
   pub left_is : left_new ≡ leaves left_old output.left
@@ -64,35 +66,36 @@ pub record HasEnded (next : NextBlock) (state : Option DiskState) (status : Stat
 
 -- A run did what an output says, on a disk that had this content.
 pub record Meets {D : Type 0} (next : NextBlock) (now : D → ℕ) (disk : D → ℕ → Option DiskState) (told : D → Option (List Tell)) (old new : D) (status : Status) (left_old left_new : Option (List ℕ)) (content : List ℕ) (output : Output) : Type 0 where
-  -- All lines were told where it came to its end, else a prefix of them, and nothing else. From the
-  -- moment on at which telling a line began, whatever a crash may leave keeps what the line promises.
+  -- All lines were printed if it came to its end, else a prefix of them, and nothing else. From the
+  -- moment on at which printing a line began, whatever a crash may leave keeps what the line
+  -- promises.
   pub lines : Telling next now disk told old new output.lines (came_to_end status)
-  -- A crash at any moment leaves the content as it was, or its chain with some first ones of the blocks
-  -- that are appended.
+  -- A crash at any moment leaves the content as it was, or its chain with the first blocks, any
+  -- number of them, of those that are appended.
   pub images : Keeps now disk old new (MayLeave next content output.change)
-  -- Where it came to its end and appends no block, it did not touch the disk.
+  -- If it came to its end and appends no block, it did not touch the disk.
   pub unwritten : came_to_end status ≡ true → appends_none output.change ≡ true → Stays now disk old new
   pub ended : came_to_end status ≡ true → HasEnded next (disk new (now new)) status left_old left_new content output
 
--- The bytes are those that are known; where none are known, any bytes, unless they are used.
+-- The bytes are the known ones; if none are known, they are any bytes, unless they are used.
 abbrev pub IsGiven : Bool → Option (List ℕ) → List ℕ → Type 0
 IsGiven uses (Some known) bytes = known ≡ bytes
 IsGiven true None bytes = ⊥
 IsGiven false None bytes = Unit {0}
 
--- Where the command uses the scratch device, it is known which bytes that holds.
+-- If the command uses the scratch device, it is known which bytes that holds.
 abbrev pub HeldIsGiven : Bool → Option Command → Type 0
 HeldIsGiven held command = uses_scratch command ≡ true → held ≡ true
 
--- Whatever the input and the content of the disk are: where those that the command uses are known, and
--- which bytes the scratch device holds where it uses that, it did what an output says that it wants of
--- them. `held` is whether it is known which bytes the device holds.
+-- Whatever the input and the content of the disk are: if those that the command uses are known, and
+-- so are the bytes of the scratch device if it uses that, the run did what an output says that the
+-- command must have. `held` is whether it is known which bytes the device holds.
 abbrev pub IsRun : {D : Type 0} → (D → ℕ) → (D → ℕ → Option DiskState) → (D → Option (List Tell)) → D → D → Status → Option (List ℕ) → Option (List ℕ) → Bool → Decoder → Compiler → Option Command → Type 0
 IsRun now disk told old new status left_old left_new held read compile command =
     HeldIsGiven held command → (input content : List ℕ) → IsGiven (reads_input command) left_old input → IsGiven (uses_disk command) (content_of (disk old (now old))) content
     → (output : Output) × Wants read compile command input content output × Meets (next_by read compile) now disk told old new status left_old left_new content output
 
--- Where the source, the disk or the scratch device failed, or memory ran out, nothing was told.
+-- If the source, the disk or the scratch device failed, or memory ran out, nothing was printed.
 abbrev pub IsSilent : Status → Option (List Tell) → Option (List Tell) → Type 0
 IsSilent statuses.Unreadable old new = new ≡ old
 IsSilent statuses.DiskFault old new = new ≡ old

@@ -1,4 +1,4 @@
--- What the commands of the program answer, for their definitions.
+-- How the results of the commands' functions meet the definitions of their outputs.
 use Rattle.std.specs.Prelude.{◌≡◌, ℕ, List, Option, Some}
 use Rattle.lc_base.specs.declared.answer.Query.{Query}
 use Rattle.block_codec.specs.declared.block.Block.{Block}
@@ -8,23 +8,23 @@ use Rattle.cli_lines.specs.declared.outcome.Ending.{Ending}
 use Rattle.cli_lines.specs.declared.outcome.Ending.TheVariants as endings
 use Rattle.cli_output.specs.Output.{Output, output_of, IsFmtOutput, IsVerifyOutput, IsExposeOutput}
 
--- An outcome, and what is left of the input, are the output.
+-- The output is that of this outcome and of what is left of the input.
 abbrev pub GivesOutput : Outcome → Option (List ℕ) → Output → Type 0
 GivesOutput outcome left output = (output ≡ output_of outcome output.left) × (left ≡ Some output.left)
 
--- An outcome, and what is left of the input, are an output of which this is so.
+-- The output of this outcome and of what is left of the input satisfies this.
 abbrev pub GivesAny : (Output → Type 0) → Outcome → Option (List ℕ) → Type 0
 GivesAny Wanted outcome left = (rest : List ℕ) × (left ≡ Some rest) × Wanted (output_of outcome rest)
 
--- An outcome, and what is left of the input, are what `fmt` tells of it.
+-- The outcome and what is left of the input are those of `fmt`.
 abbrev pub IsFmtOutcome : Outcome → Option (List ℕ) → List ℕ → Type 0
 IsFmtOutcome outcome left input = GivesAny (IsFmtOutput input) outcome left
 
--- An outcome, and what is left of the input, are what `verify` tells of it.
+-- The outcome and what is left of the input are those of `verify`.
 abbrev pub IsVerifyOutcome : List ℕ → Query → Outcome → Option (List ℕ) → List ℕ → Type 0
 IsVerifyOutcome root query outcome left input = GivesAny (IsVerifyOutput root query input) outcome left
 
--- An outcome, and what is left of the input, are what `expose` tells of it against the blocks of the log.
+-- The outcome and what is left of the input are those of `expose` against the blocks of the log.
 abbrev pub IsExposeOutcome : List ℕ → Query → ℕ → List Block → Outcome → Option (List ℕ) → List ℕ → Type 0
 IsExposeOutcome root query root_at blocks outcome left input = GivesAny (IsExposeOutput compiled_in root query root_at input blocks) outcome left
 
@@ -34,8 +34,8 @@ EndsAsked endings.Done = Unit {0}
 EndsAsked endings.Beyond = Unit {0}
 EndsAsked other = ⊥
 
--- How the search for a clash with a proof ends: it was made, the chain has no such block, the proof is not
--- accepted, or the input is none.
+-- How the search for a clash with a proof ends: it was made, the chain has no such block, the proof
+-- is not accepted, or the input is no hex or too long.
 abbrev pub EndsExposed : Ending → Type 0
 EndsExposed endings.Done = Unit {0}
 EndsExposed endings.Beyond = Unit {0}

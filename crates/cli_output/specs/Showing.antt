@@ -1,4 +1,4 @@
--- What an answer shows that `verify` tells, and what `expose` tells of a wrong one.
+-- What the answer that `verify` prints proves, and what `expose` prints for a wrong one.
 use Rattle.std.specs.Prelude.{◌≡◌, ◌≢◌, ◌⊎◌, ◌≤◌, ℕ, List, [], ◌∷◌, map, Ok}
 use Rattle.hex.specs.Hex.{decode_of}
 use Rattle.lc_base.specs.declared.answer.Answer.{Answer}
@@ -22,28 +22,30 @@ use Rattle.cli_output.specs.Proofs.{clash_line}
 abbrev pub IsProofInHex : List ℕ → Proof → Type 0
 IsProofInHex input proof = (bytes : List ℕ) × (decode_of (hex_text input) ≡ Ok bytes) × Spells bytes proof
 
--- The lines are those of what replaying the blocks of any chain that has the root answers, up to the
--- block where it has it; or a text of the proof and one of that chain's ledger differ and have one digest.
+-- The lines are those of the answer of replaying the blocks of any chain that has the root, up to
+-- the block at which it has it; or a text of the proof and one of that chain's ledger differ and
+-- have one digest.
 abbrev pub TellsReplays : List ℕ → Query → Proof → List Line → Type 0
 TellsReplays root query proof lines =
     (compile : Compiler) (blocks : List Block) (block : ℕ) → HasRoot compile blocks block root
     → (lines ≡ map plain (answer_lines (replayed_answer compile blocks block query))) ⊎ ClashesWithReplay compile blocks block proof
 
--- Where `verify` ends well, the input is a proof, and what it tells is the answer of every chain with the
--- root, or there is a clash.
+-- If `verify` ends well, the input is a proof, and what it prints is the answer of every chain with
+-- the root, or there is a clash.
 abbrev pub VerifiedAnswersHold : List ℕ → Query → List ℕ → Type 0
 VerifiedAnswersHold root query input =
     (output : Output) → IsVerifyOutput root query input output → output.status ≡ statuses.Done
     → (proof : Proof) × IsProofInHex input proof × TellsReplays root query proof output.lines
 
--- The line tells a text of the first list and one of the second, which differ and have one digest.
+-- The line is that of a text of the first list and one of the second, which differ and have one
+-- digest.
 abbrev pub TellsClash : List (List ℕ) → List (List ℕ) → List Line → Type 0
 TellsClash given own lines =
     (one : ℕ) × (other : ℕ) × ClashAt given own one other × (lines ≡ plain (clash_line (text_at given one) (text_at own other)) ∷ [])
 
--- Where a chain has the root at the block, the question is about no later one, and `verify` accepts the
--- input with another answer than that of replaying the chain up to the block, `expose` tells a text of the
--- proof and one of the chain's ledger that differ and have one digest.
+-- If a chain has the root at the block, the question is about no later one, and `verify` accepts
+-- the input with another answer than that of replaying the chain up to the block, then `expose`
+-- prints a text of the proof and one of the chain's ledger that differ and have one digest.
 abbrev pub WrongAnswersAreTold : List ℕ → Query → ℕ → List ℕ → Type 0
 WrongAnswersAreTold root query root_at input =
     (compile : Compiler) (blocks : List Block) (answer : Answer) (output : Output)

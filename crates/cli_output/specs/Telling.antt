@@ -1,4 +1,4 @@
--- What was told of a command, and how it was answered.
+-- What was printed for a command, and what its function returned.
 use Rattle.std.specs.Prelude.{◌≡◌, ℕ, List, [], ◌∷◌, map, Option, Result, Ok, Err, IfOk, IsErrOf, is_ok}
 use Rattle.lc_base.specs.Faults.{HasCause}
 use Rattle.lc_io.specs.Disk.{DiskState, Stays}
@@ -24,9 +24,9 @@ use Rattle.cli_output.specs.declared.stop.OutcomeStop.{OutcomeStop}
 use Rattle.cli_output.specs.declared.stop.OutcomeStop.TheVariants as outcomes
 use Rattle.cli_append.specs.declared.ending.RunStop.TheVariants as stops
 
--- ---- answers
+-- ---- results
 
--- The status that a stop gives.
+-- The exit status of a stop.
 abbrev pub status_of_stop : RunStop → Status
 status_of_stop stops.Unreadable = statuses.Unreadable
 status_of_stop stops.Untold = statuses.Untold
@@ -34,41 +34,41 @@ status_of_stop stops.DiskFault = statuses.DiskFault
 status_of_stop stops.ScratchFault = statuses.ScratchFault
 status_of_stop stops.Memory = statuses.Memory
 
--- The status that a command gives.
+-- The exit status of a command's result.
 abbrev pub status_of_result : Result Ending RunStop → Status
 status_of_result (Ok ending) = status_of ending
 status_of_result (Err stop) = status_of_stop stop
 
--- The status of words that are no command.
+-- The exit status for words that are no command.
 abbrev pub status_of_usage : {T : Type 0} → Result T RunStop → Status
 status_of_usage (Ok told) = statuses.Usage
 status_of_usage (Err stop) = status_of_stop stop
 
--- How a command ends that appends.
+-- How the command `append` ends, by the result of appending.
 abbrev pub append_answer : Result AppendEnd RunStop → Result Ending RunStop
 append_answer (Ok end) = Ok (fold_ending (fold_end end))
 append_answer (Err stop) = Err stop
 
--- Why there is no outcome, for a source.
+-- The stop for a failure of a source.
 abbrev pub stop_of_source : HostError → OutcomeStop
 stop_of_source reads.Fault = outcomes.Unreadable
 stop_of_source reads.Memory = outcomes.Memory
 
--- Why a command stopped that has no outcome.
+-- Why a command without an outcome stopped.
 abbrev pub stop_of_outcome : OutcomeStop → RunStop
 stop_of_outcome outcomes.Unreadable = stops.Unreadable
 stop_of_outcome outcomes.ScratchFault = stops.ScratchFault
 stop_of_outcome outcomes.Memory = stops.Memory
 
--- What a command does to the machine that reads the log and tells of it: the disk stays as it is, at each
--- moment; and the disk and the wire are blamed exactly where they failed.
+-- What a command that reads the log, and prints of it, does to the machine: the disk stays as it
+-- is, at each moment; and the disk and the wire are blamed exactly if they failed.
 pub record TellsOfLog {D : Type 0} (now : D → ℕ) (disk : D → ℕ → Option DiskState) (disk_faults wire_faults : D → ℕ)
     (old new : D) (result : Result Ending RunStop) : Type 0 where
   pub stays : Stays now disk old new
   pub disk_fault : HasCause (disk_faults old) (disk_faults new) (IsErrOf result stops.DiskFault)
   pub untold : HasCause (wire_faults old) (wire_faults new) (IsErrOf result stops.Untold)
 
--- What only tells is stopped by no source, no disk and no scratch device.
+-- What only prints is stopped by no source, no disk and no scratch device.
 pub record OnlyTells {T : Type 0} (result : Result T RunStop) : Type 0 where
   pub reads : IsErrOf result stops.Unreadable → ⊥
   pub writes : IsErrOf result stops.DiskFault → ⊥
@@ -76,28 +76,29 @@ pub record OnlyTells {T : Type 0} (result : Result T RunStop) : Type 0 where
 
 -- ---- outcomes
 
--- All pieces of an outcome were told, and its ending is answered; or a prefix of them was told.
+-- All pieces of an outcome were printed, and its ending is returned; or a prefix of them was
+-- printed.
 pub record Says {D : Type 0} (next : NextBlock) (now : D → ℕ) (disk : D → ℕ → Option DiskState) (told : D → Option (List Tell)) (old new : D) (outcome : Outcome) (result : Result Ending RunStop) : Type 0 where
   pub lines : Telling next now disk told old new (map plain outcome.pieces) (is_ok result)
   pub ending : IfOk result (λ ending. ending ≡ outcome.ending)
 
--- A command stopped so before it told anything.
+-- A command stopped for this reason before it printed anything.
 pub record StopsSilent {D : Type 0} (told : D → Option (List Tell)) (old new : D) (stop : RunStop) (result : Result Ending RunStop) : Type 0 where
   pub stop_is : result ≡ Err stop
   pub silent : told new ≡ told old
 
--- What became of a command that has an outcome, or that stopped before it told anything.
+-- What became of a command that has an outcome, or that stopped before it printed anything.
 abbrev pub TellsResult : {D : Type 0} → NextBlock → (D → ℕ) → (D → ℕ → Option DiskState) → (D → Option (List Tell)) → D → D → Result Outcome HostError → Result Ending RunStop → Type 0
 TellsResult next now disk told old new (Ok outcome) result = Says next now disk told old new outcome result
 TellsResult next now disk told old new (Err reads.Fault) result = StopsSilent told old new stops.Unreadable result
 TellsResult next now disk told old new (Err reads.Memory) result = StopsSilent told old new stops.Memory result
 
--- The same of a command that may also have been stopped by the scratch device.
+-- The same for a command that the scratch device may have stopped too.
 abbrev pub TellsAnswer : {D : Type 0} → NextBlock → (D → ℕ) → (D → ℕ → Option DiskState) → (D → Option (List Tell)) → D → D → Result Outcome OutcomeStop → Result Ending RunStop → Type 0
 TellsAnswer next now disk told old new (Ok outcome) result = Says next now disk told old new outcome result
 TellsAnswer next now disk told old new (Err stop) result = StopsSilent told old new (stop_of_outcome stop) result
 
--- What is told where there is no node to start with.
+-- What is printed if no node could be started.
 abbrev pub TellsStart : {D : Type 0} → NextBlock → (D → ℕ) → (D → ℕ → Option DiskState) → (D → Option (List Tell)) → D → D → StartError → Result Ending RunStop → Type 0
 TellsStart next now disk told old new starts.NotALog result = Says next now disk told old new (outcome_with (not_a_log_line ∷ []) endings.NotALog) result
 TellsStart next now disk told old new (starts.Damaged at) result = Says next now disk told old new (outcome_with (damaged_line at ∷ []) endings.Damaged) result

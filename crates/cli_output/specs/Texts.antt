@@ -1,12 +1,12 @@
--- Texts, cut into lines.
+-- Texts, cut into lines after each byte 0x0A.
 use Rattle.std.specs.Prelude.{ℕ, ◌==◌, if◌then◌else◌, List, [], ◌∷◌, ◌++◌}
 
--- What stands after the last line end, where something does.
+-- The bytes after the last line end, as a line, if there are any.
 abbrev pub last_line : List ℕ → List (List ℕ)
 last_line [] = []
 last_line (byte ∷ bytes) = (byte ∷ bytes) ∷ []
 
--- The lines of a text after the beginning of its first line.
+-- The lines of a text, if its first line begins with these bytes.
 abbrev pub lines_after : List ℕ → List ℕ → List (List ℕ)
 lines_after begun [] = last_line begun
 lines_after begun (byte ∷ bytes) = if byte == 10 then (begun ++ byte ∷ []) ∷ lines_after [] bytes else lines_after (begun ++ byte ∷ []) bytes

@@ -1,4 +1,4 @@
-//! What each command is to tell and to leave, the telling of it, and why a command stops before its
+//! What each command must print and leave, the printing of it, and why a command stops before its
 //! end.
 #![tactic(auto)]
 

@@ -1,4 +1,4 @@
-//! What is told of a disk that holds no log.
+//! What is printed for a disk that holds no log: it is left as it is.
 
 ghost use Rattle.std.specs.Prelude.{◌≡◌, true, [], ◌∷◌, Option, IfOk, IsErrOf};
 ghost use Rattle.lc_base.specs.Faults.{HasCause};
@@ -21,21 +21,21 @@ use lc_io::Wire;
 use recovery::StartError;
 use std::alloc::Global;
 
-/// The disk holds something else than a log.
+/// The outcome for a disk that holds something other than a log.
 fn not_a_log(alloc: Global) -> Result<Outcome, Memory>
     ensures { IfOk result (λ outcome. outcome ≡ outcome_with (not_a_log_line ∷ []) Ending.NotALog) }
 {
     Outcome::from_line(alloc, not_a_log_line(alloc)?, Ending::NotALog)
 }
 
-/// The log is damaged at this offset.
+/// The outcome for a log that is damaged at this offset.
 fn damaged_outcome(alloc: Global, at: u64) -> Result<Outcome, Memory>
     ensures { IfOk result (λ outcome. outcome ≡ outcome_with (damaged_line at ∷ []) Ending.Damaged) }
 {
     Outcome::from_line(alloc, damaged_line(alloc, at)?, Ending::Damaged)
 }
 
-/// Tells that there is no node to start with, or says why the disk was not read.
+/// Prints why no node could be started, or returns why the disk was not read.
 pub fn tell_start<M: Wire>(
     alloc: Global,
     machine: &mut M,

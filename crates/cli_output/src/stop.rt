@@ -1,4 +1,4 @@
-//! Why a command stops before its end.
+//! Why a command stops before its end, as an exit status.
 
 ghost use Rattle.std.specs.Prelude.{◌≡◌};
 ghost use Rattle.cli_output.specs.Telling.{status_of_stop, stop_of_outcome, stop_of_source};
@@ -7,7 +7,7 @@ use cli_append::RunStop;
 use cli_lines::Status;
 use lc_base::{HostError, Memory};
 
-/// The status that a stop gives.
+/// The exit status of a stop.
 pub fn status_of_stop(stop: RunStop) -> Status
     ensures { result ≡ status_of_stop stop }
 {
@@ -20,19 +20,19 @@ pub fn status_of_stop(stop: RunStop) -> Status
     }
 }
 
-/// Why a command has no outcome to tell.
+/// Why a command has no outcome to print.
 #[derive(Clone, Copy, Debug, PartialEq, Eq)]
 pub enum OutcomeStop {
-    /// The source failed.
+    /// Reading the input failed.
     Unreadable,
     /// A call of the scratch device failed.
     ScratchFault,
-    /// Out of memory.
+    /// Memory ran out.
     Memory,
 }
 
 impl OutcomeStop {
-    /// Why the command stops then.
+    /// Why the command stops.
     pub fn run_stop(self) -> RunStop
         ensures { result ≡ stop_of_outcome self }
     {

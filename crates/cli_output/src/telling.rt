@@ -1,4 +1,4 @@
-//! Telling what a command has to tell.
+//! Printing outcomes: a command that stops without an outcome has printed nothing.
 
 ghost use Rattle.std.specs.Prelude.{◌≡◌, [], ◌∷◌, map, is_ok, true, IfOk, IfErr, IsErr, IsErrOf, Option, Err};
 ghost use Rattle.lc_base.specs.Faults.{HasCause};
@@ -26,7 +26,7 @@ use lc_base::{Bytes, HostError, Memory};
 use lc_io::{Failed, Wire};
 use std::alloc::Global;
 
-/// Tells each piece by itself, in order.
+/// Prints each piece by a call of its own, in order.
 fn tell_all<M: Wire>(machine: &mut M, pieces: &[Bytes]) -> Result<(), Failed>
     ensures lines { (next : NextBlock) → Telling next M.now M.disk M.told machine.old machine.new (map plain pieces.now) (is_ok result) }
     ensures disk { LeavesDisk M.now M.disk M.disk_faults machine.old machine.new }
@@ -41,7 +41,7 @@ fn tell_all<M: Wire>(machine: &mut M, pieces: &[Bytes]) -> Result<(), Failed>
     Ok(())
 }
 
-/// Tells the pieces of an outcome.
+/// Prints the pieces of an outcome.
 pub fn tell_outcome<M: Wire>(machine: &mut M, outcome: &Outcome) -> Result<Ending, RunStop>
     ensures says { (next : NextBlock) → Says next M.now M.disk M.told machine.old machine.new outcome.now result }
     ensures stop { IfErr result (λ stop. stop ≡ RunStop.Untold) }
@@ -54,7 +54,7 @@ pub fn tell_outcome<M: Wire>(machine: &mut M, outcome: &Outcome) -> Result<Endin
     }
 }
 
-/// Tells the outcome of a command, or says why it stopped before it told anything.
+/// Prints the outcome of a command, or returns why it stopped before it printed anything.
 pub fn tell_result<M: Wire>(
     machine: &mut M,
     outcome: Result<Outcome, HostError>,
@@ -76,8 +76,8 @@ pub fn tell_result<M: Wire>(
     }
 }
 
-/// Tells the outcome of a command, or says why it stopped before it told anything: also for the scratch
-/// device.
+/// Prints the outcome of a command, or returns why it stopped before it printed anything, which may
+/// be a fault of the scratch device too.
 pub fn tell_answer<M: Wire>(
     machine: &mut M,
     answer: Result<Outcome, OutcomeStop>,
@@ -100,7 +100,7 @@ pub fn tell_answer<M: Wire>(
     }
 }
 
-/// Tells an outcome, unless there was no memory for it.
+/// Prints an outcome, unless memory ran out while it was made.
 pub fn tell_made<M: Wire>(
     machine: &mut M,
     outcome: Result<Outcome, Memory>,
@@ -118,7 +118,7 @@ pub fn tell_made<M: Wire>(
     }
 }
 
-/// Tells `usage`.
+/// Prints `usage`.
 pub fn tell_usage<M: Wire>(alloc: Global, machine: &mut M) -> Result<(), RunStop>
     ensures lines { (next : NextBlock) → Telling next M.now M.disk M.told machine.old machine.new (plain usage_line ∷ []) (is_ok result) }
     ensures silent { IsSilent (status_of_usage result) (M.told machine.old) (M.told machine.new) }

@@ -1,4 +1,4 @@
-//! The number with which the program exits.
+//! The program's exit: the number of its status.
 
 ghost use Rattle.std.specs.{Prelude.{◌≡◌}, Process.{exit_status}};
 ghost use Rattle.cli_lines.specs.Status.{status_number};
@@ -6,7 +6,7 @@ ghost use Rattle.cli_lines.specs.Status.{status_number};
 use cli_lines::Status;
 use std::process::ExitCode;
 
-/// What the program exits with.
+/// The exit code with the number of the status.
 pub fn exit_of(status: Status) -> ExitCode
     ensures { exit_status result ≡ status_number status }
 {

@@ -1,4 +1,4 @@
-//! A run over the host.
+//! A run over the host: standard input and output, the log's file, and a scratch file.
 
 ghost use Rattle.std.specs.{
   Prelude.{◌≡◌, drop, map, string_bytes, Option, IfOk, IfErr, IfSome},
@@ -19,16 +19,16 @@ use lc_io::HostSource;
 use std::env::{self, Args, VarError};
 use std::io;
 
-/// The file of the log, in the present folder.
+/// The file of the log, in the current folder.
 const LOG_FILE: &str = "chain.log";
 
-/// The variable that names the folder for files of a run, as for other programs.
+/// The environment variable that names the folder of temporary files.
 const SCRATCH_FOLDER: &str = "TMPDIR";
 
-/// The folder of the scratch file where the variable names none that is a text.
+/// The folder of the scratch file if the variable is unset, empty or no text.
 const PRESENT_FOLDER: &str = ".";
 
-/// The scratch device of a run. It has touched no file.
+/// The scratch device of a run. It has not touched a file yet.
 fn scratch_of(rt: &HostRuntime) -> Result<FileScratch<'_>, Memory> {
     match env::var(rt, SCRATCH_FOLDER) {
         Ok(folder) if !folder.is_empty() => FileScratch::new(rt.alloc(), rt, folder.as_str()),
@@ -37,9 +37,9 @@ fn scratch_of(rt: &HostRuntime) -> Result<FileScratch<'_>, Memory> {
     }
 }
 
-/// Runs on words over standard input, standard output, the log and a scratch file.
+/// Runs on the words, over standard input, standard output, the log and a scratch file.
 fn run_on_words(rt: &HostRuntime, words: &[String]) -> Status
-    // Each status comes only of the commands that may end with it.
+    // Each command ends only with a status that it may end with.
     ensures ends { (command : Option Command) → IsCommand (map string_bytes words.now) command
         → MayEnd result command }
 {
@@ -54,15 +54,15 @@ fn run_on_words(rt: &HostRuntime, words: &[String]) -> Status
     status
 }
 
-/// Runs on the words that the program was started with, its name left out. The scratch file has no
-/// name but for an instant; where the system leaves it one, that is removed at the end, as far as
-/// it can be.
+/// Runs on the words that the program was started with, without the program's name. The scratch
+/// file has no name except for an instant; if the system leaves it one, the name is removed at the
+/// end if that is possible.
 pub fn run_on_host(rt: &HostRuntime, args: io::Result<Args>) -> Status
-    // Each status comes only of the commands that may end with it.
+    // Each command ends only with a status that it may end with.
     ensures ends { IfOk args (λ args. (command : Option Command)
         → IsCommand (map string_bytes (drop 1 (into_iter_items args))) command
         → MayEnd result command) }
-    // Where there is no memory for the words, the program ends with the status of that.
+    // If there is no memory for the words, the program ends with the status for that.
     ensures memory { IfErr args
         (λ error. IfSome (status_without_words (error_kind error)) (λ status. result ≡ status)) }
 {

@@ -1,4 +1,4 @@
-//! The words that the program was started with.
+//! The words that the program was started with: if one of them is no text, they are no command.
 
 ghost use Rattle.std.specs.{
   Prelude.{◌≡◌, true, [], drop, Err, IfOk, IfErr, MatchOption, is_ok},
@@ -28,7 +28,7 @@ fn after_name(alloc: Global, args: Args) -> Result<Vec<String>, Memory>
     }
 }
 
-/// The status of a program that did not get its words, for want of memory; `None` where one of them
+/// The status of a program that could not read its words because memory ran out; `None` if a word
 /// is no text.
 fn status_without_words(kind: ErrorKind) -> Option<Status>
     ensures { result ≡ status_without_words kind }
@@ -39,8 +39,8 @@ fn status_without_words(kind: ErrorKind) -> Option<Status>
     }
 }
 
-/// The words to be run on, or the status to end with. A word that is no text is part of no command:
-/// then there are none.
+/// The words to run on, or the status to end with. If a word is no text the words are no command,
+/// and none are returned.
 pub fn words_of(alloc: Global, args: io::Result<Args>) -> Result<Vec<String>, Status>
     ensures words { IfOk args (λ args. IfOk result (λ words. words.items ≡ drop 1 (into_iter_items args))) }
     ensures no_words { IfErr args (λ error. MatchOption (status_without_words (error_kind error)) ((is_ok result ≡ true) × IfOk result (λ words. words.items ≡ [])) (λ status. result ≡ Err status)) }

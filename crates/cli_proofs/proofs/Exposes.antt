@@ -1,4 +1,4 @@
--- What `expose` tells, by cases.
+-- The output of `expose`, by cases.
 use Rattle.std.proofs.Common.{◌≡◌, ◌∙◌, ℕ, ◌+◌, ◌-◌, ◌<◌, ◌≤◌, Bool, true, false, cond, List, []}
 use Rattle.std.proofs.Common.{◌∷◌, length, map, drop, Option, Some, None, Result, Ok, Err, is_ok}
 use Rattle.std.proofs.Common.{refl, sym, ap, subst, arith}
@@ -388,7 +388,7 @@ module _ {D : Type 0} (now : D → ℕ) (disk : D → ℕ → Option DiskState)
         met.2,
       )
 
-  -- or none
+  -- or no node was found
   pub expose_refused : (old mid new : D) (root : Digest) (query : Query) (root_at : ℕ)
       (error : StartError) (result : Result Ending RunStop) (left : Option (List ℕ)) (held : Bool)
       → IsSettled (disk old (now old)) → Stays now disk old mid → told mid ≡ told old

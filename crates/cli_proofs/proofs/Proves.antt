@@ -1,4 +1,4 @@
--- What `prove` tells of the blocks of a log, by cases.
+-- The output of `prove` over the blocks of a log, by cases.
 use Rattle.std.proofs.Common.{◌≡◌, ℕ, ◌<◌, ◌≤◌, Bool, true, cond, leb, ltb, ◌&&◌, List, [], ◌∷◌}
 use Rattle.std.proofs.Common.{length, map, Some, Result, Ok, Err, refl, sym, ap, ◌∙◌, subst, arith}
 use Rattle.std.specs.Prelude.{IfErr}
@@ -31,7 +31,7 @@ use Rattle.cli_output.specs.declared.stop.OutcomeStop.{OutcomeStop}
 use Rattle.cli_output.specs.declared.stop.OutcomeStop.TheVariants as outcomes
 use Rattle.cli_output.specs.Proofs.{proof_line}
 
--- what is told, by whether the chain has the block and the question is about no later one
+-- the outcome, by whether the chain has the block and the question is about no later one
 abbrev within : Bool → Query → ℕ → List Block → Outcome
 within fits query root_at blocks = cond fits
     (outcome_with (proof_line (made_in compiled_in blocks query root_at) ∷ []) endings.Done)
@@ -67,7 +67,7 @@ proved kept blocks query root_at bytes told outcome stands (low, early) spelled 
     (made_is kept blocks query root_at stands)))
     ∙ sym (told_of query root_at blocks (omega (arith, low, as_many kept blocks stands)) early)
 
--- ---- what is told of what was answered
+-- ---- what is printed for what was returned
 
 pub proved_told : (ledger : Ledger) (kept : ChainState) (query : Query) (root_at : ℕ)
     (proof bytes told : List ℕ) (outcome : Outcome) → ledger ≡ ledger_kept kept

@@ -1,4 +1,4 @@
--- What `verify` tells, by cases.
+-- The output of `verify`, by cases.
 use Rattle.std.proofs.Common.{◌≡◌, ℕ, ◌+◌, List, [], ◌++◌, drop, Option, Some, None, Result, Ok, Err, refl, sym, ap, ◌∙◌, subst}
 use Rattle.std.specs.Prelude.{codes, decimal, IfOk, IfSome}
 use Rattle.lc_base.specs.declared.answer.Query.{Query}
@@ -18,7 +18,7 @@ use Rattle.cli_output.specs.Proofs.{hex_cause, verification_outcome}
 use Rattle.cli_output.specs.Running.{MayEnd}
 use Rattle.cli_output.specs.Scanning.{IsVerifyOutcome}
 
--- an input of which a byte is no digit
+-- an input with a byte that is no hex digit
 pub bad_at : {E : Type 0} (result : Result Outcome E) (fault : HexFault) (at : ℕ) (text : List ℕ) → fault ≡ At at → text ≡ codes "at " ++ decimal at → IfOk result (λ outcome. outcome ≡ bad_input text) → IfOk result (λ outcome. outcome ≡ bad_input (hex_cause fault))
 bad_at result fault at text is told made = subst (λ (t : List ℕ). IfOk result (λ outcome. outcome ≡ bad_input t)) (told ∙ sym (ap hex_cause is)) made
 

@@ -1,4 +1,4 @@
--- What is told of an input that is held against the ledger of a chain.
+-- What `expose` prints for an input, against the ledger of a chain.
 use Rattle.std.specs.Prelude.{◌≡◌, ℕ, ◌&&◌, nat_lt, nat_le, Bool, false, List, [], ◌∷◌, length, Option, Some, None}
 use Rattle.lc_base.specs.declared.answer.Query.{Query}
 use Rattle.chain_replay.specs.Chain.{ChainState}
@@ -19,11 +19,11 @@ use Rattle.cli_output.specs.Proofs.{verification_outcome, is_accepted, IsAccepte
 abbrev pub ledger_kept : ChainState → Ledger
 ledger_kept kept = record { rows = kept.rows; digests = kept.digests }
 
--- Whether a ledger reaches the block of the root, and the question is about no later one.
+-- Whether a ledger has the block of the root, and the question is about no later one.
 abbrev pub reaches : Ledger → Query → ℕ → Bool
 reaches ledger query root_at = nat_lt root_at (length ledger.digests) && nat_le query.at root_at
 
--- What is told of two texts that clash, or that none do.
+-- The outcome for two texts that clash, or for none.
 abbrev pub found_outcome : Option Clash → Outcome
 found_outcome None = outcome_with (no_clash_line ∷ []) endings.Done
 found_outcome (Some clash) = outcome_with (clash_line clash.proof_text clash.chain_text ∷ []) endings.Done
@@ -32,8 +32,8 @@ found_outcome (Some clash) = outcome_with (clash_line clash.proof_text clash.cha
 abbrev pub texts_kept : Ledger → ℕ → List (List ℕ)
 texts_kept ledger at = ledger_texts ledger.rows ledger.digests at
 
--- What is told of an input that was read whole, against a ledger up to a block: what
--- `verify` tells where it does not accept it, else the first clash with the proof, or that there is none.
+-- The outcome for an input that was read whole, against a ledger up to a block: that of `verify` if
+-- it does not accept the input, else the first clash with the proof, or that there is none.
 pub data IsHeld (ledger : Ledger) (root : List ℕ) (query : Query) (root_at : ℕ) (input : List ℕ) : Outcome → Type 0 where
   Refused : (told : Verification) → IsVerification root query input told → is_accepted told ≡ false →
       IsHeld ledger root query root_at input (verification_outcome told)

@@ -1,4 +1,5 @@
-//! The command `expose`: the first clash of an accepted proof with the blocks of the log.
+//! The command `expose`: the first clash of an accepted proof with the blocks of the log. The input
+//! is not read unless the log reaches the block of the root.
 
 ghost use Rattle.std.specs.Prelude.{◌≡◌, ◌<◌, ◌≤◌, ◌++◌, ℕ, List, Option, true, length, codes, string_bytes, Some, IfOk, IfSome, IsErrOf};
 ghost use Rattle.lc_base.specs.Faults.{HasCause};
@@ -42,7 +43,7 @@ use recovery::Node;
 use scratch_model::Scratch;
 use std::alloc::{AllocError, Global};
 
-/// Two texts in lower-case hex, after a word.
+/// The text of two texts that clash, in lower-case hex.
 fn clash_text(alloc: Global, given: &[u8], own: &[u8]) -> Result<String, AllocError>
     ensures { IfOk result (λ text. string_bytes text ≡ codes "clash " ++ encode_lower given.now ++ codes " " ++ encode_lower own.now) }
 {
@@ -62,7 +63,7 @@ fn clash_line(alloc: Global, clash: &Clash) -> Result<Bytes, Memory>
     line_of(text)
 }
 
-/// What is told of two texts that clash, or that none do.
+/// The outcome for two texts that clash, or for none.
 fn found_outcome(alloc: Global, found: &Option<Clash>) -> Result<Outcome, Memory>
     ensures { IfOk result (λ outcome. outcome ≡ found_outcome found.now) }
 {
@@ -75,7 +76,7 @@ fn found_outcome(alloc: Global, found: &Option<Clash>) -> Result<Outcome, Memory
     }
 }
 
-/// What is told of a proof that is accepted.
+/// The outcome for a proof that is accepted.
 fn accepted_outcome<S: Scratch>(
     alloc: Global,
     root_at: u32,
@@ -86,9 +87,9 @@ fn accepted_outcome<S: Scratch>(
     requires within { root_at < length lineage.old.digests }
     requires long { length proof.now.audit ≡ audit_length proof.now.leaf_index proof.now.leaf_count }
     requires agrees { AgreesWith lineage.old (S.state scratch.old) }
-    // Where it is known which bytes the scratch device holds:
+    // Holds if it is known which bytes the scratch device holds.
     ensures outcome { is_known (S.state scratch.old) ≡ true → IfOk result (λ outcome. (found : Option Clashes) × IsFound (proof_texts proof.now) (texts_kept (ledger_in lineage.old) root_at) found × (outcome ≡ found_outcome found)) }
-    // Whether that is known or not:
+    // Holds in either case.
     ensures ends { IfOk result (λ outcome. EndsExposed outcome.ending) }
     ensures reads { IsErrOf result OutcomeStop.Unreadable → ⊥ }
     ensures cause { HasCause (S.scratch_faults scratch.old) (S.scratch_faults scratch.new) (IsErrOf result OutcomeStop.ScratchFault) }
@@ -101,7 +102,7 @@ fn accepted_outcome<S: Scratch>(
     }
 }
 
-/// What is told of an input that was read whole.
+/// The outcome for an input that was read whole.
 fn input_outcome<S: Scratch>(
     alloc: Global,
     root: &Digest,
@@ -137,8 +138,8 @@ fn reaches(lineage: &Lineage, query: &Query, root_at: u32) -> bool
     }
 }
 
-/// What is told of the input, against the lineage of a chain. Nothing of it is read where that doesn't
-/// reach the block of the root, or the question is about a later one.
+/// The outcome for the input, against the lineage of a chain. Nothing of the input is read if the
+/// lineage doesn't have the block of the root, or if the question is about a later one.
 fn held_outcome<I: Source, S: Scratch>(
     alloc: Global,
     root: &Digest,
@@ -167,7 +168,7 @@ fn held_outcome<I: Source, S: Scratch>(
     }
 }
 
-/// The same of the blocks of a node, which is given up.
+/// The same for the blocks of a node, which is discarded.
 fn last_held<I: Source, S: Scratch>(
     alloc: Global,
     root: &Digest,
@@ -189,8 +190,8 @@ fn last_held<I: Source, S: Scratch>(
     outcome
 }
 
-/// Tells the first clash of the proof that the input is in hex, for one who has the root, with the blocks
-/// of the log up to one; or why it is not accepted.
+/// Prints the first clash of the proof that the input is, in hex, under this root, with the blocks
+/// of the log up to `root_at`; or why the proof is not accepted.
 pub fn expose<I: Source, M: Disk + Wire, S: Scratch>(
     alloc: Global,
     root: &Digest,

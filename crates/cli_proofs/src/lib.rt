@@ -1,4 +1,4 @@
-//! The commands about proofs.
+//! The commands about proofs: none of them changes the log.
 #![tactic(auto)]
 
 mod exposing;

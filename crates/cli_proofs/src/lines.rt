@@ -1,11 +1,11 @@
-//! Lines of a text.
+//! Lines of texts: a text, and the byte 0x0A.
 
 ghost use Rattle.std.specs.Prelude.{◌≡◌, string_bytes, IfOk};
 ghost use Rattle.cli_lines.specs.Lines.{line};
 
 use lc_base::{Bytes, Memory};
 
-/// A text, as a line.
+/// The text, and the byte that ends a line.
 pub(crate) fn line_of(text: String) -> Result<Bytes, Memory>
     ensures { IfOk result (λ bytes. bytes ≡ line (string_bytes text)) }
 {

@@ -32,14 +32,14 @@ use recovery::Node;
 use scratch_model::Scratch;
 use std::alloc::Global;
 
-/// Bytes in lower-case hex, as a line.
+/// The line of bytes in lower-case hex.
 fn hex_line(alloc: Global, bytes: &[u8]) -> Result<Bytes, Memory>
     ensures { IfOk result (λ told. told ≡ line (encode_lower bytes.now)) }
 {
     line_of(hex::encode(alloc, bytes)?)
 }
 
-/// A proof of the answer to a question over the lineage of a chain, or that it is beyond.
+/// The outcome of `prove` over the lineage of a chain: the proof, or that the block is beyond it.
 fn proof_outcome<S: Scratch>(
     alloc: Global,
     query: &Query,
@@ -48,10 +48,10 @@ fn proof_outcome<S: Scratch>(
     scratch: &mut S,
 ) -> Result<Outcome, OutcomeStop>
     requires agrees { AgreesWith lineage.old (S.state scratch.old) }
-    // Where it is known which bytes the scratch device holds:
+    // Holds if it is known which bytes the scratch device holds.
     ensures outcome { is_known (S.state scratch.old) ≡ true → (kept : ChainState) → ledger_in lineage.old ≡ ledger_kept kept
         → IfOk result (λ outcome. (blocks : List Blocks) → StandsFor kept blocks → outcome ≡ prove_outcome compiled_in query.now root_at blocks) }
-    // Whether that is known or not:
+    // Holds in either case.
     ensures ends { IfOk result (λ outcome. EndsAsked outcome.ending) }
     ensures reads { IsErrOf result OutcomeStop.Unreadable → ⊥ }
     ensures cause { HasCause (S.scratch_faults scratch.old) (S.scratch_faults scratch.new) (IsErrOf result OutcomeStop.ScratchFault) }
@@ -67,7 +67,7 @@ fn proof_outcome<S: Scratch>(
     }
 }
 
-/// The same of the blocks of a node, which is given up.
+/// The same for the blocks of a node, which is discarded.
 fn last_proof<S: Scratch>(
     alloc: Global,
     query: &Query,
@@ -87,8 +87,8 @@ fn last_proof<S: Scratch>(
     outcome
 }
 
-/// Tells a proof of the answer to a question over the blocks of the log, for one who has the root at a
-/// block.
+/// Prints a proof of the answer to a question over the blocks of the log, for one who has the root
+/// at a block.
 pub fn prove<M: Disk + Wire, S: Scratch>(
     alloc: Global,
     query: &Query,

@@ -1,4 +1,4 @@
-//! The command `verify`: the answer of a proof, or why it is not accepted.
+//! The command `verify`: the answer of a proof, or why it is not accepted. It needs no log.
 
 ghost use Rattle.std.specs.Prelude.{◌≡◌, [], ◌∷◌, Some, IfOk, IfSome, IsErrOf};
 ghost use Rattle.lc_base.specs.Faults.{HasCause};
@@ -18,14 +18,14 @@ use proof_checks::Reject;
 use proof_commands::{HexFault, Verification, rejected_line, verify_hex};
 use std::alloc::Global;
 
-/// What is told of a proof that is not accepted.
+/// The outcome for a proof that is not accepted.
 pub(crate) fn rejected_outcome(alloc: Global, reject: &Reject) -> Result<Outcome, Memory>
     ensures { IfOk result (λ outcome. outcome ≡ outcome_with (rejected_line reject.now ∷ []) Ending.Rejected) }
 {
     Outcome::from_line(alloc, rejected_line(alloc, reject)?, Ending::Rejected)
 }
 
-/// What is told of an input that is no hex.
+/// The outcome for an input that is no hex.
 pub(crate) fn bad_hex(alloc: Global, fault: &HexFault) -> Result<Outcome, Memory>
     ensures { IfOk result (λ outcome. outcome ≡ bad_input (hex_cause fault.now)) }
 {
@@ -38,7 +38,7 @@ pub(crate) fn bad_hex(alloc: Global, fault: &HexFault) -> Result<Outcome, Memory
     }
 }
 
-/// What is told of what is answered of a proof in hex.
+/// The outcome for what verifying a proof in hex returned.
 fn verification_outcome(alloc: Global, told: &Verification) -> Result<Outcome, Memory>
     ensures { IfOk result (λ outcome. outcome ≡ verification_outcome told.now) }
 {
@@ -52,7 +52,8 @@ fn verification_outcome(alloc: Global, told: &Verification) -> Result<Outcome, M
     }
 }
 
-/// The answer of the proof that the input is in hex, for one who has the root; or why it is not accepted.
+/// The outcome of `verify`: the answer of the proof that the input is, in hex, under this root; or
+/// why it is not accepted.
 pub fn verify<I: Source>(
     alloc: Global,
     root: &Digest,

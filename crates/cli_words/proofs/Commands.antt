@@ -1,4 +1,4 @@
--- Words and the command that they are.
+-- Single words have one spelling: what is parsed from a text spells the text.
 use Rattle.std.proofs.Common.{◌≡◌, ◌≢◌, ℕ, ◌<◌, ◌≤◌, ◌^◌, true, false, List, [], ◌∷◌, length, get_or, Some, None, Result, Ok, Err, sym, ap, ◌∙◌, arith, subst, inl, inr}
 use Rattle.std.specs.Prelude.{decimal}
 use Rattle.std.specs.Result.{result_ok}
@@ -19,7 +19,7 @@ starts_by_first : (text : List ℕ) → 0 < length text → 48 < get_or text 0 0
 starts_by_first [] some low high = absurd (omega arith)
 starts_by_first (first ∷ others) some low high = grind (arith, nat_tests)
 
--- every number is written in a form that starts as a number
+-- each number is spelled in a form that starts as a number
 pub decimal_starts : (n : ℕ) → n < 2 ^ 64 → starts_as_number (decimal n) ≡ true
 decimal_starts n fits =
     let numeral = decimal_is_IsNumeral n fits in
@@ -48,11 +48,11 @@ number_is text (Ok n) parsed starts =
     (omega (arith, value_is, small), sym (decimal-digits_value own text numeral.1 numeral.0 form.one_zero (omega (arith, small))) ∙ ap decimal (sym value_is))
 number_is text (Err e) parsed starts = λ n fits written. absurd (cc (parse-decimal 32 n text (Err e) fits (omega (arith, fits)) written parsed))
 
--- what does not start as a number is none
+-- a text that does not start as a number spells none
 pub no_number : (text : List ℕ) → starts_as_number text ≡ false → IsNumberOf text None
 no_number text starts = λ n fits written. let starts_is = ap starts_as_number written ∙ decimal_starts n (omega (arith, fits)) in absurd cc
 
--- a text writes one number alone, so that none that may not be made is written as one that may
+-- a text spells one number only, so it spells no count if its number is none
 pub not_counted : (text : List ℕ) (number : ℕ) → IsNumberOf text (Some number) → (IsCount number → ⊥) → IsCountOf text None
 not_counted text number (fits, is) not = λ blocks counted written.
     not (subst IsCount (decimal_injective blocks number (omega (arith, counted.1)) (omega (arith, fits)) (sym written ∙ is)) counted)
@@ -64,7 +64,7 @@ no_digest text error failed = λ digest is written.
     let read : decode_sized text 32 ≡ Ok digest.0 = ap (λ (t : List ℕ). decode_sized t 32) written ∙ decode_sized-encode_lower digest.0 32 is.length_is is.bytes in
     absurd (cc (sym failed ∙ read))
 
--- a text that is not as its digest is written
+-- a text that is not the spelling of the digest that it decodes to
 pub other_text : (text bytes : List ℕ) → decode_sized text 32 ≡ Ok bytes → (text ≡ encode_lower bytes → ⊥) → IsDigestOf text None
 other_text text bytes read not = λ digest is written.
     let again : decode_sized text 32 ≡ Ok digest.0 = ap (λ (t : List ℕ). decode_sized t 32) written ∙ decode_sized-encode_lower digest.0 32 is.length_is is.bytes in

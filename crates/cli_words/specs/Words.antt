@@ -1,4 +1,4 @@
--- The words of commands.
+-- The words of commands, and what it means that words are a command.
 use Rattle.std.specs.Prelude.{◌≡◌, ℕ, ◌<◌, ◌≤◌, ◌^◌, Bool, true, false, ◌&&◌, ◌||◌, ◌==◌, nat_le, List, [], ◌∷◌, length, Option, Some, None, codes, decimal}
 use Rattle.hex.specs.Hex.{IsBytes, encode_lower}
 use Rattle.lc_names.specs.KeyBytes.{IsKey}
@@ -11,7 +11,7 @@ use Rattle.cli_words.specs.declared.words.Generation.{Generation}
 use Rattle.cli_words.specs.declared.words.Command.{Command}
 use Rattle.cli_words.specs.declared.words.Command.TheVariants.{Scan, Fmt, Pack, Gen, Load, Append, Root, Ask, Prove, Verify, Expose}
 
--- The word for what is asked.
+-- The word for a kind of question.
 abbrev pub kind_word : Kind → List ℕ
 kind_word Hist = codes "hist"
 kind_word Back = codes "back"
@@ -34,7 +34,7 @@ pub record IsQuery (query : Query) : Type 0 where
 abbrev pub generation_words : List ℕ → Generation → List (List ℕ)
 generation_words word generation = word ∷ decimal generation.blocks ∷ decimal generation.seed ∷ []
 
--- As many blocks as may be made at once.
+-- A number of blocks that may be made at once.
 abbrev pub IsCount : ℕ → Type 0
 IsCount blocks = (0 < blocks) × (blocks ≤ MAX_GENERATED_BLOCKS)
 
@@ -43,37 +43,39 @@ pub record IsGeneration (generation : Generation) : Type 0 where
   pub count : IsCount generation.blocks
   pub seed_fits : generation.seed < 2 ^ 32
 
--- The words of a question over the log: KIND KEY, or KIND KEY BLOCK, BLOCK in decimal digits without
--- a leading zero.
+-- The words of a question over the log: KIND KEY, or KIND KEY BLOCK, BLOCK in decimal digits
+-- without a leading zero.
 abbrev pub ask_words : Kind → List ℕ → Option ℕ → List (List ℕ)
 ask_words kind key None = kind_word kind ∷ key ∷ []
 ask_words kind key (Some at) = kind_word kind ∷ key ∷ decimal at ∷ []
 
--- The words for a root: root, or root BLOCK, BLOCK in decimal digits without a leading zero.
+-- The words of the command for a root: root, or root BLOCK, BLOCK in decimal digits without a
+-- leading zero.
 abbrev pub root_words : Option ℕ → List (List ℕ)
 root_words None = codes "root" ∷ []
 root_words (Some at) = codes "root" ∷ decimal at ∷ []
 
--- The words for a proof: prove KIND KEY BLOCK ROOTBLOCK, both numbers in decimal digits without a leading
--- zero.
+-- The words of the command for a proof: prove KIND KEY BLOCK ROOTBLOCK, both numbers in decimal
+-- digits without a leading zero.
 abbrev pub prove_words : Query → ℕ → List (List ℕ)
 prove_words query root_at = codes "prove" ∷ kind_word query.kind ∷ query.key ∷ decimal query.at ∷ decimal root_at ∷ []
 
--- The words to verify a proof: verify ROOT KIND KEY BLOCK, ROOT in hex digits, those above 9 in lower case.
+-- The words of the command that verifies a proof: verify ROOT KIND KEY BLOCK, ROOT in lower-case
+-- hex, BLOCK in decimal digits without a leading zero.
 abbrev pub verify_words : Digest → Query → List (List ℕ)
 verify_words root query = codes "verify" ∷ encode_lower root.0 ∷ query_words query
 
--- The words for the first clash with a proof: expose ROOT KIND KEY BLOCK ROOTBLOCK, ROOT in hex digits,
--- those above 9 in lower case, both numbers in decimal digits without a leading zero.
+-- The words of the command for the first clash with a proof: expose ROOT KIND KEY BLOCK ROOTBLOCK,
+-- ROOT in lower-case hex, both numbers in decimal digits without a leading zero.
 abbrev pub expose_words : Digest → Query → ℕ → List (List ℕ)
 expose_words root query root_at = codes "expose" ∷ encode_lower root.0 ∷ kind_word query.kind ∷ query.key ∷ decimal query.at ∷ decimal root_at ∷ []
 
--- A root that can be given: 32 bytes.
+-- A root that words can spell: 32 bytes.
 pub record IsRootGiven (root : Digest) : Type 0 where
   pub length_is : length root.0 ≡ 32
   pub bytes : IsBytes root.0
 
--- The block number of a question over the log has 32 bits, where one is given.
+-- The block number of a question over the log has 32 bits, if it has one.
 abbrev pub Fits : Option ℕ → Type 0
 Fits None = Unit {0}
 Fits (Some at) = at < 2 ^ 32
@@ -92,9 +94,8 @@ command_words (Prove query root_at) = prove_words query root_at
 command_words (Verify root query) = verify_words root query
 command_words (Expose root query root_at) = expose_words root query root_at
 
--- A command that can be given: a question that can be asked, over the input or over the log; a
--- generation that can be made; a root of a block; a word alone; a proof of a question, for the root of
--- a block; or one that is verified by a root, alone or against the log up to a block.
+-- A command that words can spell: its keys are keys, its numbers have 32 bits, its roots have 32
+-- bytes, and a generation makes a number of blocks that may be made at once.
 abbrev pub CanBeGiven : Command → Type 0
 CanBeGiven (Scan query) = IsQuery query
 CanBeGiven Fmt = Unit {0}
@@ -108,91 +109,91 @@ CanBeGiven (Prove query root_at) = IsQuery query × (root_at < 2 ^ 32)
 CanBeGiven (Verify root query) = IsRootGiven root × IsQuery query
 CanBeGiven (Expose root query root_at) = IsRootGiven root × IsQuery query × (root_at < 2 ^ 32)
 
--- The command that the words are. They are none where no command has these words.
+-- The command that the words are, or None if no command has these words.
 abbrev pub IsCommand : List (List ℕ) → Option Command → Type 0
 IsCommand words (Some command) = CanBeGiven command × (words ≡ command_words command)
 IsCommand words None = (command : Command) → CanBeGiven command → words ≡ command_words command → ⊥
 
--- The words are a command, or none, and no other.
+-- The words are this command, or none, and no other.
 pub record IsOneCommand (words : List (List ℕ)) (command : Option Command) : Type 0 where
   pub is_command : IsCommand words command
   pub only : (other : Option Command) → IsCommand words other → other ≡ command
 
 -- ---- single commands
 
--- The question that some words are.
+-- The question that the words are; None if they are no question.
 abbrev pub IsQueryOf : List (List ℕ) → Option Query → Type 0
 IsQueryOf words (Some query) = IsQuery query × (words ≡ query_words query)
 IsQueryOf words None = (query : Query) → IsQuery query → words ≡ query_words query → ⊥
 
--- The question of a scan, where the words are those of one.
+-- The question of a scan; None if the words are not those of a scan.
 abbrev pub IsScan : List (List ℕ) → Option Query → Type 0
 IsScan words (Some query) = IsQuery query × (words ≡ scan_words query)
 IsScan words None = (query : Query) → IsQuery query → words ≡ scan_words query → ⊥
 
--- The blocks of a generation, where the words are those of one with this word first.
+-- The blocks of a generation; None if the words are not those of one that begin with this word.
 abbrev pub IsGenerationOf : List ℕ → List (List ℕ) → Option Generation → Type 0
 IsGenerationOf word words (Some generation) = IsGeneration generation × (words ≡ generation_words word generation)
 IsGenerationOf word words None = (generation : Generation) → IsGeneration generation → words ≡ generation_words word generation → ⊥
 
--- The command of a question over the log, where the words are those of one.
+-- The command of a question over the log; None if the words are not those of one.
 abbrev pub IsAsk : List (List ℕ) → Option Command → Type 0
 IsAsk words (Some command) = CanBeGiven command × (words ≡ command_words command)
 IsAsk words None = (kind : Kind) (key : List ℕ) (at : Option ℕ) → IsKey key → Fits at → words ≡ ask_words kind key at → ⊥
 
--- The command for a root, where the words are those of one.
+-- The command for a root; None if the words are not those of one.
 abbrev pub IsRoot : List (List ℕ) → Option Command → Type 0
 IsRoot words (Some command) = CanBeGiven command × (words ≡ command_words command)
 IsRoot words None = (at : Option ℕ) → Fits at → words ≡ root_words at → ⊥
 
--- The command for a proof, where the words are those of one.
+-- The command for a proof; None if the words are not those of one.
 abbrev pub IsProve : List (List ℕ) → Option Command → Type 0
 IsProve words (Some command) = CanBeGiven command × (words ≡ command_words command)
 IsProve words None = (query : Query) (root_at : ℕ) → IsQuery query → root_at < 2 ^ 32 → words ≡ prove_words query root_at → ⊥
 
--- The command to verify a proof, where the words are those of one.
+-- The command that verifies a proof; None if the words are not those of one.
 abbrev pub IsVerify : List (List ℕ) → Option Command → Type 0
 IsVerify words (Some command) = CanBeGiven command × (words ≡ command_words command)
 IsVerify words None = (root : Digest) (query : Query) → IsRootGiven root → IsQuery query → words ≡ verify_words root query → ⊥
 
--- The command for the first clash with a proof, where the words are those of one.
+-- The command for the first clash with a proof; None if the words are not those of one.
 abbrev pub IsExpose : List (List ℕ) → Option Command → Type 0
 IsExpose words (Some command) = CanBeGiven command × (words ≡ command_words command)
 IsExpose words None = (root : Digest) (query : Query) (root_at : ℕ) → IsRootGiven root → IsQuery query → root_at < 2 ^ 32 → words ≡ expose_words root query root_at → ⊥
 
--- Whether the words are this one alone.
+-- Whether this is the only word.
 abbrev pub IsAlone : List ℕ → List (List ℕ) → Bool → Type 0
 IsAlone word words true = words ≡ word ∷ []
 IsAlone word words false = words ≡ word ∷ [] → ⊥
 
 -- ---- single words
 
--- Whether a text is `0`, or begins with another digit.
+-- Whether a text is `0`, or begins with a digit from 1 to 9.
 abbrev pub starts_as_number : List ℕ → Bool
 starts_as_number [] = false
 starts_as_number (first ∷ others) = first == 48 && length others == 0 || nat_le 49 first && nat_le first 57
 
--- The number that a text writes; none where no number of 32 bits is written so.
+-- The number that a text spells; None if it spells no number of 32 bits.
 abbrev pub IsNumberOf : List ℕ → Option ℕ → Type 0
 IsNumberOf text (Some number) = (number < 2 ^ 32) × (text ≡ decimal number)
 IsNumberOf text None = (number : ℕ) → number < 2 ^ 32 → text ≡ decimal number → ⊥
 
--- The number of blocks that a text writes; none where it writes none that may be made at once.
+-- The number of blocks that a text spells; None if it spells none that may be made at once.
 abbrev pub IsCountOf : List ℕ → Option ℕ → Type 0
 IsCountOf text (Some blocks) = IsCount blocks × (text ≡ decimal blocks)
 IsCountOf text None = (blocks : ℕ) → IsCount blocks → text ≡ decimal blocks → ⊥
 
--- The key that a text is; none where it is none.
+-- The key that a text is; None if it is no key.
 abbrev pub IsKeyOf : List ℕ → Option (List ℕ) → Type 0
 IsKeyOf text (Some key) = IsKey key × (text ≡ key)
 IsKeyOf text None = IsKey text → ⊥
 
--- The digest that a text writes in hex; none where it writes none.
+-- The digest that a text spells in lower-case hex; None if it spells none.
 abbrev pub IsDigestOf : List ℕ → Option Digest → Type 0
 IsDigestOf text (Some digest) = IsRootGiven digest × (text ≡ encode_lower digest.0)
 IsDigestOf text None = (digest : Digest) → IsRootGiven digest → text ≡ encode_lower digest.0 → ⊥
 
--- The kind that a text names; none where it names none.
+-- The kind that a text names; None if it names none.
 abbrev pub IsKindOf : List ℕ → Option Kind → Type 0
 IsKindOf text (Some kind) = text ≡ kind_word kind
 IsKindOf text None = (kind : Kind) → text ≡ kind_word kind → ⊥

@@ -1,4 +1,4 @@
-//! The words of commands.
+//! The words of the command line: they are one command, or none.
 #![tactic(auto)]
 
 mod proving;

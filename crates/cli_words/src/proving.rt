@@ -1,4 +1,4 @@
-//! The words of commands about proofs.
+//! The words of commands about proofs: `prove`, `verify` and `expose`.
 
 ghost use Rattle.std.specs.Prelude.{[], ◌∷◌, map, string_bytes, codes};
 ghost use Rattle.cli_words.specs.Words.{IsProve, IsVerify, IsExpose};
@@ -7,7 +7,7 @@ use crate::questions::query_of;
 use crate::single::{digest_of, is_text, number_of};
 use crate::words::Command;
 
-/// The command `prove KIND KEY BLOCK ROOTBLOCK`; `None` exactly where the words are no such command.
+/// The command `prove KIND KEY BLOCK ROOTBLOCK`; `None` exactly if the words are no such command.
 pub(crate) fn prove_of(words: &[String]) -> Option<Command>
     ensures { IsProve (map string_bytes words.now) result }
 {
@@ -23,7 +23,7 @@ pub(crate) fn prove_of(words: &[String]) -> Option<Command>
     }
 }
 
-/// The command `verify ROOT KIND KEY BLOCK`; `None` exactly where the words are no such command.
+/// The command `verify ROOT KIND KEY BLOCK`; `None` exactly if the words are no such command.
 pub(crate) fn verify_of(words: &[String]) -> Option<Command>
     ensures { IsVerify (map string_bytes words.now) result }
 {
@@ -35,7 +35,7 @@ pub(crate) fn verify_of(words: &[String]) -> Option<Command>
     }
 }
 
-/// The same of the words after the first.
+/// The same, from the words after the first.
 fn verify_words(root: &str, kind: &str, key: &str, at: &str) -> Option<Command>
     ensures { IsVerify (codes "verify" ∷ root.now ∷ kind.now ∷ key.now ∷ at.now ∷ []) result }
 {
@@ -46,7 +46,8 @@ fn verify_words(root: &str, kind: &str, key: &str, at: &str) -> Option<Command>
     }
 }
 
-/// The command `expose ROOT KIND KEY BLOCK ROOTBLOCK`; `None` exactly where the words are no such command.
+/// The command `expose ROOT KIND KEY BLOCK ROOTBLOCK`; `None` exactly if the words are no such
+/// command.
 pub(crate) fn expose_of(words: &[String]) -> Option<Command>
     ensures { IsExpose (map string_bytes words.now) result }
 {
@@ -64,7 +65,7 @@ pub(crate) fn expose_of(words: &[String]) -> Option<Command>
     }
 }
 
-/// The same of the words after the first.
+/// The same, from the words after the first.
 fn expose_words(root: &str, kind: &str, key: &str, at: &str, root_at: &str) -> Option<Command>
     ensures { IsExpose (codes "expose" ∷ root.now ∷ kind.now ∷ key.now ∷ at.now ∷ root_at.now ∷ []) result }
 {

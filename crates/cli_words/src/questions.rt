@@ -7,7 +7,7 @@ use crate::single::{is_text, key_of, kind_of, number_of};
 use crate::words::Command;
 use lc_base::Query;
 
-/// The question that three words name: its kind, its key and its block.
+/// The question that three words name: its kind, its key and its block; `None` if they name none.
 pub(crate) fn query_of(kind: &str, key: &str, at: &str) -> Option<Query>
     ensures { IsQueryOf (kind.now ∷ key.now ∷ at.now ∷ []) result }
 {
@@ -19,7 +19,7 @@ pub(crate) fn query_of(kind: &str, key: &str, at: &str) -> Option<Query>
     }
 }
 
-/// The question of the command `scan KIND KEY BLOCK`; `None` exactly where the words are no such
+/// The question of the command `scan KIND KEY BLOCK`; `None` exactly if the words are no such
 /// command.
 pub(crate) fn scan_of(words: &[String]) -> Option<Query>
     ensures { IsScan (map string_bytes words.now) result }
@@ -32,8 +32,7 @@ pub(crate) fn scan_of(words: &[String]) -> Option<Query>
     }
 }
 
-/// The question of the command `KIND KEY` or `KIND KEY BLOCK`; `None` exactly where the words are no
-/// such command.
+/// The command `KIND KEY` or `KIND KEY BLOCK`; `None` exactly if the words are no such command.
 pub(crate) fn ask_of(words: &[String]) -> Option<Command>
     ensures { IsAsk (map string_bytes words.now) result }
 {
@@ -63,8 +62,7 @@ pub(crate) fn ask_of(words: &[String]) -> Option<Command>
     }
 }
 
-/// The block of the command `root` or `root BLOCK`; `None` exactly where the words are no such
-/// command.
+/// The command `root` or `root BLOCK`; `None` exactly if the words are no such command.
 pub(crate) fn root_of(words: &[String]) -> Option<Command>
     ensures { IsRoot (map string_bytes words.now) result }
 {

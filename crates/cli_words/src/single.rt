@@ -1,4 +1,4 @@
-//! What single words are.
+//! Reading single words: a number, key, kind or digest has one spelling only.
 
 ghost use Rattle.std.specs.Prelude.{◌≡◌, ◌↔◌, IsTrue};
 ghost use Rattle.cli_words.specs.Words.{IsKindOf, IsKeyOf, IsNumberOf, IsCount, IsCountOf, IsDigestOf, starts_as_number};
@@ -17,7 +17,7 @@ pub(crate) fn is_text(text: &str, word: &str) -> bool
     text == word
 }
 
-/// Whether the text is `0`, or begins with another digit.
+/// Whether the text is `0`, or begins with a digit from 1 to 9.
 fn starts_as_number(bytes: &[u8]) -> bool
     ensures { result ≡ starts_as_number bytes.now }
 {
@@ -28,7 +28,7 @@ fn starts_as_number(bytes: &[u8]) -> bool
     }
 }
 
-/// The number below 2^32 that the text writes in decimal digits, without a sign or a leading zero.
+/// The number below 2^32 that the text spells in decimal digits, without a sign or a leading zero.
 pub(crate) fn number_of(text: &str) -> Option<u32>
     ensures { IsNumberOf text.now result }
 {
@@ -44,7 +44,7 @@ fn is_count(number: u32) -> bool
     0 < number && number <= MAX_GENERATED_BLOCKS
 }
 
-/// The number from 1 to `MAX_GENERATED_BLOCKS` that the text writes.
+/// The number from 1 to `MAX_GENERATED_BLOCKS` that the text spells.
 pub(crate) fn count_of(text: &str) -> Option<u32>
     ensures { IsCountOf text.now result }
 {
@@ -55,14 +55,14 @@ pub(crate) fn count_of(text: &str) -> Option<u32>
     Some(number)
 }
 
-/// The key that the text is.
+/// The key that the text is; `None` if it is no key.
 pub(crate) fn key_of(text: &str) -> Option<Key>
     ensures { IsKeyOf text.now result }
 {
     Key::new(text.as_bytes()).ok()
 }
 
-/// The kind of question that the text names.
+/// The kind of question that the text names; `None` if it names none.
 pub(crate) fn kind_of(text: &str) -> Option<Kind>
     ensures { IsKindOf text.now result }
 {
@@ -74,7 +74,8 @@ pub(crate) fn kind_of(text: &str) -> Option<Kind>
     }
 }
 
-/// The digest that the text writes in hex digits, those above 9 in lower case.
+/// The digest that the text spells in hex digits, with lower-case letters; `None` if it spells
+/// none.
 pub(crate) fn digest_of(text: &str) -> Option<Digest>
     ensures { IsDigestOf text.now result }
 {
@@ -89,7 +90,7 @@ pub(crate) fn digest_of(text: &str) -> Option<Digest>
     }
 }
 
-/// Whether the text writes these bytes in hex, in lower case.
+/// Whether the text is the lower-case hex of these bytes.
 fn writes(bytes: &[u8; DIGEST_BYTES], text: &str) -> bool
     ensures { IsTrue result ↔ (text.now ≡ encode_lower bytes.now) }
 {

@@ -1,4 +1,4 @@
-//! The words of commands.
+//! Parsing a command: no command shares its words with another, so the order of the tests is free.
 
 ghost use Rattle.std.specs.Prelude.{map, string_bytes, IfSome};
 ghost use Rattle.cli_words.specs.Words.{CanBeGiven, IsCommand, IsOneCommand, IsGenerationOf, IsAlone};
@@ -14,49 +14,50 @@ pub const MAX_GENERATED_BLOCKS: u32 = 100_000;
 /// Which blocks `gen` and `load` make.
 #[derive(Clone, Copy, Debug, PartialEq, Eq)]
 pub struct Generation {
-    /// How many, from 1 to `MAX_GENERATED_BLOCKS`.
+    /// Their number, from 1 to `MAX_GENERATED_BLOCKS`.
     pub blocks: u32,
-    /// The number that they are drawn from.
+    /// The seed from which they are drawn.
     pub seed: u32,
 }
 
-/// What the program is told to do.
+/// What the program is asked to do.
 #[derive(Clone, Copy, Debug, PartialEq, Eq)]
 pub enum Command {
     /// `scan KIND KEY BLOCK`: answer a question over the blocks of the input.
     Scan(Query),
-    /// `fmt`: tell the canonical text of the contract that the input is.
+    /// `fmt`: print the canonical text of the contract that the input is.
     Fmt,
-    /// `pack`: tell the block file of the draft that the input is.
+    /// `pack`: print the block file of the draft that the input is.
     Pack,
-    /// `gen N SEED`: tell a block file of N blocks.
+    /// `gen N SEED`: print a block file of N blocks.
     Gen(Generation),
-    /// `load N SEED`: add these N blocks to a chain in memory, and tell what look-ups of it cost.
+    /// `load N SEED`: add these N blocks to a chain in memory, and print what look-ups of it cost.
     Load(Generation),
     /// `append`: take the blocks of the input into the chain of the log.
     Append,
-    /// `root` or `root BLOCK`: tell the root at a block of the log, the last one where no BLOCK is
-    /// given.
+    /// `root` or `root BLOCK`: print the root at a block of the log, which is the last one if no
+    /// BLOCK is named.
     Root(Option<u32>),
-    /// `KIND KEY` or `KIND KEY BLOCK`: answer a question over the blocks of the log, up to the last
-    /// one where no BLOCK is given.
+    /// `KIND KEY` or `KIND KEY BLOCK`: answer a question over the blocks of the log, up to BLOCK or
+    /// else to the last one.
     Ask {
         kind: Kind,
         key: Key,
         at: Option<u32>,
     },
-    /// `prove KIND KEY BLOCK ROOTBLOCK`: tell a proof of the answer to a question over the blocks of
-    /// the log, for one who has the root at ROOTBLOCK.
+    /// `prove KIND KEY BLOCK ROOTBLOCK`: print a proof of the answer to a question over the blocks
+    /// of the log, for one who has the root at ROOTBLOCK.
     Prove {
         query: Query,
         root_at: u32,
     },
-    /// `verify ROOT KIND KEY BLOCK`: tell the answer of the proof that the input is, in hex.
+    /// `verify ROOT KIND KEY BLOCK`: check the proof that the input is, in hex, and print its
+    /// answer.
     Verify {
         root: Digest,
         query: Query,
     },
-    /// `expose ROOT KIND KEY BLOCK ROOTBLOCK`: tell the first two texts, one of the proof that the
+    /// `expose ROOT KIND KEY BLOCK ROOTBLOCK`: print the first two texts, one of the proof that the
     /// input is and one of the log up to ROOTBLOCK, which differ and have one digest.
     Expose {
         root: Digest,
@@ -65,7 +66,7 @@ pub enum Command {
     },
 }
 
-/// The blocks of the words `WORD N SEED`; `None` exactly where the words are no such ones.
+/// The blocks of the words `WORD N SEED`; `None` exactly if the words are not of this form.
 fn generation_of(words: &[String], word: &str) -> Option<Generation>
     ensures { IsGenerationOf word.now (map string_bytes words.now) result }
 {
@@ -84,7 +85,7 @@ fn generation_of(words: &[String], word: &str) -> Option<Generation>
     }
 }
 
-/// Whether the words are this one alone.
+/// Whether this is the only word.
 fn is_alone(words: &[String], word: &str) -> bool
     ensures { IsAlone word.now (map string_bytes words.now) result }
 {
@@ -99,7 +100,7 @@ fn is_alone(words: &[String], word: &str) -> bool
     }
 }
 
-/// The command that the words are; `None` exactly where they are none.
+/// The command that the words are; `None` exactly if they are no command.
 pub fn command_of(words: &[String]) -> Option<Command>
     ensures one { IsOneCommand (map string_bytes words.now) result }
     ensures given { IfSome result CanBeGiven }

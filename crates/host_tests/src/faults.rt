@@ -1,4 +1,4 @@
-//! A host that fails under a contract that runs: each of its calls in turn.
+//! A host that fails under a contract that runs: a fault of any of its calls ends the run.
 
 ghost use Rattle.std.specs.Prelude.{◌≡◌, refl, [], None, IfSome, IsErrOf};
 ghost use Rattle.lc_base.specs.Faults.{HasCause};
@@ -20,21 +20,21 @@ const SOURCE: &[u8] = b"fn ask() {
   let blocks = back_block(of, 0, 0) + fwd_block(of, 0, 0);
   let keys = back_key(of, 0, 0) ++ fwd_key(of, 0, 0);
 }";
-/// How many questions that are.
+/// The number of questions that the function asks.
 const QUESTIONS: u64 = 10;
-/// The budget of the call, which is more than it costs.
+/// The budget of the call, in steps, which is more than it costs.
 const BUDGET: u32 = 10_000;
-/// Of a host that never fails.
+/// The failing call of a host that never fails.
 const NEVER: u64 = u64::MAX;
 
-/// A host that gives one answer to each kind of question, and fails at one call.
+/// A host that returns one answer to each kind of question, and fails at one call.
 #[derive(Drop)]
 struct FailingHost {
     /// The number of the call that fails, from 0.
     failing: u64,
-    /// How many calls there were.
+    /// The number of calls so far.
     calls: u64,
-    /// How many of them failed.
+    /// The number of calls that failed.
     faults: u64,
 }
 
@@ -60,7 +60,7 @@ impl FailingHost {
         Ok(())
     }
 
-    /// Tells that the version of a key is one of block 0, unless the call fails.
+    /// Answers that the version of a key is one of block 0, unless the call fails.
     fn version_of(&mut self, key: &Key) -> Result<Option<Dep>, HostError>
         ensures { HasCause self.old.faults self.new.faults (IsErrOf result HostError.Fault) }
     {
@@ -117,7 +117,7 @@ impl Host for FailingHost {
     ghost same_rows = { λ _ _ _. refl };
 }
 
-/// A block of one transaction, as it is read again.
+/// A block of one transaction, as it is decoded from its encoding.
 fn block_of(alloc: Global, number: u32, tx: Tx) -> Option<Block>
     ensures { IfSome result IsBlock }
 {
@@ -166,7 +166,8 @@ fn call_over(alloc: Global, host: &mut FailingHost) -> Option<Result<TxStatus, H
     }
 }
 
-/// Whether the call ends with the fault of a host that fails at this call, and doesn't ask it again.
+/// Whether the call ends with the fault of a host that fails at its call `failing`, and the host
+/// isn't called again.
 fn ends_with_fault(alloc: Global, failing: u64) -> bool {
     let mut host = FailingHost::new(failing);
     let ended = call_over(alloc, &mut host);

@@ -1,5 +1,5 @@
 //! Questions about each row of chains, answered by plain rows and by a lineage over a scratch
-//! device.
+//! device: the answers are the same.
 
 ghost use Rattle.merkle_dag.specs.Lineage.{AgreesWith};
 
@@ -13,7 +13,7 @@ use prov_query::ask;
 use scratch_model::{MemScratch, Scratch};
 use std::alloc::Global;
 
-/// How many blocks a chain has.
+/// The number of blocks of a chain.
 const BLOCKS: u32 = 16;
 
 /// The seeds of the chains.
@@ -124,7 +124,7 @@ fn tell_rows_alike<S: Scratch>(
     true
 }
 
-/// Whether a chain of a seed, which has rows, is told alike.
+/// Whether the chain of a seed has rows, and both answer each question about each row alike.
 fn tell_seed_alike(alloc: Global, seed: u32) -> Option<bool> {
     let blocks = blocks_of_seed(alloc, BLOCKS, seed).ok()?;
     let mut scratch = MemScratch::new(alloc, ROOM, &[]).ok()?;

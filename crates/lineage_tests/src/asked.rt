@@ -40,14 +40,14 @@ const PAIR: &str = "b72932a29059361920a50e4214789bbc92396695ddfb08a1894f6bf5c1f5
 /// The tree hash of the first four leaves.
 const FOUR: &str = "7c2e11c93b331c080c08fe17b970b57e84664f9a9aa963df1fed9f7f89c725e4";
 
-/// The lineage of the three blocks, over a device in memory.
+/// A lineage of the three blocks, over a device in memory.
 fn lineage_of_draft(alloc: Global) -> Option<(MemScratch, Lineage)>
     ensures agrees { IfSome result (λ made. AgreesWith made.1 (state_over made.0.bytes)) }
 {
     lineage_in_memory(alloc, &[], &pack(alloc, DRAFT).ok()?)
 }
 
-/// The versions of these keys, each in a block.
+/// The versions of these keys, each in the block beside it.
 fn versions(alloc: Global, places: &[(&[u8], u32)]) -> Option<DepList> {
     let mut versions = DepList::new(alloc);
     for (key, block) in places {
@@ -63,7 +63,7 @@ fn question(kind: Kind, key: &[u8], at: u32) -> Option<Query> {
     Some(Query { kind, key, at })
 }
 
-/// Whether the uses of the first part are its two lots. One version is looked at.
+/// Whether the uses of the first part are its two lots, and one version is looked at.
 fn tells_uses<S: Scratch>(alloc: Global, lineage: &mut Lineage, scratch: &mut S) -> Option<bool>
     requires agrees { AgreesWith lineage.old (S.state scratch.old) }
     ensures agrees { AgreesWith lineage.new (S.state scratch.new) }
@@ -75,7 +75,8 @@ fn tells_uses<S: Scratch>(alloc: Global, lineage: &mut Lineage, scratch: &mut S)
     Some(is_same_answer(&answer, &Answer::Fwd { block: 0, uses }) && steps.count() == 1)
 }
 
-/// Whether a question past the last block is answered with its number, and looks at nothing.
+/// Whether a question past the last block is answered with that block's number, and looks at
+/// nothing.
 fn tells_the_head<S: Scratch>(alloc: Global, lineage: &mut Lineage, scratch: &mut S) -> Option<bool>
     requires agrees { AgreesWith lineage.old (S.state scratch.old) }
     ensures agrees { AgreesWith lineage.new (S.state scratch.new) }
@@ -88,7 +89,7 @@ fn tells_the_head<S: Scratch>(alloc: Global, lineage: &mut Lineage, scratch: &mu
     }
 }
 
-/// Whether the lineage itself tells what the third lot was made of.
+/// Whether the lineage itself answers what the third lot was made of.
 fn tells_parts<S: Scratch>(alloc: Global, lineage: &mut Lineage, scratch: &mut S) -> Option<bool>
     requires agrees { AgreesWith lineage.old (S.state scratch.old) }
     ensures agrees { AgreesWith lineage.new (S.state scratch.new) }
@@ -99,7 +100,7 @@ fn tells_parts<S: Scratch>(alloc: Global, lineage: &mut Lineage, scratch: &mut S
     Some(is_same_answer(&answer, &Answer::Back { block: 2, deps }))
 }
 
-/// Whether the lineage itself tells the number of the third lot, also past the last block.
+/// Whether the lineage itself answers the number of the third lot, also past the last block.
 fn tells_number<S: Scratch>(alloc: Global, lineage: &mut Lineage, scratch: &mut S) -> Option<bool>
     requires agrees { AgreesWith lineage.old (S.state scratch.old) }
     ensures agrees { AgreesWith lineage.new (S.state scratch.new) }
@@ -114,7 +115,7 @@ fn tells_number<S: Scratch>(alloc: Global, lineage: &mut Lineage, scratch: &mut 
     Some(is_same_answer(&answer, &number))
 }
 
-/// Whether the audit path of the last of the seven leaves, that of `raw/shop/s1`, is of the tree
+/// Whether the audit path of the last of the seven leaves, that of `raw/shop/s1`, has the tree
 /// hashes that are known.
 fn has_audit_path(lineage: &Lineage) -> Option<bool> {
     let tree = lineage.tree();

@@ -17,13 +17,13 @@ use std::fs;
 use std::fs::File;
 use std::os::unix::fs::FileExt;
 
-/// One more than there are bodies at hand.
+/// One more than the number of bodies at hand.
 const KEYS: u32 = 1_025;
 
-/// The number of the first call after the puts of these.
+/// The number of the first call after the puts of these bodies.
 const FIRST_GET: u64 = 1_025;
 
-/// The file of a device, in the present folder.
+/// The file of a device, in the current folder.
 const FILE: &str = "lineage_tests.scratch";
 
 /// The key `raw/` with a number.
@@ -44,14 +44,14 @@ fn block_of_keys(alloc: Global) -> Option<TextList> {
     Some(blocks)
 }
 
-/// The lineage of these keys.
+/// A lineage of these keys.
 fn lineage_of_keys<S: Scratch>(alloc: Global, scratch: &mut S) -> Option<Lineage>
     ensures agrees { IfSome result (λ lineage. AgreesWith lineage (S.state scratch.new)) }
 {
     lineage_of(alloc, scratch, &block_of_keys(alloc)?)
 }
 
-/// The lineage of these keys over a device in memory of which the calls of these numbers fail.
+/// A lineage of these keys over a device in memory, whose calls of these numbers fail.
 fn keys_in_memory(alloc: Global, failing: &[u64]) -> Option<(MemScratch, Lineage)>
     ensures agrees { IfSome result (λ made. AgreesWith made.1 (state_over made.0.bytes)) }
 {
@@ -84,7 +84,7 @@ fn bodies_at_hand_are_not_read(rt: HostRuntime) {
         assert!(rt; false);
         return;
     };
-    // The first body is no longer at hand, and is from then on; the last one is.
+    // The first body is no longer at hand, and is again after it was read; the last one still is.
     assert!(rt; scratch.gets() == 0);
     assert!(rt; int_of(alloc, &mut lineage, &mut scratch, 0) == Ok(Some(5)));
     assert!(rt; scratch.gets() == 1);

@@ -1,5 +1,5 @@
 //! Tests of lineages that are read over scratch devices: what they answer, which bodies are read
-//! from the device, and that its faults are told.
+//! from the device, and that its faults are reported.
 #![tactic(auto)]
 
 #[cfg(test)]

@@ -1,4 +1,4 @@
-//! Chains and lineages that are made of the bytes of their blocks.
+//! Chains and lineages that are made from the bytes of their blocks.
 
 ghost use Rattle.std.specs.Prelude.{IfSome};
 ghost use Rattle.scratch_model.specs.MemScratch.{state_over};
@@ -21,7 +21,7 @@ pub(crate) const ROOM: Room = Room {
     bytes: 10_000_000,
 };
 
-/// A transaction that writes an int, derived from nothing.
+/// A transaction that writes an int, without dependencies.
 pub(crate) fn set(alloc: Global, key: Key, number: i64) -> Option<Tx> {
     Some(Tx::Set {
         sender: Key::new(b"u").ok()?,
@@ -47,8 +47,8 @@ pub(crate) fn add_block(alloc: Global, blocks: &mut TextList, txs: TxList) -> Op
     blocks.push(bytes).ok()
 }
 
-/// The chain with one block more; `None` where these bytes aren't its next block, and where the
-/// device fails.
+/// The chain with one more block; `None` if these bytes aren't its next block, or if the device
+/// fails.
 fn longer<C: Replay, S: Scratch>(
     alloc: Global,
     scratch: &mut S,
@@ -67,7 +67,7 @@ fn longer<C: Replay, S: Scratch>(
     }
 }
 
-/// The chain of these blocks.
+/// A chain of these blocks.
 pub(crate) fn chain_of<C: Replay, S: Scratch>(
     alloc: Global,
     scratch: &mut S,
@@ -85,7 +85,7 @@ pub(crate) fn chain_of<C: Replay, S: Scratch>(
     Some(chain)
 }
 
-/// The lineage of these blocks.
+/// A lineage of these blocks.
 pub(crate) fn lineage_of<S: Scratch>(
     alloc: Global,
     scratch: &mut S,
@@ -97,8 +97,7 @@ pub(crate) fn lineage_of<S: Scratch>(
     Some(chain.into_lineage())
 }
 
-/// A device in memory of which the calls of these numbers fail, and the lineage of these blocks
-/// over it.
+/// A device in memory, whose calls of these numbers fail, and a lineage of these blocks over it.
 pub(crate) fn lineage_in_memory(
     alloc: Global,
     failing: &[u64],
@@ -111,7 +110,7 @@ pub(crate) fn lineage_in_memory(
     Some((scratch, lineage))
 }
 
-/// The int that an answer tells, and the block of its version.
+/// The int of an answer, and the block of its version.
 fn int_in(answer: &Answer) -> Option<(u32, i64)> {
     match answer {
         Answer::Hist {

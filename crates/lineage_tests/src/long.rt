@@ -1,4 +1,4 @@
-//! A key with very many versions, asked very often.
+//! A key with very many versions, asked very often: each body is read once.
 
 ghost use Rattle.std.specs.Prelude.{◌<◌, ◌≤◌};
 ghost use Rattle.merkle_dag.specs.Lineage.{AgreesWith};
@@ -17,14 +17,14 @@ const BLOCKS: u32 = 65_536;
 /// The first block that is asked about.
 const FIRST: u32 = 32_256;
 
-/// How many blocks are asked about: as many as there are bodies at hand.
+/// The number of blocks that are asked about: as many as there are bodies at hand.
 pub(crate) const ASKED: u32 = 1_024;
 
-/// How many questions are asked.
+/// The number of questions.
 const QUESTIONS: u32 = 2_000_000;
 
-/// The most versions that are looked at for a question: twice the binary digits of the last block's
-/// number, and two.
+/// The most versions that may be looked at for a question: twice the number of binary digits of the
+/// last block's number, and two.
 const MOST_STEPS: u64 = 34;
 
 /// The blocks, each of which writes its number to the key.
@@ -54,8 +54,8 @@ fn tells_number<S: Scratch>(
     told == Ok(Some((at, i64::from(at)))) && steps.count() <= MOST_STEPS
 }
 
-/// Whether so many questions about so many blocks, one after another and over again, are answered
-/// so.
+/// Whether this holds of `questions` questions, which go over `asked` blocks in turn, from `FIRST`
+/// on.
 pub(crate) fn tells_numbers<S: Scratch>(
     alloc: Global,
     lineage: &mut Lineage,
@@ -77,7 +77,7 @@ pub(crate) fn tells_numbers<S: Scratch>(
     true
 }
 
-/// Whether the questions are answered so, and each body is read once.
+/// Whether the questions are answered as they must be, and each body is read once.
 fn reads_each_body_once(alloc: Global) -> Option<bool> {
     let key = Key::new(b"raw/a").ok()?;
     let blocks = numbered_blocks(alloc, key)?;

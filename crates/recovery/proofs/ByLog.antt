@@ -1,4 +1,4 @@
--- Storing a block by the log alone, which counts no row.
+-- Storing a block, by the placement of the log alone, which counts no row.
 use Rattle.std.proofs.Common.{◌≡◌, inl, ℕ, Bool, true, false, List, [], length, map}
 use Rattle.std.proofs.Common.{Option, Some, Result, Ok, Err, refl, sym, ap, subst, ◌∙◌}
 use Rattle.std.specs.Prelude.{MatchBool}
@@ -17,7 +17,7 @@ use Rattle.block_log.proofs.Resting.{rests_at, rests_keeps, rests_some, told_som
 use Rattle.recovery.specs.Node.{IsLogStepOf}
 use Rattle.recovery.proofs.Created.{only_created}
 
--- what a log agrees with, where it is known whether it has a head
+-- what a log agrees with, by whether it has a head
 agrees_by : (log : LogState) (state : Option DiskState) (content : List ℕ) (ready : Bool)
     → log.is_ready ≡ ready → Rests state (Agrees log) → content_of state ≡ Some content
     → MatchBool ready (AgreesWithBlocks log content) (AgreesWithBlank log content)
@@ -58,7 +58,7 @@ none_by_log log state content blocks headless rests told stands =
     let found : Some blocks ≡ Some [] = sym stands ∙ ap blocks_of blank.stands in
     cc found
 
--- bytes that stand for the blocks are one of what a step may leave
+-- bytes that stand for the blocks before are among what a step may leave
 held_step : (blocks : List Block) (spelled : Result Block ℕ) (image : List ℕ)
     → chain_of next_in_log image ≡ Some blocks → IsLogStepOf blocks spelled image
 held_step blocks (Ok block) image is = inl is
@@ -83,7 +83,7 @@ module _ {D : Type 0} (now : D → ℕ) (disk : D → ℕ → Option DiskState) 
   spelled_log old new blocks block spelled is keeps = subst
       (λ (r : Result Block ℕ). Keeps now disk old new (IsLogStepOf blocks r)) (sym is) keeps
 
-  -- a log is made, and then the block is appended to it
+  -- a log is created, and then the block is appended to it
   pub made_then_appended : (old mid new : D) (log longer : LogState) (content bytes : List ℕ)
       (blocks : List Block) (block : Block) → content_of (disk old (now old)) ≡ Some content
       → blocks ≡ []

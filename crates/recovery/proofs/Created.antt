@@ -1,4 +1,4 @@
--- Storing a block where there was no log: it is created, and then the block is appended.
+-- Storing a block on a disk without a log: it is created, and then the block is appended.
 use Rattle.std.proofs.Common.{◌≡◌, inl, ℕ, Bool, false, List, [], ◌∷◌, ◌++◌, Option, Some}
 use Rattle.std.proofs.Common.{Result, Ok, Err, sym, ap, subst, ◌∙◌}
 use Rattle.std.specs.Prelude.{MatchBool, IfOk}
@@ -35,7 +35,7 @@ HasNone : NextBlock → List ℕ → Type 0
 HasNone next image = chain_of next image ≡ Some []
 
 module _ {D : Type 0} (now : D → ℕ) (disk : D → ℕ → Option DiskState) where
-  -- where creating fails, no block stands there as before
+  -- if creating fails, the bytes stand for no block, as before
   pub only_created : (old new : D) (place : Placer) (blocks : List Block) (block : Block)
       → blocks ≡ [] → Keeps now disk old new
       (λ image. chain_of (next_block block_in place) image ≡ Some [])
@@ -45,7 +45,7 @@ module _ {D : Type 0} (now : D → ℕ) (disk : D → ℕ → Option DiskState) 
       (IsOldOrNew (next_block block_in place) blocks block) keeps
       (λ c is. inl (is ∙ ap Some (sym none)))
 
-  -- the block is the next one after none
+  -- the block is the next one after no block
   next_created : (mid : D) (place : Placer) (content there bytes : List ℕ) (blocks : List Block)
       (block : Block) → IsNextAfter place content bytes blocks block → blocks ≡ []
       → chain_of (next_block block_in place) there ≡ Some []
@@ -100,7 +100,7 @@ module _ {D : Type 0} (now : D → ℕ) (disk : D → ℕ → Option DiskState) 
       (appended place there.0 [] block (ap content_of there.1)
       (next_created mid place content there.0 bytes blocks block next none there.2))
 
--- what is so where it was answered Ok
+-- what holds of a result that is Ok, and what follows from it
 pub if_ok : {A E : Type 0} (result : Result A E) (P Q : A → Type 0) → IfOk result P
     → ((x : A) → P x → Q x) → IfOk result Q
 if_ok (Ok x) P Q is leads = leads x is

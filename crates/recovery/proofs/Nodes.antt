@@ -1,4 +1,4 @@
--- A node with one more block, and a node that takes none.
+-- A node with one more block, and a node whose disk is not touched.
 use Rattle.std.proofs.Common.{◌≡◌, inl, ℕ, ◌+◌, ◌-◌, List, [], ◌∷◌, ◌++◌, length, Option, Some}
 use Rattle.std.proofs.Common.{None, Result, Ok, Err, refl, sym, ap, subst, ◌∙◌, arith}
 use Rattle.std.specs.Prelude.{slice_get, unwrap_or}
@@ -25,7 +25,7 @@ use Rattle.recovery.specs.Node.{NodeState, AreOfBlocks, AreOfOneChain, HoldsChai
 use Rattle.recovery.specs.Node.{IsStepOf, chain_in}
 use Rattle.recovery.proofs.Placing.{stricter}
 
--- bytes that are judged to be added are the next block after those that the content stands for
+-- bytes that are judged to add a block are the next block after those that the content stands for
 pub next_after : (node : NodeState) (state : Option DiskState) (blocks : List Block)
     (content bytes : List ℕ) (block : Block) → IsNodeOf node state blocks
     → content_of state ≡ Some content → block_in bytes ≡ Ok block
@@ -53,7 +53,7 @@ still now disk old node blocks content judgement is told =
     rests_keeps now disk old (IsStepOf blocks judgement) content here.0
     (held_step blocks judgement content here.1.stands)
 
--- where the disk stays as it is, its content is all that a crash may leave
+-- if the disk stays as it is, its content is all that a crash may leave
 pub still_only : {D : Type 0} (now : D → ℕ) (disk : D → ℕ → Option DiskState) (old new : D)
     (log : LogState) → new ≡ old → Rests (disk old (now old)) (Agrees log) → (content : List ℕ)
     → content_of (disk old (now old)) ≡ Some content
@@ -63,7 +63,7 @@ still_only {D} now disk old new log same rests content told =
     (rests_keeps now disk old (λ (image : List ℕ). image ≡ content) content
     (rests_at (Agrees log) (disk old (now old)) content rests told).0 refl)
 
--- bytes that spell the next block of what is kept are judged to be added
+-- bytes that spell the next block of what is kept are judged to add it
 pub is_added : (chain : ChainState) (bytes : List ℕ) (blocks : List Block) (block : Block)
     (digest : Digest) → IsNextBlock chain bytes block digest → StandsFor chain blocks
     → judgement_of compiled_in blocks (block_in bytes) ≡ Ok (Added block)

@@ -1,4 +1,4 @@
--- A block that is next where rows are counted is next where none is.
+-- A block that is next when rows are counted is next when they are not.
 use Rattle.std.proofs.Common.{◌≡◌, ℕ, Bool, false, List, length, map, Option, Some, None}
 use Rattle.std.proofs.Common.{refl, ap, ◌∙◌}
 use Rattle.std.specs.Prelude.{◌||◌, ◌==◌, nat_lt, not, if◌then◌else◌, slice_get}

@@ -1,4 +1,4 @@
--- Running the blocks of a log one after another, as a loop does.
+-- Running the blocks of a log one after another keeps their chain that of the blocks read.
 use Rattle.std.proofs.Common.{◌≡◌, ℕ, List, [], ◌∷◌, ◌++◌, false, refl, sym, ap, subst, ◌∙◌}
 use Rattle.std.proofs.Common.{append_assoc, arith}
 use Rattle.std.specs.Option.{is_some}
@@ -18,8 +18,8 @@ use Rattle.chain_replay.specs.Chain.{ChainState, StandsFor, nothing_kept, placem
 use Rattle.recovery.specs.Node.{next_in_chain}
 use Rattle.recovery.proofs.Placing.{stricter}
 
--- These blocks have run, one after another; a placement that counts rows goes on after them,
--- whatever blocks follow.
+-- These blocks have run, one after another; a placement that counts rows agrees with the log's up
+-- to them, whatever blocks follow.
 pub record AreRun (stored : List Stored) (chain : ChainState) : Type 0 where
   pub stands : StandsFor chain (blocks_in stored)
   pub same : (more : List Stored) (end : List Stored → Standing)
@@ -62,7 +62,7 @@ module _ (stored : List Stored) (chain : ChainState) (run : AreRun stored chain)
         (ap (λ (p : Placement). is_some (if_next next.block p)) here);
   }
 
-  -- one that is not
+  -- one more block, which is not the next one
   pub not_run : (next : Stored) (image : List ℕ) (count gate : ℕ) (bytes : List ℕ)
       → (placement_in compiled_in (blocks_in stored) next.block ≡ Next → ⊥)
       → standing next_in_log image ≡ records_at next_in_log count gate (stored ++ next ∷ []) bytes
@@ -72,7 +72,7 @@ module _ (stored : List Stored) (chain : ChainState) (run : AreRun stored chain)
       bytes stands run.same (not_next next.block
       (placement_in compiled_in (blocks_in stored) next.block) other)
 
-  -- no more
+  -- all blocks have run
   pub all_run : (end : List Stored → Standing)
       → standing_after (placement_in compiled_in) [] stored end ≡ end stored
   all_run end =

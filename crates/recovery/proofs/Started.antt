@@ -1,4 +1,4 @@
--- The node that a log is started with.
+-- What is started from a log: the chain and the log of its blocks, or the reason why there is none.
 use Rattle.std.proofs.Common.{◌≡◌, inl, inr, ℕ, Bool, List, [], length, Option, Some, None}
 use Rattle.std.proofs.Common.{Result, Ok, Err, refl, sym, ap, subst, ◌∙◌}
 use Rattle.std.specs.Prelude.{IfOk, MatchBool}
@@ -27,7 +27,7 @@ use Rattle.recovery.specs.declared.errors.StartError.TheVariants as starts
 use Rattle.recovery.proofs.Placing.{stricter}
 use Rattle.recovery.proofs.Replaying.{AreRun, none_run, all_run}
 
--- what bytes stand for where rows are counted
+-- what bytes stand for if rows are counted
 counted : (image : List ℕ)
     → standing next_in_chain image ≡ restanding (placement_in compiled_in)
     (standing next_in_log image)
@@ -44,7 +44,7 @@ module _ (stored : List Stored) (chain : ChainState) (run : AreRun stored chain)
   damaged_after image at is = counted image ∙ ap (restanding (placement_in compiled_in)) is
       ∙ all_run stored chain run (λ held. Damaged held at)
 
-  -- these are all blocks, of bytes with a head or without
+  -- these are all blocks, of bytes with a head or without one
   chain_is : (log : LogState) (image : List ℕ) → IsLogStarted log stored image
       → chain_in image ≡ Some (blocks_in stored)
   chain_is log image started = elim (cases_Bool log.is_ready) [
@@ -73,13 +73,13 @@ module _ (stored : List Stored) (chain : ChainState) (run : AreRun stored chain)
         (all.started image told);
   }
 
--- There is no block.
+-- The chain of a log without blocks.
 pub blank_run : (chain : ChainState) (log : LogState) (content : Option (List ℕ))
     → chain ≡ nothing_kept → AreAll log content [] → HasRun chain log content
 blank_run chain log content is all = has_run [] chain (subst (AreRun []) (sym is) none_run) log
     content all
 
--- There is no block, whatever the device holds.
+-- The chain of a log without blocks, whatever the device holds.
 pub blank_read : (chain : ChainState) (log : LogState) (content : Option (List ℕ))
     → chain ≡ nothing_kept → AreAll log content [] → HasRead chain log content
 blank_read chain log content is all = record
@@ -95,7 +95,7 @@ one_chain chain log content read = record {
       ∙ ap last_digest (sym (read.digests_are ∙ read.all.are_stored.digests_are));
 }
 
--- the log agrees with what is told of its disk
+-- the log agrees with its disk, if that is known
 log_rests : (chain : ChainState) (log : LogState) (state : Option DiskState) → IsSettled state
     → HasRead chain log (content_of state) → Rests state (Agrees log)
 log_rests chain log None rests read = tt
@@ -156,7 +156,7 @@ module _ {C : Type 0} (kept : C → ChainState) (state : Option DiskState) (rest
     has_log (Ok opened) read = log_rests (kept opened.0) opened.1 state rests read
     has_log (Err error) read = tt
 
--- Nothing was started with, since reading the log failed so.
+-- Nothing was started, since opening the log failed with this error.
 pub failed_start : {C : Type 0} (kept : C → ChainState) (content : Option (List ℕ))
     (failed : LogError) (error : StartError) → error ≡ start_error failed
     → IsOpened content (Err failed) → IsRestored kept content (Err error)
@@ -170,7 +170,7 @@ failed_start {C} kept content failed error is opened = subst
     there logs.DiskFault opened = tt
     there logs.Memory opened = tt
 
--- Reading a block failed so, after blocks that have run.
+-- Reading a block failed with this error, after blocks that have run.
 pub failed_turn : {C : Type 0} (kept : C → ChainState) (content : Option (List ℕ))
     (stored : List Stored) (chain : ChainState) → AreRun stored chain
     → (failed : LogError) (error : StartError) → error ≡ start_error failed

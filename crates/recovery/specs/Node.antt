@@ -1,4 +1,5 @@
--- The chain of a log's blocks, and the log.
+-- A chain and the log of its blocks: what bytes on a disk stand for, and what a crash may leave of
+-- them.
 use Rattle.std.specs.Prelude.{◌≡◌, ◌⊎◌, ℕ, Bool, true, false, List, [], ◌∷◌, ◌++◌, length, Option}
 use Rattle.std.specs.Prelude.{Some, None, IfSome, Result, Ok, Err}
 use Rattle.std.specs.Option.{is_some}
@@ -30,7 +31,8 @@ use Rattle.recovery.specs.declared.errors.AppendError.TheVariants as errors
 use Rattle.recovery.specs.declared.node.Appended.{Appended}
 use Rattle.recovery.specs.declared.node.Appended.TheVariants as appendeds
 
--- What a node keeps: that of its chain, where the bodies of the rows are kept, and that of the log.
+-- What a node keeps: the state of its chain, where the bodies of the rows are kept, and the state
+-- of the log.
 pub record NodeState : Type 0 where
   pub chain : ChainState
   pub bodies : BodiesState
@@ -45,11 +47,11 @@ pub record AreOfOneChain (chain : ChainState) (log : LogState) : Type 0 where
   pub count_is : log.count ≡ length chain.digests
   pub last_is : log.last ≡ last_digest chain.digests
 
--- The next block of a chain, after the rows that its blocks wrote.
+-- The next block of a chain, with the rows of the blocks before it counted.
 abbrev pub next_in_chain : NextBlock
 next_in_chain = next_block block_in (placement_in compiled_in)
 
--- The chain that the bytes of a log stand for, rows counted.
+-- The chain that the bytes of a log stand for, with rows counted.
 abbrev pub chain_in : List ℕ → Option (List Block)
 chain_in image = chain_of next_in_chain image
 
@@ -58,8 +60,8 @@ pub record HoldsChain (log : LogState) (blocks : List Block) (image : List ℕ) 
   pub agrees : Agrees log image
   pub stands : chain_in image ≡ Some blocks
 
--- A chain and a log of these blocks: the chain stands for them, and where the disk is known nothing
--- is pending, and its content stands for them.
+-- A chain and a log of these blocks: the chain stands for them, and if the disk is known, nothing
+-- is pending and its content stands for them.
 pub record AreOfBlocks (chain : ChainState) (held : LogState) (state : Option DiskState)
     (blocks : List Block) : Type 0 where
   pub kept : StandsFor chain blocks
@@ -69,9 +71,9 @@ pub record AreOfBlocks (chain : ChainState) (held : LogState) (state : Option Di
 abbrev pub IsNodeOf : NodeState → Option DiskState → List Block → Type 0
 IsNodeOf node state blocks = AreOfBlocks node.chain node.log state blocks
 
--- A node over a disk and a scratch device. Whether it is known which bytes the device holds or not,
--- the lineage agrees with the device, and where the disk is known nothing is pending, and the log
--- agrees with its content. Where it is known which bytes the device holds, it is the node of some
+-- A node over a disk and a scratch device. Whether or not it is known which bytes the device holds,
+-- the lineage agrees with the device, and if the disk is known, nothing is pending, and the log
+-- agrees with its content. If it is known which bytes the device holds, it is the node of some
 -- blocks.
 pub record IsReady (node : NodeState) (state : Option DiskState) (scratch : ScratchState) : Type 0
   where
@@ -79,7 +81,7 @@ pub record IsReady (node : NodeState) (state : Option DiskState) (scratch : Scra
     pub log : Rests state (Agrees node.log)
     pub of : is_known scratch ≡ true → (blocks : List Block) × IsNodeOf node state blocks
 
--- Why there is nothing to start with on bytes that stand so.
+-- Why nothing can be started on bytes that stand for this.
 abbrev pub IsNoStart : Standing → StartError → Type 0
 IsNoStart stands starts.NotALog = stands ≡ NotALog
 IsNoStart stands (starts.Damaged at) = (before : List Stored) × (stands ≡ Damaged before at)
@@ -87,39 +89,40 @@ IsNoStart stands starts.DiskFault = Unit {0}
 IsNoStart stands starts.ScratchFault = Unit {0}
 IsNoStart stands starts.Memory = Unit {0}
 
--- What is started with on bytes that stand so: it is of their blocks in this way, or it is said why
--- there is nothing.
+-- What is started on bytes that stand for this: it is of their blocks, in the sense of `IsOf`, or
+-- the error says why nothing was started.
 abbrev pub IsStarted : {A : Type 0} → (A → List Block → Type 0) → Standing → Result A StartError
     → Type 0
 IsStarted IsOf stands (Ok started) = (blocks : List Block) × (blocks_of stands ≡ Some blocks)
     × IsOf started blocks
 IsStarted IsOf stands (Err error) = IsNoStart stands error
 
--- A node of the blocks, on this disk.
+-- A node of the blocks, on this disk, was started.
 abbrev pub IsNodeStarted : Option DiskState → Standing → Result NodeState StartError → Type 0
 IsNodeStarted state stands result = IsStarted (λ node. IsNodeOf node state) stands result
 
--- A chain that stands for the blocks.
+-- A chain was started that stands for the blocks.
 abbrev pub IsChainStored : Standing → Result ChainState StartError → Type 0
 IsChainStored stands result = IsStarted StandsFor stands result
 
 -- ---- one more block
 
--- What a crash may leave while bytes that are judged so are taken: the chain from before, or that
+-- What a crash may leave while bytes with this judgement are taken: the chain from before, or that
 -- with the block that they add.
 abbrev pub IsStepOf : List Block → Result Taken Refusal → List ℕ → Type 0
 IsStepOf blocks (Ok frame) image = (chain_in image ≡ Some blocks)
     ⊎ (chain_in image ≡ Some (blocks ++ added_by frame))
 IsStepOf blocks (Err refusal) image = chain_in image ≡ Some blocks
 
--- What a crash may leave of the log by itself, rows not counted, while bytes that spell so are taken:
--- the chain from before, or that with the block that they spell.
+-- What a crash may leave of the log by itself, with rows not counted, while bytes that spell this
+-- are taken: the chain from before, or that with the block that they spell.
 abbrev pub IsLogStepOf : List Block → Result Block ℕ → List ℕ → Type 0
 IsLogStepOf blocks (Ok block) image = IsOldOrNew next_in_log blocks block image
 IsLogStepOf blocks (Err offset) image = chain_of next_in_log image ≡ Some blocks
 
--- What is told of bytes that are judged so. A block that is held already leaves the node as it was;
--- of one that was added the rows, the receipts, and the root at it are told.
+-- What is reported of bytes with this judgement that were not refused. A block that is held already
+-- leaves the node as it was; an added one is reported with its rows, its receipts and the root at
+-- it.
 abbrev pub IsAppended : NodeState → List Block → Result Taken Refusal → NodeState → Appended
     → Type 0
 IsAppended old blocks judgement node (appendeds.Known number) =
@@ -130,13 +133,13 @@ IsAppended old blocks judgement node (appendeds.Added number rows receipts root)
     × (receipts ≡ (block_effects compiled_in (replay compiled_in blocks) block).receipts)
     × (root.0 ≡ root_in compiled_in (blocks ++ block ∷ []) block.number)
 
--- The chain after bytes that are judged so.
+-- The chain after bytes with this judgement.
 abbrev pub blocks_after : List Block → Result Taken Refusal → List Block
 blocks_after blocks (Ok frame) = blocks ++ added_by frame
 blocks_after blocks (Err refusal) = blocks
 
--- What is handed back where bytes that are judged so were not taken: the node as it was where they
--- are refused, and none otherwise.
+-- The node that is returned with an error for bytes with this judgement: the node as it was if they
+-- are refused, else none.
 abbrev pub IsHandedBack : NodeState → Option DiskState → List Block → Result Taken Refusal
     → Option NodeState → AppendError → Type 0
 IsHandedBack old state blocks judgement back (errors.Refused refusal) = (judgement ≡ Err refusal)
@@ -145,7 +148,7 @@ IsHandedBack old state blocks judgement back errors.DiskFault = back ≡ None
 IsHandedBack old state blocks judgement back errors.ScratchFault = back ≡ None
 IsHandedBack old state blocks judgement back errors.Memory = back ≡ None
 
--- What is answered to bytes that are judged so.
+-- What is returned for bytes with this judgement.
 abbrev pub IsAppendAnswer : NodeState → Option DiskState → List Block → Result Taken Refusal
     → Result (NodeState × Appended) (Option NodeState × AppendError) → Type 0
 IsAppendAnswer old state blocks judgement (Ok done) = IsAppended old blocks judgement done.0 done.1
@@ -153,7 +156,7 @@ IsAppendAnswer old state blocks judgement (Ok done) = IsAppended old blocks judg
 IsAppendAnswer old state blocks judgement (Err back) = IsHandedBack old state blocks judgement
     back.0 back.1
 
--- Why a block was not replayed, as a node tells it.
+-- The error of a block that did not run, as an error of the node.
 abbrev pub append_error : HostError → AppendError
 append_error replays.Fault = errors.ScratchFault
 append_error replays.Memory = errors.Memory
@@ -184,22 +187,23 @@ is_refusal errors.DiskFault = false
 is_refusal errors.ScratchFault = false
 is_refusal errors.Memory = false
 
--- Whether the disk was reached for: a block was added, or the disk failed.
+-- Whether the disk was touched: a block was added, or the disk failed.
 abbrev pub reaches_disk : {N B : Type 0} → Result (N × Appended) (B × AppendError) → Bool
 reaches_disk (Ok done) = was_added done.1
 reaches_disk (Err back) = is_disk_fault back.1
 
--- The answer blames what failed so.
+-- The result is an error of this kind.
 abbrev pub Blames : {N B : Type 0} → (AppendError → Bool) → Result N (B × AppendError) → Type 0
 Blames is_fault (Ok done) = ⊥
 Blames is_fault (Err back) = is_fault back.1 ≡ true
 
--- A node is handed back exactly with a refusal.
+-- A node is returned with an error exactly if the error is a refusal.
 abbrev pub HandsBack : {N M : Type 0} → Result N (Option M × AppendError) → Type 0
 HandsBack (Ok done) = Unit {0}
 HandsBack (Err back) = is_some back.0 ≡ is_refusal back.1
 
--- The node is so, where there is one: with what became of the block, or handed back.
+-- This holds of the node that is returned, if there is one: with what became of the block, or with
+-- an error.
 abbrev pub IfNode : (NodeState → Type 0)
     → Result (NodeState × Appended) (Option NodeState × AppendError) → Type 0
 IfNode P (Ok done) = P done.0

@@ -1,4 +1,4 @@
--- Blocks of a log, run as they are read.
+-- Restoring a chain from a log: its blocks run as they are read.
 use Rattle.std.specs.Prelude.{◌≡◌, ℕ, Bool, false, List, [], ◌∷◌, ◌++◌, map, Option, Some}
 use Rattle.std.specs.Prelude.{Result, Ok, Err}
 use Rattle.lc_base.specs.Faults.{HasCause}
@@ -20,15 +20,15 @@ use Rattle.recovery.specs.Node.{chain_in, next_in_chain}
 use Rattle.recovery.specs.declared.errors.StartError.{StartError}
 use Rattle.recovery.specs.declared.errors.StartError.TheVariants as starts
 
--- The error of a log as a node tells it.
+-- The error of a log, as an error of starting.
 abbrev pub start_error : LogError → StartError
 start_error errors.NotALog = starts.NotALog
 start_error (errors.Damaged at) = starts.Damaged at
 start_error errors.DiskFault = starts.DiskFault
 start_error errors.Memory = starts.Memory
 
--- What reading a log does to the machine that has it: its disk stays as it is, at each moment, and
--- nothing is told; and the disk is blamed exactly where one of its calls failed.
+-- What reading a log does to its machine: the disk stays as it is, at each moment, and nothing is
+-- printed; and the disk is blamed exactly if one of its calls failed.
 pub record ReadsLog {D T : Type 0} (now : D → ℕ) (disk : D → ℕ → Option DiskState)
     (disk_faults : D → ℕ) (told : D → T) (wire_faults : D → ℕ) (old new : D) (Blames : Type 0)
     : Type 0 where
@@ -36,8 +36,8 @@ pub record ReadsLog {D T : Type 0} (now : D → ℕ) (disk : D → ℕ → Optio
   pub wire : LeavesWire told wire_faults old new
   pub cause : HasCause (disk_faults old) (disk_faults new) Blames
 
--- What running blocks does to the scratch device that it is lent, `calls` or not: one that is not
--- called is as it was, and is not blamed.
+-- What running blocks does to the scratch device that it is lent. If `calls` is false the device is
+-- not called: it stays as it was, and is not blamed.
 pub record RunsOn {S : Type 0} (calls : Bool) (state : S → ScratchState) (faults : S → ℕ)
     (old new : S) (Blames : Type 0) : Type 0 where
   pub serves : Serves state faults old new Blames
@@ -51,7 +51,7 @@ IsRun kept blocks next (Ok chain) = (placement_in compiled_in blocks next.block 
 IsRun kept blocks next (Err at) = (placement_in compiled_in blocks next.block ≡ Next → ⊥)
     × (at ≡ next.place)
 
--- It is so, where there is one.
+-- This holds of what was made, if anything was.
 abbrev pub IfMade : {C E : Type 0} → (C → Type 0) → Result C E → Type 0
 IfMade P (Ok made) = P made
 IfMade P (Err other) = Unit {0}
@@ -60,22 +60,22 @@ IfMade P (Err other) = Unit {0}
 abbrev pub digests_of : List Stored → List Digest
 digests_of stored = map (λ one. one.digest) stored
 
--- Whether the content is known or not, and whatever running the blocks gave: these blocks were read,
--- and are all; the chain has their digests.
+-- Whether or not the content is known, and whatever running the blocks returned: these blocks were
+-- read, and are all; the chain has their digests.
 pub record HasRead (chain : ChainState) (log : LogState) (content : Option (List ℕ)) : Type 0 where
   pub stored : List Stored
   pub all : AreAll log content stored
   pub digests_are : chain.digests ≡ digests_of stored
 
--- All blocks of a log run: the chain is that of them, and so is the log.
+-- All blocks of a log have run: the chain and the log are of these blocks.
 pub record HasRun (chain : ChainState) (log : LogState) (content : Option (List ℕ)) : Type 0 where
   pub stored : List Stored
   pub all : AreAll log content stored
   pub stands : StandsFor chain (blocks_in stored)
-  -- Where the content is known it stands for them, rows counted.
+  -- If the content is known it stands for them, with rows counted.
   pub counted : (image : List ℕ) → content ≡ Some image → chain_in image ≡ Some (blocks_in stored)
 
--- What the blocks of a log give.
+-- What restoring the chain of a log returns, by its content.
 abbrev pub IsRestored : {C : Type 0} → (C → ChainState) → Option (List ℕ)
     → Result (C × LogState) StartError → Type 0
 IsRestored kept content (Ok opened) = HasRun (kept opened.0) opened.1 content

@@ -1,4 +1,4 @@
-//! Taking one more block.
+//! Taking a block: it has run before it is stored, so storing it can fail for the disk only.
 
 ghost use Rattle.std.specs.Prelude.{◌≡◌, ℕ, List, Ok, Some, false, true};
 ghost use Rattle.lc_base.specs.Faults.{HasCause};
@@ -21,7 +21,7 @@ use lc_base::{Digest, HostError, Memory};
 use scratch_model::Scratch;
 use std::alloc::Global;
 
-/// Why a block did not run, as a node tells it.
+/// The error of a block that did not run, as an error of the node.
 fn run_error(error: HostError) -> AppendError
     ensures { result ≡ append_error error }
 {
@@ -32,8 +32,8 @@ fn run_error(error: HostError) -> AppendError
 }
 
 impl Node {
-    /// Runs the next block of the chain, and then stores it: it is then known that there is memory
-    /// for it, and that the scratch device keeps it.
+    /// Runs the next block of the chain, and then stores it: by then it is known that there is
+    /// memory for it, and that the scratch device keeps it.
     fn add<M: Disk, S: Scratch>(
         self,
         alloc: Global,
@@ -93,9 +93,10 @@ impl Node {
         }
     }
 
-    /// Takes some bytes as a block. The next block of the chain runs and is stored; one that it
-    /// holds is passed over; and all others are refused, which hands the node back. The node is
-    /// lost where the disk or the scratch device fails, and out of memory.
+    /// Takes bytes as a block. The next block of the chain runs and is stored; a block that the
+    /// chain holds already changes nothing; and all others are refused, which returns the node with
+    /// the error. The node is discarded if the disk or the scratch device fails, or if memory runs
+    /// out.
     ///
     /// All memory is taken, and all calls of the scratch device are made, before the first call
     /// that changes the disk.
@@ -107,8 +108,8 @@ impl Node {
         bytes: &[u8],
     ) -> Result<(Node, Appended), (Option<Node>, AppendError)>
         requires ready { IsReady self (M.disk machine.old (M.now machine.old)) (S.state scratch.old) }
-        // Where it is known which bytes the scratch device holds: what is answered is how the bytes
-        // are judged, unless a device fails or memory runs out.
+        // If it is known which bytes the scratch device holds: the answer is the judgement of the
+        // bytes, unless a device fails or memory runs out.
         ensures answer { is_known (S.state scratch.old) ≡ true → (blocks : List Blocks)
             → IsNodeOf self (M.disk machine.old (M.now machine.old)) blocks
             → IsAppendAnswer self (M.disk machine.new (M.now machine.new)) blocks
@@ -120,20 +121,21 @@ impl Node {
             → content_of (M.disk machine.old (M.now machine.old)) ≡ Some content
             → Keeps M.now M.disk machine.old machine.new
             (IsStepOf blocks (judgement_of compiled_in blocks (block_in bytes.now))) }
-        // Whether that is known or not, and so whatever the device gives: a crash at any moment leaves
-        // the chain from before the call, or that with the block that the bytes spell, rows not
-        // counted. The rows are all that hangs on the device, and they can but refuse a block.
+        // Whether or not that is known, and so whatever the device returns: a crash at any moment
+        // leaves the chain from before the call, or that with the block that the bytes spell, if
+        // rows are not counted. Nothing else depends on the device than the rows, which can only
+        // refuse a block.
         ensures log_images { (blocks : List Blocks) (content : List ℕ)
             → content_of (M.disk machine.old (M.now machine.old)) ≡ Some content
             → chain_of next_in_log content ≡ Some blocks
             → Keeps M.now M.disk machine.old machine.new (IsLogStepOf blocks (block_in bytes.now)) }
-        // A node that is given, or handed back, is ready for the next block; and it is handed back
-        // exactly where the bytes are refused.
+        // A node that is returned, with or without an error, is ready for the next block; and it is
+        // returned with an error exactly if the bytes are refused.
         ensures ready { IfNode (λ node. IsReady node (M.disk machine.new (M.now machine.new))
             (S.state scratch.new)) result }
         ensures handed { HandsBack result }
-        // Where no block was stored and the disk did not fail, also after ScratchFault and Memory,
-        // the disk was not touched, and the content at entry is all that a crash could have left.
+        // If no block was stored and the disk did not fail, also after ScratchFault and Memory, the
+        // disk was not touched, and the content at entry is all that a crash could have left.
         ensures untouched { reaches_disk result ≡ false → machine.new ≡ machine.old }
         ensures only_image { reaches_disk result ≡ false → (content : List ℕ)
             → content_of (M.disk machine.old (M.now machine.old)) ≡ Some content

@@ -1,31 +1,31 @@
-//! Why a node was not started, or did not take a block.
+//! Why a node was not started, or did not take a block. Only a refusal leaves the node usable.
 
 use chain_replay::Refusal;
 
-/// Why there is no node to start with.
+/// Why no node could be started.
 #[derive(Clone, Copy, Debug, PartialEq, Eq)]
 pub enum StartError {
-    /// The disk holds something else than a log.
+    /// The disk holds something other than a log.
     NotALog,
-    /// What stands at the gate at this offset is no record of the chain's next block.
+    /// The bytes at the gate at this offset are no record of the chain's next block.
     Damaged { at: u64 },
     /// A call of the disk failed.
     DiskFault,
     /// A call of the scratch device failed.
     ScratchFault,
-    /// Out of memory.
+    /// Memory ran out.
     Memory,
 }
 
 /// Why a block was not taken.
 #[derive(Clone, Copy, Debug, PartialEq, Eq)]
 pub enum AppendError {
-    /// The chain refuses it.
+    /// The chain refuses it, for this reason.
     Refused(Refusal),
     /// A call of the disk failed.
     DiskFault,
     /// A call of the scratch device failed.
     ScratchFault,
-    /// Out of memory.
+    /// Memory ran out.
     Memory,
 }

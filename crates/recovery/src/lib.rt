@@ -1,4 +1,5 @@
-//! A chain of blocks over the log that holds them.
+//! A chain of blocks over the log that holds them: a block runs before it is stored, and the blocks
+//! of a log run as they are read.
 #![tactic(auto)]
 
 mod appending;

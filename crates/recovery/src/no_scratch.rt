@@ -1,11 +1,11 @@
-//! The scratch device of a chain that calls none.
+//! The scratch device of a chain that doesn't call its device.
 
 ghost use Rattle.std.specs.Prelude.{nat_le, None};
 
 use lc_io::{Failed, one_more};
 use scratch_model::Scratch;
 
-/// A device that keeps no byte: each call of it fails.
+/// A device that keeps no byte: each call of it fails, and is counted.
 #[derive(Drop)]
 pub struct NoScratch {
     pub faults: u64,

@@ -1,4 +1,4 @@
-//! A node: the chain of the blocks that a log holds, and the log.
+//! A node: a chain and a log that always have the same blocks.
 
 ghost use Rattle.std.specs.Prelude.{◌≡◌, ◌<◌, ◌≤◌, ℕ, true, List, length, slice_get, Some, IfOk, IsErrOf, MatchOption};
 ghost use Rattle.disk_model.specs.Disk.{IsSettled, content_of};
@@ -26,7 +26,7 @@ use scratch_model::Scratch;
 use std::alloc::Global;
 use std::marker::Model;
 
-/// The chain of the blocks that a log holds, whose bodies are on a scratch device, and the log.
+/// The chain of the blocks that a log holds, with bodies on a scratch device, and the log.
 #[derive(Drop)]
 pub struct Node {
     pub(crate) chain: LineageChain,
@@ -56,8 +56,8 @@ pub enum Appended {
     Known {
         number: u32,
     },
-    /// It was stored at this number. It wrote so many rows, each of its transactions ended so, and
-    /// this is the root at it.
+    /// It was stored at this number. It wrote `rows` rows, there is a receipt for each of its
+    /// transactions, and this is the root at it.
     Added {
         number: u32,
         rows: u32,
@@ -67,20 +67,20 @@ pub enum Appended {
 }
 
 impl Node {
-    /// The node of the log on a disk. It writes nothing to the disk.
+    /// Starts the node of the log on a disk. It writes nothing to the disk.
     pub fn start<M: Disk, S: Scratch>(
         alloc: Global,
         machine: &mut M,
         scratch: &mut S,
     ) -> Result<Node, StartError>
         requires settled { IsSettled (M.disk machine.old (M.now machine.old)) }
-        // Where it is known which bytes the scratch device holds, the node is that of the chain that
-        // the content stands for, or it stands for none.
+        // If it is known which bytes the scratch device holds, the node is that of the chain that
+        // the content stands for, or the content stands for no chain.
         ensures answer { is_known (S.state scratch.old) ≡ true → (content : List ℕ)
             → content_of (M.disk machine.old (M.now machine.old)) ≡ Some content
             → IsNodeStarted (M.disk machine.new (M.now machine.new))
             (standing next_in_chain content) result }
-        // Whether or not that is known, and whether or not the disk is:
+        // Holds whether or not that is known, and whether or not the disk is known.
         ensures ready { IfOk result
             (λ node. IsReady node (M.disk machine.new (M.now machine.new)) (S.state scratch.new)) }
         ensures machine { ReadsLog M.now M.disk M.disk_faults M.told M.wire_faults machine.old
@@ -101,14 +101,14 @@ impl Node {
         self.chain.len()
     }
 
-    /// The digest of a block; `None` exactly past the last one.
+    /// The digest of the block `at`; `None` exactly if the chain has no such block.
     pub fn digest(&self, at: u32) -> Option<Digest>
         ensures { result ≡ slice_get self.now.chain.digests at }
     {
         self.chain.digest(at)
     }
 
-    /// The root at a block; `None` exactly past the last one.
+    /// The root at the block `at`; `None` exactly if the chain has no such block.
     pub fn root(&self, at: u32) -> Option<Digest>
         ensures { (blocks : List Blocks) → StandsFor self.now.chain blocks
             → MatchOption result (length blocks ≤ at)
@@ -124,8 +124,8 @@ impl Node {
         self.chain.lineage()
     }
 
-    /// The lineage of its chain alone, for a command that appends no more. Its bodies are where
-    /// they were.
+    /// The lineage of its chain alone, for a command that appends nothing further. Its bodies stay
+    /// where they are.
     pub fn into_lineage(self) -> Lineage
         ensures { result ≡ lineage_in self }
     {
@@ -133,7 +133,7 @@ impl Node {
         chain.into_lineage()
     }
 
-    /// Ends the node.
+    /// Discards the node.
     pub fn give_up(self) {
         let Node { chain, log: _log } = self;
         chain.give_up();

@@ -1,4 +1,4 @@
-//! Opening the log on a disk.
+//! Opening the log on a disk: nothing is written, and its blocks run as they are read.
 
 ghost use Rattle.std.specs.Prelude.{◌≡◌, ℕ, List, Some, IfOk, IsErrOf};
 ghost use Rattle.disk_model.specs.Disk.{IsSettled, Rests, content_of};
@@ -19,15 +19,15 @@ use disk_model::Disk;
 use scratch_model::Scratch;
 use std::alloc::Global;
 
-/// The chain of the blocks that the log on a disk holds, and the log. It writes nothing to the
-/// disk.
+/// Opens the log on a disk: the chain of the blocks that it holds, and the log. It writes nothing
+/// to the disk.
 pub fn open<C: Replay, M: Disk, S: Scratch>(
     alloc: Global,
     machine: &mut M,
     scratch: &mut S,
 ) -> Result<(C, Log), StartError>
     requires settled { IsSettled (M.disk machine.old (M.now machine.old)) }
-    // Where the scratch device is not called, or it is known which bytes it holds.
+    // Holds if the scratch device is not called, or if it is known which bytes it holds.
     ensures answer { IsKnownFor C.calls_scratch (S.state scratch.old) → (content : List ℕ)
         → content_of (M.disk machine.old (M.now machine.old)) ≡ Some content
         → IsStarted (λ opened. AreOfBlocks (C.kept opened.0) opened.1
@@ -35,7 +35,7 @@ pub fn open<C: Replay, M: Disk, S: Scratch>(
     ensures blocks { IsKnownFor C.calls_scratch (S.state scratch.old)
         → IfOk result (λ opened. (blocks : List Blocks)
         × AreOfBlocks (C.kept opened.0) opened.1 (M.disk machine.new (M.now machine.new)) blocks) }
-    // Whether that is known or not.
+    // Holds in either case.
     ensures agrees { IfOk result (λ opened. C.agrees opened.0 (S.state scratch.new)) }
     ensures log { IfOk result
         (λ opened. Rests (M.disk machine.new (M.now machine.new)) (Agrees opened.1)) }
@@ -54,15 +54,15 @@ pub fn open<C: Replay, M: Disk, S: Scratch>(
     }
 }
 
-/// The chain of the blocks that the log on a disk holds, for one who only reads it: plain rows,
-/// without a root. It writes nothing, and needs no scratch device.
+/// The chain of the blocks that the log on a disk holds, for a caller who only reads it: plain
+/// rows, without roots. It writes nothing, and needs no scratch device.
 pub fn stored_chain<M: Disk>(alloc: Global, machine: &mut M) -> Result<Chain, StartError>
     requires settled { IsSettled (M.disk machine.old (M.now machine.old)) }
-    // The chain is the one that the content stands for, or it stands for none.
+    // The chain is the one that the content stands for, or the content stands for no chain.
     ensures answer { (content : List ℕ)
         → content_of (M.disk machine.old (M.now machine.old)) ≡ Some content
         → IsChainStored (standing next_in_chain content) result }
-    // Whether the disk is known or not, it is the chain of some blocks.
+    // Whether or not the disk is known, it is the chain of some blocks.
     ensures blocks { IfOk result (λ chain. (blocks : List Blocks) × StandsFor chain blocks) }
     ensures machine { ReadsLog M.now M.disk M.disk_faults M.told M.wire_faults machine.old
         machine.new (IsErrOf result StartError.DiskFault) }

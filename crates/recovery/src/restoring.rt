@@ -1,4 +1,4 @@
-//! The chain of the blocks of a log, which run as they are read.
+//! Restoring a chain from a log: each block runs as soon as it is read, so one is held at a time.
 
 ghost use Rattle.std.specs.Prelude.{◌≡◌, [], ◌∷◌, ◌++◌, List, IfOk, IsErrOf};
 ghost use Rattle.disk_model.specs.Disk.{content_of};
@@ -43,8 +43,8 @@ impl From<Memory> for StartError {
     }
 }
 
-/// The chain with this block of a log, which has run. Where it is not the next one, since those
-/// before it wrote too many rows: the offset of its gate.
+/// Runs a block of a log and returns the chain with it. The offset of its gate is returned instead
+/// if it is not the next block, as those before it wrote too many rows.
 fn run_stored<C: Replay, S: Scratch>(
     alloc: Global,
     chain: C,
@@ -75,8 +75,8 @@ fn run_stored<C: Replay, S: Scratch>(
     }
 }
 
-/// The chain of the blocks of a log, none of which was read yet, and the log. Each block runs as
-/// soon as it is read, so one is held at a time.
+/// The chain of the blocks of a log, from its first block on, and the log. Each block runs as soon
+/// as it is read, so one is held at a time.
 pub fn restore<C: Replay, M: Disk, S: Scratch>(
     alloc: Global,
     machine: &mut M,

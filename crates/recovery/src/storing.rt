@@ -1,4 +1,4 @@
-//! Storing a block in a log.
+//! Storing a block: a log that isn't there yet is created before the block is appended.
 
 ghost use Rattle.std.specs.{
   Prelude.{◌≡◌, ◌+◌, ℕ, List, [], ◌∷◌, ◌++◌, Some, Ok, IfOk, IsErr},
@@ -19,7 +19,8 @@ ghost use Rattle.block_log.specs.{
 use block_log::{DiskFault, Log};
 use disk_model::Disk;
 
-/// Appends the next block, of these bytes, to a log, which is created first where there is none.
+/// Appends the next block, which has these bytes, to a log. The log is created first if the disk
+/// has none yet.
 pub fn store<M: Disk>(log: Log, machine: &mut M, bytes: &[u8]) -> Result<Log, DiskFault>
     requires agrees { Rests (M.disk machine.old (M.now machine.old)) (Agrees log) }
     requires next { IsNextOf log bytes.now }

@@ -1,4 +1,4 @@
--- The blocks that an input adds to a chain go on with it.
+-- A chain stays a chain with the blocks that an input adds.
 use Rattle.std.proofs.Common.{◌≡◌, ℕ, zero, suc, ◌+◌, ◌-◌, List, [], ◌++◌, Result, Ok, Err, refl, sym, subst, append-nil, append_assoc}
 use Rattle.byte_fields.specs.Spelling.{IsBytes}
 use Rattle.block_codec.specs.Frames.{FrameStep, End, Truncated, Length, Many, Frame, frame_step}
@@ -23,7 +23,8 @@ module _ (read : Decoder) (compile : Compiler) (right : IsDecoder read) where
   same_chain : (blocks : List Block) → IsLawfulChain compile blocks → IsLawfulChain compile (blocks ++ [])
   same_chain blocks chain = subst (IsLawfulChain compile) (sym (append-nil blocks)) chain
 
-  -- the blocks of a chain and those that bytes add, which are judged so
+  -- the blocks of a chain, with those that bytes add by the judgement of their placement, are a
+  -- chain
   by_placement : (blocks : List Block) (bytes : List ℕ) (block : Block) (frame : Taken) → IsBytes bytes → IsLawfulChain compile blocks → read bytes ≡ Ok block
       → (placement : Placement) → placement_in compile blocks block ≡ placement → judged_by_placement block placement ≡ Ok frame → IsLawfulChain compile (blocks ++ added_by frame)
   by_placement blocks bytes block frame fits chain spelled KnownBlock e is =

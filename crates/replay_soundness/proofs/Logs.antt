@@ -1,4 +1,4 @@
--- The blocks of a log are a chain.
+-- The blocks of a log are a chain, by induction on its records.
 use Rattle.std.proofs.Common.{◌≡◌, ℕ, zero, suc, ◌+◌, Bool, true, false, cond, eqb, ltb, leb, ◌&&◌, List, [], ◌∷◌, ◌++◌, length, take, drop, Option, Some, None, Result, Ok, Err, refl, sym, ap, subst}
 use Rattle.std.specs.Int.{w32, from_be_bytes}
 use Rattle.std.proofs.lemmas.List.{map_push}
@@ -30,14 +30,14 @@ module _ (read : Decoder) (compile : Compiler) (right : IsDecoder read) where
       (ap Ok p.1, subst (λ (b : Block). placement_in compile blocks b ≡ Next) p.1 p.0)
   given blocks (Err offset) block is = absurd (cc is)
 
-  -- one record more
+  -- one more record
   longer_log : (stored : List Stored) (last : Stored) (bytes : List ℕ) → IsBytes bytes → IsLawfulChain compile (blocks_in stored) → next (blocks_in stored) bytes ≡ Some last.block → IsLawfulChain compile (blocks_in (stored ++ last ∷ []))
   longer_log stored last bytes fits chain is =
       let g = given (blocks_in stored) (read bytes) last.block is in
       subst (IsLawfulChain compile) (sym (map_push (λ (s : Stored). s.block) stored last))
       (longer_chain compile (blocks_in stored) last.block chain (right.found bytes last.block fits g.0).lawful g.1)
 
-  -- the blocks of what bytes stand for are a chain, up to where a log is damaged too
+  -- the blocks that bytes stand for are a chain, also those before the damage in a log
   abbrev EndsInChain : Standing → Type 0
   EndsInChain Blank = Unit {0}
   EndsInChain NotALog = Unit {0}

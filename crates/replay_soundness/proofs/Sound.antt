@@ -1,4 +1,4 @@
--- Accepted proofs answer as replays do.
+-- Accepted proofs answer as replays do, as replayed chains are typed ledgers.
 use Rattle.std.proofs.Common.{◌≡◌, ◌≢◌, ◌⊎◌, inl, inr, ℕ, ◌<◌, ◌^◌, List, length, map, refl, sym, ◌∙◌, arith}
 use Rattle.std.specs.Prelude.{Option, Some, None, IsSomeAnd}
 use Rattle.std.proofs.lemmas.List.{length-map}

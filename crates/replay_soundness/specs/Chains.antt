@@ -1,4 +1,4 @@
--- Where there are chains of blocks: in logs, and in inputs of frames.
+-- Where chains of blocks are found: in logs, and in inputs of frames.
 use Rattle.std.specs.Prelude.{◌≡◌, ℕ, List, ◌++◌, Some}
 use Rattle.byte_fields.specs.Spelling.{IsBytes}
 use Rattle.block_codec.specs.Spelling.{Decoder, IsDecoder}
@@ -16,13 +16,14 @@ LogsHoldChains =
     (read : Decoder) (compile : Compiler) (image : List ℕ) (blocks : List Block) → IsDecoder read → IsBytes image
     → chain_of (next_block read (placement_in compile)) image ≡ Some blocks → IsLawfulChain compile blocks
 
--- A chain with the blocks that the frames of an input add to it is one, wherever the frames end.
+-- A chain with the blocks that the frames of an input add to it is a chain, wherever the frames
+-- end.
 abbrev pub InputsAddToChains : Type 0
 InputsAddToChains =
     (read : Decoder) (compile : Compiler) (frames : ℕ) (blocks : List Block) (input : List ℕ) → IsDecoder read → IsBytes input
     → IsLawfulChain compile blocks → IsLawfulChain compile (blocks ++ added_by_all (fold_from read compile frames blocks input).taken)
 
--- So the blocks that the frames of an input add from none are one.
+-- The blocks that the frames of an input add to no block are a chain.
 abbrev pub InputsHoldChains : Type 0
 InputsHoldChains =
     (read : Decoder) (compile : Compiler) (input : List ℕ) → IsDecoder read → IsBytes input

@@ -1,4 +1,4 @@
--- What accepted proofs say of replays.
+-- What accepted proofs say of replays: the answer is that of the replay, or texts clash.
 use Rattle.std.specs.Prelude.{◌≡◌, ◌≢◌, ◌⊎◌, ◌<◌, ℕ, List, length, map, Option, Some, IsSomeAnd, Ok}
 use Rattle.byte_fields.specs.Spelling.{IsBytes}
 use Rattle.lc_base.specs.declared.answer.Query.{Query}
@@ -23,31 +23,31 @@ use Rattle.proof_checks.specs.Soundness.{AnswersOrClashes}
 use Rattle.text_clashes.specs.FirstClash.{IsFirstAt, IsFirstClash}
 use Rattle.typed_replays.specs.Chains.{IsLawfulChain}
 
--- ---- what is given
+-- ---- premises
 
--- The blocks are a chain, by a right compiler, and it has this root at this block.
+-- The blocks are a chain, under a right compiler, and it has this root at this block.
 pub record HasRoot (compile : Compiler) (blocks : List Block) (block : ℕ) (root : List ℕ) : Type 0 where
   pub right : IsCompiler compile
   pub chain : IsLawfulChain compile blocks
   pub within : block < length blocks
   pub root_is : root_in compile blocks block ≡ root
 
--- The proof passes all checks of one who has this root and this query, and answers so.
+-- The proof passes all checks under this root and for this query, and has this answer.
 pub record IsAccepted (root : List ℕ) (query : Query) (proof : Proof) (answer : Answer) : Type 0 where
   pub lawful : IsProof proof
   pub accepted : verdict root query proof ≡ Ok answer
 
--- ---- what is so of it
+-- ---- conclusions
 
--- What replaying the blocks and scanning their rows up to this block answers.
+-- The answer of replaying the blocks and scanning their rows up to this block.
 abbrev pub replayed_answer : Compiler → List Block → ℕ → Query → Answer
 replayed_answer compile blocks block query = scan (up_to (replay compile blocks).rows block) query
 
--- The texts that are hashed for the root of the blocks at this one.
+-- The texts that are hashed for the root at this block.
 abbrev pub replayed_texts : Compiler → List Block → ℕ → List (List ℕ)
 replayed_texts compile blocks block = ledger_texts (replay compile blocks).rows (map digest_of blocks) block
 
--- A text of the proof and one of these differ and have one digest.
+-- A text of the proof and one of the replay differ and have one digest.
 abbrev pub ClashesWithReplay : Compiler → List Block → ℕ → Proof → Type 0
 ClashesWithReplay compile blocks block proof = Clash (proof_texts proof) (replayed_texts compile blocks block)
 
@@ -56,8 +56,8 @@ abbrev pub AnswersAsReplay : Compiler → List Block → ℕ → Query → Proof
 AnswersAsReplay compile blocks block query proof answer =
     AnswersOrClashes (replay compile blocks).rows (map digest_of blocks) block query (proof_texts proof) answer
 
--- The answer is that of the replay of every chain with this root, at the block where it has it; or
--- there is a clash with the texts of that chain.
+-- The answer is that of the replay of every chain with this root, at the block at which the chain
+-- has it; or there is a clash with the texts of that chain.
 abbrev pub AnswersAsReplays : List ℕ → Query → Proof → Answer → Type 0
 AnswersAsReplays root query proof answer =
     (compile : Compiler) (blocks : List Block) (block : ℕ) → HasRoot compile blocks block root
@@ -65,14 +65,14 @@ AnswersAsReplays root query proof answer =
 
 -- ---- the laws
 
--- What an accepted proof answers is the answer of every chain with the root, or there is a clash.
+-- An accepted proof has the answer of every chain with the root, or there is a clash.
 abbrev pub AcceptedProofsAnswerAsReplays : Type 0
 AcceptedProofsAnswerAsReplays =
     (root : List ℕ) (query : Query) (proof : Proof) (answer : Answer) → IsAccepted root query proof answer
     → AnswersAsReplays root query proof answer
 
--- So what is accepted under the root at a block of the chain that a log stands for is the answer of that
--- chain, or there is a clash.
+-- A proof that is accepted under the root at a block of the chain that a log stands for has the
+-- answer of that chain, or there is a clash.
 abbrev pub AcceptedProofsAnswerAsLogs : Type 0
 AcceptedProofsAnswerAsLogs =
     (read : Decoder) (compile : Compiler) (image : List ℕ) (blocks : List Block) (block : ℕ) (query : Query) (proof : Proof) (answer : Answer)
@@ -80,22 +80,23 @@ AcceptedProofsAnswerAsLogs =
     → block < length blocks → IsAccepted (root_in compile blocks block) query proof answer
     → AnswersAsReplay compile blocks block query proof answer
 
--- Two proofs that are accepted for one query under a root that a chain has give one answer, or one of
--- them clashes with the texts of the chain.
+-- Two proofs that are accepted for one query under a root that a chain has, have one answer, or one
+-- of them clashes with the texts of the chain.
 abbrev pub AcceptedAnswersAgree : Type 0
 AcceptedAnswersAgree =
     (compile : Compiler) (blocks : List Block) (block : ℕ) (root : List ℕ) (query : Query) (a b : Proof) (x y : Answer)
     → HasRoot compile blocks block root → IsAccepted root query a x → IsAccepted root query b y
     → (x ≡ y) ⊎ (ClashesWithReplay compile blocks block a ⊎ ClashesWithReplay compile blocks block b)
 
--- So where one is accepted that answers nothing, and another that answers something, there is a clash.
+-- If one proof is accepted that answers nothing, and another that answers something, there is a
+-- clash.
 abbrev pub NothingAndSomethingClash : Type 0
 NothingAndSomethingClash =
     (compile : Compiler) (blocks : List Block) (block : ℕ) (root : List ℕ) (query : Query) (a b : Proof) (something : Answer)
     → HasRoot compile blocks block root → IsAccepted root query a Nothing → IsAccepted root query b something → something ≢ Nothing
     → ClashesWithReplay compile blocks block a ⊎ ClashesWithReplay compile blocks block b
 
--- Two chains that have one root, under which a proof is accepted, answer the query alike, each up to its
+-- Two chains with one root, under which a proof is accepted, answer the query alike, each up to its
 -- block, or the proof clashes with the texts of one of them.
 abbrev pub ChainsWithOneRootAnswerAlike : Type 0
 ChainsWithOneRootAnswerAlike =
@@ -104,8 +105,8 @@ ChainsWithOneRootAnswerAlike =
     → (replayed_answer compile blocks block query ≡ replayed_answer compile others other query)
     ⊎ (ClashesWithReplay compile blocks block proof ⊎ ClashesWithReplay compile others other proof)
 
--- Where an accepted proof answers otherwise than the replay of a chain with the root, the search for the
--- first clash of its texts and those of the chain finds one.
+-- If an accepted proof answers otherwise than the replay of a chain with the root, the search for
+-- the first clash of its texts with those of the chain finds one.
 abbrev pub WrongAnswersAreExposed : Type 0
 WrongAnswersAreExposed =
     (compile : Compiler) (blocks : List Block) (block : ℕ) (root : List ℕ) (query : Query) (proof : Proof) (answer : Answer) (found : Option (ℕ × ℕ))

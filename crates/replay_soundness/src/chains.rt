@@ -1,4 +1,4 @@
-//! Laws of where there are chains, each the contract of a function that does nothing.
+//! Laws of where chains are found, each the contract of an empty function.
 
 ghost use Rattle.replay_soundness.specs.Chains.{LogsHoldChains, InputsAddToChains, InputsHoldChains};
 
@@ -7,12 +7,12 @@ pub fn logs_hold_chains()
     ensures { LogsHoldChains }
 {}
 
-/// A chain with the blocks that the frames of an input add to it is one.
+/// A chain with the blocks that the frames of an input add to it is a chain.
 pub fn inputs_add_to_chains()
     ensures { InputsAddToChains }
 {}
 
-/// The blocks that the frames of an input add from none are a chain.
+/// The blocks that the frames of an input add to no block are a chain.
 pub fn inputs_hold_chains()
     ensures { InputsHoldChains }
 {}

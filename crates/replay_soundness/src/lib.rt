@@ -1,4 +1,4 @@
-//! Laws of what accepted proofs say of chains of blocks, and of where there are chains.
+//! Laws of what accepted proofs say of chains of blocks, and of where chains are found.
 #![tactic(auto)]
 
 mod chains;

@@ -1,4 +1,5 @@
--- A chain whose next block has run, and a lineage that took its rows.
+-- A chain after its next block has run and the lineage has taken its rows: what is kept is
+-- well-formed.
 use Rattle.std.proofs.Common.{◌≡◌, ℕ, ◌<◌, ◌≤◌, List, [], ◌∷◌, ◌++◌, length, ap, subst, sym, ◌∙◌}
 use Rattle.lc_base.specs.History.{IsLawful}
 use Rattle.lc_base.specs.declared.digest.Digest.{Digest}
@@ -23,13 +24,13 @@ module _ (lineage : LineageState) (world : Known Contract) (rooted : RootedState
   numbered : block.number ≡ length lineage.digests
   numbered = room.number ∙ sym (ap (λ (r : RootedState). length r.digests) seen)
 
-  -- its rows keep the history lawful
+  -- the history with the rows of the block is lawful
   pub run_lawful : IsLawful (lineage.rows ++ more)
   run_lawful =
       next_lawful lineage.digests lineage.rows world more block.number (length block.txs) kept numbered
       (subst (λ (r : RootedState). length r.rows ≤ MAX_ROWS_BEFORE_BLOCK) (sym seen) room.few_rows) few written
 
-  -- and what is kept with them belongs together, as before
+  -- what is kept with these rows belongs together, as before
   pub run_kept : (after : Known Contract) (digest : Digest) (digests : List Digest) (rows : List Row) → StandsForRows after (lineage.rows ++ more) → after.staged ≡ [] → after.staged_codes ≡ []
       → digests ≡ lineage.digests ++ digest ∷ [] → rows ≡ lineage.rows ++ more → IsKeptChain digests rows after
   run_kept after digest digests rows stands no_rows no_codes digests_are rows_are =

@@ -1,4 +1,4 @@
--- The roots of what stands for blocks.
+-- The roots of what is kept are those of the blocks that it stands for.
 use Rattle.std.proofs.Common.{◌≡◌, ℕ, ◌<◌, ◌≤◌, List, length, Option, Some, None, ap, subst, ◌∙◌}
 use Rattle.std.specs.Prelude.{MatchOption}
 use Rattle.std.proofs.lemmas.List.{length-map}
@@ -18,11 +18,11 @@ rooted kept blocks at stands =
     ap (λ (h : History). root_of h.rows kept.digests at) stands.history_is
     ∙ ap (λ (digests : List Digest). root_of (replay compiled_in blocks).rows digests at) stands.digests_are
 
--- there are as many digests as blocks
+-- there is one digest for each block
 pub as_many : (kept : ChainState) (blocks : List Block) → StandsFor kept blocks → length kept.digests ≡ length blocks
 as_many kept blocks stands = ap (length {A = Digest}) stands.digests_are ∙ length-map blocks digest_of
 
--- a root that is told, or that the block is past the last one
+-- the root that is returned is that of the replay, or else the block is past the last one
 pub root_told : (told : Option Digest) (kept : ChainState) (blocks : List Block) (at : ℕ) → StandsFor kept blocks
     → MatchOption told (length kept.digests ≤ at) (λ root. (at < length kept.digests) × (root.0 ≡ root_of kept.rows kept.digests at))
     → MatchOption told (length blocks ≤ at) (λ root. (at < length blocks) × (root.0 ≡ root_in compiled_in blocks at))

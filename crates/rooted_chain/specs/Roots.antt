@@ -1,4 +1,4 @@
--- The lineage of a chain, and the roots of its blocks.
+-- The lineage of a chain, and the roots of its blocks: they are those of replaying the blocks.
 use Rattle.std.specs.Prelude.{◌≡◌, ℕ, List, [], ◌∷◌, ◌++◌, map}
 use Rattle.lc_base.specs.declared.digest.Digest.{Digest}
 use Rattle.lc_base.specs.declared.row.Row.{Row}
@@ -13,19 +13,19 @@ use Rattle.chain_replay.specs.Chain.{ChainState, StandsFor, placement_in}
 use Rattle.root_laws.specs.Root.{root_of}
 use Rattle.merkle_dag.specs.Lineage.{LineageState}
 
--- What is kept of a chain with its lineage: the digests of the blocks, their rows, the contracts that
--- they deployed, by name, and where the bodies of the rows are kept.
+-- What is kept of a chain with its lineage: the digests of its blocks, their rows, the contracts
+-- that they deployed, by name, and where the bodies of the rows are kept.
 pub record RootedState : Type 0 where
   pub digests : List Digest
   pub rows : List Row
   pub codes : List (List ℕ × Contract)
   pub bodies : BodiesState
 
--- The same, but for the bodies: what is kept of any chain.
+-- The part without the bodies: what is kept of any chain.
 abbrev pub kept_in : RootedState → ChainState
 kept_in rooted = record { digests = rooted.digests; rows = rooted.rows; codes = rooted.codes }
 
--- The lineage of what is kept of a chain, whose bodies are kept so.
+-- The lineage of what is kept of a chain, with its bodies kept like this.
 abbrev pub lineage_of : ChainState → BodiesState → LineageState
 lineage_of kept bodies = record { rows = kept.rows; digests = kept.digests; bodies = bodies }
 
@@ -33,12 +33,12 @@ lineage_of kept bodies = record { rows = kept.rows; digests = kept.digests; bodi
 abbrev pub lineage_in : RootedState → LineageState
 lineage_in rooted = lineage_of (kept_in rooted) rooted.bodies
 
--- The root at a block of a chain: over the rows that replaying its blocks gives, and their digests.
+-- The root at a block of a chain: over the rows of replaying its blocks, and over their digests.
 abbrev pub root_in : Compiler → List Block → ℕ → List ℕ
 root_in compile blocks at = root_of (replay compile blocks).rows (map digest_of blocks) at
 
--- So it is with a block, which has this digest, after the others: where a chain stands for blocks,
--- and this one is the next of them, it is so of all these.
+-- This holds with the block, which has this digest, after the others: if a chain stands for blocks,
+-- and this block is placed as the next of them, it holds of all these blocks together.
 abbrev pub IsSoWithNext : ChainState → Block → Digest → (List Block → Type 0) → Type 0
 IsSoWithNext kept block digest IsSo =
     (blocks : List Block) → StandsFor kept blocks → digest ≡ digest_of block

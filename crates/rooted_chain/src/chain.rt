@@ -1,4 +1,4 @@
-//! A chain of blocks over a lineage.
+//! A chain over a lineage: the lineage and the world always belong to the same blocks.
 
 ghost use Rattle.std.specs.Prelude.{◌≡◌, ◌<◌, ◌≤◌, true, List, length, map, slice_get, MatchOption};
 ghost use Rattle.block_codec.specs.{
@@ -22,8 +22,8 @@ use std::alloc::Global;
 use std::marker::Model;
 use world_state::World;
 
-/// What is kept of a chain: its lineage, whose bodies are on a scratch device, and the state that the
-/// next block runs on.
+/// A chain that keeps a lineage of its rows, with the bodies on a scratch device, and the state
+/// that the next block runs on.
 #[derive(Drop)]
 pub struct LineageChain {
     pub(crate) lineage: Lineage,
@@ -45,10 +45,10 @@ impl Model for LineageChain {
     ghost invariant = { λ chain. IsKeptChain chain.lineage.digests chain.lineage.rows chain.world };
 }
 
-/// Drops a world, whose many parts are dropped here alone.
+/// Drops a world. It has many parts, so this is the one place where it is dropped.
 pub(crate) fn discard(_world: World<Checked>) {}
 
-/// How many blocks a lineage has.
+/// The number of blocks of a lineage.
 fn count_of(lineage: &Lineage) -> u32
     requires { length lineage.now.digests ≤ MAX_BLOCKS }
     ensures { result ≡ length lineage.now.digests }
@@ -59,7 +59,7 @@ fn count_of(lineage: &Lineage) -> u32
     }
 }
 
-/// The digest of the last of so many blocks, or `NO_PARENT` where there is none.
+/// The digest of the last block, or `NO_PARENT` if the lineage has no block.
 fn last_digest(lineage: &Lineage) -> Digest
     ensures { result ≡ last_digest lineage.now.digests }
 {
@@ -77,7 +77,7 @@ impl LineageChain {
         count_of(&self.lineage)
     }
 
-    /// The digest of a block; `None` exactly past the last one.
+    /// The digest of the block `at`; `None` exactly if the chain has no such block.
     pub fn digest(&self, at: u32) -> Option<Digest>
         ensures digest { result ≡ slice_get self.now.digests at }
         ensures stands { (blocks : List Blocks) → StandsFor (kept_in self.now) blocks → result ≡ slice_get (map digest_of blocks) at }
@@ -85,7 +85,7 @@ impl LineageChain {
         self.lineage.digest(at)
     }
 
-    /// The root at a block; `None` exactly past the last one.
+    /// The root at the block `at`; `None` exactly if the chain has no such block.
     pub fn root(&self, at: u32) -> Option<Digest>
         ensures root { MatchOption result (length self.now.digests ≤ at) (λ root. (at < length self.now.digests) × (root.0 ≡ root_of self.now.rows self.now.digests at)) }
         ensures stands { (blocks : List Blocks) → StandsFor (kept_in self.now) blocks → MatchOption result (length blocks ≤ at) (λ root. (at < length blocks) × (root.0 ≡ root_in compiled_in blocks at)) }
@@ -100,7 +100,7 @@ impl LineageChain {
         &self.lineage
     }
 
-    /// Its lineage alone, for a chain that is to take no further block.
+    /// The lineage alone, of a chain that is to take no further block.
     pub fn into_lineage(self) -> Lineage
         ensures { result ≡ lineage_in self }
     {

@@ -1,4 +1,5 @@
-//! The next block of a chain.
+//! The next block of a chain: a chain whose block couldn't be run, committed and added is
+//! discarded.
 
 ghost use Rattle.std.specs.Prelude.{◌≡◌, ◌≤◌, ◌+◌, ◌*◌, true, [], ◌∷◌, ◌++◌, length, IfOk, IsErrOf};
 ghost use Rattle.lc_base.specs.{
@@ -23,8 +24,8 @@ use scratch_model::Scratch;
 use std::alloc::Global;
 
 impl LineageChain {
-    /// The chain with the next block after the others, what this block did, and the root at it. On
-    /// an error the chain is given up.
+    /// Runs the next block: the chain with this block after the others, what the block did, and the
+    /// root at it. On an error the chain is discarded.
     pub fn with_block<S: Scratch>(
         self,
         alloc: Global,
@@ -35,7 +36,7 @@ impl LineageChain {
         requires room { HasRoom (kept_in self) block.now }
         requires is_block { IsBlock block.now }
         requires agrees { AgreesWith (lineage_in self) (S.state scratch.old) }
-        // Where it is known which bytes the device holds.
+        // Holds if it is known which bytes the device holds.
         ensures after { IfOk result (λ done. is_known (S.state scratch.old) ≡ true → IsAfter (kept_in self) block.now digest (kept_in done.0) done.1) }
         ensures stands { IfOk result
             (λ done. is_known (S.state scratch.old) ≡ true
@@ -44,7 +45,7 @@ impl LineageChain {
             (λ done. is_known (S.state scratch.old) ≡ true
             → IsSoWithNext (kept_in self) block.now digest
             (λ blocks. done.2.0 ≡ root_in compiled_in blocks block.now.number)) }
-        // Whether that is known or not.
+        // Holds in either case.
         ensures digests { IfOk result (λ done. done.0.digests ≡ self.digests ++ digest ∷ []) }
         ensures rows { IfOk result (λ done. done.0.rows ≡ self.rows ++ done.1.rows) }
         ensures few { IfOk result (λ done. length done.0.rows ≤ length self.rows + MAX_KEYS_PUT * length block.now.txs) }

@@ -1,4 +1,4 @@
-//! Running a block over a lineage and the device that keeps its bodies.
+//! Running a block over a lineage, whose bodies are read from the device.
 
 ghost use Rattle.std.specs.Prelude.{◌≡◌, true, [], length, map, IfOk, OnOk, IsErrOf};
 ghost use Rattle.scratch_model.specs.Scratch.{is_known};
@@ -23,8 +23,8 @@ use scratch_model::Scratch;
 use std::alloc::Global;
 use world_state::World;
 
-/// Runs a block over a lineage, as `run_block` does. What it does is known where it is known which
-/// bytes the device holds; that its rows are lawful is so whether that is known or not.
+/// Runs a block over a lineage, as `run_block` does. What the block does is known only if it is
+/// known which bytes the device holds; its rows are lawful in either case.
 pub(crate) fn run_next<S: Scratch>(
     alloc: Global,
     lineage: &mut Lineage,

@@ -1,4 +1,4 @@
-//! Cases of block files: what each of their blocks did, which no command prints, and whether their chain
+//! Cases of block files: what each block did, which no command prints, and whether the chain
 //! answers as a scan of all rows does.
 
 ghost use Rattle.std.specs.Prelude.{IfOk};
@@ -53,7 +53,8 @@ fn keep_run<W: Write>(out: &mut W, number: u32, run: BlockRun, rows: &mut RowLis
     }
 }
 
-/// Runs the block of a frame after the blocks so far, prints what it did, and appends its rows to theirs.
+/// Runs the block of a frame after the blocks so far, prints what it did, and appends its rows to
+/// theirs.
 fn run_frame<W: Write>(
     alloc: Global,
     out: &mut W,
@@ -98,7 +99,7 @@ fn are_alike(one: &[Bytes], other: &[Bytes]) -> bool {
     true
 }
 
-/// Asks a chain and its rows one question.
+/// Asks a chain and its rows one question, and fails if the answers differ.
 fn ask_both(alloc: Global, chain: &mut Chain, rows: &[Row], query: &Query) -> Result<()> {
     let told = lines_of(alloc, chain.ask(query))?;
     let scanned = lines_of(alloc, scan(alloc, rows, query))?;
@@ -108,8 +109,8 @@ fn ask_both(alloc: Global, chain: &mut Chain, rows: &[Row], query: &Query) -> Re
     Ok(())
 }
 
-/// Asks a chain and its rows each kind of question about the key of each row: at the row's block, at the
-/// block after it, and at the last one. It prints how many answers were compared.
+/// Asks a chain and its rows each kind of question about the key of each row: at the row's block,
+/// at the block after it, and at the last one. Prints how many answers were compared.
 fn compare_answers<W: Write>(
     alloc: Global,
     out: &mut W,
@@ -131,7 +132,7 @@ fn compare_answers<W: Write>(
     Ok(())
 }
 
-/// Runs the blocks of the frames that a source gives, and then compares answers.
+/// Runs the blocks of the frames of a source, and then compares answers.
 fn run_frames<W: Write>(alloc: Global, out: &mut W, source: &mut PausingSource) -> Result<()> {
     let mut chain = Chain::new(alloc);
     let mut rows = RowList::new(alloc);
@@ -154,9 +155,9 @@ fn run_frames<W: Write>(alloc: Global, out: &mut W, source: &mut PausingSource) 
     compared
 }
 
-/// Runs the blocks of a file, which must be a chain from none. It prints the words of the case, then for each
-/// block how many rows it wrote, and for each transaction its status and its cost, and then how many answers
-/// of the chain were those of a scan of its rows.
+/// Runs the blocks of a file, which must be a chain from its first block on. Prints the words of
+/// the case, then for each block the number of rows that it wrote, and for each transaction its
+/// status and its cost, and last how many answers of the chain were those of a scan of its rows.
 pub fn run_blocks<W: Write>(
     alloc: Global,
     out: &mut W,

@@ -1,5 +1,5 @@
-//! Cases of commands: the words and the input of one, its status, what it told, and what became of
-//! the log.
+//! Cases of commands: the words and the input, the status, what was printed, and what became of the
+//! log.
 
 use crate::streams::{bytes_of, machine_of, scratch_of, source_of};
 use anyhow::{Context, Result};
@@ -8,12 +8,12 @@ use disk_model::MemMachine;
 use std::alloc::Global;
 use std::io::Write;
 
-/// The calls of a case that fail: numbers with a comma between two.
+/// The calls of a case that fail: numbers from 0, with a comma between two.
 #[derive(Clone, Copy)]
 pub struct Failing<'a> {
-    /// Of the source; after `pause ` those that give nothing.
+    /// Pulls of the source; after `pause `, those that return no bytes.
     pub pulls: &'a str,
-    /// Of the machine, over its disk and its wire.
+    /// Calls of the machine, over its disk and its wire.
     pub calls: &'a str,
 }
 
@@ -21,11 +21,11 @@ pub struct Failing<'a> {
 #[derive(Clone, Copy)]
 pub struct Case<'a> {
     pub words: &'a str,
-    /// The greatest number of bytes that the source gives at once.
+    /// The greatest number of bytes that the source returns at once.
     pub piece: &'a str,
     pub input: &'a str,
     pub failing: Option<Failing<'a>>,
-    /// What the disk holds before.
+    /// The bytes of the disk before the command, in hex.
     pub image: Option<&'a str>,
     /// The calls of the scratch device that fail; after a `/` its room.
     pub scratch: &'a str,
@@ -36,12 +36,12 @@ pub struct Case<'a> {
 pub struct Ended {
     /// The number of its status.
     pub number: u8,
-    /// How many bytes of its input are left.
+    /// The number of bytes of its input that are left.
     pub left: usize,
     pub machine: MemMachine,
 }
 
-/// The words of a text with a blank between them.
+/// The words of a text that has a blank between each two.
 pub fn words_of(alloc: Global, text: &str) -> Result<Vec<String>> {
     let mut words = Vec::new(alloc);
     if !text.is_empty() {
@@ -52,14 +52,14 @@ pub fn words_of(alloc: Global, text: &str) -> Result<Vec<String>> {
     Ok(words)
 }
 
-/// Whether a piece is a line, of printable bytes and a line end.
+/// Whether a piece is a line, of printable bytes and line ends only.
 fn is_line(piece: &[u8]) -> bool {
     piece
         .iter()
         .all(|byte| *byte == b'\n' || (b' ' <= *byte && *byte <= b'~'))
 }
 
-/// Prints a line as it is, and another piece, which is a frame, in hex.
+/// Prints a line as it is, and any other piece, which is a frame, in hex.
 pub fn print_piece<W: Write>(alloc: Global, out: &mut W, piece: &[u8]) -> Result<()> {
     if is_line(piece) {
         out.write_all(piece)?;
@@ -70,7 +70,7 @@ pub fn print_piece<W: Write>(alloc: Global, out: &mut W, piece: &[u8]) -> Result
     Ok(())
 }
 
-/// Prints what a machine was told, piece by piece.
+/// Prints what was printed on a machine, piece by piece.
 fn print_told<W: Write>(alloc: Global, out: &mut W, machine: &MemMachine) -> Result<()> {
     for i in 0..machine.told_count() {
         let (_, bytes) = machine.told_at(i).context("a piece that was told")?;
@@ -79,7 +79,7 @@ fn print_told<W: Write>(alloc: Global, out: &mut W, machine: &MemMachine) -> Res
     Ok(())
 }
 
-/// Prints what a disk holds, in hex, or that it is what it held before.
+/// Prints what a disk holds, in hex, or `same` if it is what it held before.
 pub fn print_held<W: Write>(
     alloc: Global,
     out: &mut W,
@@ -96,8 +96,8 @@ pub fn print_held<W: Write>(
     Ok(())
 }
 
-/// Prints the number of a command's status, its words, and what it told. Then, where the case says
-/// which calls fail, how many bytes of the input are left; and where it says what the disk held, what
+/// Prints the number of a command's status, its words, and what it printed. Then, if the case says
+/// which calls fail, how many bytes of the input are left; and if it says what the disk held, what
 /// it holds.
 fn print_outcome<W: Write>(
     alloc: Global,

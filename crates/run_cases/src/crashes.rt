@@ -1,5 +1,5 @@
-//! Cases of crashes: at which moment a command told each piece, and what a crash at a moment of
-//! it leaves of the disk.
+//! Cases of crashes: the moment at which a command began to print each piece, and what a crash at a
+//! moment leaves of the disk.
 
 use crate::command::{Case, print_held, print_piece, run_case, words_of};
 use crate::streams::bytes_of;
@@ -8,12 +8,12 @@ use disk_model::MemMachine;
 use std::alloc::Global;
 use std::io::Write;
 
-/// The last word of a crash that leaves no more of the disk than was synced.
+/// The last word of a crash that cuts the disk to the length that was synced.
 const SHORT: &str = "short";
 
-/// What a crash at a moment of a machine leaves. Its text is the moment, how many of the bytes
-/// that are not synced it keeps, the byte in hex that stands in place of the others, and `short`
-/// where it leaves no more than the length that was synced.
+/// What a crash at a moment of a machine leaves. The words of `text` are the moment, how many of
+/// the bytes that are not synced are kept, the byte in hex that replaces the others, and `short` if
+/// the disk is cut to the length that was synced.
 fn crash_of(alloc: Global, machine: &MemMachine, text: &str) -> Result<MemMachine> {
     let words = words_of(alloc, text)?;
     let [moment, keep, fill, length] = words.as_slice() else {
@@ -30,7 +30,7 @@ fn crash_of(alloc: Global, machine: &MemMachine, text: &str) -> Result<MemMachin
         .context("no memory for a crash")
 }
 
-/// Prints each piece that a machine was told, with the moment at which telling it began, and then
+/// Prints each piece that was printed on a machine, with the moment at which that began, and then
 /// the last moment.
 fn print_moments<W: Write>(alloc: Global, out: &mut W, machine: &MemMachine) -> Result<()> {
     for i in 0..machine.told_count() {
@@ -43,8 +43,8 @@ fn print_moments<W: Write>(alloc: Global, out: &mut W, machine: &MemMachine) -> 
     Ok(())
 }
 
-/// Prints what each crash leaves of the disk of a machine, in hex, or that it is what the one
-/// before left; the first one is compared with what the disk held at first.
+/// Prints what each crash leaves of the disk of a machine, in hex, or `same` if it is what the
+/// crash before it left; the first one is compared with what the disk held at first.
 fn print_crashes<W: Write>(
     alloc: Global,
     out: &mut W,
@@ -61,7 +61,7 @@ fn print_crashes<W: Write>(
     Ok(())
 }
 
-/// Runs a command, and prints the number of its status, its words, when it told each piece, and
+/// Runs a command, and prints the number of its status, its words, when it printed each piece, and
 /// what crashes leave.
 pub fn run_crashes<W: Write>(
     alloc: Global,

@@ -1,4 +1,5 @@
-//! Runs cases, each a line of standard input, and prints what each gives. README.md has the forms of lines.
+//! Runs cases, each a line of standard input, and prints the outcome of each. README.md has the
+//! forms of lines.
 #![tactic(auto)]
 
 mod blocks;
@@ -16,16 +17,16 @@ use anyhow::{Context, Result};
 use std::alloc::Global;
 use std::io::{self, BufRead, BufReader, BufWriter, Write};
 
-/// What the words of a case begin with whose blocks are run one by one.
+/// The prefix of a case whose blocks are run one by one.
 const BLOCKS: &str = "blocks ";
 
-/// What the words of a case begin with whose command is stopped by crashes.
+/// The prefix of a case whose command is stopped by crashes.
 const CRASH: &str = "crash ";
 
-/// What the words of a case of a tree begin with.
+/// The prefix of a case of a tree.
 const TREE: &str = "tree ";
 
-/// What stands before the first `|`, and what stands after it, where there is one.
+/// The text before the first `|`, and the text after it, if there is one.
 fn cut(text: &str) -> (&str, Option<&str>) {
     match text.split_once('|') {
         None => (text, None),

@@ -1,9 +1,9 @@
-//! Questions answered by going over all rows, as the definition of an answer does.
+//! Answers by scanning all rows, as the definition of an answer does.
 
 use lc_base::{Answer, Dep, DepList, Duplicate, Key, Kind, Memory, Query, Row};
 use std::alloc::Global;
 
-/// The last row of the key with a block up to `at`.
+/// The last row of the key that is of a block up to `at`.
 fn latest<'a>(rows: &'a [Row], key: &Key, at: u32) -> Option<&'a Row> {
     let mut found = None;
     for row in rows {

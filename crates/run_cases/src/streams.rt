@@ -1,4 +1,4 @@
-//! The source, the machine and the scratch device of a case, from the texts in its line.
+//! The source, the machine and the scratch device of a case, from the fields of its line.
 
 ghost use Rattle.std.specs.Prelude.{◌<◌, ◌≤◌, length, None, IfOk, IsErr};
 ghost use Rattle.lc_base.specs.Faults.{HasCause};
@@ -11,7 +11,7 @@ use lc_io::{Failed, MemSource, Room, Source};
 use scratch_model::MemScratch;
 use std::alloc::Global;
 
-/// Room for what a case tells and writes.
+/// Room for the calls of a case, and for what it prints and writes.
 const ROOM: Room = Room {
     calls: 4096,
     bytes: 1_048_576,
@@ -23,22 +23,22 @@ const SCRATCH_ROOM: Room = Room {
     bytes: 16_777_216,
 };
 
-/// What stands before the numbers of pulls that give nothing.
+/// The prefix of the numbers of pulls that return no bytes.
 const PAUSE: &str = "pause ";
 
-/// A source that gives nothing at some of its pulls, as at the end of an input, and then goes on, as
-/// a terminal may. So what it has left isn't known.
+/// A source that returns no bytes at some of its pulls, as at the end of an input, and then goes
+/// on, as a terminal may. So what it has left isn't known.
 #[derive(Drop)]
 pub struct PausingSource {
     source: MemSource,
-    /// How many pulls there were.
+    /// The number of pulls so far.
     pulls: u64,
-    /// The numbers of the pulls, from 0, that give nothing.
+    /// The numbers of the pulls, from 0, that return no bytes.
     pauses: Vec<u64>,
 }
 
 impl PausingSource {
-    /// How many bytes are left.
+    /// The number of bytes that are left.
     pub fn remaining(&self) -> usize {
         self.source.rest().len()
     }
@@ -64,7 +64,7 @@ impl Source for PausingSource {
     }
 }
 
-/// Adds a part: bytes in hex, or `HEX*COUNT` for that many times these bytes.
+/// Adds a part: bytes in hex, or `HEX*COUNT` for these bytes `COUNT` times.
 fn add_part(alloc: Global, bytes: &mut Vec<u8>, part: &str) -> Result<()> {
     let (digits, count) = match part.split_once('*') {
         None => (part, 1),
@@ -75,7 +75,7 @@ fn add_part(alloc: Global, bytes: &mut Vec<u8>, part: &str) -> Result<()> {
     Ok(())
 }
 
-/// Bytes: parts with a `+` between them.
+/// The bytes of a text: parts with a `+` between each two.
 pub fn bytes_of(alloc: Global, text: &str) -> Result<Vec<u8>> {
     let mut bytes = Vec::new(alloc);
     for part in text.split('+') {
@@ -84,7 +84,7 @@ pub fn bytes_of(alloc: Global, text: &str) -> Result<Vec<u8>> {
     Ok(bytes)
 }
 
-/// Numbers with a comma between them; none where the text is empty.
+/// Numbers with a comma between each two; an empty text has no numbers.
 fn numbers_of(alloc: Global, text: &str) -> Result<Vec<u64>> {
     let mut numbers = Vec::new(alloc);
     if !text.is_empty() {
@@ -95,8 +95,8 @@ fn numbers_of(alloc: Global, text: &str) -> Result<Vec<u64>> {
     Ok(numbers)
 }
 
-/// A source of an input, which gives at most `piece` bytes at once. The pulls of these numbers fail;
-/// where the text begins with `pause`, they give nothing.
+/// A source of an input, which returns at most `piece` bytes at once. The pulls of these numbers
+/// fail; if the text begins with `pause`, they return no bytes.
 pub fn source_of(alloc: Global, piece: &str, input: &str, pulls: &str) -> Result<PausingSource> {
     let piece = piece.parse::<usize>()?;
     let input = bytes_of(alloc, input)?;
@@ -114,8 +114,8 @@ pub fn source_of(alloc: Global, piece: &str, input: &str, pulls: &str) -> Result
     })
 }
 
-/// A machine whose disk holds the bytes of an image, with nothing pending, and of which the calls of
-/// these numbers fail.
+/// A machine whose disk holds the bytes of an image, with nothing pending. Its calls of these
+/// numbers fail.
 pub fn machine_of(alloc: Global, image: &str, calls: &str) -> Result<MemMachine>
     ensures settled { IfOk result (λ machine. IsSettled (disk_of machine (now_of machine))) }
 {
@@ -135,8 +135,8 @@ fn room_of(text: &str) -> Result<Room> {
     })
 }
 
-/// A scratch device that keeps nothing yet, and of which the calls of these numbers fail; after a `/`
-/// its room may stand.
+/// A scratch device that keeps nothing yet. Its calls of these numbers fail; its room may follow
+/// after a `/`.
 pub fn scratch_of(alloc: Global, text: &str) -> Result<MemScratch> {
     let (failing, room) = match text.split_once('/') {
         None => (text, SCRATCH_ROOM),

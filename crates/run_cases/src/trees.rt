@@ -12,12 +12,12 @@ fn leaves_of(alloc: Global, text: &str) -> Result<Vec<Bytes>> {
     for digits in text.split(',') {
         leaves.push(Bytes::from_vec(hex::decode(alloc, digits)?))?;
     }
-    // What stands after the last comma is no leaf.
+    // The empty text after the last comma is no leaf.
     leaves.pop();
     Ok(leaves)
 }
 
-/// The tree of these leaves by levels, which are changed leaf by leaf.
+/// The levels of the tree of these leaves, which are added one by one.
 fn levels_of(alloc: Global, leaves: &[Bytes]) -> Result<Levels> {
     let Ok(mut levels) = Levels::new(alloc) else {
         bail!("no memory for the levels");
@@ -31,14 +31,14 @@ fn levels_of(alloc: Global, leaves: &[Bytes]) -> Result<Levels> {
     Ok(levels)
 }
 
-/// Prints a hash in hex, after what it is.
+/// Prints a hash in hex, after a word that says what it is.
 fn print_hash<W: Write>(alloc: Global, out: &mut W, what: &str, hash: &Digest) -> Result<()> {
     let digits = hex::encode(alloc, hash.0.as_slice())?;
     writeln!(out, "{what} {digits}")?;
     Ok(())
 }
 
-/// Prints the audit path of a leaf of a tree, and the hash to which it leads from there.
+/// Prints the audit path of a leaf of a tree, and the hash to which it leads from the leaf.
 fn print_path<W: Write>(
     alloc: Global,
     out: &mut W,
@@ -72,8 +72,8 @@ fn print_paths<W: Write>(
     Ok(())
 }
 
-/// Prints the words of the case, the tree hash of leaves, by its definition and by levels, and the
-/// audit path of each.
+/// Prints the words of the case, the tree hash of the leaves, by its definition and by levels, and
+/// the audit path of each leaf.
 pub fn run_tree<W: Write>(alloc: Global, out: &mut W, words: &str, leaves: &str) -> Result<()> {
     writeln!(out, "== {words}")?;
     let leaves = leaves_of(alloc, leaves)?;

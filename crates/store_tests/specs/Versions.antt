@@ -10,7 +10,7 @@ use Rattle.skip_list.specs.Towered.{AreVersions}
 abbrev pub IsOfKey : List Entry → List ℕ → Hop → Type 0
 IsOfKey entries key version = IsSomeAnd (slice_get entries version.id.0) (λ (entry : Entry). (entry.facts.key ≡ key) × (entry.links.block ≡ version.block))
 
--- A block is above that of the newest version, where there is one.
+-- A block is above that of the newest version, if there is one.
 abbrev pub IsAbove : Option Hop → ℕ → Type 0
 IsAbove None block = Unit {0}
 IsAbove (Some version) block = version.block < block

@@ -1,4 +1,4 @@
-//! The versions of one key, with their skip list.
+//! The versions of one key, with their skip list: each is added in a block above the newest one's.
 
 ghost use Rattle.std.specs.{
   Prelude.{◌≡◌, ◌<◌, true, length, Some, IfOk, OnErr},
@@ -14,7 +14,7 @@ use skip_list::{find, links_for, path_entries};
 use std::alloc::Global;
 use std::marker::Model;
 
-/// Who counts the entries that are read here.
+/// The counter of the entries that are read here.
 pub struct TestCounter;
 
 impl Counter for TestCounter {
@@ -23,7 +23,7 @@ impl Counter for TestCounter {
     ghost may_begin = { true };
 }
 
-/// How many entries were read.
+/// The number of entries that were read.
 pub type Steps = entry_store::Steps<TestCounter>;
 
 /// The versions of one key, the newest of which is in the highest block.
@@ -49,13 +49,13 @@ impl Model for Versions {
 /// What it took to add a version.
 #[derive(Clone, Copy, Debug, PartialEq, Eq)]
 pub struct Added {
-    /// How many links it has.
+    /// The number of its links.
     pub links: usize,
-    /// How many entries were read to find them.
+    /// The number of entries that were read to find them.
     pub read: u64,
 }
 
-/// Whether a version in this block may be added.
+/// Whether a version in this block may be added: it is above the newest one, and there is room.
 fn may_add(store: &Store, newest: Option<Hop>, block: u32) -> bool
     ensures { result ≡ true → (length store.now < MAX_ROWS) × IsAbove newest block }
 {
@@ -102,7 +102,7 @@ fn push(
     Ok((Hop { block, id }, added))
 }
 
-/// The block of the entry at an index.
+/// The block of the entry at an index; `None` if there is no such entry.
 fn block_at(store: &Store, index: u32) -> Option<u32> {
     match store.id(index) {
         None => None,
@@ -110,7 +110,7 @@ fn block_at(store: &Store, index: u32) -> Option<u32> {
     }
 }
 
-/// The block of an entry; none where there is no entry.
+/// The block of an entry; `None` if there is no entry.
 fn block_of(store: &Store, id: Option<EntryId>) -> Option<u32> {
     match id {
         None => None,
@@ -129,7 +129,7 @@ fn blocks_of(alloc: Global, store: &Store, ids: &[EntryId]) -> Result<Vec<u32>, 
 }
 
 impl Versions {
-    /// No versions of this key.
+    /// A key without versions.
     pub fn new(alloc: Global, key: Key) -> Result<Versions, Memory> {
         Ok(Versions {
             store: Store::new(alloc)?,
@@ -138,7 +138,8 @@ impl Versions {
         })
     }
 
-    /// Adds a version; none is added where there is one in this block or a higher one, or no room.
+    /// Adds a version; `None` if there is one in this block or a higher one, or no room, and then
+    /// nothing is added.
     pub fn add(&mut self, alloc: Global, block: u32) -> Result<Option<Added>, Memory> {
         if !may_add(&self.store, self.newest, block) {
             return Ok(None);
@@ -164,7 +165,7 @@ impl Versions {
         }
     }
 
-    /// The blocks that a lookup looks at.
+    /// The blocks of the versions that a lookup looks at, in order.
     pub fn path(&self, alloc: Global, at: u32) -> Result<Vec<u32>, Memory> {
         match self.newest {
             None => Ok(Vec::new(alloc)),

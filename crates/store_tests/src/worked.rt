@@ -1,10 +1,10 @@
-//! Worked versions: how many links they have, and what lookups look at.
+//! Worked examples: how many links versions have, and what lookups look at.
 
 use crate::versions::Versions;
 use lc_base::{Key, Memory};
 use std::alloc::Global;
 
-/// A lookup up to a block, and what it is to look at and to find.
+/// A lookup up to a block, and the versions that it must look at and find.
 #[derive(Clone, Copy)]
 struct Lookup<'l> {
     at: u32,
@@ -19,7 +19,7 @@ fn no_versions(alloc: Global) -> Result<Versions, Memory> {
     }
 }
 
-/// Adds a version, which is to have so many links.
+/// Whether a version can be added, and has `links` links.
 fn adds(alloc: Global, versions: &mut Versions, block: u32, links: usize) -> Result<bool, Memory> {
     match versions.add(alloc, block)? {
         None => Ok(false),
@@ -83,8 +83,8 @@ fn three_versions(rt: HostRuntime) {
     assert!(rt; three_are_found(rt.alloc()) == Ok(true));
 }
 
-/// Versions in the blocks 0 to 63; the height of each is the number of zeros at the end of its block's
-/// binary digits, and the first has no links.
+/// Versions in the blocks 0 to 63; the height of each is the number of zeros at the end of its
+/// block's binary digits, and the first has no links.
 fn low_versions(alloc: Global) -> Result<Versions, Memory> {
     let mut versions = no_versions(alloc)?;
     versions.add(alloc, 0)?;
@@ -131,7 +131,8 @@ fn far_versions(rt: HostRuntime) {
     assert!(rt; far_are_found(rt.alloc()) == Ok(true));
 }
 
-/// Adds versions in the blocks from 0 on, and tells how many entries were read for one at most.
+/// Adds versions in the blocks from 0 on, and returns the most entries that were read for one of
+/// them.
 fn add_many(alloc: Global, versions: &mut Versions, blocks: u32) -> Result<Option<u64>, Memory> {
     let mut most = 0;
     for block in 0..blocks {
@@ -143,7 +144,8 @@ fn add_many(alloc: Global, versions: &mut Versions, blocks: u32) -> Result<Optio
     Ok(Some(most))
 }
 
-/// Looks up the version in each of these blocks, and tells how many entries were read for one at most.
+/// Looks up the version in each of these blocks, and returns the most entries that were read for
+/// one of them.
 fn find_many(versions: &Versions, blocks: u32) -> Option<u64> {
     let mut most = 0;
     for block in 0..blocks {

@@ -1,4 +1,4 @@
--- Calls put typed rows.
+-- A call puts typed values under keys, so it writes typed rows.
 use Rattle.std.proofs.Common.{◌≡◌, ◌==◌, ℕ, ◌<◌, ◌^◌, Bool, true, false, List, [], ◌∷◌, find, reverse, Option, Some, None, refl, sym, ◌∙◌, true≢false, if◌then◌else◌, arith}
 use Rattle.std.specs.Prelude.{IfSome}
 use Rattle.std.specs.Option.{option_map}

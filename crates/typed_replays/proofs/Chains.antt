@@ -26,7 +26,7 @@ use Rattle.typed_replays.proofs.Replays.{after_typed, nothing_typed_before}
 
 -- ---- a block that is next
 
--- it has the number of blocks before it, and there is room for it
+-- the block has the number of blocks before it, and there is room for it
 record HasRoom (held rows : ℕ) (block : Block) : Type 0 where
   number : block.number ≡ held
   room : held ≢ MAX_BLOCKS
@@ -50,7 +50,7 @@ next_room held rows None parent block digest is = new_room held rows parent bloc
 -- ---- block by block
 
 module _ (compile : Compiler) (good : CompilesValues compile) where
-  -- the blocks so far left a typed history of their own rows, and are few
+  -- the blocks so far left a typed history of their own rows, and are at most MAX_BLOCKS
   record AreTyped (blocks : List Block) : Type 0 where
     history : IsTypedBefore (length blocks) (replay compile blocks)
     few : length blocks ≤ MAX_BLOCKS

@@ -1,4 +1,4 @@
--- The literals of what the compiler makes are values.
+-- The literals of what the compiler makes are values, as the tokens of a source are within limits.
 use Rattle.std.proofs.Common.{ℕ, List, [], ◌∷◌, ◌++◌, Option, None, Some, Ok, Err, sym, subst}
 use Rattle.std.specs.Prelude.{IfSome}
 use Rattle.std.specs.List.{AllByRecursion}

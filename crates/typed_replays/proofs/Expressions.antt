@@ -1,4 +1,4 @@
--- Values of expressions are values.
+-- Expressions over variables that hold values have values.
 use Rattle.std.proofs.Common.{◌==◌, ℕ, List, [], ◌∷◌, ◌++◌, find, Option, Some, None, Bool, ◌≡◌, true}
 use Rattle.std.specs.Prelude.{IfOk, IfSome}
 use Rattle.std.specs.List.{All}

@@ -1,4 +1,4 @@
--- Blocks by which the false laws are false.
+-- Blocks by which the false laws are refuted.
 use Rattle.std.proofs.Common.{◌≡◌, ℕ, zero, suc, ℤ, pos, ◌<◌, ◌^◌, List, [], ◌∷◌, length, get_or, take, None, Some, subst, refl, arith, inl, inr, codes}
 use Rattle.std.specs.Int.{w64}
 use Rattle.std.specs.Int.RustNames.{FitsSigned}

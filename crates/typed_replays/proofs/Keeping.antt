@@ -1,4 +1,4 @@
--- What computations keep: values are values, and captures are lawful and typed.
+-- What computations preserve: values stay values, and captures stay lawful and typed.
 use Rattle.std.proofs.Common.{ℕ, ℤ, ◌-◌, Bool, true, false, Option, Some, None, Result, Ok, Err, if◌then◌else◌}
 use Rattle.std.specs.Prelude.{IfOk, IfSome, nat_le}
 use Rattle.std.specs.Int.{w64}
@@ -15,7 +15,7 @@ use Rattle.dep_capture.specs.declared.access.Put.{Put}
 use Rattle.contract_semantics.specs.Steps.{Machine, Step, Done, Failed, and_then, after_charge, step_of_result}
 use Rattle.contract_semantics.specs.Expressions.{unless_decided}
 
--- A put of a value to a key.
+-- A put of a value under a key.
 pub record IsTypedPut (put : Put) : Type 0 where
   pub key_is_key : IsKey put.key
   pub value_is_value : IsValue put.value
@@ -25,7 +25,7 @@ pub record IsTyped (c : Captured) : Type 0 where
   pub lawful : IsCapture c.reads c.puts
   pub puts : All IsTypedPut c.puts
 
--- Where a step is done, what it gives is so, and the capture is typed.
+-- If a step is done, this holds of its result, and the capture is typed.
 abbrev pub Ends : {A : Type 0} → (A → Type 0) → Step A → Type 0
 Ends P (Done x m) = P x × IsTyped m.capture
 Ends P (Failed status m) = Unit {0}

@@ -1,4 +1,4 @@
--- The literals of contracts are values.
+-- The literals of contracts are values: of tokens, of expressions, and of statements.
 use Rattle.std.proofs.Common.{◌≡◌, ℕ, ℤ, ◌≤◌, ◌+◌, true, List, [], ◌∷◌, ◌++◌, length, Option, None, Some, Ok, Err, refl, subst, arith}
 use Rattle.std.specs.Int.{w64}
 use Rattle.std.specs.Int.RustNames.{FitsSigned}

@@ -1,4 +1,4 @@
--- Puts are typed.
+-- Puts are typed: a good key, a value, and dependencies that were read.
 use Rattle.std.proofs.Common.{◌≡◌, ◌==◌, ℕ, ◌≤◌, ◌<◌, Bool, true, false, not, ◌&&◌, List, length, Option, Some, None, Result, Ok, Err, refl, if◌then◌else◌, arith}
 use Rattle.std.specs.Prelude.{IfOk, nat_le, nat_lt, filter_map}
 use Rattle.std.specs.List.{All}
@@ -94,7 +94,7 @@ put_typed contract place key value parts c h v =
     (λ key k. any_so IsTyped (named_keys parts) (λ named. put_recorded (captured_after_put c key value named))
     (λ named. refused_typed c key value named (not (was_put c.puts key) && nat_le MAX_KEYS_PUT (length c.puts)) (not (are_read c.reads named)) (nat_lt MAX_DEPS (length (deps_of c.reads named))) refl refl h k v)))
 
--- what goes on has variables that hold values
+-- the variables of a statement that goes on hold values
 abbrev pub EndingHolds : Ending → Type 0
 EndingHolds (Goes variables) = All HoldsValue variables
 EndingHolds Returns = Unit {0}

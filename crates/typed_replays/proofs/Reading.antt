@@ -1,4 +1,4 @@
--- What builtins give is a value.
+-- What builtins return is a value.
 use Rattle.std.proofs.Common.{◌≡◌, ◌==◌, ℕ, ℤ, negsuc, pos, suc, zero, ◌<◌, ◌^◌, Bool, true, false, List, [], ◌∷◌, length, reverse, filter, find, get_or, slice_get, Option, Some, None, Result, Ok, Err, refl, subst, if◌then◌else◌, cond, not, arith}
 use Rattle.std.specs.Prelude.{IfOk, IfSome, nat_le, nat_lt, is_some}
 use Rattle.std.specs.Option.{IsSomeAnd, option_map}
@@ -139,7 +139,7 @@ scan_typed rows query h =
     answer_typed rows query (latest rows query.key query.at) h
     (found_typed P (is_version query.key query.at) (reverse rows) (all_reverse P rows (λ k d within. (h.typed k d within, h.lawful.lawful_deps k d within))))
 
--- ---- what is told of answers
+-- ---- answers of a scan
 
 asked_by : (rows : List Row) (kind : Kind) → IsTypedHistory rows → (r : Result (List ℕ) TxStatus) (q : Result ℕ TxStatus) → IfOk (and_so r (λ key. and_so q (λ block. Ok (scan rows (question kind key block))))) IsTypedAnswer
 asked_by rows kind h (Ok key) (Ok block) = scan_typed rows (question kind key block) h
@@ -233,7 +233,7 @@ one_int_typed (values.Text text ∷ args) h = tt
 one_int_typed (values.Int z ∷ []) h = All-head IsValue (values.Int z) [] h
 one_int_typed (values.Int z ∷ (value ∷ args)) h = tt
 
--- ---- what reads nothing of the present
+-- ---- builtins that read nothing of the present
 
 plain_typed : (s : Scene) → IsTypedScene s → (builtin : Builtin) (args : List Value) → All IsValue args → IfOk (plain_value s.rows s.site builtin args) IsValue
 plain_typed s h b.Caller args k = key_is_text s.site.sender h.sender
@@ -255,7 +255,7 @@ plain_typed s h b.GetInt args k = tt
 plain_typed s h b.GetText args k = tt
 plain_typed s h b.Has args k = tt
 
--- ---- what reads
+-- ---- builtins that read
 
 abbrev TypedTaken : BuiltinResult → Type 0
 TypedTaken (Ok value, c) = IsValue value × IsTyped c

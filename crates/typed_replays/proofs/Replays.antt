@@ -1,4 +1,4 @@
--- What transactions and blocks do to typed histories.
+-- What transactions and blocks do to typed histories: they stay typed.
 use Rattle.std.proofs.Common.{◌≡◌, ◌==◌, ℕ, ◌+◌, ◌<◌, ◌≤◌, ◌^◌, Bool, true, false, not, List, [], ◌∷◌, length, Option, None, Some, refl, sym, subst, arith, cond}
 use Rattle.std.specs.Prelude.{IfSome, codes as codes_of}
 use Rattle.std.specs.List.{All, AllByRecursion, list_any, starts_with}

@@ -1,4 +1,4 @@
--- Statements put typed values.
+-- Statements put typed values, if their variables hold values.
 use Rattle.std.proofs.Common.{ℕ, zero, suc, Bool, List, [], length, take, Option, Some, None}
 use Rattle.std.specs.List.{All}
 use Rattle.std.proofs.lemmas.List.Elements.{All-nil, All-push, All-set, All-take}

@@ -1,4 +1,4 @@
--- What operators give of values is a value.
+-- What operators return for values is a value.
 use Rattle.std.proofs.Common.{◌≡◌, ℕ, zero, suc, ℤ, negsuc, pos, ◌<◌, ◌≤◌, ◌+◌, ◌^◌, Bool, true, false, List, ◌++◌, length, Some, None, Result, Ok, Err, refl, int_div, int_rem, ◌+ℤ◌, ◌-ℤ◌, ◌*ℤ◌, neg_ℤ, if◌then◌else◌, arith, true≢false}
 use Rattle.std.specs.Prelude.{IfOk, IfSome, nat_lt}
 use Rattle.std.specs.Int.{w64}

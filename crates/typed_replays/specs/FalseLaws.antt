@@ -1,4 +1,4 @@
--- Statements that are false: that the rows of blocks are a typed ledger, each with one premise left out.
+-- Statements that are false: that replayed rows are a typed ledger, each with one premise left out.
 use Rattle.std.specs.List.{All}
 use Rattle.block_codec.specs.Spelling.{IsBlock}
 use Rattle.chain_exec.specs.Compiled.{IsCompiler}
@@ -6,14 +6,14 @@ use Rattle.chain_replay.specs.Chain.{IsChain}
 use Rattle.typed_replays.specs.Chains.{IsLawfulChain}
 use Rattle.typed_replays.specs.Laws.{AreTypedWhere}
 
--- False: the rows of blocks are, whatever places the blocks name.
+-- False: the rows of blocks are a typed ledger, wherever the blocks are placed.
 abbrev pub PlacesDoNotMatter : Type 0
 PlacesDoNotMatter = AreTypedWhere (λ compile blocks. IsCompiler compile × All IsBlock blocks)
 
--- False: the rows of a chain are, whatever stands in its blocks.
+-- False: the rows of a chain are a typed ledger, whatever its blocks contain.
 abbrev pub LimitsDoNotMatter : Type 0
 LimitsDoNotMatter = AreTypedWhere (λ compile blocks. IsCompiler compile × IsChain compile blocks)
 
--- False: the rows of a chain are, whatever is made of the sources of its contracts.
+-- False: the rows of a chain are a typed ledger, whatever the sources of its contracts compile to.
 abbrev pub CompilersDoNotMatter : Type 0
 CompilersDoNotMatter = AreTypedWhere IsLawfulChain

@@ -1,4 +1,4 @@
--- Laws of what calls, blocks and replays write.
+-- Laws of what calls, blocks and replays write: typed histories stay typed.
 use Rattle.std.specs.Prelude.{ℕ, ◌^◌, ◌<◌, Bool, List, length, map, IfSome}
 use Rattle.std.specs.List.{All}
 use Rattle.lc_names.specs.KeyBytes.{IsKey}
@@ -25,8 +25,8 @@ use Rattle.typed_replays.specs.Literals.{AreFunctionsOfValues}
 
 -- ---- calls
 
--- What a call writes over a typed history is typed, and lawful: at most MAX_KEYS_PUT rows, no key
--- twice, each with at most MAX_DEPS dependencies, none twice, each of which was read.
+-- What a call writes over a typed history is typed, and lawful: at most MAX_KEYS_PUT rows of
+-- distinct keys, each with at most MAX_DEPS distinct dependencies, each of which was read.
 abbrev pub CallsWriteTypedRows : Type 0
 CallsWriteTypedRows =
     (functions : List FunctionTree) (rows : List Row) (written : List ℕ → Bool) (site : CallSite)
@@ -43,7 +43,7 @@ CallsWriteTypedRows =
 abbrev pub CompilesValues : Compiler → Type 0
 CompilesValues compile = (source : List ℕ) → IfSome (compile source) AreFunctionsOfValues
 
--- Those of a compiler that is right are.
+-- The literals of each contract that a right compiler makes are values.
 abbrev pub CompilersGiveValues : Type 0
 CompilersGiveValues = (compile : Compiler) → IsCompiler compile → CompilesValues compile
 
@@ -53,15 +53,16 @@ CompilersGiveValues = (compile : Compiler) → IsCompiler compile → CompilesVa
 abbrev pub AreCodesOfValues : Codes → Type 0
 AreCodesOfValues codes = All (λ (code : List ℕ × List FunctionTree). AreFunctionsOfValues code.1) codes
 
--- What the blocks before the one of this number left: a typed history of rows of these blocks, and
--- contracts whose literals are values.
+-- What the blocks before the block `number` left: a typed history of their rows, and contracts
+-- whose literals are values.
 pub record IsTypedBefore (number : ℕ) (history : History) : Type 0 where
   pub rows : IsTypedHistory history.rows
   pub before : All (λ (row : Row). row.block < number) history.rows
   pub codes : AreCodesOfValues history.codes
 
--- What a block adds to a typed history is typed, and rows of a block: of its number, in the order of
--- their transactions, no key twice, each dependency on the newest version before the block.
+-- The rows that a block adds to a typed history are typed, and rows of a block: of its number, in
+-- the order of their transactions, of distinct keys, with each dependency on the newest version
+-- before the block.
 abbrev pub BlocksAddTypedRows : Type 0
 BlocksAddTypedRows =
     (compile : Compiler) (history : History) (block : Block)
@@ -72,17 +73,18 @@ BlocksAddTypedRows =
 
 -- ---- replays
 
--- Where this holds of a compiler and blocks, the rows and the digests of the blocks are a typed ledger.
+-- If the premise holds of a compiler and blocks, the rows and the digests of the blocks are a typed
+-- ledger.
 abbrev pub AreTypedWhere : (Compiler → List Block → Type 0) → Type 0
 AreTypedWhere Premise =
     (compile : Compiler) (blocks : List Block) → Premise compile blocks
     → IsTypedLedger (replay compile blocks).rows (map digest_of blocks)
 
--- Those of a chain are, where the compiler gives values.
+-- The replay of a chain is a typed ledger, if the compiler makes literals that are values.
 abbrev pub ChainsOfValuesAreTyped : Type 0
 ChainsOfValuesAreTyped =
     AreTypedWhere (λ compile blocks. CompilesValues compile × IsLawfulChain compile blocks)
 
--- Those of a chain are, where the compiler is right.
+-- The replay of a chain is a typed ledger, if the compiler is right.
 abbrev pub ReplaysAreTyped : Type 0
 ReplaysAreTyped = AreTypedWhere (λ compile blocks. IsCompiler compile × IsLawfulChain compile blocks)

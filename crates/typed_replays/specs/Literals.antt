@@ -1,5 +1,6 @@
--- What the literals of contracts may be. In contracts a literal is a plain number or list of bytes, which
--- may be anything; what a compiler makes of a source is always within.
+-- What the literals of contracts may be. In a contract tree a literal is a plain number or list of
+-- bytes, which may be anything; what a compiler makes of a source stays within the limits of
+-- values.
 use Rattle.std.specs.Prelude.{List, Option, Some, None}
 use Rattle.std.specs.Int.{w64}
 use Rattle.std.specs.Int.RustNames.{FitsSigned}
@@ -9,7 +10,7 @@ use Rattle.contract_tree.specs.Tree.{Tree, Trees, none, more, FunctionTree, Stat
 use Rattle.contract_tree.specs.Tree as tree
 
 abbrev mutual
-  -- The literals of an expression are values: its numbers have 64 bits, and its texts are texts.
+  -- The literals of an expression are values: its numbers fit 64 bits, and its texts are texts.
   pub HasValues : Tree → Type 0
   HasValues (tree.Int at z) = FitsSigned w64 z
   HasValues (tree.Text at text) = IsText text
@@ -18,12 +19,12 @@ abbrev mutual
   HasValues (tree.Prefix at sign operand) = HasValues operand
   HasValues (tree.Binary at sign left right) = HasValues left × HasValues right
 
-  -- The literals of some expressions are values.
+  -- The literals of expressions are values.
   pub HaveValues : Trees → Type 0
   HaveValues none = Unit {0}
   HaveValues (more x xs) = HasValues x × HaveValues xs
 
--- The literals of the parts of a `from` are values, where there is one.
+-- The literals of the parts of a `from` are values, if there is one.
 abbrev pub PartsHaveValues : Option Trees → Type 0
 PartsHaveValues None = Unit {0}
 PartsHaveValues (Some parts) = HaveValues parts
@@ -40,7 +41,7 @@ abbrev mutual
   RunsValues (tree.Fail at) = Unit {0}
   RunsValues (tree.Return at) = Unit {0}
 
-  -- The literals of some statements are values.
+  -- The literals of statements are values.
   pub RunValues : StatementTrees → Type 0
   RunValues no_statement = Unit {0}
   RunValues (statements x xs) = RunsValues x × RunValues xs

@@ -1,4 +1,4 @@
-//! Laws of what calls, blocks and replays write, and definitions that they speak of.
+//! Laws of what calls, blocks and replays write, and the definitions that they use.
 #![tactic(auto)]
 
 mod laws;

@@ -1,13 +1,13 @@
-//! Laws with a premise left out, which are false.
+//! The laws with one premise left out are false: each premise is needed.
 
 ghost use Rattle.typed_replays.specs.FalseLaws.{PlacesDoNotMatter, LimitsDoNotMatter, CompilersDoNotMatter};
 
-/// Two blocks of one number may write one key, and then the rows are no history.
+/// Two blocks with one number may write one key, and then their rows are no history.
 pub fn places_matter()
     ensures { PlacesDoNotMatter → ⊥ }
 {}
 
-/// A block past its limits may write what is no value.
+/// A block that exceeds the limits of blocks may write what is no value.
 pub fn limits_matter()
     ensures { LimitsDoNotMatter → ⊥ }
 {}

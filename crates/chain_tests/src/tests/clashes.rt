@@ -1,4 +1,4 @@
-//! Lists of texts without a clash: none is known.
+//! Lists of texts without a clash: none is found.
 
 use lc_base::{Bytes, Memory, TextList};
 use std::alloc::Global;
@@ -15,7 +15,7 @@ fn texts_of(alloc: Global, bytes: &[u8]) -> Result<TextList, Memory> {
     Ok(texts)
 }
 
-/// Whether there is memory, and no clash between these.
+/// Whether memory suffices, and no two texts of these lists clash.
 fn has_no_clash(alloc: Global, given: &[u8], own: &[u8]) -> Result<bool, Memory> {
     let given = texts_of(alloc, given)?;
     let own = texts_of(alloc, own)?;

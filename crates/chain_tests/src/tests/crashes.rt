@@ -1,4 +1,4 @@
-//! What crashes of a machine in memory leave.
+//! What crashes of a machine in memory leave: any part of what was not synced.
 
 use disk_model::{Disk, MemMachine};
 use lc_io::{Failed, Room, Wire};
@@ -9,7 +9,7 @@ const ROOM: Room = Room {
     bytes: 64,
 };
 
-/// Writes six bytes, syncs, writes `XYZ` over the last two and one more, and tells a line: four
+/// Writes six bytes, syncs, writes `XYZ` over the last two and one more, and prints a line: four
 /// calls.
 fn write_twice<M: Disk + Wire>(machine: &mut M) -> Result<(), Failed> {
     machine.write_at(0, b"abcdef")?;
@@ -18,8 +18,8 @@ fn write_twice<M: Disk + Wire>(machine: &mut M) -> Result<(), Failed> {
     machine.tell(b"line\n")
 }
 
-/// Whether a crash at a moment, which keeps so many of the bytes that were not synced, leaves these
-/// bytes; `short` cuts them to what was synced.
+/// Whether a crash at a moment, which keeps `keep` of the bytes that were not synced, leaves the
+/// bytes of `image`; `short` cuts them to what was synced.
 fn leaves(
     alloc: Global,
     machine: &MemMachine,

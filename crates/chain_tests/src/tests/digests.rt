@@ -1,5 +1,5 @@
-//! Digests that are published for messages that begin with `a`, which is the tag here: those of the
-//! examples of FIPS 180-4, of one block of the hash, of two, of one that is filled up, and of many.
+//! Published digests of messages that begin with `a`, which is the tag here: those of the examples
+//! of FIPS 180-4, of one block of the hash, of two, of one that is filled up, and of many.
 
 use digest_kit::TagHasher;
 use hex::FromHex;
@@ -22,7 +22,7 @@ fn is_spelled(digest: [u8; 32], digits: &str) -> bool {
     }
 }
 
-/// The digest of the tag and of these bytes, added in two pieces.
+/// The digest of the tag and of these bytes, which are added in two pieces.
 fn digest_of(first: &[u8], second: &[u8]) -> [u8; 32] {
     let mut hasher = TagHasher::new(TAG);
     hasher.add(first);
@@ -30,7 +30,7 @@ fn digest_of(first: &[u8], second: &[u8]) -> [u8; 32] {
     hasher.finish().0
 }
 
-/// The digest of so many times `a`, the tag being the first.
+/// The digest of `count` times `a`, the first of which is the tag.
 fn digest_of_repeated(count: u32) -> [u8; 32] {
     let mut hasher = TagHasher::new(TAG);
     for _ in 1..count {

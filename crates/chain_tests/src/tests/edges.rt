@@ -7,7 +7,7 @@ use std::fs;
 use std::fs::File;
 use std::io::{self, ErrorKind, Read, Write};
 
-/// A reader of the bytes `ab`, one at each read, of which the second read fails.
+/// A reader of the bytes `ab`, one at each read. The second read fails.
 #[derive(Drop)]
 struct FailsOnce {
     reads: u32,
@@ -45,7 +45,7 @@ fn edge_of_a_reader(rt: HostRuntime) {
     assert!(rt; source.pull(&mut buffer) == Ok(0));
 }
 
-/// A writer that takes one byte at each write, of which the second fails.
+/// A writer that takes one byte at each write. The second write fails.
 #[derive(Drop)]
 struct TakesOne {
     writes: u32,
@@ -67,16 +67,16 @@ impl Write for TakesOne {
 
 #[test]
 fn edge_of_a_writer(rt: HostRuntime) {
-    // A write that fails is not tried again, and the next tell is taken.
+    // A write that fails is not tried again, and the next piece is printed.
     let mut wire = HostStream::new(TakesOne { writes: 0 });
     assert!(rt; wire.tell(b"ab") == Err(Failed));
     assert!(rt; wire.tell(b"cd") == Ok(()));
 }
 
-/// A file of the present folder, which is not there before the test and after it.
+/// A file of the current folder, which exists neither before the test nor after it.
 const FILE: &str = "chain_tests.file";
 
-/// Writes to a disk of length 0, which has nothing to sync, and tells a line; answers that length.
+/// Writes to a disk of length 0, which has nothing to sync, and prints a line; returns that length.
 fn write_and_tell<M: Disk + Wire>(machine: &mut M) -> Result<u64, Failed> {
     let before = machine.len()?;
     machine.sync()?;
@@ -110,7 +110,7 @@ fn edge_of_a_file(rt: HostRuntime) {
     let mut told = Vec::new(rt.alloc());
     assert!(rt; write_file(&rt, &mut told) == Ok(0));
     assert!(rt; told.as_slice() == b"line\n".as_slice());
-    // Another machine finds what the first one wrote, and no more.
+    // Another machine finds just what the first one wrote.
     let mut buffer = [0; 8];
     assert!(rt; read_file(&rt, &mut buffer) == Ok((7, 4)));
     assert!(rt; buffer == *b"dxyz\0\0\0\0");
@@ -125,13 +125,14 @@ fn folder_in_place_of_a_file(rt: HostRuntime) {
     assert!(rt; machine.write_at(0, b"a") == Err(Failed));
 }
 
-/// A file of the present folder, which is not there before the test and after it.
+/// A file of the current folder, which exists neither before the test nor after it.
 const LONG_FILE: &str = "chain_tests.long";
 
-/// Its length, past the last offset of 32 bits. Nothing is written of it, so it takes no space.
+/// Its length, past the last offset of 32 bits. Nothing is written to most of it, so it takes
+/// little space.
 const LONG_LEN: u64 = 0x1_0000_0005;
 
-/// The place in the first four gigabytes that the last byte of the file has by its last 32 bits.
+/// The place that the last byte of the file would have if its offset were cut to 32 bits.
 const SHORT_PLACE: u64 = 4;
 
 fn make_long_file(rt: &HostRuntime) -> Result<(), Failed> {
@@ -139,7 +140,7 @@ fn make_long_file(rt: &HostRuntime) -> Result<(), Failed> {
     file.set_len(LONG_LEN).map_err(|_| Failed)
 }
 
-/// Writes behind the end of the long file, and then over its last byte; answers its length before.
+/// Writes behind the end of the long file, and then over its last byte; returns its length before.
 fn write_long_file(rt: &HostRuntime, told: &mut Vec<u8>) -> Result<u64, Failed> {
     let mut machine = FileMachine::new(rt, LONG_FILE, told);
     machine.sync()?;
@@ -151,7 +152,7 @@ fn write_long_file(rt: &HostRuntime, told: &mut Vec<u8>) -> Result<u64, Failed> 
     Ok(before)
 }
 
-/// The length of the long file; and how many bytes were read into the buffer from a place.
+/// The length of the long file, and how many bytes were read into the buffer from a place.
 fn read_long_file(rt: &HostRuntime, at: u64, buffer: &mut [u8]) -> Result<(u64, usize), Failed> {
     let mut told: Vec<u8> = Vec::new(rt.alloc());
     let mut machine = FileMachine::new(rt, LONG_FILE, &mut told);
@@ -175,7 +176,8 @@ fn file_past_four_gigabytes(rt: HostRuntime) {
 
 #[test]
 fn lock_of_a_file(rt: HostRuntime) {
-    // Of two machines over one file, the first one that syncs or writes has it; the other may read.
+    // Of two machines over one file, the first one that syncs or writes locks it; the other may
+    // read.
     let mut told = Vec::new(rt.alloc());
     assert!(rt; write_file(&rt, &mut told) == Ok(0));
     let mut one_told: Vec<u8> = Vec::new(rt.alloc());
@@ -189,7 +191,7 @@ fn lock_of_a_file(rt: HostRuntime) {
     assert!(rt; one.write_at(7, b".") == Ok(()));
     assert!(rt; other.len() == Ok(8));
     assert!(rt; fs::remove_file(&rt, FILE).is_ok());
-    // Once it isn't there any more, nothing is written to it.
+    // Once the file is removed, nothing is written to it.
     assert!(rt; one.sync() == Err(Failed));
     assert!(rt; !fs::exists(&rt, FILE).unwrap_or(true));
 }

@@ -1,5 +1,5 @@
-//! Blocks that are encoded at each of their limits, and one past it. A draft can't bring most of these
-//! to `encode`, since it is refused before.
+//! Blocks that are encoded at each of their limits, and one past it. A draft can't bring most of
+//! these to `encode`, since it is refused before.
 
 use block_codec::{
     Block, EncodeError, MAX_ARGS, MAX_BLOCK_BYTES, MAX_CALL_BUDGET, MAX_SOURCE_BYTES, MAX_TXS,
@@ -8,16 +8,16 @@ use block_codec::{
 use lc_base::{Bytes, Key, KeyList, MAX_DEPS, Name, Seq, Value};
 use std::alloc::Global;
 
-/// The bytes of a block before its transactions.
+/// The number of bytes of a block before its transactions.
 const FRONT: usize = 39;
-/// The bytes of a Set of an int without dependency keys, of a Call without arguments, and of a Deploy
-/// without its source, where keys and names have one byte.
+/// The numbers of bytes of a Set of an int without dependency keys, of a Call without arguments,
+/// and of a Deploy without its source, if keys and names have one byte.
 const SET: usize = 17;
 
 const CALL: usize = 15;
 
 const DEPLOY: usize = 9;
-/// The bytes of a key of one byte, and of an int.
+/// The numbers of bytes of a key of one byte, and of an int.
 const KEY: usize = 3;
 
 const INT: usize = 9;
@@ -30,7 +30,7 @@ fn name() -> Option<Name> {
     Name::new(b"n").ok()
 }
 
-/// A Set from so many keys.
+/// A Set with `count` dependency keys.
 fn set(alloc: Global, count: usize) -> Option<Tx> {
     let key = key()?;
     let mut deps = KeyList::new(alloc);
@@ -45,7 +45,7 @@ fn set(alloc: Global, count: usize) -> Option<Tx> {
     })
 }
 
-/// A Deploy of a source of so many bytes.
+/// A Deploy of a source of `count` bytes.
 fn deploy(alloc: Global, count: usize) -> Option<Tx> {
     let mut source = Vec::new(alloc);
     for _ in 0..count {
@@ -58,7 +58,7 @@ fn deploy(alloc: Global, count: usize) -> Option<Tx> {
     })
 }
 
-/// A Call with so many arguments and this budget.
+/// A Call with `count` arguments and this budget.
 fn call(alloc: Global, count: usize, budget: u32) -> Option<Tx> {
     let mut args = Seq::new(alloc);
     for _ in 0..count {
@@ -73,7 +73,7 @@ fn call(alloc: Global, count: usize, budget: u32) -> Option<Tx> {
     })
 }
 
-/// How many bytes spell the block of these transactions; `Limit` where none do.
+/// How many bytes spell the block of these transactions; `Limit` if no bytes do.
 fn length_of(alloc: Global, txs: TxList) -> Result<usize, EncodeError> {
     let block = Block {
         number: 0,
@@ -84,7 +84,7 @@ fn length_of(alloc: Global, txs: TxList) -> Result<usize, EncodeError> {
     Ok(bytes.len())
 }
 
-/// Whether a block of one transaction has so many bytes; 0 where none spell it.
+/// Whether `wanted` bytes spell a block of the one transaction, or, if `wanted` is 0, no bytes do.
 fn has_length(alloc: Global, tx: Option<Tx>, wanted: usize) -> bool {
     let Some(tx) = tx else {
         return false;
@@ -104,7 +104,7 @@ fn is_length(length: Result<usize, EncodeError>, wanted: usize) -> bool {
     }
 }
 
-/// So many Sets.
+/// A list of `count` Sets.
 fn sets(alloc: Global, count: u16) -> Option<TxList> {
     let mut txs = TxList::new(alloc);
     for _ in 0..count {
@@ -113,7 +113,8 @@ fn sets(alloc: Global, count: u16) -> Option<TxList> {
     Some(txs)
 }
 
-/// As many Deploys of the longest source as there is room for in a block, and one of a shorter source.
+/// As many Deploys of the longest source as there is room for in a block, and one of a source of
+/// `last` bytes.
 fn deploys(alloc: Global, last: usize) -> Option<TxList> {
     let mut txs = TxList::new(alloc);
     for _ in 0..63 {

@@ -1,4 +1,5 @@
-//! What the program doesn't call: headers are written and read again, and links are by scanning rows.
+//! Calls that the program doesn't make: headers are written and read again, and links are found by
+//! scanning rows.
 
 use entry_views::read_header;
 use lc_base::{DepList, Key, Memory, Row, RowList, Value};
@@ -35,7 +36,7 @@ fn header_that_is_read_again(rt: HostRuntime) {
     assert!(rt; is_read_again(rt.alloc()));
 }
 
-/// The versions of a key in these blocks, derived from nothing.
+/// The versions of a key in these blocks, without dependencies.
 fn versions_in(alloc: Global, key: Key, blocks: &[u32]) -> Result<RowList, Memory> {
     let mut rows = RowList::new(alloc);
     for block in blocks {
@@ -50,8 +51,8 @@ fn versions_in(alloc: Global, key: Key, blocks: &[u32]) -> Result<RowList, Memor
     Ok(rows)
 }
 
-/// Whether the links of the version in a block are to these blocks, where its key has versions in
-/// the blocks 2, 9 and 10.
+/// Whether the links of the version in a block are to these blocks, if its key has versions in the
+/// blocks 2, 9 and 10.
 fn has_links(alloc: Global, block: u32, wanted: &[u32]) -> bool {
     let Ok(key) = Key::new(b"raw/a") else {
         return false;

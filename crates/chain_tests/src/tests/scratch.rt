@@ -6,13 +6,13 @@ use scratch_model::{MemScratch, Scratch};
 use std::fs;
 use std::fs::File;
 
-/// The name at which a device makes its file, in the present folder.
+/// The name at which a device makes its file, in the current folder.
 const FILE: &str = "chain.scratch";
 
-/// A file of the tests' own, which is not there before them and after them.
+/// A file of the tests, which exists neither before them nor after them.
 const SHORT_FILE: &str = "chain_tests.short";
 
-/// What a file of a user's holds.
+/// The bytes of a user's file.
 const KEPT: &[u8] = b"a file of the same name";
 
 /// Puts two texts, and gets the first one back.
@@ -70,13 +70,14 @@ fn scratch_in_memory(rt: HostRuntime) {
     assert!(rt; put_two(&mut scratch, &mut got) == Ok((0, 3)));
     assert!(rt; got == *b"abc");
     assert!(rt; scratch.gets() == 1);
-    // Two bytes more do not fit the room, and the call takes no number; the next one fails by its.
+    // Two more bytes do not fit the room, and the call takes no number; the next one fails by its
+    // number.
     assert!(rt; scratch.put(b"fg") == Err(Failed));
     assert!(rt; scratch.put(b"f") == Err(Failed));
     assert!(rt; scratch.gets() == 1);
 }
 
-/// Whether there is a file of this name; so too where it can't be looked for.
+/// Whether there is a file of this name, or it can't be looked for.
 fn is_there(rt: &HostRuntime, name: &str) -> bool {
     fs::exists(rt, name).unwrap_or(true)
 }
@@ -110,8 +111,7 @@ fn scratch_files_without_names(rt: HostRuntime) {
     assert!(rt; fs::remove_file(&rt, FILE).is_ok());
 }
 
-/// Puts two texts on a device over a file, and gets the second one, of which the file is cut to
-/// `len` bytes before that.
+/// Puts two texts on a device over a file, cuts the file to `len` bytes, and gets the second text.
 fn get_from_short(rt: &HostRuntime, len: u64, got: &mut [u8; 2]) -> Result<(), Failed> {
     let Ok(file) = File::create_new(rt, SHORT_FILE) else {
         return Ok(());
@@ -141,7 +141,7 @@ fn scratch_file_that_was_cut(rt: HostRuntime) {
 
 #[test]
 fn scratch_that_makes_no_file(rt: HostRuntime) {
-    // Where there is no such folder each put is a fault.
+    // If there is no such folder, each put is a fault.
     let Ok(mut nowhere) = FileScratch::new(rt.alloc(), &rt, "no such folder") else {
         assert!(rt; false);
         return;

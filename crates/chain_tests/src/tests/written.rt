@@ -4,10 +4,10 @@ use lc_base::{Digest, Key, Value};
 use prov_entry::{Body, BodyDepList, Leaf, no_uses, write_body, write_leaf};
 use std::alloc::Global;
 
-/// The digest that a leaf has of a header.
+/// The digest of a header in a leaf.
 const HEADER: Digest = Digest([7; 32]);
 
-/// Whether the body of the number 5, derived from nothing, is written so.
+/// Whether the body of the number 5, without dependencies, is written as these bytes.
 fn writes_body(alloc: Global, wanted: &[u8]) -> bool {
     let body = Body {
         value: Value::Int(5),
@@ -19,7 +19,8 @@ fn writes_body(alloc: Global, wanted: &[u8]) -> bool {
     }
 }
 
-/// Whether the leaf of a key without uses, whose newest version is in block 3, begins and ends so.
+/// Whether the leaf of a key without uses, whose newest version is in block 3, begins and ends with
+/// these bytes.
 fn writes_leaf(alloc: Global, start: &[u8], end: &[u8]) -> bool {
     let Ok(key) = Key::new(b"raw/a") else {
         return false;

@@ -34,7 +34,7 @@ module _ (g : Over) (c : In-Ok-add_block g) where
   abbrev longer : RootedState
   longer = rooted_of c.in-Ok-add_block.lineage c.in-Ok-commit.world.codes
 
-  -- where it is known which bytes the device holds, the block did what it is defined to do
+  -- if it is known which bytes the device holds, the block did what it is defined to do
   after : is_known (g.S.Scratch.state c.args.scratch.now) ≡ true → IsAfter (kept_in c.args.self) c.args.block.now c.args.digest (kept_in longer) c.in-Ok.run'
   after told =
       subst (λ (r : RootedState). IsAfter (kept_in r) c.args.block.now c.args.digest (kept_in longer) c.in-Ok.run') c.self.view_is
