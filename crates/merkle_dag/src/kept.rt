@@ -37,7 +37,7 @@ pub(crate) struct Kept {
     pub roots: Vec<Digest>,
 }
 
-/// Does nothing: by its contract, contracts learn that a digest has 32 bytes.
+/// Does nothing: its contract makes known that a digest has 32 bytes.
 fn check_digest(digest: &Digest)
     ensures { length digest.now.0 ≡ 32 }
 {
