@@ -1,5 +1,5 @@
 //! The rows of a block become the newest versions of their keys. This closes the lists of the
-//! versions before, so it follows on the entries that are made of these lists.
+//! versions before, so it comes after the entries, which are made of these lists.
 
 ghost use Rattle.std.specs.Prelude.{◌≡◌, ◌≤◌, ◌+◌, [], ℕ, List, length, OnOk};
 ghost use Rattle.lc_base.specs.{

@@ -1,4 +1,5 @@
-//! Reading the body of a row. It is the row's own if it is known which bytes the device holds.
+//! Reading a body: it is the one that was pushed at its index, if it is known which bytes the
+//! device holds.
 
 ghost use Rattle.std.specs.{
   Prelude.{◌≡◌, ◌<◌, true, length, Some, IfOk, IsErrOf},

@@ -106,8 +106,8 @@ impl Tree {
     }
 
     /// Adds a leaf for a key that has none, at the end, and returns its index. Its key is threaded
-    /// between those of the others; it has no version yet. Nothing is hashed before leaves are set.
-    /// Out of memory, the tree stays as it was.
+    /// between those of the others; it has no version yet. Nothing is hashed: that is done when
+    /// leaves are set. Out of memory, the tree stays as it was.
     pub fn add_key(&mut self, key: Key) -> Result<u32, Memory>
         requires new { index_of self.old key ≡ None }
         requires room { length self.old < MAX_LEAVES }
