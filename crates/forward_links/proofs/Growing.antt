@@ -14,7 +14,7 @@ open_with_one uses use_ =
     ap₂ (λ (count : ℕ) (digest : List ℕ). let kept : OpenList = record { count = count; digest = record { 0 = digest } } in kept)
     (length-append uses (use_ ∷ [])) (fold_push with_use no_uses uses use_)
 
--- The same of lists side by side.
+-- The same for the list at an index, among others.
 pub uses_with_one : (kept : List OpenList) (lists : List (List Dep)) (index : ℕ) (use_ : Dep) → kept ≡ map open_of lists → index < length kept
     → with_one_at kept index use_ ≡ map open_of (with_use_at lists index use_)
 uses_with_one kept lists index use_ are below =

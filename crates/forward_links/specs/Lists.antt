@@ -8,7 +8,7 @@ use Rattle.forward_links.specs.declared.open_list.OpenList.{OpenList}
 abbrev pub open_of : List Dep → OpenList
 open_of uses = record { count = length uses; digest = record { 0 = uses_digest uses } }
 
--- The same with one use more, by what was kept.
+-- What is kept of a list with one use more, by what was kept before.
 abbrev pub with_one : OpenList → Dep → OpenList
 with_one kept use_ = record { count = kept.count + 1; digest = record { 0 = with_use kept.digest.0 use_ } }
 
@@ -16,14 +16,14 @@ with_one kept use_ = record { count = kept.count + 1; digest = record { 0 = with
 abbrev pub kept_at : List OpenList → ℕ → OpenList
 kept_at kept index = slice_index_or kept index (open_of [])
 
--- What is kept where the list at an index has one use more.
+-- What is kept after the list at an index got one use more.
 abbrev pub with_one_at : List OpenList → ℕ → Dep → List OpenList
 with_one_at kept index use_ = slice_set kept index (with_one (kept_at kept index) use_)
 
--- Lists, where the one at an index has one use more at its end.
+-- The lists after the one at an index got one use more at its end.
 abbrev pub with_use_at : List (List Dep) → ℕ → Dep → List (List Dep)
 with_use_at lists index use_ = slice_set lists index (slice_index_or lists index [] ++ use_ ∷ [])
 
--- What is kept where the list at an index is empty.
+-- What is kept after the list at an index was emptied.
 abbrev pub emptied_at : List OpenList → ℕ → List OpenList
 emptied_at kept index = slice_set kept index (open_of [])

@@ -1,4 +1,5 @@
-//! The forward lists of all keys that are still open, each by its number and its digest.
+//! The forward lists that are still open, one for each key. Of each, the number of its uses and
+//! their digest are kept, and not the uses.
 #![tactic(auto)]
 
 mod limits;

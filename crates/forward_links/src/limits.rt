@@ -1,6 +1,6 @@
 //! How many lists there may be, and how many uses in each.
 
-/// The greatest number of lists: a history has no more rows, so no more keys.
+/// The greatest number of lists: a history has at most as many rows, so at most as many keys.
 pub const MAX_LISTS: u32 = 4_294_967_294;
 
 /// The greatest number of uses of a list: it is counted in 64 bits.

@@ -1,4 +1,5 @@
-//! The open lists of all keys, by the index of the key.
+//! The open lists of all keys, by the index of the key. Only a new key takes memory: a use changes
+//! a number and a digest in place.
 
 ghost use Rattle.std.specs.Prelude.{◌≡◌, ◌<◌, [], ◌∷◌, ◌++◌, List, length, map, OnErr, OnOk, IfOk};
 ghost use Rattle.lc_base.specs.declared.row.Dep.{Dep};
@@ -38,7 +39,7 @@ impl OpenLists {
         }
     }
 
-    /// One more list, which is empty, and its index. Out of memory, the lists stay as they were.
+    /// Adds an empty list, and returns its index. Out of memory, the lists stay as they were.
     pub fn add_key(&mut self) -> Result<u32, Memory>
         requires { length self.old < MAX_LISTS }
         ensures index { IfOk result (λ index. index ≡ length self.old) }

@@ -1,4 +1,5 @@
-//! One forward list that is still open.
+//! One open forward list. The digest with one use more is made of the digest before, so the uses
+//! are not kept.
 
 ghost use Rattle.std.specs.Prelude.{◌≡◌, ◌<◌, [], ◌∷◌, ◌++◌, List};
 ghost use Rattle.lc_base.specs.declared.row.Dep.{Dep};

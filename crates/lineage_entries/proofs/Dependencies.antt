@@ -1,4 +1,4 @@
--- What the body of a row names: the versions at the indexes that are kept of it.
+-- What the body of a row names: the versions at the indexes that are passed with it.
 use Rattle.std.proofs.Common.{◌≡◌, ◌∙◌, ℕ, ◌+◌, ◌<◌, List, [], ◌∷◌, ◌++◌, length, get_or, take, map}
 use Rattle.std.proofs.Common.{Option, Some, None, refl, sym, ap, subst, arith}
 use Rattle.std.specs.Prelude.{slice_get}
@@ -27,7 +27,7 @@ pub row_there : (rows : List Row) (index : ℕ) (row : Row) → slice_get rows i
 row_there rows index row at =
     (index, slice_get_within rows index row at, get_or_from_slice_get rows index row row at)
 
--- the row at an index, where a version is there
+-- a version at an index is that of a row, which is there
 row_of_version : (rows : List Row) (index : ℕ) (dep : Dep) → version_at rows index ≡ Some dep
     → (row : Row) × (slice_get rows index ≡ Some row) × (version_of row ≡ dep)
 row_of_version rows index dep e = go (slice_get rows index) refl e

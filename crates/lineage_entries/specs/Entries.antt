@@ -1,4 +1,4 @@
--- What the bodies of a history name.
+-- What the bodies of a history name: versions of earlier blocks, each by the digest of its header.
 use Rattle.std.specs.Prelude.{ℕ, ◌<◌, List}
 use Rattle.std.specs.List.{AllByRecursion}
 use Rattle.lc_base.specs.declared.row.Row.{Row}

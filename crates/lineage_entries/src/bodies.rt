@@ -1,4 +1,5 @@
-//! The body of a row. What the row was derived from stands at the indexes that are given of it.
+//! The body of a row: its value, and the versions that it was derived from, each with the digest of
+//! its header. The caller passes the indexes of the rows of these versions.
 
 ghost use Rattle.std.specs.{
   Prelude.{◌≡◌, ◌<◌, ◌≤◌, ℕ, List, Some, length, map, slice_get, Contains, IfOk},
@@ -23,7 +24,7 @@ use prov_entry::{Body, BodyDep, BodyDepList, write_body};
 use std::alloc::Global;
 use std::rc::RcSlice;
 
-/// The version at an index, with the digest of its header.
+/// The version that the row at an index is, with the digest of its header.
 fn body_dep(index: &LineageIndex, place: u32) -> BodyDep
     requires { (rows : List Row) × (blocks : ℕ) × IsIndexOf rows blocks index.now
         × (place < length rows) }

@@ -1,4 +1,5 @@
-//! The header of a row.
+//! The header of a row is made of the row's entry: its fields are there, and its links are the
+//! entry's hops, each with the digest of the header that it leads to.
 
 ghost use Rattle.std.specs.Prelude.{◌≡◌, ◌<◌, ℕ, List, Some, length, slice_get, IfOk};
 ghost use Rattle.lc_base.specs.declared.row.Row.{Row};

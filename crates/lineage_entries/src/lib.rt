@@ -1,4 +1,5 @@
-//! The headers and bodies of the rows of a history, made of the index over them.
+//! The headers and bodies of the rows of a history, made of the index over them. Nothing is kept
+//! here, and nothing is hashed.
 #![tactic(auto)]
 
 mod bodies;

@@ -1,4 +1,4 @@
--- The leaves of all keys are told the entries of their keys.
+-- The leaves of all keys, set to the entries of their keys, are those of the history.
 use Rattle.std.proofs.Common.{◌≡◌, ◌≢◌, ◌∙◌, ℕ, ◌+◌, ◌-◌, ◌==◌, true, List, [], length, get_or, map}
 use Rattle.std.proofs.Common.{refl, ap, arith}
 use Rattle.std.specs.List.{All, AllPairs, AllByRecursion, range_with_len}
@@ -20,7 +20,7 @@ use Rattle.lineage_index.specs.Leaves.{IsLeafIndex, key_at, state_of}
 use Rattle.lineage_index.proofs.KeyLeaves.{leaves_on}
 use Rattle.lineage_index.proofs.LeafStates.{leaves_told}
 
--- These are the indexes of all leaves but the sentinel's.
+-- The indexes from 1 to the number of keys are those of leaves of keys.
 pub all_within : (keys : List (List ℕ)) → All (IsLeafIndex keys) (range_with_len 1 (length keys))
 all_within keys k d l =
     let is : get_or (range_with_len 1 (length keys)) k d ≡ 1 + k = get_or-range_with_len 1

@@ -1,4 +1,4 @@
--- What is kept, step by step, as it is made of entries.
+-- What is kept after each of the steps that make an index of entries.
 use Rattle.std.proofs.Common.{◌≡◌, ◌∙◌, ℕ, List, [], ◌∷◌, map, refl, ap, rules, inl, inr}
 use Rattle.std.specs.List.{list_any}
 use Rattle.std.proofs.lemmas.Bool.{cases_Bool}

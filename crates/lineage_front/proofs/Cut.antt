@@ -113,7 +113,7 @@ up_to_begins (row ∷ rows) at rises = elim (cases_lt at row.block) [
       rw now (ap (λ (rs : List Row). row ∷ rs) rest)
 ]
 
--- As many first rows as there are of the blocks up to one are these.
+-- The first rows, as many as there are of the blocks up to one, are those of these blocks.
 pub up_to_first : (rows : List Row) (at : ℕ) → IsLawful rows
     → take (length (up_to rows at)) rows ≡ up_to rows at
 up_to_first rows at lawful = up_to_begins rows at (blocks_rise rows lawful)

@@ -35,7 +35,7 @@ set_again [] i x y = refl
 set_again (z ∷ xs) zero x y = refl
 set_again {A = A} (z ∷ xs) (suc i) x y = ap (λ (zs : List A). z ∷ zs) (set_again xs i x y)
 
--- The list takes the next use.
+-- A list that has the first uses, with the next one added.
 pub use_more : (all : List (List Dep)) (list i : ℕ) (deps : List Dep) (dep d : Dep)
     → list < length all → i < length deps → dep ≡ get_or deps i d
     → with_use_at (slice_set all list (take i deps)) list dep ≡ slice_set all list
@@ -47,7 +47,7 @@ use_more all list i deps dep d within below is =
     ∙ ap (slice_set all list)
     (ap (λ (x : Dep). take i deps ++ x ∷ []) is ∙ sym (take_more deps i d below))
 
--- What is kept of it.
+-- What is kept of the list at an index.
 pub kept_of_list : (all : List (List Dep)) (list : ℕ) (x : List Dep) → list < length all
     → kept_at (map open_of (slice_set all list x)) list ≡ open_of x
 kept_of_list all list x within =
@@ -92,7 +92,7 @@ filled_all list (suc n) (key ∷ keys) l = ap (λ (ls : List (List Dep)). list k
 
 -- ---- the list of a key
 
--- There are as many newest rows as keys, and no more than rows.
+-- There are as many newest rows as keys, and at most as many as rows.
 pub key_within : (rows : List Row) (newest_rows : List ℕ)
     → newest_rows ≡ map (newest_at rows) (keys_of rows)
     → (length newest_rows ≡ length (keys_of rows)) × (length newest_rows ≤ length rows)

@@ -29,7 +29,7 @@ pub facts_read : (rows : List Row) (entries : List Entry) (index : ℕ) (row : R
 facts_read rows entries index row facts store at read = row_facts entries rows index row facts
     store.entries_are at read
 
--- The row of a version.
+-- A version at an index is that of a row, which is there.
 pub row_of_version : (rows : List Row) (index : ℕ) (dep : Dep) → version_at rows index ≡ Some dep
     → (row : Row) × (slice_get rows index ≡ Some row) × (version_of row ≡ dep)
 row_of_version rows index dep at = elim (option_cases (slice_get rows index)) [
@@ -37,7 +37,7 @@ row_of_version rows index dep at = elim (option_cases (slice_get rows index)) [
   | inr s ↦ (s.0, s.1, same_Some (version_of s.0) dep (ap (option_map version_of) (sym s.1) ∙ at))
 ]
 
--- One of the versions at the indexes of users.
+-- There are as many versions as users, and each is that at the index of its user.
 pub as_many_versions : (rows : List Row) (users : List ℕ) (deps : List Dep)
     → AreVersionsAt rows users deps → length users ≡ length deps
 as_many_versions rows users deps are = sym (length-map users (version_at rows)) ∙ ap length are

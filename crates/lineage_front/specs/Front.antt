@@ -1,4 +1,4 @@
--- What is made of the first entries of a store.
+-- What holds between the steps that make an index of the first entries of a store.
 use Rattle.std.specs.Prelude.{◌≡◌, ℕ, zero, suc, ◌<◌, ◌≤◌, List, [], ◌∷◌, length, map, take, drop}
 use Rattle.std.specs.Prelude.{Some, slice_get}
 use Rattle.std.specs.List.{All}
@@ -15,25 +15,25 @@ use Rattle.forward_links.specs.Lists.{open_of}
 use Rattle.lineage_index.specs.Heads.{newest_at}
 use Rattle.lineage_index.specs.Settling.{IsStoreOf}
 
--- So many first rows are those of the blocks up to this one, and the others are of later blocks.
+-- The first `count` rows are of the blocks up to this one, and the others are of later blocks.
 pub record AreUpTo (rows : List Row) (at count : ℕ) : Type 0 where
   pub within : count ≤ length rows
   pub first : All (λ (row : Row). row.block ≤ at) (take count rows)
   pub later : All (λ (row : Row). at < row.block) (drop count rows)
 
--- The empty list, for each key.
+-- An empty list for each key.
 abbrev pub no_list : List ℕ → List Dep
 no_list key = []
 
--- The lists of some keys, where so many first ones are those of this function, and the others
--- empty.
+-- The lists of some keys: those of this function for the first `n` keys, and empty lists for the
+-- others.
 abbrev pub first_lists : (List ℕ → List Dep) → ℕ → List (List ℕ) → List (List Dep)
 first_lists list zero keys = map no_list keys
 first_lists list (suc n) [] = []
 first_lists list (suc n) (key ∷ keys) = list key ∷ first_lists list n keys
 
--- The versions at the indexes of these users are these, so that they can be added to the list at an
--- index, which is empty.
+-- The versions at the indexes `users` are `deps`; they can be added to the list at an index, which
+-- is empty.
 pub record CanFill (rows : List Row) (deps : List Dep) (all : List (List Dep)) (list : ℕ)
     (lists : List OpenList) (entries : List Entry) (users : List ℕ) : Type 0 where
   pub store : IsStoreOf rows entries
@@ -42,7 +42,7 @@ pub record CanFill (rows : List Row) (deps : List Dep) (all : List (List Dep)) (
   pub lists_are : lists ≡ map open_of all
   pub empty : slice_get all list ≡ Some []
 
--- What is kept of the rows of a history, and of its keys, where all lists are empty.
+-- What is kept of the rows of a history, and of its keys, while all lists are empty.
 pub record AreEmpty (rows : List Row) (lists : List OpenList) (newest : List ℕ)
     (entries : List Entry) (uses : RowsIndex) : Type 0 where
   pub store : IsStoreOf rows entries

@@ -1,4 +1,5 @@
-//! How many entries are of the blocks up to one.
+//! How many entries are of the blocks up to one: rows are in the order of their blocks, so these
+//! are the first entries.
 
 ghost use Rattle.std.specs.Prelude.{ℕ, List};
 ghost use Rattle.lc_base.specs.declared.row.Row.{Row};

@@ -1,4 +1,5 @@
-//! The index over the rows of the first blocks.
+//! The index over the rows of the first blocks is made of their entries: no row and no body is
+//! read, and no header is digested again.
 
 ghost use Rattle.std.specs.{Prelude.{◌+◌, ◌<◌, ℕ, List, IfOk}, List.{All}};
 ghost use Rattle.lc_base.specs.{declared.row.Row.{Row}, History.{up_to}};
@@ -17,7 +18,7 @@ use rows_index::RowsIndex;
 use state_tree::Tree;
 use std::alloc::Global;
 
-/// The index of the rows of these entries, whose users these are.
+/// The index over the rows of these entries. `uses` has which rows were derived from which of them.
 fn index_of_entries(alloc: Global, store: Store, uses: &RowsIndex) -> Result<LineageIndex, Memory>
     requires { (rows : List Row) × IsStoreOf rows store × AreUsesOf rows uses.now }
     ensures { (rows : List Row) (n : ℕ) → IsStoreOf rows store → AreUsesOf rows uses.now

@@ -1,4 +1,4 @@
-//! The leaves of all keys, made anew.
+//! The leaves of all keys are set together, each by what is kept of the newest version of its key.
 
 ghost use Rattle.std.specs.{
   Prelude.{◌≡◌, [], ℕ, List, length, map, OnOk, IfOk},
@@ -20,7 +20,7 @@ use lineage_index::leaf_state;
 use state_tree::{LeafState, Tree};
 use std::alloc::Global;
 
-/// What the leaves of all keys are to say.
+/// The states of the leaves of all keys, in the order of the leaves.
 fn all_states(
     alloc: Global,
     lists: &OpenLists,

@@ -1,4 +1,4 @@
-//! The open lists, made of the lists of users.
+//! The open list of a key has the users of its newest row, in the order of their rows.
 
 ghost use Rattle.std.specs.Prelude.{◌≡◌, ℕ, List, map, Some, slice_set};
 ghost use Rattle.lc_base.specs.{declared.row.Dep.{Dep}, declared.row.Row.{Row}};
@@ -13,7 +13,7 @@ use forward_links::OpenLists;
 use lc_base::Dep;
 use rows_index::RowsIndex;
 
-/// The version whose entry stands at an index.
+/// The version that the row at an index is, by the row's entry.
 fn version_of(store: &Store, index: u32) -> Dep
     requires { (rows : List Row) × (dep : Dep) × IsStoreOf rows store.now
         × (version_at rows index ≡ Some dep) }
@@ -27,7 +27,7 @@ fn version_of(store: &Store, index: u32) -> Dep
     }
 }
 
-/// Adds the versions at the indexes of these users to a list, which is empty.
+/// Adds the versions at the indexes of these users to an empty list.
 fn add_users(lists: &mut OpenLists, list: u32, store: &Store, users: &[u32])
     requires { (rows : List Row) × (deps : List Dep) × (all : List (List Dep))
         × CanFill rows deps all list lists.old store.now users.now }

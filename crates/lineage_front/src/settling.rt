@@ -1,4 +1,5 @@
-//! The rows of entries become the newest versions of their keys.
+//! The rows of entries become the newest versions of their keys in the order of the rows, so keys
+//! get the leaves that they have in the history.
 
 ghost use Rattle.std.specs.Prelude.{[], List, OnOk};
 ghost use Rattle.lc_base.specs.declared.row.Row.{Row};
@@ -11,7 +12,7 @@ use lc_base::Memory;
 use lineage_index::set_newest;
 use state_tree::Tree;
 
-/// Makes the rows of the entries one after another the newest versions of their keys. All lists
+/// Makes the rows of the entries the newest versions of their keys, one after another. All lists
 /// stay empty.
 pub(crate) fn settle_entries(
     tree: &mut Tree,

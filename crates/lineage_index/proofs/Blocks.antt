@@ -23,7 +23,7 @@ rows_now rows new n g = recursion_from_All (λ (row : Row). row.block ≡ n) new
 pub before_are : (rows new : List Row) (n : ℕ) → Grows rows new n → below (rows ++ new) n ≡ rows
 before_are rows new n g = below_now rows new n (rows_before rows new n g) (rows_now rows new n g)
 
--- the list that a version of the block closes is what is held of its key after all uses
+-- the list that a version of the block closes is that of its key after all uses of the block
 pub closed_is_held : (rows new : List Row) (n : ℕ) (key : List ℕ) → Grows rows new n → closed_uses (rows ++ new) key n ≡ open_uses rows new key
 closed_is_held rows new n key g = ap (λ (rs : List Row). uses_of (rows ++ new) key (newest rs key)) (before_are rows new n g)
 

@@ -28,7 +28,7 @@ changed_here f key other x t = rw t refl
 pub changed_there : {A : Type 0} (f : List ℕ → A) (key other : List ℕ) (x : A) → pointwise ◌==◌ key other ≡ false → changed_at f key x other ≡ f other
 changed_there f key other x t = rw t refl
 
--- a function that is changed at another key alone
+-- a function that is changed at another key alone has the same values
 unchanged : {A : Type 0} (f : List ℕ → A) (key : List ℕ) (x : A) (keys : List (List ℕ)) → AllByRecursion (λ (other : List ℕ). key ≢ other) keys → map (changed_at f key x) keys ≡ map f keys
 unchanged f key x keys apart = map_on (changed_at f key x) f keys (all_weaker (λ (other : List ℕ). key ≢ other) (λ (other : List ℕ). changed_at f key x other ≡ f other) (λ other a. rw (differ key other a) refl) keys apart)
 

@@ -20,7 +20,7 @@ use Rattle.lineage_index.specs.Growth.{Grows, Entry, entry_of, entry_after, keys
 use Rattle.lineage_index.proofs.Blocks.{rows_before, rows_now}
 use Rattle.lineage_index.proofs.ClosedLists.{newest_kept}
 
--- one key more was made new
+-- the entry of one key more was replaced
 pub one_more_renewed : (old new : List ℕ → Entry) (done : List (List ℕ)) (last key : List ℕ) → changed_at (entry_after old new done) last (new last) key ≡ entry_after old new (done ++ last ∷ []) key
 one_more_renewed old new done last key =
     let any : is_among (done ++ last ∷ []) key ≡ (is_among done key || pointwise ◌==◌ last key) =
@@ -87,7 +87,8 @@ untouched rows new n key g known off = elim (option_cases (newest rows key)) [
     none_newest None e = refl
     none_newest (Some row) e = cc
 
--- all keys that the block touches were made new: the entries of the longer history
+-- with the entries of all keys that the block touches replaced, they are those of the longer
+-- history
 pub renewed_all : (rows new : List Row) (n : ℕ) (key : List ℕ) (old : List ℕ → Entry) → Grows rows new n
     → (is_among (keys_of rows) key ≡ true → old key ≡ entry_of rows key) → (is_among (keys_of rows) key ≡ false → is_among (keys_touched new) key ≡ true)
     → entry_after old (entry_of (rows ++ new)) (keys_touched new) key ≡ entry_of (rows ++ new) key

@@ -1,4 +1,4 @@
--- What is kept of no rows.
+-- Of no rows, the sentinel is kept, and nothing else.
 use Rattle.std.proofs.Common.{[], ◌∷◌, refl, rules, arith}
 use Rattle.root_laws.specs.Root.{sentinel}
 use Rattle.lineage_store.specs.Entries.{entries_after}

@@ -26,7 +26,7 @@ index_among keys key i at =
     let here : get_or keys i key ≡ key = get_or_from_slice_get keys i key key at in
     list_any_at (λ (other : List ℕ). pointwise ◌==◌ other key) keys i key (slice_get_within keys i key at) (rw here (key_is_key key))
 
--- a key that is not among them has no leaf
+-- a key that is not among the keys has no leaf
 pub no_leaf : (tree : List Leaf) (keys : List (List ℕ)) (entry : List ℕ → Entry) (key : List ℕ) → tree ≡ leaves_with keys entry → is_among keys key ≡ false → index_of tree key ≡ None
 no_leaf tree keys entry key is none = ap (λ (leaves : List Leaf). index_of leaves key) is ∙ go (index_of (leaves_with keys entry) key) (leaf_place keys entry key)
   where

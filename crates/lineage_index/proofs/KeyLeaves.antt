@@ -1,4 +1,4 @@
--- The leaves of some keys: where a key's leaf stands, a leaf that is set, and one more key.
+-- The leaves of some keys: where a key's leaf is, a leaf that is set, and one more key.
 use Rattle.std.proofs.Common.{◌≡◌, ◌≢◌, ◌∙◌, ℕ, suc, ◌+◌, ◌-◌, ◌<◌, false, ◌==◌, List, [], ◌∷◌, ◌++◌, length, get_or, map, Option, Some, None, refl, sym, ap, arith, inl, inr}
 use Rattle.std.specs.Prelude.{slice_get, position, slice_set}
 use Rattle.std.specs.List.{AllPairs, AllByRecursion, position_from}
@@ -18,12 +18,13 @@ use Rattle.lineage_index.specs.Growth.{Entry, leaf_with, changed_at}
 use Rattle.lineage_index.specs.Heads.{leaves_with, fresh_entry, IsKeyIndex}
 use Rattle.lineage_index.proofs.ByKey.{set_at_key, push_key, differ, changed_here, changed_there}
 
--- ---- where a key's leaf stands
+-- ---- where a key's leaf is
 
 keys_in : (keys : List (List ℕ)) (entry : List ℕ → Entry) → map (λ (leaf : Leaf). leaf.key) (leaves_with keys entry) ≡ None ∷ map (λ (key : List ℕ). let own : Option (List ℕ) = Some key in own) keys
 keys_in keys entry = ap (λ (own : List (Option (List ℕ))). None ∷ own) (map_map (λ (leaf : Leaf). leaf.key) (λ (key : List ℕ). leaf_with keys key (entry key)) keys)
 
--- What an index says: none where the key is not among them, else the place of the key, counted from n.
+-- What an index says: `None` if the key is not among these, else the place of the key, counted from
+-- `n`.
 abbrev pub IsPlace : List (List ℕ) → List ℕ → ℕ → Option ℕ → Type 0
 IsPlace keys key n None = is_among keys key ≡ false
 IsPlace keys key n (Some index) = (j : ℕ) × (index ≡ n + j) × (j < length keys) × ((d : List ℕ) → get_or keys j d ≡ key)

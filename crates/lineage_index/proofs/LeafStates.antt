@@ -1,4 +1,4 @@
--- Leaves that are given the entries of their keys, in any order.
+-- Leaves may be set to the entries of their keys in any order, and more than once.
 use Rattle.std.proofs.Common.{◌≡◌, ◌≢◌, ◌∙◌, ℕ, suc, ◌+◌, ◌-◌, ◌<◌, Bool, true, false, ◌==◌, ◌||◌, if◌then◌else◌, List, [], ◌∷◌, ◌++◌, length, get_or, map, Some, None, refl, sym, ap, subst, arith, inl, inr}
 use Rattle.std.specs.Prelude.{slice_set}
 use Rattle.std.specs.List.{All, AllPairs, AllByRecursion, Contains, list_any}
@@ -35,7 +35,7 @@ index_says keys entry key index is =
     let before : index - 1 ≡ place.0 = omega (arith, place.1) in
     ((omega (arith, place.1), omega (arith, place.1, place.2)), ap (λ (i : ℕ). get_or keys i []) before ∙ place.3 [])
 
--- A key without an index is not among them.
+-- A key without an index is not among the keys.
 index_missing : (keys : List (List ℕ)) (entry : List ℕ → Entry) (key : List ℕ) → index_of (leaves_with keys entry) key ≡ None → is_among keys key ≡ false
 index_missing keys entry key is = subst (IsPlace keys key 1) is (leaf_place keys entry key)
 
@@ -44,7 +44,7 @@ indexes_within keys entry touched =
     All-from_recursion (IsLeafIndex keys) (leaf_indexes (leaves_with keys entry) touched)
     (all_filter_map (IsLeafIndex keys) (index_of (leaves_with keys entry)) touched (λ key index is. (index_says keys entry key index is).0))
 
--- A key that has a leaf is touched exactly where its index is there.
+-- A key that has a leaf is touched exactly if the index of its leaf is there.
 touched_there : (keys : List (List ℕ)) (entry : List ℕ → Entry) (touched : List (List ℕ)) (key : List ℕ) → is_among keys key ≡ true
     → is_among (map (key_at keys) (leaf_indexes (leaves_with keys entry) touched)) key ≡ is_among touched key
 touched_there keys entry [] key there = refl
@@ -80,7 +80,7 @@ any_alike test f one other same = elim (cases_Bool (list_any test (map f one))) 
 all_alike : (P : ℕ → Type 0) (one other : List ℕ) → HaveSameItems one other → All P one → All P other
 all_alike P one other same all i d below = All-contains P one (get_or other i d) all (same.back (get_or other i d) (Contains-get_or other i d below))
 
--- Neither the order of the indexes matters, nor how often one is there.
+-- Neither the order of the indexes matters, nor how often an index occurs.
 entries_alike : (keys : List (List ℕ)) (entry old new : List ℕ → Entry) (touched : List (List ℕ)) (indexes : List ℕ) → HaveSameItems (leaf_indexes (leaves_with keys entry) touched) indexes
     → leaves_with keys (entry_after old new (map (key_at keys) indexes)) ≡ leaves_with keys (entry_after old new touched)
 entries_alike keys entry old new touched indexes same = leaves_on keys (entry_after old new (map (key_at keys) indexes)) (entry_after old new touched)
@@ -94,7 +94,7 @@ entries_alike keys entry old new touched indexes same = leaves_on keys (entry_af
     alike : (key : List ℕ) → is_among keys key ≡ true → entry_after old new (map (key_at keys) indexes) key ≡ entry_after old new touched key
     alike key there = ap (λ (b : Bool). if b then new key else old key) (among key there)
 
--- ---- leaves that are given entries
+-- ---- leaves that are set to entries
 
 leaf_told : (keys : List (List ℕ)) (entry : List ℕ → Entry) (index : ℕ) (new : Entry) → AllPairs ◌≢◌ keys → IsLeafIndex keys index
     → with_state (leaves_with keys entry) (state_of_entry keys index new) ≡ leaves_with keys (changed_at entry (key_at keys index) new)
@@ -130,7 +130,7 @@ touched_within rows entry tree lists newest entries touched indexes a same =
     let there = subst (λ (leaves : List Leaf). HaveSameItems (leaf_indexes leaves touched) indexes) a.heads.leaves_are same in
     all_alike (IsLeafIndex (keys_of rows)) (leaf_indexes (leaves_with (keys_of rows) (entry_after entry (entry_of rows) [])) touched) indexes there (indexes_within (keys_of rows) (entry_after entry (entry_of rows) []) touched)
 
--- What is given is for leaves of the tree.
+-- The states are for leaves of the tree, and none is for the sentinel.
 pub states_within : (rows : List Row) (entry : List ℕ → Entry) (tree : List Leaf) (lists : List OpenList) (newest : List ℕ) (entries : List StoreEntry) (indexes : List ℕ) (states : List LeafState)
     → AreRenewing rows entry [] tree lists newest entries → All (IsLeafIndex (keys_of rows)) indexes → states ≡ map (state_of rows) indexes
     → All (λ (state : LeafState). 0 < state.index) states × All (λ (state : LeafState). state.index < length tree) states
@@ -145,7 +145,7 @@ states_within rows entry tree lists newest entries indexes states a within is =
           (all_weaker (IsLeafIndex (keys_of rows)) (λ (index : ℕ). index < length tree) (λ index h. omega (arith, h.1, many.1, many.2)) indexes each))),
     )
 
--- Given what a history says, the leaves of the keys that are touched are made anew.
+-- Once their states in a history are set, the leaves of the touched keys are those of the history.
 pub leaves_renewed : (rows : List Row) (entry : List ℕ → Entry) (tree after : List Leaf) (lists : List OpenList) (newest : List ℕ) (entries : List StoreEntry) (touched : List (List ℕ)) (indexes : List ℕ)
     → AreRenewing rows entry [] tree lists newest entries → HaveSameItems (leaf_indexes tree touched) indexes → after ≡ with_states tree (map (state_of rows) indexes)
     → AreRenewing rows entry touched after lists newest entries

@@ -1,4 +1,4 @@
--- The entry of a new row, from what is kept.
+-- The entry that is made of a new row, by what is kept, is that of the longer history.
 use Rattle.std.proofs.Common.{◌≡◌, ◌≢◌, ◌∙◌, ℕ, ◌<◌, ◌≤◌, true, List, [], ◌∷◌, ◌++◌, length, get_or, take, drop, ◌+◌, map, Option, Some, None, refl, sym, ap, subst, arith, inl, inr}
 use Rattle.std.specs.Prelude.{slice_get}
 use Rattle.std.specs.List.{All, AllByRecursion, AllPairs, Contains, concat}
@@ -111,7 +111,7 @@ body_read rows new n tree lists newest_rows row a has =
     (λ dep t. ap (λ (d : Digest). let b : BodyDep = record { key = dep.key; block = dep.block; digest = d } in b) (newest_known_in (keys_of rows) (entry_of rows) dep.key t)) row.deps
     (recursion_from_All (λ (dep : Dep). is_among (keys_of rows) dep.key ≡ true) row.deps (deps_known rows new n row a.grows has))))
 
--- ---- it comes next
+-- ---- the next row
 
 comes_next : (done : List Row) (row : Row) (after : List Row) → Contains (done ++ row ∷ after) row
 comes_next done row after = (length done, omega (arith, length-append done (row ∷ after)), get_or_at done row after row (length done) refl)

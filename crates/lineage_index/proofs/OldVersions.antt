@@ -14,7 +14,7 @@ use Rattle.root_laws.proofs.Headers.{row_is_named, newest_has, newest_is_key}
 use Rattle.lineage_index.specs.Growth.{Grows, entry_of}
 use Rattle.lineage_index.proofs.Blocks.{rows_before, IsOnNewest}
 
--- the digest of a dependency stands in the entry of its key
+-- the digest of a dependency is in the entry of its key
 pub dep_is_named : (rows new : List Row) (n : ℕ) (dep : Dep) (named : List BodyDep) → Grows rows new n → IsOnNewest rows dep → named_before rows n ≡ named
     → record { key = dep.key; block = dep.block; digest = (entry_of rows dep.key).newest } ≡ with_digest named dep
 dep_is_named rows new n dep named g on is = go (newest rows dep.key) refl on

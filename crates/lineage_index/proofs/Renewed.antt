@@ -1,4 +1,4 @@
--- What a leaf is to say is the entry of its key.
+-- The state of a leaf is the entry of its key, read from what is kept.
 use Rattle.std.proofs.Common.{◌≡◌, ◌∙◌, ℕ, suc, ◌-◌, ◌<◌, List, [], length, map, get_or, Some, refl, sym, ap, arith}
 use Rattle.std.specs.Prelude.{slice_get}
 use Rattle.std.specs.Option.{option_map}
@@ -43,7 +43,7 @@ digest_read rows entries key row store newest_is =
     let same : row.key ≡ key = newest_is_key rows key row newest_is in
     sym (ap (λ (k : List ℕ). header_digest rows k row.block) (sym same) ∙ row_is_named rows row (suc row.block) store.lawful has (omega arith))
 
--- ---- what a leaf is to say
+-- ---- the state of a leaf
 
 entry_is : (rows : List Row) (key : List ℕ) (row : Row) (block : ℕ) (digest : Digest) (list : List Dep) (count : ℕ) (list_digest : Digest) → newest rows key ≡ Some row → block ≡ row.block → digest ≡ header_digest rows key row.block → list ≡ open_list rows key
     → count ≡ length list → list_digest.0 ≡ uses_digest list → record { newest_block = block; newest = digest; open_count = count; open_digest = list_digest } ≡ entry_of rows key
@@ -60,11 +60,11 @@ entry_is rows key row block digest list count list_digest newest_is block_is dig
     parts : (a b : ℕ) (c d : Digest) (e f : ℕ) (g h : Digest) → a ≡ b → c ≡ d → e ≡ f → g ≡ h → (let x : Entry = record { newest_block = a; newest = c; open_count = e; open_digest = g } in x) ≡ record { newest_block = b; newest = d; open_count = f; open_digest = h }
     parts a b c d e f g h p q r s = cc
 
--- The key of a leaf stands at the index before.
+-- The key of a leaf is at the index one below the leaf's.
 pub key_there : (keys : List (List ℕ)) (index : ℕ) → IsLeafIndex keys index → slice_get keys (index - 1) ≡ Some (key_at keys index)
 key_there keys index at = slice_get-get_or keys (index - 1) [] (omega (arith, at))
 
--- It is given the entry of its key.
+-- The state of the leaf is the entry of its key.
 pub state_told : (rows : List Row) (lists : List OpenList) (newest_rows : List ℕ) (entries : List StoreEntry) (index at : ℕ) (facts : Facts) (kept : OpenList)
     → AreBesideLeaves rows lists newest_rows entries → IsLeafIndex (keys_of rows) index → slice_get newest_rows (index - 1) ≡ Some at
     → option_map (λ (entry : StoreEntry). entry.facts) (slice_get entries at) ≡ Some facts → kept ≡ kept_at lists (index - 1)
@@ -82,7 +82,7 @@ state_told rows lists newest_rows entries index at facts kept a within read fact
     ap (state_of_entry (keys_of rows) index) (entry_is rows key row.0 facts.block facts.digest (open_list rows key) kept.count kept.digest row.1
     (ap (λ (f : Facts). f.block) says) (ap (λ (f : Facts). f.digest) says ∙ digest_read rows entries key row.0 a.store row.1) refl (ap (λ (one : OpenList). one.count) is) (ap (λ (one : OpenList). one.digest.0) is))
 
--- What is read for it is there.
+-- What is read for a leaf is within the lists.
 pub read_within : (rows : List Row) (lists : List OpenList) (newest_rows : List ℕ) (entries : List StoreEntry) (index : ℕ)
     → AreBesideLeaves rows lists newest_rows entries → IsLeafIndex (keys_of rows) index → (index - 1 < length newest_rows) × (index - 1 < length lists)
 read_within rows lists newest_rows entries index a within = (

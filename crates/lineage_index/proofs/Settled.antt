@@ -50,7 +50,7 @@ row_there rows key index e =
     let there = found_there rows index (newest rows key) within found in
     (there.0, there.1, found ∙ there.1)
 
--- the index of the newest row of a key is there where the key is
+-- a key of a history has a newest row
 pub index_there : (rows : List Row) (key : List ℕ) → is_among (keys_of rows) key ≡ true → newest_index rows key ≡ Some (newest_at rows key)
 index_there rows key t = go (newest_index rows key) refl
   where
@@ -112,7 +112,7 @@ states_more rows done list row tree lists newest a = elim (cases_Bool (is_among 
       (sym (keys_more rows done row ∙ rw f refl)) (λ key. fresh_stays rows done row.key key f) (λ key. one_key_more list done row key) (λ key. index_more rows done row key)
 ]
 
--- there are no more keys than rows
+-- there are at most as many keys as rows
 pub settled_short : (rows done : List Row) (list : List ℕ → List Dep) (tree : List Leaf) (lists : List OpenList) (newest : List ℕ) → AreHeads tree lists newest (settled_states rows list done) → length newest ≤ length (rows ++ done)
 settled_short rows done list tree lists newest a =
     let many = as_many tree lists newest (settled_states rows list done) a in

@@ -10,7 +10,7 @@ use Rattle.state_tree.specs.Leaves.{index_of}
 use Rattle.lineage_index.specs.Growth.{keys_of_row, keys_touched}
 use Rattle.lineage_index.specs.Leaves.{leaf_indexes}
 
--- The indexes of some keys and more.
+-- The indexes of some keys, followed by those of more keys.
 pub indexes_more : (tree : List Leaf) (before : List ℕ) (keys more : List (List ℕ)) → (before ++ leaf_indexes tree keys) ++ leaf_indexes tree more ≡ before ++ leaf_indexes tree (keys ++ more)
 indexes_more tree before keys more =
     append_assoc before (leaf_indexes tree keys) (leaf_indexes tree more) ∙ ap (λ (indexes : List ℕ). before ++ indexes) (sym (filter_map-append (index_of tree) keys more))

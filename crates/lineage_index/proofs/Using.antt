@@ -61,7 +61,7 @@ one_use_more list user deps i d key distinct l =
 
 -- ---- one row more
 
--- a row depends on the newest version of a key where one of its dependencies is on the key
+-- a row depends on the newest version of a key exactly if one of its dependencies is on the key
 depends_by_key : (rows : List Row) (deps : List Dep) (key : List ℕ) (version : Row) → newest rows key ≡ Some version → AllByRecursion (IsOnNewest rows) deps
     → list_any (λ (dep : Dep). pointwise ◌==◌ dep.key key && dep.block == version.block) deps ≡ list_any (is_on_key key) deps
 depends_by_key rows [] key version e on = refl

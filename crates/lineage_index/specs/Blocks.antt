@@ -1,4 +1,4 @@
--- What is kept of a history.
+-- The invariant that each block keeps: all that is kept is determined by the rows so far.
 use Rattle.std.specs.Prelude.{ℕ, ◌<◌, List}
 use Rattle.std.specs.List.{All}
 use Rattle.lc_base.specs.declared.row.Row.{Row}
@@ -8,7 +8,8 @@ use Rattle.forward_links.specs.declared.open_list.OpenList.{OpenList}
 use Rattle.lineage_index.specs.Heads.{AreHeads, states_of}
 use Rattle.lineage_index.specs.Settling.{IsStoreOf}
 
--- The leaves, lists, indexes and entries are those of the rows of the blocks before this one.
+-- The leaves, lists, indexes and entries are those of these rows, which are all of blocks before
+-- this one.
 pub record IsKeptIndex (rows : List Row) (block : ℕ) (tree : List Leaf) (lists : List OpenList) (newest : List ℕ) (entries : List StoreEntry) : Type 0 where
   pub store : IsStoreOf rows entries
   pub within : All (λ (row : Row). row.block < block) rows

@@ -28,8 +28,8 @@ changed_at f key x other = if pointwise ◌==◌ key other then x else f other
 
 -- ---- forward lists
 
--- The uses, among these rows and more, of the newest version of a key among these rows; none where
--- there is none.
+-- The uses, among `rows` and `more`, of the version that is the newest of a key in `rows`; empty if
+-- the key has no version there.
 abbrev pub open_uses : List Row → List Row → List ℕ → List Dep
 open_uses rows more key = uses_of (rows ++ more) key (newest rows key)
 
@@ -37,16 +37,15 @@ open_uses rows more key = uses_of (rows ++ more) key (newest rows key)
 abbrev pub is_on_key : List ℕ → Dep → Bool
 is_on_key key dep = pointwise ◌==◌ dep.key key
 
--- The list of a key after these dependencies were added to the lists of their keys, with this version
--- as what was derived from them.
+-- The list of a key after this version was added to the lists of the keys of these dependencies.
 abbrev pub list_with_uses : (List ℕ → List Dep) → Dep → List Dep → List ℕ → List Dep
 list_with_uses list user deps key = if list_any (is_on_key key) deps then list key ++ user ∷ [] else list key
 
--- The list of a key after the dependencies of a row were added.
+-- The list of a key after a row was added to the lists of the keys that it depends on.
 abbrev pub used_by_row : (List ℕ → List Dep) → Row → List ℕ → List Dep
 used_by_row list row = list_with_uses list (version_of row) row.deps
 
--- The list of a key after the dependencies of these rows were added.
+-- The list of a key after these rows were added, one after another.
 abbrev pub used_by : (List ℕ → List Dep) → List Row → List ℕ → List Dep
 used_by list rows = fold used_by_row list rows
 
@@ -64,7 +63,7 @@ list_after_rows list done key = if list_any (is_of_key key) done then [] else li
 
 -- ---- leaves
 
--- What a leaf has of a key, but for the next key.
+-- What a leaf has of a key, except for the next key.
 pub record Entry : Type 0 where
   pub newest_block : ℕ
   pub newest : Digest
@@ -99,6 +98,6 @@ keys_of_row row = row.key ∷ map (λ (dep : Dep). dep.key) row.deps
 abbrev pub keys_touched : List Row → List (List ℕ)
 keys_touched new = flat_map keys_of_row new
 
--- The entry of a key after those of some keys were made new.
+-- The entry of a key after the entries of these keys were replaced by new ones.
 abbrev pub entry_after : (List ℕ → Entry) → (List ℕ → Entry) → List (List ℕ) → List ℕ → Entry
 entry_after old new done key = if is_among done key then new key else old key

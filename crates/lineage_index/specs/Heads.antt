@@ -1,4 +1,5 @@
--- What is kept of the newest version of each key.
+-- What is kept of the newest version of each key. Leaves, lists and indexes are in one order of
+-- keys.
 use Rattle.std.specs.Prelude.{◌≡◌, ◌≢◌, ℕ, List, [], ◌∷◌, ◌++◌, ◌+◌, ◌<◌, length, map, replicate, slice_get, false, if◌then◌else◌, Option, Some, None}
 use Rattle.std.specs.List.{AllPairs}
 use Rattle.lc_base.specs.declared.row.Row.{Row}
@@ -21,12 +22,12 @@ leaves_with keys entry = sentinel keys ∷ map (λ (key : List ℕ). leaf_with k
 abbrev pub fresh_entry : Entry
 fresh_entry = record { newest_block = 0; newest = record { 0 = replicate 32 0 }; open_count = 0; open_digest = digest_of_uses [] }
 
--- An index, 0 where there is none.
+-- An index, or 0 if there is none.
 abbrev pub index_or_zero : Option ℕ → ℕ
 index_or_zero None = 0
 index_or_zero (Some index) = index
 
--- The index of the newest row of a key.
+-- The index of the newest row of a key, or 0 if the key has none.
 abbrev pub newest_at : List Row → List ℕ → ℕ
 newest_at rows key = index_or_zero (newest_index rows key)
 
@@ -34,7 +35,7 @@ newest_at rows key = index_or_zero (newest_index rows key)
 abbrev pub open_list : List Row → List ℕ → List Dep
 open_list rows key = uses_of rows key (newest rows key)
 
--- The index of a key among these keys; none where it is not among them.
+-- The index of a key among these keys; `None` if it is not among them.
 abbrev pub IsKeyIndex : List (List ℕ) → List ℕ → Option ℕ → Type 0
 IsKeyIndex keys key None = is_among keys key ≡ false
 IsKeyIndex keys key (Some index) = slice_get keys index ≡ Some key
@@ -46,7 +47,7 @@ pub record AreLists (tree : List Leaf) (lists : List OpenList) (keys : List (Lis
   pub leaves_are : tree ≡ leaves_with keys entry
   pub lists_are : lists ≡ map open_of (map list keys)
 
--- Each of these lists takes so many uses more.
+-- Each of these lists stays below the greatest number of uses with `more` uses added.
 abbrev pub HaveRoom : (List ℕ → List Dep) → ℕ → Type 0
 HaveRoom list more = (key : List ℕ) → length (list key) + more < MAX_USES
 
@@ -66,7 +67,8 @@ pub record AreHeads (tree : List Leaf) (lists : List OpenList) (newest : List �
   pub lists_are : lists ≡ map open_of (map states.list states.keys)
   pub newest_are : newest ≡ map states.index states.keys
 
--- With one key more, which has an empty list, and whose newest row is the one at this index.
+-- The states with one key more, which has an empty list, and whose newest row is the one at this
+-- index.
 abbrev pub with_key_more : KeyStates → List ℕ → ℕ → KeyStates
 with_key_more states key row = record {
   keys = states.keys ++ key ∷ [];
@@ -75,7 +77,7 @@ with_key_more states key row = record {
   index = changed_at states.index key row;
 }
 
--- The same of a key that was there before; its leaf stays.
+-- The states with a new version of a key that was there before; its leaf stays.
 abbrev pub with_version_more : KeyStates → List ℕ → ℕ → KeyStates
 with_version_more states key row = record {
   keys = states.keys;
@@ -84,7 +86,7 @@ with_version_more states key row = record {
   index = changed_at states.index key row;
 }
 
--- After a new version of a key, whose row is the one at this index.
+-- The states after a new version of a key, whose row is the one at this index.
 abbrev pub with_version : KeyStates → List ℕ → ℕ → KeyStates
 with_version states key row = if is_among states.keys key then with_version_more states key row else with_key_more states key row
 

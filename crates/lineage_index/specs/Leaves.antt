@@ -1,4 +1,4 @@
--- What the leaves of the keys that a block touches are to say.
+-- The leaves of the keys that a block touches, and the state that each of them has by the history.
 use Rattle.std.specs.Prelude.{◌≡◌, ℕ, ◌-◌, ◌<◌, ◌≤◌, List, [], length, map, slice_index_or}
 use Rattle.std.specs.List.{filter_map, Contains}
 use Rattle.lc_base.specs.declared.row.Row.{Row}
@@ -17,12 +17,12 @@ use Rattle.lineage_index.specs.Settling.{IsStoreOf}
 abbrev pub leaf_indexes : List Leaf → List (List ℕ) → List ℕ
 leaf_indexes tree keys = filter_map (index_of tree) keys
 
--- What is in one of these lists is in the other.
+-- Each of these lists has the items of the other; neither order nor repetitions matter.
 pub record HaveSameItems (one other : List ℕ) : Type 0 where
   pub there : (item : ℕ) → Contains one item → Contains other item
   pub back : (item : ℕ) → Contains other item → Contains one item
 
--- The index is that of the leaf of one of these keys: the sentinel's is 0.
+-- The index is that of the leaf of one of these keys; 0 is that of the sentinel.
 abbrev pub IsLeafIndex : List (List ℕ) → ℕ → Type 0
 IsLeafIndex keys index = (0 < index) × (index ≤ length keys)
 
@@ -30,15 +30,15 @@ IsLeafIndex keys index = (0 < index) × (index ≤ length keys)
 abbrev pub key_at : List (List ℕ) → ℕ → List ℕ
 key_at keys index = slice_index_or keys (index - 1) []
 
--- What the leaf at an index is to say of its key, which has this entry.
+-- The state of the leaf at an index, whose key has this entry.
 abbrev pub state_of_entry : List (List ℕ) → ℕ → Entry → LeafState
 state_of_entry keys index entry = state_of_leaf (leaf_with keys (key_at keys index) entry) index
 
--- What the leaf at an index is to say, by the history.
+-- The state of the leaf at an index, by the history.
 abbrev pub state_of : List Row → ℕ → LeafState
 state_of rows index = state_of_entry (keys_of rows) index (entry_of rows (key_at (keys_of rows) index))
 
--- What is kept of the rows of a history, and beside the leaves of its keys.
+-- The entries of the rows of a history, and what is kept of its keys beside the leaves.
 pub record AreBesideLeaves (rows : List Row) (lists : List OpenList) (newest : List ℕ) (entries : List StoreEntry) : Type 0 where
   pub store : IsStoreOf rows entries
   pub lists_are : lists ≡ map open_of (map (open_list rows) (keys_of rows))

@@ -1,5 +1,5 @@
--- What stands when the entries of a block's rows are made: the leaves and indexes are those of the
--- rows before, and the lists have the uses of all rows of the block.
+-- What is kept while the entries of a block's rows are made: the leaves and indexes are those of
+-- the rows before, and the lists have the uses of all rows of the block.
 use Rattle.std.specs.Prelude.{◌≡◌, ℕ, if◌then◌else◌, List, [], ◌∷◌, ◌++◌, length, map, replicate, slice_index_or, Option, Some, None}
 use Rattle.std.specs.List.{concat}
 use Rattle.lc_base.specs.declared.digest.Digest.{Digest}
@@ -19,17 +19,18 @@ use Rattle.lineage_store.specs.declared.growing.NewVersion.{NewVersion}
 use Rattle.lineage_index.specs.Growth.{Grows, Entry, entry_of, open_uses}
 use Rattle.lineage_index.specs.Heads.{KeyStates, AreHeads, newest_at}
 
--- The states of the keys of a history, with the uses of these rows after it.
+-- The states of the keys of a history, whose lists have the uses of these later rows too.
 abbrev pub states_with_uses : List Row → List Row → KeyStates
 states_with_uses rows new = record { keys = keys_of rows; entry = entry_of rows; list = open_uses rows new; index = newest_at rows }
 
--- The parts of an index are those of a history with the uses of these rows of block n after it.
+-- The parts of an index are those of a history, whose lists have the uses of these rows of block
+-- `n` too.
 pub record AreUsing (rows new : List Row) (n : ℕ) (tree : List Leaf) (lists : List OpenList) (newest : List ℕ) : Type 0 where
   pub grows : Grows rows new n
   pub heads : AreHeads tree lists newest (states_with_uses rows new)
 
--- The entries are those of the first rows of a history that ends with this block, which are all rows before
--- the block and some of its own; this row comes next.
+-- The entries are those of all rows before a block, and of its rows `done`; this row comes next.
+-- They say what the history with the whole block says.
 pub record IsNextRow (rows new done : List Row) (row : Row) (entries : List StoreEntry) : Type 0 where
   pub after : List Row
   pub first : new ≡ done ++ row ∷ after
@@ -39,15 +40,16 @@ pub record IsNextRow (rows new done : List Row) (row : Row) (entries : List Stor
 abbrev pub dep_with : (List ℕ → Entry) → Dep → BodyDep
 dep_with entry dep = record { key = dep.key; block = dep.block; digest = (entry dep.key).newest }
 
--- The list of a key, where the key is among these; else none.
+-- The list of a key, or an empty list if the key is not among these.
 abbrev pub list_if_among : List (List ℕ) → (List ℕ → List Dep) → List ℕ → List Dep
 list_if_among keys list key = if is_among keys key then list key else []
 
--- The body of a row, where the digests of its dependencies are in the entries of their keys.
+-- The body of a row, with the digests of its dependencies from the entries of their keys.
 abbrev pub body_with : (List ℕ → Entry) → Row → Body
 body_with entry row = record { value = row.value; deps = map (dep_with entry) row.deps }
 
--- The digest of the header of the newest version of a key, in its leaf; zeros where it has none.
+-- The digest of the header of the newest version of a key, from the leaf at this index; zeros if
+-- there is no index.
 abbrev pub newest_of_leaf : List Leaf → Option ℕ → Digest
 newest_of_leaf tree None = record { 0 = replicate 32 0 }
 newest_of_leaf tree (Some index) = (slice_index_or tree index (sentinel [])).newest
@@ -60,7 +62,7 @@ newest_in tree key = newest_of_leaf tree (index_of tree key)
 abbrev pub dep_in : List Leaf → Dep → BodyDep
 dep_in tree dep = record { key = dep.key; block = dep.block; digest = newest_in tree dep.key }
 
--- The body of a row, where the digests of its dependencies are in the leaves of their keys.
+-- The body of a row, with the digests of its dependencies from the leaves of their keys.
 abbrev pub body_in : List Leaf → Row → Body
 body_in tree row = record { value = row.value; deps = map (dep_in tree) row.deps }
 

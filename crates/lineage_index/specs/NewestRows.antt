@@ -1,4 +1,4 @@
--- The newest rows of keys.
+-- The indexes of newest rows are kept in the order of the leaves of their keys.
 use Rattle.std.specs.Prelude.{◌≡◌, ℕ, List, map}
 use Rattle.lc_base.specs.declared.row.Row.{Row}
 use Rattle.prov_entry.specs.declared.entry.Leaf.{Leaf}

@@ -16,8 +16,8 @@ use Rattle.lineage_index.specs.Heads.{KeyStates, AreHeads, fresh_entry, newest_a
 abbrev pub entry_or_fresh : List Row → List ℕ → Entry
 entry_or_fresh rows key = if is_among (keys_of rows) key then entry_of rows key else fresh_entry
 
--- The states of the keys after these rows, after others, became the newest versions of their keys.
--- The leaves are as before.
+-- The states of the keys after the rows `done`, which come after `rows`, became the newest versions
+-- of their keys. The leaves are as before.
 abbrev pub settled_states : List Row → (List ℕ → List Dep) → List Row → KeyStates
 settled_states rows list done = record {
   keys = keys_of (rows ++ done);
@@ -26,7 +26,7 @@ settled_states rows list done = record {
   index = newest_at (rows ++ done);
 }
 
--- The states of the keys of a history, where the leaves of these keys were made anew.
+-- The states of the keys of a history, of which the keys `done` have their new leaves.
 abbrev pub renewed_states : List Row → (List ℕ → Entry) → List (List ℕ) → KeyStates
 renewed_states rows entry done = record {
   keys = keys_of rows;
@@ -35,13 +35,13 @@ renewed_states rows entry done = record {
   index = newest_at rows;
 }
 
--- The entries of a lawful history.
+-- These rows are a lawful history, and these are their entries.
 pub record IsStoreOf (rows : List Row) (entries : List StoreEntry) : Type 0 where
   pub lawful : IsLawful rows
   pub entries_are : entries ≡ entries_of rows rows
 
--- What is kept of all rows of a history, and of its keys, where the leaves of these keys were made
--- anew.
+-- What is kept of all rows of a history, and of its keys, of which the keys `done` have their new
+-- leaves.
 pub record AreRenewing (rows : List Row) (entry : List ℕ → Entry) (done : List (List ℕ)) (tree : List Leaf) (lists : List OpenList) (newest : List ℕ) (entries : List StoreEntry) : Type 0 where
   pub store : IsStoreOf rows entries
   pub heads : AreHeads tree lists newest (renewed_states rows entry done)

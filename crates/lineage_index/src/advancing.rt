@@ -1,4 +1,5 @@
-//! One block more: what is kept of the rows before becomes what is kept with the block's rows.
+//! Adding a block, in four steps that keep `IsKeptIndex`: all uses of the block are added before
+//! any list is closed, and all lists are closed before any leaf is set.
 
 ghost use Rattle.std.specs.Prelude.{ℕ, List, ◌+◌, ◌++◌, OnOk};
 ghost use Rattle.lc_base.specs.declared.row.Row.{Row};
@@ -14,8 +15,9 @@ use lc_base::{Memory, Row};
 use state_tree::Tree;
 use std::alloc::Global;
 
-/// Adds the rows of a block. All their uses are added to the open lists first. Then their entries are
-/// made, the lists of keys with a new version are closed, and the leaves that changed are set.
+/// Adds the rows of a block. All their uses are added to the open lists first. Then their entries
+/// are made, the lists of keys with a new version are closed, and the leaves of all keys that the
+/// block touches are set.
 pub(crate) fn advance(
     alloc: Global,
     tree: &mut Tree,

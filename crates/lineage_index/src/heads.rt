@@ -1,4 +1,5 @@
-//! What is kept of the newest version of each key, by the index of the key among all keys.
+//! What is kept of the newest version of each key, by the index of the key among all keys. A key
+//! gets its leaf, its list and its newest row together, and keeps its index.
 
 ghost use Rattle.std.specs.Prelude.{◌≡◌, ◌<◌, ◌+◌, ◌^◌, ℕ, List, length, slice_set, OnOk, IfSome};
 ghost use Rattle.lc_base.specs.declared.limits.TheConstants.{MAX_ROWS};
@@ -12,7 +13,8 @@ use forward_links::OpenLists;
 use lc_base::{Key, Memory};
 use state_tree::Tree;
 
-/// The index of a key among the keys of the leaves, from 0.
+/// The index of a key among the keys of the leaves, from 0: one below that of its leaf, as the
+/// first leaf is the sentinel. `None` if the key has no leaf.
 pub(crate) fn index_of(tree: &Tree, key: &Key) -> Option<u32>
     requires { (keys : List (List ℕ)) × (entry : List ℕ → Entry) × (tree.now ≡ leaves_with keys entry) }
     ensures room { IfSome result (λ index. index + 1 < 2 ^ 32) }
@@ -24,7 +26,7 @@ pub(crate) fn index_of(tree: &Tree, key: &Key) -> Option<u32>
     }
 }
 
-/// Puts the row at an index in the place of the newest version of a key, whose list is closed.
+/// Makes `row` the index of the newest row of the key at `index`, and closes the key's list.
 fn replace_newest(lists: &mut OpenLists, newest: &mut Vec<u32>, index: u32, row: u32)
     requires lists { index < length lists.old }
     requires newest { index < length newest.old.items }
@@ -35,8 +37,8 @@ fn replace_newest(lists: &mut OpenLists, newest: &mut Vec<u32>, index: u32, row:
     newest[index as usize] = row;
 }
 
-/// Makes the row at an index the newest version of a key. The list of the version before is closed; a
-/// key without a leaf gets one, and an empty list. On `Memory` only a part of it may be there.
+/// Makes the row at an index the newest version of a key. The list of the version before is closed;
+/// a key without a leaf gets one, and an empty list. On `Memory` only a part of this may be done.
 pub fn set_newest(
     tree: &mut Tree,
     lists: &mut OpenLists,

@@ -1,4 +1,5 @@
-//! The index over the rows of a lineage.
+//! The index over the rows of a lineage. It grows by whole blocks and keeps no rows: a lookup
+//! starts at the entry of the key's newest row, and follows the links of entries.
 
 ghost use Rattle.std.specs.Prelude.{◌≡◌, ℕ, ◌<◌, List, [], ◌+◌, ◌++◌, length, slice_get, Some, IfOk, OnOk};
 ghost use Rattle.lc_base.specs.{declared.row.Row.{Row}, History.{latest}};
@@ -44,7 +45,7 @@ impl LineageIndex {
         })
     }
 
-    /// The index of these parts.
+    /// The index made of these parts, which `lineage_front` makes of entries.
     pub fn of_parts(tree: Tree, lists: OpenLists, newest: Vec<u32>, store: Store) -> LineageIndex
         ensures { (rows : List Row) (n : ℕ) → IsKeptIndex rows n tree lists newest.items store → IsIndexOf rows n result }
     {
@@ -56,7 +57,8 @@ impl LineageIndex {
         }
     }
 
-    /// Adds the rows of the next block. On `Memory` only a part of them may be there.
+    /// Adds the rows of the next block. On `Memory` only a part of them may be there, and nothing
+    /// is known of the index: drop it.
     pub fn add_block(&mut self, new: &[Row]) -> Result<(), Memory>
         requires { (rows : List Row) × (n : ℕ) × Grows rows new.now n × IsIndexOf rows n self.old }
         ensures { (rows : List Row) (n : ℕ) → Grows rows new.now n → IsIndexOf rows n self.old
@@ -74,7 +76,7 @@ impl LineageIndex {
         Ok(())
     }
 
-    /// The leaves of the keys.
+    /// The leaves of the keys, after the sentinel.
     pub fn tree(&self) -> &Tree
         ensures { (rows : List Row) (n : ℕ) → IsIndexOf rows n self.now → result.now ≡ leaves rows }
     {
@@ -88,7 +90,7 @@ impl LineageIndex {
         &self.store
     }
 
-    /// The index of the newest row of a key; `None` exactly where the key has none.
+    /// The index of the newest row of a key; `None` exactly if the key has none.
     pub fn newest_row(&self, key: &Key) -> Option<u32>
         requires { (rows : List Row) × (n : ℕ) × IsIndexOf rows n self.now }
         ensures { (rows : List Row) (n : ℕ) → IsIndexOf rows n self.now → result ≡ newest_index rows key.now }
@@ -96,7 +98,7 @@ impl LineageIndex {
         newest_row_of(&self.tree, self.newest.as_slice(), key)
     }
 
-    /// The entry of the newest row of a key.
+    /// The entry of the newest row of a key; `None` if the key has none.
     fn newest_entry(&self, key: &Key) -> Option<EntryId>
         requires { (rows : List Row) × (n : ℕ) × IsIndexOf rows n self.now }
         ensures { (rows : List Row) (n : ℕ) → IsIndexOf rows n self.now → IsNewestOf rows key.now result self.now.store }
@@ -104,8 +106,8 @@ impl LineageIndex {
         newest_entry_of(&self.tree, self.newest.as_slice(), key)
     }
 
-    /// The index of the last row of a key in a block up to `at`; `None` exactly where there is none. The
-    /// count rises by the length of the path, and by 0 for a key without rows.
+    /// The index of the last row of a key in a block up to `at`; `None` exactly if there is none.
+    /// `steps` rises by the length of the path, so by 0 for a key without rows.
     pub fn latest_row(&self, key: &Key, at: u32, steps: &mut Steps) -> Option<u32>
         requires { (rows : List Row) × (n : ℕ) × IsIndexOf rows n self.now }
         ensures latest { (rows : List Row) (n : ℕ) → IsIndexOf rows n self.now → IsRowAt rows result (latest rows key.now at) }
@@ -117,8 +119,8 @@ impl LineageIndex {
         }
     }
 
-    /// The entries of the rows of a key that such a lookup looks at, in this order. The count rises by their
-    /// number.
+    /// The entries of the rows of a key that `latest_row` looks at, in this order. `steps` rises by
+    /// their number.
     pub fn path(&self, key: &Key, at: u32, steps: &mut Steps) -> Result<EntryList, Memory>
         requires { (rows : List Row) × (n : ℕ) × IsIndexOf rows n self.now }
         ensures path { (rows : List Row) (n : ℕ) → IsIndexOf rows n self.now → IfOk result (AreEntriesIn rows key.now (path rows key.now at)) }
@@ -137,6 +139,6 @@ impl LineageIndex {
         self.store.facts(EntryId(index)).digest
     }
 
-    /// Ends the index, whose many parts are dropped here alone.
+    /// Drops the index: its many parts are dropped in this function alone.
     pub fn give_up(self) {}
 }

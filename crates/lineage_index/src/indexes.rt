@@ -1,4 +1,5 @@
-//! The indexes of the leaves of the keys that a block touches.
+//! The indexes of the leaves of the keys that a block touches: sorted, and each once, so that the
+//! leaves can be set together.
 
 ghost use Rattle.std.specs.{
   Prelude.{◌≡◌, ◌++◌, ◌∷◌, [], map, OnOk, IfOk},
@@ -14,7 +15,7 @@ use lc_base::{Dep, Key, Memory, Row};
 use state_tree::Tree;
 use std::alloc::Global;
 
-/// Adds the index of the leaf of a key, and none where the key has no leaf.
+/// Appends the index of the leaf of a key; nothing is appended for a key without a leaf.
 fn add_index(tree: &Tree, indexes: &mut Vec<u32>, key: &Key) -> Result<(), Memory>
     ensures { OnOk result (indexes.new.items ≡ indexes.old.items ++ leaf_indexes tree.now (key.now ∷ [])) }
 {

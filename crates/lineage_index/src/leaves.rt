@@ -1,4 +1,5 @@
-//! The leaves of the keys that a block touches, made anew.
+//! The leaves of the keys that a block touches are set together, each by what is kept of the newest
+//! version of its key.
 
 ghost use Rattle.std.specs.{
   Prelude.{◌≡◌, ◌<◌, [], ℕ, List, length, map, slice_get, Some, OnOk, IfOk},
@@ -27,8 +28,8 @@ pub(crate) fn newest_at(newest: &[u32], index: u32) -> u32
     newest[index as usize]
 }
 
-/// What the leaf at an index is to say, by what is kept of the newest version of its key. The index of
-/// the sentinel is 0.
+/// The state of the leaf at an index, by what is kept of the newest version of its key. The leaves
+/// of keys have the indexes from 1 on; 0 is that of the sentinel.
 pub fn leaf_state(lists: &OpenLists, newest: &[u32], store: &Store, index: u32) -> LeafState
     requires { (rows : List Row) × AreBesideLeaves rows lists.now newest.now store.now × IsLeafIndex (keys_of rows) index }
     ensures { (rows : List Row) → AreBesideLeaves rows lists.now newest.now store.now → IsLeafIndex (keys_of rows) index
@@ -46,7 +47,7 @@ pub fn leaf_state(lists: &OpenLists, newest: &[u32], store: &Store, index: u32) 
     }
 }
 
-/// What the leaves at these indexes are to say, by what is kept of the newest versions of their keys.
+/// The states of the leaves at these indexes, by what is kept of the newest versions of their keys.
 fn leaf_states(
     alloc: Global,
     lists: &OpenLists,

@@ -1,4 +1,5 @@
-//! The entries of a block's rows.
+//! The entries of a block's rows are made of the leaves as they are before the block, and of the
+//! lists with the uses of the whole block.
 
 ghost use Rattle.std.specs.{
   Prelude.{◌≡◌, ◌≤◌, ◌++◌, ◌∷◌, [], ℕ, List, length, map, IfOk, OnOk},
@@ -27,7 +28,7 @@ use prov_entry::{Body, BodyDep, BodyDepList, write_body};
 use state_tree::Tree;
 use std::alloc::Global;
 
-/// The list that a new version of the key closes.
+/// The list that a new version of the key closes; an empty list if the key has no leaf.
 fn closed_by(tree: &Tree, lists: &OpenLists, key: &Key) -> OpenList
     requires { (keys : List (List ℕ)) × (list : List ℕ → List Dep) × AreLists tree.now lists.now keys list }
     ensures { (keys : List (List ℕ)) (list : List ℕ → List Dep) → AreLists tree.now lists.now keys list → result ≡ open_of (list_if_among keys list key.now) }
@@ -38,7 +39,8 @@ fn closed_by(tree: &Tree, lists: &OpenLists, key: &Key) -> OpenList
     }
 }
 
-/// The digest of the header of the newest version of a key, which stands in its leaf.
+/// The digest of the header of the newest version of a key, from its leaf; 32 zero bytes if the key
+/// has no leaf.
 fn newest_digest(tree: &Tree, key: &Key) -> Digest
     ensures { result ≡ newest_in tree.now key.now }
 {
@@ -48,7 +50,7 @@ fn newest_digest(tree: &Tree, key: &Key) -> Digest
     }
 }
 
-/// A dependency with the digest of its header.
+/// A dependency with the digest in the leaf of its key.
 fn body_dep(tree: &Tree, dep: &Dep) -> BodyDep
     ensures { result ≡ dep_in tree.now dep.now }
 {
@@ -69,7 +71,7 @@ fn body_deps(alloc: Global, tree: &Tree, deps: &[Dep]) -> Result<BodyDepList, Me
     Ok(list)
 }
 
-/// The bytes of the fields of the body of a row.
+/// The bytes of the body of a row: its fields, one after another.
 fn body_bytes(alloc: Global, tree: &Tree, row: &Row) -> Result<Bytes, Memory>
     requires { length row.now.deps ≤ MAX_DEPS }
     ensures { IfOk result (λ bytes. bytes ≡ concat (body_fields (body_in tree.now row.now))) }
@@ -81,7 +83,7 @@ fn body_bytes(alloc: Global, tree: &Tree, row: &Row) -> Result<Bytes, Memory>
     write_body(alloc, &body)
 }
 
-/// The version of a row.
+/// The version that a row is, with the list that it closes and the bytes of its body.
 fn new_version(
     alloc: Global,
     tree: &Tree,
@@ -125,7 +127,7 @@ fn add_entry(
     Ok(())
 }
 
-/// Adds the entries of a block's rows.
+/// Adds the entries of a block's rows, in their order. On `Memory` only some of them may be there.
 pub(crate) fn add_entries(
     alloc: Global,
     tree: &Tree,

@@ -1,4 +1,5 @@
-//! The newest row of a key, and its entry.
+//! The newest row of a key is at the index of the key's leaf, less 1; the row's entry has the index
+//! of the row as its id.
 
 ghost use Rattle.std.specs.Prelude.{◌≡◌, List};
 ghost use Rattle.lc_base.specs.declared.row.Row.{Row};
@@ -12,7 +13,7 @@ use entry_store::EntryId;
 use lc_base::Key;
 use state_tree::Tree;
 
-/// The index of the newest row of a key.
+/// The index of the newest row of a key; `None` if the key has none.
 pub(crate) fn newest_row_of(tree: &Tree, newest: &[u32], key: &Key) -> Option<u32>
     requires { (rows : List Row) × AreNewest rows tree.now newest.now }
     ensures { (rows : List Row) → AreNewest rows tree.now newest.now → result ≡ newest_index rows key.now }
@@ -23,7 +24,7 @@ pub(crate) fn newest_row_of(tree: &Tree, newest: &[u32], key: &Key) -> Option<u3
     }
 }
 
-/// The entry of the newest row of a key.
+/// The entry of the newest row of a key; `None` if the key has none.
 pub(crate) fn newest_entry_of(tree: &Tree, newest: &[u32], key: &Key) -> Option<EntryId>
     requires { (rows : List Row) × AreNewest rows tree.now newest.now }
     ensures { (rows : List Row) → AreNewest rows tree.now newest.now → result ≡ newest_entry rows key.now }

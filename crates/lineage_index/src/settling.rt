@@ -1,4 +1,5 @@
-//! The rows of a block become the newest versions of their keys.
+//! The rows of a block become the newest versions of their keys. This closes the lists of the
+//! versions before, so it comes after the entries, which are made of these lists.
 
 ghost use Rattle.std.specs.Prelude.{◌≡◌, ◌≤◌, ◌+◌, [], ℕ, List, length, OnOk};
 ghost use Rattle.lc_base.specs.{
@@ -13,8 +14,8 @@ use forward_links::OpenLists;
 use lc_base::{Memory, Row};
 use state_tree::Tree;
 
-/// Makes these rows, the first of which has this index, one after another the newest versions of their
-/// keys, and closes the lists of the versions before.
+/// Makes these rows the newest versions of their keys, one after another, and closes the lists of
+/// the versions before. The rows have the indexes from `first` on.
 pub(crate) fn settle_rows(
     tree: &mut Tree,
     lists: &mut OpenLists,

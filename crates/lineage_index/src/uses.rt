@@ -1,4 +1,4 @@
-//! The uses of a block's rows, added to the open lists of the keys that they depend on.
+//! Each row of a block is added, as a use, to the open lists of the keys that it depends on.
 
 ghost use Rattle.std.specs.{Prelude.{◌≡◌, ◌++◌, ◌∷◌, [], ℕ, List, length}, List.{All}};
 ghost use Rattle.lc_base.specs.{declared.row.Dep.{Dep}, declared.row.Row.{Row}};
@@ -12,7 +12,7 @@ use forward_links::OpenLists;
 use lc_base::{Dep, Row};
 use state_tree::Tree;
 
-/// Adds a use to the list of the key of a dependency.
+/// Adds a use to the list of the key of a dependency; a key without a leaf has no list.
 fn add_use(tree: &Tree, lists: &mut OpenLists, dep: &Dep, user: &Dep)
     requires { (keys : List (List ℕ)) × (list : List ℕ → List Dep) × AreLists tree.now lists.old keys list × HaveRoom list 0 }
     ensures { (keys : List (List ℕ)) (list : List ℕ → List Dep) → AreLists tree.now lists.old keys list
@@ -24,7 +24,7 @@ fn add_use(tree: &Tree, lists: &mut OpenLists, dep: &Dep, user: &Dep)
     }
 }
 
-/// Adds a use to the list of the key of each dependency.
+/// Adds one use to the list of the key of each dependency. No two dependencies are on one key.
 fn add_use_to_each(tree: &Tree, lists: &mut OpenLists, deps: &[Dep], user: &Dep)
     requires distinct { HaveDistinctKeys deps.now }
     requires lists { (keys : List (List ℕ)) × (list : List ℕ → List Dep) × AreLists tree.now lists.old keys list × HaveRoom list 1 }

@@ -1,4 +1,4 @@
--- What a count of faults says.
+-- A call that ends well blames nobody, and leaves the count of faults as it was.
 use Rattle.std.proofs.Common.{◌≡◌, inl, inr, ℕ, eqb, Ok, Err, sym, ◌∙◌, true≢false, arith}
 use Rattle.std.specs.Prelude.{IsErrOf}
 use Rattle.std.proofs.lemmas.Bool.{cases_Bool, eqb-true, eq-eqb}
@@ -16,7 +16,7 @@ unblamed {T} {E} {x} {e} before now cause =
           absurd cc
     ]
 
--- and where it is as it was, such a call blames nobody
+-- a call that ends well and leaves the count as it was blames nobody
 pub blameless : {T E : Type 0} {x : T} {e : E} (before now : ℕ) → now ≡ before
     → HasCause before now (IsErrOf (Ok x) e)
 blameless {T} {E} {x} {e} before now is = record {

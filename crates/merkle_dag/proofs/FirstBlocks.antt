@@ -1,4 +1,4 @@
--- The first blocks of a lineage.
+-- What is kept of the first blocks of a lineage belongs together as all of it does.
 use Rattle.std.proofs.Common.{◌≡◌, ◌∙◌, ℕ, suc, ◌+◌, ◌<◌, ◌≤◌, true, false, nat_le, List, [], ◌∷◌}
 use Rattle.std.proofs.Common.{◌++◌, length, take, drop, map, refl, sym, ap, subst, arith, inl, inr}
 use Rattle.std.specs.List.{All, AllPairs, range_with_len}

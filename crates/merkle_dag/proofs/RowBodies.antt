@@ -108,7 +108,7 @@ bodies_of_entries all before [] = refl
 bodies_of_entries all before (row ∷ rows) = ap (λ (rest : List (List ℕ)). bytes_of all row ∷ rest)
     (bodies_of_entries all (before ++ row ∷ []) rows)
 
--- the rows are read back from the entries, where they are within their types
+-- rows that are within their types are read back from the entries
 pub rows_are : (rows : List Row) (blocks : ℕ) (index : LineageIndex) → IsIndexOf rows blocks index
     → All IsTypedRow rows → rows_kept index ≡ rows
 unfolding rows_kept

@@ -1,4 +1,4 @@
--- All that a lineage keeps.
+-- What a lineage keeps, and that its parts are of one ledger.
 use Rattle.std.specs.Prelude.{◌≡◌, List, length, map}
 use Rattle.std.specs.List.{All}
 use Rattle.lc_base.specs.declared.digest.Digest.{Digest}
@@ -30,7 +30,7 @@ pub record KeepsLineage (rows : List Row) (index : LineageIndex) (uses : RowsInd
   pub bodies_are : bodies_in bodies ≡ map (λ (entry : Entry). entry.body) index.store
   pub roots_are : map (λ (root : Digest). root.0) roots ≡ roots_of rows digests
 
--- All parts belong together.
+-- All parts that are kept are of one ledger, whose rows are those that are read back.
 abbrev pub IsWhole : Kept → Type 0
 IsWhole kept = KeepsLineage (rows_kept kept.index) kept.index kept.uses kept.bodies kept.digests.items
     kept.roots.items

@@ -12,7 +12,8 @@ pub record Ledger : Type 0 where
   pub rows : List Row
   pub digests : List Digest
 
--- The rows are a lawful history of blocks that have a digest, of which there are not too many.
+-- The rows are a lawful history of blocks that have a digest; there are at most
+-- `MAX_LINEAGE_BLOCKS` of these.
 pub record IsLedger (rows : List Row) (digests : List Digest) : Type 0 where
   pub lawful : IsLawful rows
   pub within : All (λ (row : Row). row.block < length digests) rows
@@ -22,6 +23,6 @@ pub record IsLedger (rows : List Row) (digests : List Digest) : Type 0 where
 abbrev pub roots_of : List Row → List Digest → List (List ℕ)
 roots_of rows digests = map (root_of rows digests) (range_with_len 0 (length digests))
 
--- The number of the last block; none where there is no block.
+-- The number of the last block; `None` if there is no block.
 abbrev pub IsHead : List Digest → Option ℕ → Type 0
 IsHead digests head = MatchOption head (length digests ≡ 0) (λ last. last + 1 ≡ length digests)

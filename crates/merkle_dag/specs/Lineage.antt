@@ -9,7 +9,7 @@ use Rattle.body_store.specs.Agreement.{Agrees}
 use Rattle.entry_store.specs.declared.entry.Facts.{Facts}
 use Rattle.merkle_dag.specs.Ledger.{Ledger}
 
--- The rows of the blocks, the digests of these, and where the bodies of the rows are kept.
+-- The rows of the blocks, the digests of the blocks, and where the bodies of the rows are kept.
 pub record LineageState : Type 0 where
   pub rows : List Row
   pub digests : List Digest
@@ -19,12 +19,13 @@ pub record LineageState : Type 0 where
 abbrev pub ledger_in : LineageState → Ledger
 ledger_in lineage = record { rows = lineage.rows; digests = lineage.digests }
 
--- The device keeps the bodies; where it is known which bytes it holds, those at hand are the same.
+-- The device keeps the bodies; if it is known which bytes it holds, the bodies at hand are the
+-- same.
 abbrev pub AgreesWith : LineageState → ScratchState → Type 0
 AgreesWith lineage scratch = Agrees lineage.bodies scratch
 
--- Only the bodies at hand are others, and they agree with the device where they did. Whatever the
--- device kept is kept.
+-- Only the bodies at hand may be others, and they agree with the device if they did before.
+-- Whatever the device kept, it keeps.
 pub record StaysSame (old : LineageState) (before : ScratchState) (new : LineageState)
     (after : ScratchState) : Type 0 where
   pub rows : new.rows ≡ old.rows
@@ -33,14 +34,14 @@ pub record StaysSame (old : LineageState) (before : ScratchState) (new : Lineage
   pub retains : Retains before after
 
 -- A lineage that a call was lent together with its device: it stays the same, and the device is
--- blamed exactly where its count of faults rose.
+-- blamed exactly if its count of faults rose.
 pub record LeavesLineage {S : Type 0} (state : S → ScratchState) (faults : S → ℕ)
     (old : LineageState) (before : S) (new : LineageState) (after : S) (Blames : Type 0) :
     Type 0 where
   pub same : StaysSame old (state before) new (state after)
   pub cause : HasCause (faults before) (faults after) Blames
 
--- These say where a row stands: its key, its block and its transaction.
+-- These facts say where a row is: its key, its block and its transaction.
 pub record AreFactsOf (row : Row) (facts : Facts) : Type 0 where
   pub key_is : facts.key ≡ row.key
   pub block_is : facts.block ≡ row.block

@@ -1,4 +1,5 @@
--- What stays of a lineage over calls.
+-- What stays of a lineage over one call stays over several, and over calls that are not lent the
+-- lineage.
 use Rattle.std.proofs.Common.{refl, ◌∙◌}
 use Rattle.scratch_model.specs.Scratch.{ScratchState, Retains}
 use Rattle.scratch_model.proofs.Retaining.{retains_refl, retains_trans}

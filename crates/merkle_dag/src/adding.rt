@@ -1,4 +1,5 @@
-//! The rows of a block are added one after another: what each was derived from, and its body.
+//! The rows of a block are added one after another, each with what it was derived from and with its
+//! body, once the index is over all of them.
 
 ghost use Rattle.std.specs.{
   Prelude.{◌≡◌, ◌+◌, ◌≤◌, ◌<◌, ◌++◌, ◌∷◌, [], ℕ, List, length, map, OnOk, IsErrOf},
@@ -26,7 +27,8 @@ use scratch_model::Scratch;
 use std::alloc::Global;
 use typed_ledger::check_row;
 
-/// Adds the next row of a history, over which the index is.
+/// Adds the next row of a history: what it was derived from, and its body. The index is over the
+/// whole history already.
 fn add_row<S: Scratch>(
     alloc: Global,
     index: &LineageIndex,
@@ -58,8 +60,8 @@ fn add_row<S: Scratch>(
     }
 }
 
-/// Adds the rows of the last block of a history, over which the index is. On an error only some of
-/// them may be there.
+/// Adds the rows of the last block of a history. The index is over the whole history already. On an
+/// error only some of the rows may be there.
 pub(crate) fn add_rows<S: Scratch>(
     alloc: Global,
     index: &LineageIndex,

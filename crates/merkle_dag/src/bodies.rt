@@ -1,4 +1,5 @@
-//! The body of a row.
+//! Reading a body: it is the one that was pushed at its index, if it is known which bytes the
+//! device holds.
 
 ghost use Rattle.std.specs.{
   Prelude.{◌≡◌, ◌<◌, true, length, Some, IfOk, IsErrOf},
@@ -16,7 +17,7 @@ use lc_base::HostError;
 use scratch_model::Scratch;
 use std::rc::RcSlice;
 
-/// The body at an index.
+/// The body at an index. `Fault` means that the device failed.
 pub(crate) fn body_at<S: Scratch>(
     bodies: &mut Bodies,
     scratch: &mut S,

@@ -1,4 +1,4 @@
-//! All that a lineage keeps, and how a block is added to it.
+//! All that a lineage keeps belongs together (`IsWhole`), and does so again after each block.
 
 ghost use Rattle.std.specs.{
   Prelude.{◌≡◌, ◌<◌, ◌++◌, ◌∷◌, [], length, IfOk, OnOk, IsErrOf},
@@ -37,15 +37,15 @@ pub(crate) struct Kept {
     pub roots: Vec<Digest>,
 }
 
-/// A digest has 32 bytes. It does nothing: contracts learn this by it.
+/// Does nothing: its contract makes known that a digest has 32 bytes.
 fn check_digest(digest: &Digest)
     ensures { length digest.now.0 ≡ 32 }
 {
     let _bytes = digest.0.as_slice();
 }
 
-/// Adds the next block: its number, its digest and its rows. It gives the root at the block. On an
-/// error only a part of the block may be there.
+/// Adds the next block: its number, its digest and its rows. Returns the root at the block. On an
+/// error only a part of the block may be there: discard what is kept.
 pub(crate) fn grow<S: Scratch>(
     kept: &mut Kept,
     scratch: &mut S,
@@ -90,5 +90,5 @@ pub(crate) fn grow<S: Scratch>(
     }
 }
 
-/// Drops what was kept, whose many parts are dropped here alone.
+/// Drops what was kept: its many parts are dropped in this function alone.
 pub(crate) fn discard(_kept: Kept) {}

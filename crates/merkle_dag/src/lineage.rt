@@ -1,4 +1,5 @@
-//! The lineage of a ledger.
+//! The lineage of a ledger. It grows by whole blocks: on an error it is given up, and never seen
+//! with a part of a block.
 
 ghost use Rattle.std.specs.{
   Prelude.{◌≡◌, ◌≤◌, ◌<◌, ◌+◌, ◌^◌, ◌++◌, ◌∷◌, true, [], Some, length, slice_get, take, IfOk, IsErrOf, MatchOption},
@@ -88,9 +89,9 @@ impl Lineage {
         Ok(Lineage { kept })
     }
 
-    /// Adds a block: its number, its digest and its rows, whose bodies the device is to keep. It
-    /// gives the lineage with the block, and the root at the block. On an error the lineage is
-    /// given up.
+    /// Adds a block: its number, its digest and its rows, whose bodies the device is to keep.
+    /// Returns the lineage with the block, and the root at the block. On an error the lineage is
+    /// given up; `Fault` means that the device failed.
     pub fn add_block<S: Scratch>(
         self,
         scratch: &mut S,
@@ -124,13 +125,13 @@ impl Lineage {
         }
     }
 
-    /// Ends the lineage. What it keeps has many parts; a function that ends it by this call, and
-    /// not where its scope ends, is checked in much less time.
+    /// Drops the lineage. What it keeps has many parts; a function that drops it by this call, and
+    /// not at the end of its scope, is checked in much less time.
     pub fn give_up(self) {
         discard(self.kept);
     }
 
-    /// The number of the last block; `None` exactly where there is no block.
+    /// The number of the last block; `None` exactly if there is no block.
     pub fn head(&self) -> Option<u32>
         ensures { IsHead self.now.digests result }
     {
@@ -140,7 +141,7 @@ impl Lineage {
         Some((self.kept.digests.len() - 1) as u32)
     }
 
-    /// The root at a block; `None` exactly past the last one.
+    /// The root at a block; `None` exactly if the block is past the last one.
     pub fn root(&self, at: u32) -> Option<Digest>
         ensures { MatchOption result (length self.now.digests ≤ at)
             (λ root. (at < length self.now.digests)
@@ -149,15 +150,15 @@ impl Lineage {
         digest_at(&self.kept.roots, at)
     }
 
-    /// The digest that a block was added with; `None` exactly past the last one.
+    /// The digest that a block was added with; `None` exactly if the block is past the last one.
     pub fn digest(&self, at: u32) -> Option<Digest>
         ensures { result ≡ slice_get self.now.digests at }
     {
         digest_at(&self.kept.digests, at)
     }
 
-    /// The number of the rows of all blocks, which are a lawful history of blocks up to the last
-    /// one, within its types.
+    /// The number of the rows of all blocks. Its contract says of these rows that they are a lawful
+    /// history of blocks up to the last one, within its types.
     pub fn row_count(&self) -> usize
         ensures count { result ≡ length self.now.rows }
         ensures ledger { IsLedger self.now.rows self.now.digests }
@@ -173,7 +174,7 @@ impl Lineage {
         self.kept.index.store()
     }
 
-    /// The entry of the newest row of the key; `None` exactly where the key has none.
+    /// The entry of the newest row of the key; `None` exactly if the key has none.
     pub fn newest(&self, key: &Key) -> Option<EntryId>
         ensures { result ≡ newest_entry self.now.rows key.now }
     {
@@ -183,9 +184,9 @@ impl Lineage {
         }
     }
 
-    /// The index of the last row of the key in a block up to `at`; `None` exactly where there is
-    /// none. The count rises by the number of the versions of the key that are looked at, also
-    /// where there is none.
+    /// The index of the last row of the key in a block up to `at`; `None` exactly if there is none.
+    /// `steps` rises by the number of the versions of the key that are looked at, also if none of
+    /// them is found.
     pub fn latest_row(&self, key: &Key, at: u32, steps: &mut Steps) -> Option<u32>
         ensures latest { IsRowAt self.now.rows result (latest self.now.rows key.now at) }
         ensures count { steps.new ≡ raised_count steps.old (length (path self.now.rows key.now at)) }
@@ -193,8 +194,8 @@ impl Lineage {
         self.kept.index.latest_row(key, at, steps)
     }
 
-    /// The rows of the key that a lookup of its last version up to a block looks at, from the
-    /// newest one on; the id of a row's entry is its index.
+    /// The entries of the rows of the key that `latest_row` looks at, from the newest one on; the
+    /// id of a row's entry is the row's index.
     pub fn path(&self, key: &Key, at: u32) -> Result<EntryList, Memory>
         ensures { IfOk result (AreEntriesIn self.now.rows key.now (path self.now.rows key.now at)) }
     {
@@ -212,7 +213,7 @@ impl Lineage {
         lineage_entries::header(alloc, &self.kept.index, index)
     }
 
-    /// Where the row at an index stands: its key, its block and its transaction.
+    /// Where the row at an index is in the history: its key, its block and its transaction.
     pub fn row_facts(&self, index: u32) -> Facts
         requires { index < length self.now.rows }
         ensures { (row : Row) → slice_get self.now.rows index ≡ Some row → AreFactsOf row result }
@@ -240,7 +241,8 @@ impl Lineage {
         users_of(&self.kept, index).len() as u64
     }
 
-    /// One of these versions: that of an item, from 0. `None` exactly past the last one.
+    /// The version at `item`, from 0, of those that were derived from the row at an index. `None`
+    /// exactly if `item` is past the last one.
     pub fn use_at(&self, index: u32, item: u64) -> Option<Dep>
         requires { index < length self.now.rows }
         ensures { (row : Row) → slice_get self.now.rows index ≡ Some row
@@ -250,7 +252,8 @@ impl Lineage {
         nth_version(self.kept.index.store(), places, item as usize)
     }
 
-    /// The bytes of the body of a row, by its entry. The rows stay as they are.
+    /// The bytes of the body of a row, by the id of its entry. Rows and digests stay as they are.
+    /// `Fault` means that the device failed.
     pub fn body_of<S: Scratch>(
         &mut self,
         scratch: &mut S,

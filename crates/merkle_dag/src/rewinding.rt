@@ -1,4 +1,5 @@
-//! The first blocks of a lineage.
+//! A rewound lineage shares entries and the places of bodies with the longer one; the rest of its
+//! index is made again of the entries.
 
 ghost use Rattle.std.specs.Prelude.{◌≡◌, ◌+◌, ◌≤◌, ◌<◌, length, take, IfOk};
 ghost use Rattle.lc_base.specs.History.{up_to};
@@ -11,7 +12,7 @@ use lc_base::{Digest, Memory};
 use lineage_front::front;
 use std::alloc::{AllocError, Global};
 
-/// The first digests, so many.
+/// The first `count` digests.
 fn first_digests(alloc: Global, digests: &[Digest], count: usize) -> Result<Vec<Digest>, AllocError>
     requires { count ≤ length digests.now }
     ensures { IfOk result (λ first. first.items ≡ take count digests.now) }

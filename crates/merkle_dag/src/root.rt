@@ -1,4 +1,5 @@
-//! The root of a block. It takes no memory.
+//! The root of a block binds the block's number and its digest to the leaves of all keys. It takes
+//! no memory.
 
 ghost use Rattle.std.specs.{Prelude.{◌≡◌, ◌∷◌, ◌++◌}, Int.{w32, to_be_bytes}};
 ghost use Rattle.sha2.specs.Sha256.{sha256};
@@ -10,8 +11,8 @@ use lc_base::Digest;
 use prov_entry::ROOT;
 use state_tree::Tree;
 
-/// The digest of the text of a root: the block, its digest, the number of leaves, and their tree
-/// hash.
+/// The digest (SHA-256) of the text of a root: the tag `ROOT`, the block, its digest, the number of
+/// leaves, and their tree hash. The numbers have 4 bytes, big-endian.
 fn root_digest(block: u32, digest: &Digest, leaf_count: u32, tree_hash: &Digest) -> Digest
     ensures { result.0 ≡ sha256
         (ROOT ∷ to_be_bytes w32 block ++ digest.now.0 ++ to_be_bytes w32 leaf_count ++

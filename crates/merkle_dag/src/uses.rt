@@ -1,4 +1,5 @@
-//! The versions that were derived from a row.
+//! The versions that were derived from a row: the indexes of their rows are kept, and the versions
+//! are read from the entries.
 
 ghost use Rattle.std.specs.Prelude.{◌≡◌, ◌<◌, ℕ, List, Some, length, slice_get, IfOk};
 ghost use Rattle.lc_base.specs.{
@@ -28,7 +29,7 @@ fn version_at(store: &Store, place: u32) -> Dep
     }
 }
 
-/// The versions at these indexes.
+/// The versions that the rows at these indexes are.
 pub(crate) fn versions_at(alloc: Global, store: &Store, places: &[u32]) -> Result<DepList, Memory>
     requires { (rows : List Row) × (deps : List Dep) × (store.now ≡ entries_of rows rows)
         × AreVersionsAt rows places.now deps }
@@ -42,7 +43,8 @@ pub(crate) fn versions_at(alloc: Global, store: &Store, places: &[u32]) -> Resul
     Ok(list)
 }
 
-/// The version at an item of a list of indexes.
+/// The version at `item`, from 0, of those at a list of indexes; `None` if `item` is past the last
+/// one.
 pub(crate) fn nth_version(store: &Store, places: &[u32], item: usize) -> Option<Dep>
     requires { (rows : List Row) × (deps : List Dep) × (store.now ≡ entries_of rows rows)
         × AreVersionsAt rows places.now deps }

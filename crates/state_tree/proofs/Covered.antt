@@ -30,7 +30,7 @@ indexed leaves leaf among = by leaf.key refl
     by None e = inl (ap key_or_empty e)
     by (Some key) e = inr (key, e, ap key_or_empty e, some_or key (index_of leaves key) refl e)
 
--- The leaf of the greatest key that is not above.
+-- The leaf of the greatest key that is not above covers the key.
 pub covers_last : (leaves : List Leaf) (order : BTreeMap (List ℕ) ℕ) (key : List ℕ) (index : ℕ) → AreInOrder leaves order → IsLastUpTo order key index → Covers leaves key index
 covers_last leaves order key index tree last =
     let found = index_found leaves last.last index tree.sentinel (sym (tree.indexes last.last) ∙ last.kept) in
@@ -48,7 +48,7 @@ covers_last leaves order key index tree last =
       ]
     ]
 
--- The sentinel, where each key is above.
+-- The sentinel covers the key if each key of the map is above it.
 pub covers_first : (leaves : List Leaf) (order : BTreeMap (List ℕ) ℕ) (key : List ℕ) → AreInOrder leaves order → NoneUpTo order key → Covers leaves key 0
 covers_first leaves order key tree none =
     let own : leaf_key tree.sentinel ≡ [] = ap key_or_empty tree.keyless in
@@ -73,7 +73,7 @@ pub covers : (leaves : List Leaf) (order : BTreeMap (List ℕ) ℕ) (key : List 
 covers leaves order key None tree up_to = covers_first leaves order key tree up_to
 covers leaves order key (Some index) tree up_to = covers_last leaves order key index tree up_to
 
--- What stands at an index.
+-- The item at an index.
 pub stands : {X : Type 0} (xs : List X) (i : ℕ) (x : X) → slice_get xs i ≡ Some x → (i < length xs) × (get_or xs i x ≡ x)
 stands xs i x held = elim ((slice_get_cases xs i).1) [
   | inl (y, below, is, at) ↦ (below, get_or_from_slice_get xs i x x held)

@@ -11,7 +11,7 @@ use Rattle.root_laws.specs.Root.{is_below, lesser, next_key}
 use Rattle.root_laws.proofs.Lists.{all_weaker, contained, not_both}
 use Rattle.root_laws.proofs.NextKeys.{Next, below_trans, not_itself, not_back, order, next_of, one_next, next_with}
 
--- ---- where a key covers the new one: it is smaller, and each greater one is above the new one
+-- ---- a key covers the new one if it is smaller, and each greater one is above the new one
 
 pub record IsCovering (keys : List (List ℕ)) (cover new : List ℕ) : Type 0 where
   pub among : Contains keys cover

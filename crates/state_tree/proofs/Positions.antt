@@ -1,4 +1,4 @@
--- Where the leaf of a key stands.
+-- Where the leaf of a key is.
 use Rattle.std.proofs.Common.{◌≡◌, ◌≢◌, ℕ, zero, suc, ◌+◌, ◌<◌, Bool, true, false, List, [], ◌∷◌, ◌++◌, length, get_or, map, Option, Some, None, refl, sym, ap, ◌∙◌, arith, inl, inr, ◌⊎◌}
 use Rattle.std.specs.Prelude.{slice_get, position}
 use Rattle.std.specs.List.{Contains, position_from}
@@ -65,7 +65,7 @@ this_is key (Some other) t = ap (λ (k : List ℕ). Some k) (sym ((bytes_eq-Deci
 
 -- ---- leaves
 
--- What an index leads to.
+-- The leaf at the index of a key has this key.
 pub index_found : (leaves : List Leaf) (key : List ℕ) (i : ℕ) (d : Leaf) → index_of leaves key ≡ Some i → (slice_get leaves i ≡ Some (get_or leaves i d)) × ((get_or leaves i d).key ≡ Some key)
 index_found leaves key i d is =
     let own = map (λ (leaf : Leaf). leaf.key) leaves in
@@ -74,7 +74,7 @@ index_found leaves key i d is =
     let at : get_or own i None ≡ (get_or leaves i d).key = get_or-map (λ (leaf : Leaf). leaf.key) leaves i d None below in
     (slice_get-get_or leaves i d below, this_is key (get_or leaves i d).key (rw at at found.1))
 
--- A key of a leaf has an index.
+-- The key of a leaf has an index.
 pub none_found : (leaves : List Leaf) (key : List ℕ) (leaf : Leaf) → index_of leaves key ≡ None → Contains leaves leaf → leaf.key ≡ Some key → ⊥
 none_found leaves key leaf none (k, below, is) has =
     let own = map (λ (leaf : Leaf). leaf.key) leaves in

@@ -75,7 +75,7 @@ key_at leaves i d below = get_or-map leaf_key leaves i d [] below
 
 -- ---- one more leaf
 
--- The key is not one of those of the leaves.
+-- The key is not empty, and no leaf has it.
 pub record IsNew (leaves : List Leaf) (key : List ℕ) : Type 0 where
   pub some : 0 < length key
   pub absent : index_of leaves key ≡ None
@@ -201,7 +201,7 @@ apart_more keys key apart new i j below below' e = elim (at_or (length keys) i (
   ]
 ]
 
--- What is kept for each key, where it is as before for the others.
+-- The index that is kept for each key, if one is added for a new key.
 kept_more : (leaves : List Leaf) (key : List ℕ) (order order' : BTreeMap (List ℕ) ℕ) → ((q : List ℕ) → kept_for order q ≡ index_of leaves q) → index_of leaves key ≡ None
     → kept_for order' key ≡ Some (length leaves) → ((other : List ℕ) → key ≢ other → kept_for order' other ≡ kept_for order other)
     → (q : List ℕ) → kept_for order' q ≡ index_of (leaves ++ fresh_leaf key ∷ []) q
@@ -216,7 +216,7 @@ kept_more leaves key order order' indexes absent kept others q =
           others q n ∙ indexes q ∙ sym (index_other own key q n) ∙ ap (λ (keys : List (Option (List ℕ))). position (is_this q) keys) (sym wide)
     ]
 
--- What is kept for each key, where none is added.
+-- The index that is kept for each key, if none is added.
 kept_same : (leaves : List Leaf) (key : List ℕ) (order order' : BTreeMap (List ℕ) ℕ) → ((q : List ℕ) → kept_for order q ≡ index_of leaves q) → index_of leaves key ≡ None
     → kept_for order' key ≡ None → ((other : List ℕ) → key ≢ other → kept_for order' other ≡ kept_for order other) → (q : List ℕ) → kept_for order' q ≡ index_of leaves q
 kept_same leaves key order order' indexes absent kept others q = elim (equal_or_not key q) [
@@ -224,7 +224,7 @@ kept_same leaves key order order' indexes absent kept others q = elim (equal_or_
   | inr n ↦ others q n ∙ indexes q
 ]
 
--- Out of memory, it is in order still.
+-- Out of memory, the tree is still in order.
 pub order_same : (leaves leaves' : List Leaf) (order order' : BTreeMap (List ℕ) ℕ) (key : List ℕ) → AreInOrder leaves order → index_of leaves key ≡ None
     → leaves' ≡ leaves → kept_for order' key ≡ None → ((other : List ℕ) → key ≢ other → kept_for order' other ≡ kept_for order other) → AreInOrder leaves' order'
 order_same leaves leaves' order order' key tree absent same kept others =
@@ -238,7 +238,7 @@ order_same leaves leaves' order order' key tree absent same kept others =
       few = tree.few;
     })
 
--- With one more leaf, it is in order.
+-- With one more leaf, the tree is in order.
 pub order_grown : (leaves : List Leaf) (order order' : BTreeMap (List ℕ) ℕ) (key : List ℕ) (cover : ℕ) → AreInOrder leaves order → (c : Covers leaves key cover)
     → IsNew leaves key → length leaves < MAX_LEAVES → kept_for order' key ≡ Some (length leaves) → ((other : List ℕ) → key ≢ other → kept_for order' other ≡ kept_for order other)
     → AreInOrder (grown leaves key cover c.leaf) order'
@@ -302,7 +302,7 @@ added leaves leaves' order order' key cover before fresh after tree covers held 
 
 -- ---- a leaf that is set
 
--- With a leaf of the same key and next key, it is in order.
+-- With a leaf replaced by one of the same key and next key, the tree is in order.
 pub order_set : (leaves : List Leaf) (order : BTreeMap (List ℕ) ℕ) (i : ℕ) (before after : Leaf) → AreInOrder leaves order → slice_get leaves i ≡ Some before → 0 < i
     → after.key ≡ before.key → after.next ≡ before.next → AreInOrder (set leaves i after) order
 order_set leaves order i before after tree held own same_key same_next = record {

@@ -1,4 +1,4 @@
--- What some leaves say, set together, and the hashes that are stale.
+-- The states of some leaves, set together, and the hashes that are stale.
 use Rattle.std.proofs.Common.{◌≡◌, ℕ, zero, suc, ◌+◌, ◌<◌, ◌≢◌, Bool, true, false, ◌==◌, List, [], ◌∷◌, ◌++◌, length, get_or, map, refl, sym, ap, subst, ◌∙◌, arith}
 use Rattle.std.proofs.Math.ListN.{set}
 use Rattle.std.specs.Prelude.{reverse}
@@ -48,7 +48,7 @@ none_stale leaves hashes is = record {
   others = λ i below apart. (omega (arith, ap length is, hash_count leaves, below), ap (λ (hs : List Digest). get_or hs i no_hash) is);
 }
 
--- Where none is stale, the hashes are those of the leaves.
+-- If none is stale, the hashes are those of the leaves.
 pub all_hashed : (leaves : List Leaf) (hashes : List Digest) (stale : List ℕ) → AreHashedBut leaves hashes stale → stale ≡ [] → hashes ≡ leaf_hashes leaves
 all_hashed leaves hashes stale but none =
     same_items hashes (leaf_hashes leaves) many (λ i d below. let is = but.others i (omega (arith, below, many, hash_count leaves)) apart in by i d is.0 is.1 below)
@@ -66,7 +66,7 @@ all_hashed leaves hashes stale but none =
     by : (i : ℕ) (d : Digest) → i < length hashes → get_or hashes i no_hash ≡ get_or (leaf_hashes leaves) i no_hash → i < length hashes → get_or hashes i d ≡ get_or (leaf_hashes leaves) i d
     by i d below same below' = get_or_default hashes i d no_hash below ∙ same ∙ get_or_default (leaf_hashes leaves) i no_hash d (omega (arith, below, many))
 
--- With one more leaf, after which another names it.
+-- With one more leaf, its hash is stale, and so is that of the leaf that names its key.
 pub stale_grown : (leaves leaves' : List Leaf) (hashes : List Digest) (stale stale' : List ℕ) (cover : ℕ) (fresh after : Leaf) → AreHashedBut leaves hashes stale → cover < length leaves
     → leaves' ≡ set (leaves ++ fresh ∷ []) cover after → stale' ≡ stale ++ cover ∷ length leaves ∷ [] → AreHashedBut leaves' hashes stale'
 stale_grown leaves leaves' hashes stale stale' cover fresh after but inside leaves_are stale_is =
@@ -94,7 +94,7 @@ stale_grown leaves leaves' hashes stale stale' cover fresh after but inside leav
         let is = but.others i old (λ there. apart (Contains-append_left stale (cover ∷ length leaves ∷ []) i there)) in
         (is.0, is.1 ∙ hash_alike leaves grown i old below (sym (get_or-set_other (leaves ++ fresh ∷ []) cover i after (sentinel []) not_cover ∙ get_or_append_left leaves (fresh ∷ []) (sentinel []) i old)))
 
--- What is set to renew hashes: those of all leaves that are stale.
+-- To renew hashes, those of all leaves that are stale are set.
 pub renews : (leaves : List Leaf) (hashes : List Digest) (indexes : List ℕ) → AreHashedBut leaves hashes indexes → Renews hashes (leaf_hashes leaves) (map (hash_at leaves) indexes)
 renews leaves hashes indexes but = record {
   fewer = omega (arith, but.fewer, hash_count leaves);
@@ -114,7 +114,7 @@ renews leaves hashes indexes but = record {
         list_any_at (λ (one : HashAt). one.index == place) (map (hash_at leaves) indexes) k (hash_at leaves place) (omega (arith, below, length-map indexes (hash_at leaves)))
         (eq-eqb (get_or (map (hash_at leaves) indexes) k (hash_at leaves place)).index place (ap (λ (one : HashAt). one.index) (get_or-map (hash_at leaves) indexes k place (hash_at leaves place) below) ∙ is))
 
--- ---- leaves that are told what to say
+-- ---- leaves that get states
 
 pub states_long : (leaves : List Leaf) (states : List LeafState) → length (with_states leaves states) ≡ length leaves
 states_long leaves [] = refl
@@ -126,7 +126,7 @@ other_leaf leaves (state ∷ states) i apart =
     other_leaf (with_state leaves state) states i (λ there. apart (suc there.0, omega (arith, there.1), there.2))
     ∙ get_or-set_other leaves state.index i (leaf_with_state (get_or leaves state.index (sentinel [])) state) (sentinel []) (λ e. apart (0, omega arith, sym e))
 
--- The leaves that say something new are stale.
+-- The leaves that got states are stale.
 pub stale_states : (leaves : List Leaf) (hashes : List Digest) (stale indexes : List ℕ) (states : List LeafState) → AreHashedBut leaves hashes stale → All (λ (state : LeafState). state.index < length leaves) states
     → ((i : ℕ) → Contains (stale ++ indexes_of states) i → Contains indexes i) → ((bound : ℕ) → All (λ (index : ℕ). index < bound) (stale ++ indexes_of states) → All (λ (index : ℕ). index < bound) indexes)
     → AreHashedBut (with_states leaves states) hashes indexes
@@ -140,7 +140,7 @@ stale_states leaves hashes stale indexes states but below has within = record {
       (is.0, is.1 ∙ hash_alike leaves (with_states leaves states) i old below' (sym (other_leaf leaves states i (λ there. apart (has i (Contains-append_right stale (indexes_of states) i there))))));
 }
 
--- It stays in order.
+-- The tree stays in order.
 pub order_states : (leaves : List Leaf) (order : BTreeMap (List ℕ) ℕ) (states : List LeafState) → AreInOrder leaves order
     → All (λ (state : LeafState). 0 < state.index) states → All (λ (state : LeafState). state.index < length leaves) states → AreInOrder (with_states leaves states) order
 order_states leaves order [] tree own below = tree
@@ -152,7 +152,7 @@ order_states leaves order (state ∷ states) tree own below =
     let rest : All (λ (one : LeafState). one.index < length (set leaves state.index after)) states = rw (length-set leaves state.index after) (All-tail (λ (one : LeafState). one.index < length leaves) state states below) in
     order_states (set leaves state.index after) order states one (All-tail (λ (one : LeafState). 0 < one.index) state states own) rest
 
--- Given what it said before, a leaf is as it was.
+-- Set to its state before, a leaf is as it was.
 pub said_again : (leaves : List Leaf) (state : LeafState) (before : Leaf) → state.index < length leaves → before ≡ get_or leaves state.index (sentinel []) → with_state (with_state leaves state) (state_of_leaf before state.index) ≡ leaves
 said_again leaves state before below is =
     let i = state.index in
@@ -163,7 +163,7 @@ said_again leaves state before below is =
     same : leaf_with_state (leaf_with_state (get_or leaves state.index (sentinel [])) state) (state_of_leaf before state.index) ≡ get_or leaves state.index (sentinel [])
     same = ap (λ (leaf : Leaf). leaf_with_state (leaf_with_state (get_or leaves state.index (sentinel [])) state) (state_of_leaf leaf state.index)) is
 
--- One more is given what it said before, first of all.
+-- One more leaf is set to its state before, ahead of the others.
 pub back_more : (leaves last first : List Leaf) (before : List LeafState) (one : LeafState) → with_state last one ≡ leaves → with_states leaves (reverse before) ≡ first → with_states last (reverse (before ++ one ∷ [])) ≡ first
 back_more leaves last first before one is so =
     ap (with_states last) (reverse-append before (one ∷ [])) ∙ ap (λ (ls : List Leaf). with_states ls (reverse before)) is ∙ so
@@ -178,7 +178,7 @@ said_back leaves state before after old below is after_is old_is =
     ∙ ap (λ (leaf : Leaf). with_state (set leaves state.index leaf) (state_of_leaf before state.index)) (after_is ∙ ap (λ (leaf : Leaf). leaf_with_state leaf state) is)
     ∙ said_again leaves state before below is
 
--- Where none is stale, a path by the hashes is one by the leaves.
+-- If none is stale, a path by the hashes is one by the leaves.
 pub texts_hashed : (leaves view : List Leaf) (hashes : List Digest) (stale : List ℕ) → AreHashedBut leaves hashes stale → length stale ≡ 0 → leaves ≡ view → map digest_of (leaf_texts view) ≡ hashes
 texts_hashed leaves view hashes stale but none is = ap leaf_hashes (sym is) ∙ sym (all_hashed leaves hashes stale but (no_items stale none))
   where
@@ -186,7 +186,7 @@ texts_hashed leaves view hashes stale but none is = ap leaf_hashes (sym is) ∙ 
     no_items [] e = refl
     no_items (x ∷ xs) e = absurd (omega arith)
 
--- After leaves were set and hashed.
+-- The tree after leaves were set and hashed.
 pub tree_renewed : (leaves last : List Leaf) (order : BTreeMap (List ℕ) ℕ) (hashes hashes' : List Digest) (stale stale' : List ℕ) (states : List LeafState) → IsTree leaves order hashes stale
     → All (λ (state : LeafState). 0 < state.index) states → All (λ (state : LeafState). state.index < length leaves) states → last ≡ with_states leaves states
     → hashes' ≡ leaf_hashes (with_states leaves states) → stale' ≡ [] → IsTree last order hashes' stale'

@@ -4,8 +4,8 @@ use Rattle.prov_entry.specs.declared.entry.Leaf.{Leaf}
 use Rattle.root_laws.specs.Root.{is_below}
 use Rattle.state_tree.specs.Leaves.{leaf_key}
 
--- The leaf at this index has the greatest key that is not above this one. The sentinel has it where
--- each key of a leaf is above.
+-- The leaf at this index has the greatest key that is not above this one. It is the sentinel if the
+-- key of every other leaf is above.
 pub record Covers (leaves : List Leaf) (key : List ℕ) (index : ℕ) : Type 0 where
   pub leaf : Leaf
   pub held : slice_get leaves index ≡ Some leaf

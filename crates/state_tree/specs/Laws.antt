@@ -4,6 +4,6 @@ use Rattle.prov_entry.specs.declared.entry.Leaf.{Leaf}
 use Rattle.state_tree.specs.Leaves.{leaf_keys, AreApart}
 use Rattle.state_tree.specs.Covering.{Covers}
 
--- Of leaves of which no two have one key, one covers a key.
+-- Of leaves of which no two have one key, at most one covers a key.
 abbrev pub CoveringsAreUnique : Type 0
 CoveringsAreUnique = (leaves : List Leaf) (key : List ℕ) (i j : ℕ) → AreApart (leaf_keys leaves) → Covers leaves key i → Covers leaves key j → i ≡ j

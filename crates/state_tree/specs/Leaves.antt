@@ -19,12 +19,12 @@ leaf_key leaf = key_or_empty leaf.key
 abbrev pub leaf_keys : List Leaf → List (List ℕ)
 leaf_keys leaves = map leaf_key leaves
 
--- Whether it is this key.
+-- Whether there is a key, and it is this one.
 abbrev pub is_this : List ℕ → Option (List ℕ) → Bool
 is_this key None = false
 is_this key (Some other) = pointwise ◌==◌ key other
 
--- The index of the leaf of a key, from 0; none where no leaf has it.
+-- The index of the leaf of a key, from 0; `None` if no leaf has it.
 abbrev pub index_of : List Leaf → List ℕ → Option ℕ
 index_of leaves key = position (is_this key) (map (λ (leaf : Leaf). leaf.key) leaves)
 
@@ -51,7 +51,7 @@ fresh_leaf key = record {
 abbrev pub with_leaf_of : List Leaf → List ℕ → List Leaf
 with_leaf_of leaves key = thread_leaves (leaves ++ fresh_leaf key ∷ [])
 
--- A leaf that says this of the versions of its key.
+-- A leaf with this state.
 abbrev pub leaf_with_state : Leaf → LeafState → Leaf
 leaf_with_state leaf state = record leaf {
   newest_block = state.newest_block;
@@ -60,7 +60,7 @@ leaf_with_state leaf state = record leaf {
   open_digest = state.open_digest;
 }
 
--- What a leaf says of the versions of its key, with the index of the leaf.
+-- The state of a leaf, with the index of the leaf.
 abbrev pub state_of_leaf : Leaf → ℕ → LeafState
 state_of_leaf leaf index = record {
   index = index;
@@ -70,19 +70,19 @@ state_of_leaf leaf index = record {
   open_digest = leaf.open_digest;
 }
 
--- The indexes of the leaves that are to say something.
+-- The indexes of the leaves that these states are for.
 abbrev pub indexes_of : List LeafState → List ℕ
 indexes_of states = map (λ (state : LeafState). state.index) states
 
--- Leaves, of which the one at the index says this.
+-- Leaves, of which the one at the index of the state has this state.
 abbrev pub with_state : List Leaf → LeafState → List Leaf
 with_state leaves state = slice_set leaves state.index (leaf_with_state (slice_index_or leaves state.index (sentinel [])) state)
 
--- Leaves after some of them say this, one after another.
+-- Leaves after these states were set, one after another.
 abbrev pub with_states : List Leaf → List LeafState → List Leaf
 with_states leaves states = fold with_state leaves states
 
--- The texts of some leaves.
+-- The texts of some leaves, which are hashed.
 abbrev pub leaf_texts : List Leaf → List (List ℕ)
 leaf_texts leaves = map (λ (leaf : Leaf). leaf_text (leaf_bytes leaf)) leaves
 

@@ -46,8 +46,8 @@ no_hash = digest_of []
 abbrev pub hash_at : List Leaf → ℕ → HashAt
 hash_at leaves index = record { index = index; hash = slice_index_or (leaf_hashes leaves) index no_hash }
 
--- The hashes are those of the leaves, but for the leaves at some indexes: the hash of such a leaf is an
--- old one, or not there.
+-- The hashes are those of the leaves, except for the leaves at some indexes: the hash of such a
+-- leaf is an old one, or missing.
 pub record AreHashedBut (leaves : List Leaf) (hashes : List Digest) (stale : List ℕ) : Type 0 where
   pub fewer : length hashes ≤ length leaves
   pub within : All (λ (index : ℕ). index < length leaves) stale

@@ -1,4 +1,5 @@
-//! One more leaf. Its hash is made later.
+//! Adding a leaf is all or nothing. Its hash, and that of the leaf that names its key, are made
+//! later.
 
 ghost use Rattle.std.specs.Prelude.{◌≡◌, ◌≢◌, ◌<◌, ◌∷◌, [], ◌++◌, ℕ, List, length, Some, None, OnOk, OnErr};
 ghost use Rattle.lc_names.specs.KeyBytes.{IsKey};
@@ -10,7 +11,7 @@ use lc_base::{Digest, Key, Memory};
 use prov_entry::{Leaf, no_uses};
 use std::collections::BTreeMap;
 
-/// The sentinel where no key has a leaf.
+/// The sentinel of a tree in which no key has a leaf.
 pub(crate) fn sentinel() -> Leaf
     ensures { result ≡ sentinel [] }
 {
@@ -24,7 +25,7 @@ pub(crate) fn sentinel() -> Leaf
     }
 }
 
-/// The leaf of a key that has no version yet, and this next key.
+/// The leaf of a key that has no version yet, with this next key.
 pub(crate) fn fresh_leaf(key: &Key, next: &Option<Key>) -> Leaf
     ensures leaf { result ≡ record (fresh_leaf key.now) { next = next.now } }
     ensures lawful { IsKey key.now }
@@ -75,8 +76,8 @@ fn add_index(
     Ok(())
 }
 
-/// Adds a leaf and its key. Its hash is stale, and that of the leaf that covers the key. Out of
-/// memory, all stays as it was.
+/// Adds a leaf and its key. The hash of the leaf is stale then, and so is that of the leaf that
+/// covers the key. Out of memory, all stays as it was.
 pub(crate) fn add_leaf(
     leaves: &mut Vec<Leaf>,
     order: &mut BTreeMap<Key, u32>,

@@ -1,4 +1,4 @@
-//! The hashes of leaves.
+//! The hashes of leaves: only those that are stale are made again.
 
 ghost use Rattle.std.specs.{Prelude.{◌≡◌, ◌<◌, ◌≤◌, ℕ, length, map, OnOk, OnErr, IfOk}, List.{All}};
 ghost use Rattle.prov_entry.specs.Spelling.{leaf_bytes, IsKeyIfAny};
@@ -43,8 +43,8 @@ fn hashes_at(alloc: Global, leaves: &[Leaf], indexes: &[u32]) -> Result<Vec<Hash
     Ok(hashes)
 }
 
-/// Makes the hashes of the leaves at these indexes, which are all that are stale. Where the indexes
-/// ascend, each node over them is hashed once. Out of memory, the hashes stay as they were.
+/// Hashes the leaves at these indexes, which are all whose hashes are stale. If the indexes ascend,
+/// each node over them is hashed once. Out of memory, the hashes stay as they were.
 pub(crate) fn hash_leaves(
     alloc: Global,
     leaves: &[Leaf],

@@ -2,7 +2,7 @@
 
 ghost use Rattle.state_tree.specs.Laws.{CoveringsAreUnique};
 
-/// No two leaves cover one key.
+/// If no two leaves have one key, at most one leaf covers a key.
 pub fn coverings_are_unique()
     ensures { CoveringsAreUnique }
 {}

@@ -1,4 +1,5 @@
-//! The keys in their order, each with the index of its leaf.
+//! The keys in byte order, each with the index of its leaf: by this order the leaf that covers a
+//! key is found.
 
 ghost use Rattle.std.specs.Prelude.{MatchOption};
 ghost use Rattle.state_tree.specs.Order.{NoneUpTo, IsLastUpTo};
@@ -6,7 +7,8 @@ ghost use Rattle.state_tree.specs.Order.{NoneUpTo, IsLastUpTo};
 use lc_base::Key;
 use std::collections::BTreeMap;
 
-/// The index of the greatest key that is not above this one.
+/// The index of the leaf of the greatest key that is not above this one; `None` if each key is
+/// above it.
 pub(crate) fn last_up_to(order: &BTreeMap<Key, u32>, key: &Key) -> Option<u32>
     ensures { MatchOption result (NoneUpTo order.now key.now) (λ index. IsLastUpTo order.now key.now index) }
 {

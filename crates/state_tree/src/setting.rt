@@ -1,4 +1,5 @@
-//! What some leaves say, set together.
+//! Setting the states of several leaves is all or nothing: out of memory, the states before are set
+//! again.
 
 ghost use Rattle.std.specs.{
   Prelude.{◌≡◌, ◌<◌, ◌≤◌, ◌++◌, ℕ, List, length, map, reverse, vec_len, vec_capacity, OnOk, OnErr, IfOk},
@@ -19,7 +20,7 @@ use merkle_tree::Levels;
 use prov_entry::Leaf;
 use std::alloc::Global;
 
-/// A leaf that says this of the versions of its key.
+/// A leaf with this state.
 fn leaf_with_state(leaf: &Leaf, state: &LeafState) -> Leaf
     ensures { result ≡ leaf_with_state leaf.now state.now }
 {
@@ -32,7 +33,7 @@ fn leaf_with_state(leaf: &Leaf, state: &LeafState) -> Leaf
     }
 }
 
-/// What the leaf at an index says of the versions of its key.
+/// The state of a leaf, which is at this index.
 fn state_of_leaf(leaf: &Leaf, index: u32) -> LeafState
     ensures { result ≡ state_of_leaf leaf.now index }
 {
@@ -45,7 +46,7 @@ fn state_of_leaf(leaf: &Leaf, index: u32) -> LeafState
     }
 }
 
-/// Sets what a leaf says, and gives what it said before.
+/// Sets the state of a leaf, and returns its state before.
 fn set_state(leaves: &mut [Leaf], state: &LeafState) -> LeafState
     requires { state.now.index < length leaves.old }
     ensures set { leaves.new ≡ with_state leaves.old state.now }
@@ -58,8 +59,8 @@ fn set_state(leaves: &mut [Leaf], state: &LeafState) -> LeafState
     state_of_leaf(&before, state.index)
 }
 
-/// Sets what some leaves say, one after another, and gives what they said before. Out of memory,
-/// nothing is set.
+/// Sets the states of some leaves, one after another, and returns their states before. Out of
+/// memory, nothing is set.
 fn set_states(
     alloc: Global,
     leaves: &mut [Leaf],
@@ -82,7 +83,7 @@ fn set_states(
     Ok(before)
 }
 
-/// Sets what some leaves say, one after another.
+/// Sets the states of some leaves, one after another.
 fn set_each(leaves: &mut [Leaf], states: &[LeafState])
     requires { All (λ (state : LeafState). state.index < length leaves.old) states.now }
     ensures { leaves.new ≡ with_states leaves.old states.now }
@@ -92,7 +93,7 @@ fn set_each(leaves: &mut [Leaf], states: &[LeafState])
     }
 }
 
-/// Sets what some leaves said before, the last first.
+/// Sets the states before again, the last one first.
 fn set_back(leaves: &mut [Leaf], before: Vec<LeafState>)
     requires { All (λ (state : LeafState). state.index < length leaves.old) before.items }
     ensures { leaves.new ≡ with_states leaves.old (reverse before.items) }
@@ -102,8 +103,8 @@ fn set_back(leaves: &mut [Leaf], before: Vec<LeafState>)
     set_each(leaves, &states);
 }
 
-/// Sets what some leaves say, one after another, and makes the hashes of the leaves at these indexes,
-/// which are all that are stale then. Out of memory, all stays as it was.
+/// Sets the states of some leaves, one after another, and hashes the leaves at these indexes, which
+/// are all whose hashes are stale then. Out of memory, all stays as it was.
 pub(crate) fn renew(
     alloc: Global,
     leaves: &mut [Leaf],
@@ -127,7 +128,7 @@ pub(crate) fn renew(
     Ok(())
 }
 
-/// The indexes in a list, and those of some states, each once and in ascending order.
+/// The indexes in a list, and those of some states, sorted and each once.
 pub(crate) fn indexes_with(
     alloc: Global,
     stale: &[u32],

@@ -1,8 +1,10 @@
-//! What a leaf says of the versions of its key.
+//! The state of a leaf: what changes when its key gets a version or a use. The key and the next key
+//! are no part of it.
 
 use lc_base::Digest;
 
-/// What a leaf says of the versions of its key; `index` is that of the leaf.
+/// What a leaf says of the versions of its key: the block and the digest of the newest one, and the
+/// number and the digest of its open list. `index` is that of the leaf.
 #[derive(Clone, Copy, Debug, PartialEq, Eq)]
 pub struct LeafState {
     pub index: u32,

@@ -1,4 +1,5 @@
-//! The leaves of the newest versions of all keys.
+//! The leaves of all keys. Each names the next greater key, so one leaf shows that no key between
+//! the two has a leaf.
 
 ghost use Rattle.std.specs.{
   Prelude.{◌≡◌, ◌<◌, ◌+◌, ℕ, List, [], ◌∷◌, length, slice_get, Some, None, OnOk, OnErr, IfOk},
@@ -31,7 +32,7 @@ use std::collections::BTreeMap;
 use std::marker::Model;
 
 /// The leaves: first the sentinel, then one for each key in the order in which keys were added.
-/// Each names the next greater key. Hashes are made where leaves are set; until then those of new
+/// Each names the next greater key. Hashes are made when leaves are set; until then those of new
 /// leaves, and of the leaves that name them, are stale.
 #[derive(Drop)]
 pub struct Tree {
@@ -80,7 +81,7 @@ impl Tree {
         self.leaves.len() as u32
     }
 
-    /// The index of the leaf of a key, from 1; none where no leaf has it.
+    /// The index of the leaf of a key, from 1; `None` exactly if no leaf has it.
     pub fn index_of(&self, key: &Key) -> Option<u32>
         ensures { result ≡ index_of self.now key.now }
     {
@@ -96,7 +97,7 @@ impl Tree {
         last_up_to(&self.order, key).unwrap_or(0)
     }
 
-    /// A leaf. Indexes are from 0.
+    /// The leaf at an index, from 0.
     pub fn leaf(&self, index: u32) -> Leaf
         requires { index < length self.now }
         ensures { slice_get self.now index ≡ Some result }
@@ -104,9 +105,9 @@ impl Tree {
         self.leaves[index as usize]
     }
 
-    /// Adds a leaf for a key that has none, at the end, and gives its index. Its key is threaded
-    /// between those of the others; it has no version yet. Nothing is hashed before leaves are set. Out
-    /// of memory, the tree stays as it was.
+    /// Adds a leaf for a key that has none, at the end, and returns its index. Its key is threaded
+    /// between those of the others; it has no version yet. Nothing is hashed: that is done when
+    /// leaves are set. Out of memory, the tree stays as it was.
     pub fn add_key(&mut self, key: Key) -> Result<u32, Memory>
         requires new { index_of self.old key ≡ None }
         requires room { length self.old < MAX_LEAVES }
@@ -130,9 +131,8 @@ impl Tree {
         Ok(index)
     }
 
-    /// Sets what some leaves say of the versions of their keys, one after another. These leaves and those
-    /// that are stale are hashed then, and each node over them, once. Out of memory, the tree stays as it
-    /// was.
+    /// Sets the states of some leaves, one after another. These leaves and those that are stale are
+    /// hashed then, and each node over them once. Out of memory, the tree stays as it was.
     pub fn set_leaves(&mut self, states: &[LeafState]) -> Result<(), Memory>
         requires own { All (λ (state : LeafState). 0 < state.index) states.now }
         requires below { All (λ (state : LeafState). state.index < length self.old) states.now }
@@ -152,8 +152,8 @@ impl Tree {
         Ok(())
     }
 
-    /// The tree hash of the leaves (RFC 6962, section 2.1). It takes no memory. Where keys were added
-    /// since leaves were set, all leaves are hashed for it.
+    /// The tree hash of the leaves (RFC 6962, section 2.1). It takes no memory. If keys were added
+    /// since leaves were last set, all leaves are hashed for it.
     pub fn root_hash(&self) -> Digest
         ensures { result.0 ≡ leaves_hash self.now }
     {
@@ -164,8 +164,8 @@ impl Tree {
         }
     }
 
-    /// The audit path of a leaf, from the leaf upward. Where keys were added since leaves were set, all
-    /// leaves are hashed for it.
+    /// The audit path of a leaf (RFC 6962, section 2.1.1), from the leaf upward. If keys were added
+    /// since leaves were last set, all leaves are hashed for it.
     pub fn audit(&self, index: u32) -> Result<DigestList, Memory>
         requires { index < length self.now }
         ensures { IfOk result (λ path. bytes_of path ≡ audit_path index (leaf_texts self.now)) }

@@ -35,7 +35,7 @@ after_first true c o p n e = refl
 after_first false c o p n e = ap (option_map suc) e ∙ map_or o (cond c (Some n) None) ∙ ap (option_or (option_map suc o)) (map_cond c n)
 
 module _ {C : Type 0} where
-  -- the code at a place that may be none
+  -- the code at a place, or `None` if there is no place
   abbrev pub code_in : List (List ℕ × C) → Option ℕ → Option C
   code_in codes None = None
   code_in codes (Some place) = option_map code (slice_get codes place)

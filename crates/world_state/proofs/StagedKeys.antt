@@ -1,4 +1,4 @@
--- The keys of rows, those of their entries, and those that a set has not.
+-- The keys of rows, those of their entries, and those that are not in a set.
 use Rattle.std.proofs.Common.{◌≡◌, ◌==◌, ◌||◌, ◌&&◌, ℕ, List, [], ◌∷◌, ◌++◌, map, take, drop, filter, not, Bool, true, false, cond, refl, sym, ap, ◌∙◌, inl, inr, true≢false}
 use Rattle.std.specs.List.{list_any}
 use Rattle.std.specs.BTreeSet.{BTreeSet}
@@ -18,7 +18,7 @@ staged_rows : (rows : List Row) (key : List ℕ) → is_staged (map entry_of row
 staged_rows [] key = refl
 staged_rows (row ∷ rows) key = λ i. nat_list_eq_equiv.symm row.key key i || staged_rows rows key i
 
--- ---- keys that a set has not
+-- ---- keys that are not in a set
 
 module _ (had : List ℕ → Bool) where
   abbrev lacking : List (List ℕ) → List (List ℕ)

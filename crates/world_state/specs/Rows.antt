@@ -39,6 +39,6 @@ has keys key = contains (slice_cmp nat_cmp) keys key
 abbrev pub AreKeysOf : BTreeSet (List ℕ) → List (List ℕ × Held) → Type 0
 AreKeysOf keys staged = (key : List ℕ) → has keys key ≡ is_staged staged key
 
--- The keys of rows that a set has not.
+-- The keys of rows that are not in a set.
 abbrev pub missing_keys : BTreeSet (List ℕ) → List Row → List (List ℕ)
 missing_keys keys rows = filter (λ (key : List ℕ). not (has keys key)) (map (λ (row : Row). row.key) rows)

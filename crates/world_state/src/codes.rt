@@ -1,4 +1,5 @@
-//! The codes of contracts, of the blocks so far and of the block at work.
+//! The codes of contracts are kept in one list in the order of deployment: first those that can be
+//! called, then those that the block at work deployed.
 
 ghost use Rattle.std.specs.{
   Prelude.{◌≡◌, ◌==◌, [], ◌∷◌, ◌++◌, false, take, slice_get, OnOk, OnErr},
@@ -56,7 +57,7 @@ impl<C> Codes<C> {
         }
     }
 
-    /// The code of a name, of the blocks so far.
+    /// The code of the contract of this name, among those that can be called.
     pub(crate) fn get(&self, name: &Name) -> Option<&C>
         ensures { option_copied result ≡ lookup (pointwise ◌==◌ name.now) self.now.committed }
     {
@@ -66,7 +67,7 @@ impl<C> Codes<C> {
         }
     }
 
-    /// Whether a code has this name.
+    /// Whether a code has this name, also one that is only staged.
     pub(crate) fn is_used(&self, name: &Name) -> bool
         ensures { result ≡ is_used self.now name.now }
     {

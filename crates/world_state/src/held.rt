@@ -1,4 +1,4 @@
-//! What is held of the newest version of a key.
+//! What a world holds of the newest version of a key: its block, and a copy of its value.
 
 ghost use Rattle.std.specs.Prelude.{◌≡◌, map, IfOk};
 ghost use Rattle.world_state.specs.Rows.{held_of, entry_of};

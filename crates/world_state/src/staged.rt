@@ -1,4 +1,5 @@
-//! What the block at work has written.
+//! What the block at work has written: the versions in order, and the set of their keys. Both
+//! change, or neither does.
 
 ghost use Rattle.std.specs.{
   Prelude.{◌≡◌, ◌==◌, ◌||◌, ◌&&◌, not, true, false, ℕ, List, [], ◌++◌, map, IfOk, OnOk, OnErr},
@@ -32,7 +33,7 @@ impl Model for Staged {
     ghost invariant = { λ staged. AreKeysOf staged.written staged.entries.items };
 }
 
-/// The keys of the rows that a set has not.
+/// The keys of the rows that are not in a set.
 fn missing_keys(alloc: Global, written: &BTreeSet<Key>, rows: &[Row]) -> Result<Vec<Key>, Memory>
     ensures { IfOk result (λ keys. keys.items ≡ missing_keys written.now rows.now) }
 {
@@ -54,7 +55,7 @@ fn remove_keys(written: &mut BTreeSet<Key>, keys: &[Key])
     }
 }
 
-/// Adds keys that a set has not. Out of memory, the set has the keys that it had.
+/// Adds keys that are not in a set. Out of memory, the set has the same keys as before.
 fn add_keys(written: &mut BTreeSet<Key>, keys: &[Key]) -> Result<(), Memory>
     requires { (key : List ℕ) → list_any (pointwise ◌==◌ key) keys.now ≡ true → has written.old key ≡ false }
     ensures ok { OnOk result ((key : List ℕ) → has written.new key ≡ (has written.old key || list_any (pointwise ◌==◌ key) keys.now)) }
@@ -73,7 +74,7 @@ fn add_keys(written: &mut BTreeSet<Key>, keys: &[Key]) -> Result<(), Memory>
 }
 
 impl Staged {
-    /// Nothing. It takes no memory.
+    /// Nothing is staged. It takes no memory.
     pub(crate) fn new(alloc: Global) -> Staged
         ensures { result ≡ [] }
     {

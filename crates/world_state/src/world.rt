@@ -1,4 +1,5 @@
-//! The world.
+//! A world shows the state before the block at work. What the block writes and deploys is staged,
+//! and a commit makes it the state.
 
 ghost use Rattle.std.specs.{
   Prelude.{◌≡◌, ◌==◌, false, ℕ, List, [], ◌∷◌, ◌++◌, map, None, Some, MatchOption, IfOk, OnOk, OnErr},
@@ -65,7 +66,7 @@ impl<C> World<C> {
     }
 
     /// The block and the value of the newest version of the key before the block at work; `None`
-    /// exactly where there is none.
+    /// exactly if there is none.
     pub fn value(&self, key: &Key) -> Option<(u32, &Value)>
         ensures { MatchOption result (newest_of self.now key.now ≡ None)
             (λ found. newest_of self.now key.now ≡ Some (record { block = found.0; value = found.1.now })) }
@@ -83,8 +84,8 @@ impl<C> World<C> {
         self.staged.has(key)
     }
 
-    /// The code of the contract of this name; `None` exactly where no block before the block at
-    /// work deployed one.
+    /// The code of the contract of this name; `None` exactly if no block before the block at work
+    /// deployed one.
     pub fn code(&self, name: &Name) -> Option<&C>
         ensures { option_copied result ≡ code_of self.now name.now }
     {
@@ -121,7 +122,7 @@ impl<C: Drop> World<C> {
     }
 
     /// What was staged becomes the newest: of each key the version staged last, and the codes after
-    /// those so far. Nothing is staged then.
+    /// those so far. Nothing is staged then. On `Memory` the world is given up.
     pub fn commit(self) -> Result<World<C>, Memory>
         ensures newest { IfOk result (λ world. (key : List ℕ) → newest_of world key ≡ newest_after self key) }
         ensures codes { IfOk result (λ world. world.codes ≡ self.codes ++ self.staged_codes) }
