@@ -91,7 +91,7 @@ ANSWERS = [
     ("block B uses N", "fwd: the version's block, and N lines KEY BLOCK, what was derived from it"),
 ]
 BAD_PROOF = [
-    ("rejected CAUSE", "the first check of the proof that fails, and what it tells"),
+    ("rejected CAUSE", "the first check of the proof that fails, and what it reports"),
     ("badinput long, badinput odd, badinput at P", "the input is too long, or no hex"),
 ]
 LOAD_LINE = "blocks N rows R root H lookups L entries E most M"
@@ -105,7 +105,7 @@ COMMANDS = [
     ),
     Command(
         "append",
-        "stores the blocks of a block file in chain.log, and tells of each",
+        "stores the blocks of a block file in chain.log; prints a line each",
         [
             ("block N rows R status S root H", "block N is stored and wrote R rows; S are its transactions' statuses"),
             ("known N", "the log has this block already"),

@@ -76,7 +76,7 @@ REJECTED = {
     "link": "a header of the proof has another digest than what stands before it names",
     "path": "a header of the proof is missing, one too many, or of another version",
     "body": "the body of the proof has another digest than its header names",
-    "list": "the uses of the proof are others than those that are told of",
+    "list": "the uses of the proof are others than those that its leaf or header counts",
 }
 # Where the key of the question begins in a proof, after the magic, the kind and its length; and how many bytes a
 # question and these take at most.
@@ -200,7 +200,7 @@ def disk_sentence(words):
     writes = words == ["append"]
     causes = [*log_causes(writes), *folder_causes(writes), *space_causes(writes), *lock_causes(writes)]
     causes = causes or [OTHER_CAUSES if writes else "a call of the disk failed; see `dmesg`"]
-    stored = "what was told of is stored, and docs/log.md says what to do"
+    stored = "each block of which a line was printed is stored; docs/log.md says what to do"
     return "\n".join([f"the log can't be opened, read, written or synced; {stored}", *causes])
 
 

@@ -12,7 +12,7 @@ from pages.spec_reader import Problem
 
 # How many lines of definitions are read in an hour, with the sentence of each.
 LINES_PER_HOUR = 180
-# The floors, as they are best read: what is told, what a crash may leave and what an answer is come
+# The floors, as they are best read: what is printed, what a crash may leave and what an answer is come
 # first, the language of contracts last.
 CHAPTERS = [
     "Commands",

@@ -6,12 +6,15 @@ from places import TOP
 MAP = "docs/map.md"
 
 
+def text_of_map():
+    with open(f"{TOP}/{MAP}", encoding="utf-8") as file:
+        return file.read()
+
+
 def sections():
     """The sections of the map in their order, each with the first two cells of its rows."""
-    with open(f"{TOP}/{MAP}", encoding="utf-8") as file:
-        text = file.read()
     found = {}
-    for section in text.split("\n## ")[1:]:
+    for section in text_of_map().split("\n## ")[1:]:
         title, _, rest = section.partition("\n")
         found[title] = re.findall(r"^\| \[?(\w+)(?:\]\([^)]*\))? \| ([^|]*) \|", rest, re.M)
     return found
@@ -19,5 +22,4 @@ def sections():
 
 def floors():
     """The floors in their order, each with what it is, by the table at the head of the map."""
-    with open(f"{TOP}/{MAP}", encoding="utf-8") as file:
-        return dict(re.findall(r"^\| \[([^\]]*)\]\(#[\w-]*\) \| (.*) \|$", file.read(), re.M))
+    return dict(re.findall(r"^\| \[([^\]]*)\]\(#[\w-]*\) \| (.*) \|$", text_of_map(), re.M))

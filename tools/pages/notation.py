@@ -17,8 +17,8 @@ FIRST = [
 # What is written, and how it is read.
 SIGNS = [
     ("`f x y`", "`f` of `x` and `y`: there are no brackets around arguments, and no commas between them"),
-    ("`λ x. E`", "the function that gives `E` for each `x`"),
-    ("`A → B`", "of statements: if `A`, then `B`. Of types: a function that takes an `A` and gives a `B`"),
+    ("`λ x. E`", "the function that returns `E` for each `x`"),
+    ("`A → B`", "of statements: if `A`, then `B`. Of types: a function that takes an `A` and returns a `B`"),
     ("`(x : A) → B`", "for each `x` of `A`: `B`"),
     ("`(x : A) × B`", "there is an `x` of `A` with `B`"),
     ("`A × B`", "both `A` and `B`; of types, a pair, whose parts are `p.0` and `p.1`"),
@@ -30,7 +30,7 @@ SIGNS = [
     ("`a - b`", "of numbers from 0 on: 0 where `b` is greater"),
     ("`[]`, `x ∷ xs`, `xs ++ ys`", "the empty list; `x` and then `xs`; `xs` and then `ys`"),
     ("`Some x`, `None`", "an `x` that is there; none"),
-    ("`Ok x`, `Err e`", "a call that was done, with what it gives; one that failed, and why"),
+    ("`Ok x`, `Err e`", "a call that was done, with what it returns; one that failed, and why"),
     ("`IfOk r P`, `IfSome o P`", "if `r` is an `Ok x`, or `o` a `Some x`, then `P x`"),
     ("`IsErr r`, `IsErrOf r E`", "`r` is an error; it is the error `E`"),
     ("`record { a = x; b = y }`", "a value with these fields; `r.a` is the field `a` of `r`"),
@@ -41,7 +41,7 @@ SIGNS = [
 # How definitions begin.
 FORMS = [
     ("`abbrev pub name : T`", "a function of the type `T`. The lines below it are its cases: the first that fits counts"),
-    ("`unfoldable pub name : T`", "the same; the prover opens it only where it is told to"),
+    ("`unfoldable pub name : T`", "the same; the prover opens it only where a proof says so"),
     ("`pub record Name (x : A) : Type 0 where`", "a statement about `x`: all its fields hold"),
     ("`pub data Name : Type 0 where`", "a type whose values are those of its cases"),
 ]
