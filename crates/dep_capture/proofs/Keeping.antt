@@ -83,7 +83,7 @@ put_at_keeps : (reads : List Read) (puts : List Put) (put : Put) (place : Option
 put_at_keeps reads puts put None old backed at room = after_keeps reads puts put old backed at (room refl)
 put_at_keeps reads puts put (Some i) old backed at room = in_place_keeps reads puts put i old backed at
 
--- where there is no place for the key there is room, if the put is not refused
+-- if the key has no put, there is room for one, unless the put is refused
 room_after : (puts : List Put) (key : List ℕ) → (not (was_put puts key) && nat_le MAX_KEYS_PUT (length puts)) ≡ false → index_of puts key ≡ None → length puts < MAX_KEYS_PUT
 room_after puts key room none =
     let full : nat_le MAX_KEYS_PUT (length puts) ≡ false = rw (not_put puts key none) at room in

@@ -47,8 +47,8 @@ dep_of_read read = option_map (λ (block : ℕ). record { key = read.key; block 
 abbrev pub dep_named : List Read → List ℕ → Option Dep
 dep_named reads key = option_and_then dep_of_read (read_of reads key)
 
--- The dependencies of a put, repeats dropped: on all keys read, in order of first read, where none
--- are named; else on the named keys, in their order.
+-- The dependencies of a put, repeats dropped: on all keys read, in order of first read, if none are
+-- named; else on the named keys, in their order.
 abbrev pub deps_of : List Read → Option (List (List ℕ)) → List Dep
 deps_of reads None = without_repeats (filter_map dep_of_read reads)
 deps_of reads (Some keys) = without_repeats (filter_map (dep_named reads) keys)
@@ -71,7 +71,7 @@ captured_after_read captured key version =
     else (if nat_le MAX_KEYS_READ (length captured.reads) then Err errors.TooMany
     else Ok (record captured { reads = captured.reads ++ record { key = key; version = version } ∷ [] }))
 
--- A put at an index, or after the others where there is none.
+-- A put at an index, or after the others if there is no index.
 abbrev pub with_put_at : List Put → Option ℕ → Put → List Put
 with_put_at puts None put = puts ++ put ∷ []
 with_put_at puts (Some i) put = slice_set puts i put
@@ -88,7 +88,7 @@ captured_after_put captured key value named =
     else (if nat_lt MAX_DEPS (length (deps_of captured.reads named)) then Err errors.TooMany
     else Ok (record captured { puts = with_put captured.puts (record { key = key; value = value; deps = deps_of captured.reads named }) })))
 
--- What an error says of the read or the put: nothing where it is out of memory.
+-- What an error says of the read or the put: nothing if it is out of memory.
 abbrev pub fault_of : CaptureError → Option CaptureError
 fault_of errors.NotRead = Some errors.NotRead
 fault_of errors.TooMany = Some errors.TooMany

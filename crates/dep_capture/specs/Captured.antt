@@ -1,4 +1,4 @@
--- What is held of the reads and puts of a transaction.
+-- What always holds of the reads and puts of a transaction.
 use Rattle.std.specs.Prelude.{◌≢◌, ◌≤◌, List, length, Some}
 use Rattle.std.specs.List.{All, AllPairs, Contains}
 use Rattle.lc_base.specs.declared.limits.TheConstants.{MAX_DEPS}

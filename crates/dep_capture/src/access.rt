@@ -1,4 +1,4 @@
-//! A key read or put by a transaction.
+//! What a capture keeps of a key that a transaction read or put.
 
 use lc_base::{DepList, Key, Value};
 

@@ -1,4 +1,4 @@
-//! The reads and puts of one transaction.
+//! Each put is recorded with its dependencies: a read that comes later changes no earlier put.
 
 ghost use Rattle.std.specs.{
   Prelude.{◌≡◌, ◌≢◌, ◌≤◌, length, IfOk, OnErr},
@@ -66,7 +66,7 @@ impl Capture {
         was_read(self.reads.as_slice(), key)
     }
 
-    /// The value that was put to the key; `None` exactly where it was not put.
+    /// The value that was put to the key; `None` exactly if none was.
     pub fn pending(&self, key: &Key) -> Option<&Value>
         ensures { option_copied result ≡ pending self.now.puts key.now }
     {
@@ -74,8 +74,8 @@ impl Capture {
     }
 
     /// Records that a key was read, with the block of its version, if it has one. A key that was
-    /// read before changes nothing. `TooMany` where it would be one more than `MAX_KEYS_READ`. On
-    /// an error nothing changes.
+    /// read before changes nothing. `TooMany` if it would be one more than `MAX_KEYS_READ`. On an
+    /// error nothing changes.
     pub fn read(&mut self, key: Key, version: Option<u32>) -> Result<(), CaptureError>
         ensures exact { Answers (λ _. self.new) fault_of result (captured_after_read self.old key version) }
         ensures unchanged { OnErr result (self.new ≡ self.old) }
@@ -89,11 +89,11 @@ impl Capture {
         Ok(self.reads.push(Read { key, version })?)
     }
 
-    /// Puts a value to a key, derived from the named keys, or from all keys read so far where none
-    /// are named. A second put of a key takes the place of the first. It is refused, in this order:
-    /// `TooMany` where the key would be one more than `MAX_KEYS_PUT`, `NotRead` where a named key
-    /// was not read, `TooMany` where it would have more than `MAX_DEPS` dependencies. On an error
-    /// nothing changes.
+    /// Puts a value to a key, derived from the named keys, or from all keys read so far if none are
+    /// named. A second put of a key takes the place of the first. It is refused, in this order:
+    /// `TooMany` if the key would be one more than `MAX_KEYS_PUT`, `NotRead` if a named key was not
+    /// read, `TooMany` if it would have more than `MAX_DEPS` dependencies. On an error nothing
+    /// changes.
     pub fn put(
         &mut self,
         key: Key,

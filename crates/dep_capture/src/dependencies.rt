@@ -1,4 +1,4 @@
-//! What a put depends on.
+//! A put depends on versions of keys that were read: of those that it names, or else of all.
 
 ghost use Rattle.std.specs.{
   Prelude.{◌≡◌, ◌≢◌, Some, IfOk, filter_map},
@@ -35,7 +35,7 @@ pub(crate) fn are_read(reads: &[Read], named: Option<&KeyList>) -> bool
     }
 }
 
-/// The dependency on a key that was read; `None` where it had no version.
+/// The dependency on a key that was read; `None` if it had no version.
 fn dep_of_read(read: &Read) -> Option<Dep>
     ensures { result ≡ dep_of_read read.now }
 {
@@ -52,7 +52,7 @@ fn read_of<'a>(reads: &'a [Read], key: &Key) -> Option<&'a Read>
     reads.iter().find(|read| read.key == *key)
 }
 
-/// The dependency on a key; `None` where it was not read, or had no version.
+/// The dependency on a key; `None` if it was not read, or had no version.
 fn dep_named(reads: &[Read], key: &Key) -> Option<Dep>
     ensures { result ≡ dep_named reads.now key.now }
 {

@@ -1,4 +1,4 @@
-//! How many keys a transaction may read and put.
+//! The limits on the keys that a transaction reads and puts. Beyond them it is refused.
 
 /// The greatest number of distinct keys that a transaction reads.
 pub const MAX_KEYS_READ: usize = 256;

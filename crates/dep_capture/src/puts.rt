@@ -1,4 +1,5 @@
-//! The keys put, in order of first put.
+//! What becomes of puts: when there would be one too many, the value that is pending, and rows.
+//! They are in the order in which their keys were first put.
 
 ghost use Rattle.std.specs.{
   Prelude.{◌≡◌, ◌<◌, ◌&&◌, not, nat_le, length, slice_set, IfOk, OnOk, OnErr},
@@ -21,21 +22,21 @@ fn was_put(puts: &[Put], key: &Key) -> bool
     puts.iter().any(|put| put.key == *key)
 }
 
-/// Whether a put of the key would be of one key too many.
+/// Whether a put of the key would be of one key more than `MAX_KEYS_PUT`.
 pub(crate) fn is_one_too_many(puts: &[Put], key: &Key) -> bool
     ensures { result ≡ (not (was_put puts.now key.now) && nat_le MAX_KEYS_PUT (length puts.now)) }
 {
     !was_put(puts, key) && puts.len() >= MAX_KEYS_PUT
 }
 
-/// The index of the put of the key, from 0.
+/// The index of the put of the key, from 0; `None` exactly if it was not put.
 fn index_of(puts: &[Put], key: &Key) -> Option<usize>
     ensures { result ≡ index_of puts.now key.now }
 {
     puts.iter().position(|put| put.key == *key)
 }
 
-/// The value that was put to the key; `None` where it was not put.
+/// The value that was put to the key; `None` exactly if none was.
 pub(crate) fn pending<'a>(puts: &'a [Put], key: &Key) -> Option<&'a Value>
     ensures { option_copied result ≡ pending puts.now key.now }
 {
