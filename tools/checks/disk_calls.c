@@ -13,6 +13,7 @@
  *     CALLS_NOTHING=N    call N, a write, takes nothing
  *     CALLS_NO_MEMORY=N  the request for memory of that number, from 0, fails
  *     CALLS_NO_MORE=N    so does each from that number on
+ *     CALLS_NO_RANDOM=1  no request for random bytes is met
  *     CALLS_REQUESTS=PATH  how many requests there were is written there at the end
  *     CALLS_BEFORE=N     before call N the log is changed, as CALLS_CHANGE says: `make` (or nothing said) puts the
  *                        file CALLS_OTHER there where there is none, `remove` takes its name away, `replace` puts
@@ -48,7 +49,7 @@ static const char *log_name = "chain.log";
 static int told = -1;
 static long calls, allocations;
 static long failing = NEVER, shorter = NEVER, nothing = NEVER, before = NEVER;
-static long no_memory = NEVER, no_more = NEVER;
+static long no_memory = NEVER, no_more = NEVER, no_random = NEVER;
 static long killing = NEVER, error = EIO;
 static const char *other, *change, *kept_as, *disk, *requests;
 
@@ -72,6 +73,7 @@ __attribute__((constructor)) static void begin(void)
     nothing = number_of("CALLS_NOTHING");
     before = number_of("CALLS_BEFORE");
     killing = number_of("CALLS_KILL");
+    no_random = number_of("CALLS_NO_RANDOM");
     error = getenv("CALLS_ERROR") ? number_of("CALLS_ERROR") : EIO;
     other = getenv("CALLS_OTHER");
     change = getenv("CALLS_CHANGE") ? getenv("CALLS_CHANGE") : "make";
@@ -439,6 +441,17 @@ SAME(__open64, open);
 SAME(__pread64, pread);
 SAME(__pwrite64, pwrite);
 SAME(__fcntl, fcntl);
+
+/* ---- random bytes */
+
+int getentropy(void *bytes, size_t size)
+{
+    if (no_random != NEVER) {
+        errno = EIO;
+        return -1;
+    }
+    return syscall(SYS_getrandom, bytes, size, 0) == (long)size ? 0 : -1;
+}
 
 /* ---- memory */
 

@@ -311,3 +311,12 @@ def no_memory(checks, watched):
     name = f"{QUESTION} where allocation {number} fails, or comes no more"
     checks.same(name, (ran.told, ran.status, ran.log), (USED, DONE, RECALL_LOG))
     checks.holds("allocations were made", number > 0)
+
+
+def no_random_bytes(checks, watched):
+    """No random bytes are given for the hash of keys: no command runs, no file is touched, nothing is told, and the
+    status is that of a read that failed."""
+    for words in ("append", QUESTION, "scan hist raw/a 0"):
+        ran = watched.run(words, RECALL_FILE, log=RECALL_LOG, NO_RANDOM=1)
+        seen = (ran.told, ran.status, ran.log, ran.calls)
+        checks.same(f"{words} without random bytes", seen, ("", UNREADABLE, RECALL_LOG, []))

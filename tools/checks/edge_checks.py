@@ -3,8 +3,8 @@ scratch file.
 """
 from checks import disk_calls
 from checks.append_pairs import pairs_in_gate
-from checks.edge_calls import failing_calls, limit_of_a_file, log_made_meanwhile, no_memory, order_of_calls
-from checks.edge_calls import order_of_long_runs, pipe_for_log, rest_of_input
+from checks.edge_calls import failing_calls, limit_of_a_file, log_made_meanwhile, no_memory, no_random_bytes
+from checks.edge_calls import order_of_calls, order_of_long_runs, pipe_for_log, rest_of_input
 from checks.imported_calls import imported_calls
 from checks.lock_checks import changes_at_each_call, changes_between_frames, lock_of_another, lock_of_a_run
 from checks.scratch_checks import bodies_read_back, folder_of_the_scratch_file, names_that_are_taken, nothing_is_left
@@ -13,8 +13,8 @@ from checks.scratch_checks import scratch_calls
 # Those of the log and the streams, and those of the scratch file; of each the short ones come first.
 LOG_PARTS = [
     imported_calls, order_of_calls, order_of_long_runs, lock_of_another, lock_of_a_run, changes_between_frames,
-    pairs_in_gate, log_made_meanwhile, rest_of_input, pipe_for_log, limit_of_a_file, no_memory, failing_calls,
-    changes_at_each_call,
+    pairs_in_gate, log_made_meanwhile, rest_of_input, pipe_for_log, limit_of_a_file, no_memory, no_random_bytes,
+    failing_calls, changes_at_each_call,
 ]
 SCRATCH_PARTS = [
     bodies_read_back, folder_of_the_scratch_file, names_that_are_taken, nothing_is_left, scratch_calls,

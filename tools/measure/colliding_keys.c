@@ -1,6 +1,6 @@
 /* Writes keys, one a line, whose hashes end in so many zero bits: a hash table of at most so many bits of groups
- * looks for all of them from one place on. The hash is that of the library's hash tables, whose seed is fixed, so
- * whoever writes blocks could find such keys, if the program had one. For tools/measure/measure-hostile.
+ * looks for all of them from one place on. The hash is the library's default one, whose seed is fixed: if the
+ * program's tables had it, whoever writes blocks could find such keys. For tools/measure/measure-hostile.
  *
  *     colliding_keys COUNT BITS */
 #include <stdint.h>

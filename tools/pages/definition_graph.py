@@ -14,6 +14,15 @@ def path_of(file):
     return "Rattle." + file[len("crates/") : -len(".antt")].replace("/", ".")
 
 
+def own_path(path, crates):
+    """The path by which the crate that has it names a module, where another one hands it on."""
+    _, _, *inner = path.split(".")
+    while len(inner) > 1 and inner[1] in crates:
+        handed, *inner = inner[1:]
+        path, inner = ".".join(["Rattle", handed, "specs", *inner]), ["specs", *inner]
+    return path
+
+
 class Graph:
     """All files, read as they are asked for, and what they reach. An item is known by its file and name."""
 
@@ -24,6 +33,7 @@ class Graph:
 
     @functools.cache
     def definitions(self, path):
+        path = own_path(path, self.crates)
         _, crate, _, *parts = path.split(".")
         file = f"crates/{crate}/specs/{'/'.join(parts)}.antt"
         if not os.path.exists(f"{TOP}/{file}"):
@@ -57,6 +67,7 @@ class Graph:
         if isinstance(place, Module):
             crate, original = place.crate_of(name)
             return self.type_item(crate, original) if crate in self.crates else None
+        place = own_path(place, self.crates)
         parts = place.split(".")
         if parts[1] not in self.crates:
             self.library[place].add(name)

@@ -13,10 +13,9 @@ ghost use Rattle.text_clashes.specs.FirstClash.{ClashAt, text_at};
 ghost use Rattle.answer_exposing.specs.Exposing.{AreTextsAt, IsFound, IsExposed, Clears, TellsBeyond};
 
 use crate::ledger::ledger_texts;
-use hashed_texts::proof_texts;
+use hashed_texts::{ProofView, proof_texts};
 use lc_base::{Bytes, Digest, HostError, Memory, TextList};
 use merkle_dag::Lineage;
-use proof_views::ProofView;
 use scratch_model::Scratch;
 use std::alloc::Global;
 use text_clashes::first_clash;

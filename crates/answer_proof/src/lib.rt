@@ -8,4 +8,5 @@ mod proving;
 mod typed;
 mod walking;
 
+pub use merkle_dag::Lineage;
 pub use proving::{ProveError, prove};

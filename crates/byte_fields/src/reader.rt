@@ -5,7 +5,7 @@ ghost use Rattle.std.specs.{
   Prelude.{◌≡◌, ◌≤◌, ◌==◌, ◌&&◌, nat_le, is_none, if◌then◌else◌, Ok, Err, length},
   Int.{w16, w32, w64},
 };
-ghost use Rattle.lc_names.specs.{
+ghost use Rattle.lc_base.specs.lc_names.{
   KeyBytes.{bad_key_byte},
   declared.limits.TheConstants.{MAX_KEY_BYTES, MAX_NAME_BYTES},
 };

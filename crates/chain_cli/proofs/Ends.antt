@@ -14,12 +14,12 @@ use Rattle.cli_words.specs.Words.{CanBeGiven, IsCount}
 use Rattle.cli_words.specs.declared.words.Generation.{Generation}
 use Rattle.cli_words.specs.declared.words.Command.{Command}
 use Rattle.cli_words.specs.declared.words.Command.TheVariants.{Fmt, Pack, Load, Append}
-use Rattle.cli_lines.specs.Outcome.{status_of}
-use Rattle.cli_lines.specs.declared.outcome.Outcome.{Outcome}
-use Rattle.cli_lines.specs.declared.outcome.Ending.{Ending}
-use Rattle.cli_lines.specs.declared.outcome.Ending.TheVariants as endings
-use Rattle.cli_lines.specs.declared.status.Status.{Status}
-use Rattle.cli_lines.specs.declared.status.Status.TheVariants as statuses
+use Rattle.cli_append.specs.cli_lines.Outcome.{status_of}
+use Rattle.cli_append.specs.cli_lines.declared.outcome.Outcome.{Outcome}
+use Rattle.cli_append.specs.cli_lines.declared.outcome.Ending.{Ending}
+use Rattle.cli_append.specs.cli_lines.declared.outcome.Ending.TheVariants as endings
+use Rattle.cli_append.specs.cli_lines.declared.status.Status.{Status}
+use Rattle.cli_append.specs.cli_lines.declared.status.Status.TheVariants as statuses
 use Rattle.cli_output.specs.Blocks.{draft_outcome}
 use Rattle.cli_output.specs.Output.{Output, output_of, fmt_outcome, source_outcome, IsFmtOutput}
 use Rattle.cli_output.specs.Output.{Long, Source, uses_disk}

@@ -1,21 +1,28 @@
 -- The output of `fmt`, by cases.
-use Rattle.std.proofs.Common.{◌≡◌, ℕ, ◌+◌, ◌≤◌, List, [], length, drop, Option, Some, None, sym, subst}
+use Rattle.std.proofs.Common.{◌≡◌, ℕ, ◌+◌, ◌≤◌, List, [], length, drop, Option, Some, None, sym}
+use Rattle.std.proofs.Common.{subst}
 use Rattle.std.specs.Prelude.{codes, IfSome}
 use Rattle.contract_parse.specs.Syntax.{Outcome as SourceOutcome, IsOutcome}
-use Rattle.cli_lines.specs.declared.whole.TheConstants.{MAX_WHOLE_INPUT_BYTES}
-use Rattle.cli_lines.specs.declared.outcome.Outcome.{Outcome}
-use Rattle.cli_lines.specs.Outcome.{bad_input}
+use Rattle.cli_append.specs.cli_lines.declared.whole.TheConstants.{MAX_WHOLE_INPUT_BYTES}
+use Rattle.cli_append.specs.cli_lines.declared.outcome.Outcome.{Outcome}
+use Rattle.cli_append.specs.cli_lines.Outcome.{bad_input}
 use Rattle.cli_output.specs.Output.{IsFmtOutput, Long, Source, output_of, source_outcome}
 use Rattle.cli_output.specs.Scanning.{IsFmtOutcome}
-use Rattle.cli_lines.specs.Whole.{IsWholeInput}
+use Rattle.cli_append.specs.cli_lines.Whole.{IsWholeInput}
 
 -- the outcome of a source that was read whole
-pub source_wanted : (input : List ℕ) (found : SourceOutcome) (outcome : Outcome) → length input ≤ MAX_WHOLE_INPUT_BYTES → IsOutcome input found → outcome ≡ source_outcome found → IsFmtOutput input (output_of outcome [])
+pub source_wanted : (input : List ℕ) (found : SourceOutcome) (outcome : Outcome)
+    → length input ≤ MAX_WHOLE_INPUT_BYTES → IsOutcome input found → outcome ≡ source_outcome found
+    → IsFmtOutput input (output_of outcome [])
 source_wanted input found outcome fits is told = subst (λ (o : Outcome). IsFmtOutput input (output_of o [])) (sym told) (Source fits found is)
 
-long_here : (first left : Option (List ℕ)) (outcome : Outcome) → IfSome first (λ input. IsWholeInput None input left) → outcome ≡ bad_input (codes "long") → IfSome first (λ input. IsFmtOutcome outcome left input)
+long_here : (first left : Option (List ℕ)) (outcome : Outcome) → IfSome first
+    (λ input. IsWholeInput None input left) → outcome ≡ bad_input (codes "long") → IfSome first
+    (λ input. IsFmtOutcome outcome left input)
 long_here None left outcome whole is = tt
 long_here (Some input) left outcome (long, rest) is = (drop (MAX_WHOLE_INPUT_BYTES + 1) input, rest, subst (λ (o : Outcome). IsFmtOutput input (output_of o (drop (MAX_WHOLE_INPUT_BYTES + 1) input))) (sym is) (Long long))
 
-pub long_wanted : (first left found : Option (List ℕ)) (outcome : Outcome) → found ≡ None → IfSome first (λ input. IsWholeInput found input left) → outcome ≡ bad_input (codes "long") → IfSome first (λ input. IsFmtOutcome outcome left input)
+pub long_wanted : (first left found : Option (List ℕ)) (outcome : Outcome) → found ≡ None
+    → IfSome first (λ input. IsWholeInput found input left) → outcome ≡ bad_input (codes "long")
+    → IfSome first (λ input. IsFmtOutcome outcome left input)
 long_wanted first left found outcome none whole is = long_here first left outcome (subst (λ (f : Option (List ℕ)). IfSome first (λ input. IsWholeInput f input left)) none whole) is

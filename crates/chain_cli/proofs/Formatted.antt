@@ -1,5 +1,6 @@
 -- The canonical text that `fmt` prints is printed again for that text.
-use Rattle.std.proofs.Common.{◌≡◌, ℕ, Bool, true, false, cond, eqb, List, [], ◌∷◌, ◌++◌, Option, Some, None, Ok, Err, refl, sym, ap, ◌∙◌, subst, map, append_assoc}
+use Rattle.std.proofs.Common.{◌≡◌, ℕ, Bool, true, false, cond, eqb, List, [], ◌∷◌, ◌++◌, Option}
+use Rattle.std.proofs.Common.{Some, None, Ok, Err, refl, sym, ap, ◌∙◌, subst, map, append_assoc}
 use Rattle.std.specs.List.{concat}
 use Rattle.contract_tree.specs.Tree.{FunctionTree}
 use Rattle.contract_parse.specs.Syntax.{Outcome as SourceOutcome, IsOutcome, ReadsAs}
@@ -12,10 +13,11 @@ use Rattle.contract_print.proofs.RereadContracts.{reads_again}
 use Rattle.contract_print.proofs.WithoutOffsets.{one_text}
 use Rattle.crash_promises.specs.Promises.{Line, plain}
 use Rattle.cli_output.specs.Texts.{last_line, lines_after, lines_of}
-use Rattle.cli_lines.specs.Outcome.{outcome_with}
-use Rattle.cli_output.specs.Output.{output_of, fmt_outcome, source_outcome, told_bytes, FitsInput, IsFmtOutput, Long, Source, FormatsAgain}
-use Rattle.cli_lines.specs.declared.outcome.Ending.TheVariants as endings
-use Rattle.cli_lines.specs.declared.status.Status.TheVariants as statuses
+use Rattle.cli_append.specs.cli_lines.Outcome.{outcome_with}
+use Rattle.cli_output.specs.Output.{output_of, fmt_outcome, source_outcome, told_bytes, FitsInput}
+use Rattle.cli_output.specs.Output.{IsFmtOutput, Long, Source, FormatsAgain}
+use Rattle.cli_append.specs.cli_lines.declared.outcome.Ending.TheVariants as endings
+use Rattle.cli_append.specs.cli_lines.declared.status.Status.TheVariants as statuses
 
 -- ---- the lines of a text, joined
 
@@ -23,7 +25,8 @@ last_joined : (begun : List ℕ) → concat (last_line begun) ≡ begun ++ []
 last_joined [] = refl
 last_joined (byte ∷ bytes) = refl
 
-joined_by : (b : Bool) (begun bytes : List ℕ) (byte : ℕ) → concat (lines_after [] bytes) ≡ bytes → concat (lines_after (begun ++ byte ∷ []) bytes) ≡ (begun ++ byte ∷ []) ++ bytes
+joined_by : (b : Bool) (begun bytes : List ℕ) (byte : ℕ) → concat (lines_after [] bytes) ≡ bytes
+    → concat (lines_after (begun ++ byte ∷ []) bytes) ≡ (begun ++ byte ∷ []) ++ bytes
     → concat (cond b ((begun ++ byte ∷ []) ∷ lines_after [] bytes) (lines_after (begun ++ byte ∷ []) bytes)) ≡ begun ++ byte ∷ bytes
 joined_by true begun bytes byte after on = ap (λ (rest : List ℕ). (begun ++ byte ∷ []) ++ rest) after ∙ append_assoc begun (byte ∷ []) bytes
 joined_by false begun bytes byte after on = on ∙ append_assoc begun (byte ∷ []) bytes
@@ -42,7 +45,8 @@ plain_texts (line ∷ lines) = ap (λ (others : List (List ℕ)). line ∷ other
 
 -- ---- the text of functions that are well kinded
 
-told_again : (input : List ℕ) (functions : List FunctionTree) → ReadsAs input functions → check_fault functions ≡ None → FitsInput (contract_text functions)
+told_again : (input : List ℕ) (functions : List FunctionTree) → ReadsAs input functions
+    → check_fault functions ≡ None → FitsInput (contract_text functions)
     → IsFmtOutput (contract_text functions) (output_of (outcome_with (lines_of (contract_text functions)) endings.Done) [])
 told_again input functions reads good fits =
     let again = reads_again input functions reads in
@@ -52,7 +56,9 @@ told_again input functions reads good fits =
     ap (fmt_outcome again.0) none ∙ ap (λ (t : List ℕ). outcome_with (lines_of t) endings.Done) text in
     subst (λ o. IsFmtOutput (contract_text functions) (output_of o [])) told (Source fits (Ok again.0) again.1)
 
-by_fault : (input : List ℕ) (functions : List FunctionTree) (fault : Option Fault) → ReadsAs input functions → check_fault functions ≡ fault → (output_of (fmt_outcome functions fault) []).status ≡ statuses.Done
+by_fault : (input : List ℕ) (functions : List FunctionTree) (fault : Option Fault)
+    → ReadsAs input functions → check_fault functions ≡ fault
+    → (output_of (fmt_outcome functions fault) []).status ≡ statuses.Done
     → FitsInput (told_bytes (output_of (fmt_outcome functions fault) [])) → IsFmtOutput (told_bytes (output_of (fmt_outcome functions fault) [])) (output_of (fmt_outcome functions fault) [])
 by_fault input functions (Some fault) reads e done fits = absurd cc
 by_fault input functions None reads e done fits =
@@ -60,7 +66,8 @@ by_fault input functions None reads e done fits =
     let text : told_bytes (output_of (outcome_with lines endings.Done) []) ≡ contract_text functions = ap concat (plain_texts lines) ∙ text_joined (contract_text functions) in
     subst (λ (t : List ℕ). IsFmtOutput t (output_of (outcome_with (lines_of (contract_text functions)) endings.Done) [])) (sym text) (told_again input functions reads e (subst FitsInput text fits))
 
-by_outcome : (input : List ℕ) (outcome : SourceOutcome) → IsOutcome input outcome → (output_of (source_outcome outcome) []).status ≡ statuses.Done
+by_outcome : (input : List ℕ) (outcome : SourceOutcome) → IsOutcome input outcome
+    → (output_of (source_outcome outcome) []).status ≡ statuses.Done
     → FitsInput (told_bytes (output_of (source_outcome outcome) [])) → IsFmtOutput (told_bytes (output_of (source_outcome outcome) [])) (output_of (source_outcome outcome) [])
 by_outcome input (Ok functions) reads done fits = by_fault input functions (check_fault functions) reads refl done fits
 by_outcome input (Err fault) is done fits = absurd cc

@@ -1,6 +1,8 @@
 -- Blocks are printed as they are made: so far the frames of the first blocks, all of them or a
 -- prefix.
-use Rattle.std.proofs.Common.{◌≡◌, ℕ, zero, suc, ◌+◌, ◌-◌, ◌<◌, ◌≤◌, Bool, true, false, cond, eqb, List, [], ◌∷◌, ◌++◌, length, map, Option, Some, None, refl, sym, ap, ◌∙◌, subst, arith, append_assoc}
+use Rattle.std.proofs.Common.{◌≡◌, ℕ, zero, suc, ◌+◌, ◌-◌, ◌<◌, ◌≤◌, Bool, true, false, cond, eqb}
+use Rattle.std.proofs.Common.{List, [], ◌∷◌, ◌++◌, length, map, Option, Some, None, refl, sym, ap}
+use Rattle.std.proofs.Common.{◌∙◌, subst, arith, append_assoc}
 use Rattle.std.proofs.lemmas.List.{append-nil, map-append, map_push, length-append}
 use Rattle.std.proofs.lemmas.Bool.Decides.{nat_tests}
 use Rattle.lc_io.specs.Disk.{DiskState, Stays}
@@ -11,7 +13,9 @@ use Rattle.crash_promises.specs.Promises.{plain, Telling}
 use Rattle.crash_promises.proofs.Tellings.{none_to_tell}
 use Rattle.lc_base.specs.declared.digest.Digest.{Digest}
 use Rattle.block_codec.specs.Placement.{bytes_digest, no_parent}
-use Rattle.chain_gen.specs.Generator.{Progress, MadeSoFar, none_made, first_blocks, blocks_of_seed, spelling, block_drawn, given_block, next_block, progress, GoesOn}
+use Rattle.chain_gen.specs.Generator.{Progress, MadeSoFar, none_made, first_blocks, blocks_of_seed}
+use Rattle.chain_gen.specs.Generator.{spelling, block_drawn, given_block, next_block, progress}
+use Rattle.chain_gen.specs.Generator.{GoesOn}
 use Rattle.cli_output.specs.Blocks.{frame}
 use Rattle.cli_output.proofs.Plain.{plain_more, plain_cut}
 
@@ -21,7 +25,8 @@ frames_of count seed = map frame (blocks_of_seed count seed)
 
 -- ---- the first blocks of a seed are a prefix of more of them
 
-one_more : (seed count : ℕ) → (block : List ℕ) × (blocks_of_seed (suc count) seed ≡ blocks_of_seed count seed ++ block ∷ [])
+one_more : (seed count : ℕ) → (block : List ℕ) ×
+    (blocks_of_seed (suc count) seed ≡ blocks_of_seed count seed ++ block ∷ [])
 unfolding first_blocks
 one_more seed count = (spelling (block_drawn count (first_blocks seed count).parent (first_blocks seed count).state).0, map_push spelling (first_blocks seed count).blocks (block_drawn count (first_blocks seed count).parent (first_blocks seed count).state).0)
 
@@ -34,7 +39,8 @@ counted seed (suc count) =
     let before : length (blocks_of_seed count seed) ≡ count = counted seed count in
     omega (arith, longer, before)
 
-after : (seed count more : ℕ) → (rest : List (List ℕ)) × (blocks_of_seed (count + more) seed ≡ blocks_of_seed count seed ++ rest)
+after : (seed count more : ℕ) → (rest : List (List ℕ)) ×
+    (blocks_of_seed (count + more) seed ≡ blocks_of_seed count seed ++ rest)
 after seed count zero =
     let same : count + 0 ≡ count = omega arith in
     ([], ap (λ (n : ℕ). blocks_of_seed n seed) same ∙ sym (append-nil (blocks_of_seed count seed)))
@@ -45,13 +51,15 @@ after seed count (suc more) =
     (before.0 ++ last.0 ∷ [], ap (λ (n : ℕ). blocks_of_seed n seed) longer ∙ last.1 ∙ ap (λ (blocks : List (List ℕ)). blocks ++ last.0 ∷ []) before.1 ∙ append_assoc (blocks_of_seed count seed) before.0 (last.0 ∷ []))
 
 -- all blocks are the first ones and others
-split_at : (seed count whole : ℕ) → count ≤ whole → (rest : List (List ℕ)) × (blocks_of_seed whole seed ≡ blocks_of_seed count seed ++ rest)
+split_at : (seed count whole : ℕ) → count ≤ whole → (rest : List (List ℕ)) ×
+    (blocks_of_seed whole seed ≡ blocks_of_seed count seed ++ rest)
 split_at seed count whole within =
     let sum : count + (whole - count) ≡ whole = omega (arith, within) in
     subst (λ (n : ℕ). (rest : List (List ℕ)) × (blocks_of_seed n seed ≡ blocks_of_seed count seed ++ rest)) sum (after seed count (whole - count))
 
 -- all frames are the first ones and others
-frames_split : (seed count whole : ℕ) → count ≤ whole → (rest : List (List ℕ)) × (frames_of whole seed ≡ frames_of count seed ++ rest)
+frames_split : (seed count whole : ℕ) → count ≤ whole → (rest : List (List ℕ)) ×
+    (frames_of whole seed ≡ frames_of count seed ++ rest)
 frames_split seed count whole within =
     let split = split_at seed count whole within in
     (map frame split.0, ap (map frame) split.1 ∙ map-append frame (blocks_of_seed count seed) split.0)
@@ -73,7 +81,9 @@ record GivesNext (seed count : ℕ) (gen more : Progress) (block : List ℕ) : T
   goes_on : GoesOn seed gen (Some (block, more))
 
 -- if a block is made, not all were made before
-not_all : (ended : Bool) (next : List ℕ × Progress) (gen : Progress) (other : Option (List ℕ × Progress)) → eqb gen.given gen.count ≡ ended → Some next ≡ cond ended None other → ended ≡ false
+not_all : (ended : Bool) (next : List ℕ × Progress) (gen : Progress)
+    (other : Option (List ℕ × Progress)) → eqb gen.given gen.count ≡ ended
+    → Some next ≡ cond ended None other → ended ≡ false
 not_all true next gen other is found = absurd cc
 not_all false next gen other is found = refl
 

@@ -10,7 +10,7 @@ use Rattle.disk_model.proofs.Moments.{then_keeps, weaker, stays_on}
 use Rattle.block_codec.specs.declared.block.Block.{Block}
 use Rattle.block_log.specs.Standing.{NextBlock, standing}
 use Rattle.block_log.specs.Log.{LogState, Agrees, next_in_log}
-use Rattle.recovery.specs.Node.{NodeState, IsNodeOf, IsNodeStarted, next_in_chain}
+use Rattle.cli_append.specs.recovery.Node.{NodeState, IsNodeOf, IsNodeStarted, next_in_chain}
 use Rattle.crash_promises.specs.Promises.{NoChange, Appends, MayLeaveAny}
 use Rattle.crash_promises.specs.Laws.{GoesOn}
 use Rattle.crash_promises.proofs.Tellings.{still}
@@ -18,11 +18,13 @@ use Rattle.cli_append.specs.Appending.{IsKnown, GoesFrom}
 use Rattle.cli_append.proofs.ByLog.{log_stands}
 use Rattle.cli_append.proofs.Frames.{rests_each}
 
-rests_told : (state : Option DiskState) (content : List ℕ) → IsSettled state → content_of state ≡ Some content → Rests state (λ c. c ≡ content)
+rests_told : (state : Option DiskState) (content : List ℕ) → IsSettled state
+    → content_of state ≡ Some content → Rests state (λ c. c ≡ content)
 rests_told None content rests told = tt
 rests_told (Some s) content rests told = (rests, cc told)
 
-is_told : (state : Option DiskState) (content : List ℕ) → content_of state ≡ Some content → IsKnown state
+is_told : (state : Option DiskState) (content : List ℕ) → content_of state ≡ Some content
+    → IsKnown state
 is_told None content told = absurd (cc told)
 is_told (Some s) content told = refl
 

@@ -1,5 +1,7 @@
 -- For an input of bytes and a disk of bytes, a command has exactly one output.
-use Rattle.std.proofs.Common.{◌≡◌, ℕ, zero, suc, ◌+◌, ◌-◌, ◌<◌, ◌≤◌, Bool, true, false, cond, eqb, ltb, leb, ◌&&◌, List, [], ◌∷◌, ◌++◌, length, take, drop, Option, Some, None, Result, Ok, Err, refl, sym, ap, ◌∙◌, inl, inr, subst, arith}
+use Rattle.std.proofs.Common.{◌≡◌, ℕ, zero, suc, ◌+◌, ◌-◌, ◌<◌, ◌≤◌, Bool, true, false, cond, eqb}
+use Rattle.std.proofs.Common.{ltb, leb, ◌&&◌, List, [], ◌∷◌, ◌++◌, length, take, drop, Option, Some}
+use Rattle.std.proofs.Common.{None, Result, Ok, Err, refl, sym, ap, ◌∙◌, inl, inr, subst, arith}
 use Rattle.std.specs.Int.{w32, from_be_bytes}
 use Rattle.std.proofs.lemmas.Bool.{cases_lt}
 use Rattle.byte_fields.specs.Spelling.{IsBytes}
@@ -8,7 +10,9 @@ use Rattle.block_codec.specs.declared.limits.TheConstants.{MAX_FRAMES, MAX_BLOCK
 use Rattle.block_codec.specs.Placement.{digest_of}
 use Rattle.block_log.specs.declared.layout.TheConstants.{OPEN_GATE, FIRST_GATE}
 use Rattle.block_log.specs.declared.layout.Stored.{Stored}
-use Rattle.block_log.specs.Standing.{Standing, Blank, NotALog, Damaged, Holds, Placer, next_decoded, next_block, blocks_in, after_record, record_at, records_at, is_log, is_blank, standing}
+use Rattle.block_log.specs.Standing.{Standing, Blank, NotALog, Damaged, Holds, Placer, next_decoded}
+use Rattle.block_log.specs.Standing.{next_block, blocks_in, after_record, record_at, records_at}
+use Rattle.block_log.specs.Standing.{is_log, is_blank, standing}
 use Rattle.chain_replay.specs.Chain.{placement_in}
 use Rattle.block_codec.specs.declared.block.Block.{Block}
 use Rattle.block_codec.specs.Frames.{FrameStep, End, Truncated, Length, Many, Frame, frame_step}
@@ -20,25 +24,35 @@ use Rattle.contract_parse.specs.Syntax.{Outcome as SourceOutcome, IsOutcome}
 use Rattle.contract_parse.proofs.Outcomes.{some_outcome, one_outcome}
 use Rattle.lc_base.specs.declared.answer.Query.{Query}
 use Rattle.block_codec.proofs.FrameBytes.{frame_bytes}
-use Rattle.proof_commands.specs.Verifying.{verification}
-use Rattle.proof_commands.specs.declared.verification.Verification.{Verification}
-use Rattle.proof_commands.proofs.Verified.{is_verification, one_answer}
-use Rattle.cli_lines.specs.declared.whole.TheConstants.{MAX_WHOLE_INPUT_BYTES}
-use Rattle.chain_exec.specs.Compiled.{Compiler, compiled_in}
-use Rattle.chain_exec.proofs.TheLaws.{one_compiler}
+use Rattle.cli_proofs.specs.proof_commands.Verifying.{verification}
+use Rattle.cli_proofs.specs.proof_commands.declared.verification.Verification.{Verification}
+use Rattle.cli_proofs.proofs.proof_commands.Verified.{is_verification, one_answer}
+use Rattle.cli_append.specs.cli_lines.declared.whole.TheConstants.{MAX_WHOLE_INPUT_BYTES}
+use Rattle.cli_proofs.specs.chain_exec.Compiled.{Compiler, compiled_in}
+use Rattle.cli_proofs.specs.chain_exec.Laws.{OneCompiler}
+use Rattle.chain_replay.proofs.chain_exec.TheLaws.{one_compiler}
 use Rattle.chain_replay.specs.Judging.{Taken, judgement_of, added_by}
 use Rattle.chain_replay.specs.declared.refusal.Refusal.{Refusal}
-use Rattle.chain_input.specs.Folding.{Fold, taken_before, fold_after_frame, fold_step, fold_from, fold_input}
-use Rattle.cli_output.specs.Output.{Output, output_of, scan_output, usage_output, long_output, pack_output, gen_output, load_output, append_output, root_output, ask_output, prove_output, on_log, next_by, source_outcome, IsFmtOutput, Long, Source, IsVerifyOutput, LongProof, Verified, IsExposeOutput, IsOnLog, Wants, IsWanted, IsOneOutput}
+use Rattle.chain_input.specs.Folding.{Fold, taken_before, fold_after_frame, fold_step, fold_from}
+use Rattle.chain_input.specs.Folding.{fold_input}
+use Rattle.cli_output.specs.Output.{Output, output_of, scan_output, usage_output, long_output}
+use Rattle.cli_output.specs.Output.{pack_output, gen_output, load_output, append_output}
+use Rattle.cli_output.specs.Output.{root_output, ask_output, prove_output, on_log, next_by}
+use Rattle.cli_output.specs.Output.{source_outcome, IsFmtOutput, Long, Source, IsVerifyOutput}
+use Rattle.cli_output.specs.Output.{LongProof, Verified, IsExposeOutput, IsOnLog, Wants, IsWanted}
+use Rattle.cli_output.specs.Output.{IsOneOutput}
 use Rattle.cli_output.specs.Proofs.{verification_outcome}
 use Rattle.cli_output.proofs.Exposed.{some_expose, one_expose}
 use Rattle.cli_output.proofs.Meets.{some_on_log, one_on_log}
 use Rattle.cli_words.specs.declared.words.Command.{Command}
-use Rattle.cli_words.specs.declared.words.Command.TheVariants.{Scan, Fmt, Pack, Gen, Load, Append, Root, Ask, Prove, Verify, Expose}
+use Rattle.cli_words.specs.declared.words.Command.TheVariants.{Scan, Fmt, Pack, Gen, Load, Append}
+use Rattle.cli_words.specs.declared.words.Command.TheVariants.{Root, Ask, Prove, Verify, Expose}
 
 -- ---- the fold, by two decoders that are right
 
-next_same : (f g : List Block → List ℕ → Fold) → ((blocks : List Block) (input : List ℕ) → IsBytes input → f blocks input ≡ g blocks input) → (taken : ℕ) (blocks : List Block) (rest : List ℕ) → IsBytes rest → (r : Result Taken Refusal)
+next_same : (f g : List Block → List ℕ → Fold)
+    → ((blocks : List Block) (input : List ℕ) → IsBytes input → f blocks input ≡ g blocks input)
+    → (taken : ℕ) (blocks : List Block) (rest : List ℕ) → IsBytes rest → (r : Result Taken Refusal)
     → fold_after_frame f taken blocks rest r ≡ fold_after_frame g taken blocks rest r
 next_same f g same taken blocks rest fits (Ok frame) = ap (taken_before (frame ∷ [])) (same (blocks ++ added_by frame) rest fits)
 next_same f g same taken blocks rest fits (Err refusal) = refl
@@ -63,7 +77,8 @@ module _ (compile : Compiler) (a b : Decoder) (is_a : IsDecoder a) (is_b : IsDec
 
 -- ---- the records of a log, by two decoders that are right
 
-after_same : (f g : ℕ → List Stored → List ℕ → Standing) → ((gate : ℕ) (stored : List Stored) (bytes : List ℕ) → IsBytes bytes → f gate stored bytes ≡ g gate stored bytes)
+after_same : (f g : ℕ → List Stored → List ℕ → Standing)
+    → ((gate : ℕ) (stored : List Stored) (bytes : List ℕ) → IsBytes bytes → f gate stored bytes ≡ g gate stored bytes)
     → (gate size : ℕ) (stored : List Stored) (rest : List ℕ) (block : Option Block) → IsBytes rest → after_record f gate size stored rest block ≡ after_record g gate size stored rest block
 after_same f g same gate size stored rest None fits = refl
 after_same f g same gate size stored rest (Some block) fits = same (gate + 5 + size) (stored ++ record { place = gate; digest = digest_of block; block = block } ∷ []) rest fits
@@ -105,7 +120,8 @@ some_fmt input =
       | inr fits ↦ let found = some_outcome input in (output_of (source_outcome found.0) [], Source fits found.0 found.1)
     ]
 
-some_verify : (root : List ℕ) (query : Query) (input : List ℕ) → (output : Output) × IsVerifyOutput root query input output
+some_verify : (root : List ℕ) (query : Query) (input : List ℕ)
+    → (output : Output) × IsVerifyOutput root query input output
 some_verify root query input =
     elim (cases_lt MAX_WHOLE_INPUT_BYTES (length input)) [
       | inl long ↦ (long_output input, LongProof long)
@@ -113,7 +129,8 @@ some_verify root query input =
     ]
 
 -- a command, or words that are none, has an output
-pub some_output : (command : Option Command) (input content : List ℕ) → (output : Output) × Wants block_in compiled_in command input content output
+pub some_output : (command : Option Command) (input content : List ℕ)
+    → (output : Output) × Wants block_in compiled_in command input content output
 some_output None input content = (usage_output input, refl)
 some_output (Some (Scan query)) input content = (scan_output compiled_in query (fold_input block_in compiled_in input), refl)
 some_output (Some Fmt) input content = some_fmt input
@@ -132,17 +149,22 @@ some_output (Some (Expose root query root_at)) input content =
 
 -- ---- and only one
 
-on_log_same : (over other : List Block → Output) (input : List ℕ) → ((blocks : List Block) → over blocks ≡ other blocks) → (stands : Standing) → on_log over input stands ≡ on_log other input stands
+on_log_same : (over other : List Block → Output) (input : List ℕ)
+    → ((blocks : List Block) → over blocks ≡ other blocks) → (stands : Standing)
+    → on_log over input stands ≡ on_log other input stands
 on_log_same over other input same Blank = same []
 on_log_same over other input same NotALog = refl
 on_log_same over other input same (Damaged before at) = refl
 on_log_same over other input same (Holds stored gate) = same (blocks_in stored)
 
-only_long : (input : List ℕ) → MAX_WHOLE_INPUT_BYTES < length input → (other : Output) → IsFmtOutput input other → other ≡ long_output input
+only_long : (input : List ℕ) → MAX_WHOLE_INPUT_BYTES < length input → (other : Output)
+    → IsFmtOutput input other → other ≡ long_output input
 only_long input long _ (Long _) = refl
 only_long input long _ (Source fits outcome is) = absurd (omega (arith, long, fits))
 
-only_source : (input : List ℕ) (outcome : SourceOutcome) → length input ≤ MAX_WHOLE_INPUT_BYTES → IsOutcome input outcome → (other : Output) → IsFmtOutput input other → other ≡ output_of (source_outcome outcome) []
+only_source : (input : List ℕ) (outcome : SourceOutcome) → length input ≤ MAX_WHOLE_INPUT_BYTES
+    → IsOutcome input outcome → (other : Output) → IsFmtOutput input other → other ≡ output_of
+    (source_outcome outcome) []
 only_source input outcome fits is _ (Long long) = absurd (omega (arith, long, fits))
 only_source input outcome fits is _ (Source _ found i) = ap (λ (o : SourceOutcome). output_of (source_outcome o) []) (one_outcome input found outcome i is)
 
@@ -155,14 +177,16 @@ only_fmt input other is =
           only_source input found.0 fits found.1 other is ∙ sym (only_source input found.0 fits found.1 (some_fmt input).0 (some_fmt input).1)
     ]
 
-only_verify : (root : List ℕ) (query : Query) (input : List ℕ) (a b : Output) → IsVerifyOutput root query input a → IsVerifyOutput root query input b → a ≡ b
+only_verify : (root : List ℕ) (query : Query) (input : List ℕ) (a b : Output)
+    → IsVerifyOutput root query input a → IsVerifyOutput root query input b → a ≡ b
 only_verify root query input _ _ (LongProof _) (LongProof _) = refl
 only_verify root query input _ _ (LongProof long) (Verified fits told is) = absurd (omega (arith, long, fits))
 only_verify root query input _ _ (Verified fits told is) (LongProof long) = absurd (omega (arith, long, fits))
 only_verify root query input _ _ (Verified _ told is) (Verified _ other i) = ap (λ (v : Verification). output_of (verification_outcome v) []) (one_answer root query input told other is i)
 
 -- by any right decoder, the output for bytes is the same
-same_output : (read : Decoder) (compile : Compiler) → IsDecoder read → compile ≡ compiled_in → (command : Option Command) (input content : List ℕ) → IsBytes input → IsBytes content
+same_output : (read : Decoder) (compile : Compiler) → IsDecoder read → compile ≡ compiled_in
+    → (command : Option Command) (input content : List ℕ) → IsBytes input → IsBytes content
     → (other : Output) → Wants read compile command input content other → other ≡ (some_output command input content).0
 unfolding some_output
 same_output read compile is_read compile_is None input content fits whole other is = is
@@ -196,7 +220,12 @@ same_output read compile is_read compile_is (Some (Expose root query root_at)) i
     subst (λ (stands : Standing). IsOnLog (IsExposeOutput compiled_in root.0 query root_at input) input stands other) (standing_same (placement_in compiled_in) read block_in is_read decided content whole) compiled in
     one_on_log (IsExposeOutput compiled_in root.0 query root_at input) (one_expose root.0 query input compiled_in root_at) input (standing (next_by block_in compiled_in) content) other some.0 here some.1
 
-pub one_output : (command : Option Command) (input content : List ℕ) → IsBytes input → IsBytes content → IsOneOutput (IsWanted command input content)
+-- the program's compiler is the right one, and the only one
+pub compiled_by : OneCompiler
+compiled_by = one_compiler
+
+pub one_output : (command : Option Command) (input content : List ℕ) → IsBytes input
+    → IsBytes content → IsOneOutput (IsWanted command input content)
 one_output command input content fits whole = record {
   output = (some_output command input content).0;
   wanted = (block_in, decided, compiled_in, one_compiler.is_compiler, (some_output command input content).1);

@@ -15,12 +15,13 @@ use Rattle.block_codec.specs.declared.block.Block.{Block}
 use Rattle.block_codec.specs.declared.limits.TheConstants.{MAX_FRAMES}
 use Rattle.block_log.specs.Standing.{Standing, Blank, NotALog, Damaged, Holds, blocks_of, blocks_in}
 use Rattle.block_log.specs.Standing.{chain_of, standing}
-use Rattle.chain_exec.specs.Compiled.{compiled_in}
+use Rattle.cli_proofs.specs.chain_exec.Compiled.{compiled_in}
 use Rattle.chain_replay.specs.Judging.{added_by_all}
 use Rattle.chain_input.specs.Folding.{Fold, FoldEnd, fold_from, fold_input}
 use Rattle.lc_base.specs.declared.host_error.HostError.{HostError}
-use Rattle.recovery.specs.Node.{NodeState, IsNodeOf, IsNodeStarted, IsNoStart, next_in_chain}
-use Rattle.recovery.specs.declared.errors.StartError.{StartError}
+use Rattle.cli_append.specs.recovery.Node.{NodeState, IsNodeOf, IsNodeStarted, IsNoStart}
+use Rattle.cli_append.specs.recovery.Node.{next_in_chain}
+use Rattle.cli_append.specs.recovery.declared.errors.StartError.{StartError}
 use Rattle.crash_promises.specs.Promises.{plain, NoChange, Appends, Telling, IsPartly, MayLeave}
 use Rattle.crash_promises.specs.Promises.{IsChanged}
 use Rattle.crash_promises.proofs.Tellings.{told_since}
@@ -33,12 +34,12 @@ use Rattle.cli_words.specs.declared.words.Generation.{Generation}
 use Rattle.cli_words.specs.declared.words.Command.{Command}
 use Rattle.cli_words.specs.declared.words.Command.TheVariants.{Scan, Fmt, Pack, Gen, Load, Append}
 use Rattle.cli_words.specs.declared.words.Command.TheVariants.{Verify}
-use Rattle.cli_lines.specs.Lines.{usage_line}
-use Rattle.cli_lines.specs.Outcome.{status_of, outcome_with}
-use Rattle.cli_lines.specs.declared.outcome.Outcome.{Outcome}
-use Rattle.cli_lines.specs.declared.outcome.Ending.{Ending}
-use Rattle.cli_lines.specs.declared.outcome.Ending.TheVariants as endings
-use Rattle.cli_lines.specs.declared.status.Status.{Status}
+use Rattle.cli_append.specs.cli_lines.Lines.{usage_line}
+use Rattle.cli_append.specs.cli_lines.Outcome.{status_of, outcome_with}
+use Rattle.cli_append.specs.cli_lines.declared.outcome.Outcome.{Outcome}
+use Rattle.cli_append.specs.cli_lines.declared.outcome.Ending.{Ending}
+use Rattle.cli_append.specs.cli_lines.declared.outcome.Ending.TheVariants as endings
+use Rattle.cli_append.specs.cli_lines.declared.status.Status.{Status}
 use Rattle.cli_output.specs.Blocks.{frame}
 use Rattle.cli_output.specs.Output.{Output, output_of, usage_output, scan_output, pack_output}
 use Rattle.cli_output.specs.Output.{gen_output, load_outcome, load_output, append_output, on_log}

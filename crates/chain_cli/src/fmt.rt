@@ -4,7 +4,7 @@ ghost use Rattle.lc_base.specs.Faults.{HasCause};
 ghost use Rattle.std.specs.Prelude.{◌≡◌, ◌≤◌, ℕ, List, [], ◌∷◌, ◌++◌, length, string_bytes, Some, IfOk, IfSome, OnOk, IsErrOf};
 ghost use Rattle.contract_tree.specs.Tree.{contract_of};
 ghost use Rattle.contract_check.specs.Faults.{check_fault};
-ghost use Rattle.cli_lines.specs.{
+ghost use Rattle.cli_append.specs.cli_lines.{
   declared.whole.TheConstants.{MAX_WHOLE_INPUT_BYTES},
   Lines.{syntax_word, syntax_cause, check_word, check_cause},
   Outcome.{status_of, bad_input},
@@ -17,7 +17,7 @@ ghost use Rattle.cli_output.specs.{
   Texts.{last_line, lines_after, lines_of},
 };
 
-use cli_lines::{Ending, Outcome, read_whole};
+use cli_append::{Ending, Outcome, read_whole};
 use contract_check::{CheckError, CheckKind, check};
 use contract_parse::{Contract, SyntaxError, SyntaxKind, parse};
 use contract_print::print;

@@ -11,7 +11,7 @@ ghost use Rattle.cli_output.specs.{Blocks.{frame}, Telling.{OnlyTells}};
 use crate::packing::frame;
 use block_codec::{NO_PARENT, block_digest};
 use chain_gen::Gen;
-use cli_lines::Ending;
+use cli_append::Ending;
 use cli_output::RunStop;
 use cli_words::Generation;
 use lc_base::Memory;

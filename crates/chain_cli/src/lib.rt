@@ -8,3 +8,5 @@ mod over_log;
 mod packing;
 pub mod run;
 mod scan;
+
+pub use cli_append::Status;

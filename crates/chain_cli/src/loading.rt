@@ -3,21 +3,21 @@
 ghost use Rattle.std.specs.Prelude.{◌≡◌, true, IfOk, IsErrOf};
 ghost use Rattle.lc_base.specs.Faults.{HasCause};
 ghost use Rattle.scratch_model.specs.Scratch.{is_known};
-ghost use Rattle.chain_exec.specs.Compiled.{compiled_in};
+ghost use Rattle.cli_proofs.specs.chain_exec.Compiled.{compiled_in};
 ghost use Rattle.cli_words.specs.Words.{IsCount};
 ghost use Rattle.cli_output.specs.Output.{load_outcome};
 
 use chain_load::load_chain;
-use cli_lines::{Ending, Outcome, load_line};
+use cli_append::{Ending, Outcome, load_line};
 use cli_output::OutcomeStop;
 use cli_words::Generation;
 use lc_base::HostError;
+use resources::Resources;
 use scratch_model::Scratch;
-use std::alloc::Global;
 
 /// The outcome of `load` for these blocks.
 pub fn load_outcome<S: Scratch>(
-    alloc: Global,
+    resources: Resources,
     scratch: &mut S,
     generation: &Generation,
 ) -> Result<Outcome, OutcomeStop>
@@ -29,7 +29,8 @@ pub fn load_outcome<S: Scratch>(
     ensures reads { IsErrOf result OutcomeStop.Unreadable → ⊥ }
     ensures cause { HasCause (S.scratch_faults scratch.old) (S.scratch_faults scratch.new) (IsErrOf result OutcomeStop.ScratchFault) }
 {
-    match load_chain(alloc, scratch, generation.blocks, generation.seed) {
+    let alloc = resources.alloc;
+    match load_chain(resources, scratch, generation.blocks, generation.seed) {
         Ok(load) => Ok(Outcome::from_line(alloc, load_line(alloc, &load)?, Ending::Done)?),
         Err(HostError::Fault) => Err(OutcomeStop::ScratchFault),
         Err(HostError::Memory) => Err(OutcomeStop::Memory),

@@ -5,10 +5,10 @@ ghost use Rattle.lc_base.specs.Faults.{HasCause};
 ghost use Rattle.disk_model.specs.Disk.{IsSettled, Keeps, content_of};
 ghost use Rattle.block_codec.specs.{Reading.{block_in}, declared.block.Block.{Block as Blocks}};
 ghost use Rattle.block_log.specs.Log.{next_in_log};
-ghost use Rattle.chain_exec.specs.Compiled.{compiled_in};
+ghost use Rattle.cli_proofs.specs.chain_exec.Compiled.{compiled_in};
 ghost use Rattle.chain_replay.specs.Chain.{StandsFor};
 ghost use Rattle.scratch_model.specs.Scratch.{is_known};
-ghost use Rattle.recovery.specs.Node.{next_in_chain};
+ghost use Rattle.cli_append.specs.recovery.Node.{next_in_chain};
 ghost use Rattle.crash_promises.specs.Promises.{MayLeaveAny};
 ghost use Rattle.cli_words.specs.declared.words.Command.TheVariants.{Append, Root, Ask};
 ghost use Rattle.cli_output.specs.{
@@ -20,13 +20,14 @@ ghost use Rattle.cli_output.specs.{
 
 use crate::scan::whole_outcome;
 use chain_replay::Chain;
-use cli_append::{AppendEnd, append as append_frames, start};
-use cli_lines::{Ending, Outcome, root_line};
+use cli_append::{
+    AppendEnd, Ending, Node, Outcome, append as append_frames, root_line, start, stored_chain,
+};
 use cli_output::{RunStop, beyond, tell_made, tell_start};
 use disk_model::Disk;
 use lc_base::{Key, Kind, Memory, Query};
 use lc_io::{Source, Wire};
-use recovery::{Node, stored_chain};
+use resources::Resources;
 use scratch_model::Scratch;
 use std::alloc::Global;
 
@@ -43,7 +44,7 @@ fn append_answer(answer: Result<AppendEnd, RunStop>) -> Result<Ending, RunStop>
 
 /// Takes the blocks of the input into the chain of the log, and prints a line for each.
 pub fn append<I: Source, M: Disk + Wire, S: Scratch>(
-    alloc: Global,
+    resources: Resources,
     source: &mut I,
     machine: &mut M,
     scratch: &mut S,
@@ -59,7 +60,8 @@ pub fn append<I: Source, M: Disk + Wire, S: Scratch>(
     ensures scratch_fault { HasCause (S.scratch_faults scratch.old) (S.scratch_faults scratch.new) (IsErrOf result RunStop.ScratchFault) }
     ensures untold { HasCause (M.wire_faults machine.old) (M.wire_faults machine.new) (IsErrOf result RunStop.Untold) }
 {
-    match start(alloc, machine, scratch) {
+    let alloc = resources.alloc;
+    match start(resources, machine, scratch) {
         Ok(node) => append_answer(append_frames(alloc, source, machine, scratch, node)),
         Err(error) => tell_start(alloc, machine, error),
     }
@@ -83,7 +85,7 @@ fn last_answer(
 
 /// Prints the answer to a question over the blocks of the log.
 pub fn ask<M: Disk + Wire>(
-    alloc: Global,
+    resources: Resources,
     kind: Kind,
     key: Key,
     at: Option<u32>,
@@ -97,7 +99,8 @@ pub fn ask<M: Disk + Wire>(
     ensures machine { TellsOfLog M.now M.disk M.disk_faults M.wire_faults machine.old machine.new result }
     ensures keeps { IsErrOf result RunStop.ScratchFault → ⊥ }
 {
-    match stored_chain(alloc, machine) {
+    let alloc = resources.alloc;
+    match stored_chain(resources, machine) {
         Ok(chain) => tell_made(machine, last_answer(alloc, kind, key, at, chain)),
         Err(error) => tell_start(alloc, machine, error),
     }
@@ -131,7 +134,7 @@ fn last_root(alloc: Global, at: Option<u32>, node: Node) -> Result<Outcome, Memo
 
 /// Prints the root at a block of the log.
 pub fn root<M: Disk + Wire, S: Scratch>(
-    alloc: Global,
+    resources: Resources,
     at: Option<u32>,
     machine: &mut M,
     scratch: &mut S,
@@ -144,7 +147,8 @@ pub fn root<M: Disk + Wire, S: Scratch>(
     ensures machine { TellsOfLog M.now M.disk M.disk_faults M.wire_faults machine.old machine.new result }
     ensures scratch_fault { HasCause (S.scratch_faults scratch.old) (S.scratch_faults scratch.new) (IsErrOf result RunStop.ScratchFault) }
 {
-    match Node::start(alloc, machine, scratch) {
+    let alloc = resources.alloc;
+    match Node::start(resources, machine, scratch) {
         Ok(node) => tell_made(machine, last_root(alloc, at, node)),
         Err(error) => tell_start(alloc, machine, error),
     }

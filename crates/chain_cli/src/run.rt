@@ -7,13 +7,13 @@ ghost use Rattle.disk_model.specs.Disk.{IsSettled, Keeps, content_of};
 ghost use Rattle.byte_fields.specs.Spelling.{IsBytes};
 ghost use Rattle.block_codec.specs.{Reading.{block_in}, Spelling.{Decoder, IsDecoder}};
 ghost use Rattle.block_log.specs.Log.{next_in_log};
-ghost use Rattle.chain_exec.specs.Compiled.{Compiler, IsCompiler, compiled_in};
+ghost use Rattle.cli_proofs.specs.chain_exec.Compiled.{Compiler, IsCompiler, compiled_in};
 ghost use Rattle.cli_words.specs.{
   declared.words.Command.{Command as Commands},
   Words.{CanBeGiven, IsCommand, IsOneCommand},
 };
 ghost use Rattle.scratch_model.specs.Scratch.{is_known};
-ghost use Rattle.recovery.specs.Node.{next_in_chain};
+ghost use Rattle.cli_append.specs.recovery.Node.{next_in_chain};
 ghost use Rattle.crash_promises.specs.Promises.{MayLeaveAny};
 ghost use Rattle.cli_output.specs.{
   Output.{FormatsAgain, IsWanted, IsOneOutput, log_next_by, next_by, reads_input, uses_disk, uses_scratch, changes_log, tells_as_it_goes},
@@ -28,18 +28,18 @@ use crate::loading::load_outcome;
 use crate::over_log::{append, ask, root};
 use crate::packing::pack;
 use crate::scan::scan;
-use cli_lines::{Ending, Status};
+use cli_append::{Ending, Status};
 use cli_output::{RunStop, status_of_stop, tell_answer, tell_result, tell_usage};
 use cli_proofs::{expose, prove, verify};
 use cli_words::{Command, command_of};
 use disk_model::Disk;
 use lc_io::{Source, Wire};
+use resources::Resources;
 use scratch_model::Scratch;
-use std::alloc::Global;
 
 /// Runs a command.
 fn run_command<I: Source, M: Disk + Wire, S: Scratch>(
-    alloc: Global,
+    resources: Resources,
     command: &Command,
     source: &mut I,
     machine: &mut M,
@@ -64,28 +64,31 @@ fn run_command<I: Source, M: Disk + Wire, S: Scratch>(
     ensures disk_fault { HasCause (M.disk_faults machine.old) (M.disk_faults machine.new) (IsErrOf result RunStop.DiskFault) }
     ensures scratch_fault { HasCause (S.scratch_faults scratch.old) (S.scratch_faults scratch.new) (IsErrOf result RunStop.ScratchFault) }
 {
+    let alloc = resources.alloc;
     match command {
-        Command::Scan(query) => tell_result(machine, scan(alloc, query, source)),
+        Command::Scan(query) => tell_result(machine, scan(resources, query, source)),
         Command::Fmt => tell_result(machine, fmt(alloc, source)),
         Command::Pack => tell_result(machine, pack(alloc, source)),
         Command::Gen(generation) => generate(alloc, machine, generation),
-        Command::Load(generation) => tell_answer(machine, load_outcome(alloc, scratch, generation)),
-        Command::Append => append(alloc, source, machine, scratch),
-        Command::Root(at) => root(alloc, *at, machine, scratch),
-        Command::Ask { kind, key, at } => ask(alloc, *kind, *key, *at, machine),
-        Command::Prove { query, root_at } => prove(alloc, query, *root_at, machine, scratch),
+        Command::Load(generation) => {
+            tell_answer(machine, load_outcome(resources, scratch, generation))
+        }
+        Command::Append => append(resources, source, machine, scratch),
+        Command::Root(at) => root(resources, *at, machine, scratch),
+        Command::Ask { kind, key, at } => ask(resources, *kind, *key, *at, machine),
+        Command::Prove { query, root_at } => prove(resources, query, *root_at, machine, scratch),
         Command::Verify { root, query } => tell_result(machine, verify(alloc, root, query, source)),
         Command::Expose {
             root,
             query,
             root_at,
-        } => expose(alloc, root, query, *root_at, source, machine, scratch),
+        } => expose(resources, root, query, *root_at, source, machine, scratch),
     }
 }
 
 /// Runs a command, or prints `usage` for words that are none.
 fn run_words<I: Source, M: Disk + Wire, S: Scratch>(
-    alloc: Global,
+    resources: Resources,
     command: Option<Command>,
     source: &mut I,
     machine: &mut M,
@@ -111,11 +114,11 @@ fn run_words<I: Source, M: Disk + Wire, S: Scratch>(
     ensures scratch_fault { HasCause (S.scratch_faults scratch.old) (S.scratch_faults scratch.new) (result ≡ Status.ScratchFault) }
 {
     match command {
-        None => match tell_usage(alloc, machine) {
+        None => match tell_usage(resources.alloc, machine) {
             Ok(()) => Status::Usage,
             Err(stop) => status_of_stop(stop),
         },
-        Some(command) => match run_command(alloc, &command, source, machine, scratch) {
+        Some(command) => match run_command(resources, &command, source, machine, scratch) {
             Ok(ending) => ending.status(),
             Err(stop) => status_of_stop(stop),
         },
@@ -124,9 +127,9 @@ fn run_words<I: Source, M: Disk + Wire, S: Scratch>(
 
 /// Everything that the program does: it reads the words, the input and the disk, keeps bodies of
 /// versions on the scratch device, prints the lines, and appends to the log.
-#[tactic(auto, using(crate::proofs::OneOutput::one_output, crate::proofs::Formatted::formats_again, crate::proofs::Held::verified_holds, cli_output::proofs::WrongTold::wrong_answers_are_told, block_codec::proofs::WholeBlocks::decided, chain_exec::proofs::TheLaws::one_compiler))]
+#[tactic(auto, using(crate::proofs::OneOutput::one_output, crate::proofs::Formatted::formats_again, crate::proofs::Held::verified_holds, cli_output::proofs::WrongTold::wrong_answers_are_told, block_codec::proofs::WholeBlocks::decided, crate::proofs::OneOutput::compiled_by))]
 pub fn run<I: Source, M: Disk + Wire, S: Scratch>(
-    alloc: Global,
+    resources: Resources,
     words: &[String],
     source: &mut I,
     machine: &mut M,
@@ -193,5 +196,5 @@ pub fn run<I: Source, M: Disk + Wire, S: Scratch>(
     ensures scratch_fault { HasCause (S.scratch_faults scratch.old) (S.scratch_faults scratch.new) (result ≡ Status.ScratchFault) }
 {
     let command = command_of(words);
-    run_words(alloc, command, source, machine, scratch)
+    run_words(resources, command, source, machine, scratch)
 }

@@ -4,22 +4,23 @@ ghost use Rattle.lc_base.specs.Faults.{HasCause};
 ghost use Rattle.std.specs.Prelude.{◌≡◌, [], ◌∷◌, IfOk, IfSome, List, Some, IsErrOf};
 ghost use Rattle.block_codec.specs.{Reading.{block_in}, declared.block.Block.{Block as Blocks}};
 ghost use Rattle.chain_replay.specs.Chain.{StandsFor};
-ghost use Rattle.cli_lines.specs.{Outcome.{status_of, outcome_with}, Lines.{refused_line}};
+ghost use Rattle.cli_append.specs.cli_lines.{Outcome.{status_of, outcome_with}, Lines.{refused_line}};
 ghost use Rattle.cli_words.specs.declared.words.Command.TheVariants.{Scan};
 ghost use Rattle.cli_output.specs.{
   Output.{answer_outcome, scan_output},
   Running.{MayEnd},
   Scanning.{GivesOutput, EndsAsked},
 };
-ghost use Rattle.chain_exec.specs.Compiled.{compiled_in};
+ghost use Rattle.cli_proofs.specs.chain_exec.Compiled.{compiled_in};
 ghost use Rattle.chain_input.specs.Folding.{fold_input};
 
 use chain_input::{Cause, Folded, fold};
 use chain_replay::{Chain, Replay};
-use cli_lines::{Ending, Outcome, answer_lines, refused_line};
+use cli_append::{Ending, Outcome, answer_lines, refused_line};
 use cli_output::beyond;
 use lc_base::{HostError, Memory, Query};
 use lc_io::Source;
+use resources::Resources;
 use std::alloc::Global;
 
 /// The outcome for a refused frame.
@@ -60,12 +61,17 @@ pub fn whole_outcome(alloc: Global, query: &Query, chain: Chain) -> Result<Outco
 }
 
 /// The outcome of `scan`: the answer to a question over the blocks of the input.
-pub fn scan<I: Source>(alloc: Global, query: &Query, source: &mut I) -> Result<Outcome, HostError>
+pub fn scan<I: Source>(
+    resources: Resources,
+    query: &Query,
+    source: &mut I,
+) -> Result<Outcome, HostError>
     ensures outcome { IfSome (I.left source.old) (λ input. IfOk result (λ outcome. GivesOutput outcome (I.left source.new) (scan_output compiled_in query.now (fold_input block_in compiled_in input)))) }
     ensures ends { IfOk result (λ outcome. MayEnd (status_of outcome.ending) (Some (Scan query.now))) }
     ensures cause { HasCause (I.source_faults source.old) (I.source_faults source.new) (IsErrOf result HostError.Fault) }
 {
-    match fold(alloc, source)? {
+    let alloc = resources.alloc;
+    match fold(resources, source)? {
         Folded::Whole(chain) => Ok(whole_outcome(alloc, query, chain)?),
         Folded::Refused { frame, cause } => Ok(refusal_outcome(alloc, frame, &cause)?),
     }

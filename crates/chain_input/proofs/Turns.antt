@@ -7,8 +7,8 @@ use Rattle.block_codec.specs.Frames.{frame_step}
 use Rattle.block_codec.specs.Reading.{block_in}
 use Rattle.block_codec.specs.declared.block.Block.{Block}
 use Rattle.block_codec.specs.declared.limits.TheConstants.{MAX_FRAMES}
-use Rattle.chain_exec.specs.Compiled.{compiled_in}
-use Rattle.chain_exec.specs.Replay.{replay}
+use Rattle.chain_replay.specs.chain_exec.Compiled.{compiled_in}
+use Rattle.chain_replay.specs.chain_exec.Replay.{replay}
 use Rattle.chain_replay.specs.Chain.{ChainState, nothing_kept, StandsFor}
 use Rattle.chain_replay.specs.Judging.{Taken, added_by, added_by_all}
 use Rattle.chain_input.specs.Folding.{Fold, Whole, Refused, ends_at, taken_before, fold_step, fold_from, fold_input}

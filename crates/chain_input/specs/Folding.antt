@@ -4,7 +4,7 @@ use Rattle.block_codec.specs.Frames.{FrameStep, End, Truncated, Length, Many, Fr
 use Rattle.block_codec.specs.Spelling.{Decoder}
 use Rattle.block_codec.specs.declared.limits.TheConstants.{MAX_FRAMES}
 use Rattle.block_codec.specs.declared.block.Block.{Block}
-use Rattle.chain_exec.specs.Compiled.{Compiler}
+use Rattle.chain_replay.specs.chain_exec.Compiled.{Compiler}
 use Rattle.chain_replay.specs.Judging.{Taken, judgement_of, added_by}
 use Rattle.chain_replay.specs.declared.refusal.Refusal.{Refusal}
 use Rattle.chain_input.specs.declared.cause.Cause.{Cause}

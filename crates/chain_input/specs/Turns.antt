@@ -6,7 +6,7 @@ use Rattle.block_codec.specs.declared.limits.TheConstants.{MAX_FRAMES}
 use Rattle.block_codec.specs.declared.block.Block.{Block}
 use Rattle.block_codec.specs.declared.error.FrameError.{FrameError}
 use Rattle.block_codec.specs.declared.error.FrameError.TheVariants as frames
-use Rattle.chain_exec.specs.Compiled.{compiled_in}
+use Rattle.chain_replay.specs.chain_exec.Compiled.{compiled_in}
 use Rattle.chain_replay.specs.Chain.{ChainState, StandsFor}
 use Rattle.chain_replay.specs.Judging.{Taken, added_by, added_by_all}
 use Rattle.chain_replay.specs.declared.refusal.Refusal.{Refusal}

@@ -3,7 +3,7 @@
 ghost use Rattle.lc_base.specs.Faults.{HasCause, Rose};
 ghost use Rattle.std.specs.Prelude.{◌≡◌, [], IfOk, IfSome, List, IsErrOf};
 ghost use Rattle.block_codec.specs.{Reading.{block_in}, declared.block.Block.{Block as Blocks}};
-ghost use Rattle.chain_exec.specs.Compiled.{compiled_in};
+ghost use Rattle.chain_replay.specs.chain_exec.Compiled.{compiled_in};
 ghost use Rattle.chain_replay.specs.{Chain.{StandsFor}, Judging.{judgement_of}};
 ghost use Rattle.chain_input.specs.{
   Folding.{fold_input},
@@ -15,6 +15,7 @@ use block_codec::{FrameError, Frames};
 use chain_replay::{Chain, Judged, Refusal, Replay};
 use lc_base::{HostError, Memory};
 use lc_io::Source;
+use resources::Resources;
 use std::alloc::Global;
 
 /// How the frames of an input end.
@@ -98,15 +99,15 @@ fn look<I: Source>(
 }
 
 /// Takes the frames of an input one after another, starting from the chain of no block.
-pub fn fold<I: Source>(alloc: Global, source: &mut I) -> Result<Folded, HostError>
+pub fn fold<I: Source>(resources: Resources, source: &mut I) -> Result<Folded, HostError>
     ensures fold { IfSome (I.left source.old) (λ input. IfOk result (λ folded. IsFoldResult folded (I.left source.new) (fold_input block_in compiled_in input))) }
     ensures cause { HasCause (I.source_faults source.old) (I.source_faults source.new) (IsErrOf result HostError.Fault) }
 {
-    let mut chain = Chain::new(alloc);
+    let mut chain = Chain::new(resources);
     let mut frames = Frames::new();
     'turns: loop {
         let frame = frames.count();
-        match look(alloc, chain, frames, source)? {
+        match look(resources.alloc, chain, frames, source)? {
             Turn::Ended(whole) => return Ok(Folded::Whole(whole)),
             Turn::Taken(longer, more) => {
                 chain = longer;

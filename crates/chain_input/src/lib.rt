@@ -5,4 +5,5 @@ mod cause;
 mod folding;
 
 pub use cause::Cause;
+pub use chain_replay::Refusal;
 pub use folding::{Folded, cause_of, fold};

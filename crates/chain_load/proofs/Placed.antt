@@ -11,10 +11,10 @@ use Rattle.block_codec.specs.declared.block.Block.{Block}
 use Rattle.block_codec.specs.declared.limits.TheConstants.{MAX_BLOCKS, MAX_ROWS_BEFORE_BLOCK}
 use Rattle.block_codec.specs.declared.placement.Placement.TheVariants.{Next}
 use Rattle.dep_capture.specs.declared.limits.TheConstants.{MAX_KEYS_PUT}
-use Rattle.chain_exec.specs.Compiled.{compiled_in}
-use Rattle.chain_exec.specs.Effect.{History}
-use Rattle.chain_exec.specs.Replay.{replay}
-use Rattle.chain_replay.specs.Chain.{ChainState, HasRoom, StandsFor, nothing_kept, placement_in}
+use Rattle.rooted_chain.specs.chain_exec.Compiled.{compiled_in}
+use Rattle.rooted_chain.specs.chain_exec.Effect.{History}
+use Rattle.rooted_chain.specs.chain_exec.Replay.{replay}
+use Rattle.rooted_chain.specs.chain_replay.Chain.{ChainState, HasRoom, StandsFor, nothing_kept, placement_in}
 use Rattle.chain_gen.specs.declared.limits.TheConstants.{MAX_TXS_MADE}
 use Rattle.chain_gen.specs.Generator.{Progress, block_drawn, first_blocks, progress}
 use Rattle.chain_gen.specs.Generator.{IsPlaced}

@@ -4,8 +4,8 @@ use Rattle.std.proofs.Common.{ap, arith}
 use Rattle.std.proofs.lemmas.List.{length-map, length-append}
 use Rattle.lc_base.specs.declared.digest.Digest.{Digest}
 use Rattle.lc_base.specs.declared.row.Row.{Row}
-use Rattle.chain_exec.specs.Compiled.{compiled_in}
-use Rattle.chain_replay.specs.Chain.{ChainState, StandsFor}
+use Rattle.rooted_chain.specs.chain_exec.Compiled.{compiled_in}
+use Rattle.rooted_chain.specs.chain_replay.Chain.{ChainState, StandsFor}
 use Rattle.rooted_chain.specs.Roots.{root_in}
 use Rattle.chain_gen.specs.Draws.{draw_list}
 use Rattle.chain_gen.specs.Generator.{Progress, first_blocks, progress}

@@ -3,7 +3,7 @@ use Rattle.std.specs.Prelude.{◌≡◌, ℕ, ◌*◌, ◌≤◌, Bool, true, le
 use Rattle.lc_base.specs.declared.digest.Digest.{Digest}
 use Rattle.dep_capture.specs.declared.limits.TheConstants.{MAX_KEYS_PUT}
 use Rattle.block_codec.specs.Placement.{digest_of}
-use Rattle.chain_replay.specs.Chain.{ChainState, StandsFor}
+use Rattle.rooted_chain.specs.chain_replay.Chain.{ChainState, StandsFor}
 use Rattle.chain_gen.specs.declared.limits.TheConstants.{MAX_TXS_MADE}
 use Rattle.chain_gen.specs.Generator.{Progress, first_blocks, progress}
 

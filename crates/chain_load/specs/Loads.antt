@@ -3,8 +3,8 @@ use Rattle.std.specs.Prelude.{ℕ, ◌-◌, List, length, map}
 use Rattle.std.specs.List.{sum}
 use Rattle.lc_base.specs.declared.row.Row.{Row}
 use Rattle.block_codec.specs.declared.block.Block.{Block}
-use Rattle.chain_exec.specs.Compiled.{Compiler}
-use Rattle.chain_exec.specs.Replay.{replay}
+use Rattle.rooted_chain.specs.chain_exec.Compiled.{Compiler}
+use Rattle.rooted_chain.specs.chain_exec.Replay.{replay}
 use Rattle.rooted_chain.specs.Roots.{root_in}
 use Rattle.chain_gen.specs.Generator.{first_blocks}
 use Rattle.chain_load.specs.declared.loading.Load.{Load}

@@ -3,7 +3,7 @@ use Rattle.std.specs.Prelude.{ℕ, ◌<◌, ◌≤◌, ◌^◌, max, List, [], �
 use Rattle.std.specs.List.{sum}
 use Rattle.lc_base.specs.declared.row.Row.{Row}
 use Rattle.skip_path.specs.Paths.{path}
-use Rattle.merkle_dag.specs.Lineage.{LineageState}
+use Rattle.rooted_chain.specs.merkle_dag.Lineage.{LineageState}
 use Rattle.chain_gen.specs.Draws.{number_below, key_drawn, draw_list}
 use Rattle.chain_load.specs.declared.looking.LookupCounts.{LookupCounts}
 

@@ -12,18 +12,18 @@ ghost use Rattle.block_codec.specs.{
   declared.limits.TheConstants.{MAX_BLOCKS},
   declared.placement.Placement.TheVariants.{Next},
 };
-ghost use Rattle.chain_exec.specs.Compiled.{compiled_in};
-ghost use Rattle.chain_replay.specs.Chain.{placement_in, HasRoom, StandsFor};
-ghost use Rattle.merkle_dag.specs.Lineage.{AgreesWith};
+ghost use Rattle.rooted_chain.specs.chain_exec.Compiled.{compiled_in};
+ghost use Rattle.rooted_chain.specs.chain_replay.Chain.{placement_in, HasRoom, StandsFor};
+ghost use Rattle.rooted_chain.specs.merkle_dag.Lineage.{AgreesWith};
 ghost use Rattle.rooted_chain.specs.Roots.{kept_in, lineage_in};
 ghost use Rattle.chain_gen.specs.Generator.{first_blocks, progress};
 ghost use Rattle.chain_load.specs.Building.{HasAdded};
 
 use block_codec::{DecodeError, NO_PARENT, block_digest, decode};
 use chain_gen::Gen;
-use chain_replay::Replay;
 use lc_base::{Digest, HostError, Memory};
-use rooted_chain::LineageChain;
+use resources::Resources;
+use rooted_chain::{LineageChain, Replay};
 use scratch_model::Scratch;
 use std::alloc::Global;
 
@@ -122,7 +122,7 @@ fn with_next<S: Scratch>(
 
 /// The chain of the first `blocks` blocks of a seed, and the generator after these.
 pub(crate) fn chain_made<S: Scratch>(
-    alloc: Global,
+    resources: Resources,
     scratch: &mut S,
     blocks: u32,
     seed: u32,
@@ -138,7 +138,7 @@ pub(crate) fn chain_made<S: Scratch>(
     ensures cause { HasCause (S.scratch_faults scratch.old) (S.scratch_faults scratch.new)
         (IsErrOf result HostError.Fault) }
 {
-    let chain = match LineageChain::start(alloc) {
+    let chain = match LineageChain::start(resources) {
         Ok(chain) => chain,
         Err(Memory) => return Err(HostError::Memory),
     };
@@ -148,7 +148,7 @@ pub(crate) fn chain_made<S: Scratch>(
         parent: NO_PARENT,
     };
     for _ in 0..blocks {
-        building = match with_next(alloc, scratch, building) {
+        building = match with_next(resources.alloc, scratch, building) {
             Ok(more) => more,
             Err(error) => return Err(error),
         };

@@ -4,9 +4,9 @@ ghost use Rattle.std.specs.Prelude.{◌≡◌, ℕ, ◌<◌, ◌≤◌, ◌-◌,
 ghost use Rattle.lc_base.specs.Faults.{HasCause};
 ghost use Rattle.scratch_model.specs.Scratch.{is_known, Retains};
 ghost use Rattle.block_codec.specs.declared.limits.TheConstants.{MAX_BLOCKS};
-ghost use Rattle.chain_exec.specs.Compiled.{compiled_in};
-ghost use Rattle.chain_replay.specs.Chain.{StandsFor};
-ghost use Rattle.merkle_dag.specs.Lineage.{AgreesWith};
+ghost use Rattle.rooted_chain.specs.chain_exec.Compiled.{compiled_in};
+ghost use Rattle.rooted_chain.specs.chain_replay.Chain.{StandsFor};
+ghost use Rattle.rooted_chain.specs.merkle_dag.Lineage.{AgreesWith};
 ghost use Rattle.rooted_chain.specs.Roots.{kept_in, lineage_in, root_in};
 ghost use Rattle.chain_gen.specs.Generator.{first_blocks, progress};
 ghost use Rattle.chain_load.specs.Loads.{load_of};
@@ -15,6 +15,7 @@ use crate::building::chain_made;
 use crate::looking::look_up_all;
 use chain_gen::Gen;
 use lc_base::{Digest, HostError};
+use resources::Resources;
 use rooted_chain::LineageChain;
 use scratch_model::Scratch;
 use std::alloc::Global;
@@ -89,7 +90,7 @@ fn load_over<S: Scratch>(
 /// device, and makes as many look-ups, which are drawn after the blocks. What the load reports is
 /// known only if it is known which bytes the device holds.
 pub fn load_chain<S: Scratch>(
-    alloc: Global,
+    resources: Resources,
     scratch: &mut S,
     blocks: u32,
     seed: u32,
@@ -102,8 +103,8 @@ pub fn load_chain<S: Scratch>(
     ensures cause { HasCause (S.scratch_faults scratch.old) (S.scratch_faults scratch.new)
         (IsErrOf result HostError.Fault) }
 {
-    match chain_made(alloc, scratch, blocks, seed) {
-        Ok((chain, generator)) => load_over(alloc, scratch, chain, generator, blocks),
+    match chain_made(resources, scratch, blocks, seed) {
+        Ok((chain, generator)) => load_over(resources.alloc, scratch, chain, generator, blocks),
         Err(error) => Err(error),
     }
 }

@@ -2,15 +2,14 @@
 
 ghost use Rattle.std.specs.Prelude.{◌≡◌, ◌<◌, ◌+◌, ◌^◌, max, length, map, IfOk, IsErrOf};
 ghost use Rattle.skip_path.specs.Paths.{path};
-ghost use Rattle.merkle_dag.specs.Lineage.{AgreesWith, LeavesLineage};
+ghost use Rattle.rooted_chain.specs.merkle_dag.Lineage.{AgreesWith, LeavesLineage};
 ghost use Rattle.chain_gen.specs.Generator.{standing_at};
 ghost use Rattle.chain_load.specs.Lookups.{CanBeLookedUp, lookup_drawn, lookups_drawn, looked_at, lookup_counts};
 
 use chain_gen::Gen;
 use lc_base::{HostError, Kind, Query};
-use lineage_store::Steps;
-use merkle_dag::Lineage;
-use prov_query::{AskError, ask};
+use prov_query::{AskError, Steps, ask};
+use rooted_chain::Lineage;
 use scratch_model::Scratch;
 use std::alloc::Global;
 

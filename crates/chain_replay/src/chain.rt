@@ -12,10 +12,10 @@ ghost use Rattle.chain_replay.specs.Chain.{nothing_kept, placement_in, HasRoom, 
 
 use crate::replaying::Replay;
 use block_codec::{Block, NO_PARENT, Placement, place};
-use chain_exec::{BlockRun, run_block};
-use contract_check::Checked;
+use chain_exec::{BlockRun, Checked, run_block};
 use lc_base::{Answer, Digest, DigestList, HostError, Memory, Query, RowList};
 use plain_rows::PlainRows;
+use resources::Resources;
 use scratch_model::Scratch;
 use std::alloc::Global;
 use std::marker::Model;
@@ -65,13 +65,13 @@ fn discard(_world: World<Checked>) {}
 
 impl Chain {
     /// The chain of no block. It takes no memory.
-    pub fn new(alloc: Global) -> Chain
+    pub fn new(resources: Resources) -> Chain
         ensures { result ≡ nothing_kept }
     {
         Chain {
-            digests: DigestList::new(alloc),
-            rows: PlainRows::new(alloc),
-            world: World::new(alloc),
+            digests: DigestList::new(resources.alloc),
+            rows: PlainRows::new(resources.alloc),
+            world: World::new(resources),
         }
     }
 
@@ -151,8 +151,8 @@ impl Replay for Chain {
 
     ghost agrees = { λ _ _. Unit {0} };
 
-    fn start(alloc: Global) -> Result<Chain, Memory> {
-        Ok(Chain::new(alloc))
+    fn start(resources: Resources) -> Result<Chain, Memory> {
+        Ok(Chain::new(resources))
     }
 
     fn place(&self, block: &Block, digest: Digest) -> Placement {

@@ -7,6 +7,7 @@ mod refusal;
 mod replaying;
 
 pub use chain::Chain;
+pub use chain_exec::{BlockRun, ReceiptList, run_block};
 pub use judging::Judged;
 pub use refusal::Refusal;
 pub use replaying::Replay;

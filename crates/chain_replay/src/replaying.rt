@@ -23,6 +23,7 @@ use crate::judging::{Judged, judge_block};
 use crate::refusal::Refusal;
 use block_codec::{Block, DecodeError, Placement, block_digest, decode};
 use lc_base::{Digest, HostError, Memory};
+use resources::Resources;
 use scratch_model::Scratch;
 use std::alloc::Global;
 
@@ -39,7 +40,7 @@ pub trait Replay: Drop {
     ghost agrees: { Self → ScratchState → Type 0 };
 
     /// The chain of no block. It agrees with every device.
-    fn start(alloc: Global) -> Result<Self, Memory>
+    fn start(resources: Resources) -> Result<Self, Memory>
         ensures kept { IfOk result (λ chain. kept chain ≡ nothing_kept) }
         ensures agrees { IfOk result (λ chain. (scratch : ScratchState) → agrees chain scratch) };
 

@@ -9,8 +9,8 @@ use Rattle.disk_model.proofs.Moments.{then_keeps, weaker, stays_here}
 use Rattle.block_codec.specs.declared.block.Block.{Block}
 use Rattle.block_log.specs.Log.{LogState}
 use Rattle.chain_exec.specs.Compiled.{compiled_in}
-use Rattle.chain_replay.specs.Judging.{Taken, Known, Added, judgement_of, added_by}
-use Rattle.chain_replay.specs.declared.refusal.Refusal.{Refusal}
+use Rattle.recovery.specs.chain_replay.Judging.{Taken, Known, Added, judgement_of, added_by}
+use Rattle.recovery.specs.chain_replay.declared.refusal.Refusal.{Refusal}
 use Rattle.recovery.specs.Node.{NodeState, HoldsChain, IsNodeOf, IsStepOf, IsAppended, was_added, blocks_after, next_in_chain, chain_in}
 use Rattle.recovery.specs.declared.node.Appended.{Appended}
 use Rattle.recovery.specs.declared.node.Appended.TheVariants as appendeds

@@ -14,18 +14,18 @@ use Rattle.block_codec.specs.declared.block.Block.{Block}
 use Rattle.block_codec.specs.declared.error.FrameError.{FrameError}
 use Rattle.block_codec.specs.declared.error.FrameError.TheVariants as frames
 use Rattle.chain_exec.specs.Compiled.{compiled_in}
-use Rattle.chain_replay.specs.Judging.{Taken, judgement_of, added_by, added_by_all}
-use Rattle.chain_replay.specs.declared.refusal.Refusal.{Refusal}
+use Rattle.recovery.specs.chain_replay.Judging.{Taken, judgement_of, added_by, added_by_all}
+use Rattle.recovery.specs.chain_replay.declared.refusal.Refusal.{Refusal}
 use Rattle.cli_lines.specs.Lines.{refused_line}
-use Rattle.chain_input.specs.Folding.{Fold, FoldEnd, Whole, Refused, ends_at, taken_before, fold_after_frame, fold_step, fold_from}
-use Rattle.chain_input.specs.declared.cause.Cause.{Cause}
-use Rattle.chain_input.specs.declared.cause.Cause.TheVariants as causes
+use Rattle.cli_lines.specs.chain_input.Folding.{Fold, FoldEnd, Whole, Refused, ends_at, taken_before, fold_after_frame, fold_step, fold_from}
+use Rattle.cli_lines.specs.chain_input.declared.cause.Cause.{Cause}
+use Rattle.cli_lines.specs.chain_input.declared.cause.Cause.TheVariants as causes
 use Rattle.recovery.specs.Node.{NodeState, IsNodeOf, IsStepOf, next_in_chain, chain_in}
 use Rattle.crash_promises.specs.Promises.{Line, plain, KeepsLines, IsPartly, Telling}
 use Rattle.crash_promises.proofs.Tellings.{none_to_tell, join, longer, still}
 use Rattle.crash_promises.proofs.Sure.{AreSure, all_sure_more, sure_push, all_sure_kept, partly_more, partly_held, partly_longer}
 use Rattle.cli_append.specs.Appending.{IsKnown, line_of, lines_of, end_lines, fold_lines, fold_end, HasEnded, AppendsAll, GoesFrom}
-use Rattle.chain_input.specs.Turns.{IsCauseOf}
+use Rattle.cli_lines.specs.chain_input.Turns.{IsCauseOf}
 use Rattle.cli_append.specs.Steps.{lines_for, added_for, Takes}
 use Rattle.cli_append.specs.declared.ending.AppendEnd.{AppendEnd}
 use Rattle.cli_append.specs.declared.ending.AppendEnd.TheVariants as ends

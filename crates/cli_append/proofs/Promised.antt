@@ -13,8 +13,8 @@ use Rattle.block_codec.specs.declared.placement.Placement.{Placement}
 use Rattle.block_codec.specs.declared.placement.Placement.TheVariants as placements
 use Rattle.chain_exec.specs.Compiled.{compiled_in}
 use Rattle.chain_exec.specs.Replay.{replay}
-use Rattle.chain_replay.specs.Chain.{placement_in}
-use Rattle.chain_replay.specs.Judging.{Taken, Known, Added, judgement_of, judged_by_placement, added_by, added_by_all}
+use Rattle.recovery.specs.chain_replay.Chain.{placement_in}
+use Rattle.recovery.specs.chain_replay.Judging.{Taken, Known, Added, judgement_of, judged_by_placement, added_by, added_by_all}
 use Rattle.crash_promises.specs.Promises.{Line}
 use Rattle.crash_promises.proofs.Sure.{IsSure}
 use Rattle.cli_append.specs.Appending.{line_of, lines_of}

@@ -8,10 +8,10 @@ use Rattle.block_codec.specs.declared.block.Block.{Block}
 use Rattle.chain_exec.specs.Compiled.{Compiler, compiled_in}
 use Rattle.chain_exec.specs.Fold.{block_effects}
 use Rattle.chain_exec.specs.Replay.{replay}
-use Rattle.chain_replay.specs.Judging.{Taken, Known, Added, added_by, added_by_all}
-use Rattle.rooted_chain.specs.Roots.{root_in}
+use Rattle.recovery.specs.chain_replay.Judging.{Taken, Known, Added, added_by, added_by_all}
+use Rattle.recovery.specs.rooted_chain.Roots.{root_in}
 use Rattle.cli_lines.specs.Lines.{refused_line}
-use Rattle.chain_input.specs.Folding.{Fold, FoldEnd, Whole, Refused}
+use Rattle.cli_lines.specs.chain_input.Folding.{Fold, FoldEnd, Whole, Refused}
 use Rattle.recovery.specs.Node.{next_in_chain, chain_in}
 use Rattle.crash_promises.specs.Promises.{Line, Holds, plain, Telling, IsPartly}
 use Rattle.cli_append.specs.Lines.{known_line, block_line}

@@ -5,8 +5,8 @@ use Rattle.lc_io.specs.Outside.{Tell}
 use Rattle.disk_model.specs.Disk.{Keeps, Rests}
 use Rattle.block_codec.specs.declared.block.Block.{Block}
 use Rattle.chain_exec.specs.Compiled.{compiled_in}
-use Rattle.chain_replay.specs.Judging.{Taken, added_by}
-use Rattle.chain_replay.specs.declared.refusal.Refusal.{Refusal}
+use Rattle.recovery.specs.chain_replay.Judging.{Taken, added_by}
+use Rattle.recovery.specs.chain_replay.declared.refusal.Refusal.{Refusal}
 use Rattle.recovery.specs.Node.{NodeState, IsNodeOf, IsStepOf, next_in_chain, chain_in}
 use Rattle.recovery.specs.declared.node.Appended.{Appended}
 use Rattle.recovery.specs.declared.node.Appended.TheVariants as appendeds

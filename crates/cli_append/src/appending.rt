@@ -9,7 +9,7 @@ ghost use Rattle.block_codec.specs.{
 };
 ghost use Rattle.block_log.specs.Log.{next_in_log};
 ghost use Rattle.chain_exec.specs.Compiled.{compiled_in};
-ghost use Rattle.chain_input.specs.Folding.{fold_from};
+ghost use Rattle.cli_lines.specs.chain_input.Folding.{fold_from};
 ghost use Rattle.scratch_model.specs.Scratch.{is_known, Retains};
 ghost use Rattle.recovery.specs.Node.{IsNodeOf, IsReady};
 ghost use Rattle.disk_model.specs.Disk.{Keeps, content_of};
@@ -20,7 +20,7 @@ use crate::ending::{AppendEnd, RunStop};
 use crate::taking::take_frame;
 use crate::telling::refuse;
 use block_codec::Frames;
-use chain_input::{Cause, cause_of};
+use cli_lines::{Cause, cause_of};
 use disk_model::Disk;
 use lc_io::{Source, Wire};
 use recovery::Node;

@@ -2,7 +2,7 @@
 
 ghost use Rattle.std.specs.Prelude.{◌≡◌};
 
-use chain_input::Cause;
+use cli_lines::Cause;
 use lc_base::Memory;
 
 /// How appending came to its end.

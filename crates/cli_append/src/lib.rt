@@ -10,5 +10,10 @@ mod taking;
 mod telling;
 
 pub use appending::append;
+pub use cli_lines::{
+    Ending, Outcome, Status, answer_lines, beyond_line, damaged_line, hex_after, load_line,
+    not_a_log_line, read_whole, refused_line, root_line, usage_line,
+};
 pub use ending::{AppendEnd, RunStop};
+pub use recovery::{Node, StartError, stored_chain};
 pub use starting::start;

@@ -14,8 +14,8 @@ ghost use Rattle.recovery.specs.Node.{IsReady, IsNodeStarted, next_in_chain};
 use disk_model::Disk;
 use lc_io::Failed;
 use recovery::{Node, StartError};
+use resources::Resources;
 use scratch_model::Scratch;
-use std::alloc::Global;
 
 /// Syncs a disk, whatever is pending. An earlier run may have ended between a write and its sync,
 /// and without this a loss of power could still take what it wrote.
@@ -35,7 +35,7 @@ fn settle<M: Disk>(machine: &mut M) -> Result<(), Failed>
 /// first, whatever is pending at entry: what is then printed of the content, or written after it,
 /// rests on bytes that no crash can take.
 pub fn start<M: Disk, S: Scratch>(
-    alloc: Global,
+    resources: Resources,
     machine: &mut M,
     scratch: &mut S,
 ) -> Result<Node, StartError>
@@ -59,7 +59,7 @@ pub fn start<M: Disk, S: Scratch>(
         (IsErrOf result StartError.ScratchFault) }
 {
     match settle(machine) {
-        Ok(()) => Node::start(alloc, machine, scratch),
+        Ok(()) => Node::start(resources, machine, scratch),
         Err(Failed) => Err(StartError::DiskFault),
     }
 }

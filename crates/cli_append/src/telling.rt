@@ -8,8 +8,7 @@ ghost use Rattle.cli_lines.specs.Lines.{refused_line as refused_text};
 ghost use Rattle.crash_promises.specs.Promises.{Promise, plain, IsKeptAt, Telling};
 
 use crate::ending::{AppendEnd, RunStop};
-use chain_input::Cause;
-use cli_lines::refused_line;
+use cli_lines::{Cause, refused_line};
 use lc_base::Memory;
 use lc_io::{Failed, Wire};
 use std::alloc::Global;

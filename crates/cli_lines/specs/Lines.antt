@@ -12,8 +12,8 @@ use Rattle.contract_check.specs.declared.fault.Fault.{Fault}
 use Rattle.contract_check.specs.declared.fault.CheckKind.{CheckKind}
 use Rattle.contract_check.specs.declared.fault.CheckKind.TheVariants as checks
 use Rattle.hex.specs.Hex.{encode_lower}
-use Rattle.chain_replay.specs.declared.refusal.Refusal.{Refusal}
-use Rattle.chain_replay.specs.declared.refusal.Refusal.TheVariants as refusals
+use Rattle.chain_input.specs.chain_replay.declared.refusal.Refusal.{Refusal}
+use Rattle.chain_input.specs.chain_replay.declared.refusal.Refusal.TheVariants as refusals
 use Rattle.chain_input.specs.declared.cause.Cause.{Cause}
 use Rattle.chain_input.specs.declared.cause.Cause.TheVariants as causes
 use Rattle.chain_load.specs.declared.loading.Load.{Load}

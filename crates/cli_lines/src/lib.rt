@@ -7,6 +7,7 @@ mod outcome;
 mod status;
 mod whole;
 
+pub use chain_input::{Cause, cause_of};
 pub use lines::{
     answer_lines, bad_input_line, beyond_line, damaged_line, hex_after, load_line, not_a_log_line,
     refused_line, root_line, usage_line,

@@ -7,9 +7,8 @@ ghost use Rattle.std.specs.{
 ghost use Rattle.cli_lines.specs.Lines.{usage_line, beyond_line, refusal_text, cause_text, refused_line, value_text, dep_line, answer_lines, bad_input_line, not_a_log_line, damaged_line, root_line, load_line, line};
 ghost use Rattle.hex.specs.Hex.{encode_lower};
 
-use chain_input::Cause;
+use chain_input::{Cause, Refusal};
 use chain_load::Load;
-use chain_replay::Refusal;
 use lc_base::{Answer, Bytes, Dep, DepList, Digest, Memory, Seq, Value};
 use std::alloc::{AllocError, Global};
 

@@ -1,32 +1,37 @@
 -- For an input and the blocks of a log, `expose` has one output.
-use Rattle.std.proofs.Common.{◌≡◌, ◌∙◌, ℕ, ◌≤◌, true, false, List, [], length, Option, Result, Ok, Err, is_ok, inl, inr, refl, sym, ap, subst, arith}
+use Rattle.std.proofs.Common.{◌≡◌, ◌∙◌, ℕ, ◌≤◌, true, false, List, [], length, Option, Result, Ok}
+use Rattle.std.proofs.Common.{Err, is_ok, inl, inr, refl, sym, ap, subst, arith}
 use Rattle.std.proofs.lemmas.Bool.{cases_lt}
 use Rattle.lc_base.specs.declared.answer.Answer.{Answer}
 use Rattle.lc_base.specs.declared.answer.Query.{Query}
 use Rattle.hex.specs.Hex.{decode_of}
 use Rattle.block_codec.specs.declared.block.Block.{Block}
-use Rattle.chain_exec.specs.Compiled.{Compiler}
+use Rattle.cli_append.specs.chain_exec.Compiled.{Compiler}
 use Rattle.proof_codec.specs.declared.proof.Proof.{Proof}
-use Rattle.proof_views.specs.Viewing.{Spells, proof_in}
-use Rattle.proof_views.proofs.Viewed.{is_read}
-use Rattle.proof_checks.specs.Checks.{verdict}
-use Rattle.proof_checks.specs.ProofTexts.{proof_texts}
-use Rattle.proof_checks.specs.declared.reject.Reject.{Reject}
-use Rattle.proof_checks.specs.declared.reject.Reject.TheVariants.{Malformed}
+use Rattle.proof_commands.specs.proof_views.Viewing.{Spells, proof_in}
+use Rattle.proof_commands.proofs.proof_views.Viewed.{is_read}
+use Rattle.replay_soundness.specs.proof_checks.Checks.{verdict}
+use Rattle.replay_soundness.specs.proof_checks.ProofTexts.{proof_texts}
+use Rattle.replay_soundness.specs.proof_checks.declared.reject.Reject.{Reject}
+use Rattle.replay_soundness.specs.proof_checks.declared.reject.Reject.TheVariants.{Malformed}
 use Rattle.text_clashes.specs.FirstClash.{IsFirstClash}
 use Rattle.text_clashes.proofs.OneFirst.{some_first_clash, one_first_clash}
-use Rattle.proof_commands.specs.Verifying.{hex_text, of_verdict, verification, IsVerification, OddDigits, NoDigit, NoProof, Judged}
+use Rattle.proof_commands.specs.Verifying.{hex_text, of_verdict, verification, IsVerification}
+use Rattle.proof_commands.specs.Verifying.{OddDigits, NoDigit, NoProof, Judged}
 use Rattle.proof_commands.specs.declared.verification.HexFault.TheVariants.{Odd, At}
 use Rattle.proof_commands.specs.declared.verification.Verification.{Verification}
 use Rattle.proof_commands.specs.declared.verification.Verification.TheVariants.{Rejected, BadHex}
 use Rattle.proof_commands.proofs.Verified.{is_verification, one_answer}
 use Rattle.crash_promises.specs.Promises.{NoChange}
-use Rattle.cli_lines.specs.declared.whole.TheConstants.{MAX_WHOLE_INPUT_BYTES}
+use Rattle.cli_append.specs.cli_lines.declared.whole.TheConstants.{MAX_WHOLE_INPUT_BYTES}
 use Rattle.replay_soundness.specs.Soundness.{replayed_texts}
-use Rattle.cli_output.specs.Output.{Output, output_of, beyond_head, long_output, Reach, IsExposeOutput, OutOfReach, LongExposed, NotAccepted, Exposed}
+use Rattle.cli_output.specs.Output.{Output, output_of, beyond_head, long_output, Reach}
+use Rattle.cli_output.specs.Output.{IsExposeOutput, OutOfReach, LongExposed, NotAccepted, Exposed}
 use Rattle.cli_output.specs.Proofs.{verification_outcome, is_accepted, IsAcceptedHex, clash_outcome}
 
-pub expose_no_change : (compile : Compiler) (root : List ℕ) (query : Query) (root_at : ℕ) (input : List ℕ) (blocks : List Block) (output : Output) → IsExposeOutput compile root query root_at input blocks output → output.change ≡ NoChange
+pub expose_no_change : (compile : Compiler) (root : List ℕ) (query : Query) (root_at : ℕ)
+    (input : List ℕ) (blocks : List Block) (output : Output)
+    → IsExposeOutput compile root query root_at input blocks output → output.change ≡ NoChange
 expose_no_change compile root query root_at input blocks _ (OutOfReach past) = refl
 expose_no_change compile root query root_at input blocks _ (LongExposed within long) = refl
 expose_no_change compile root query root_at input blocks _ (NotAccepted within fits told is fails) = refl
@@ -34,11 +39,13 @@ expose_no_change compile root query root_at input blocks _ (Exposed within fits 
 
 -- ---- what is accepted
 
-accepted_told : (v : Result Answer Reject) (told : Verification) → told ≡ of_verdict v → is_ok v ≡ true → is_accepted told ≡ true
+accepted_told : (v : Result Answer Reject) (told : Verification) → told ≡ of_verdict v
+    → is_ok v ≡ true → is_accepted told ≡ true
 accepted_told (Ok answer) told is passes = ap is_accepted is
 accepted_told (Err reject) told is passes = absurd (cc passes)
 
-refused_told : (v : Result Answer Reject) (reject : Reject) → v ≡ Err reject → is_accepted (of_verdict v) ≡ false
+refused_told : (v : Result Answer Reject) (reject : Reject) → v ≡ Err reject → is_accepted
+    (of_verdict v) ≡ false
 refused_told v reject is = ap (λ (r : Result Answer Reject). is_accepted (of_verdict r)) is
 
 abbrev read : Proof → Result Proof ℕ

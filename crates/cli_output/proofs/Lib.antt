@@ -3,3 +3,5 @@ pub mod Ends
 pub mod Meets
 pub mod Exposed
 pub mod WrongTold
+pub use Rattle.replay_soundness.proofs as replay_soundness
+pub use Rattle.replay_soundness.proofs.rooted_chain as rooted_chain

@@ -12,19 +12,20 @@ use Rattle.lc_base.specs.declared.host_error.HostError.{HostError}
 use Rattle.lc_base.specs.declared.host_error.HostError.TheVariants as reads
 use Rattle.block_log.specs.Standing.{Standing, Blank, NotALog, Damaged, Holds, NextBlock, blocks_of}
 use Rattle.block_log.specs.Standing.{blocks_in, standing}
-use Rattle.chain_replay.specs.Chain.{ChainState, StandsFor}
-use Rattle.recovery.specs.Node.{NodeState, IsNodeStarted, IsChainStored, IsNoStart, next_in_chain}
-use Rattle.recovery.specs.declared.errors.StartError.{StartError}
-use Rattle.recovery.specs.declared.errors.StartError.TheVariants as starts
+use Rattle.replay_soundness.specs.chain_replay.Chain.{ChainState, StandsFor}
+use Rattle.cli_append.specs.recovery.Node.{NodeState, IsNodeStarted, IsChainStored, IsNoStart}
+use Rattle.cli_append.specs.recovery.Node.{next_in_chain}
+use Rattle.cli_append.specs.recovery.declared.errors.StartError.{StartError}
+use Rattle.cli_append.specs.recovery.declared.errors.StartError.TheVariants as starts
 use Rattle.crash_promises.specs.Promises.{plain, Change, NoChange, Telling, MayLeave}
 use Rattle.crash_promises.proofs.Tellings.{none_told, still, told_since}
 use Rattle.cli_append.proofs.Frames.{rests_each}
-use Rattle.cli_lines.specs.Lines.{not_a_log_line, damaged_line}
-use Rattle.cli_lines.specs.Outcome.{status_of, outcome_with}
-use Rattle.cli_lines.specs.declared.outcome.Outcome.{Outcome}
-use Rattle.cli_lines.specs.declared.outcome.Ending.{Ending}
-use Rattle.cli_lines.specs.declared.outcome.Ending.TheVariants as endings
-use Rattle.cli_lines.specs.declared.status.Status.{Status}
+use Rattle.cli_append.specs.cli_lines.Lines.{not_a_log_line, damaged_line}
+use Rattle.cli_append.specs.cli_lines.Outcome.{status_of, outcome_with}
+use Rattle.cli_append.specs.cli_lines.declared.outcome.Outcome.{Outcome}
+use Rattle.cli_append.specs.cli_lines.declared.outcome.Ending.{Ending}
+use Rattle.cli_append.specs.cli_lines.declared.outcome.Ending.TheVariants as endings
+use Rattle.cli_append.specs.cli_lines.declared.status.Status.{Status}
 use Rattle.cli_output.specs.Output.{Output, output_of, on_log, IsOnLog}
 use Rattle.cli_output.specs.Running.{came_to_end, leaves, Meets, IsGiven}
 use Rattle.cli_output.specs.Telling.{status_of_stop, status_of_result, stop_of_outcome, Says}

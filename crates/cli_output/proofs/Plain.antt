@@ -1,13 +1,16 @@
 -- Lines that promise nothing, printed one after another.
-use Rattle.std.proofs.Common.{◌≡◌, ◌⊎◌, ℕ, ◌+◌, ◌<◌, ◌≤◌, Bool, true, false, List, [], ◌∷◌, ◌++◌, length, get_or, take, drop, map, Option, sym, ◌∙◌, subst}
-use Rattle.std.proofs.lemmas.List.{take_all, take_more, get_or_read, take-append-drop, map-append, map_push}
+use Rattle.std.proofs.Common.{◌≡◌, ◌⊎◌, ℕ, ◌+◌, ◌<◌, ◌≤◌, Bool, true, false, List, [], ◌∷◌, ◌++◌}
+use Rattle.std.proofs.Common.{length, get_or, take, drop, map, Option, sym, ◌∙◌, subst}
+use Rattle.std.proofs.lemmas.List.{take_all, take_more, get_or_read, take-append-drop, map-append}
+use Rattle.std.proofs.lemmas.List.{map_push}
 use Rattle.lc_io.specs.Disk.{DiskState, Stays}
 use Rattle.lc_io.specs.Outside.{Tell, with_tells}
 use Rattle.block_log.specs.Standing.{NextBlock}
 use Rattle.crash_promises.specs.Promises.{NoPromise, Line, plain, KeepsLines, Telling}
 use Rattle.crash_promises.proofs.Tellings.{join, longer, still, told_ok, told_err}
 
-plain_kept : (next : NextBlock) (pieces : List (List ℕ)) (image : List ℕ) → KeepsLines next (map plain pieces) image
+plain_kept : (next : NextBlock) (pieces : List (List ℕ)) (image : List ℕ) → KeepsLines next
+    (map plain pieces) image
 plain_kept next [] image = tt
 plain_kept next (piece ∷ pieces) image = (tt, plain_kept next pieces image)
 

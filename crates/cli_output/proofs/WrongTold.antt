@@ -1,11 +1,12 @@
 -- `expose` prints a clash for a proof that is accepted with a wrong answer.
-use Rattle.std.proofs.Common.{◌≡◌, ℕ, List, [], Option, Some, None, Result, Ok, Err, refl, ap, arith}
+use Rattle.std.proofs.Common.{◌≡◌, ℕ, List, [], Option, Some, None, Result, Ok, Err, refl, ap}
+use Rattle.std.proofs.Common.{arith}
 use Rattle.std.specs.Prelude.{IsSomeAnd}
 use Rattle.lc_base.specs.declared.answer.Answer.{Answer}
 use Rattle.lc_base.specs.declared.answer.Query.{Query}
-use Rattle.proof_checks.specs.Checks.{verdict}
-use Rattle.proof_checks.specs.ProofTexts.{proof_texts}
-use Rattle.proof_checks.specs.declared.reject.Reject.{Reject}
+use Rattle.replay_soundness.specs.proof_checks.Checks.{verdict}
+use Rattle.replay_soundness.specs.proof_checks.ProofTexts.{proof_texts}
+use Rattle.replay_soundness.specs.proof_checks.declared.reject.Reject.{Reject}
 use Rattle.text_clashes.specs.FirstClash.{IsFirstAt}
 use Rattle.proof_commands.specs.Verifying.{of_verdict, Judged}
 use Rattle.proof_commands.specs.declared.verification.Verification.TheVariants.{Accepted}
@@ -16,15 +17,19 @@ use Rattle.cli_output.specs.Output.{output_of, OutOfReach, LongExposed, NotAccep
 use Rattle.cli_output.specs.Proofs.{is_accepted, clash_outcome}
 use Rattle.cli_output.specs.Showing.{TellsClash, WrongAnswersAreTold}
 
-accepted_by : (v : Result Answer Reject) (answer : Answer) → Accepted answer ≡ of_verdict v → v ≡ Ok answer
+accepted_by : (v : Result Answer Reject) (answer : Answer) → Accepted answer ≡ of_verdict v
+    → v ≡ Ok answer
 accepted_by (Ok other) answer same = cc same
 accepted_by (Err reject) answer same = absurd (cc same)
 
-told_clash : (given own : List (List ℕ)) (clash : Option (ℕ × ℕ)) → IsSomeAnd clash (IsFirstAt given own) → TellsClash given own (output_of (clash_outcome given own clash) []).lines
+told_clash : (given own : List (List ℕ)) (clash : Option (ℕ × ℕ)) → IsSomeAnd clash
+    (IsFirstAt given own) → TellsClash given own
+    (output_of (clash_outcome given own clash) []).lines
 told_clash given own None none = absurd none
 told_clash given own (Some pair) first = (pair.0, pair.1, first.clash, refl)
 
-pub wrong_answers_are_told : (root : List ℕ) (query : Query) (root_at : ℕ) (input : List ℕ) → WrongAnswersAreTold root query root_at input
+pub wrong_answers_are_told : (root : List ℕ) (query : Query) (root_at : ℕ) (input : List ℕ)
+    → WrongAnswersAreTold root query root_at input
 wrong_answers_are_told root query root_at input compile blocks answer _ has early fits accepts wrong (OutOfReach past) = absurd (past (has.within, early))
 wrong_answers_are_told root query root_at input compile blocks answer _ has early fits accepts wrong (LongExposed within long) = absurd (omega (arith, long, fits))
 wrong_answers_are_told root query root_at input compile blocks answer _ has early fits accepts wrong (NotAccepted within _ told is fails) =

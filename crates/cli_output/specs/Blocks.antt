@@ -1,12 +1,14 @@
 -- What is printed for blocks that are made, and for drafts.
-use Rattle.std.specs.Prelude.{◌≡◌, ℕ, List, [], length, ◌++◌, map, codes, decimal, Some, Result, Ok, Err}
+use Rattle.std.specs.Prelude.{◌≡◌, ℕ, List, [], length, ◌++◌, map, codes, decimal, Some, Result, Ok}
+use Rattle.std.specs.Prelude.{Err}
 use Rattle.std.specs.Int.{w32, to_be_bytes}
 use Rattle.chain_pack.specs.Draft.{pack_fault}
 use Rattle.chain_pack.specs.declared.error.PackError.{PackError}
-use Rattle.chain_pack.specs.declared.error.PackError.TheVariants.{Json, Top, Shape, BlockLimit, Memory}
-use Rattle.cli_lines.specs.Outcome.{outcome_with, bad_input}
-use Rattle.cli_lines.specs.declared.outcome.Outcome.{Outcome}
-use Rattle.cli_lines.specs.declared.outcome.Ending.TheVariants as endings
+use Rattle.chain_pack.specs.declared.error.PackError.TheVariants.{Json, Top, Shape, BlockLimit}
+use Rattle.chain_pack.specs.declared.error.PackError.TheVariants.{Memory}
+use Rattle.cli_append.specs.cli_lines.Outcome.{outcome_with, bad_input}
+use Rattle.cli_append.specs.cli_lines.declared.outcome.Outcome.{Outcome}
+use Rattle.cli_append.specs.cli_lines.declared.outcome.Ending.TheVariants as endings
 
 -- The frame of a block: the number of its bytes, in four bytes, the most significant first, and
 -- then these.

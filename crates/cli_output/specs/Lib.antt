@@ -6,3 +6,8 @@ pub mod Running
 pub mod Scanning
 pub mod Telling
 pub mod Showing
+pub use Rattle.replay_soundness.specs.chain_replay as chain_replay
+pub use Rattle.cli_append.specs as cli_append
+pub use Rattle.cli_append.specs.cli_lines as cli_lines
+pub use Rattle.cli_append.specs.recovery as recovery
+pub use Rattle.replay_soundness.specs as replay_soundness

@@ -1,6 +1,8 @@
 -- What each command must print for an input and the content of the disk, how it ends, what it
 -- leaves of the input, and what it does to the log. There is one such output.
-use Rattle.std.specs.Prelude.{◌≡◌, ℕ, ◌+◌, ◌-◌, ◌<◌, ◌≤◌, ◌==◌, ◌&&◌, ◌||◌, nat_le, nat_lt, Bool, true, false, if◌then◌else◌, List, [], ◌∷◌, length, drop, map, Option, Some, None, Ok, Err, codes}
+use Rattle.std.specs.Prelude.{◌≡◌, ℕ, ◌+◌, ◌-◌, ◌<◌, ◌≤◌, ◌==◌, ◌&&◌, ◌||◌, nat_le, nat_lt, Bool}
+use Rattle.std.specs.Prelude.{true, false, if◌then◌else◌, List, [], ◌∷◌, length, drop, map, Option}
+use Rattle.std.specs.Prelude.{Some, None, Ok, Err, codes}
 use Rattle.std.specs.List.{concat}
 use Rattle.lc_base.specs.History.{scan}
 use Rattle.lc_base.specs.declared.answer.Kind.{Kind}
@@ -9,45 +11,51 @@ use Rattle.block_codec.specs.Placement.{digest_of}
 use Rattle.block_codec.specs.Spelling.{Decoder, IsDecoder}
 use Rattle.block_codec.specs.declared.block.Block.{Block}
 use Rattle.block_codec.specs.declared.limits.TheConstants.{MAX_FRAMES}
-use Rattle.block_log.specs.Standing.{Standing, Blank, NotALog, Damaged, Holds, NextBlock, next_block, blocks_in, standing}
+use Rattle.block_log.specs.Standing.{Standing, Blank, NotALog, Damaged, Holds, NextBlock}
+use Rattle.block_log.specs.Standing.{next_block, blocks_in, standing}
 use Rattle.block_log.specs.Log.{log_placement}
 use Rattle.contract_tree.specs.Tree.{FunctionTree}
-use Rattle.contract_parse.specs.Syntax.{Outcome as SourceOutcome, IsOutcome}
+use Rattle.contract_print.specs.contract_parse.Syntax.{Outcome as SourceOutcome, IsOutcome}
 use Rattle.contract_check.specs.Faults.{check_fault}
 use Rattle.contract_check.specs.declared.fault.Fault.{Fault}
 use Rattle.contract_print.specs.Canonical.{contract_text}
-use Rattle.chain_exec.specs.Compiled.{Compiler, IsCompiler}
-use Rattle.chain_exec.specs.Replay.{replay}
-use Rattle.chain_replay.specs.Chain.{placement_in}
-use Rattle.chain_replay.specs.Judging.{added_by_all}
-use Rattle.rooted_chain.specs.Roots.{root_in}
-use Rattle.chain_input.specs.Folding.{Fold, FoldEnd, Whole, Refused, fold_from, fold_input}
+use Rattle.cli_append.specs.chain_exec.Compiled.{Compiler, IsCompiler}
+use Rattle.cli_append.specs.chain_exec.Replay.{replay}
+use Rattle.replay_soundness.specs.chain_replay.Chain.{placement_in}
+use Rattle.replay_soundness.specs.chain_replay.Judging.{added_by_all}
+use Rattle.replay_soundness.specs.rooted_chain.Roots.{root_in}
+use Rattle.replay_soundness.specs.chain_input.Folding.{Fold, FoldEnd, Whole, Refused, fold_from}
+use Rattle.replay_soundness.specs.chain_input.Folding.{fold_input}
 use Rattle.crash_promises.specs.Promises.{Line, plain, Change, NoChange, Appends}
 use Rattle.cli_append.specs.Appending.{fold_lines}
 use Rattle.chain_pack.specs.Draft.{texts_of_draft}
 use Rattle.chain_gen.specs.Generator.{blocks_of_seed}
-use Rattle.chain_load.specs.Loads.{load_of}
+use Rattle.cli_append.specs.chain_load.Loads.{load_of}
 use Rattle.proof_codec.specs.declared.proof.Proof.{Proof}
-use Rattle.proof_checks.specs.Making.{made_proof}
-use Rattle.proof_checks.specs.ProofTexts.{proof_texts}
+use Rattle.replay_soundness.specs.proof_checks.Making.{made_proof}
+use Rattle.replay_soundness.specs.proof_checks.ProofTexts.{proof_texts}
 use Rattle.replay_soundness.specs.Soundness.{replayed_texts}
 use Rattle.text_clashes.specs.FirstClash.{IsFirstClash}
 use Rattle.proof_commands.specs.Verifying.{IsVerification}
 use Rattle.proof_commands.specs.declared.verification.Verification.{Verification}
 use Rattle.cli_words.specs.declared.words.Generation.{Generation}
 use Rattle.cli_words.specs.declared.words.Command.{Command}
-use Rattle.cli_words.specs.declared.words.Command.TheVariants.{Scan, Fmt, Pack, Gen, Load, Append, Root, Ask, Prove, Verify, Expose}
-use Rattle.cli_lines.specs.Lines.{usage_line, beyond_line, root_line, load_line, refused_line, answer_lines, syntax_cause, check_cause, not_a_log_line, damaged_line}
-use Rattle.cli_lines.specs.Outcome.{status_of, outcome_with, bad_input}
-use Rattle.cli_lines.specs.declared.whole.TheConstants.{MAX_WHOLE_INPUT_BYTES}
-use Rattle.cli_lines.specs.declared.outcome.Outcome.{Outcome}
-use Rattle.cli_lines.specs.declared.outcome.Ending.{Ending}
-use Rattle.cli_lines.specs.declared.outcome.Ending.TheVariants as endings
-use Rattle.cli_lines.specs.declared.status.Status.{Status}
-use Rattle.cli_lines.specs.declared.status.Status.TheVariants as statuses
+use Rattle.cli_words.specs.declared.words.Command.TheVariants.{Scan, Fmt, Pack, Gen, Load, Append}
+use Rattle.cli_words.specs.declared.words.Command.TheVariants.{Root, Ask, Prove, Verify, Expose}
+use Rattle.cli_append.specs.cli_lines.Lines.{usage_line, beyond_line, root_line, load_line}
+use Rattle.cli_append.specs.cli_lines.Lines.{refused_line, answer_lines, syntax_cause, check_cause}
+use Rattle.cli_append.specs.cli_lines.Lines.{not_a_log_line, damaged_line}
+use Rattle.cli_append.specs.cli_lines.Outcome.{status_of, outcome_with, bad_input}
+use Rattle.cli_append.specs.cli_lines.declared.whole.TheConstants.{MAX_WHOLE_INPUT_BYTES}
+use Rattle.cli_append.specs.cli_lines.declared.outcome.Outcome.{Outcome}
+use Rattle.cli_append.specs.cli_lines.declared.outcome.Ending.{Ending}
+use Rattle.cli_append.specs.cli_lines.declared.outcome.Ending.TheVariants as endings
+use Rattle.cli_append.specs.cli_lines.declared.status.Status.{Status}
+use Rattle.cli_append.specs.cli_lines.declared.status.Status.TheVariants as statuses
 use Rattle.cli_output.specs.Texts.{lines_of}
 use Rattle.cli_output.specs.Blocks.{frame, draft_outcome}
-use Rattle.cli_output.specs.Proofs.{proof_line, verification_outcome, is_accepted, IsAcceptedHex, clash_outcome}
+use Rattle.cli_output.specs.Proofs.{proof_line, verification_outcome, is_accepted, IsAcceptedHex}
+use Rattle.cli_output.specs.Proofs.{clash_outcome}
 
 -- ---- outputs
 

@@ -6,12 +6,13 @@ use Rattle.lc_io.specs.Outside.{Tell}
 use Rattle.disk_model.specs.Disk.{Keeps, Rests, content_of}
 use Rattle.block_codec.specs.Spelling.{Decoder}
 use Rattle.block_log.specs.Standing.{NextBlock}
-use Rattle.chain_exec.specs.Compiled.{Compiler}
+use Rattle.cli_append.specs.chain_exec.Compiled.{Compiler}
 use Rattle.crash_promises.specs.Promises.{Change, NoChange, Appends, Telling, MayLeave, IsChanged}
 use Rattle.cli_words.specs.declared.words.Command.{Command}
-use Rattle.cli_lines.specs.declared.status.Status.{Status}
-use Rattle.cli_lines.specs.declared.status.Status.TheVariants as statuses
-use Rattle.cli_output.specs.Output.{Output, Wants, next_by, reads_input, uses_disk, uses_scratch, takes_frames, asks_for_block, checks_proof, reads_whole}
+use Rattle.cli_append.specs.cli_lines.declared.status.Status.{Status}
+use Rattle.cli_append.specs.cli_lines.declared.status.Status.TheVariants as statuses
+use Rattle.cli_output.specs.Output.{Output, Wants, next_by, reads_input, uses_disk, uses_scratch}
+use Rattle.cli_output.specs.Output.{takes_frames, asks_for_block, checks_proof, reads_whole}
 
 -- Whether a run with this status came to its end: nothing outside failed, and memory did not run
 -- out.
@@ -90,7 +91,9 @@ HeldIsGiven held command = uses_scratch command ≡ true → held ≡ true
 -- Whatever the input and the content of the disk are: if those that the command uses are known, and
 -- so are the bytes of the scratch device if it uses that, the run did what an output says that the
 -- command must have. `held` is whether it is known which bytes the device holds.
-abbrev pub IsRun : {D : Type 0} → (D → ℕ) → (D → ℕ → Option DiskState) → (D → Option (List Tell)) → D → D → Status → Option (List ℕ) → Option (List ℕ) → Bool → Decoder → Compiler → Option Command → Type 0
+abbrev pub IsRun : {D : Type 0} → (D → ℕ) → (D → ℕ → Option DiskState) → (D → Option (List Tell))
+    → D → D → Status → Option (List ℕ) → Option (List ℕ) → Bool → Decoder → Compiler
+    → Option Command → Type 0
 IsRun now disk told old new status left_old left_new held read compile command =
     HeldIsGiven held command → (input content : List ℕ) → IsGiven (reads_input command) left_old input → IsGiven (uses_disk command) (content_of (disk old (now old))) content
     → (output : Output) × Wants read compile command input content output × Meets (next_by read compile) now disk told old new status left_old left_new content output

@@ -2,10 +2,10 @@
 use Rattle.std.specs.Prelude.{◌≡◌, ℕ, List, Option, Some}
 use Rattle.lc_base.specs.declared.answer.Query.{Query}
 use Rattle.block_codec.specs.declared.block.Block.{Block}
-use Rattle.chain_exec.specs.Compiled.{compiled_in}
-use Rattle.cli_lines.specs.declared.outcome.Outcome.{Outcome}
-use Rattle.cli_lines.specs.declared.outcome.Ending.{Ending}
-use Rattle.cli_lines.specs.declared.outcome.Ending.TheVariants as endings
+use Rattle.cli_append.specs.chain_exec.Compiled.{compiled_in}
+use Rattle.cli_append.specs.cli_lines.declared.outcome.Outcome.{Outcome}
+use Rattle.cli_append.specs.cli_lines.declared.outcome.Ending.{Ending}
+use Rattle.cli_append.specs.cli_lines.declared.outcome.Ending.TheVariants as endings
 use Rattle.cli_output.specs.Output.{Output, output_of, IsFmtOutput, IsVerifyOutput, IsExposeOutput}
 
 -- The output is that of this outcome and of what is left of the input.
@@ -25,7 +25,8 @@ abbrev pub IsVerifyOutcome : List ℕ → Query → Outcome → Option (List ℕ
 IsVerifyOutcome root query outcome left input = GivesAny (IsVerifyOutput root query input) outcome left
 
 -- The outcome and what is left of the input are those of `expose` against the blocks of the log.
-abbrev pub IsExposeOutcome : List ℕ → Query → ℕ → List Block → Outcome → Option (List ℕ) → List ℕ → Type 0
+abbrev pub IsExposeOutcome : List ℕ → Query → ℕ → List Block → Outcome → Option (List ℕ) → List ℕ
+    → Type 0
 IsExposeOutcome root query root_at blocks outcome left input = GivesAny (IsExposeOutput compiled_in root query root_at input blocks) outcome left
 
 -- How a question about a block of a chain ends: it is answered, or the chain has no such block.

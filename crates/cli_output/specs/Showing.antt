@@ -4,17 +4,18 @@ use Rattle.hex.specs.Hex.{decode_of}
 use Rattle.lc_base.specs.declared.answer.Answer.{Answer}
 use Rattle.lc_base.specs.declared.answer.Query.{Query}
 use Rattle.block_codec.specs.declared.block.Block.{Block}
-use Rattle.chain_exec.specs.Compiled.{Compiler}
+use Rattle.cli_append.specs.chain_exec.Compiled.{Compiler}
 use Rattle.proof_codec.specs.declared.proof.Proof.{Proof}
-use Rattle.proof_views.specs.Viewing.{Spells}
-use Rattle.proof_checks.specs.ProofTexts.{proof_texts}
+use Rattle.proof_commands.specs.proof_views.Viewing.{Spells}
+use Rattle.replay_soundness.specs.proof_checks.ProofTexts.{proof_texts}
 use Rattle.text_clashes.specs.FirstClash.{text_at, ClashAt}
 use Rattle.proof_commands.specs.Verifying.{hex_text, IsVerification}
 use Rattle.proof_commands.specs.declared.verification.Verification.TheVariants.{Accepted}
-use Rattle.replay_soundness.specs.Soundness.{HasRoot, replayed_answer, replayed_texts, ClashesWithReplay}
+use Rattle.replay_soundness.specs.Soundness.{HasRoot, replayed_answer, replayed_texts}
+use Rattle.replay_soundness.specs.Soundness.{ClashesWithReplay}
 use Rattle.crash_promises.specs.Promises.{Line, plain}
-use Rattle.cli_lines.specs.Lines.{answer_lines}
-use Rattle.cli_lines.specs.declared.status.Status.TheVariants as statuses
+use Rattle.cli_append.specs.cli_lines.Lines.{answer_lines}
+use Rattle.cli_append.specs.cli_lines.declared.status.Status.TheVariants as statuses
 use Rattle.cli_output.specs.Output.{Output, FitsInput, IsVerifyOutput, IsExposeOutput}
 use Rattle.cli_output.specs.Proofs.{clash_line}
 

@@ -1,24 +1,25 @@
 -- What was printed for a command, and what its function returned.
-use Rattle.std.specs.Prelude.{◌≡◌, ℕ, List, [], ◌∷◌, map, Option, Result, Ok, Err, IfOk, IsErrOf, is_ok}
+use Rattle.std.specs.Prelude.{◌≡◌, ℕ, List, [], ◌∷◌, map, Option, Result, Ok, Err, IfOk, IsErrOf}
+use Rattle.std.specs.Prelude.{is_ok}
 use Rattle.lc_base.specs.Faults.{HasCause}
 use Rattle.lc_io.specs.Disk.{DiskState, Stays}
 use Rattle.lc_io.specs.Outside.{Tell}
 use Rattle.block_log.specs.Standing.{NextBlock}
 use Rattle.lc_base.specs.declared.host_error.HostError.{HostError}
 use Rattle.lc_base.specs.declared.host_error.HostError.TheVariants as reads
-use Rattle.recovery.specs.declared.errors.StartError.{StartError}
-use Rattle.recovery.specs.declared.errors.StartError.TheVariants as starts
+use Rattle.cli_append.specs.recovery.declared.errors.StartError.{StartError}
+use Rattle.cli_append.specs.recovery.declared.errors.StartError.TheVariants as starts
 use Rattle.crash_promises.specs.Promises.{plain, Telling}
 use Rattle.cli_append.specs.Appending.{fold_end}
 use Rattle.cli_append.specs.declared.ending.AppendEnd.{AppendEnd}
 use Rattle.cli_append.specs.declared.ending.RunStop.{RunStop}
-use Rattle.cli_lines.specs.Lines.{not_a_log_line, damaged_line}
-use Rattle.cli_lines.specs.Outcome.{status_of, outcome_with}
-use Rattle.cli_lines.specs.declared.outcome.Outcome.{Outcome}
-use Rattle.cli_lines.specs.declared.outcome.Ending.{Ending}
-use Rattle.cli_lines.specs.declared.outcome.Ending.TheVariants as endings
-use Rattle.cli_lines.specs.declared.status.Status.{Status}
-use Rattle.cli_lines.specs.declared.status.Status.TheVariants as statuses
+use Rattle.cli_append.specs.cli_lines.Lines.{not_a_log_line, damaged_line}
+use Rattle.cli_append.specs.cli_lines.Outcome.{status_of, outcome_with}
+use Rattle.cli_append.specs.cli_lines.declared.outcome.Outcome.{Outcome}
+use Rattle.cli_append.specs.cli_lines.declared.outcome.Ending.{Ending}
+use Rattle.cli_append.specs.cli_lines.declared.outcome.Ending.TheVariants as endings
+use Rattle.cli_append.specs.cli_lines.declared.status.Status.{Status}
+use Rattle.cli_append.specs.cli_lines.declared.status.Status.TheVariants as statuses
 use Rattle.cli_output.specs.Output.{fold_ending}
 use Rattle.cli_output.specs.declared.stop.OutcomeStop.{OutcomeStop}
 use Rattle.cli_output.specs.declared.stop.OutcomeStop.TheVariants as outcomes
@@ -88,18 +89,21 @@ pub record StopsSilent {D : Type 0} (told : D → Option (List Tell)) (old new :
   pub silent : told new ≡ told old
 
 -- What became of a command that has an outcome, or that stopped before it printed anything.
-abbrev pub TellsResult : {D : Type 0} → NextBlock → (D → ℕ) → (D → ℕ → Option DiskState) → (D → Option (List Tell)) → D → D → Result Outcome HostError → Result Ending RunStop → Type 0
+abbrev pub TellsResult : {D : Type 0} → NextBlock → (D → ℕ) → (D → ℕ → Option DiskState)
+    → (D → Option (List Tell)) → D → D → Result Outcome HostError → Result Ending RunStop → Type 0
 TellsResult next now disk told old new (Ok outcome) result = Says next now disk told old new outcome result
 TellsResult next now disk told old new (Err reads.Fault) result = StopsSilent told old new stops.Unreadable result
 TellsResult next now disk told old new (Err reads.Memory) result = StopsSilent told old new stops.Memory result
 
 -- The same for a command that the scratch device may have stopped too.
-abbrev pub TellsAnswer : {D : Type 0} → NextBlock → (D → ℕ) → (D → ℕ → Option DiskState) → (D → Option (List Tell)) → D → D → Result Outcome OutcomeStop → Result Ending RunStop → Type 0
+abbrev pub TellsAnswer : {D : Type 0} → NextBlock → (D → ℕ) → (D → ℕ → Option DiskState)
+    → (D → Option (List Tell)) → D → D → Result Outcome OutcomeStop → Result Ending RunStop → Type 0
 TellsAnswer next now disk told old new (Ok outcome) result = Says next now disk told old new outcome result
 TellsAnswer next now disk told old new (Err stop) result = StopsSilent told old new (stop_of_outcome stop) result
 
 -- What is printed if no node could be started.
-abbrev pub TellsStart : {D : Type 0} → NextBlock → (D → ℕ) → (D → ℕ → Option DiskState) → (D → Option (List Tell)) → D → D → StartError → Result Ending RunStop → Type 0
+abbrev pub TellsStart : {D : Type 0} → NextBlock → (D → ℕ) → (D → ℕ → Option DiskState)
+    → (D → Option (List Tell)) → D → D → StartError → Result Ending RunStop → Type 0
 TellsStart next now disk told old new starts.NotALog result = Says next now disk told old new (outcome_with (not_a_log_line ∷ []) endings.NotALog) result
 TellsStart next now disk told old new (starts.Damaged at) result = Says next now disk told old new (outcome_with (damaged_line at ∷ []) endings.Damaged) result
 TellsStart next now disk told old new starts.DiskFault result = StopsSilent told old new stops.DiskFault result

@@ -4,8 +4,8 @@ ghost use Rattle.std.specs.Prelude.{◌≡◌, true, [], ◌∷◌, Option, IfOk
 ghost use Rattle.lc_base.specs.Faults.{HasCause};
 ghost use Rattle.disk_model.specs.Leaving.{LeavesDisk};
 ghost use Rattle.block_log.specs.Standing.{NextBlock};
-ghost use Rattle.recovery.specs.declared.errors.StartError.TheVariants as starts;
-ghost use Rattle.cli_lines.specs.{Lines.{not_a_log_line, damaged_line}, Outcome.{outcome_with}};
+ghost use Rattle.cli_append.specs.recovery.declared.errors.StartError.TheVariants as starts;
+ghost use Rattle.cli_append.specs.cli_lines.{Lines.{not_a_log_line, damaged_line}, Outcome.{outcome_with}};
 ghost use Rattle.cli_words.specs.declared.words.Command.{Command};
 ghost use Rattle.cli_output.specs.{
   Output.{uses_disk, uses_scratch},
@@ -14,11 +14,9 @@ ghost use Rattle.cli_output.specs.{
 };
 
 use crate::telling::tell_made;
-use cli_append::RunStop;
-use cli_lines::{Ending, Outcome, damaged_line, not_a_log_line};
+use cli_append::{Ending, Outcome, RunStop, StartError, damaged_line, not_a_log_line};
 use lc_base::Memory;
 use lc_io::Wire;
-use recovery::StartError;
 use std::alloc::Global;
 
 /// The outcome for a disk that holds something other than a log.

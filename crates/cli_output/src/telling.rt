@@ -6,7 +6,7 @@ ghost use Rattle.disk_model.specs.Leaving.{LeavesDisk};
 ghost use Rattle.block_log.specs.Standing.{NextBlock};
 ghost use Rattle.lc_base.specs.declared.host_error.HostError.TheVariants as stops;
 ghost use Rattle.crash_promises.specs.Promises.{plain, Telling};
-ghost use Rattle.cli_lines.specs.{
+ghost use Rattle.cli_append.specs.cli_lines.{
   Lines.{usage_line},
   Outcome.{status_of},
   declared.outcome.Outcome.{Outcome as Outcomes},
@@ -20,8 +20,7 @@ ghost use Rattle.cli_output.specs.{
 ghost use Rattle.cli_output.specs.declared.stop.OutcomeStop.TheVariants as outcomes;
 
 use crate::stop::OutcomeStop;
-use cli_append::RunStop;
-use cli_lines::{Ending, Outcome, usage_line};
+use cli_append::{Ending, Outcome, RunStop, usage_line};
 use lc_base::{Bytes, HostError, Memory};
 use lc_io::{Failed, Wire};
 use std::alloc::Global;

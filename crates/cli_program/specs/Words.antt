@@ -2,8 +2,8 @@
 use Rattle.std.specs.Prelude.{Option, Some, None}
 use Rattle.std.specs.declared.io.ErrorKind.{ErrorKind}
 use Rattle.std.specs.declared.io.ErrorKind.TheVariants.{OutOfMemory}
-use Rattle.cli_lines.specs.declared.status.Status.{Status}
-use Rattle.cli_lines.specs.declared.status.Status.TheVariants as statuses
+use Rattle.chain_cli.specs.cli_lines.declared.status.Status.{Status}
+use Rattle.chain_cli.specs.cli_lines.declared.status.Status.TheVariants as statuses
 
 -- The status of a program that could not read its words, by the kind of the error: memory ran out,
 -- or else a word is no text, which is part of no command.

@@ -1,9 +1,9 @@
 //! The program's exit: the number of its status.
 
 ghost use Rattle.std.specs.{Prelude.{◌≡◌}, Process.{exit_status}};
-ghost use Rattle.cli_lines.specs.Status.{status_number};
+ghost use Rattle.chain_cli.specs.cli_lines.Status.{status_number};
 
-use cli_lines::Status;
+use chain_cli::Status;
 use std::process::ExitCode;
 
 /// The exit code with the number of the status.

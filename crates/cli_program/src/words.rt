@@ -7,7 +7,7 @@ ghost use Rattle.std.specs.{
 };
 ghost use Rattle.cli_program.specs.Words.{status_without_words};
 
-use cli_lines::Status;
+use chain_cli::Status;
 use lc_base::Memory;
 use std::alloc::Global;
 use std::env::Args;

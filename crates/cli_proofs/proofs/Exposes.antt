@@ -19,10 +19,10 @@ use Rattle.block_codec.specs.declared.block.Block.{Block}
 use Rattle.block_log.specs.Standing.{standing}
 use Rattle.chain_exec.specs.Compiled.{compiled_in}
 use Rattle.chain_exec.specs.Effect.{History}
-use Rattle.chain_replay.specs.Chain.{ChainState, StandsFor}
-use Rattle.merkle_dag.specs.Ledger.{Ledger, IsHead}
-use Rattle.recovery.specs.Node.{IsChainStored, IsNoStart, next_in_chain}
-use Rattle.recovery.specs.declared.errors.StartError.{StartError}
+use Rattle.cli_output.specs.chain_replay.Chain.{ChainState, StandsFor}
+use Rattle.answer_proof.specs.merkle_dag.Ledger.{Ledger, IsHead}
+use Rattle.cli_output.specs.recovery.Node.{IsChainStored, IsNoStart, next_in_chain}
+use Rattle.cli_output.specs.recovery.declared.errors.StartError.{StartError}
 use Rattle.proof_codec.specs.declared.proof.Proof.{Proof}
 use Rattle.proof_views.specs.Viewing.{Spells}
 use Rattle.proof_checks.specs.Checks.{verdict}
@@ -32,7 +32,7 @@ use Rattle.proof_checks.specs.declared.reject.Reject.{Reject}
 use Rattle.text_clashes.specs.FirstClash.{text_at}
 use Rattle.answer_exposing.specs.Exposing.{IsFound}
 use Rattle.answer_exposing.specs.declared.exposing.Clash.{Clash}
-use Rattle.proof_verifier.specs.Answering.{verdict_on}
+use Rattle.proof_commands.specs.proof_verifier.Answering.{verdict_on}
 use Rattle.proof_commands.specs.Lines.{rejected_line}
 use Rattle.proof_commands.specs.Verifying.{hex_text, of_verdict, of_decoded, bytes_or_fault}
 use Rattle.proof_commands.specs.Verifying.{verification, IsVerification}
@@ -41,15 +41,15 @@ use Rattle.proof_commands.specs.declared.verification.Verification.{Verification
 use Rattle.proof_commands.specs.declared.verification.Verification.TheVariants.{Accepted, Rejected}
 use Rattle.proof_commands.specs.declared.verification.Verification.TheVariants.{BadHex}
 use Rattle.proof_commands.proofs.Verified.{is_verification}
-use Rattle.rooted_chain.proofs.Rooted.{as_many}
+use Rattle.cli_output.proofs.rooted_chain.Rooted.{as_many}
 use Rattle.cli_words.specs.declared.words.Command.TheVariants.{Expose}
-use Rattle.cli_lines.specs.Whole.{IsWholeInput}
-use Rattle.cli_lines.specs.Outcome.{status_of, outcome_with, bad_input}
-use Rattle.cli_lines.specs.declared.whole.TheConstants.{MAX_WHOLE_INPUT_BYTES}
-use Rattle.cli_lines.specs.declared.outcome.Outcome.{Outcome}
-use Rattle.cli_lines.specs.declared.outcome.Ending.{Ending}
-use Rattle.cli_lines.specs.declared.outcome.Ending.TheVariants as endings
-use Rattle.replay_soundness.specs.Soundness.{replayed_texts}
+use Rattle.cli_output.specs.cli_lines.Whole.{IsWholeInput}
+use Rattle.cli_output.specs.cli_lines.Outcome.{status_of, outcome_with, bad_input}
+use Rattle.cli_output.specs.cli_lines.declared.whole.TheConstants.{MAX_WHOLE_INPUT_BYTES}
+use Rattle.cli_output.specs.cli_lines.declared.outcome.Outcome.{Outcome}
+use Rattle.cli_output.specs.cli_lines.declared.outcome.Ending.{Ending}
+use Rattle.cli_output.specs.cli_lines.declared.outcome.Ending.TheVariants as endings
+use Rattle.cli_output.specs.replay_soundness.Soundness.{replayed_texts}
 use Rattle.cli_output.specs.Output.{Output, output_of, beyond_outcome, beyond_head, on_log, Reach}
 use Rattle.cli_output.specs.Output.{IsExposeOutput, OutOfReach, LongExposed, NotAccepted, Exposed}
 use Rattle.cli_output.specs.Proofs.{hex_cause, verification_outcome, IsAcceptedHex, clash_line}
@@ -59,8 +59,8 @@ use Rattle.cli_output.specs.Telling.{status_of_result, status_of_stop, stop_of_o
 use Rattle.cli_output.specs.Telling.{TellsStart}
 use Rattle.cli_output.specs.declared.stop.OutcomeStop.{OutcomeStop}
 use Rattle.cli_output.specs.declared.stop.OutcomeStop.TheVariants as outcomes
-use Rattle.cli_append.specs.declared.ending.RunStop.{RunStop}
-use Rattle.cli_append.specs.declared.ending.RunStop.TheVariants as stops
+use Rattle.cli_output.specs.cli_append.declared.ending.RunStop.{RunStop}
+use Rattle.cli_output.specs.cli_append.declared.ending.RunStop.TheVariants as stops
 use Rattle.cli_output.proofs.Exposed.{some_expose, expose_no_change}
 use Rattle.cli_output.proofs.Meets.{told_input, rests_given, left_read, same_may_leave}
 use Rattle.cli_output.proofs.Meets.{answer_since, start_met, is_on_log_blocks, some_on_log}

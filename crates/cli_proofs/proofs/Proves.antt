@@ -11,18 +11,18 @@ use Rattle.block_codec.specs.Placement.{digest_of}
 use Rattle.block_codec.specs.declared.block.Block.{Block}
 use Rattle.chain_exec.specs.Compiled.{compiled_in}
 use Rattle.chain_exec.specs.Effect.{History}
-use Rattle.chain_replay.specs.Chain.{ChainState, StandsFor}
-use Rattle.merkle_dag.specs.Ledger.{Ledger}
+use Rattle.cli_output.specs.chain_replay.Chain.{ChainState, StandsFor}
+use Rattle.answer_proof.specs.merkle_dag.Ledger.{Ledger}
 use Rattle.proof_codec.specs.declared.proof.Proof.{Proof}
 use Rattle.proof_codec.specs.Spelling.{proof_fields}
 use Rattle.proof_checks.specs.Making.{made_proof}
 use Rattle.answer_proof.specs.Proving.{IsWithin, IsProved}
-use Rattle.rooted_chain.proofs.Rooted.{as_many}
+use Rattle.cli_output.proofs.rooted_chain.Rooted.{as_many}
 use Rattle.cli_proofs.specs.Exposing.{ledger_kept}
-use Rattle.cli_lines.specs.Lines.{line}
-use Rattle.cli_lines.specs.Outcome.{outcome_with}
-use Rattle.cli_lines.specs.declared.outcome.Outcome.{Outcome}
-use Rattle.cli_lines.specs.declared.outcome.Ending.TheVariants as endings
+use Rattle.cli_output.specs.cli_lines.Lines.{line}
+use Rattle.cli_output.specs.cli_lines.Outcome.{outcome_with}
+use Rattle.cli_output.specs.cli_lines.declared.outcome.Outcome.{Outcome}
+use Rattle.cli_output.specs.cli_lines.declared.outcome.Ending.TheVariants as endings
 use Rattle.cli_words.specs.declared.words.Command.TheVariants.{Prove}
 use Rattle.cli_output.specs.Output.{beyond_head, prove_outcome, made_in}
 use Rattle.cli_output.specs.Running.{MayEnd}

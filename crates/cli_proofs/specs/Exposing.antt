@@ -1,8 +1,9 @@
 -- What `expose` prints for an input, against the ledger of a chain.
-use Rattle.std.specs.Prelude.{◌≡◌, ℕ, ◌&&◌, nat_lt, nat_le, Bool, false, List, [], ◌∷◌, length, Option, Some, None}
+use Rattle.std.specs.Prelude.{◌≡◌, ℕ, ◌&&◌, nat_lt, nat_le, Bool, false, List, [], ◌∷◌, length}
+use Rattle.std.specs.Prelude.{Option, Some, None}
 use Rattle.lc_base.specs.declared.answer.Query.{Query}
-use Rattle.chain_replay.specs.Chain.{ChainState}
-use Rattle.merkle_dag.specs.Ledger.{Ledger}
+use Rattle.cli_output.specs.chain_replay.Chain.{ChainState}
+use Rattle.answer_proof.specs.merkle_dag.Ledger.{Ledger}
 use Rattle.proof_codec.specs.declared.proof.Proof.{Proof}
 use Rattle.proof_checks.specs.ProofTexts.{proof_texts}
 use Rattle.proof_checks.specs.LedgerTexts.{ledger_texts}
@@ -10,10 +11,11 @@ use Rattle.proof_commands.specs.Verifying.{IsVerification}
 use Rattle.proof_commands.specs.declared.verification.Verification.{Verification}
 use Rattle.answer_exposing.specs.Exposing.{IsFound}
 use Rattle.answer_exposing.specs.declared.exposing.Clash.{Clash}
-use Rattle.cli_lines.specs.Outcome.{outcome_with}
-use Rattle.cli_lines.specs.declared.outcome.Outcome.{Outcome}
-use Rattle.cli_lines.specs.declared.outcome.Ending.TheVariants as endings
-use Rattle.cli_output.specs.Proofs.{verification_outcome, is_accepted, IsAcceptedHex, no_clash_line, clash_line}
+use Rattle.cli_output.specs.cli_lines.Outcome.{outcome_with}
+use Rattle.cli_output.specs.cli_lines.declared.outcome.Outcome.{Outcome}
+use Rattle.cli_output.specs.cli_lines.declared.outcome.Ending.TheVariants as endings
+use Rattle.cli_output.specs.Proofs.{verification_outcome, is_accepted, IsAcceptedHex, no_clash_line}
+use Rattle.cli_output.specs.Proofs.{clash_line}
 
 -- The ledger of what is kept of a chain: its rows, and the digests of its blocks.
 abbrev pub ledger_kept : ChainState → Ledger

@@ -8,16 +8,16 @@ ghost use Rattle.hex.specs.Hex.{encode_lower};
 ghost use Rattle.merkle_tree.specs.Tree.{audit_length};
 ghost use Rattle.block_codec.specs.{Reading.{block_in}, declared.block.Block.{Block as Blocks}};
 ghost use Rattle.chain_exec.specs.Compiled.{compiled_in};
-ghost use Rattle.chain_replay.specs.Chain.{ChainState, StandsFor};
+ghost use Rattle.cli_output.specs.chain_replay.Chain.{ChainState, StandsFor};
 ghost use Rattle.scratch_model.specs.Scratch.{is_known};
-ghost use Rattle.merkle_dag.specs.Lineage.{AgreesWith, ledger_in};
-ghost use Rattle.recovery.specs.Node.{lineage_in};
+ghost use Rattle.answer_proof.specs.merkle_dag.Lineage.{AgreesWith, ledger_in};
+ghost use Rattle.cli_output.specs.recovery.Node.{lineage_in};
 ghost use Rattle.proof_checks.specs.ProofTexts.{proof_texts};
 ghost use Rattle.answer_exposing.specs.{
   Exposing.{IsFound},
   declared.exposing.Clash.{Clash as Clashes},
 };
-ghost use Rattle.cli_lines.specs.declared.whole.TheConstants.{MAX_WHOLE_INPUT_BYTES};
+ghost use Rattle.cli_output.specs.cli_lines.declared.whole.TheConstants.{MAX_WHOLE_INPUT_BYTES};
 ghost use Rattle.cli_words.specs.declared.words.Command.TheVariants.{Expose};
 ghost use Rattle.cli_output.specs.{
   Proofs.{clash_line},
@@ -30,16 +30,17 @@ ghost use Rattle.cli_proofs.specs.Exposing.{IsHeld, found_outcome, ledger_kept, 
 use crate::lines::line_of;
 use crate::verifying::{bad_hex, rejected_outcome};
 use answer_exposing::{Clash, ExposeError, expose as expose_proof};
-use cli_lines::{Ending, Outcome, hex_after, read_whole};
-use cli_output::{OutcomeStop, RunStop, beyond, tell_answer, tell_start};
+use answer_proof::Lineage;
+use cli_output::{
+    Ending, Node, Outcome, OutcomeStop, RunStop, beyond, hex_after, read_whole, tell_answer,
+    tell_start,
+};
 use disk_model::Disk;
 use lc_base::{Bytes, Digest, Memory, Query};
 use lc_io::{Source, Wire};
-use merkle_dag::Lineage;
-use proof_commands::decode_hex;
-use proof_verifier::accept;
+use proof_commands::{accept, decode_hex};
 use proof_views::ProofView;
-use recovery::Node;
+use resources::Resources;
 use scratch_model::Scratch;
 use std::alloc::{AllocError, Global};
 
@@ -193,7 +194,7 @@ fn last_held<I: Source, S: Scratch>(
 /// Prints the first clash of the proof that the input is, in hex, under this root, with the blocks
 /// of the log up to `root_at`; or why the proof is not accepted.
 pub fn expose<I: Source, M: Disk + Wire, S: Scratch>(
-    alloc: Global,
+    resources: Resources,
     root: &Digest,
     query: &Query,
     root_at: u32,
@@ -210,7 +211,8 @@ pub fn expose<I: Source, M: Disk + Wire, S: Scratch>(
     ensures unreadable { HasCause (I.source_faults source.old) (I.source_faults source.new) (IsErrOf result RunStop.Unreadable) }
     ensures scratch_fault { HasCause (S.scratch_faults scratch.old) (S.scratch_faults scratch.new) (IsErrOf result RunStop.ScratchFault) }
 {
-    match Node::start(alloc, machine, scratch) {
+    let alloc = resources.alloc;
+    match Node::start(resources, machine, scratch) {
         Ok(node) => {
             let outcome = last_held(alloc, root, query, root_at, node, source, scratch);
             tell_answer(machine, outcome)

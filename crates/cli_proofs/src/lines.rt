@@ -1,7 +1,7 @@
 //! Lines of texts: a text, and the byte 0x0A.
 
 ghost use Rattle.std.specs.Prelude.{◌≡◌, string_bytes, IfOk};
-ghost use Rattle.cli_lines.specs.Lines.{line};
+ghost use Rattle.cli_output.specs.cli_lines.Lines.{line};
 
 use lc_base::{Bytes, Memory};
 

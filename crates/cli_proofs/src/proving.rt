@@ -6,11 +6,11 @@ ghost use Rattle.disk_model.specs.Disk.{IsSettled};
 ghost use Rattle.hex.specs.Hex.{encode_lower};
 ghost use Rattle.block_codec.specs.{Reading.{block_in}, declared.block.Block.{Block as Blocks}};
 ghost use Rattle.chain_exec.specs.Compiled.{compiled_in};
-ghost use Rattle.chain_replay.specs.Chain.{ChainState, StandsFor};
+ghost use Rattle.cli_output.specs.chain_replay.Chain.{ChainState, StandsFor};
 ghost use Rattle.scratch_model.specs.Scratch.{is_known};
-ghost use Rattle.merkle_dag.specs.Lineage.{AgreesWith, ledger_in};
-ghost use Rattle.recovery.specs.Node.{lineage_in};
-ghost use Rattle.cli_lines.specs.Lines.{line};
+ghost use Rattle.answer_proof.specs.merkle_dag.Lineage.{AgreesWith, ledger_in};
+ghost use Rattle.cli_output.specs.recovery.Node.{lineage_in};
+ghost use Rattle.cli_output.specs.cli_lines.Lines.{line};
 ghost use Rattle.cli_words.specs.declared.words.Command.TheVariants.{Prove};
 ghost use Rattle.cli_output.specs.{
   Output.{prove_outcome},
@@ -21,14 +21,12 @@ ghost use Rattle.cli_output.specs.{
 ghost use Rattle.cli_proofs.specs.Exposing.{ledger_kept};
 
 use crate::lines::line_of;
-use answer_proof::{ProveError, prove as prove_answer};
-use cli_lines::{Ending, Outcome};
-use cli_output::{OutcomeStop, RunStop, beyond, tell_answer, tell_start};
+use answer_proof::{Lineage, ProveError, prove as prove_answer};
+use cli_output::{Ending, Node, Outcome, OutcomeStop, RunStop, beyond, tell_answer, tell_start};
 use disk_model::Disk;
 use lc_base::{Bytes, Memory, Query};
 use lc_io::Wire;
-use merkle_dag::Lineage;
-use recovery::Node;
+use resources::Resources;
 use scratch_model::Scratch;
 use std::alloc::Global;
 
@@ -90,7 +88,7 @@ fn last_proof<S: Scratch>(
 /// Prints a proof of the answer to a question over the blocks of the log, for one who has the root
 /// at a block.
 pub fn prove<M: Disk + Wire, S: Scratch>(
-    alloc: Global,
+    resources: Resources,
     query: &Query,
     root_at: u32,
     machine: &mut M,
@@ -104,7 +102,8 @@ pub fn prove<M: Disk + Wire, S: Scratch>(
     ensures machine { TellsOfLog M.now M.disk M.disk_faults M.wire_faults machine.old machine.new result }
     ensures scratch_fault { HasCause (S.scratch_faults scratch.old) (S.scratch_faults scratch.new) (IsErrOf result RunStop.ScratchFault) }
 {
-    match Node::start(alloc, machine, scratch) {
+    let alloc = resources.alloc;
+    match Node::start(resources, machine, scratch) {
         Ok(node) => tell_answer(machine, last_proof(alloc, query, root_at, node, scratch)),
         Err(error) => tell_start(alloc, machine, error),
     }

@@ -2,7 +2,7 @@
 
 ghost use Rattle.std.specs.Prelude.{◌≡◌, [], ◌∷◌, Some, IfOk, IfSome, IsErrOf};
 ghost use Rattle.lc_base.specs.Faults.{HasCause};
-ghost use Rattle.cli_lines.specs.Outcome.{status_of, outcome_with, bad_input};
+ghost use Rattle.cli_output.specs.cli_lines.Outcome.{status_of, outcome_with, bad_input};
 ghost use Rattle.proof_commands.specs.Lines.{rejected_line};
 ghost use Rattle.cli_words.specs.declared.words.Command.TheVariants.{Verify};
 ghost use Rattle.cli_output.specs.{
@@ -11,7 +11,7 @@ ghost use Rattle.cli_output.specs.{
   Scanning.{IsVerifyOutcome},
 };
 
-use cli_lines::{Ending, Outcome, answer_lines, read_whole};
+use cli_output::{Ending, Outcome, answer_lines, read_whole};
 use lc_base::{Digest, HostError, Memory, Query};
 use lc_io::Source;
 use proof_checks::Reject;

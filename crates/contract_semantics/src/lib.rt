@@ -7,6 +7,7 @@ mod stop;
 mod variable;
 
 pub use charge::{CHARGE_HISTORY, CHARGE_NODE, CHARGE_PUT, CHARGE_READ, charge_of};
+pub use contract_tree::Sign;
 pub use site::{CallSite, Outcome};
 pub use stop::EvalStop;
 pub use variable::Variable;

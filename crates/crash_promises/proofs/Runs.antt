@@ -7,7 +7,7 @@ use Rattle.std.proofs.lemmas.List.{append-nil}
 use Rattle.lc_io.specs.Disk.{DiskState}
 use Rattle.lc_io.specs.Outside.{Tell, IsPrefix, bytes_told}
 use Rattle.disk_model.specs.Disk.{IsImage}
-use Rattle.block_codec.specs.declared.block.Block.{Block}
+use Rattle.block_log.specs.block_codec.declared.block.Block.{Block}
 use Rattle.block_log.specs.Standing.{NextBlock, chain_of}
 use Rattle.crash_promises.specs.Promises.{Promise, NoPromise, Holds, Line, Change, NoChange, Appends, AreBegun, NoMore, Part, Full, IsPromiseKept, AreKept, MayLeave}
 use Rattle.crash_promises.specs.Laws.{Left, AllAreKept, GoesOn, AreRuns, last_image, all_acknowledged, acknowledged_by, StopLeaves}

@@ -5,7 +5,7 @@ use Rattle.std.proofs.lemmas.Bool.{cases_lt}
 use Rattle.std.proofs.Common.{inl, inr}
 use Rattle.std.proofs.lemmas.List.{length-append, get_or_append_left, take_at, take_all, take-append-le}
 use Rattle.std.proofs.lemmas.Option.{slice_get_within, slice_get-get_or, get_or_from_slice_get}
-use Rattle.block_codec.specs.declared.block.Block.{Block}
+use Rattle.block_log.specs.block_codec.declared.block.Block.{Block}
 use Rattle.block_log.specs.Standing.{NextBlock, chain_of}
 use Rattle.crash_promises.specs.Promises.{Promise, NoPromise, Holds, Line, IsPromiseKept, KeepsLines, IsPartly}
 

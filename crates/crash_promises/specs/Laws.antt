@@ -4,7 +4,7 @@ use Rattle.std.specs.List.{concat}
 use Rattle.lc_io.specs.Disk.{DiskState}
 use Rattle.lc_io.specs.Outside.{Tell, IsPrefix, bytes_told}
 use Rattle.disk_model.specs.Disk.{IsImage, Keeps}
-use Rattle.block_codec.specs.declared.block.Block.{Block}
+use Rattle.block_log.specs.block_codec.declared.block.Block.{Block}
 use Rattle.block_log.specs.Standing.{NextBlock, chain_of}
 use Rattle.crash_promises.specs.Promises.{Promise, Line, Change, IsPromiseKept, AreBegun, Telling, MayLeave}
 

@@ -3,7 +3,7 @@ use Rattle.std.specs.Prelude.{◌≡◌, ℕ, Bool, true, List, [], ◌∷◌, �
 use Rattle.lc_io.specs.Disk.{DiskState}
 use Rattle.lc_io.specs.Outside.{Tell, with_tells, IsPrefix}
 use Rattle.disk_model.specs.Disk.{IsImage, LeftSince}
-use Rattle.block_codec.specs.declared.block.Block.{Block}
+use Rattle.block_log.specs.block_codec.declared.block.Block.{Block}
 use Rattle.block_log.specs.Standing.{NextBlock, chain_of}
 
 -- ---- lines, and what they promise

@@ -27,7 +27,8 @@ all_in_option : (P : Dep → Type 0) (o : Option Dep) (deps : List Dep) → IfSo
 all_in_option P None deps is all = all
 all_in_option P (Some dep) deps is all = All-cons P dep deps is all
 
-all_mapped : {X : Type 0} (P : Dep → Type 0) (h : X → Option Dep) (xs : List X) → All (λ x. IfSome (h x) P) xs → All P (filter_map h xs)
+pub all_mapped : {X : Type 0} (P : Dep → Type 0) (h : X → Option Dep) (xs : List X)
+    → All (λ x. IfSome (h x) P) xs → All P (filter_map h xs)
 all_mapped P h [] all = All-nil P
 all_mapped P h (x ∷ xs) all = all_in_option P (h x) (filter_map h xs) (All-head (λ y. IfSome (h y) P) x xs all) (all_mapped P h xs (All-tail (λ y. IfSome (h y) P) x xs all))
 

@@ -1,2 +1,4 @@
+pub mod Places
 pub mod Backed
+pub mod Apart
 pub mod Keeping

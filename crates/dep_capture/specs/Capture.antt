@@ -1,5 +1,7 @@
 -- What reads and puts do to a capture, and what a put depends on.
-use Rattle.std.specs.Prelude.{ℕ, Bool, true, not, ◌&&◌, ◌==◌, nat_le, nat_lt, if◌then◌else◌, List, [], ◌∷◌, ◌++◌, length, map, find, filter_map, position, slice_set, Option, Some, None, option_map, Result, Ok, Err}
+use Rattle.std.specs.Prelude.{ℕ, Bool, true, not, ◌&&◌, ◌==◌, nat_le, nat_lt, if◌then◌else◌, List}
+use Rattle.std.specs.Prelude.{[], ◌∷◌, ◌++◌, length, map, find, filter_map, Option, Some, None}
+use Rattle.std.specs.Prelude.{option_map, Result, Ok, Err}
 use Rattle.std.specs.List.{list_any, list_all}
 use Rattle.std.specs.Option.{option_and_then}
 use Rattle.std.specs.Cmp.Lexicographic.{pointwise}
@@ -14,6 +16,7 @@ use Rattle.dep_capture.specs.declared.access.Put.{Put}
 use Rattle.dep_capture.specs.declared.error.CaptureError.{CaptureError}
 use Rattle.dep_capture.specs.declared.error.CaptureError.TheVariants as errors
 use Rattle.dep_capture.specs.Captured.{Captured}
+use Rattle.dep_capture.specs.Keyed.{place_of, with_item_at}
 
 -- ---- what was read and put
 
@@ -31,7 +34,7 @@ was_put puts key = list_any (λ (put : Put). pointwise ◌==◌ put.key key) put
 
 -- The index of the put of the key, if it was put.
 abbrev pub index_of : List Put → List ℕ → Option ℕ
-index_of puts key = position (λ (put : Put). pointwise ◌==◌ put.key key) puts
+index_of puts key = place_of (λ (put : Put). put.key) puts key
 
 -- The value that was put to the key, if it was put.
 abbrev pub pending : List Put → List ℕ → Option Value
@@ -73,8 +76,7 @@ captured_after_read captured key version =
 
 -- A put at an index, or after the others if there is no index.
 abbrev pub with_put_at : List Put → Option ℕ → Put → List Put
-with_put_at puts None put = puts ++ put ∷ []
-with_put_at puts (Some i) put = slice_set puts i put
+with_put_at puts place put = with_item_at puts place put
 
 -- A put in the place of the earlier put of its key, or else after the others.
 abbrev pub with_put : List Put → Put → List Put

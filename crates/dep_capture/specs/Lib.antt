@@ -1,2 +1,3 @@
 pub mod Captured
+pub mod Keyed
 pub mod Capture

@@ -14,19 +14,20 @@ ghost use Rattle.dep_capture.specs.{
 };
 
 use crate::access::{Put, Read};
-use crate::dependencies::{are_read, deps_of, was_read};
+use crate::dependencies::{are_read, deps_of};
 use crate::error::CaptureError;
+use crate::keyed::Keyed;
 use crate::limits::MAX_KEYS_READ;
-use crate::puts::{is_one_too_many, pending, rows_of_puts, set_put};
-use lc_base::{Key, KeyList, MAX_DEPS, Memory, RowList, Seq, Value};
+use crate::puts::{is_one_too_many, pending, rows_of_puts};
+use lc_base::{Key, KeyList, MAX_DEPS, Memory, RowList, Value};
 use std::alloc::Global;
 use std::marker::Model;
 
 /// The reads and puts of one transaction.
-#[derive(Debug, Drop)]
+#[derive(Drop)]
 pub struct Capture {
-    reads: Seq<Read>,
-    puts: Seq<Put>,
+    reads: Keyed<Read>,
+    puts: Keyed<Put>,
 }
 
 impl Model for Capture {
@@ -45,8 +46,8 @@ impl Capture {
         ensures { result ≡ captured_none }
     {
         Capture {
-            reads: Seq::new(alloc),
-            puts: Seq::new(alloc),
+            reads: Keyed::new(alloc),
+            puts: Keyed::new(alloc),
         }
     }
 
@@ -63,14 +64,14 @@ impl Capture {
     pub fn was_read(&self, key: &Key) -> bool
         ensures { result ≡ was_read self.now.reads key.now }
     {
-        was_read(self.reads.as_slice(), key)
+        self.reads.has(key)
     }
 
     /// The value that was put to the key; `None` exactly if none was.
     pub fn pending(&self, key: &Key) -> Option<&Value>
         ensures { option_copied result ≡ pending self.now.puts key.now }
     {
-        pending(self.puts.as_slice(), key)
+        pending(&self.puts, key)
     }
 
     /// Records that a key was read, with the block of its version, if it has one. A key that was
@@ -103,17 +104,17 @@ impl Capture {
         ensures exact { Answers (λ _. self.new) fault_of result (captured_after_put self.old key value (option_copied named.entry)) }
         ensures unchanged { OnErr result (self.new ≡ self.old) }
     {
-        if is_one_too_many(self.puts.as_slice(), &key) {
+        if is_one_too_many(&self.puts, &key) {
             return Err(CaptureError::TooMany);
         }
-        if !are_read(self.reads.as_slice(), named) {
+        if !are_read(&self.reads, named) {
             return Err(CaptureError::NotRead);
         }
-        let deps = deps_of(self.reads.allocator(), self.reads.as_slice(), named)?;
+        let deps = deps_of(self.reads.allocator(), &self.reads, named)?;
         if deps.len() > MAX_DEPS {
             return Err(CaptureError::TooMany);
         }
-        Ok(set_put(&mut self.puts, Put { key, value, deps })?)
+        Ok(self.puts.set(Put { key, value, deps })?)
     }
 
     /// A row of this block and transaction for each put, in the order of first put.

@@ -5,28 +5,25 @@ ghost use Rattle.std.specs.{
   List.{AllPairs},
   Option.{option_copied},
 };
-ghost use Rattle.dep_capture.specs.Capture.{was_read, read_of, dep_of_read, dep_named, deps_of, are_read};
+ghost use Rattle.dep_capture.specs.{
+  declared.access.Read.{Read},
+  Capture.{dep_of_read, dep_named, deps_of, are_read},
+};
 
 use crate::access::Read;
+use crate::keyed::Keyed;
 use lc_base::{Dep, DepList, Key, KeyList, Memory};
 use std::alloc::{AllocError, Global};
 
-/// Whether the key was read.
-pub(crate) fn was_read(reads: &[Read], key: &Key) -> bool
-    ensures { result ≡ was_read reads.now key.now }
-{
-    reads.iter().any(|read| read.key == *key)
-}
-
 /// Whether each of the keys was read.
-fn all_read(reads: &[Read], keys: &[Key]) -> bool
+fn all_read(reads: &Keyed<Read>, keys: &[Key]) -> bool
     ensures { result ≡ are_read reads.now (Some keys.now) }
 {
-    keys.iter().all(|key| was_read(reads, key))
+    keys.iter().all(|key| reads.has(key))
 }
 
 /// Whether each of the named keys was read, if keys are named.
-pub(crate) fn are_read(reads: &[Read], named: Option<&KeyList>) -> bool
+pub(crate) fn are_read(reads: &Keyed<Read>, named: Option<&KeyList>) -> bool
     ensures { result ≡ are_read reads.now (option_copied named.entry) }
 {
     match named {
@@ -46,17 +43,11 @@ fn dep_of_read(read: &Read) -> Option<Dep>
     })
 }
 
-fn read_of<'a>(reads: &'a [Read], key: &Key) -> Option<&'a Read>
-    ensures { option_copied result ≡ read_of reads.now key.now }
-{
-    reads.iter().find(|read| read.key == *key)
-}
-
 /// The dependency on a key; `None` if it was not read, or had no version.
-fn dep_named(reads: &[Read], key: &Key) -> Option<Dep>
+fn dep_named(reads: &Keyed<Read>, key: &Key) -> Option<Dep>
     ensures { result ≡ dep_named reads.now key.now }
 {
-    dep_of_read(read_of(reads, key)?)
+    dep_of_read(reads.get(key)?)
 }
 
 fn deps_of_reads(alloc: Global, reads: &[Read]) -> Result<Vec<Dep>, AllocError>
@@ -68,7 +59,7 @@ fn deps_of_reads(alloc: Global, reads: &[Read]) -> Result<Vec<Dep>, AllocError>
         .collect(alloc)
 }
 
-fn deps_named(alloc: Global, reads: &[Read], keys: &[Key]) -> Result<Vec<Dep>, AllocError>
+fn deps_named(alloc: Global, reads: &Keyed<Read>, keys: &[Key]) -> Result<Vec<Dep>, AllocError>
     ensures { IfOk result (λ deps. deps.items ≡ filter_map (dep_named reads.now) keys.now) }
 {
     keys.iter()
@@ -77,17 +68,25 @@ fn deps_named(alloc: Global, reads: &[Read], keys: &[Key]) -> Result<Vec<Dep>, A
 }
 
 /// The dependencies of a put: on all keys read so far, or on the named ones, in order, each once.
+/// No key is read twice, so those on all keys have no repeat: looking for one would go over all
+/// pairs of them, at each put of a loop.
 pub(crate) fn deps_of(
     alloc: Global,
-    reads: &[Read],
+    reads: &Keyed<Read>,
     named: Option<&KeyList>,
 ) -> Result<DepList, Memory>
+    requires { AllPairs (λ (a b : Read). a.key ≢ b.key) reads.now }
     ensures deps { IfOk result (λ deps. deps ≡ deps_of reads.now (option_copied named.entry)) }
     ensures once { IfOk result (λ deps. AllPairs ◌≢◌ deps) }
 {
-    let deps = match named {
-        None => deps_of_reads(alloc, reads)?,
-        Some(keys) => deps_named(alloc, reads, keys.as_slice())?,
-    };
-    DepList::without_repeats(alloc, deps.as_slice())
+    match named {
+        None => {
+            let deps = deps_of_reads(alloc, reads.as_slice())?;
+            Ok(DepList::from_vec(deps))
+        }
+        Some(keys) => {
+            let deps = deps_named(alloc, reads, keys.as_slice())?;
+            DepList::without_repeats(alloc, deps.as_slice())
+        }
+    }
 }

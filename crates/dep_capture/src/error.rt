@@ -1,3 +1,5 @@
+//! Why a read or a put is refused. No error changes the capture.
+
 ghost use Rattle.std.specs.Prelude.{◌≡◌};
 
 use lc_base::Memory;

@@ -5,6 +5,7 @@ mod access;
 mod capture;
 mod dependencies;
 mod error;
+mod keyed;
 mod limits;
 mod puts;
 

@@ -25,3 +25,4 @@ pub use laws::{fields_determine_a_body, fields_determine_a_header, fields_determ
 pub use leaf_view::{LeafView, read_leaf};
 pub use link_view::LinkView;
 pub use list_view::{ListItem, ListView, read_list};
+pub use prov_entry::{Body, BodyDep, BodyDepList};

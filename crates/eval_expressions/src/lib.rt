@@ -3,4 +3,7 @@
 
 mod expression;
 
+pub use eval_builtins::{Run, charge};
+pub use eval_operators::holds;
+pub use eval_variables::Variables;
 pub use expression::{value, values};

@@ -7,8 +7,7 @@ ghost use Rattle.contract_semantics.specs.{
 };
 
 use crate::number::{difference, negation, product, quotient, remainder, sum, truth};
-use contract_semantics::EvalStop;
-use contract_tree::Sign;
+use contract_semantics::{EvalStop, Sign};
 use lc_base::{Memory, Text, TxStatus, Value};
 use std::alloc::Global;
 

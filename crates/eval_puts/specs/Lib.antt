@@ -1,0 +1,1 @@
+pub use Rattle.dep_capture.specs as dep_capture

@@ -1,1 +1,2 @@
 pub mod Following
+pub use Rattle.eval_expressions.proofs as eval_expressions

@@ -1,2 +1,3 @@
 pub mod Bindings
 pub mod Flows
+pub use Rattle.eval_expressions.specs.eval_builtins as eval_builtins

@@ -8,6 +8,7 @@ mod put;
 mod simple;
 
 pub use binding::Binding;
+pub use eval_expressions::Run;
 pub use flow::Flow;
 pub use put::put_statement;
 pub use simple::{bind_statement, condition_step, fail_statement, return_statement};

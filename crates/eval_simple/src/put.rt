@@ -7,16 +7,14 @@ ghost use Rattle.contract_semantics.specs.{
   Statements.{parts_values, put_run, put_of_key, put_of_values, put_end},
   Answers.{Gives},
 };
-ghost use Rattle.eval_builtins.specs.Runs.{KeepsRun, Tells};
+ghost use Rattle.eval_expressions.specs.eval_builtins.Runs.{KeepsRun, Tells};
 ghost use Rattle.eval_simple.specs.Flows.{Flows};
 
 use crate::flow::Flow;
 use contract_semantics::{CHARGE_NODE, CHARGE_PUT, EvalStop};
 use contract_tree::{Expr, ExprList};
-use eval_builtins::{Run, charge};
-use eval_expressions::{value, values};
+use eval_expressions::{Run, Variables, charge, value, values};
 use eval_puts::put;
-use eval_variables::Variables;
 use lc_base::{Host, Value};
 
 /// The values of the keys in a `from`, if there is one.

@@ -10,18 +10,15 @@ ghost use Rattle.contract_semantics.specs.{
   Statements.{Returns, condition_step},
   Answers.{Gives, IsNoFault},
 };
-ghost use Rattle.eval_builtins.specs.Runs.{KeepsRun, Tells};
-ghost use Rattle.dep_capture.specs.Captured.{Captured};
+ghost use Rattle.eval_expressions.specs.eval_builtins.Runs.{KeepsRun, Tells};
+ghost use Rattle.eval_puts.specs.dep_capture.Captured.{Captured};
 ghost use Rattle.eval_simple.specs.{Bindings.{bind_run}, Flows.{Flows}};
 
 use crate::binding::Binding;
 use crate::flow::Flow;
 use contract_semantics::{CHARGE_NODE, EvalStop};
 use contract_tree::Expr;
-use eval_builtins::{Run, charge};
-use eval_expressions::value;
-use eval_operators::holds;
-use eval_variables::Variables;
+use eval_expressions::{Run, Variables, charge, holds, value};
 use lc_base::{Host, Name, TxStatus};
 
 /// Charges a statement, and returns whether its condition holds.

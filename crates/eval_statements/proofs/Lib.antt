@@ -1,2 +1,3 @@
 pub mod Loops
 pub mod Branches
+pub use Rattle.eval_simple.proofs.eval_expressions as eval_expressions

@@ -11,7 +11,7 @@ use Rattle.eval_simple.specs.declared.flow.Flow.{Flow}
 use Rattle.eval_simple.specs.declared.flow.Flow.TheVariants as flows
 use Rattle.eval_simple.specs.Flows.{Flows}
 use Rattle.eval_statements.specs.Turns.{Turns}
-use Rattle.eval_expressions.proofs.ToldRows.{unblamed}
+use Rattle.eval_simple.proofs.eval_expressions.ToldRows.{unblamed}
 
 -- One turn, then the others.
 next_turn : (n i : ℕ) (turn : List Variable → Machine → Step Turn) (variables : List Variable) (m : Machine) → i < n → turns (n - i) turn variables m ≡ and_then (turn variables m) (after_turn (turns (n - (i + 1)) turn))

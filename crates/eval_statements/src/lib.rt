@@ -3,4 +3,6 @@
 
 mod statement;
 
+pub use eval_simple::{Flow, Run};
+pub use eval_variables::Variables;
 pub use statement::block;

@@ -3,15 +3,15 @@
 ghost use Rattle.std.specs.Prelude.{map};
 ghost use Rattle.contract_tree.specs.Tree.{tree_of, statement_of, statement_list};
 ghost use Rattle.contract_semantics.specs.Statements.{statement_run, statements_run, block_run, branch_run, loop_turn, loop_run};
-ghost use Rattle.eval_builtins.specs.Runs.{KeepsRun, Tells};
+ghost use Rattle.eval_simple.specs.eval_builtins.Runs.{KeepsRun, Tells};
 ghost use Rattle.eval_simple.specs.Flows.{Flows};
 ghost use Rattle.eval_statements.specs.Turns.{Turns};
 
 use contract_semantics::EvalStop;
 use contract_tree::{Expr, Form, Statement};
-use eval_builtins::Run;
 use eval_simple::{
-    Binding, Flow, bind_statement, condition_step, fail_statement, put_statement, return_statement,
+    Binding, Flow, Run, bind_statement, condition_step, fail_statement, put_statement,
+    return_statement,
 };
 use eval_variables::Variables;
 use lc_base::{Host, TxStatus};

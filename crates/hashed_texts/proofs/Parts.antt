@@ -4,7 +4,7 @@ use Rattle.merkle_tree.specs.Tree.{leaf_text, climb_texts_to}
 use Rattle.merkle_tree.specs.declared.limits.TheConstants.{MAX_HEIGHT}
 use Rattle.prov_entry.specs.Spelling.{leaf_bytes, header_text}
 use Rattle.prov_entry.specs.ForwardLists.{start_text}
-use Rattle.proof_codec.specs.declared.proof.Proof.{Proof}
+use Rattle.proof_checks.specs.proof_codec.declared.proof.Proof.{Proof}
 use Rattle.proof_checks.specs.Checks.{climb_of, root_text_of}
 use Rattle.proof_checks.specs.ProofTexts.{body_texts, uses_texts, proof_texts}
 

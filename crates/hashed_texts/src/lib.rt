@@ -8,5 +8,6 @@ mod text;
 mod way;
 
 pub use proof::proof_texts;
+pub use proof_views::ProofView;
 pub use text::{push_node, push_root, push_tagged, push_use};
 pub use way::half_of;

@@ -9,6 +9,7 @@ use chain_exec::run_block;
 use contract_check::Checked;
 use lc_base::{Bytes, Dep, Host, HostError, Key, Name, TxStatus, Value, ValueList, Version};
 use lc_io::one_more;
+use resources::{Resources, Zeros};
 use std::alloc::Global;
 use world_state::World;
 
@@ -143,7 +144,7 @@ fn deployed(alloc: Global) -> Option<World<Checked>>
         source: Bytes::from_vec(Vec::from_slice(alloc, SOURCE).ok()?),
     };
     let block = block_of(alloc, 0, deploy)?;
-    let mut world = World::new(alloc);
+    let mut world = World::new(Resources::new(alloc, &Zeros).ok()?);
     let mut host = FailingHost::new(NEVER);
     run_block(alloc, &mut host, &mut world, &block).ok()?;
     world.commit().ok()

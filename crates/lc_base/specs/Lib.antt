@@ -6,3 +6,4 @@ pub mod History
 pub mod Parts
 pub mod Deps
 pub mod TxStatus
+pub use Rattle.lc_names.specs as lc_names

@@ -2,9 +2,11 @@
 #![tactic(auto)]
 
 use cli_program::{exit_of, run_on_host};
+use resources::Resources;
 use std::env;
 use std::process::ExitCode;
 
 fn main(rt: HostRuntime) -> ExitCode {
-    exit_of(run_on_host(&rt, env::args(&rt)))
+    let resources = Resources::new(rt.alloc(), &rt);
+    exit_of(run_on_host(&rt, env::args(&rt), resources))
 }

@@ -3,13 +3,13 @@ use Rattle.std.proofs.Common.{◌≡◌, ◌∙◌, ℕ, List, [], ◌∷◌, ma
 use Rattle.std.specs.List.{list_any}
 use Rattle.std.proofs.lemmas.Bool.{cases_Bool}
 use Rattle.lc_base.specs.declared.row.Row.{Row}
-use Rattle.prov_entry.specs.declared.entry.Leaf.{Leaf}
-use Rattle.root_laws.specs.Root.{sentinel, keys_of}
+use Rattle.lineage_index.specs.prov_entry.declared.entry.Leaf.{Leaf}
+use Rattle.typed_ledger.specs.root_laws.Root.{sentinel, keys_of}
 use Rattle.rows_index.specs.declared.index.RowsIndex.{RowsIndex}
 use Rattle.rows_index.specs.Index.{IsIndexOf as AreUsesOf}
 use Rattle.entry_store.specs.Entries.{Entry}
-use Rattle.forward_links.specs.declared.open_list.OpenList.{OpenList}
-use Rattle.forward_links.specs.Lists.{open_of}
+use Rattle.lineage_index.specs.forward_links.declared.open_list.OpenList.{OpenList}
+use Rattle.lineage_index.specs.forward_links.Lists.{open_of}
 use Rattle.lineage_index.specs.Growth.{list_after_rows, is_of_key}
 use Rattle.lineage_index.specs.Heads.{AreHeads, open_list}
 use Rattle.lineage_index.specs.Settling.{IsStoreOf, AreRenewing, settled_states, entry_or_fresh}

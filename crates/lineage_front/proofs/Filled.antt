@@ -7,16 +7,16 @@ use Rattle.std.proofs.lemmas.Option.{same_Some, none-some}
 use Rattle.lc_base.specs.declared.row.Row.{Row}
 use Rattle.lc_base.specs.declared.row.Dep.{Dep}
 use Rattle.lc_base.specs.History.{uses}
-use Rattle.root_laws.specs.Naming.{uses_of}
-use Rattle.root_laws.specs.Root.{keys_of}
-use Rattle.root_laws.proofs.Headers.{newest_is_key}
-use Rattle.root_laws.proofs.Keys.{keys_short}
+use Rattle.typed_ledger.specs.root_laws.Naming.{uses_of}
+use Rattle.typed_ledger.specs.root_laws.Root.{keys_of}
+use Rattle.typed_ledger.proofs.root_laws.Headers.{newest_is_key}
+use Rattle.typed_ledger.proofs.root_laws.Keys.{keys_short}
 use Rattle.rows_index.specs.declared.index.RowsIndex.{RowsIndex}
 use Rattle.rows_index.specs.Users.{AreVersionsAt}
 use Rattle.rows_index.proofs.AnswerParts.{length_uses, few_uses}
 use Rattle.entry_store.specs.Entries.{Entry}
-use Rattle.forward_links.specs.declared.open_list.OpenList.{OpenList}
-use Rattle.forward_links.specs.Lists.{open_of, kept_at, with_use_at}
+use Rattle.lineage_index.specs.forward_links.declared.open_list.OpenList.{OpenList}
+use Rattle.lineage_index.specs.forward_links.Lists.{open_of, kept_at, with_use_at}
 use Rattle.lineage_index.specs.Heads.{newest_at, open_list}
 use Rattle.lineage_front.specs.Front.{first_lists, CanFill, AreEmpty}
 use Rattle.lineage_front.proofs.Reading.{newest_there}

@@ -8,13 +8,13 @@ use Rattle.std.proofs.lemmas.Option.{none-some, same_Some, slice_get-get_or}
 use Rattle.lc_base.specs.declared.row.Row.{Row}
 use Rattle.lc_base.specs.declared.row.Dep.{Dep}
 use Rattle.lc_base.specs.History.{newest, version_of}
-use Rattle.root_laws.specs.Root.{keys_of}
-use Rattle.root_laws.specs.Naming.{header_of}
-use Rattle.root_laws.proofs.Lists.{option_cases}
+use Rattle.typed_ledger.specs.root_laws.Root.{keys_of}
+use Rattle.typed_ledger.specs.root_laws.Naming.{header_of}
+use Rattle.typed_ledger.proofs.root_laws.Lists.{option_cases}
 use Rattle.rows_index.specs.Users.{version_at, there, AreVersionsAt}
 use Rattle.entry_store.specs.declared.entry.Facts.{Facts}
 use Rattle.entry_store.specs.Entries.{Entry, facts_of}
-use Rattle.lineage_store.proofs.Entries.{row_facts}
+use Rattle.lineage_index.proofs.lineage_store.Entries.{row_facts}
 use Rattle.lineage_index.specs.Heads.{newest_at}
 use Rattle.lineage_index.specs.Settling.{IsStoreOf}
 use Rattle.lineage_index.proofs.KeyLists.{value_at}

@@ -7,11 +7,11 @@ use Rattle.lc_base.specs.declared.row.Dep.{Dep}
 use Rattle.rows_index.specs.declared.index.RowsIndex.{RowsIndex}
 use Rattle.rows_index.specs.Index.{IsIndexOf as AreUsesOf}
 use Rattle.rows_index.specs.Users.{AreVersionsAt}
-use Rattle.root_laws.specs.Root.{keys_of}
+use Rattle.typed_ledger.specs.root_laws.Root.{keys_of}
 use Rattle.entry_store.specs.Entries.{Entry}
-use Rattle.forward_links.specs.declared.open_list.OpenList.{OpenList}
-use Rattle.forward_links.specs.declared.limits.TheConstants.{MAX_USES}
-use Rattle.forward_links.specs.Lists.{open_of}
+use Rattle.lineage_index.specs.forward_links.declared.open_list.OpenList.{OpenList}
+use Rattle.lineage_index.specs.forward_links.declared.limits.TheConstants.{MAX_USES}
+use Rattle.lineage_index.specs.forward_links.Lists.{open_of}
 use Rattle.lineage_index.specs.Heads.{newest_at}
 use Rattle.lineage_index.specs.Settling.{IsStoreOf}
 

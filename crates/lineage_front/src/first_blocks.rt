@@ -11,21 +11,25 @@ use crate::leaves::renew_all;
 use crate::lists::add_uses;
 use crate::settling::settle_entries;
 use entry_store::Store;
-use forward_links::OpenLists;
 use lc_base::Memory;
-use lineage_index::LineageIndex;
+use lineage_index::{LineageIndex, OpenLists, Tree};
 use rows_index::RowsIndex;
-use state_tree::Tree;
 use std::alloc::Global;
 
-/// The index over the rows of these entries. `uses` has which rows were derived from which of them.
-fn index_of_entries(alloc: Global, store: Store, uses: &RowsIndex) -> Result<LineageIndex, Memory>
+/// The index over the rows of these entries, where `uses` has the users of each row. Its tree is made
+/// with the same resources as another.
+fn index_of_entries(
+    alloc: Global,
+    other: &Tree,
+    store: Store,
+    uses: &RowsIndex,
+) -> Result<LineageIndex, Memory>
     requires { (rows : List Row) × IsStoreOf rows store × AreUsesOf rows uses.now }
     ensures { (rows : List Row) (n : ℕ) → IsStoreOf rows store → AreUsesOf rows uses.now
         → All (λ (row : Row). row.block < n) rows
         → IfOk result (IsIndexOf rows n) }
 {
-    let mut tree = Tree::new(alloc)?;
+    let mut tree = other.new_alike()?;
     let mut lists = OpenLists::new(alloc);
     let mut newest = Vec::new(alloc);
     settle_entries(&mut tree, &mut lists, &mut newest, &store)?;
@@ -50,6 +54,6 @@ pub fn front(
     let count = count_up_to(index.store(), at);
     let uses = uses.front(count)?;
     let store = index.store().front(count)?;
-    let index = index_of_entries(alloc, store, &uses)?;
+    let index = index_of_entries(alloc, index.tree(), store, &uses)?;
     Ok((index, uses))
 }

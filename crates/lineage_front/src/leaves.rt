@@ -5,7 +5,7 @@ ghost use Rattle.std.specs.{
   List.{range_with_len},
 };
 ghost use Rattle.lc_base.specs.declared.row.Row.{Row};
-ghost use Rattle.root_laws.specs.Root.{keys_of};
+ghost use Rattle.typed_ledger.specs.root_laws.Root.{keys_of};
 ghost use Rattle.lineage_index.specs.{
   Growth.{Entry},
   Heads.{AreHeads, states_of},
@@ -14,10 +14,8 @@ ghost use Rattle.lineage_index.specs.{
 };
 
 use entry_store::Store;
-use forward_links::OpenLists;
 use lc_base::Memory;
-use lineage_index::leaf_state;
-use state_tree::{LeafState, Tree};
+use lineage_index::{LeafState, OpenLists, Tree, leaf_state};
 use std::alloc::Global;
 
 /// The states of the leaves of all keys, in the order of the leaves.

@@ -9,3 +9,4 @@ mod lists;
 mod settling;
 
 pub use first_blocks::front;
+pub use typed_ledger::check_row;

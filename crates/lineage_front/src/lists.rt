@@ -2,15 +2,15 @@
 
 ghost use Rattle.std.specs.Prelude.{◌≡◌, ℕ, List, map, Some, slice_set};
 ghost use Rattle.lc_base.specs.{declared.row.Dep.{Dep}, declared.row.Row.{Row}};
-ghost use Rattle.root_laws.specs.Root.{keys_of};
+ghost use Rattle.typed_ledger.specs.root_laws.Root.{keys_of};
 ghost use Rattle.rows_index.specs.Users.{version_at};
-ghost use Rattle.forward_links.specs.Lists.{open_of};
+ghost use Rattle.lineage_index.specs.forward_links.Lists.{open_of};
 ghost use Rattle.lineage_index.specs.{Heads.{open_list}, Settling.{IsStoreOf}};
 ghost use Rattle.lineage_front.specs.Front.{CanFill, AreEmpty};
 
 use entry_store::{EntryId, Store};
-use forward_links::OpenLists;
 use lc_base::Dep;
+use lineage_index::OpenLists;
 use rows_index::RowsIndex;
 
 /// The version that the row at an index is, by the row's entry.

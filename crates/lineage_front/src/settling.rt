@@ -7,10 +7,8 @@ ghost use Rattle.lineage_index.specs.{Heads.{AreHeads}, Settling.{IsStoreOf, set
 ghost use Rattle.lineage_front.specs.Front.{no_list};
 
 use entry_store::{EntryId, Store};
-use forward_links::OpenLists;
 use lc_base::Memory;
-use lineage_index::set_newest;
-use state_tree::Tree;
+use lineage_index::{OpenLists, Tree, set_newest};
 
 /// Makes the rows of the entries the newest versions of their keys, one after another. All lists
 /// stay empty.

@@ -11,12 +11,12 @@ use Rattle.lc_base.specs.declared.limits.TheConstants.{MAX_ROWS}
 use Rattle.lc_base.specs.declared.row.Row.{Row}
 use Rattle.lc_base.specs.History.{HasLawfulDeps, newest}
 use Rattle.prov_entry.specs.declared.entry.Leaf.{Leaf}
-use Rattle.root_laws.specs.Root.{is_among, keys_of}
-use Rattle.root_laws.proofs.Lists.{all_weaker, all_append, option_cases, not_both, some_last, or_true}
-use Rattle.root_laws.proofs.Keys.{among_is_some, all_among}
-use Rattle.root_laws.proofs.Growing.{newest_append}
+use Rattle.lineage_store.specs.root_laws.Root.{is_among, keys_of}
+use Rattle.lineage_store.proofs.root_laws.Lists.{all_weaker, all_append, option_cases, not_both, some_last, or_true}
+use Rattle.lineage_store.proofs.root_laws.Keys.{among_is_some, all_among}
+use Rattle.lineage_store.proofs.root_laws.Growing.{newest_append}
 use Rattle.forward_links.specs.declared.open_list.OpenList.{OpenList}
-use Rattle.entry_store.specs.Entries.{Entry as StoreEntry}
+use Rattle.lineage_store.specs.entry_store.Entries.{Entry as StoreEntry}
 use Rattle.lineage_store.specs.Entries.{entries_of}
 use Rattle.lineage_store.proofs.Entries.{as_many}
 use Rattle.lineage_index.specs.Growth.{Grows, Entry, entry_of, open_uses, used_by, HaveDistinctKeys, entry_after, keys_touched, keys_of_row, is_of_key}

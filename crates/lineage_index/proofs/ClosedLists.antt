@@ -7,10 +7,10 @@ use Rattle.std.proofs.lemmas.Bool.{cases_Bool}
 use Rattle.lc_base.specs.declared.row.Row.{Row}
 use Rattle.lc_base.specs.declared.row.Dep.{Dep}
 use Rattle.lc_base.specs.History.{newest}
-use Rattle.root_laws.specs.Naming.{uses_of}
-use Rattle.root_laws.proofs.Lists.{option_cases, or_false, some_last}
-use Rattle.root_laws.proofs.Growing.{newest_append}
-use Rattle.root_laws.proofs.Headers.{newest_has}
+use Rattle.lineage_store.specs.root_laws.Naming.{uses_of}
+use Rattle.lineage_store.proofs.root_laws.Lists.{option_cases, or_false, some_last}
+use Rattle.lineage_store.proofs.root_laws.Growing.{newest_append}
+use Rattle.lineage_store.proofs.root_laws.Headers.{newest_has}
 use Rattle.lineage_index.specs.Growth.{Grows, open_uses, list_after_rows, is_of_key, changed_at}
 use Rattle.lineage_index.proofs.Blocks.{rows_now, no_uses_yet}
 

@@ -10,12 +10,12 @@ use Rattle.std.proofs.lemmas.Bool.{cases_Bool, and_left}
 use Rattle.lc_base.specs.declared.row.Row.{Row}
 use Rattle.lc_base.specs.declared.row.Dep.{Dep}
 use Rattle.lc_base.specs.History.{newest, uses, depends_on, version_of}
-use Rattle.root_laws.specs.Naming.{header_digest, digest_among}
-use Rattle.root_laws.specs.Root.{is_among, keys_of, block_of}
-use Rattle.root_laws.proofs.Lists.{all_weaker, option_cases, not_both, or_false, keep_none, some_last}
-use Rattle.root_laws.proofs.Keys.{same_key, among_is_some}
-use Rattle.root_laws.proofs.Growing.{earlier_versions_stay, uses_append}
-use Rattle.root_laws.proofs.Headers.{newest_has}
+use Rattle.lineage_store.specs.root_laws.Naming.{header_digest, digest_among}
+use Rattle.lineage_store.specs.root_laws.Root.{is_among, keys_of, block_of}
+use Rattle.lineage_store.proofs.root_laws.Lists.{all_weaker, option_cases, not_both, or_false, keep_none, some_last}
+use Rattle.lineage_store.proofs.root_laws.Keys.{same_key, among_is_some}
+use Rattle.lineage_store.proofs.root_laws.Growing.{earlier_versions_stay, uses_append}
+use Rattle.lineage_store.proofs.root_laws.Headers.{newest_has}
 use Rattle.lineage_index.specs.Growth.{Grows, Entry, entry_of, entry_after, keys_of_row, keys_touched, is_of_key, changed_at}
 use Rattle.lineage_index.proofs.Blocks.{rows_before, rows_now}
 use Rattle.lineage_index.proofs.ClosedLists.{newest_kept}

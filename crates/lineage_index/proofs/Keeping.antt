@@ -1,6 +1,6 @@
 -- Of no rows, the sentinel is kept, and nothing else.
 use Rattle.std.proofs.Common.{[], ◌∷◌, refl, rules, arith}
-use Rattle.root_laws.specs.Root.{sentinel}
+use Rattle.lineage_store.specs.root_laws.Root.{sentinel}
 use Rattle.lineage_store.specs.Entries.{entries_after}
 use Rattle.lineage_index.specs.Blocks.{IsKeptIndex}
 

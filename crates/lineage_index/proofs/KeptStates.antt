@@ -8,9 +8,9 @@ use Rattle.std.proofs.lemmas.List.Quantifiers.{all_pairs_push}
 use Rattle.std.proofs.lemmas.Option.{slice_get_within, get_or_from_slice_get}
 use Rattle.lc_base.specs.declared.row.Dep.{Dep}
 use Rattle.prov_entry.specs.declared.entry.Leaf.{Leaf}
-use Rattle.root_laws.specs.Root.{is_among}
-use Rattle.root_laws.proofs.Lists.{not_both}
-use Rattle.root_laws.proofs.Keys.{key_is_key}
+use Rattle.lineage_store.specs.root_laws.Root.{is_among}
+use Rattle.lineage_store.proofs.root_laws.Lists.{not_both}
+use Rattle.lineage_store.proofs.root_laws.Keys.{key_is_key}
 use Rattle.state_tree.specs.Leaves.{index_of, with_leaf_of}
 use Rattle.forward_links.specs.declared.open_list.OpenList.{OpenList}
 use Rattle.forward_links.specs.Lists.{open_of, emptied_at}

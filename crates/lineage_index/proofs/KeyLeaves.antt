@@ -9,9 +9,9 @@ use Rattle.std.proofs.lemmas.List.{map-append, length-map, get_or-map}
 use Rattle.std.proofs.lemmas.Option.{slice_get-get_or}
 use Rattle.std.proofs.lemmas.Iterator.Adapters.{position_from-zero}
 use Rattle.prov_entry.specs.declared.entry.Leaf.{Leaf}
-use Rattle.root_laws.specs.Root.{is_among, sentinel, next_key}
-use Rattle.root_laws.proofs.Lists.{map_map, map_on, not_both}
-use Rattle.root_laws.proofs.Keys.{same_key, key_is_key}
+use Rattle.lineage_store.specs.root_laws.Root.{is_among, sentinel, next_key}
+use Rattle.lineage_store.proofs.root_laws.Lists.{map_map, map_on, not_both}
+use Rattle.lineage_store.proofs.root_laws.Keys.{same_key, key_is_key}
 use Rattle.state_tree.specs.Leaves.{index_of, is_this, leaf_key, leaf_keys, with_next, fresh_leaf, with_leaf_of}
 use Rattle.state_tree.proofs.Keys.{none_below}
 use Rattle.lineage_index.specs.Growth.{Entry, leaf_with, changed_at}

@@ -10,13 +10,13 @@ use Rattle.std.proofs.lemmas.List.Elements.{All-from_recursion, recursion_from_A
 use Rattle.std.proofs.lemmas.Option.{get_or_from_slice_get}
 use Rattle.lc_base.specs.declared.row.Row.{Row}
 use Rattle.prov_entry.specs.declared.entry.Leaf.{Leaf}
-use Rattle.root_laws.specs.Root.{is_among, keys_of, sentinel}
-use Rattle.root_laws.proofs.Lists.{all_weaker, all_map, all_filter_map, not_both, option_cases}
-use Rattle.root_laws.proofs.Keys.{all_among}
+use Rattle.lineage_store.specs.root_laws.Root.{is_among, keys_of, sentinel}
+use Rattle.lineage_store.proofs.root_laws.Lists.{all_weaker, all_map, all_filter_map, not_both, option_cases}
+use Rattle.lineage_store.proofs.root_laws.Keys.{all_among}
 use Rattle.state_tree.specs.declared.states.LeafState.{LeafState}
 use Rattle.state_tree.specs.Leaves.{index_of, with_state, with_states}
 use Rattle.forward_links.specs.declared.open_list.OpenList.{OpenList}
-use Rattle.entry_store.specs.Entries.{Entry as StoreEntry}
+use Rattle.lineage_store.specs.entry_store.Entries.{Entry as StoreEntry}
 use Rattle.lineage_index.specs.Growth.{Entry, entry_of, leaf_with, changed_at, entry_after}
 use Rattle.lineage_index.specs.Heads.{leaves_with}
 use Rattle.lineage_index.specs.Settling.{renewed_states, AreRenewing}

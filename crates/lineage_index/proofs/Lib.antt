@@ -16,3 +16,4 @@ pub mod NewEntries
 pub mod BlockSteps
 pub mod Keeping
 pub mod NewestRows
+pub use Rattle.lineage_store.proofs as lineage_store

@@ -4,12 +4,12 @@ use Rattle.std.specs.Prelude.{slice_get}
 use Rattle.std.specs.Option.{option_map}
 use Rattle.std.proofs.lemmas.Option.{get_or_from_slice_get, none-some, same_Some}
 use Rattle.lc_base.specs.declared.row.Row.{Row}
-use Rattle.skip_links.specs.Versions.{newest_index}
+use Rattle.lineage_store.specs.skip_links.Versions.{newest_index}
 use Rattle.prov_entry.specs.declared.entry.Leaf.{Leaf}
-use Rattle.root_laws.specs.Root.{is_among, keys_of}
+use Rattle.lineage_store.specs.root_laws.Root.{is_among, keys_of}
 use Rattle.rows_index.specs.Places.{IsRowAt}
-use Rattle.entry_store.specs.declared.entry.EntryId.{EntryId}
-use Rattle.entry_store.specs.Entries.{Entry as StoreEntry}
+use Rattle.lineage_store.specs.entry_store.declared.entry.EntryId.{EntryId}
+use Rattle.lineage_store.specs.entry_store.Entries.{Entry as StoreEntry}
 use Rattle.lineage_store.specs.Versions.{newest_entry}
 use Rattle.lineage_store.specs.Entries.{IsNewestOf}
 use Rattle.lineage_store.proofs.Versions.{newest_is_index}

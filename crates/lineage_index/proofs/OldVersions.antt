@@ -6,11 +6,11 @@ use Rattle.lc_base.specs.declared.row.Row.{Row}
 use Rattle.lc_base.specs.declared.row.Dep.{Dep}
 use Rattle.lc_base.specs.History.{newest}
 use Rattle.prov_entry.specs.declared.entry.BodyDep.{BodyDep}
-use Rattle.root_laws.specs.Naming.{named_before, digest_among, with_digest, header_digest}
-use Rattle.root_laws.specs.NamingLaws.{digest_of_row}
-use Rattle.root_laws.specs.Root.{block_of}
-use Rattle.root_laws.proofs.Lists.{all_contained}
-use Rattle.root_laws.proofs.Headers.{row_is_named, newest_has, newest_is_key}
+use Rattle.lineage_store.specs.root_laws.Naming.{named_before, digest_among, with_digest, header_digest}
+use Rattle.lineage_store.specs.root_laws.NamingLaws.{digest_of_row}
+use Rattle.lineage_store.specs.root_laws.Root.{block_of}
+use Rattle.lineage_store.proofs.root_laws.Lists.{all_contained}
+use Rattle.lineage_store.proofs.root_laws.Headers.{row_is_named, newest_has, newest_is_key}
 use Rattle.lineage_index.specs.Growth.{Grows, entry_of}
 use Rattle.lineage_index.proofs.Blocks.{rows_before, IsOnNewest}
 

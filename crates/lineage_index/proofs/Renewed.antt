@@ -9,15 +9,15 @@ use Rattle.lc_base.specs.declared.row.Row.{Row}
 use Rattle.lc_base.specs.declared.row.Dep.{Dep}
 use Rattle.lc_base.specs.History.{newest, uses}
 use Rattle.prov_entry.specs.ForwardLists.{uses_digest}
-use Rattle.root_laws.specs.Naming.{uses_of, digest_of_uses, header_digest, header_of}
-use Rattle.root_laws.specs.NamingLaws.{digest_of_row}
-use Rattle.root_laws.specs.Root.{keys_of, block_of}
-use Rattle.root_laws.proofs.Lists.{all_contained}
-use Rattle.root_laws.proofs.Headers.{row_is_named, newest_has, newest_is_key}
+use Rattle.lineage_store.specs.root_laws.Naming.{uses_of, digest_of_uses, header_digest, header_of}
+use Rattle.lineage_store.specs.root_laws.NamingLaws.{digest_of_row}
+use Rattle.lineage_store.specs.root_laws.Root.{keys_of, block_of}
+use Rattle.lineage_store.proofs.root_laws.Lists.{all_contained}
+use Rattle.lineage_store.proofs.root_laws.Headers.{row_is_named, newest_has, newest_is_key}
 use Rattle.forward_links.specs.declared.open_list.OpenList.{OpenList}
 use Rattle.forward_links.specs.Lists.{open_of, kept_at}
-use Rattle.entry_store.specs.declared.entry.Facts.{Facts}
-use Rattle.entry_store.specs.Entries.{Entry as StoreEntry, facts_of}
+use Rattle.lineage_store.specs.entry_store.declared.entry.Facts.{Facts}
+use Rattle.lineage_store.specs.entry_store.Entries.{Entry as StoreEntry, facts_of}
 use Rattle.lineage_store.proofs.Entries.{row_facts, as_many}
 use Rattle.lineage_index.specs.Growth.{Entry, entry_of}
 use Rattle.lineage_index.specs.Heads.{newest_at, open_list}

@@ -6,7 +6,7 @@ use Rattle.std.proofs.lemmas.List.{length-append, length-map, length-take-le}
 use Rattle.lc_base.specs.declared.row.Row.{Row}
 use Rattle.lc_base.specs.declared.row.Dep.{Dep}
 use Rattle.lc_base.specs.History.{newest, depends_on, version_of}
-use Rattle.root_laws.specs.Naming.{uses_of}
+use Rattle.lineage_store.specs.root_laws.Naming.{uses_of}
 use Rattle.lineage_index.specs.Growth.{Grows, list_with_uses, used_by, used_by_row, is_on_key}
 use Rattle.lineage_index.specs.Heads.{HaveRoom, open_list}
 

@@ -10,10 +10,10 @@ use Rattle.std.proofs.lemmas.Bool.{cases_Bool, eq-eqb}
 use Rattle.lc_base.specs.declared.row.Row.{Row}
 use Rattle.lc_base.specs.declared.row.Dep.{Dep}
 use Rattle.lc_base.specs.History.{newest, uses, depends_on, version_of}
-use Rattle.root_laws.specs.Naming.{uses_of}
-use Rattle.root_laws.proofs.Lists.{option_cases, or_false}
-use Rattle.root_laws.proofs.Keys.{same_key}
-use Rattle.root_laws.proofs.Growing.{uses_append}
+use Rattle.lineage_store.specs.root_laws.Naming.{uses_of}
+use Rattle.lineage_store.proofs.root_laws.Lists.{option_cases, or_false}
+use Rattle.lineage_store.proofs.root_laws.Keys.{same_key}
+use Rattle.lineage_store.proofs.root_laws.Growing.{uses_append}
 use Rattle.lineage_index.specs.Growth.{open_uses, list_with_uses, used_by_row, used_by, HaveDistinctKeys, is_on_key, changed_at}
 use Rattle.lineage_index.proofs.Blocks.{IsOnNewest}
 use Rattle.lineage_index.proofs.ByKey.{differ}

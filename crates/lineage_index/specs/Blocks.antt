@@ -1,12 +1,18 @@
 -- The invariant that each block keeps: all that is kept is determined by the rows so far.
 use Rattle.std.specs.Prelude.{ℕ, ◌<◌, List}
-use Rattle.std.specs.List.{All}
+use Rattle.std.specs.List.{All, concat}
 use Rattle.lc_base.specs.declared.row.Row.{Row}
 use Rattle.prov_entry.specs.declared.entry.Leaf.{Leaf}
-use Rattle.entry_store.specs.Entries.{Entry as StoreEntry}
+use Rattle.prov_entry.specs.Spelling.{body_fields}
+use Rattle.lineage_store.specs.root_laws.Naming.{body_of}
+use Rattle.lineage_store.specs.entry_store.Entries.{Entry as StoreEntry}
 use Rattle.forward_links.specs.declared.open_list.OpenList.{OpenList}
 use Rattle.lineage_index.specs.Heads.{AreHeads, states_of}
 use Rattle.lineage_index.specs.Settling.{IsStoreOf}
+
+-- The bytes of the fields of the body of a row of a history.
+abbrev pub bytes_of_body : List Row → Row → List ℕ
+bytes_of_body rows row = concat (body_fields (body_of rows row))
 
 -- The leaves, lists, indexes and entries are those of these rows, which are all of blocks before
 -- this one.

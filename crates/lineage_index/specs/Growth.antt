@@ -8,8 +8,8 @@ use Rattle.lc_base.specs.declared.row.Row.{Row}
 use Rattle.lc_base.specs.declared.row.Dep.{Dep}
 use Rattle.lc_base.specs.History.{IsLawful, newest, uses, version_of}
 use Rattle.prov_entry.specs.declared.entry.Leaf.{Leaf}
-use Rattle.root_laws.specs.Naming.{uses_of, digest_of_uses, header_digest}
-use Rattle.root_laws.specs.Root.{block_of, is_among, next_key}
+use Rattle.lineage_store.specs.root_laws.Naming.{uses_of, digest_of_uses, header_digest}
+use Rattle.lineage_store.specs.root_laws.Root.{block_of, is_among, next_key}
 
 -- ---- what holds of a block
 

@@ -5,10 +5,10 @@ use Rattle.std.specs.List.{AllPairs}
 use Rattle.lc_base.specs.declared.row.Row.{Row}
 use Rattle.lc_base.specs.declared.row.Dep.{Dep}
 use Rattle.lc_base.specs.History.{newest}
-use Rattle.skip_links.specs.Versions.{newest_index}
+use Rattle.lineage_store.specs.skip_links.Versions.{newest_index}
 use Rattle.prov_entry.specs.declared.entry.Leaf.{Leaf}
-use Rattle.root_laws.specs.Naming.{digest_of_uses, uses_of}
-use Rattle.root_laws.specs.Root.{sentinel, is_among, keys_of}
+use Rattle.lineage_store.specs.root_laws.Naming.{digest_of_uses, uses_of}
+use Rattle.lineage_store.specs.root_laws.Root.{sentinel, is_among, keys_of}
 use Rattle.forward_links.specs.declared.open_list.OpenList.{OpenList}
 use Rattle.forward_links.specs.Lists.{open_of}
 use Rattle.forward_links.specs.declared.limits.TheConstants.{MAX_USES}

@@ -3,8 +3,8 @@ use Rattle.std.specs.Prelude.{◌≡◌, ℕ, ◌-◌, ◌<◌, ◌≤◌, List,
 use Rattle.std.specs.List.{filter_map, Contains}
 use Rattle.lc_base.specs.declared.row.Row.{Row}
 use Rattle.prov_entry.specs.declared.entry.Leaf.{Leaf}
-use Rattle.entry_store.specs.Entries.{Entry as StoreEntry}
-use Rattle.root_laws.specs.Root.{keys_of}
+use Rattle.lineage_store.specs.entry_store.Entries.{Entry as StoreEntry}
+use Rattle.lineage_store.specs.root_laws.Root.{keys_of}
 use Rattle.state_tree.specs.declared.states.LeafState.{LeafState}
 use Rattle.state_tree.specs.Leaves.{index_of, state_of_leaf}
 use Rattle.forward_links.specs.declared.open_list.OpenList.{OpenList}

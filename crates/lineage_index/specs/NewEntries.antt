@@ -9,11 +9,11 @@ use Rattle.prov_entry.specs.declared.entry.Leaf.{Leaf}
 use Rattle.prov_entry.specs.declared.entry.BodyDep.{BodyDep}
 use Rattle.prov_entry.specs.declared.entry.Body.{Body}
 use Rattle.prov_entry.specs.Spelling.{body_fields}
-use Rattle.root_laws.specs.Naming.{digest_of_uses}
-use Rattle.root_laws.specs.Root.{is_among, keys_of, sentinel}
+use Rattle.lineage_store.specs.root_laws.Naming.{digest_of_uses}
+use Rattle.lineage_store.specs.root_laws.Root.{is_among, keys_of, sentinel}
 use Rattle.state_tree.specs.Leaves.{index_of}
 use Rattle.forward_links.specs.declared.open_list.OpenList.{OpenList}
-use Rattle.entry_store.specs.Entries.{Entry as StoreEntry}
+use Rattle.lineage_store.specs.entry_store.Entries.{Entry as StoreEntry}
 use Rattle.lineage_store.specs.Entries.{entries_of}
 use Rattle.lineage_store.specs.declared.growing.NewVersion.{NewVersion}
 use Rattle.lineage_index.specs.Growth.{Grows, Entry, entry_of, open_uses}
@@ -66,11 +66,14 @@ dep_in tree dep = record { key = dep.key; block = dep.block; digest = newest_in 
 abbrev pub body_in : List Leaf → Row → Body
 body_in tree row = record { value = row.value; deps = map (dep_in tree) row.deps }
 
--- A version of a row, which closes this list. Its body names the digests in the leaves.
-pub record IsVersionOf (tree : List Leaf) (list : List Dep) (row : Row) (version : NewVersion) : Type 0 where
+-- The bytes of the fields of that body.
+abbrev pub bytes_in : List Leaf → Row → List ℕ
+bytes_in tree row = concat (body_fields (body_in tree row))
+
+-- A version of a row, which closes this list.
+pub record IsVersionOf (list : List Dep) (row : Row) (version : NewVersion) : Type 0 where
   pub key_is : version.key ≡ row.key
   pub block_is : version.block ≡ row.block
   pub tx_is : version.tx ≡ row.tx
   pub closed_is : version.closed ≡ length list
   pub closed_digest_is : version.closed_digest ≡ digest_of_uses list
-  pub body_is : version.body ≡ concat (body_fields (body_in tree row))

@@ -2,7 +2,7 @@
 use Rattle.std.specs.Prelude.{◌≡◌, ℕ, List, map}
 use Rattle.lc_base.specs.declared.row.Row.{Row}
 use Rattle.prov_entry.specs.declared.entry.Leaf.{Leaf}
-use Rattle.root_laws.specs.Root.{keys_of}
+use Rattle.lineage_store.specs.root_laws.Root.{keys_of}
 use Rattle.lineage_index.specs.Growth.{Entry}
 use Rattle.lineage_index.specs.Heads.{leaves_with, newest_at}
 

@@ -5,9 +5,9 @@ use Rattle.lc_base.specs.declared.row.Row.{Row}
 use Rattle.lc_base.specs.declared.row.Dep.{Dep}
 use Rattle.lc_base.specs.History.{IsLawful}
 use Rattle.prov_entry.specs.declared.entry.Leaf.{Leaf}
-use Rattle.entry_store.specs.Entries.{Entry as StoreEntry}
+use Rattle.lineage_store.specs.entry_store.Entries.{Entry as StoreEntry}
 use Rattle.lineage_store.specs.Entries.{entries_of}
-use Rattle.root_laws.specs.Root.{is_among, keys_of}
+use Rattle.lineage_store.specs.root_laws.Root.{is_among, keys_of}
 use Rattle.forward_links.specs.declared.open_list.OpenList.{OpenList}
 use Rattle.lineage_index.specs.Growth.{Entry, entry_of, list_after_rows, entry_after}
 use Rattle.lineage_index.specs.Heads.{KeyStates, AreHeads, fresh_entry, newest_at, open_list}

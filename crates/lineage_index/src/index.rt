@@ -1,24 +1,26 @@
 //! The index over the rows of a lineage. It grows by whole blocks and keeps no rows: a lookup
 //! starts at the entry of the key's newest row, and follows the links of entries.
 
-ghost use Rattle.std.specs.Prelude.{◌≡◌, ℕ, ◌<◌, List, [], ◌+◌, ◌++◌, length, slice_get, Some, IfOk, OnOk};
+ghost use Rattle.std.specs.Prelude.{◌≡◌, ℕ, ◌<◌, List, [], ◌+◌, ◌++◌, length, map, slice_get, Some, IfOk, OnOk};
 ghost use Rattle.lc_base.specs.{declared.row.Row.{Row}, History.{latest}};
-ghost use Rattle.skip_links.specs.Versions.{newest_index};
-ghost use Rattle.skip_path.specs.Paths.{path};
+ghost use Rattle.lineage_store.specs.skip_links.Versions.{newest_index};
+ghost use Rattle.lineage_store.specs.skip_path.Paths.{path};
 ghost use Rattle.rows_index.specs.Places.{IsRowAt};
-ghost use Rattle.root_laws.specs.{NamingLaws.{digest_of_row}, Root.{leaves}};
-ghost use Rattle.entry_store.specs.Steps.{raised_count};
+ghost use Rattle.lineage_store.specs.root_laws.{Naming.{header_of}, Root.{leaves}};
+ghost use Rattle.lineage_store.specs.entry_store.Steps.{raised_count};
 ghost use Rattle.lineage_store.specs.{Entries.{entries_of, IsNewestOf}, OnPath.{AreEntriesIn}};
-ghost use Rattle.lineage_index.specs.{Growth.{Grows}, Blocks.{IsKeptIndex}, Index.{IsIndexOf}};
+ghost use Rattle.lineage_index.specs.{Growth.{Grows}, Blocks.{IsKeptIndex, bytes_of_body}, Index.{IsIndexOf}};
 
 use crate::advancing::advance;
 use crate::newest_row::{newest_entry_of, newest_row_of};
-use entry_store::{EntryId, EntryList, Store};
 use forward_links::OpenLists;
-use lc_base::{Digest, Key, Memory, Row};
-use lineage_store::{Steps, entries_on_path, latest_entry};
+use lc_base::{Key, Memory, Row, TextList};
+use lineage_store::{
+    EntryId, EntryList, Steps, Store, entries_on_path, entry_header, latest_entry,
+};
+use prov_entry::Header;
+use resources::Resources;
 use state_tree::Tree;
-use std::alloc::Global;
 
 /// The leaves, open lists and newest rows of keys, and the entries of rows. It does not keep the rows.
 #[derive(Drop)]
@@ -32,15 +34,15 @@ pub struct LineageIndex {
 impl LineageIndex {
     /// The index over no rows.
     #[tactic(auto, using(crate::proofs::Keeping::kept_at_first))]
-    pub fn new(alloc: Global) -> Result<LineageIndex, Memory>
+    pub fn new(resources: Resources) -> Result<LineageIndex, Memory>
         ensures { IfOk result (IsIndexOf [] 0) }
     {
-        let tree = Tree::new(alloc)?;
-        let store = Store::new(alloc)?;
+        let tree = Tree::new(resources)?;
+        let store = Store::new(resources.alloc)?;
         Ok(LineageIndex {
             tree,
-            lists: OpenLists::new(alloc),
-            newest: Vec::new(alloc),
+            lists: OpenLists::new(resources.alloc),
+            newest: Vec::new(resources.alloc),
             store,
         })
     }
@@ -57,15 +59,17 @@ impl LineageIndex {
         }
     }
 
-    /// Adds the rows of the next block. On `Memory` only a part of them may be there, and nothing
-    /// is known of the index: drop it.
-    pub fn add_block(&mut self, new: &[Row]) -> Result<(), Memory>
+    /// Adds the rows of the next block, and returns the bytes of their bodies. On `Memory` only a part of
+    /// the block may be there.
+    pub fn add_block(&mut self, new: &[Row]) -> Result<TextList, Memory>
         requires { (rows : List Row) × (n : ℕ) × Grows rows new.now n × IsIndexOf rows n self.old }
-        ensures { (rows : List Row) (n : ℕ) → Grows rows new.now n → IsIndexOf rows n self.old
+        ensures index { (rows : List Row) (n : ℕ) → Grows rows new.now n → IsIndexOf rows n self.old
             → OnOk result (IsIndexOf (rows ++ new.now) (n + 1) self.new) }
+        ensures bodies { (rows : List Row) (n : ℕ) → Grows rows new.now n → IsIndexOf rows n self.old
+            → IfOk result (λ bodies. bodies ≡ map (bytes_of_body (rows ++ new.now)) new.now) }
     {
         let alloc = *self.newest.allocator();
-        advance(
+        let bodies = advance(
             alloc,
             &mut self.tree,
             &mut self.lists,
@@ -73,7 +77,7 @@ impl LineageIndex {
             &mut self.store,
             new,
         )?;
-        Ok(())
+        Ok(bodies)
     }
 
     /// The leaves of the keys, after the sentinel.
@@ -130,13 +134,16 @@ impl LineageIndex {
         entries_on_path(alloc, &self.store, self.newest_entry(key), at, steps)
     }
 
-    /// The digest of the header of the row at an index.
-    pub fn header_digest(&self, index: u32) -> Digest
+    /// The header of the row at an index, made again of its entry.
+    pub fn header(&self, index: u32) -> Result<Header, Memory>
         requires { (rows : List Row) × (n : ℕ) × IsIndexOf rows n self.now × (index < length rows) }
         ensures { (rows : List Row) (n : ℕ) (row : Row) → IsIndexOf rows n self.now → slice_get rows index ≡ Some row
-            → result ≡ digest_of_row rows row }
+            → IfOk result (λ header. header ≡ header_of rows row) }
     {
-        self.store.facts(EntryId(index)).digest
+        let alloc = *self.newest.allocator();
+        let mut steps = Steps::new();
+        let header = entry_header(alloc, &self.store, EntryId(index), &mut steps)?;
+        Ok(header)
     }
 
     /// Drops the index: its many parts are dropped in this function alone.

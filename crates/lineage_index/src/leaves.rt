@@ -6,7 +6,7 @@ ghost use Rattle.std.specs.{
   List.{All},
 };
 ghost use Rattle.lc_base.specs.declared.row.Row.{Row};
-ghost use Rattle.root_laws.specs.Root.{keys_of};
+ghost use Rattle.lineage_store.specs.root_laws.Root.{keys_of};
 ghost use Rattle.lineage_index.specs.{
   Growth.{Entry, keys_touched},
   Leaves.{AreBesideLeaves, IsLeafIndex, state_of},
@@ -14,9 +14,9 @@ ghost use Rattle.lineage_index.specs.{
 };
 
 use crate::indexes::touched_indexes;
-use entry_store::{EntryId, Store};
 use forward_links::OpenLists;
 use lc_base::{Memory, Row};
+use lineage_store::{EntryId, Store};
 use state_tree::{LeafState, Tree};
 use std::alloc::Global;
 

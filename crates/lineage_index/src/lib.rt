@@ -10,8 +10,11 @@ mod leaves;
 mod new_entries;
 mod newest_row;
 mod settling;
-mod uses;
+mod spelling;
 
+pub use forward_links::OpenLists;
 pub use heads::set_newest;
 pub use index::LineageIndex;
 pub use leaves::leaf_state;
+pub use lineage_store::{EntryId, Steps};
+pub use state_tree::{LeafState, Tree};

@@ -5,7 +5,7 @@ use Rattle.lc_base.specs.declared.answer.Query.{Query}
 use Rattle.lc_base.specs.declared.answer.Kind.TheVariants.{Fwd}
 use Rattle.lc_base.specs.History.{latest, uses, scan, answer_about, answer_of}
 use Rattle.lc_base.specs.Parts.{question, list_in}
-use Rattle.rows_index.proofs.Recorded.{of_key}
+use Rattle.merkle_dag.proofs.rows_index.Recorded.{of_key}
 
 -- so the answer to a question is about the row that was found
 pub about_row : (rows : List Row) (query : Query) (row : Row)

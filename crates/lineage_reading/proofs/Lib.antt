@@ -1,2 +1,3 @@
 pub mod Spelled
 pub mod Finding
+pub use Rattle.merkle_dag.proofs as merkle_dag

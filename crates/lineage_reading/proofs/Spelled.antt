@@ -4,15 +4,15 @@ use Rattle.std.specs.Prelude.{slice_get}
 use Rattle.std.specs.List.{concat}
 use Rattle.std.proofs.lemmas.Option.{get_or_from_slice_get, slice_get_within}
 use Rattle.lc_base.specs.declared.row.Row.{Row}
-use Rattle.prov_entry.specs.declared.entry.Body.{Body}
-use Rattle.prov_entry.specs.Spelling.{IsBody, body_fields}
-use Rattle.root_laws.specs.Naming.{named_before, body_of}
-use Rattle.entry_views.specs.Reading.{body_at}
+use Rattle.merkle_dag.specs.prov_entry.declared.entry.Body.{Body}
+use Rattle.merkle_dag.specs.prov_entry.Spelling.{IsBody, body_fields}
+use Rattle.merkle_dag.specs.root_laws.Naming.{named_before, body_of}
+use Rattle.row_bodies.specs.entry_views.Reading.{body_at}
 use Rattle.row_bodies.specs.Bodies.{body_read, dep_without_digest}
 use Rattle.row_bodies.proofs.Bodies.{body_back}
-use Rattle.typed_ledger.specs.TypedLedger.{IsTypedHistory}
-use Rattle.typed_ledger.proofs.Spellings.{bodies_spelled}
-use Rattle.lineage_store.proofs.ReadBack.{deps_back}
+use Rattle.merkle_dag.specs.typed_ledger.TypedLedger.{IsTypedHistory}
+use Rattle.merkle_dag.proofs.typed_ledger.Spellings.{bodies_spelled}
+use Rattle.merkle_dag.proofs.lineage_store.ReadBack.{deps_back}
 
 -- the body of each row can be spelled
 is_body : (rows : List Row) (index : ℕ) (row : Row) → IsTypedHistory rows

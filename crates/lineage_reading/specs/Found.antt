@@ -2,7 +2,7 @@
 use Rattle.std.specs.Prelude.{◌≡◌, map, Option, Some, None}
 use Rattle.std.specs.Rc.{rc_slice_items}
 use Rattle.lc_base.specs.declared.row.Row.{Row}
-use Rattle.entry_views.specs.Reading.{body_at}
+use Rattle.row_bodies.specs.entry_views.Reading.{body_at}
 use Rattle.row_bodies.specs.Bodies.{body_read, dep_without_digest}
 use Rattle.lineage_reading.specs.declared.found.Found.{Found}
 

@@ -2,15 +2,14 @@
 
 ghost use Rattle.std.specs.Prelude.{◌≡◌, ◌<◌, true, length, slice_get, Some, IfOk, IsErrOf};
 ghost use Rattle.lc_base.specs.{History.{answer_about, scan}, declared.row.Row.{Row}};
-ghost use Rattle.skip_path.specs.Paths.{path};
-ghost use Rattle.entry_store.specs.Steps.{raised_count};
+ghost use Rattle.merkle_dag.specs.skip_path.Paths.{path};
+ghost use Rattle.merkle_dag.specs.entry_store.Steps.{raised_count};
 ghost use Rattle.scratch_model.specs.Scratch.{is_known};
 ghost use Rattle.merkle_dag.specs.Lineage.{AgreesWith, LeavesLineage};
 
 use crate::found::Found;
 use lc_base::{Answer, HostError, Kind, Query};
-use lineage_store::Steps;
-use merkle_dag::Lineage;
+use merkle_dag::{Lineage, Steps};
 use row_bodies::{deps_of_bytes, value_of_bytes};
 use scratch_model::Scratch;
 use std::alloc::Global;

@@ -5,10 +5,8 @@ ghost use Rattle.lc_base.specs.{History.{latest}, declared.row.Row.{Row}};
 ghost use Rattle.scratch_model.specs.Scratch.{is_known};
 ghost use Rattle.merkle_dag.specs.Lineage.{AgreesWith, LeavesLineage};
 
-use entry_store::EntryId;
 use lc_base::{HostError, Key};
-use lineage_store::Steps;
-use merkle_dag::Lineage;
+use merkle_dag::{EntryId, Lineage, Steps};
 use scratch_model::Scratch;
 use std::rc::RcSlice;
 

@@ -9,3 +9,4 @@ mod parts;
 
 pub use answers::answer;
 pub use host::Reading;
+pub use merkle_dag::Lineage;

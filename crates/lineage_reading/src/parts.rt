@@ -4,8 +4,7 @@ ghost use Rattle.std.specs.Prelude.{◌≡◌, ◌<◌, ◌^◌, IfSome};
 ghost use Rattle.lc_base.specs.{History.{scan}, Parts.{question, count_in, item_in}};
 
 use lc_base::{Dep, Key, Kind};
-use lineage_store::Steps;
-use merkle_dag::Lineage;
+use merkle_dag::{Lineage, Steps};
 
 /// The number of versions that were derived from the newest version of the key in the blocks up to
 /// `at`; `None` if there is no such version.

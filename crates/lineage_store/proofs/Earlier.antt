@@ -7,13 +7,13 @@ use Rattle.std.specs.Cmp.Lexicographic.{pointwise}
 use Rattle.std.proofs.lemmas.Bool.{cases_Bool, le-leb}
 use Rattle.std.proofs.lemmas.List.{append-nil, append_assoc, reverse-append}
 use Rattle.std.proofs.lemmas.List.Elements.{recursion_from_All}
-use Rattle.skip_path.proofs.Bound.{late}
+use Rattle.skip_list.proofs.skip_path.Bound.{late}
 use Rattle.lc_base.specs.declared.row.Row.{Row}
 use Rattle.lc_base.specs.History.{IsLawful}
 use Rattle.root_laws.proofs.Lists.{all_reverse}
-use Rattle.entry_store.specs.declared.entry.EntryId.{EntryId}
-use Rattle.entry_store.specs.declared.entry.Hop.{Hop}
-use Rattle.entry_store.specs.Entries.{Entry}
+use Rattle.skip_list.specs.entry_store.declared.entry.EntryId.{EntryId}
+use Rattle.skip_list.specs.entry_store.declared.entry.Hop.{Hop}
+use Rattle.skip_list.specs.entry_store.Entries.{Entry}
 use Rattle.skip_list.specs.Towered.{AreVersions}
 use Rattle.skip_list.specs.Lookups.{latest_version}
 use Rattle.skip_list.proofs.Pushing.{stays_towered}

@@ -10,17 +10,17 @@ use Rattle.std.proofs.lemmas.Option.{none-some, same_Some}
 use Rattle.lc_base.specs.declared.digest.Digest.{Digest}
 use Rattle.lc_base.specs.declared.row.Row.{Row}
 use Rattle.lc_base.specs.History.{IsLawful}
-use Rattle.prov_entry.specs.declared.entry.Header.{Header}
-use Rattle.prov_entry.specs.declared.entry.Body.{Body}
-use Rattle.prov_entry.specs.Spelling.{body_fields}
+use Rattle.root_laws.specs.prov_entry.declared.entry.Header.{Header}
+use Rattle.root_laws.specs.prov_entry.declared.entry.Body.{Body}
+use Rattle.root_laws.specs.prov_entry.Spelling.{body_fields}
 use Rattle.root_laws.specs.Naming.{header_of, body_of}
 use Rattle.root_laws.specs.NamingLaws.{digest_of_row}
 use Rattle.root_laws.specs.GrowthLaws.{AreFrom}
 use Rattle.root_laws.proofs.Growing.{earlier_headers_stay}
 use Rattle.root_laws.proofs.Lists.{all_weaker}
-use Rattle.entry_store.specs.declared.entry.Facts.{Facts}
-use Rattle.entry_store.specs.declared.entry.Links.{Links}
-use Rattle.entry_store.specs.Entries.{Entry, entry_digest, facts_of}
+use Rattle.skip_list.specs.entry_store.declared.entry.Facts.{Facts}
+use Rattle.skip_list.specs.entry_store.declared.entry.Links.{Links}
+use Rattle.skip_list.specs.entry_store.Entries.{Entry, entry_digest, facts_of}
 use Rattle.skip_list.specs.Towered.{AreVersions}
 use Rattle.lineage_store.specs.Versions.{versions_of_key, newest_entry, links_after}
 use Rattle.lineage_store.specs.Entries.{entry_for, entries_after, entries_of}

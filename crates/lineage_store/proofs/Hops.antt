@@ -15,10 +15,10 @@ use Rattle.skip_links.specs.Falling.{IsFalling}
 use Rattle.skip_links.proofs.Falls.{all_lower}
 use Rattle.skip_links.proofs.Threads.{row_at}
 use Rattle.skip_links.proofs.Towers.{ordered_fall}
-use Rattle.skip_path.proofs.Towers.{tower_holds}
-use Rattle.entry_store.specs.declared.entry.Hop.{Hop}
-use Rattle.entry_store.specs.declared.entry.Links.{Links}
-use Rattle.entry_store.specs.Entries.{Entry, LeadsBack}
+use Rattle.skip_list.proofs.skip_path.Towers.{tower_holds}
+use Rattle.skip_list.specs.entry_store.declared.entry.Hop.{Hop}
+use Rattle.skip_list.specs.entry_store.declared.entry.Links.{Links}
+use Rattle.skip_list.specs.entry_store.Entries.{Entry, LeadsBack}
 use Rattle.skip_list.specs.Towered.{block_of, blocks_of, links_over, HaveTowers, AreOlder}
 use Rattle.lineage_store.specs.Versions.{versions_in_reverse, versions_of_key}
 use Rattle.lineage_store.proofs.Versions.{blocks_are, older_are_before}

@@ -9,3 +9,5 @@ pub mod Looking
 pub mod MadeAgain
 pub mod Earlier
 pub mod OnPath
+pub use Rattle.root_laws.proofs as root_laws
+pub use Rattle.skip_links.proofs as skip_links

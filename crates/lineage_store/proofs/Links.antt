@@ -12,10 +12,10 @@ use Rattle.std.proofs.lemmas.Slice.Eq.{bytes_eq-Decides}
 use Rattle.lc_base.specs.declared.row.Row.{Row}
 use Rattle.lc_base.specs.History.{StandsBefore}
 use Rattle.skip_links.specs.Falling.{IsFalling}
-use Rattle.skip_path.proofs.OverRows.{key_falls}
-use Rattle.entry_store.specs.declared.entry.Hop.{Hop}
-use Rattle.entry_store.specs.declared.entry.Links.{Links}
-use Rattle.entry_store.specs.Entries.{Entry}
+use Rattle.skip_list.proofs.skip_path.OverRows.{key_falls}
+use Rattle.skip_list.specs.entry_store.declared.entry.Hop.{Hop}
+use Rattle.skip_list.specs.entry_store.declared.entry.Links.{Links}
+use Rattle.skip_list.specs.entry_store.Entries.{Entry}
 use Rattle.skip_list.specs.Towered.{blocks_of, links_over, HaveTowers, AreVersions}
 use Rattle.lineage_store.specs.Versions.{versions_in_reverse, versions_of_key, newest_entry, links_after}
 use Rattle.lineage_store.proofs.Versions.{blocks_are}

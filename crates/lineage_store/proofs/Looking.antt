@@ -4,12 +4,12 @@ use Rattle.std.proofs.Common.{◌≡◌, ◌∙◌, ℕ, ◌^◌, ◌<◌, List,
 use Rattle.std.specs.Prelude.{slice_get, MatchOption, IfSome}
 use Rattle.lc_base.specs.declared.row.Row.{Row}
 use Rattle.lc_base.specs.History.{latest}
-use Rattle.skip_path.specs.Paths.{path, path_over}
-use Rattle.skip_path.proofs.Walks.{over_none}
-use Rattle.entry_store.specs.declared.entry.EntryId.{EntryId}
-use Rattle.entry_store.specs.declared.entry.Hop.{Hop}
-use Rattle.entry_store.specs.Entries.{Entry}
-use Rattle.entry_store.specs.Steps.{raised_count}
+use Rattle.skip_list.specs.skip_path.Paths.{path, path_over}
+use Rattle.skip_list.proofs.skip_path.Walks.{over_none}
+use Rattle.skip_list.specs.entry_store.declared.entry.EntryId.{EntryId}
+use Rattle.skip_list.specs.entry_store.declared.entry.Hop.{Hop}
+use Rattle.skip_list.specs.entry_store.Entries.{Entry}
+use Rattle.skip_list.specs.entry_store.Steps.{raised_count}
 use Rattle.skip_list.specs.Towered.{blocks_of, IsTowered, AreVersions}
 use Rattle.skip_list.specs.Lookups.{latest_version}
 use Rattle.skip_list.proofs.Turns.{within}

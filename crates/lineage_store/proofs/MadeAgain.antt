@@ -6,13 +6,13 @@ use Rattle.std.proofs.lemmas.List.{append_assoc, append-nil}
 use Rattle.std.proofs.lemmas.Option.{none-some, same_Some, slice_get_within}
 use Rattle.lc_base.specs.declared.row.Row.{Row}
 use Rattle.lc_base.specs.History.{IsLawful}
-use Rattle.prov_entry.specs.declared.entry.Header.{Header}
-use Rattle.prov_entry.specs.declared.entry.Link.{Link}
+use Rattle.root_laws.specs.prov_entry.declared.entry.Header.{Header}
+use Rattle.root_laws.specs.prov_entry.declared.entry.Link.{Link}
 use Rattle.root_laws.specs.Naming.{header_of}
-use Rattle.entry_store.specs.declared.entry.Facts.{Facts}
-use Rattle.entry_store.specs.declared.entry.Links.{Links}
-use Rattle.entry_store.specs.Entries.{Entry, named_link}
-use Rattle.entry_store.proofs.Entries.{get_front}
+use Rattle.skip_list.specs.entry_store.declared.entry.Facts.{Facts}
+use Rattle.skip_list.specs.entry_store.declared.entry.Links.{Links}
+use Rattle.skip_list.specs.entry_store.Entries.{Entry, named_link}
+use Rattle.skip_list.proofs.entry_store.Entries.{get_front}
 use Rattle.lineage_store.specs.Entries.{entry_for, entries_after, entries_of}
 use Rattle.lineage_store.specs.Headers.{header_made}
 use Rattle.lineage_store.proofs.NextEntries.{HasRowsOf, header_links}

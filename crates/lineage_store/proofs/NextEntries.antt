@@ -11,17 +11,17 @@ use Rattle.lc_base.specs.History.{IsLawful, StandsBefore, up_to}
 use Rattle.skip_links.specs.Links.{links}
 use Rattle.skip_links.proofs.Falls.{all_lower}
 use Rattle.skip_links.proofs.Towers.{links_up_to}
-use Rattle.skip_path.proofs.Towers.{tower_holds}
-use Rattle.prov_entry.specs.declared.entry.Header.{Header}
-use Rattle.prov_entry.specs.declared.entry.Link.{Link}
-use Rattle.prov_entry.specs.Spelling.{body_fields}
+use Rattle.skip_list.proofs.skip_path.Towers.{tower_holds}
+use Rattle.root_laws.specs.prov_entry.declared.entry.Header.{Header}
+use Rattle.root_laws.specs.prov_entry.declared.entry.Link.{Link}
+use Rattle.root_laws.specs.prov_entry.Spelling.{body_fields}
 use Rattle.root_laws.specs.Naming.{closed_uses, digest_of_uses, digest_among, link_among, named_before, header_of, body_of}
 use Rattle.root_laws.specs.NamingLaws.{digest_of_row}
 use Rattle.root_laws.proofs.Headers.{row_is_named}
 use Rattle.root_laws.proofs.Lists.{all_contained, all_front, all_both}
-use Rattle.entry_store.specs.declared.entry.EntryId.{EntryId}
-use Rattle.entry_store.specs.declared.entry.Hop.{Hop}
-use Rattle.entry_store.specs.Entries.{Entry, LeadsBack, entry_digest, facts_of, named_link, new_header, new_entry}
+use Rattle.skip_list.specs.entry_store.declared.entry.EntryId.{EntryId}
+use Rattle.skip_list.specs.entry_store.declared.entry.Hop.{Hop}
+use Rattle.skip_list.specs.entry_store.Entries.{Entry, LeadsBack, entry_digest, facts_of, named_link, new_header, new_entry}
 use Rattle.skip_list.specs.Towered.{block_of, blocks_of, links_over, AreVersions, AreOlder}
 use Rattle.lineage_store.specs.declared.growing.NewVersion.{NewVersion}
 use Rattle.lineage_store.specs.Versions.{versions_of_key, links_after}
@@ -112,31 +112,31 @@ header_links all rows row after others lawful first have =
 
 -- ---- the new entry
 
-pub next_towered : (all rows : List Row) (row : Row) (newest : Option EntryId) (entries : List Entry) (version : NewVersion) → IsNextVersion all rows row newest entries version
+pub next_towered : (all rows : List Row) (row : Row) (newest : Option EntryId) (entries : List Entry) (version : NewVersion) (body : List ℕ) → IsNextVersion all rows row newest entries version body
     → AreVersions entries newest (versions_of_key rows row.key)
-next_towered all rows row newest entries version next =
+next_towered all rows row newest entries version body next =
     rw (next.newest_is, next.entries_are) (ordered_towered rows (entries_of all rows) row.key (ordered_before all rows row next.after next.lawful next.first) (have_links all rows))
 
-pub next_before : (all rows : List Row) (row : Row) (newest : Option EntryId) (entries : List Entry) (version : NewVersion) → IsNextVersion all rows row newest entries version
+pub next_before : (all rows : List Row) (row : Row) (newest : Option EntryId) (entries : List Entry) (version : NewVersion) (body : List ℕ) → IsNextVersion all rows row newest entries version body
     → AreOlder version.block (versions_of_key rows row.key)
-next_before all rows row newest entries version next = rw next.block_is (are_before rows row (ordered_with all rows row next.after next.lawful next.first))
+next_before all rows row newest entries version body next = rw next.block_is (are_before rows row (ordered_with all rows row next.after next.lawful next.first))
 
-pub next_room : (all rows : List Row) (row : Row) (newest : Option EntryId) (entries : List Entry) (version : NewVersion) → IsNextVersion all rows row newest entries version
+pub next_room : (all rows : List Row) (row : Row) (newest : Option EntryId) (entries : List Entry) (version : NewVersion) (body : List ℕ) → IsNextVersion all rows row newest entries version body
     → length entries < MAX_ROWS
-next_room all rows row newest entries version next =
+next_room all rows row newest entries version body next =
     let many : length entries ≡ length rows = ap length next.entries_are ∙ as_many all [] rows in
     let long : length all ≡ length (rows ++ row ∷ next.after) = ap length next.first in
     omega (arith, many, long, length-append rows (row ∷ next.after), next.lawful.few)
 
 -- The links of the next entry.
-next_links : (all rows : List Row) (row : Row) (newest : Option EntryId) (entries : List Entry) (version : NewVersion) (hops : List Hop) → IsNextVersion all rows row newest entries version
+next_links : (all rows : List Row) (row : Row) (newest : Option EntryId) (entries : List Entry) (version : NewVersion) (body : List ℕ) (hops : List Hop) → IsNextVersion all rows row newest entries version body
     → hops ≡ links_over version.block (versions_of_key rows row.key) → hops ≡ links_over row.block (versions_of_key rows row.key)
-next_links all rows row newest entries version hops next are = are ∙ ap (λ (block : ℕ). links_over block (versions_of_key rows row.key)) next.block_is
+next_links all rows row newest entries version body hops next are = are ∙ ap (λ (block : ℕ). links_over block (versions_of_key rows row.key)) next.block_is
 
-pub next_back : (all rows : List Row) (row : Row) (newest : Option EntryId) (entries : List Entry) (version : NewVersion) (hops : List Hop) → IsNextVersion all rows row newest entries version
+pub next_back : (all rows : List Row) (row : Row) (newest : Option EntryId) (entries : List Entry) (version : NewVersion) (body : List ℕ) (hops : List Hop) → IsNextVersion all rows row newest entries version body
     → hops ≡ links_over version.block (versions_of_key rows row.key) → All (LeadsBack entries version.key version.block) hops
-next_back all rows row newest entries version hops next are =
-    rw (next.entries_are, next.key_is, next.block_is, next_links all rows row newest entries version hops next are)
+next_back all rows row newest entries version body hops next are =
+    rw (next.entries_are, next.key_is, next.block_is, next_links all rows row newest entries version body hops next are)
     (links_lead_back rows row (entries_of all rows) (ordered_with all rows row next.after next.lawful next.first) (have_links all rows))
 
 header_is : (all rows : List Row) (row : Row) (after : List Row) → IsLawful all → all ≡ rows ++ row ∷ after
@@ -159,28 +159,27 @@ entry_is all rows row after lawful first =
     entry)
     (header_is all rows row after lawful first)
 
-new_is : (all rows : List Row) (row : Row) (newest : Option EntryId) (entries : List Entry) (version : NewVersion) (hops : List Hop) → IsNextVersion all rows row newest entries version
+new_is : (all rows : List Row) (row : Row) (newest : Option EntryId) (entries : List Entry) (version : NewVersion) (body : List ℕ) (hops : List Hop) → IsNextVersion all rows row newest entries version body
     → hops ≡ links_over version.block (versions_of_key rows row.key)
-    → new_entry entries version.key version.block version.tx hops version.closed version.closed_digest version.body ≡ entry_for all rows row
-new_is all rows row newest entries version hops next are =
+    → new_entry entries version.key version.block version.tx hops version.closed version.closed_digest body ≡ entry_for all rows row
+new_is all rows row newest entries version body hops next are =
     let before = entries_of all rows in
-    let body = version.body in
     let versions = versions_of_key rows row.key in
     let uses = closed_uses (up_to all row.block) row.key row.block in
     ap (λ (es : List Entry). new_entry es version.key version.block version.tx hops version.closed version.closed_digest body) next.entries_are
     ∙ ap (λ (key : List ℕ). new_entry before key version.block version.tx hops version.closed version.closed_digest body) next.key_is
     ∙ ap (λ (block : ℕ). new_entry before row.key block version.tx hops version.closed version.closed_digest body) next.block_is
     ∙ ap (λ (tx : ℕ). new_entry before row.key row.block tx hops version.closed version.closed_digest body) next.tx_is
-    ∙ ap (λ (hs : List Hop). new_entry before row.key row.block row.tx hs version.closed version.closed_digest body) (next_links all rows row newest entries version hops next are)
+    ∙ ap (λ (hs : List Hop). new_entry before row.key row.block row.tx hs version.closed version.closed_digest body) (next_links all rows row newest entries version body hops next are)
     ∙ ap (λ (digest : Digest). new_entry before row.key row.block row.tx (links_over row.block versions) version.closed digest body) next.closed_digest_is
     ∙ ap (λ (count : ℕ). new_entry before row.key row.block row.tx (links_over row.block versions) count (digest_of_uses uses) body) next.closed_is
     ∙ ap (λ (bytes : List ℕ). new_entry before row.key row.block row.tx (links_over row.block versions) (length uses) (digest_of_uses uses) bytes) next.body_is
     ∙ entry_is all rows row next.after next.lawful next.first
 
-pub next_entries : (all rows : List Row) (row : Row) (newest : Option EntryId) (entries : List Entry) (version : NewVersion) (hops : List Hop) → IsNextVersion all rows row newest entries version
+pub next_entries : (all rows : List Row) (row : Row) (newest : Option EntryId) (entries : List Entry) (version : NewVersion) (body : List ℕ) (hops : List Hop) → IsNextVersion all rows row newest entries version body
     → hops ≡ links_over version.block (versions_of_key rows row.key)
-    → entries ++ new_entry entries version.key version.block version.tx hops version.closed version.closed_digest version.body ∷ [] ≡ entries_of all (rows ++ row ∷ [])
-next_entries all rows row newest entries version hops next are =
-    ap (λ (entry : Entry). entries ++ entry ∷ []) (new_is all rows row newest entries version hops next are)
+    → entries ++ new_entry entries version.key version.block version.tx hops version.closed version.closed_digest body ∷ [] ≡ entries_of all (rows ++ row ∷ [])
+next_entries all rows row newest entries version body hops next are =
+    ap (λ (entry : Entry). entries ++ entry ∷ []) (new_is all rows row newest entries version body hops next are)
     ∙ ap (λ (others : List Entry). others ++ entry_for all rows row ∷ []) next.entries_are
     ∙ sym (with_row all rows row)

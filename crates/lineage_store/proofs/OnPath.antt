@@ -9,11 +9,11 @@ use Rattle.lc_base.specs.declared.memory.Memory.{Memory}
 use Rattle.lc_base.specs.declared.row.Dep.{Dep}
 use Rattle.lc_base.specs.declared.row.Row.{Row}
 use Rattle.lc_base.specs.History.{version_of}
-use Rattle.skip_path.specs.Paths.{path, path_over}
-use Rattle.skip_path.proofs.Walks.{over_none}
-use Rattle.entry_store.specs.declared.entry.EntryId.{EntryId}
-use Rattle.entry_store.specs.declared.entry.Hop.{Hop}
-use Rattle.entry_store.specs.Entries.{Entry}
+use Rattle.skip_list.specs.skip_path.Paths.{path, path_over}
+use Rattle.skip_list.proofs.skip_path.Walks.{over_none}
+use Rattle.skip_list.specs.entry_store.declared.entry.EntryId.{EntryId}
+use Rattle.skip_list.specs.entry_store.declared.entry.Hop.{Hop}
+use Rattle.skip_list.specs.entry_store.Entries.{Entry}
 use Rattle.skip_list.specs.Towered.{blocks_of}
 use Rattle.skip_list.specs.LookedAt.{entry_block}
 use Rattle.lineage_store.specs.Versions.{versions_of_key}

@@ -4,8 +4,8 @@ use Rattle.std.specs.List.{All, AllByRecursion}
 use Rattle.std.proofs.lemmas.List.Elements.{recursion_from_All}
 use Rattle.lc_base.specs.declared.row.Dep.{Dep}
 use Rattle.lc_base.specs.declared.row.Row.{Row}
-use Rattle.prov_entry.specs.declared.entry.BodyDep.{BodyDep}
-use Rattle.prov_entry.specs.Spelling.{IsBody}
+use Rattle.root_laws.specs.prov_entry.declared.entry.BodyDep.{BodyDep}
+use Rattle.root_laws.specs.prov_entry.Spelling.{IsBody}
 use Rattle.root_laws.specs.Naming.{with_digest, named_before, body_of}
 use Rattle.row_bodies.specs.Bodies.{dep_without_digest}
 use Rattle.row_bodies.proofs.Bodies.{body_back}

@@ -3,10 +3,10 @@ use Rattle.std.specs.Prelude.{◌≡◌, ℕ, List, [], ◌∷◌, ◌++◌, Opt
 use Rattle.std.specs.List.{concat}
 use Rattle.lc_base.specs.declared.row.Row.{Row}
 use Rattle.lc_base.specs.History.{IsLawful}
-use Rattle.prov_entry.specs.Spelling.{body_fields}
+use Rattle.root_laws.specs.prov_entry.Spelling.{body_fields}
 use Rattle.root_laws.specs.Naming.{header_of, body_of}
-use Rattle.entry_store.specs.declared.entry.EntryId.{EntryId}
-use Rattle.entry_store.specs.Entries.{Entry, facts_of}
+use Rattle.skip_list.specs.entry_store.declared.entry.EntryId.{EntryId}
+use Rattle.skip_list.specs.entry_store.Entries.{Entry, facts_of}
 use Rattle.lineage_store.specs.Versions.{links_after, newest_entry}
 
 -- The entry of a row of a history, from the rows before it: the links to the versions of its key

@@ -1,20 +1,20 @@
 -- What a version must be to become the next entry.
-use Rattle.std.specs.Prelude.{◌≡◌, ◌∷◌, ◌++◌, List, length, Option}
+use Rattle.std.specs.Prelude.{◌≡◌, ◌∷◌, ◌++◌, ℕ, List, length, Option}
 use Rattle.std.specs.List.{concat}
 use Rattle.lc_base.specs.declared.row.Row.{Row}
 use Rattle.lc_base.specs.History.{IsLawful, up_to}
-use Rattle.prov_entry.specs.Spelling.{body_fields}
+use Rattle.root_laws.specs.prov_entry.Spelling.{body_fields}
 use Rattle.root_laws.specs.Naming.{closed_uses, digest_of_uses, body_of}
-use Rattle.entry_store.specs.declared.entry.EntryId.{EntryId}
-use Rattle.entry_store.specs.Entries.{Entry}
+use Rattle.skip_list.specs.entry_store.declared.entry.EntryId.{EntryId}
+use Rattle.skip_list.specs.entry_store.Entries.{Entry}
 use Rattle.lineage_store.specs.declared.growing.NewVersion.{NewVersion}
 use Rattle.lineage_store.specs.Versions.{newest_entry}
 use Rattle.lineage_store.specs.Entries.{entries_of}
 
 -- The entries are those of the first rows of a lawful history, which has all rows of the block at work;
--- the next of its rows comes after them, this is its version, and `newest` is the entry of the newest
--- version of its key.
-pub record IsNextVersion (all rows : List Row) (row : Row) (newest : Option EntryId) (entries : List Entry) (version : NewVersion) : Type 0 where
+-- the next of its rows comes after them, this is its version with these bytes as its body, and `newest`
+-- is the entry of the newest version of its key.
+pub record IsNextVersion (all rows : List Row) (row : Row) (newest : Option EntryId) (entries : List Entry) (version : NewVersion) (body : List ℕ) : Type 0 where
   pub lawful : IsLawful all
   pub after : List Row
   pub first : all ≡ rows ++ row ∷ after
@@ -25,4 +25,4 @@ pub record IsNextVersion (all rows : List Row) (row : Row) (newest : Option Entr
   pub tx_is : version.tx ≡ row.tx
   pub closed_is : version.closed ≡ length (closed_uses (up_to all row.block) row.key row.block)
   pub closed_digest_is : version.closed_digest ≡ digest_of_uses (closed_uses (up_to all row.block) row.key row.block)
-  pub body_is : version.body ≡ concat (body_fields (body_of all row))
+  pub body_is : body ≡ concat (body_fields (body_of all row))

@@ -1,7 +1,7 @@
 -- Headers that are made again from entries.
 use Rattle.std.specs.Prelude.{List, map}
-use Rattle.prov_entry.specs.declared.entry.Header.{Header}
-use Rattle.entry_store.specs.Entries.{Entry, named_link}
+use Rattle.root_laws.specs.prov_entry.declared.entry.Header.{Header}
+use Rattle.skip_list.specs.entry_store.Entries.{Entry, named_link}
 
 -- The header of an entry: its links have the digests of the headers that its hops lead to.
 abbrev pub header_made : List Entry → Entry → Header

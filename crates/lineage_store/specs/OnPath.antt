@@ -4,7 +4,7 @@ use Rattle.std.specs.Option.{option_map}
 use Rattle.lc_base.specs.declared.row.Dep.{Dep}
 use Rattle.lc_base.specs.declared.row.Row.{Row}
 use Rattle.lc_base.specs.History.{version_of}
-use Rattle.entry_store.specs.declared.entry.EntryId.{EntryId}
+use Rattle.skip_list.specs.entry_store.declared.entry.EntryId.{EntryId}
 
 -- The version of a key in a block.
 abbrev pub version_in : List ℕ → ℕ → Dep

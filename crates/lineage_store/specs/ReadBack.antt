@@ -1,10 +1,10 @@
 -- The rows of entries, as they are read back from these.
 use Rattle.std.specs.Prelude.{List, map}
 use Rattle.lc_base.specs.declared.row.Row.{Row}
-use Rattle.prov_entry.specs.declared.entry.Body.{Body}
-use Rattle.entry_views.specs.Reading.{body_at}
+use Rattle.root_laws.specs.prov_entry.declared.entry.Body.{Body}
+use Rattle.row_bodies.specs.entry_views.Reading.{body_at}
 use Rattle.row_bodies.specs.Bodies.{body_read, dep_without_digest}
-use Rattle.entry_store.specs.Entries.{Entry}
+use Rattle.skip_list.specs.entry_store.Entries.{Entry}
 
 -- The row of an entry with this body.
 abbrev pub row_with : Entry → Body → Row

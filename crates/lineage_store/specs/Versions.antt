@@ -4,9 +4,9 @@ use Rattle.std.specs.Prelude.{◌==◌, if◌then◌else◌, List, ℕ, [], ◌�
 use Rattle.std.specs.Option.{option_map}
 use Rattle.std.specs.Cmp.Lexicographic.{pointwise}
 use Rattle.lc_base.specs.declared.row.Row.{Row}
-use Rattle.entry_store.specs.declared.entry.EntryId.{EntryId}
-use Rattle.entry_store.specs.declared.entry.Hop.{Hop}
-use Rattle.entry_store.specs.declared.entry.Links.{Links}
+use Rattle.skip_list.specs.entry_store.declared.entry.EntryId.{EntryId}
+use Rattle.skip_list.specs.entry_store.declared.entry.Hop.{Hop}
+use Rattle.skip_list.specs.entry_store.declared.entry.Links.{Links}
 use Rattle.skip_list.specs.Towered.{links_over}
 
 -- The versions of a key in rows that are given in reverse order.

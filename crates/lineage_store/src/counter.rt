@@ -1,7 +1,7 @@
 //! The counter of the entries that lookups in a lineage read. It is the one counter of the program
 //! that may be begun: the crates below only raise counts that they are given.
 
-use entry_store::Counter;
+use skip_list::Counter;
 
 /// The counter of the entries that lookups in a lineage read. Counts of it may be begun by whoever
 /// has lineages.
@@ -14,4 +14,4 @@ impl Counter for LookupCounter {
 }
 
 /// The number of entries that lookups in a lineage read.
-pub type Steps = entry_store::Steps<LookupCounter>;
+pub type Steps = skip_list::Steps<LookupCounter>;

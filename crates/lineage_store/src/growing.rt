@@ -3,14 +3,13 @@
 
 ghost use Rattle.std.specs.Prelude.{◌≡◌, ◌≤◌, ◌+◌, ◌++◌, ◌∷◌, [], List, length, OnOk, OnErr, IfOk};
 ghost use Rattle.lc_base.specs.declared.row.Row.{Row};
-ghost use Rattle.skip_path.specs.Paths.{binary_digits};
-ghost use Rattle.entry_store.specs.declared.entry.EntryId.{EntryId};
+ghost use Rattle.skip_list.specs.skip_path.Paths.{binary_digits};
+ghost use Rattle.skip_list.specs.entry_store.declared.entry.EntryId.{EntryId};
 ghost use Rattle.lineage_store.specs.{Entries.{entries_of}, Growing.{IsNextVersion}};
 
 use crate::counter::Steps;
-use entry_store::{EntryId, Store};
 use lc_base::{Bytes, Digest, Key, Memory};
-use skip_list::links_for;
+use skip_list::{EntryId, Store, links_for};
 use std::alloc::Global;
 
 /// A version that is to become an entry.
@@ -25,8 +24,6 @@ pub struct NewVersion {
     pub closed: u64,
     /// The digest of these, as a forward list.
     pub closed_digest: Digest,
-    /// The fields of its body.
-    pub body: Bytes,
 }
 
 /// Adds the version of a row, with the links to older versions of its key, and returns its entry.
@@ -36,10 +33,11 @@ pub fn push_version(
     store: &mut Store,
     newest: Option<EntryId>,
     version: NewVersion,
+    body: &Bytes,
     steps: &mut Steps,
 ) -> Result<EntryId, Memory>
-    requires { (all : List Row) × (rows : List Row) × (row : Row) × IsNextVersion all rows row newest store.old version }
-    ensures ok { (all rows : List Row) (row : Row) → IsNextVersion all rows row newest store.old version → OnOk result (store.new ≡ entries_of all (rows ++ row ∷ [])) }
+    requires { (all : List Row) × (rows : List Row) × (row : Row) × IsNextVersion all rows row newest store.old version body.now }
+    ensures ok { (all rows : List Row) (row : Row) → IsNextVersion all rows row newest store.old version body.now → OnOk result (store.new ≡ entries_of all (rows ++ row ∷ [])) }
     ensures id { IfOk result (λ (id : EntryId). id.0 ≡ length store.old) }
     ensures err { OnErr result (store.new ≡ store.old) }
     ensures never_less { steps.old ≤ steps.new }
@@ -53,7 +51,7 @@ pub fn push_version(
         hops,
         version.closed,
         version.closed_digest,
-        &version.body,
+        body,
     )?;
     Ok(id)
 }

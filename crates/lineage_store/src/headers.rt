@@ -7,13 +7,13 @@ ghost use Rattle.std.specs.{
 };
 ghost use Rattle.lc_base.specs.{declared.row.Row.{Row}, History.{IsLawful}};
 ghost use Rattle.root_laws.specs.Naming.{header_of};
-ghost use Rattle.entry_store.specs.Steps.{raised_count};
+ghost use Rattle.skip_list.specs.entry_store.Steps.{raised_count};
 ghost use Rattle.lineage_store.specs.{Entries.{entries_of}, Headers.{header_made}};
 
 use crate::counter::Steps;
-use entry_store::{EntryId, Store};
 use lc_base::Memory;
-use prov_entry::Header;
+use root_laws::Header;
+use skip_list::{EntryId, Store};
 use std::alloc::Global;
 
 /// The header of an entry; if the entries are those of a history, it is that of the entry's row. It

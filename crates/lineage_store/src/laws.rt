@@ -7,14 +7,14 @@ ghost use Rattle.std.specs.{
 };
 ghost use Rattle.lc_base.specs.{declared.row.Row.{Row}, History.{IsLawful, latest}};
 ghost use Rattle.skip_links.specs.{Links.{links}, Versions.{newest_index}};
-ghost use Rattle.skip_path.specs.Paths.{path, path_over};
-ghost use Rattle.prov_entry.specs.Spelling.{IsBody};
+ghost use Rattle.skip_list.specs.skip_path.Paths.{path, path_over};
+ghost use Rattle.root_laws.specs.prov_entry.Spelling.{IsBody};
 ghost use Rattle.root_laws.specs.{
   Naming.{header_of, body_of},
   NamingLaws.{digest_of_row},
   GrowthLaws.{AreFrom},
 };
-ghost use Rattle.entry_store.specs.{declared.entry.EntryId.{EntryId}, Entries.{Entry, named_link}};
+ghost use Rattle.skip_list.specs.entry_store.{declared.entry.EntryId.{EntryId}, Entries.{Entry, named_link}};
 ghost use Rattle.skip_list.specs.{
   Towered.{blocks_of, links_over, AreVersions},
   Lookups.{latest_version},

@@ -20,3 +20,4 @@ pub use laws::{
     path_is_over_the_versions, rows_are_read_back, versions_stay_where_other_keys_are_added,
 };
 pub use lookups::{entries_on_path, latest_entry};
+pub use skip_list::{EntryId, EntryList, Store};

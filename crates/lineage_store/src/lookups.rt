@@ -3,14 +3,13 @@
 
 ghost use Rattle.std.specs.Prelude.{◌≡◌, ◌<◌, ℕ, List, length, None, slice_get, IfOk, MatchOption};
 ghost use Rattle.lc_base.specs.{declared.row.Row.{Row}, History.{latest}};
-ghost use Rattle.skip_path.specs.Paths.{path};
-ghost use Rattle.entry_store.specs.{declared.entry.EntryId.{EntryId}, Steps.{raised_count}};
+ghost use Rattle.skip_list.specs.skip_path.Paths.{path};
+ghost use Rattle.skip_list.specs.entry_store.{declared.entry.EntryId.{EntryId}, Steps.{raised_count}};
 ghost use Rattle.lineage_store.specs.{Entries.{IsNewestOf}, OnPath.{AreEntriesIn}};
 
 use crate::counter::Steps;
-use entry_store::{EntryId, EntryList, Store};
 use lc_base::Memory;
-use skip_list::{find, path_entries};
+use skip_list::{EntryId, EntryList, Store, find, path_entries};
 use std::alloc::Global;
 
 /// The entry of the last row of a key in a block up to `at`; `None` exactly if there is no such

@@ -11,6 +11,7 @@ use lc_io::Room;
 use lineage_store::Steps;
 use merkle_dag::Lineage;
 use prov_query::{AskError, ask};
+use resources::{Resources, Zeros};
 use rooted_chain::LineageChain;
 use scratch_model::{MemScratch, Scratch};
 use std::alloc::Global;
@@ -75,7 +76,8 @@ pub(crate) fn chain_of<C: Replay, S: Scratch>(
 ) -> Option<C>
     ensures agrees { IfSome result (λ chain. C.agrees chain (S.state scratch.new)) }
 {
-    let mut chain = match C::start(alloc) {
+    let resources = Resources::new(alloc, &Zeros).ok()?;
+    let mut chain = match C::start(resources) {
         Ok(chain) => chain,
         Err(_) => return None,
     };

@@ -11,17 +11,17 @@ use Rattle.lc_base.specs.declared.digest.Digest.{Digest}
 use Rattle.lc_base.specs.declared.row.Row.{Row}
 use Rattle.lc_base.specs.History.{StandsBefore, up_to}
 use Rattle.body_store.specs.Bodies.{KeptBody, BodiesState}
-use Rattle.root_laws.specs.Root.{root_of}
-use Rattle.root_laws.proofs.Lists.{all_weaker, keep_none}
-use Rattle.root_laws.proofs.UpToBlock.{earlier_roots_stay}
+use Rattle.lineage_index.specs.lineage_store.root_laws.Root.{root_of}
+use Rattle.lineage_index.proofs.lineage_store.root_laws.Lists.{all_weaker, keep_none}
+use Rattle.lineage_index.proofs.lineage_store.root_laws.UpToBlock.{earlier_roots_stay}
 use Rattle.rows_index.specs.declared.index.RowsIndex.{RowsIndex}
 use Rattle.rows_index.specs.Index.{IsIndexOf as IsUsesIndexOf}
 use Rattle.rows_index.proofs.LastPlace.{blocks_rise}
-use Rattle.typed_ledger.specs.TypedLedger.{IsTypedRow}
-use Rattle.typed_ledger.proofs.Parts.{rows_up_to}
+use Rattle.lineage_front.specs.typed_ledger.TypedLedger.{IsTypedRow}
+use Rattle.lineage_front.proofs.typed_ledger.Parts.{rows_up_to}
 use Rattle.entry_store.specs.Entries.{Entry}
-use Rattle.lineage_store.specs.Entries.{entries_of}
-use Rattle.lineage_store.proofs.Entries.{as_many, earlier_entries}
+use Rattle.lineage_index.specs.lineage_store.Entries.{entries_of}
+use Rattle.lineage_index.proofs.lineage_store.Entries.{as_many, earlier_entries}
 use Rattle.lineage_index.specs.Index.{IsIndexOf}
 use Rattle.lineage_index.specs.declared.index.LineageIndex.{LineageIndex}
 use Rattle.merkle_dag.specs.Kept.{KeepsLineage}

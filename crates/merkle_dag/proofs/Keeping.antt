@@ -8,7 +8,7 @@ use Rattle.sha2.specs.Sha256.{sha256}
 use Rattle.lc_base.specs.declared.digest.Digest.{Digest}
 use Rattle.lc_base.specs.declared.row.Row.{Row}
 use Rattle.lc_base.specs.History.{IsLawful}
-use Rattle.root_laws.specs.Root.{root_of, root_text, leaves}
+use Rattle.lineage_index.specs.lineage_store.root_laws.Root.{root_of, root_text, leaves}
 use Rattle.lineage_index.specs.Growth.{Grows}
 use Rattle.lineage_index.specs.Index.{IsIndexOf}
 use Rattle.lineage_index.specs.declared.index.LineageIndex.{LineageIndex}

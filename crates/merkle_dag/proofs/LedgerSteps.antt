@@ -13,11 +13,11 @@ use Rattle.sha2.specs.Sha256.{sha256}
 use Rattle.lc_base.specs.declared.digest.Digest.{Digest}
 use Rattle.lc_base.specs.declared.row.Row.{Row}
 use Rattle.lc_base.specs.History.{IsLawful}
-use Rattle.skip_links.proofs.Lists.{range_more}
-use Rattle.root_laws.specs.Root.{root_of, root_text, digest_at, leaves}
-use Rattle.root_laws.proofs.Lists.{all_weaker, all_append}
-use Rattle.root_laws.proofs.Growing.{up_to_now}
-use Rattle.root_laws.proofs.UpToBlock.{earlier_roots_stay}
+use Rattle.skip_path.proofs.skip_links.Lists.{range_more}
+use Rattle.lineage_index.specs.lineage_store.root_laws.Root.{root_of, root_text, digest_at, leaves}
+use Rattle.lineage_index.proofs.lineage_store.root_laws.Lists.{all_weaker, all_append}
+use Rattle.lineage_index.proofs.lineage_store.root_laws.Growing.{up_to_now}
+use Rattle.lineage_index.proofs.lineage_store.root_laws.UpToBlock.{earlier_roots_stay}
 use Rattle.merkle_dag.specs.declared.limits.TheConstants.{MAX_LINEAGE_BLOCKS}
 use Rattle.lineage_index.specs.Growth.{Grows}
 use Rattle.merkle_dag.specs.Ledger.{IsLedger, roots_of}

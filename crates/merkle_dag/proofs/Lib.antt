@@ -5,3 +5,6 @@ pub mod Versions
 pub mod NextRows
 pub mod FirstBlocks
 pub mod Causes
+pub use Rattle.lineage_index.proofs.lineage_store as lineage_store
+pub use Rattle.rows_index.proofs as rows_index
+pub use Rattle.lineage_front.proofs.typed_ledger as typed_ledger

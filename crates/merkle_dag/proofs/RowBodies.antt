@@ -10,19 +10,19 @@ use Rattle.lc_base.specs.declared.digest.Digest.{Digest}
 use Rattle.lc_base.specs.declared.row.Row.{Row}
 use Rattle.body_store.specs.Bodies.{KeptBody, BodiesState, bodies_of, bodies_in, body_at_index}
 use Rattle.prov_entry.specs.Spelling.{body_fields}
-use Rattle.root_laws.specs.Naming.{body_of}
+use Rattle.lineage_index.specs.lineage_store.root_laws.Naming.{body_of}
 use Rattle.entry_store.specs.Entries.{Entry}
-use Rattle.lineage_store.specs.Entries.{entries_after, entries_of}
-use Rattle.lineage_store.specs.ReadBack.{rows_read}
-use Rattle.lineage_store.proofs.Entries.{as_many, entries_stay}
-use Rattle.lineage_store.proofs.ReadBack.{rows_back}
+use Rattle.lineage_index.specs.lineage_store.Entries.{entries_after, entries_of}
+use Rattle.lineage_index.specs.lineage_store.ReadBack.{rows_read}
+use Rattle.lineage_index.proofs.lineage_store.Entries.{as_many, entries_stay}
+use Rattle.lineage_index.proofs.lineage_store.ReadBack.{rows_back}
 use Rattle.lineage_index.specs.declared.index.LineageIndex.{LineageIndex}
 use Rattle.lineage_index.specs.Index.{IsIndexOf}
 use Rattle.rows_index.specs.declared.index.RowsIndex.{RowsIndex}
 use Rattle.rows_index.specs.Index.{IsIndexOf as IsUsesIndexOf}
 use Rattle.lineage_index.specs.Growth.{Grows}
-use Rattle.typed_ledger.specs.TypedLedger.{IsTypedRow}
-use Rattle.typed_ledger.proofs.Spellings.{bodies_spelled}
+use Rattle.lineage_front.specs.typed_ledger.TypedLedger.{IsTypedRow}
+use Rattle.lineage_front.proofs.typed_ledger.Spellings.{bodies_spelled}
 use Rattle.merkle_dag.specs.Adding.{bytes_of}
 use Rattle.merkle_dag.specs.Kept.{rows_kept, KeepsLineage}
 use Rattle.merkle_dag.proofs.Keeping.{ledger_none, roots_none}

@@ -3,12 +3,12 @@ use Rattle.std.specs.Prelude.{◌≡◌, List, length, map}
 use Rattle.std.specs.List.{All}
 use Rattle.lc_base.specs.declared.digest.Digest.{Digest}
 use Rattle.lc_base.specs.declared.row.Row.{Row}
-use Rattle.typed_ledger.specs.TypedLedger.{IsTypedRow}
+use Rattle.lineage_front.specs.typed_ledger.TypedLedger.{IsTypedRow}
 use Rattle.rows_index.specs.declared.index.RowsIndex.{RowsIndex}
 use Rattle.rows_index.specs.Index.{IsIndexOf as IsUsesIndexOf}
 use Rattle.body_store.specs.Bodies.{BodiesState, bodies_in}
 use Rattle.entry_store.specs.Entries.{Entry}
-use Rattle.lineage_store.specs.ReadBack.{rows_read}
+use Rattle.lineage_index.specs.lineage_store.ReadBack.{rows_read}
 use Rattle.lineage_index.specs.Index.{IsIndexOf}
 use Rattle.lineage_index.specs.declared.index.LineageIndex.{LineageIndex}
 use Rattle.merkle_dag.specs.declared.kept.Kept.{Kept}

@@ -1,5 +1,5 @@
 -- A lineage, as contracts see it, and the scratch device that keeps its bodies.
-use Rattle.std.specs.Prelude.{◌≡◌, ℕ, List}
+use Rattle.std.specs.Prelude.{◌≡◌, ℕ, List, [], take}
 use Rattle.lc_base.specs.Faults.{HasCause}
 use Rattle.lc_base.specs.declared.digest.Digest.{Digest}
 use Rattle.lc_base.specs.declared.row.Row.{Row}
@@ -23,6 +23,10 @@ ledger_in lineage = record { rows = lineage.rows; digests = lineage.digests }
 -- same.
 abbrev pub AgreesWith : LineageState → ScratchState → Type 0
 AgreesWith lineage scratch = Agrees lineage.bodies scratch
+
+-- The first bodies, in the places that they had; none of them is at hand.
+abbrev pub first_bodies : ℕ → BodiesState → BodiesState
+first_bodies count bodies = record { kept = take count bodies.kept; cached = [] }
 
 -- Only the bodies at hand may be others, and they agree with the device if they did before.
 -- Whatever the device kept, it keeps.

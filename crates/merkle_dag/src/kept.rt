@@ -12,13 +12,13 @@ ghost use Rattle.lc_base.specs.{
 };
 ghost use Rattle.scratch_model.specs.Scratch.{Retains};
 ghost use Rattle.body_store.specs.Agreement.{Agrees};
-ghost use Rattle.root_laws.specs.Root.{root_of};
+ghost use Rattle.lineage_index.specs.lineage_store.root_laws.Root.{root_of};
 ghost use Rattle.merkle_dag.specs.{
   declared.limits.TheConstants.{MAX_LINEAGE_BLOCKS},
   Kept.{IsWhole, rows_kept},
 };
 
-use crate::adding::add_rows;
+use crate::adding::{add_bodies, add_uses};
 use crate::root::root_of_tree;
 use body_store::Bodies;
 use lc_base::{Digest, HostError, RowList};
@@ -44,8 +44,9 @@ fn check_digest(digest: &Digest)
     let _bytes = digest.0.as_slice();
 }
 
-/// Adds the next block: its number, its digest and its rows. Returns the root at the block. On an
-/// error only a part of the block may be there: discard what is kept.
+/// Adds the next block: its number, its digest and its rows. Returns the root at the block. The
+/// bytes that the device is to keep are those whose digests are in the headers: each body is
+/// spelled once. On an error only a part of the block may be there: discard what is kept.
 pub(crate) fn grow<S: Scratch>(
     kept: &mut Kept,
     scratch: &mut S,
@@ -72,18 +73,12 @@ pub(crate) fn grow<S: Scratch>(
 {
     check_digest(&digest);
     let alloc = *kept.digests.allocator();
-    kept.index.add_block(new.as_slice())?;
+    let spelled = kept.index.add_block(new.as_slice())?;
+    add_uses(&mut kept.uses, new.as_slice())?;
     let root = root_of_tree(kept.index.tree(), number, &digest);
     kept.digests.push(digest)?;
     kept.roots.push(root)?;
-    let added = add_rows(
-        alloc,
-        &kept.index,
-        &mut kept.uses,
-        &mut kept.bodies,
-        scratch,
-        new.as_slice(),
-    );
+    let added = add_bodies(alloc, &mut kept.bodies, scratch, spelled.as_slice());
     match added {
         Ok(()) => Ok(root),
         Err(error) => Err(error),

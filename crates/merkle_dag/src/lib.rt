@@ -11,5 +11,7 @@ mod rewinding;
 mod root;
 mod uses;
 
+pub use entry_store::EntryId;
 pub use limits::MAX_LINEAGE_BLOCKS;
 pub use lineage::Lineage;
+pub use lineage_index::Steps;

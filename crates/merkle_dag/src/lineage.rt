@@ -15,18 +15,18 @@ ghost use Rattle.scratch_model.specs.Scratch.{ScratchState, is_known, Retains};
 ghost use Rattle.skip_path.specs.Paths.{path};
 ghost use Rattle.rows_index.specs.Places.{IsRowAt};
 ghost use Rattle.entry_store.specs.Steps.{raised_count};
-ghost use Rattle.lineage_store.specs.{
+ghost use Rattle.lineage_index.specs.lineage_store.{
   Versions.{newest_entry},
   Entries.{entries_of},
   OnPath.{AreEntriesIn},
 };
-ghost use Rattle.root_laws.specs.{Naming.{header_of}, Root.{root_of, leaves}};
-ghost use Rattle.typed_ledger.specs.TypedLedger.{IsTypedLedger};
+ghost use Rattle.lineage_index.specs.lineage_store.root_laws.{Naming.{header_of}, Root.{root_of, leaves}};
+ghost use Rattle.lineage_front.specs.typed_ledger.TypedLedger.{IsTypedLedger};
 ghost use Rattle.merkle_dag.specs.{
   Adding.{bytes_of},
   declared.limits.TheConstants.{MAX_LINEAGE_BLOCKS},
   Ledger.{IsLedger, IsHead},
-  Lineage.{AgreesWith, AreFactsOf, LeavesLineage, ledger_in},
+  Lineage.{AgreesWith, AreFactsOf, LeavesLineage, first_bodies, ledger_in},
 };
 
 use crate::bodies::body_at;
@@ -36,13 +36,11 @@ use crate::uses::{nth_version, users_of, versions_at};
 use body_store::Bodies;
 use entry_store::{EntryId, EntryList, Facts, Store};
 use lc_base::{Dep, DepList, Digest, HostError, Key, Memory, RowList};
-use lineage_index::LineageIndex;
-use lineage_store::Steps;
+use lineage_index::{LineageIndex, Steps, Tree};
 use prov_entry::Header;
+use resources::Resources;
 use rows_index::RowsIndex;
 use scratch_model::Scratch;
-use state_tree::Tree;
-use std::alloc::Global;
 use std::marker::Model;
 use std::rc::RcSlice;
 
@@ -71,20 +69,20 @@ impl Model for Lineage {
 
 impl Lineage {
     /// The lineage without a block. It agrees with every device.
-    pub fn new(alloc: Global) -> Result<Lineage, Memory>
+    pub fn new(resources: Resources) -> Result<Lineage, Memory>
         ensures none { IfOk result
             (λ lineage. ledger_in lineage ≡ record { rows = []; digests = [] }) }
         ensures agrees { IfOk result
             (λ lineage. (scratch : ScratchState) → AgreesWith lineage scratch) }
     {
-        let index = LineageIndex::new(alloc)?;
-        let bodies = Bodies::new(alloc)?;
+        let index = LineageIndex::new(resources)?;
+        let bodies = Bodies::new(resources.alloc)?;
         let kept = Kept {
             index,
-            uses: RowsIndex::new(alloc),
+            uses: RowsIndex::new(resources.alloc),
             bodies,
-            digests: Vec::new(alloc),
-            roots: Vec::new(alloc),
+            digests: Vec::new(resources.alloc),
+            roots: Vec::new(resources.alloc),
         };
         Ok(Lineage { kept })
     }
@@ -210,7 +208,7 @@ impl Lineage {
             → IfOk result (λ header. header ≡ header_of self.now.rows row) }
     {
         let alloc = *self.kept.digests.allocator();
-        lineage_entries::header(alloc, &self.kept.index, index)
+        self.kept.index.header(index)
     }
 
     /// Where the row at an index is in the history: its key, its block and its transaction.
@@ -280,6 +278,9 @@ impl Lineage {
         ensures agrees { IfOk result
             (λ lineage. (scratch : ScratchState) → AgreesWith self.now scratch
             → AgreesWith lineage scratch) }
+        ensures bodies { IfOk result
+            (λ lineage. lineage.bodies ≡ first_bodies (length (up_to self.now.rows at))
+            self.now.bodies) }
     {
         let alloc = *self.kept.digests.allocator();
         let kept = first_blocks(alloc, &self.kept, at)?;

@@ -5,7 +5,7 @@ ghost use Rattle.std.specs.Prelude.{◌≡◌, ◌+◌, ◌≤◌, ◌<◌, leng
 ghost use Rattle.lc_base.specs.History.{up_to};
 ghost use Rattle.scratch_model.specs.Scratch.{ScratchState};
 ghost use Rattle.body_store.specs.Agreement.{Agrees};
-ghost use Rattle.merkle_dag.specs.Kept.{IsWhole, rows_kept};
+ghost use Rattle.merkle_dag.specs.{Kept.{IsWhole, rows_kept}, Lineage.{first_bodies}};
 
 use crate::kept::Kept;
 use lc_base::{Digest, Memory};
@@ -33,6 +33,9 @@ pub(crate) fn first_blocks(alloc: Global, kept: &Kept, at: u32) -> Result<Kept, 
     ensures agrees { IfOk result
         (λ first. (scratch : ScratchState) → Agrees kept.now.bodies scratch
         → Agrees first.bodies scratch) }
+    ensures bodies { IfOk result
+        (λ first. first.bodies ≡ first_bodies (length (up_to (rows_kept kept.now.index) at))
+        kept.now.bodies) }
 {
     let count = at as usize + 1;
     let (index, uses) = front(alloc, &kept.index, &kept.uses, at)?;

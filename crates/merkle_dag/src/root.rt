@@ -4,12 +4,12 @@
 ghost use Rattle.std.specs.{Prelude.{◌≡◌, ◌∷◌, ◌++◌}, Int.{w32, to_be_bytes}};
 ghost use Rattle.sha2.specs.Sha256.{sha256};
 ghost use Rattle.prov_entry.specs.declared.limits.TheConstants.{ROOT};
-ghost use Rattle.root_laws.specs.Root.{root_text};
+ghost use Rattle.lineage_index.specs.lineage_store.root_laws.Root.{root_text};
 
 use digest_kit::TagHasher;
 use lc_base::Digest;
+use lineage_index::Tree;
 use prov_entry::ROOT;
-use state_tree::Tree;
 
 /// The digest (SHA-256) of the text of a root: the tag `ROOT`, the block, its digest, the number of
 /// leaves, and their tree hash. The numbers have 4 bytes, big-endian.

@@ -8,7 +8,7 @@ ghost use Rattle.lc_base.specs.{
   declared.row.Dep.{Dep},
 };
 ghost use Rattle.rows_index.specs.Users.{AreVersionsAt};
-ghost use Rattle.lineage_store.specs.Entries.{entries_of};
+ghost use Rattle.lineage_index.specs.lineage_store.Entries.{entries_of};
 ghost use Rattle.merkle_dag.specs.Kept.{IsWhole, rows_kept};
 
 use crate::kept::Kept;

@@ -14,6 +14,7 @@ mod renewing;
 mod setting_all;
 
 pub use climbing::{audit_length, root_from_leaf};
+pub use digest_kit::TagHasher;
 pub use hash::{empty_hash, leaf_hash, node_hash};
 pub use laws::{
     lists_are_sound, paths_are_complete, paths_are_sound, paths_follow_the_rule,

@@ -9,7 +9,7 @@ use Rattle.std.proofs.lemmas.Bool.{cases_Bool}
 use Rattle.std.proofs.lemmas.Bool.Decides.{nat_tests}
 use Rattle.std.proofs.lemmas.Cmp.{ranked, nat_cmp_total, tied_itself}
 use Rattle.std.proofs.lemmas.List.{take_more, length-take-le}
-use Rattle.lc_names.specs.NameBytes.{IsName}
+use Rattle.lc_base.specs.lc_names.NameBytes.{IsName}
 use Rattle.name_table.specs.Codes.{code}
 use Rattle.name_table.specs.Indexes.{index_in, noted_index, noted_with, noted_without, AreNoted}
 use Rattle.name_table.proofs.FirstPlaces.{index_more, index_within, last_or}

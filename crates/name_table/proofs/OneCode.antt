@@ -4,7 +4,7 @@ use Rattle.std.specs.Option.{option_map}
 use Rattle.std.proofs.lemmas.Bool.{cases_Bool}
 use Rattle.std.proofs.lemmas.Bool.Decides.{nat_tests}
 use Rattle.std.proofs.lemmas.Nat.{pow-add}
-use Rattle.lc_names.specs.NameBytes.{IsName, is_name_byte, foreign_byte, starts_with_letter, bad_name_byte}
+use Rattle.lc_base.specs.lc_names.NameBytes.{IsName, is_name_byte, foreign_byte, starts_with_letter, bad_name_byte}
 use Rattle.name_table.specs.Codes.{code}
 use Rattle.name_table.proofs.FirstPlaces.{at_head, past_head}
 

@@ -5,7 +5,7 @@ use Rattle.std.specs.Ordering.{nat_cmp}
 use Rattle.std.specs.Cmp.Lexicographic.{pointwise}
 use Rattle.std.specs.Map.{keys_of}
 use Rattle.std.specs.BTreeMap.{BTreeMap, get}
-use Rattle.lc_names.specs.NameBytes.{IsName}
+use Rattle.lc_base.specs.lc_names.NameBytes.{IsName}
 use Rattle.name_table.specs.Codes.{code}
 
 -- The index of the first entry of a name.

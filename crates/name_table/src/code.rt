@@ -1,7 +1,7 @@
 //! Names as numbers, which are compared in one step.
 
 ghost use Rattle.std.specs.Prelude.{◌≡◌};
-ghost use Rattle.lc_names.specs.NameBytes.{IsName};
+ghost use Rattle.lc_base.specs.lc_names.NameBytes.{IsName};
 ghost use Rattle.name_table.specs.Codes.{code};
 
 use lc_base::Name;

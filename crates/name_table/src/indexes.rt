@@ -5,7 +5,7 @@ ghost use Rattle.std.specs.{
   Prelude.{◌≡◌, ◌==◌, ℕ, List, take, position, OnOk, OnErr},
   Cmp.Lexicographic.{pointwise},
 };
-ghost use Rattle.lc_names.specs.NameBytes.{IsName};
+ghost use Rattle.lc_base.specs.lc_names.NameBytes.{IsName};
 ghost use Rattle.name_table.specs.Indexes.{noted_index, noted_with, noted_without, AreNoted};
 
 use crate::code::code_of;

@@ -22,8 +22,8 @@ use Rattle.prov_entry.specs.declared.entry.BodyDep.{BodyDep}
 use Rattle.prov_entry.specs.declared.entry.Body.{Body}
 use Rattle.prov_entry.specs.Spelling.{IsBody, body_text}
 use Rattle.prov_entry.specs.ForwardLists.{start_text, no_uses, use_text, use_fields, uses_digest}
-use Rattle.entry_views.specs.Bodies.{body_field}
-use Rattle.entry_views.proofs.Determined.{determined}
+use Rattle.proof_codec.specs.entry_views.Bodies.{body_field}
+use Rattle.proof_codec.proofs.entry_views.Determined.{determined}
 use Rattle.root_laws.specs.Naming.{header_of, body_of, named_before, with_digest}
 use Rattle.root_laws.proofs.Lists.{contained}
 use Rattle.root_laws.proofs.Keys.{same_key}

@@ -27,7 +27,7 @@ use Rattle.typed_ledger.specs.TypedLedger.{IsTypedRow}
 use Rattle.typed_ledger.proofs.Parts.{lawful_up_to, rows_up_to}
 use Rattle.typed_ledger.proofs.Spellings.{IsOneOf, leaf_cases, one_lawful, is_among_keys}
 use Rattle.proof_codec.specs.declared.proof.Proof.{Proof}
-use Rattle.entry_views.specs.Reading.{digest_of_bytes}
+use Rattle.proof_codec.specs.entry_views.Reading.{digest_of_bytes}
 use Rattle.proof_checks.specs.Checks.{is_of_key, is_before_next, covers}
 use Rattle.proof_checks.specs.LedgerTexts.{texts_of_leaves}
 use Rattle.proof_checks.specs.Making.{header_in, uses_if, IsMade, MadeProofsAreUnique}

@@ -18,7 +18,7 @@ use Rattle.root_laws.proofs.Lists.{all_weaker, contained, not_both, or_true}
 use Rattle.root_laws.proofs.Keys.{key_is_key}
 use Rattle.root_laws.proofs.NextKeys.{next_is, order, below_trans, not_itself}
 use Rattle.proof_codec.specs.declared.proof.Proof.{Proof}
-use Rattle.entry_views.specs.Reading.{digest_of_bytes}
+use Rattle.proof_codec.specs.entry_views.Reading.{digest_of_bytes}
 use Rattle.proof_checks.specs.Checks.{is_of_key, is_before_next, covers, verdict}
 use Rattle.proof_checks.specs.LedgerTexts.{texts_of_leaves}
 use Rattle.proof_checks.specs.Making.{covering_index, made_of, made_proof, IsMade, MadeProofIsMade, MadeProofIsAccepted}

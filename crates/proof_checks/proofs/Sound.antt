@@ -23,8 +23,8 @@ use Rattle.prov_entry.specs.declared.entry.Header.{Header}
 use Rattle.prov_entry.specs.declared.entry.Body.{Body}
 use Rattle.prov_entry.specs.declared.entry.Leaf.{Leaf}
 use Rattle.prov_entry.specs.Spelling.{leaf_bytes, header_text, body_text}
-use Rattle.entry_views.specs.Leaves.{leaf_field}
-use Rattle.entry_views.proofs.Determined.{determined}
+use Rattle.proof_codec.specs.entry_views.Leaves.{leaf_field}
+use Rattle.proof_codec.proofs.entry_views.Determined.{determined}
 use Rattle.root_laws.specs.Naming.{header_of, body_of}
 use Rattle.root_laws.specs.WalkLaws.{header_texts}
 use Rattle.root_laws.specs.Root.{keys_of, leaf_of, leaves, root_text, root_of, digest_at}

@@ -16,8 +16,8 @@ use Rattle.merkle_tree.specs.Clash.{Agree}
 use Rattle.merkle_tree.specs.Levels.{digest_of}
 use Rattle.prov_entry.specs.declared.entry.Header.{Header}
 use Rattle.prov_entry.specs.Spelling.{IsHeader, header_text}
-use Rattle.entry_views.specs.Headers.{header_field}
-use Rattle.entry_views.proofs.Determined.{determined}
+use Rattle.proof_codec.specs.entry_views.Headers.{header_field}
+use Rattle.proof_codec.proofs.entry_views.Determined.{determined}
 use Rattle.root_laws.specs.Naming.{header_of}
 use Rattle.root_laws.specs.WalkLaws.{text_of_row, header_texts}
 use Rattle.root_laws.proofs.Keys.{same_key}

@@ -21,7 +21,7 @@ use Rattle.root_laws.specs.Root.{keys_of, sentinel, leaves, digest_at, root_of}
 use Rattle.root_laws.specs.WalkLaws.{is_version_in}
 use Rattle.typed_ledger.specs.TypedLedger.{IsTypedHistory, IsTypedLedger}
 use Rattle.proof_codec.specs.declared.proof.Proof.{Proof}
-use Rattle.entry_views.specs.Reading.{digest_of_bytes}
+use Rattle.proof_codec.specs.entry_views.Reading.{digest_of_bytes}
 use Rattle.proof_codec.specs.Spelling.{IsProof}
 use Rattle.proof_checks.specs.Checks.{covers, verdict}
 use Rattle.proof_checks.specs.LedgerTexts.{texts_of_leaves}

@@ -8,7 +8,7 @@ use Rattle.lc_base.specs.declared.answer.Kind.{Kind}
 use Rattle.lc_base.specs.declared.answer.Kind.TheVariants.{Hist, Back, Fwd}
 use Rattle.lc_base.specs.declared.answer.Query.{Query}
 use Rattle.byte_fields.specs.Reading.{Field, bind_at, ret_at, then_at, made_at, ruled_at, items_at, number_at, byte_at, bytes_at, string_at, key_at}
-use Rattle.merkle_tree.specs.Tree.{audit_length}
+use Rattle.prov_entry.specs.merkle_tree.Tree.{audit_length}
 use Rattle.prov_entry.specs.declared.entry.Leaf.{Leaf}
 use Rattle.prov_entry.specs.declared.entry.Header.{Header}
 use Rattle.prov_entry.specs.declared.entry.Body.{Body}

@@ -10,7 +10,7 @@ use Rattle.lc_base.specs.declared.answer.Kind.{Kind}
 use Rattle.lc_base.specs.declared.answer.Kind.TheVariants.{Hist, Back, Fwd}
 use Rattle.lc_base.specs.declared.answer.Query.{Query}
 use Rattle.byte_fields.specs.Spelling.{string_fields}
-use Rattle.merkle_tree.specs.Tree.{audit_length}
+use Rattle.prov_entry.specs.merkle_tree.Tree.{audit_length}
 use Rattle.prov_entry.specs.declared.entry.Header.{Header}
 use Rattle.prov_entry.specs.Spelling.{IsHeader, IsBody, IsLeaf, header_fields, body_fields, leaf_fields}
 use Rattle.prov_entry.specs.ForwardLists.{use_fields}

@@ -7,5 +7,6 @@ mod verification;
 mod verifying;
 
 pub use lines::rejected_line;
+pub use proof_verifier::accept;
 pub use verification::{HexFault, Verification};
 pub use verifying::{decode_hex, verify_hex};

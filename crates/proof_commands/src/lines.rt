@@ -6,7 +6,7 @@ ghost use Rattle.hex.specs.Hex.{encode_lower};
 ghost use Rattle.proof_commands.specs.Lines.{reject_text, rejected_line};
 
 use lc_base::{Bytes, Digest, Memory};
-use proof_checks::Reject;
+use proof_verifier::Reject;
 use std::alloc::{AllocError, Global};
 
 /// The word, then the digest in lower-case hex.

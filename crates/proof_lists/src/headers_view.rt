@@ -19,7 +19,7 @@ pub struct HeadersView<'p> {
 
 impl<'p> Model for HeadersView<'p> {
     ghost use Rattle.std.specs.Prelude.{List};
-    ghost use Rattle.prov_entry.specs.declared.entry.Header.{Header as Item};
+    ghost use Rattle.proof_codec.specs.prov_entry.declared.entry.Header.{Header as Item};
     ghost use Rattle.byte_fields.specs.Reading.{items_at};
     ghost use Rattle.entry_views.specs.Items.{items_read, AreRead};
     ghost use Rattle.entry_views.specs.Reading.{header_at};

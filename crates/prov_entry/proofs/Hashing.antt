@@ -1,8 +1,8 @@
 -- The items of a list are added to a hasher one after the other, and each is lawful.
 use Rattle.std.proofs.Common.{◌≡◌, ℕ, ◌+◌, ◌<◌, ◌≤◌, List, [], ◌∷◌, ◌++◌, length, get_or, take, sym, ap, subst, ◌∙◌, append_assoc}
 use Rattle.std.specs.List.{concat, flat_map, AllByRecursion}
-use Rattle.digest_kit.specs.Hasher.{HasAdded}
-use Rattle.digest_kit.specs.declared.hasher.TagHasher.{TagHasher}
+use Rattle.merkle_tree.specs.digest_kit.Hasher.{HasAdded}
+use Rattle.merkle_tree.specs.digest_kit.declared.hasher.TagHasher.{TagHasher}
 use Rattle.std.proofs.lemmas.List.{append-nil, take_more, take_all}
 use Rattle.byte_fields.proofs.WrittenItems.{all_more, one_item_more}
 use Rattle.prov_entry.specs.Digests.{Adds}

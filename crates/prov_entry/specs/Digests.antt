@@ -1,7 +1,7 @@
 -- What is added to a hasher, whatever was added before.
 use Rattle.std.specs.Prelude.{ℕ, List, ◌++◌}
-use Rattle.digest_kit.specs.Hasher.{HasAdded}
-use Rattle.digest_kit.specs.declared.hasher.TagHasher.{TagHasher}
+use Rattle.merkle_tree.specs.digest_kit.Hasher.{HasAdded}
+use Rattle.merkle_tree.specs.digest_kit.declared.hasher.TagHasher.{TagHasher}
 
 -- These bytes were added behind those that were added before.
 abbrev pub Adds : TagHasher → TagHasher → List ℕ → Type 0

@@ -6,7 +6,7 @@ ghost use Rattle.std.specs.{
   List.{concat, flat_map, AllByRecursion},
 };
 ghost use Rattle.sha2.specs.Sha256.{sha256};
-ghost use Rattle.lc_names.specs.KeyBytes.{IsKey};
+ghost use Rattle.lc_base.specs.lc_names.KeyBytes.{IsKey};
 ghost use Rattle.byte_fields.specs.Spelling.{string_fields};
 ghost use Rattle.merkle_tree.specs.Tree.{leaf_text};
 ghost use Rattle.prov_entry.specs.{
@@ -17,9 +17,8 @@ ghost use Rattle.prov_entry.specs.{
 
 use crate::entry::{Header, Leaf, Link};
 use crate::limits::HEADER;
-use digest_kit::TagHasher;
 use lc_base::{Digest, Key};
-use merkle_tree::{LEAF, TreeLeaf};
+use merkle_tree::{LEAF, TagHasher, TreeLeaf};
 
 fn add_string(hasher: &mut TagHasher, bytes: &[u8])
     requires { length bytes.now < 2 ^ 16 }

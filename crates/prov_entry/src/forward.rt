@@ -5,8 +5,8 @@ ghost use Rattle.std.specs.Prelude.{◌≡◌, [], ◌++◌};
 ghost use Rattle.prov_entry.specs.ForwardLists.{no_uses, with_use};
 
 use crate::limits::FORWARD_LINK;
-use digest_kit::TagHasher;
 use lc_base::{Dep, Digest};
+use merkle_tree::TagHasher;
 
 /// SHA-256 of the byte `FORWARD_START`.
 const NO_USES: Digest = Digest([

@@ -4,8 +4,8 @@ use Rattle.lc_base.specs.History.{scan}
 use Rattle.lc_base.specs.declared.answer.Answer.{Answer}
 use Rattle.lc_base.specs.declared.answer.Query.{Query}
 use Rattle.skip_path.specs.Paths.{path}
-use Rattle.entry_store.specs.Steps.{raised_count}
-use Rattle.merkle_dag.specs.Ledger.{Ledger, IsHead}
+use Rattle.lineage_reading.specs.entry_store.Steps.{raised_count}
+use Rattle.lineage_reading.specs.merkle_dag.Ledger.{Ledger, IsHead}
 use Rattle.prov_query.specs.declared.questions.AskError.{AskError}
 use Rattle.prov_query.specs.declared.questions.AskError.TheVariants as errors
 

@@ -3,4 +3,5 @@
 
 mod questions;
 
+pub use lineage_store::Steps;
 pub use questions::{AskError, ask};

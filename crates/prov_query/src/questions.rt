@@ -3,13 +3,12 @@
 
 ghost use Rattle.std.specs.Prelude.{◌≡◌, true, IsErrOf};
 ghost use Rattle.scratch_model.specs.Scratch.{is_known};
-ghost use Rattle.merkle_dag.specs.Lineage.{ledger_in, AgreesWith, LeavesLineage};
+ghost use Rattle.lineage_reading.specs.merkle_dag.Lineage.{ledger_in, AgreesWith, LeavesLineage};
 ghost use Rattle.prov_query.specs.Asking.{IsAnswered, IsRefusedBeyond, IsCounted};
 
 use lc_base::{Answer, HostError, Query};
-use lineage_reading::answer;
+use lineage_reading::{Lineage, answer};
 use lineage_store::Steps;
-use merkle_dag::Lineage;
 use scratch_model::Scratch;
 use std::alloc::Global;
 

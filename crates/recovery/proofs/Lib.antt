@@ -4,3 +4,4 @@ pub mod Created
 pub mod ByLog
 pub mod Started
 pub mod Nodes
+pub use Rattle.rooted_chain.proofs.merkle_dag as merkle_dag

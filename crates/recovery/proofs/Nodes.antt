@@ -15,12 +15,12 @@ use Rattle.block_codec.specs.Reading.{block_in}
 use Rattle.block_codec.specs.declared.block.Block.{Block}
 use Rattle.block_log.specs.Log.{LogState, Agrees, IsNextAfter}
 use Rattle.block_log.proofs.Resting.{rests_at, rests_keeps}
-use Rattle.chain_exec.specs.Compiled.{compiled_in}
-use Rattle.chain_replay.specs.Chain.{ChainState, StandsFor, placement_in}
-use Rattle.chain_replay.specs.Judging.{Taken, Added, judgement_of, judged_by_placement, IsNextBlock}
-use Rattle.chain_replay.specs.declared.refusal.Refusal.{Refusal}
-use Rattle.chain_replay.proofs.Chains.{placed_as_kept}
-use Rattle.chain_replay.proofs.Judgements.{added_is_next}
+use Rattle.rooted_chain.specs.chain_exec.Compiled.{compiled_in}
+use Rattle.rooted_chain.specs.chain_replay.Chain.{ChainState, StandsFor, placement_in}
+use Rattle.rooted_chain.specs.chain_replay.Judging.{Taken, Added, judgement_of, judged_by_placement, IsNextBlock}
+use Rattle.rooted_chain.specs.chain_replay.declared.refusal.Refusal.{Refusal}
+use Rattle.rooted_chain.proofs.chain_replay.Chains.{placed_as_kept}
+use Rattle.rooted_chain.proofs.chain_replay.Judgements.{added_is_next}
 use Rattle.recovery.specs.Node.{NodeState, AreOfBlocks, AreOfOneChain, HoldsChain, IsNodeOf}
 use Rattle.recovery.specs.Node.{IsStepOf, chain_in}
 use Rattle.recovery.proofs.Placing.{stricter}

@@ -13,10 +13,10 @@ use Rattle.block_codec.specs.declared.placement.Placement.TheVariants.{Next, Ful
 use Rattle.block_codec.specs.declared.placement.Placement.TheVariants.{Number, Parent, Budget}
 use Rattle.block_codec.proofs.Placed.{not_full, not_held}
 use Rattle.block_log.specs.Log.{LogState, IsStricter, IsNextOf}
-use Rattle.chain_exec.specs.Compiled.{Compiler}
-use Rattle.chain_replay.specs.Chain.{ChainState, placement_in}
-use Rattle.chain_replay.specs.Judging.{IsNextBlock}
-use Rattle.chain_replay.proofs.Kept.{or_false}
+use Rattle.rooted_chain.specs.chain_exec.Compiled.{Compiler}
+use Rattle.rooted_chain.specs.chain_replay.Chain.{ChainState, placement_in}
+use Rattle.rooted_chain.specs.chain_replay.Judging.{IsNextBlock}
+use Rattle.rooted_chain.proofs.chain_replay.Kept.{or_false}
 use Rattle.recovery.specs.Node.{AreOfOneChain}
 
 fewer_rows : (held rows : ℕ) (parent : Digest) (block : Block)

@@ -12,9 +12,9 @@ use Rattle.block_log.specs.Log.{next_in_log}
 use Rattle.block_log.specs.Stricter.{standing_after}
 use Rattle.block_log.proofs.Stricter.{damaged_at, restood_none, restood_next}
 use Rattle.block_log.specs.declared.layout.Stored.{Stored}
-use Rattle.chain_exec.specs.Compiled.{compiled_in}
-use Rattle.chain_exec.specs.Replay.{replay}
-use Rattle.chain_replay.specs.Chain.{ChainState, StandsFor, nothing_kept, placement_in}
+use Rattle.rooted_chain.specs.chain_exec.Compiled.{compiled_in}
+use Rattle.rooted_chain.specs.chain_exec.Replay.{replay}
+use Rattle.rooted_chain.specs.chain_replay.Chain.{ChainState, StandsFor, nothing_kept, placement_in}
 use Rattle.recovery.specs.Node.{next_in_chain}
 use Rattle.recovery.proofs.Placing.{stricter}
 

@@ -18,8 +18,8 @@ use Rattle.block_log.specs.declared.error.LogError.TheVariants as logs
 use Rattle.block_log.specs.Stricter.{restanding}
 use Rattle.block_log.proofs.Stricter.{stands_stricter}
 use Rattle.block_log.specs.declared.layout.Stored.{Stored}
-use Rattle.chain_exec.specs.Compiled.{compiled_in}
-use Rattle.chain_replay.specs.Chain.{ChainState, nothing_kept, placement_in}
+use Rattle.rooted_chain.specs.chain_exec.Compiled.{compiled_in}
+use Rattle.rooted_chain.specs.chain_replay.Chain.{ChainState, nothing_kept, placement_in}
 use Rattle.recovery.specs.Node.{AreOfBlocks, AreOfOneChain, IsStarted, chain_in, next_in_chain}
 use Rattle.recovery.specs.Restoring.{HasRead, HasRun, IsRestored, start_error}
 use Rattle.recovery.specs.declared.errors.StartError.{StartError}

@@ -6,7 +6,7 @@ use Rattle.std.specs.Option.{is_some}
 use Rattle.lc_io.specs.Disk.{DiskState}
 use Rattle.scratch_model.specs.Scratch.{ScratchState, is_known}
 use Rattle.body_store.specs.Bodies.{BodiesState}
-use Rattle.merkle_dag.specs.Lineage.{LineageState, AgreesWith}
+use Rattle.rooted_chain.specs.merkle_dag.Lineage.{LineageState, AgreesWith}
 use Rattle.disk_model.specs.Disk.{Rests}
 use Rattle.block_codec.specs.Reading.{block_in}
 use Rattle.block_codec.specs.Placement.{last_digest}
@@ -15,12 +15,12 @@ use Rattle.block_log.specs.Standing.{Standing, NotALog, Damaged, NextBlock, next
 use Rattle.block_log.specs.Standing.{chain_of}
 use Rattle.block_log.specs.Log.{LogState, Agrees, IsOldOrNew, next_in_log}
 use Rattle.block_log.specs.declared.layout.Stored.{Stored}
-use Rattle.chain_exec.specs.Compiled.{compiled_in}
-use Rattle.chain_exec.specs.Fold.{block_effects}
-use Rattle.chain_exec.specs.Replay.{replay}
-use Rattle.chain_replay.specs.Chain.{ChainState, StandsFor, placement_in}
-use Rattle.chain_replay.specs.Judging.{Taken, Known, Added, added_by}
-use Rattle.chain_replay.specs.declared.refusal.Refusal.{Refusal}
+use Rattle.rooted_chain.specs.chain_exec.Compiled.{compiled_in}
+use Rattle.rooted_chain.specs.chain_exec.Fold.{block_effects}
+use Rattle.rooted_chain.specs.chain_exec.Replay.{replay}
+use Rattle.rooted_chain.specs.chain_replay.Chain.{ChainState, StandsFor, placement_in}
+use Rattle.rooted_chain.specs.chain_replay.Judging.{Taken, Known, Added, added_by}
+use Rattle.rooted_chain.specs.chain_replay.declared.refusal.Refusal.{Refusal}
 use Rattle.lc_base.specs.declared.host_error.HostError.{HostError}
 use Rattle.lc_base.specs.declared.host_error.HostError.TheVariants as replays
 use Rattle.rooted_chain.specs.Roots.{root_in, lineage_of}

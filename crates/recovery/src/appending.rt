@@ -6,8 +6,8 @@ ghost use Rattle.scratch_model.specs.Scratch.{is_known, Serves};
 ghost use Rattle.disk_model.specs.{Disk.{Keeps, content_of}, Leaving.{LeavesWire}};
 ghost use Rattle.block_codec.specs.{Reading.{block_in}, declared.block.Block.{Block as Blocks}};
 ghost use Rattle.block_log.specs.{Standing.{chain_of}, Log.{next_in_log}};
-ghost use Rattle.chain_exec.specs.Compiled.{compiled_in};
-ghost use Rattle.chain_replay.specs.Judging.{Added, judgement_of, IsNextBlock};
+ghost use Rattle.rooted_chain.specs.chain_exec.Compiled.{compiled_in};
+ghost use Rattle.rooted_chain.specs.chain_replay.Judging.{Added, judgement_of, IsNextBlock};
 ghost use Rattle.recovery.specs.Node.{IsNodeOf, IsReady, IsStepOf, IsLogStepOf, IsAppendAnswer, append_error, Blames, HandsBack, IfNode, is_disk_fault, is_scratch_fault, reaches_disk};
 
 use crate::errors::AppendError;
@@ -15,9 +15,9 @@ use crate::node::{Appended, Node};
 use crate::storing::store;
 use block_codec::Block;
 use block_log::DiskFault;
-use chain_replay::{Judged, Replay};
 use disk_model::Disk;
 use lc_base::{Digest, HostError, Memory};
+use rooted_chain::{Judged, Replay};
 use scratch_model::Scratch;
 use std::alloc::Global;
 

@@ -1,6 +1,6 @@
 //! Why a node was not started, or did not take a block. Only a refusal leaves the node usable.
 
-use chain_replay::Refusal;
+use rooted_chain::Refusal;
 
 /// Why no node could be started.
 #[derive(Clone, Copy, Debug, PartialEq, Eq)]

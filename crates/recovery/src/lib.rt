@@ -13,3 +13,4 @@ mod storing;
 pub use errors::{AppendError, StartError};
 pub use node::{Appended, Node};
 pub use opening::stored_chain;
+pub use rooted_chain::Refusal;

@@ -5,8 +5,8 @@ ghost use Rattle.disk_model.specs.Disk.{IsSettled, content_of};
 ghost use Rattle.scratch_model.specs.Scratch.{is_known, Serves};
 ghost use Rattle.block_codec.specs.declared.block.Block.{Block as Blocks};
 ghost use Rattle.block_log.specs.Standing.{standing};
-ghost use Rattle.chain_exec.specs.Compiled.{compiled_in};
-ghost use Rattle.chain_replay.specs.Chain.{StandsFor};
+ghost use Rattle.rooted_chain.specs.chain_exec.Compiled.{compiled_in};
+ghost use Rattle.rooted_chain.specs.chain_replay.Chain.{StandsFor};
 ghost use Rattle.rooted_chain.specs.Roots.{root_in};
 ghost use Rattle.recovery.specs.{
   Node.{IsNodeStarted, IsReady, lineage_in, next_in_chain},
@@ -16,14 +16,11 @@ ghost use Rattle.recovery.specs.{
 use crate::errors::StartError;
 use crate::opening::open;
 use block_log::Log;
-use chain_exec::ReceiptList;
-use chain_replay::Replay;
 use disk_model::Disk;
 use lc_base::Digest;
-use merkle_dag::Lineage;
-use rooted_chain::LineageChain;
+use resources::Resources;
+use rooted_chain::{Lineage, LineageChain, ReceiptList, Replay};
 use scratch_model::Scratch;
-use std::alloc::Global;
 use std::marker::Model;
 
 /// The chain of the blocks that a log holds, with bodies on a scratch device, and the log.
@@ -69,7 +66,7 @@ pub enum Appended {
 impl Node {
     /// Starts the node of the log on a disk. It writes nothing to the disk.
     pub fn start<M: Disk, S: Scratch>(
-        alloc: Global,
+        resources: Resources,
         machine: &mut M,
         scratch: &mut S,
     ) -> Result<Node, StartError>
@@ -88,7 +85,7 @@ impl Node {
         ensures scratch { Serves S.state S.scratch_faults scratch.old scratch.new
             (IsErrOf result StartError.ScratchFault) }
     {
-        match open::<LineageChain, M, S>(alloc, machine, scratch) {
+        match open::<LineageChain, M, S>(resources, machine, scratch) {
             Ok((chain, log)) => Ok(Node { chain, log }),
             Err(error) => Err(error),
         }

@@ -4,7 +4,7 @@ ghost use Rattle.std.specs.Prelude.{◌≡◌, ℕ, List, Some, IfOk, IsErrOf};
 ghost use Rattle.disk_model.specs.Disk.{IsSettled, Rests, content_of};
 ghost use Rattle.block_codec.specs.declared.block.Block.{Block as Blocks};
 ghost use Rattle.block_log.specs.{Standing.{standing}, Log.{Agrees}};
-ghost use Rattle.chain_replay.specs.Chain.{IsKnownFor, StandsFor};
+ghost use Rattle.rooted_chain.specs.chain_replay.Chain.{IsKnownFor, StandsFor};
 ghost use Rattle.recovery.specs.{
   Node.{AreOfBlocks, AreOfOneChain, IsStarted, IsChainStored, next_in_chain},
   Restoring.{ReadsLog, RunsOn},
@@ -14,15 +14,15 @@ use crate::errors::StartError;
 use crate::no_scratch::NoScratch;
 use crate::restoring::restore;
 use block_log::{Log, Opened};
-use chain_replay::{Chain, Replay};
 use disk_model::Disk;
+use resources::Resources;
+use rooted_chain::{Chain, Replay};
 use scratch_model::Scratch;
-use std::alloc::Global;
 
 /// Opens the log on a disk: the chain of the blocks that it holds, and the log. It writes nothing
 /// to the disk.
 pub fn open<C: Replay, M: Disk, S: Scratch>(
-    alloc: Global,
+    resources: Resources,
     machine: &mut M,
     scratch: &mut S,
 ) -> Result<(C, Log), StartError>
@@ -45,10 +45,10 @@ pub fn open<C: Replay, M: Disk, S: Scratch>(
     ensures scratch { RunsOn C.calls_scratch S.state S.scratch_faults scratch.old scratch.new
         (IsErrOf result StartError.ScratchFault) }
 {
-    match Log::start(alloc, machine)? {
-        Opened::Records { reader } => restore(alloc, machine, scratch, reader),
+    match Log::start(resources.alloc, machine)? {
+        Opened::Records { reader } => restore(resources, machine, scratch, reader),
         Opened::Blank { log } => {
-            let chain = C::start(alloc)?;
+            let chain = C::start(resources)?;
             Ok((chain, log))
         }
     }
@@ -56,7 +56,7 @@ pub fn open<C: Replay, M: Disk, S: Scratch>(
 
 /// The chain of the blocks that the log on a disk holds, for a caller who only reads it: plain
 /// rows, without roots. It writes nothing, and needs no scratch device.
-pub fn stored_chain<M: Disk>(alloc: Global, machine: &mut M) -> Result<Chain, StartError>
+pub fn stored_chain<M: Disk>(resources: Resources, machine: &mut M) -> Result<Chain, StartError>
     requires settled { IsSettled (M.disk machine.old (M.now machine.old)) }
     // The chain is the one that the content stands for, or the content stands for no chain.
     ensures answer { (content : List ℕ)
@@ -69,7 +69,7 @@ pub fn stored_chain<M: Disk>(alloc: Global, machine: &mut M) -> Result<Chain, St
     ensures no_scratch_fault { IsErrOf result StartError.ScratchFault → ⊥ }
 {
     let mut scratch = NoScratch { faults: 0 };
-    match open::<Chain, M, NoScratch>(alloc, machine, &mut scratch) {
+    match open::<Chain, M, NoScratch>(resources, machine, &mut scratch) {
         Ok((chain, _log)) => Ok(chain),
         Err(error) => Err(error),
     }

@@ -8,15 +8,16 @@ ghost use Rattle.block_codec.specs.{
   declared.block.Block.{Block as Blocks},
 };
 ghost use Rattle.block_log.specs.Reader.{AreRead};
-ghost use Rattle.chain_replay.specs.Chain.{IsKnownFor, StandsFor};
+ghost use Rattle.rooted_chain.specs.chain_replay.Chain.{IsKnownFor, StandsFor};
 ghost use Rattle.recovery.specs.Restoring.{HasRead, IfMade, IsRestored, IsRun, ReadsLog, RunsOn, start_error};
 
 use crate::errors::StartError;
 use block_codec::Placement;
 use block_log::{Log, LogError, LogReader, Stored, Turn};
-use chain_replay::Replay;
 use disk_model::Disk;
 use lc_base::{HostError, Memory};
+use resources::Resources;
+use rooted_chain::Replay;
 use scratch_model::Scratch;
 use std::alloc::Global;
 
@@ -78,7 +79,7 @@ fn run_stored<C: Replay, S: Scratch>(
 /// The chain of the blocks of a log, from its first block on, and the log. Each block runs as soon
 /// as it is read, so one is held at a time.
 pub fn restore<C: Replay, M: Disk, S: Scratch>(
-    alloc: Global,
+    resources: Resources,
     machine: &mut M,
     scratch: &mut S,
     first: LogReader,
@@ -95,15 +96,15 @@ pub fn restore<C: Replay, M: Disk, S: Scratch>(
     ensures scratch { RunsOn C.calls_scratch S.state S.scratch_faults scratch.old scratch.new
         (IsErrOf result StartError.ScratchFault) }
 {
-    let mut chain = C::start(alloc)?;
+    let mut chain = C::start(resources)?;
     let mut reader = first;
     loop {
-        match reader.next(alloc, machine)? {
+        match reader.next(resources.alloc, machine)? {
             Turn::End { log } => return Ok((chain, log)),
             Turn::Block {
                 next,
                 reader: further,
-            } => match run_stored(alloc, chain, scratch, &next) {
+            } => match run_stored(resources.alloc, chain, scratch, &next) {
                 Ok(Ok(longer)) => {
                     chain = longer;
                     reader = further;

@@ -6,8 +6,8 @@ use Rattle.std.proofs.lemmas.List.Elements.{All-nil, All-push}
 use Rattle.block_codec.specs.Spelling.{IsBlock}
 use Rattle.block_codec.specs.declared.block.Block.{Block}
 use Rattle.block_codec.specs.declared.placement.Placement.TheVariants.{Next}
-use Rattle.chain_exec.specs.Compiled.{Compiler}
-use Rattle.chain_replay.specs.Chain.{IsChain, placement_in}
+use Rattle.typed_replays.specs.chain_exec.Compiled.{Compiler}
+use Rattle.typed_replays.specs.chain_replay.Chain.{IsChain, placement_in}
 use Rattle.typed_replays.specs.Chains.{IsLawfulChain}
 
 pub no_blocks : (compile : Compiler) → IsLawfulChain compile []

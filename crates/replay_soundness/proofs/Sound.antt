@@ -6,7 +6,7 @@ use Rattle.lc_base.specs.declared.answer.Answer.{Answer}
 use Rattle.lc_base.specs.declared.answer.Answer.TheVariants.{Nothing}
 use Rattle.merkle_tree.specs.Clash.{Clash}
 use Rattle.block_codec.specs.Placement.{digest_of}
-use Rattle.chain_exec.specs.Replay.{replay}
+use Rattle.typed_replays.specs.chain_exec.Replay.{replay}
 use Rattle.proof_checks.proofs.Sound.{accepted_is_sound}
 use Rattle.proof_checks.specs.ProofTexts.{proof_texts}
 use Rattle.text_clashes.specs.FirstClash.{IsFirstAt, IsFirstClash}

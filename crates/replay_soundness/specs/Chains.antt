@@ -4,9 +4,9 @@ use Rattle.byte_fields.specs.Spelling.{IsBytes}
 use Rattle.block_codec.specs.Spelling.{Decoder, IsDecoder}
 use Rattle.block_codec.specs.declared.block.Block.{Block}
 use Rattle.block_log.specs.Standing.{next_block, chain_of}
-use Rattle.chain_exec.specs.Compiled.{Compiler}
-use Rattle.chain_replay.specs.Chain.{placement_in}
-use Rattle.chain_replay.specs.Judging.{added_by_all}
+use Rattle.typed_replays.specs.chain_exec.Compiled.{Compiler}
+use Rattle.typed_replays.specs.chain_replay.Chain.{placement_in}
+use Rattle.typed_replays.specs.chain_replay.Judging.{added_by_all}
 use Rattle.chain_input.specs.Folding.{fold_from, fold_input}
 use Rattle.typed_replays.specs.Chains.{IsLawfulChain}
 

@@ -10,12 +10,12 @@ use Rattle.block_codec.specs.Placement.{digest_of}
 use Rattle.block_codec.specs.Spelling.{Decoder, IsDecoder}
 use Rattle.block_codec.specs.declared.block.Block.{Block}
 use Rattle.block_log.specs.Standing.{next_block, chain_of}
-use Rattle.chain_exec.specs.Compiled.{Compiler, IsCompiler}
-use Rattle.chain_exec.specs.Replay.{replay}
-use Rattle.chain_replay.specs.Chain.{placement_in}
+use Rattle.typed_replays.specs.chain_exec.Compiled.{Compiler, IsCompiler}
+use Rattle.typed_replays.specs.chain_exec.Replay.{replay}
+use Rattle.typed_replays.specs.chain_replay.Chain.{placement_in}
 use Rattle.rooted_chain.specs.Roots.{root_in}
-use Rattle.proof_codec.specs.declared.proof.Proof.{Proof}
-use Rattle.proof_codec.specs.Spelling.{IsProof}
+use Rattle.proof_checks.specs.proof_codec.declared.proof.Proof.{Proof}
+use Rattle.proof_checks.specs.proof_codec.Spelling.{IsProof}
 use Rattle.proof_checks.specs.Checks.{verdict}
 use Rattle.proof_checks.specs.ProofTexts.{proof_texts}
 use Rattle.proof_checks.specs.LedgerTexts.{ledger_texts}

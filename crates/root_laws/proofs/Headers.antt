@@ -14,7 +14,7 @@ use Rattle.lc_base.specs.History.{IsLawful, HasLawfulDeps, IsRecordedFrom, Stand
 use Rattle.skip_links.specs.Links.{links, link, is_linked, is_older, is_at_level, height}
 use Rattle.prov_entry.specs.declared.entry.BodyDep.{BodyDep}
 use Rattle.prov_entry.specs.Spelling.{header_text}
-use Rattle.merkle_tree.specs.Levels.{digest_of}
+use Rattle.prov_entry.specs.merkle_tree.Levels.{digest_of}
 use Rattle.root_laws.specs.Naming.{named_before, named_by, is_of_block, is_named, digest_among, with_digest, link_among, header_among, header_of, body_of}
 use Rattle.root_laws.specs.Root.{leaf_of}
 use Rattle.root_laws.specs.WalkLaws.{is_version_in}

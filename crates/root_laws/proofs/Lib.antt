@@ -6,3 +6,4 @@ pub mod NextKeys
 pub mod UpToBlock
 pub mod ClosedLists
 pub mod Walking
+pub use Rattle.skip_links.proofs as skip_links

@@ -11,10 +11,10 @@ use Rattle.std.proofs.lemmas.Bool.{and_parts, and_from, eqb-true, eq-eqb}
 use Rattle.std.proofs.lemmas.Option.{none-some, same_Some}
 use Rattle.lc_base.specs.declared.row.Row.{Row}
 use Rattle.lc_base.specs.History.{IsLawful}
-use Rattle.merkle_tree.specs.Chains.{Expected, Walks, IsOfPlace, AreLinked, AreOfPlaces}
-use Rattle.merkle_tree.specs.Clash.{Clash}
-use Rattle.merkle_tree.proofs.Agreeing.{agree_or_clash}
-use Rattle.merkle_tree.proofs.Chained.{walk_sound}
+use Rattle.prov_entry.specs.merkle_tree.Chains.{Expected, Walks, IsOfPlace, AreLinked, AreOfPlaces}
+use Rattle.prov_entry.specs.merkle_tree.Clash.{Clash}
+use Rattle.prov_entry.proofs.merkle_tree.Agreeing.{agree_or_clash}
+use Rattle.prov_entry.proofs.merkle_tree.Chained.{walk_sound}
 use Rattle.root_laws.specs.Naming.{header_of}
 use Rattle.root_laws.specs.NamingLaws.{IsToOlder, digest_of_row}
 use Rattle.root_laws.specs.WalkLaws.{is_version_in, text_of_row, header_text_at, header_texts, FollowsLinks, begun_at}

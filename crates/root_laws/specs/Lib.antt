@@ -4,3 +4,5 @@ pub mod GrowthLaws
 pub mod NamingLaws
 pub mod KeyLaws
 pub mod WalkLaws
+pub use Rattle.prov_entry.specs as prov_entry
+pub use Rattle.skip_links.specs as skip_links

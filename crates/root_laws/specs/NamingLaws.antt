@@ -7,7 +7,7 @@ use Rattle.lc_base.specs.History.{IsLawful, newest}
 use Rattle.prov_entry.specs.declared.entry.Link.{Link}
 use Rattle.prov_entry.specs.declared.entry.BodyDep.{BodyDep}
 use Rattle.prov_entry.specs.Spelling.{header_text}
-use Rattle.merkle_tree.specs.Levels.{digest_of}
+use Rattle.prov_entry.specs.merkle_tree.Levels.{digest_of}
 use Rattle.root_laws.specs.Naming.{digest_among, named_before, header_of, body_of}
 use Rattle.root_laws.specs.Root.{leaf_of}
 

@@ -5,7 +5,7 @@ use Rattle.std.specs.Int.{w32, to_be_bytes}
 use Rattle.std.specs.Ordering.{nat_cmp, is_lt}
 use Rattle.std.specs.Cmp.Lexicographic.{pointwise, slice_cmp}
 use Rattle.sha2.specs.Sha256.{sha256}
-use Rattle.merkle_tree.specs.Tree.{leaf_text, tree_hash}
+use Rattle.prov_entry.specs.merkle_tree.Tree.{leaf_text, tree_hash}
 use Rattle.lc_base.specs.declared.digest.Digest.{Digest}
 use Rattle.lc_base.specs.declared.row.Row.{Row}
 use Rattle.lc_base.specs.History.{up_to, newest, uses}

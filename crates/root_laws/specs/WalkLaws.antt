@@ -5,8 +5,8 @@ use Rattle.std.specs.Option.{option_map}
 use Rattle.std.specs.Cmp.Lexicographic.{pointwise}
 use Rattle.lc_base.specs.declared.row.Row.{Row}
 use Rattle.lc_base.specs.History.{IsLawful}
-use Rattle.merkle_tree.specs.Chains.{Expected, Walks, AreOfPlaces}
-use Rattle.merkle_tree.specs.Clash.{Clash}
+use Rattle.prov_entry.specs.merkle_tree.Chains.{Expected, Walks, AreOfPlaces}
+use Rattle.prov_entry.specs.merkle_tree.Clash.{Clash}
 use Rattle.prov_entry.specs.declared.entry.Link.{Link}
 use Rattle.prov_entry.specs.Spelling.{header_text}
 use Rattle.root_laws.specs.Naming.{header_of}

@@ -12,3 +12,4 @@ pub use laws::{
     next_key_is_the_least_greater, next_key_is_unique, rows_are_named,
     versions_of_a_block_are_named,
 };
+pub use prov_entry::Header;

@@ -9,10 +9,10 @@ use Rattle.block_codec.specs.declared.block.Block.{Block}
 use Rattle.contract_tree.specs.declared.tree.Contract.{Contract}
 use Rattle.world_state.specs.Known.{Known}
 use Rattle.world_state.specs.World.{newest_of, StandsForRows}
-use Rattle.chain_exec.specs.BlockRows.{AreBlockRows}
+use Rattle.chain_replay.specs.chain_exec.BlockRows.{AreBlockRows}
 use Rattle.chain_replay.specs.Chain.{HasRoom, IsKeptChain}
 use Rattle.chain_replay.proofs.Kept.{next_lawful, next_kept}
-use Rattle.merkle_dag.specs.Lineage.{LineageState}
+use Rattle.lineage_reading.specs.merkle_dag.Lineage.{LineageState}
 use Rattle.rooted_chain.specs.Roots.{RootedState, kept_in}
 
 -- what a chain keeps, by its parts

@@ -5,9 +5,9 @@ use Rattle.std.proofs.lemmas.List.{length-map}
 use Rattle.lc_base.specs.declared.digest.Digest.{Digest}
 use Rattle.block_codec.specs.Placement.{digest_of}
 use Rattle.block_codec.specs.declared.block.Block.{Block}
-use Rattle.chain_exec.specs.Compiled.{compiled_in}
-use Rattle.chain_exec.specs.Effect.{History}
-use Rattle.chain_exec.specs.Replay.{replay}
+use Rattle.chain_replay.specs.chain_exec.Compiled.{compiled_in}
+use Rattle.chain_replay.specs.chain_exec.Effect.{History}
+use Rattle.chain_replay.specs.chain_exec.Replay.{replay}
 use Rattle.chain_replay.specs.Chain.{ChainState, StandsFor}
 use Rattle.root_laws.specs.Root.{root_of}
 use Rattle.rooted_chain.specs.Roots.{root_in}

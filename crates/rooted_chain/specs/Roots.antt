@@ -7,11 +7,11 @@ use Rattle.block_codec.specs.Placement.{digest_of}
 use Rattle.block_codec.specs.declared.block.Block.{Block}
 use Rattle.block_codec.specs.declared.placement.Placement.TheVariants.{Next}
 use Rattle.contract_tree.specs.declared.tree.Contract.{Contract}
-use Rattle.chain_exec.specs.Compiled.{Compiler, compiled_in}
-use Rattle.chain_exec.specs.Replay.{replay}
+use Rattle.chain_replay.specs.chain_exec.Compiled.{Compiler, compiled_in}
+use Rattle.chain_replay.specs.chain_exec.Replay.{replay}
 use Rattle.chain_replay.specs.Chain.{ChainState, StandsFor, placement_in}
 use Rattle.root_laws.specs.Root.{root_of}
-use Rattle.merkle_dag.specs.Lineage.{LineageState}
+use Rattle.lineage_reading.specs.merkle_dag.Lineage.{LineageState}
 
 -- What is kept of a chain with its lineage: the digests of its blocks, their rows, the contracts
 -- that they deployed, by name, and where the bodies of the rows are kept.

@@ -6,17 +6,18 @@ ghost use Rattle.block_codec.specs.{
   declared.limits.TheConstants.{MAX_BLOCKS},
   declared.block.Block.{Block as Blocks},
 };
-ghost use Rattle.chain_exec.specs.Compiled.{compiled_in};
+ghost use Rattle.chain_replay.specs.chain_exec.Compiled.{compiled_in};
 ghost use Rattle.chain_replay.specs.Chain.{StandsFor};
 ghost use Rattle.root_laws.specs.Root.{root_of};
-ghost use Rattle.merkle_dag.specs.Lineage.{AgreesWith};
+ghost use Rattle.lineage_reading.specs.merkle_dag.Lineage.{AgreesWith};
 ghost use Rattle.rooted_chain.specs.Roots.{kept_in, lineage_in, root_in};
 
 use block_codec::{Block, NO_PARENT, Placement, place};
 use chain_replay::Replay;
 use contract_check::Checked;
 use lc_base::{Digest, HostError, Memory};
-use merkle_dag::Lineage;
+use lineage_reading::Lineage;
+use resources::Resources;
 use scratch_model::Scratch;
 use std::alloc::Global;
 use std::marker::Model;
@@ -117,11 +118,11 @@ impl Replay for LineageChain {
 
     ghost agrees = { λ chain scratch. AgreesWith (lineage_in chain) scratch };
 
-    fn start(alloc: Global) -> Result<LineageChain, Memory> {
-        let lineage = Lineage::new(alloc)?;
+    fn start(resources: Resources) -> Result<LineageChain, Memory> {
+        let lineage = Lineage::new(resources)?;
         Ok(LineageChain {
             lineage,
-            world: World::new(alloc),
+            world: World::new(resources),
         })
     }
 

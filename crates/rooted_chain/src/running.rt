@@ -4,21 +4,20 @@ ghost use Rattle.std.specs.Prelude.{◌≡◌, true, [], length, map, IfOk, OnOk
 ghost use Rattle.scratch_model.specs.Scratch.{is_known};
 ghost use Rattle.block_codec.specs.Spelling.{IsBlock};
 ghost use Rattle.world_state.specs.{Rows.{entry_of}, World.{newest_of, StandsForRows}};
-ghost use Rattle.chain_exec.specs.{
+ghost use Rattle.chain_replay.specs.chain_exec.{
   BlockRows.{AreBlockRows},
   Compiled.{compiled_in},
   Fold.{block_effects},
   Running.{history_in, staged_in},
 };
 ghost use Rattle.lc_base.specs.declared.host_error.HostError.TheVariants.{Fault};
-ghost use Rattle.merkle_dag.specs.Lineage.{AgreesWith, LeavesLineage};
+ghost use Rattle.lineage_reading.specs.merkle_dag.Lineage.{AgreesWith, LeavesLineage};
 
 use block_codec::Block;
-use chain_exec::{BlockRun, run_block};
+use chain_replay::{BlockRun, run_block};
 use contract_check::Checked;
 use lc_base::HostError;
-use lineage_reading::Reading;
-use merkle_dag::Lineage;
+use lineage_reading::{Lineage, Reading};
 use scratch_model::Scratch;
 use std::alloc::Global;
 use world_state::World;

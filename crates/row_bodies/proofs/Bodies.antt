@@ -6,10 +6,10 @@ use Rattle.std.specs.Option.{option_map}
 use Rattle.std.proofs.lemmas.List.{append-nil, take_more, map_push}
 use Rattle.std.proofs.lemmas.Option.{slice_get-map, slice_get_within, get_or_from_slice_get}
 use Rattle.lc_base.specs.declared.row.Dep.{Dep}
-use Rattle.byte_fields.specs.Reading.{Field}
-use Rattle.prov_entry.specs.declared.entry.Body.{Body}
-use Rattle.prov_entry.specs.declared.entry.BodyDep.{BodyDep}
-use Rattle.prov_entry.specs.Spelling.{IsBody, body_fields}
+use Rattle.entry_views.specs.byte_fields.Reading.{Field}
+use Rattle.entry_views.specs.prov_entry.declared.entry.Body.{Body}
+use Rattle.entry_views.specs.prov_entry.declared.entry.BodyDep.{BodyDep}
+use Rattle.entry_views.specs.prov_entry.Spelling.{IsBody, body_fields}
 use Rattle.entry_views.specs.declared.fault.FieldError.{FieldError}
 use Rattle.entry_views.specs.Placed.{Placed}
 use Rattle.entry_views.specs.Reading.{body_at}

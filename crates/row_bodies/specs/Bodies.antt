@@ -2,9 +2,9 @@
 use Rattle.std.specs.Prelude.{pos, [], Option, Some, None, Ok, Err}
 use Rattle.lc_base.specs.declared.row.Dep.{Dep}
 use Rattle.lc_base.specs.declared.value.Value.TheVariants.{Int}
-use Rattle.byte_fields.specs.Reading.{Field}
-use Rattle.prov_entry.specs.declared.entry.Body.{Body}
-use Rattle.prov_entry.specs.declared.entry.BodyDep.{BodyDep}
+use Rattle.entry_views.specs.byte_fields.Reading.{Field}
+use Rattle.entry_views.specs.prov_entry.declared.entry.Body.{Body}
+use Rattle.entry_views.specs.prov_entry.declared.entry.BodyDep.{BodyDep}
 use Rattle.entry_views.specs.Placed.{Placed}
 
 -- The value 0 without dependencies.

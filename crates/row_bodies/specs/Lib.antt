@@ -1,1 +1,2 @@
 pub mod Bodies
+pub use Rattle.entry_views.specs as entry_views

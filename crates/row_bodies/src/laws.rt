@@ -1,7 +1,7 @@
 //! A law of the bytes of bodies, the contract of a function that does nothing.
 
 ghost use Rattle.std.specs.{Prelude.{◌≡◌}, List.{concat}};
-ghost use Rattle.prov_entry.specs.{declared.entry.Body.{Body}, Spelling.{IsBody, body_fields}};
+ghost use Rattle.entry_views.specs.prov_entry.{declared.entry.Body.{Body}, Spelling.{IsBody, body_fields}};
 ghost use Rattle.entry_views.specs.Reading.{body_at};
 ghost use Rattle.row_bodies.specs.Bodies.{body_read};
 

@@ -3,14 +3,13 @@
 
 ghost use Rattle.std.specs.Prelude.{◌≡◌, length, map, slice_get, IfOk};
 ghost use Rattle.lc_base.specs.declared.limits.TheConstants.{MAX_DEPS};
-ghost use Rattle.byte_fields.specs.{Reader.{value_seen}, Spelling.{IsValue}};
-ghost use Rattle.prov_entry.specs.Spelling.{IsBody};
+ghost use Rattle.entry_views.specs.byte_fields.{Reader.{value_seen}, Spelling.{IsValue}};
+ghost use Rattle.entry_views.specs.prov_entry.Spelling.{IsBody};
 ghost use Rattle.entry_views.specs.Reading.{body_at};
 ghost use Rattle.row_bodies.specs.Bodies.{body_read, body_standing, dep_without_digest};
 
-use entry_views::{BodyDepView, BodyView, ValueView, read_body};
+use entry_views::{Body, BodyDep, BodyDepList, BodyDepView, BodyView, ValueView, read_body};
 use lc_base::{Dep, DepList, Memory, Text, TextError, Value};
-use prov_entry::{Body, BodyDep, BodyDepList};
 use std::alloc::Global;
 
 /// The body at the start of bytes; `None` if there is none.

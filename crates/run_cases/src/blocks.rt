@@ -13,6 +13,7 @@ use chain_exec::BlockRun;
 use chain_replay::{Chain, Replay};
 use cli_lines::answer_lines;
 use lc_base::{Answer, Bytes, Digest, Kind, Memory, Query, Row, RowList, Seq};
+use resources::Resources;
 use std::alloc::Global;
 use std::io::Write;
 
@@ -133,8 +134,13 @@ fn compare_answers<W: Write>(
 }
 
 /// Runs the blocks of the frames of a source, and then compares answers.
-fn run_frames<W: Write>(alloc: Global, out: &mut W, source: &mut PausingSource) -> Result<()> {
-    let mut chain = Chain::new(alloc);
+fn run_frames<W: Write>(
+    resources: Resources,
+    out: &mut W,
+    source: &mut PausingSource,
+) -> Result<()> {
+    let alloc = resources.alloc;
+    let mut chain = Chain::new(resources);
     let mut rows = RowList::new(alloc);
     let mut frames = Frames::new();
     for _ in 0..=MAX_FRAMES {
@@ -159,13 +165,13 @@ fn run_frames<W: Write>(alloc: Global, out: &mut W, source: &mut PausingSource) 
 /// the case, then for each block the number of rows that it wrote, and for each transaction its
 /// status and its cost, and last how many answers of the chain were those of a scan of its rows.
 pub fn run_blocks<W: Write>(
-    alloc: Global,
+    resources: Resources,
     out: &mut W,
     words: &str,
     piece: &str,
     input: &str,
 ) -> Result<()> {
     writeln!(out, "== {words}")?;
-    let mut source = source_of(alloc, piece, input, "")?;
-    run_frames(alloc, out, &mut source)
+    let mut source = source_of(resources.alloc, piece, input, "")?;
+    run_frames(resources, out, &mut source)
 }

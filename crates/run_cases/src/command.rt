@@ -5,6 +5,7 @@ use crate::streams::{bytes_of, machine_of, scratch_of, source_of};
 use anyhow::{Context, Result};
 use chain_cli::run::run;
 use disk_model::MemMachine;
+use resources::Resources;
 use std::alloc::Global;
 use std::io::Write;
 
@@ -123,7 +124,8 @@ fn print_outcome<W: Write>(
 }
 
 /// Runs the command of a case.
-pub fn run_case(alloc: Global, case: &Case<'_>) -> Result<Ended> {
+pub fn run_case(resources: Resources, case: &Case<'_>) -> Result<Ended> {
+    let alloc = resources.alloc;
     let (pulls, calls) = match case.failing {
         None => ("", ""),
         Some(Failing { pulls, calls }) => (pulls, calls),
@@ -132,7 +134,7 @@ pub fn run_case(alloc: Global, case: &Case<'_>) -> Result<Ended> {
     let mut machine = machine_of(alloc, case.image.unwrap_or(""), calls)?;
     let mut scratch = scratch_of(alloc, case.scratch)?;
     let words = words_of(alloc, case.words)?;
-    let number = run(alloc, &words, &mut source, &mut machine, &mut scratch).number();
+    let number = run(resources, &words, &mut source, &mut machine, &mut scratch).number();
     Ok(Ended {
         number,
         left: source.remaining(),
@@ -141,7 +143,7 @@ pub fn run_case(alloc: Global, case: &Case<'_>) -> Result<Ended> {
 }
 
 /// Runs a command, and prints what became of it.
-pub fn run_command<W: Write>(alloc: Global, out: &mut W, case: &Case<'_>) -> Result<()> {
-    let ended = run_case(alloc, case)?;
-    print_outcome(alloc, out, case, &ended)
+pub fn run_command<W: Write>(resources: Resources, out: &mut W, case: &Case<'_>) -> Result<()> {
+    let ended = run_case(resources, case)?;
+    print_outcome(resources.alloc, out, case, &ended)
 }

@@ -5,6 +5,7 @@ use crate::command::{Case, print_held, print_piece, run_case, words_of};
 use crate::streams::bytes_of;
 use anyhow::{Context, Result, bail, ensure};
 use disk_model::MemMachine;
+use resources::Resources;
 use std::alloc::Global;
 use std::io::Write;
 
@@ -64,12 +65,13 @@ fn print_crashes<W: Write>(
 /// Runs a command, and prints the number of its status, its words, when it printed each piece, and
 /// what crashes leave.
 pub fn run_crashes<W: Write>(
-    alloc: Global,
+    resources: Resources,
     out: &mut W,
     case: &Case<'_>,
     crashes: &str,
 ) -> Result<()> {
-    let ended = run_case(alloc, case)?;
+    let alloc = resources.alloc;
+    let ended = run_case(resources, case)?;
     writeln!(out, "== {} crash {}", ended.number, case.words)?;
     print_moments(alloc, out, &ended.machine)?;
     print_crashes(

@@ -14,7 +14,7 @@ use crate::command::{Case, Failing, run_command};
 use crate::crashes::run_crashes;
 use crate::trees::run_tree;
 use anyhow::{Context, Result};
-use std::alloc::Global;
+use resources::{Resources, Zeros};
 use std::io::{self, BufRead, BufReader, BufWriter, Write};
 
 /// The prefix of a case whose blocks are run one by one.
@@ -63,28 +63,29 @@ fn case_of<'a>(words: &'a str, piece: &'a str, rest: &'a str) -> Result<Case<'a>
 }
 
 /// Runs the case of a line.
-fn run_line<W: Write>(alloc: Global, out: &mut W, line: &str) -> Result<()> {
+fn run_line<W: Write>(resources: Resources, out: &mut W, line: &str) -> Result<()> {
     let (words, rest) = line.split_once('|').context("a case without a field")?;
     if words.starts_with(TREE) {
-        return run_tree(alloc, out, words, rest);
+        return run_tree(resources.alloc, out, words, rest);
     }
     let (piece, rest) = rest.split_once('|').context("a case without an input")?;
     if words.starts_with(BLOCKS) {
-        return run_blocks(alloc, out, words, piece, rest);
+        return run_blocks(resources, out, words, piece, rest);
     }
     if let Some(words) = words.strip_prefix(CRASH) {
         let (rest, crashes) = rest.rsplit_once('|').context("a case without crashes")?;
-        return run_crashes(alloc, out, &case_of(words, piece, rest)?, crashes);
+        return run_crashes(resources, out, &case_of(words, piece, rest)?, crashes);
     }
-    run_command(alloc, out, &case_of(words, piece, rest)?)
+    run_command(resources, out, &case_of(words, piece, rest)?)
 }
 
 fn main(rt: HostRuntime) -> Result<()> {
     let alloc = rt.alloc();
+    let resources = Resources::new(alloc, &Zeros)?;
     let mut out = BufWriter::new(alloc, io::writer(&rt))?;
     for line in BufReader::new(alloc, rt.reader())?.lines(alloc) {
         let line = line?;
-        run_line(alloc, &mut out, line.as_str())?;
+        run_line(resources, &mut out, line.as_str())?;
     }
     out.flush()?;
     Ok(())

@@ -7,3 +7,5 @@ pub mod PathTurns
 pub mod LinkTowers
 pub mod OneList
 pub mod Counting
+pub use Rattle.entry_store.proofs as entry_store
+pub use Rattle.skip_path.proofs as skip_path

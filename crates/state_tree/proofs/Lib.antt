@@ -1,5 +1,7 @@
-pub mod Keys
-pub mod Positions
 pub mod Covered
+pub mod Entries
+pub mod Keys
+pub mod Parts
+pub mod Positions
 pub mod Threads
 pub mod Together

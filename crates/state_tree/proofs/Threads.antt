@@ -11,7 +11,7 @@ use Rattle.std.proofs.lemmas.Option.{slice_get-get_or}
 use Rattle.prov_entry.specs.declared.entry.Leaf.{Leaf}
 use Rattle.prov_entry.specs.Spelling.{key_or_empty}
 use Rattle.root_laws.specs.Root.{is_below, next_key, sentinel}
-use Rattle.state_tree.specs.Leaves.{leaf_key, leaf_keys, is_this, index_of, with_next, thread_leaves, fresh_leaf, with_leaf_of, AreApart}
+use Rattle.state_tree.specs.Leaves.{leaf_key, leaf_keys, is_this, index_of, with_next, thread_leaves, fresh_leaf, with_leaf_of, with_leaf_after, AreApart}
 use Rattle.state_tree.specs.Covering.{Covers}
 use Rattle.state_tree.specs.Order.{kept_for, AreInOrder}
 use Rattle.merkle_tree.specs.declared.limits.TheConstants.{MAX_LEAVES}
@@ -278,13 +278,12 @@ order_grown leaves order order' key cover tree c new room kept others = record {
     ap_few e = omega (arith, e, room)
 
 -- The same, with the leaves that the code has.
-pub added : (leaves leaves' : List Leaf) (order order' : BTreeMap (List ℕ) ℕ) (key : List ℕ) (cover : ℕ) (before fresh after : Leaf) → AreInOrder leaves order
+pub added : (leaves leaves' : List Leaf) (order order' : BTreeMap (List ℕ) ℕ) (key : List ℕ) (cover : ℕ) (before : Leaf) → AreInOrder leaves order
     → Covers leaves key cover → slice_get leaves cover ≡ Some before → IsNew leaves key → length leaves < MAX_LEAVES → kept_for order' key ≡ Some (length leaves)
-    → ((other : List ℕ) → key ≢ other → kept_for order' other ≡ kept_for order other) → fresh ≡ record (fresh_leaf key) { next = before.next } → after ≡ record before { next = Some key }
-    → leaves' ≡ set (leaves ++ fresh ∷ []) cover after
+    → ((other : List ℕ) → key ≢ other → kept_for order' other ≡ kept_for order other) → leaves' ≡ with_leaf_after leaves key cover before
     → AreInOrder leaves' order' × (leaves' ≡ with_leaf_of leaves key)
 unfolding grown
-added leaves leaves' order order' key cover before fresh after tree covers held new room kept others fresh_is after_is leaves_are =
+added leaves leaves' order order' key cover before tree covers held new room kept others leaves_are =
     let same : before ≡ covers.leaf = some_same before covers.leaf (sym held ∙ covers.held) in
     let c : Covers leaves key cover = record {
       leaf = before;
@@ -292,7 +291,7 @@ added leaves leaves' order order' key cover before fresh after tree covers held 
       not_above = rw same covers.not_above;
       greatest = λ other among above. covers.greatest other among (rw same at above);
     } in
-    let now : leaves' ≡ grown leaves key cover before = leaves_are ∙ ap₂ (λ (f a : Leaf). set (leaves ++ f ∷ []) cover a) fresh_is after_is in (
+    let now : leaves' ≡ grown leaves key cover before = leaves_are in (
       subst (λ (ls : List Leaf). AreInOrder ls order') (sym now) (order_grown leaves order order' key cover tree c new room kept others),
       now ∙ grown_is leaves key cover c tree.threads tree.apart new,
     )

@@ -1,14 +1,14 @@
 -- The states of some leaves, set together, and the hashes that are stale.
-use Rattle.std.proofs.Common.{◌≡◌, ℕ, zero, suc, ◌+◌, ◌<◌, ◌≢◌, Bool, true, false, ◌==◌, List, [], ◌∷◌, ◌++◌, length, get_or, map, refl, sym, ap, subst, ◌∙◌, arith}
+use Rattle.std.proofs.Common.{◌≡◌, ℕ, zero, suc, ◌+◌, ◌<◌, ◌≢◌, Bool, true, false, ◌==◌, List, [], ◌∷◌, ◌++◌, length, get_or, take, map, Some, refl, sym, ap, ap₂, subst, ◌∙◌, arith}
 use Rattle.std.proofs.Math.ListN.{set}
-use Rattle.std.specs.Prelude.{reverse}
+use Rattle.std.specs.Prelude.{reverse, slice_get}
 use Rattle.std.specs.List.{All, Contains}
 use Rattle.std.specs.BTreeMap.{BTreeMap}
 use Rattle.std.proofs.lemmas.Bool.{eq-eqb}
-use Rattle.std.proofs.lemmas.List.{length-set, length-append, length-map, set-get_or, get_or-map, get_or_append_left, get_or-set_other, get_or-set_same, get_or_default, reverse-append, set-set}
+use Rattle.std.proofs.lemmas.List.{map-append, take_more, length-set, length-append, length-map, set-get_or, get_or-map, get_or_append_left, get_or-set_other, get_or-set_same, get_or_default, reverse-append, set-set}
 use Rattle.std.proofs.lemmas.List.Folds.{list_any_at}
 use Rattle.std.proofs.lemmas.List.Elements.{All-nil, All-cons, All-map, All-append, All-head, All-tail, All-weaker, Contains-append_left, Contains-append_right}
-use Rattle.std.proofs.lemmas.Option.{slice_get-get_or}
+use Rattle.std.proofs.lemmas.Option.{slice_get-get_or, slice_get_within, get_or_from_slice_get}
 use Rattle.lc_base.specs.declared.digest.Digest.{Digest}
 use Rattle.merkle_tree.specs.Tree.{leaf_text}
 use Rattle.merkle_tree.specs.Levels.{digest_of, is_set, IsOwn, Renews}
@@ -17,7 +17,7 @@ use Rattle.prov_entry.specs.declared.entry.Leaf.{Leaf}
 use Rattle.prov_entry.specs.Spelling.{leaf_bytes}
 use Rattle.root_laws.specs.Root.{sentinel}
 use Rattle.state_tree.specs.declared.states.LeafState.{LeafState}
-use Rattle.state_tree.specs.Leaves.{state_of_leaf, leaf_with_state, with_state, with_states, indexes_of, leaf_texts, leaf_hashes}
+use Rattle.state_tree.specs.Leaves.{fresh_leaf, state_of_leaf, leaf_with_state, with_leaf_after, with_state, with_states, indexes_of, leaf_texts, leaf_hashes}
 use Rattle.state_tree.specs.Order.{AreInOrder, AreHashedBut, IsTree, no_hash, hash_at}
 use Rattle.state_tree.proofs.Threads.{same_items, map_map, order_set}
 
@@ -34,6 +34,14 @@ hash_count leaves = ap length (digests_of leaves) ∙ length-map leaves leaf_dig
 
 pub hash_there : (leaves : List Leaf) (i : ℕ) (d : Leaf) → i < length leaves → get_or (leaf_hashes leaves) i no_hash ≡ leaf_digest (get_or leaves i d)
 hash_there leaves i d below = ap (λ (hashes : List Digest). get_or hashes i no_hash) (digests_of leaves) ∙ get_or-map leaf_digest leaves i d no_hash below
+
+-- The hashes of the first leaves, with that of the next one.
+pub hashes_more : (leaves : List Leaf) (i : ℕ) (leaf : Leaf) (hash : Digest) (hashes hashes' : List Digest) → hashes ≡ leaf_hashes (take i leaves) → slice_get leaves i ≡ Some leaf → hash ≡ leaf_digest leaf
+    → hashes' ≡ hashes ++ hash ∷ [] → hashes' ≡ leaf_hashes (take (i + 1) leaves)
+hashes_more leaves i leaf hash hashes hashes' are held hash_is more =
+    more ∙ ap₂ (λ (hs : List Digest) (h : Digest). hs ++ h ∷ []) (are ∙ digests_of (take i leaves)) hash_is
+    ∙ sym (digests_of (take (i + 1) leaves) ∙ ap (map leaf_digest) (take_more leaves i leaf (slice_get_within leaves i leaf held) ∙ ap (λ (l : Leaf). take i leaves ++ l ∷ []) (get_or_from_slice_get leaves i leaf leaf held))
+    ∙ map-append leaf_digest (take i leaves) (leaf ∷ []))
 
 -- The hash of a leaf is that of the same leaf elsewhere.
 hash_alike : (leaves last : List Leaf) (i : ℕ) → i < length leaves → i < length last → get_or leaves i (sentinel []) ≡ get_or last i (sentinel []) → get_or (leaf_hashes leaves) i no_hash ≡ get_or (leaf_hashes last) i no_hash
@@ -67,9 +75,9 @@ all_hashed leaves hashes stale but none =
     by i d below same below' = get_or_default hashes i d no_hash below ∙ same ∙ get_or_default (leaf_hashes leaves) i no_hash d (omega (arith, below, many))
 
 -- With one more leaf, its hash is stale, and so is that of the leaf that names its key.
-pub stale_grown : (leaves leaves' : List Leaf) (hashes : List Digest) (stale stale' : List ℕ) (cover : ℕ) (fresh after : Leaf) → AreHashedBut leaves hashes stale → cover < length leaves
-    → leaves' ≡ set (leaves ++ fresh ∷ []) cover after → stale' ≡ stale ++ cover ∷ length leaves ∷ [] → AreHashedBut leaves' hashes stale'
-stale_grown leaves leaves' hashes stale stale' cover fresh after but inside leaves_are stale_is =
+pub stale_grown : (leaves leaves' : List Leaf) (hashes : List Digest) (stale stale' : List ℕ) (key : List ℕ) (cover : ℕ) (before : Leaf) → AreHashedBut leaves hashes stale → cover < length leaves
+    → leaves' ≡ with_leaf_after leaves key cover before → stale' ≡ stale ++ cover ∷ length leaves ∷ [] → AreHashedBut leaves' hashes stale'
+stale_grown leaves leaves' hashes stale stale' key cover before but inside leaves_are stale_is =
     subst (λ (ls : List Leaf). AreHashedBut ls hashes stale') (sym leaves_are)
     (subst (λ (indexes : List ℕ). AreHashedBut (set (leaves ++ fresh ∷ []) cover after) hashes indexes) (sym stale_is) (record {
       fewer = omega (arith, long, but.fewer);
@@ -80,6 +88,12 @@ stale_grown leaves leaves' hashes stale stale' cover fresh after but inside leav
       others = others;
     }))
   where
+    fresh : Leaf
+    fresh = record (fresh_leaf key) { next = before.next }
+
+    after : Leaf
+    after = record before { next = Some key }
+
     grown : List Leaf
     grown = set (leaves ++ fresh ∷ []) cover after
 
@@ -115,6 +129,10 @@ renews leaves hashes indexes but = record {
         (eq-eqb (get_or (map (hash_at leaves) indexes) k (hash_at leaves place)).index place (ap (λ (one : HashAt). one.index) (get_or-map (hash_at leaves) indexes k place (hash_at leaves place) below) ∙ is))
 
 -- ---- leaves that get states
+
+-- What is taken for a state past the end.
+abbrev pub no_state : LeafState
+no_state = record { index = 0; newest_block = 0; newest = record { 0 = [] }; open_count = 0; open_digest = record { 0 = [] } }
 
 pub states_long : (leaves : List Leaf) (states : List LeafState) → length (with_states leaves states) ≡ length leaves
 states_long leaves [] = refl
@@ -171,14 +189,6 @@ back_more leaves last first before one is so =
 pub stale_same : (leaves leaves' : List Leaf) (hashes : List Digest) (stale stale' : List ℕ) → AreHashedBut leaves hashes stale → leaves' ≡ leaves → stale' ≡ stale → AreHashedBut leaves' hashes stale'
 stale_same leaves leaves' hashes stale stale' but same same' = rw (same, same') but
 
-pub said_back : (leaves : List Leaf) (state : LeafState) (before after : Leaf) (old : LeafState) → state.index < length leaves → before ≡ get_or leaves state.index (sentinel [])
-    → after ≡ leaf_with_state before state → old ≡ state_of_leaf before state.index → with_state (set leaves state.index after) old ≡ leaves
-said_back leaves state before after old below is after_is old_is =
-    ap (λ (one : LeafState). with_state (set leaves state.index after) one) old_is
-    ∙ ap (λ (leaf : Leaf). with_state (set leaves state.index leaf) (state_of_leaf before state.index)) (after_is ∙ ap (λ (leaf : Leaf). leaf_with_state leaf state) is)
-    ∙ said_again leaves state before below is
-
--- If none is stale, a path by the hashes is one by the leaves.
 pub texts_hashed : (leaves view : List Leaf) (hashes : List Digest) (stale : List ℕ) → AreHashedBut leaves hashes stale → length stale ≡ 0 → leaves ≡ view → map digest_of (leaf_texts view) ≡ hashes
 texts_hashed leaves view hashes stale but none is = ap leaf_hashes (sym is) ∙ sym (all_hashed leaves hashes stale but (no_items stale none))
   where

@@ -51,6 +51,12 @@ fresh_leaf key = record {
 abbrev pub with_leaf_of : List Leaf → List ℕ → List Leaf
 with_leaf_of leaves key = thread_leaves (leaves ++ fresh_leaf key ∷ [])
 
+-- Leaves with one more for a key, at the end, if the leaf at `cover` is the one before it in the
+-- order of keys: only the next key of that one changes.
+abbrev pub with_leaf_after : List Leaf → List ℕ → ℕ → Leaf → List Leaf
+with_leaf_after leaves key cover before =
+    slice_set (leaves ++ record (fresh_leaf key) { next = before.next } ∷ []) cover (record before { next = Some key })
+
 -- A leaf with this state.
 abbrev pub leaf_with_state : Leaf → LeafState → Leaf
 leaf_with_state leaf state = record leaf {

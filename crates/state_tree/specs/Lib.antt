@@ -1,4 +1,5 @@
 pub mod Leaves
 pub mod Covering
+pub mod Entries
 pub mod Order
 pub mod Laws

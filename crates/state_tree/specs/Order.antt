@@ -53,7 +53,8 @@ pub record AreHashedBut (leaves : List Leaf) (hashes : List Digest) (stale : Lis
   pub within : All (λ (index : ℕ). index < length leaves) stale
   pub others : (index : ℕ) → index < length leaves → (Contains stale index → ⊥) → (index < length hashes) × (slice_index_or hashes index no_hash ≡ slice_index_or (leaf_hashes leaves) index no_hash)
 
--- The leaves, with the order of their keys, and the hashes of the leaves, but for some that are stale.
+-- The leaves, with the order of their keys, and the hashes of the leaves, but for some that are
+-- stale.
 pub record IsTree (leaves : List Leaf) (order : BTreeMap (List ℕ) ℕ) (hashes : List Digest) (stale : List ℕ) : Type 0 where
   pub in_order : AreInOrder leaves order
   pub hashed : AreHashedBut leaves hashes stale

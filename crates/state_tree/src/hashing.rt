@@ -9,6 +9,7 @@ ghost use Rattle.merkle_tree.specs.{
 };
 ghost use Rattle.state_tree.specs.{Leaves.{leaf_hashes}, Order.{AreHashedBut, hash_at}};
 
+use crate::threaded::ThreadedLeaves;
 use lc_base::{Digest, Memory};
 use merkle_tree::{HashAt, Levels};
 use prov_entry::{Leaf, leaf_digest};
@@ -22,17 +23,17 @@ pub(crate) fn hash_of(leaf: &Leaf) -> Digest
     leaf_digest(leaf)
 }
 
-fn hash_at(leaves: &[Leaf], index: u32) -> HashAt
+fn hash_at(leaves: &ThreadedLeaves, index: u32) -> HashAt
     requires { index < length leaves.now }
     ensures { result ≡ hash_at leaves.now index }
 {
     HashAt {
         index,
-        hash: hash_of(&leaves[index as usize]),
+        hash: hash_of(&leaves.leaf(index)),
     }
 }
 
-fn hashes_at(alloc: Global, leaves: &[Leaf], indexes: &[u32]) -> Result<Vec<HashAt>, Memory>
+fn hashes_at(alloc: Global, leaves: &ThreadedLeaves, indexes: &[u32]) -> Result<Vec<HashAt>, Memory>
     requires { All (λ (index : ℕ). index < length leaves.now) indexes.now }
     ensures { IfOk result (λ hashes. hashes.items ≡ map (hash_at leaves.now) indexes.now) }
 {
@@ -47,7 +48,7 @@ fn hashes_at(alloc: Global, leaves: &[Leaf], indexes: &[u32]) -> Result<Vec<Hash
 /// each node over them is hashed once. Out of memory, the hashes stay as they were.
 pub(crate) fn hash_leaves(
     alloc: Global,
-    leaves: &[Leaf],
+    leaves: &ThreadedLeaves,
     levels: &mut Levels,
     indexes: &[u32],
 ) -> Result<(), Memory>
@@ -57,5 +58,5 @@ pub(crate) fn hash_leaves(
     ensures err { OnErr result (levels.new ≡ levels.old) }
 {
     let hashes = hashes_at(alloc, leaves, indexes)?;
-    levels.renew(leaves.len() as u32, hashes)
+    levels.renew(leaves.count(), hashes)
 }

@@ -7,6 +7,7 @@ mod laws;
 mod order;
 mod setting;
 mod states;
+mod threaded;
 mod tree;
 mod whole;
 

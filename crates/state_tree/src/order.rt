@@ -1,5 +1,5 @@
-//! The keys in byte order, each with the index of its leaf: by this order the leaf that covers a
-//! key is found.
+//! The keys in byte order, each with the index of its leaf: which leaf covers a key that has none
+//! is looked for here, and a walk along the thread would take as long as there are leaves.
 
 ghost use Rattle.std.specs.Prelude.{MatchOption};
 ghost use Rattle.state_tree.specs.Order.{NoneUpTo, IsLastUpTo};

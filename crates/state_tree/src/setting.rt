@@ -5,76 +5,38 @@ ghost use Rattle.std.specs.{
   Prelude.{◌≡◌, ◌<◌, ◌≤◌, ◌++◌, ℕ, List, length, map, reverse, vec_len, vec_capacity, OnOk, OnErr, IfOk},
   List.{All, Contains},
 };
-ghost use Rattle.prov_entry.specs.declared.entry.Leaf.{Leaf};
 ghost use Rattle.merkle_tree.specs.declared.limits.TheConstants.{MAX_LEAVES};
 ghost use Rattle.state_tree.specs.{
   declared.states.LeafState.{LeafState},
-  Leaves.{leaf_with_state, state_of_leaf, with_state, with_states, indexes_of, leaf_hashes},
+  Leaves.{with_states, indexes_of, leaf_hashes},
   Order.{AreHashedBut},
 };
 
 use crate::hashing::hash_leaves;
 use crate::states::LeafState;
+use crate::threaded::ThreadedLeaves;
 use lc_base::Memory;
 use merkle_tree::Levels;
-use prov_entry::Leaf;
 use std::alloc::Global;
-
-/// A leaf with this state.
-fn leaf_with_state(leaf: &Leaf, state: &LeafState) -> Leaf
-    ensures { result ≡ leaf_with_state leaf.now state.now }
-{
-    Leaf {
-        newest_block: state.newest_block,
-        newest: state.newest,
-        open_count: state.open_count,
-        open_digest: state.open_digest,
-        ..*leaf
-    }
-}
-
-/// The state of a leaf, which is at this index.
-fn state_of_leaf(leaf: &Leaf, index: u32) -> LeafState
-    ensures { result ≡ state_of_leaf leaf.now index }
-{
-    LeafState {
-        index,
-        newest_block: leaf.newest_block,
-        newest: leaf.newest,
-        open_count: leaf.open_count,
-        open_digest: leaf.open_digest,
-    }
-}
-
-/// Sets the state of a leaf, and returns its state before.
-fn set_state(leaves: &mut [Leaf], state: &LeafState) -> LeafState
-    requires { state.now.index < length leaves.old }
-    ensures set { leaves.new ≡ with_state leaves.old state.now }
-    ensures index { result.index ≡ state.now.index }
-    ensures before { with_state leaves.new result ≡ leaves.old }
-{
-    let index = state.index as usize;
-    let before = leaves[index];
-    leaves[index] = leaf_with_state(&before, state);
-    state_of_leaf(&before, state.index)
-}
 
 /// Sets the states of some leaves, one after another, and returns their states before. Out of
 /// memory, nothing is set.
 fn set_states(
     alloc: Global,
-    leaves: &mut [Leaf],
+    leaves: &mut ThreadedLeaves,
     states: &[LeafState],
 ) -> Result<Vec<LeafState>, Memory>
-    requires { All (λ (state : LeafState). state.index < length leaves.old) states.now }
+    requires own { All (λ (state : LeafState). 0 < state.index) states.now }
+    requires below { All (λ (state : LeafState). state.index < length leaves.old) states.now }
     ensures ok { OnOk result (leaves.new ≡ with_states leaves.old states.now) }
     ensures err { OnErr result (leaves.new ≡ leaves.old) }
     ensures before { IfOk result (λ before. with_states leaves.new (reverse before.items) ≡ leaves.old) }
+    ensures own { IfOk result (λ before. All (λ (state : LeafState). 0 < state.index) before.items) }
     ensures below { IfOk result (λ before. All (λ (state : LeafState). state.index < length leaves.old) before.items) }
 {
     let mut before = Vec::with_capacity(alloc, states.len())?;
     for state in states {
-        let one = set_state(leaves, state);
+        let one = leaves.set_state(state);
         match before.push(one) {
             Ok(()) => {}
             Err(_) => unreachable!(),
@@ -83,19 +45,21 @@ fn set_states(
     Ok(before)
 }
 
-/// Sets the states of some leaves, one after another.
-fn set_each(leaves: &mut [Leaf], states: &[LeafState])
-    requires { All (λ (state : LeafState). state.index < length leaves.old) states.now }
+/// Sets what some leaves say, one after another.
+fn set_each(leaves: &mut ThreadedLeaves, states: &[LeafState])
+    requires own { All (λ (state : LeafState). 0 < state.index) states.now }
+    requires below { All (λ (state : LeafState). state.index < length leaves.old) states.now }
     ensures { leaves.new ≡ with_states leaves.old states.now }
 {
     for state in states {
-        set_state(leaves, state);
+        leaves.set_state(state);
     }
 }
 
-/// Sets the states before again, the last one first.
-fn set_back(leaves: &mut [Leaf], before: Vec<LeafState>)
-    requires { All (λ (state : LeafState). state.index < length leaves.old) before.items }
+/// Sets what some leaves said before, the last first.
+fn set_back(leaves: &mut ThreadedLeaves, before: Vec<LeafState>)
+    requires own { All (λ (state : LeafState). 0 < state.index) before.items }
+    requires below { All (λ (state : LeafState). state.index < length leaves.old) before.items }
     ensures { leaves.new ≡ with_states leaves.old (reverse before.items) }
 {
     let mut states = before;
@@ -107,11 +71,12 @@ fn set_back(leaves: &mut [Leaf], before: Vec<LeafState>)
 /// are all whose hashes are stale then. Out of memory, all stays as it was.
 pub(crate) fn renew(
     alloc: Global,
-    leaves: &mut [Leaf],
+    leaves: &mut ThreadedLeaves,
     levels: &mut Levels,
     states: &[LeafState],
     indexes: &[u32],
 ) -> Result<(), Memory>
+    requires own { All (λ (state : LeafState). 0 < state.index) states.now }
     requires below { All (λ (state : LeafState). state.index < length leaves.old) states.now }
     requires few { length leaves.old ≤ MAX_LEAVES }
     requires hashed { AreHashedBut (with_states leaves.old states.now) levels.old indexes.now }

@@ -18,16 +18,17 @@ ghost use Rattle.state_tree.specs.{
   Covering.{Covers},
 };
 
-use crate::growth::{add_leaf, fresh_leaf, sentinel, with_next};
+use crate::growth::add_leaf;
 use crate::hashing::hash_of;
 use crate::order::last_up_to;
 use crate::setting::{indexes_with, renew};
 use crate::states::LeafState;
-use crate::whole::whole_audit;
+use crate::threaded::ThreadedLeaves;
+use crate::whole::{whole_audit, whole_hash};
 use lc_base::{Digest, DigestList, Key, Memory};
-use merkle_tree::{Levels, tree_hash};
+use merkle_tree::Levels;
 use prov_entry::Leaf;
-use std::alloc::Global;
+use resources::Resources;
 use std::collections::BTreeMap;
 use std::marker::Model;
 
@@ -36,7 +37,8 @@ use std::marker::Model;
 /// leaves, and of the leaves that name them, are stale.
 #[derive(Drop)]
 pub struct Tree {
-    leaves: Vec<Leaf>,
+    leaves: ThreadedLeaves,
+    /// The index of the leaf of each key. Only what covers a key is looked for in it.
     order: BTreeMap<Key, u32>,
     levels: Levels,
     stale: Vec<u32>,
@@ -50,27 +52,32 @@ impl Model for Tree {
 
     ghost Value = { List Leaf };
 
-    ghost view = { λ tree. tree.leaves.items };
+    ghost view = { λ tree. tree.leaves };
 
-    ghost invariant = { λ tree. IsTree tree.leaves.items tree.order tree.levels tree.stale.items };
+    ghost invariant = { λ tree. IsTree tree.leaves tree.order tree.levels tree.stale.items };
 }
 
 impl Tree {
     /// The sentinel alone.
-    pub fn new(alloc: Global) -> Result<Tree, Memory>
+    pub fn new(resources: Resources) -> Result<Tree, Memory>
         ensures { IfOk result (λ tree. tree ≡ sentinel [] ∷ []) }
     {
-        let sentinel = sentinel();
-        let mut levels = Levels::new(alloc)?;
-        levels.push(hash_of(&sentinel))?;
-        let mut leaves = Vec::with_capacity(alloc, 1)?;
-        leaves.push(sentinel)?;
+        let leaves = ThreadedLeaves::new(resources);
+        let mut levels = Levels::new(resources.alloc)?;
+        levels.push(hash_of(&leaves.leaf(0)))?;
         Ok(Tree {
             leaves,
-            order: BTreeMap::new(alloc),
+            order: BTreeMap::new(resources.alloc),
             levels,
-            stale: Vec::new(alloc),
+            stale: Vec::new(resources.alloc),
         })
+    }
+
+    /// The sentinel alone, made with the same resources as this tree.
+    pub fn new_alike(&self) -> Result<Tree, Memory>
+        ensures { IfOk result (λ tree. tree ≡ sentinel [] ∷ []) }
+    {
+        Tree::new(self.leaves.resources())
     }
 
     /// The number of leaves, the sentinel among them: at most `MAX_LEAVES` of `merkle_tree`.
@@ -78,14 +85,14 @@ impl Tree {
         ensures count { result ≡ length self.now }
         ensures some { 0 < result }
     {
-        self.leaves.len() as u32
+        self.leaves.count()
     }
 
     /// The index of the leaf of a key, from 1; `None` exactly if no leaf has it.
     pub fn index_of(&self, key: &Key) -> Option<u32>
         ensures { result ≡ index_of self.now key.now }
     {
-        self.order.get(key).copied()
+        self.leaves.index_of(key)
     }
 
     /// The index of the leaf of this key, else of the leaf with the greatest smaller key, else 0.
@@ -102,7 +109,7 @@ impl Tree {
         requires { index < length self.now }
         ensures { slice_get self.now index ≡ Some result }
     {
-        self.leaves[index as usize]
+        self.leaves.leaf(index)
     }
 
     /// Adds a leaf for a key that has none, at the end, and returns its index. Its key is threaded
@@ -117,17 +124,13 @@ impl Tree {
     {
         let index = self.count();
         let cover = self.covering(&key);
-        let before = self.leaf(cover);
-        let leaf = fresh_leaf(&key, &before.next);
         add_leaf(
             &mut self.leaves,
             &mut self.order,
             &mut self.stale,
             &key,
             cover,
-            &leaf,
         )?;
-        self.leaves[cover as usize] = with_next(&before, &key);
         Ok(index)
     }
 
@@ -139,11 +142,11 @@ impl Tree {
         ensures ok { OnOk result (self.new ≡ with_states self.old states.now) }
         ensures err { OnErr result (self.new ≡ self.old) }
     {
-        let alloc = *self.leaves.allocator();
+        let alloc = *self.stale.allocator();
         let indexes = indexes_with(alloc, self.stale.as_slice(), states)?;
         renew(
             alloc,
-            self.leaves.as_mut_slice(),
+            &mut self.leaves,
             &mut self.levels,
             states,
             indexes.as_slice(),
@@ -160,7 +163,7 @@ impl Tree {
         if self.stale.is_empty() {
             self.levels.root()
         } else {
-            tree_hash(self.leaves.as_slice())
+            whole_hash(&self.leaves)
         }
     }
 
@@ -173,8 +176,8 @@ impl Tree {
         if self.stale.is_empty() {
             self.levels.audit(index)
         } else {
-            let alloc = *self.leaves.allocator();
-            whole_audit(alloc, self.leaves.as_slice(), index)
+            let alloc = *self.stale.allocator();
+            whole_audit(alloc, &self.leaves, index)
         }
     }
 }

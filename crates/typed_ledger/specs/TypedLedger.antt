@@ -2,7 +2,7 @@
 -- numbers and lists, which may be anything; what a program keeps is always within its types.
 use Rattle.std.specs.Prelude.{◌≡◌, ◌^◌, ◌<◌, List, length}
 use Rattle.std.specs.List.{All}
-use Rattle.lc_names.specs.KeyBytes.{IsKey}
+use Rattle.lc_base.specs.lc_names.KeyBytes.{IsKey}
 use Rattle.lc_base.specs.declared.digest.Digest.{Digest}
 use Rattle.lc_base.specs.declared.row.Row.{Row}
 use Rattle.lc_base.specs.History.{IsLawful}

@@ -15,9 +15,9 @@ use Rattle.block_codec.specs.declared.limits.TheConstants.{MAX_BLOCKS, MAX_ROWS_
 use Rattle.block_codec.specs.declared.block.Block.{Block}
 use Rattle.block_codec.specs.declared.placement.Placement.TheVariants.{Next}
 use Rattle.block_codec.proofs.Placed.{not_full, right_number, not_held}
-use Rattle.chain_exec.specs.Compiled.{Compiler}
-use Rattle.chain_exec.specs.Replay.{history_after, replay}
-use Rattle.chain_exec.proofs.TheLaws.{replay_grows}
+use Rattle.chain_replay.specs.chain_exec.Compiled.{Compiler}
+use Rattle.chain_replay.specs.chain_exec.Replay.{history_after, replay}
+use Rattle.chain_replay.proofs.chain_exec.TheLaws.{replay_grows}
 use Rattle.chain_replay.specs.Chain.{placement_in}
 use Rattle.typed_replays.specs.Chains.{IsLawfulChain}
 use Rattle.typed_replays.specs.Laws.{CompilesValues, IsTypedBefore, ChainsOfValuesAreTyped, ReplaysAreTyped}

@@ -20,9 +20,9 @@ use Rattle.block_codec.specs.declared.block.Tx.{Tx}
 use Rattle.block_codec.specs.declared.block.Tx.TheVariants.{Set, Deploy, Call}
 use Rattle.block_codec.specs.declared.block.Block.{Block}
 use Rattle.block_codec.specs.declared.placement.Placement.TheVariants.{Next}
-use Rattle.chain_exec.specs.Compiled.{Compiler, compiled_in}
-use Rattle.chain_exec.specs.Replay.{replay}
-use Rattle.chain_exec.proofs.TheLaws.{one_compiler}
+use Rattle.chain_replay.specs.chain_exec.Compiled.{Compiler, compiled_in}
+use Rattle.chain_replay.specs.chain_exec.Replay.{replay}
+use Rattle.chain_replay.proofs.chain_exec.TheLaws.{one_compiler}
 use Rattle.chain_replay.specs.Chain.{IsChain, placement_in}
 use Rattle.typed_ledger.specs.TypedLedger.{IsTypedRow}
 use Rattle.typed_replays.specs.Chains.{IsLawfulChain}

@@ -26,15 +26,15 @@ use Rattle.block_codec.specs.declared.block.Tx.TheVariants.{Set, Deploy, Call}
 use Rattle.block_codec.specs.declared.block.Block.{Block}
 use Rattle.block_codec.specs.declared.limits.TheConstants.{MAX_TXS, MAX_ROWS_BEFORE_BLOCK}
 use Rattle.block_codec.specs.Spelling.{IsTx, IsBlock}
-use Rattle.chain_exec.specs.BlockRows.{HasNewestDeps, AreTxRows, AreBlockRows}
-use Rattle.chain_exec.specs.Compiled.{Compiler}
-use Rattle.chain_exec.specs.Effect.{Codes, History, Effect, refused_effect, effect_of, is_written, meets_conflict, deps_on, is_taken_in, deploy_effect, code_in, call_effect}
-use Rattle.chain_exec.specs.Fold.{Staged, nothing_staged, with_effect, effects_after, block_effects}
-use Rattle.chain_exec.specs.Replay.{no_history, history_after}
-use Rattle.chain_exec.proofs.BlockSteps.{no_block_rows}
-use Rattle.chain_exec.proofs.TheLaws.{blocks_keep_lawful, blocks_keep_order, tested}
+use Rattle.chain_replay.specs.chain_exec.BlockRows.{HasNewestDeps, AreTxRows, AreBlockRows}
+use Rattle.chain_replay.specs.chain_exec.Compiled.{Compiler}
+use Rattle.chain_replay.specs.chain_exec.Effect.{Codes, History, Effect, refused_effect, effect_of, is_written, meets_conflict, deps_on, is_taken_in, deploy_effect, code_in, call_effect}
+use Rattle.chain_replay.specs.chain_exec.Fold.{Staged, nothing_staged, with_effect, effects_after, block_effects}
+use Rattle.chain_replay.specs.chain_exec.Replay.{no_history, history_after}
+use Rattle.chain_replay.proofs.chain_exec.BlockSteps.{no_block_rows}
+use Rattle.chain_replay.proofs.chain_exec.TheLaws.{blocks_keep_lawful, blocks_keep_order, tested}
 use Rattle.typed_ledger.specs.TypedLedger.{IsTypedRow, IsTypedHistory}
-use Rattle.chain_exec.proofs.TxRows.{no_rows}
+use Rattle.chain_replay.proofs.chain_exec.TxRows.{no_rows}
 use Rattle.typed_replays.specs.Literals.{AreFunctionsOfValues}
 use Rattle.typed_replays.specs.Laws.{AreCodesOfValues, CompilesValues, IsTypedBefore, BlocksAddTypedRows}
 use Rattle.typed_replays.proofs.Calls.{calls_write_typed_rows}

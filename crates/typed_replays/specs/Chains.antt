@@ -3,7 +3,7 @@ use Rattle.std.specs.Prelude.{List}
 use Rattle.std.specs.List.{All}
 use Rattle.block_codec.specs.Spelling.{IsBlock}
 use Rattle.block_codec.specs.declared.block.Block.{Block}
-use Rattle.chain_exec.specs.Compiled.{Compiler}
+use Rattle.chain_replay.specs.chain_exec.Compiled.{Compiler}
 use Rattle.chain_replay.specs.Chain.{IsChain}
 
 -- Blocks within the limits of blocks, each the next one after those before it.

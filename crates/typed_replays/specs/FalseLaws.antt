@@ -1,7 +1,7 @@
 -- Statements that are false: that replayed rows are a typed ledger, each with one premise left out.
 use Rattle.std.specs.List.{All}
 use Rattle.block_codec.specs.Spelling.{IsBlock}
-use Rattle.chain_exec.specs.Compiled.{IsCompiler}
+use Rattle.chain_replay.specs.chain_exec.Compiled.{IsCompiler}
 use Rattle.chain_replay.specs.Chain.{IsChain}
 use Rattle.typed_replays.specs.Chains.{IsLawfulChain}
 use Rattle.typed_replays.specs.Laws.{AreTypedWhere}

@@ -14,11 +14,11 @@ use Rattle.world_state.specs.Rows.{held_in}
 use Rattle.block_codec.specs.Spelling.{IsBlock}
 use Rattle.block_codec.specs.Placement.{digest_of}
 use Rattle.block_codec.specs.declared.block.Block.{Block}
-use Rattle.chain_exec.specs.BlockRows.{AreBlockRows}
-use Rattle.chain_exec.specs.Compiled.{Compiler, IsCompiler}
-use Rattle.chain_exec.specs.Effect.{Codes, History}
-use Rattle.chain_exec.specs.Fold.{block_effects}
-use Rattle.chain_exec.specs.Replay.{replay}
+use Rattle.chain_replay.specs.chain_exec.BlockRows.{AreBlockRows}
+use Rattle.chain_replay.specs.chain_exec.Compiled.{Compiler, IsCompiler}
+use Rattle.chain_replay.specs.chain_exec.Effect.{Codes, History}
+use Rattle.chain_replay.specs.chain_exec.Fold.{block_effects}
+use Rattle.chain_replay.specs.chain_exec.Replay.{replay}
 use Rattle.typed_ledger.specs.TypedLedger.{IsTypedRow, IsTypedHistory, IsTypedLedger}
 use Rattle.typed_replays.specs.Chains.{IsLawfulChain}
 use Rattle.typed_replays.specs.Literals.{AreFunctionsOfValues}

@@ -1,10 +1,8 @@
 -- Versions of keys, as a world keeps them.
-use Rattle.std.specs.Prelude.{◌≡◌, ◌==◌, ℕ, Bool, not, List, filter, find, map, reverse, Option}
+use Rattle.std.specs.Prelude.{◌≡◌, ◌==◌, ℕ, Bool, List, find, reverse, Option}
 use Rattle.std.specs.List.{list_any}
 use Rattle.std.specs.Option.{option_map}
-use Rattle.std.specs.Ordering.{nat_cmp}
-use Rattle.std.specs.BTreeSet.{BTreeSet, contains}
-use Rattle.std.specs.Cmp.Lexicographic.{pointwise, slice_cmp}
+use Rattle.std.specs.Cmp.Lexicographic.{pointwise}
 use Rattle.lc_base.specs.History.{newest}
 use Rattle.lc_base.specs.declared.row.Row.{Row}
 use Rattle.world_state.specs.declared.held.Held.{Held}
@@ -31,14 +29,6 @@ newest_staged staged key =
 abbrev pub held_in : List Row → List ℕ → Option Held
 held_in rows key = option_map held_of (newest rows key)
 
--- Whether a set of keys has this one.
-abbrev pub has : BTreeSet (List ℕ) → List ℕ → Bool
-has keys key = contains (slice_cmp nat_cmp) keys key
-
--- A set of keys has the keys that are staged and no other.
-abbrev pub AreKeysOf : BTreeSet (List ℕ) → List (List ℕ × Held) → Type 0
-AreKeysOf keys staged = (key : List ℕ) → has keys key ≡ is_staged staged key
-
--- The keys of rows that are not in a set.
-abbrev pub missing_keys : BTreeSet (List ℕ) → List Row → List (List ℕ)
-missing_keys keys rows = filter (λ (key : List ℕ). not (has keys key)) (map (λ (row : Row). row.key) rows)
+-- A set has the keys that are staged and no other.
+abbrev pub AreKeysOf : List (List ℕ) → List (List ℕ × Held) → Type 0
+AreKeysOf keys staged = (key : List ℕ) → list_any (pointwise ◌==◌ key) keys ≡ is_staged staged key

@@ -1,58 +1,47 @@
-//! The codes of contracts are kept in one list in the order of deployment: first those that can be
+//! The codes of contracts are kept in one map in the order of deployment: first those that can be
 //! called, then those that the block at work deployed.
 
 ghost use Rattle.std.specs.{
-  Prelude.{◌≡◌, ◌==◌, [], ◌∷◌, ◌++◌, false, take, slice_get, OnOk, OnErr},
-  Option.{option_copied, option_map},
+  Prelude.{◌≡◌, ◌==◌, [], ◌∷◌, ◌++◌, false, OnOk, OnErr},
+  Option.{option_copied},
   Map.{lookup},
   Cmp.Lexicographic.{pointwise},
 };
-ghost use Rattle.world_state.specs.KnownCodes.{KnownCodes, code, is_used};
+ghost use Rattle.world_state.specs.KnownCodes.{KnownCodes, is_used};
 
+use indexmap::IndexMap;
 use lc_base::{Memory, Name};
-use std::alloc::Global;
-use std::collections::BTreeMap;
+use resources::Resources;
+use std::hash::RandomState;
 use std::marker::Model;
 
 /// The codes in the order of deployment: those that can be called, and then those that the block at
 /// work deployed.
 #[derive(Drop)]
 pub(crate) struct Codes<C> {
-    codes: Vec<(Name, C)>,
-    places: BTreeMap<Name, usize>,
+    codes: IndexMap<Name, C, RandomState>,
     /// How many of the codes can be called.
     committed: usize,
 }
 
 impl<C> Model for Codes<C> {
-    ghost use Rattle.std.specs.Prelude.{ℕ, List, take, drop};
-    ghost use Rattle.world_state.specs.KnownCodes.{KnownCodes, AreKept};
+    ghost use Rattle.std.specs.Prelude.{◌≤◌, ℕ, List, length, take, drop};
+    ghost use Rattle.world_state.specs.KnownCodes.{KnownCodes};
 
     ghost Value = { KnownCodes C };
 
-    ghost view = { λ codes. record { committed = take codes.committed codes.codes.items; staged = drop codes.committed codes.codes.items } };
+    ghost view = { λ codes. record { committed = take codes.committed codes.codes.entries; staged = drop codes.committed codes.codes.entries } };
 
-    ghost invariant = { λ codes. AreKept codes.places codes.committed codes.codes.items };
-}
-
-/// The code at a place.
-fn code_at<C>(codes: &[(Name, C)], place: usize) -> Option<&C>
-    ensures { option_copied result ≡ option_map code (slice_get codes.now place) }
-{
-    match codes.get(place) {
-        None => None,
-        Some((_, code)) => Some(code),
-    }
+    ghost invariant = { λ codes. codes.committed ≤ length codes.codes.entries };
 }
 
 impl<C> Codes<C> {
     /// No code. It takes no memory.
-    pub(crate) fn new(alloc: Global) -> Codes<C>
+    pub(crate) fn new(resources: Resources) -> Codes<C>
         ensures { result ≡ record { committed = []; staged = [] } }
     {
         Codes {
-            codes: Vec::new(alloc),
-            places: BTreeMap::new(alloc),
+            codes: IndexMap::with_hasher(resources.alloc, resources.hasher),
             committed: 0,
         }
     }
@@ -61,9 +50,15 @@ impl<C> Codes<C> {
     pub(crate) fn get(&self, name: &Name) -> Option<&C>
         ensures { option_copied result ≡ lookup (pointwise ◌==◌ name.now) self.now.committed }
     {
-        match self.places.get(name) {
+        match self.codes.get_full(name) {
             None => None,
-            Some(place) => code_at(&self.codes[..self.committed], *place),
+            Some((index, _name, code)) => {
+                if index < self.committed {
+                    Some(code)
+                } else {
+                    None
+                }
+            }
         }
     }
 
@@ -71,7 +66,7 @@ impl<C> Codes<C> {
     pub(crate) fn is_used(&self, name: &Name) -> bool
         ensures { result ≡ is_used self.now name.now }
     {
-        self.places.contains_key(name)
+        self.codes.contains_key(name)
     }
 
     /// The staged codes become codes that can be called, after those so far.
@@ -89,14 +84,7 @@ impl<C: Drop> Codes<C> {
         ensures ok { OnOk result (self.new ≡ record self.old { staged = self.old.staged ++ (name, code) ∷ [] }) }
         ensures err { OnErr result (self.new ≡ self.old) }
     {
-        let place = self.codes.len();
-        self.codes.push((name, code))?;
-        match self.places.insert(name, place) {
-            Ok(_) => Ok(()),
-            Err(_) => {
-                self.codes.pop();
-                Err(Memory)
-            }
-        }
+        self.codes.insert(name, code)?;
+        Ok(())
     }
 }

@@ -2,23 +2,26 @@
 //! change, or neither does.
 
 ghost use Rattle.std.specs.{
-  Prelude.{◌≡◌, ◌==◌, ◌||◌, ◌&&◌, not, true, false, ℕ, List, [], ◌++◌, map, IfOk, OnOk, OnErr},
+  Prelude.{◌≡◌, ◌==◌, ◌≤◌, ◌||◌, ℕ, List, [], ◌++◌, length, map, OnOk, OnErr},
   List.{list_any},
   Cmp.Lexicographic.{pointwise},
 };
-ghost use Rattle.world_state.specs.Rows.{entry_of, has, is_staged, missing_keys};
+ghost use Rattle.indexmap.specs.IndexSet.{contains, spare};
+ghost use Rattle.lc_base.specs.declared.row.Row.{Row};
+ghost use Rattle.world_state.specs.Rows.{entry_of, is_staged};
 
 use crate::held::{Held, entries_of};
+use indexmap::IndexSet;
 use lc_base::{Key, Memory, Row};
-use std::alloc::Global;
-use std::collections::BTreeSet;
+use resources::Resources;
+use std::hash::RandomState;
 use std::marker::Model;
 
 /// Versions in the order in which they were written, and the set of their keys.
 #[derive(Drop)]
 pub(crate) struct Staged {
     entries: Vec<(Key, Held)>,
-    written: BTreeSet<Key>,
+    written: IndexSet<Key, RandomState>,
 }
 
 impl Model for Staged {
@@ -30,57 +33,30 @@ impl Model for Staged {
 
     ghost view = { λ staged. staged.entries.items };
 
-    ghost invariant = { λ staged. AreKeysOf staged.written staged.entries.items };
+    ghost invariant = { λ staged. AreKeysOf staged.written.keys staged.entries.items };
 }
 
-/// The keys of the rows that are not in a set.
-fn missing_keys(alloc: Global, written: &BTreeSet<Key>, rows: &[Row]) -> Result<Vec<Key>, Memory>
-    ensures { IfOk result (λ keys. keys.items ≡ missing_keys written.now rows.now) }
+/// Adds the keys of the rows to a set that has room for them.
+fn add_keys(written: &mut IndexSet<Key, RandomState>, rows: &[Row])
+    requires { length rows.now ≤ spare written.old }
+    ensures { (key : List ℕ) → contains (pointwise ◌==◌) written.new key ≡ (contains (pointwise ◌==◌) written.old key || list_any (λ (row : Row). pointwise ◌==◌ row.key key) rows.now) }
 {
-    let mut keys = Vec::new(alloc);
     for row in rows {
-        if !written.contains(&row.key) {
-            keys.push(row.key)?;
-        }
-    }
-    Ok(keys)
-}
-
-/// Takes keys out of a set.
-fn remove_keys(written: &mut BTreeSet<Key>, keys: &[Key])
-    ensures { (key : List ℕ) → has written.new key ≡ (has written.old key && not (list_any (pointwise ◌==◌ key) keys.now)) }
-{
-    for key in keys {
-        written.remove(key);
-    }
-}
-
-/// Adds keys that are not in a set. Out of memory, the set has the same keys as before.
-fn add_keys(written: &mut BTreeSet<Key>, keys: &[Key]) -> Result<(), Memory>
-    requires { (key : List ℕ) → list_any (pointwise ◌==◌ key) keys.now ≡ true → has written.old key ≡ false }
-    ensures ok { OnOk result ((key : List ℕ) → has written.new key ≡ (has written.old key || list_any (pointwise ◌==◌ key) keys.now)) }
-    ensures err { OnErr result ((key : List ℕ) → has written.new key ≡ has written.old key) }
-{
-    for key in keys {
-        match written.insert(*key) {
+        match written.insert(row.key) {
             Ok(_) => {}
-            Err(_) => {
-                remove_keys(written, keys);
-                return Err(Memory);
-            }
+            Err(_) => unreachable!(),
         }
     }
-    Ok(())
 }
 
 impl Staged {
-    /// Nothing is staged. It takes no memory.
-    pub(crate) fn new(alloc: Global) -> Staged
+    /// Nothing. It takes no memory.
+    pub(crate) fn new(resources: Resources) -> Staged
         ensures { result ≡ [] }
     {
         Staged {
-            entries: Vec::new(alloc),
-            written: BTreeSet::new(alloc),
+            entries: Vec::new(resources.alloc),
+            written: IndexSet::with_hasher(resources.alloc, resources.hasher),
         }
     }
 
@@ -97,17 +73,11 @@ impl Staged {
         ensures err { OnErr result (self.new ≡ self.old) }
     {
         let alloc = *self.entries.allocator();
-        let len = self.entries.len();
-        let keys = missing_keys(alloc, &self.written, rows)?;
         let mut more = entries_of(alloc, rows)?;
+        self.written.reserve(rows.len())?;
         self.entries.append(&mut more)?;
-        match add_keys(&mut self.written, keys.as_slice()) {
-            Ok(()) => Ok(()),
-            Err(Memory) => {
-                self.entries.truncate(len);
-                Err(Memory)
-            }
-        }
+        add_keys(&mut self.written, rows);
+        Ok(())
     }
 
     /// The versions, in order.

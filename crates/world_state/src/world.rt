@@ -7,6 +7,7 @@ ghost use Rattle.std.specs.{
   Cmp.Lexicographic.{pointwise},
   Map.{lookup},
 };
+ghost use Rattle.indexmap.specs.IndexMap.{insert_all};
 ghost use Rattle.lc_base.specs.declared.row.Row.{Row};
 ghost use Rattle.world_state.specs.{
   Rows.{entry_of, newest_staged, held_in},
@@ -17,16 +18,17 @@ use crate::codes::Codes;
 use crate::held::Held;
 use crate::limits::RAW_NAME;
 use crate::staged::Staged;
+use indexmap::IndexMap;
 use lc_base::{Key, Memory, Name, RowList, Value};
-use std::alloc::Global;
-use std::collections::BTreeMap;
+use resources::Resources;
+use std::hash::RandomState;
 use std::marker::Model;
 
 /// The newest version of each key, the codes that can be called, and what the block at work has
 /// staged. `C` is what is kept of a contract.
 #[derive(Drop)]
 pub struct World<C> {
-    newest: BTreeMap<Key, Held>,
+    newest: IndexMap<Key, Held, RandomState>,
     codes: Codes<C>,
     staged: Staged,
 }
@@ -45,9 +47,14 @@ fn is_raw(name: &Name) -> bool
     name.as_bytes() == RAW_NAME.as_slice()
 }
 
-/// Each entry in turn becomes the newest version of its key.
-fn add_newest(newest: &mut BTreeMap<Key, Held>, entries: Vec<(Key, Held)>) -> Result<(), Memory>
-    ensures { OnOk result ((key : List ℕ) → lookup (pointwise ◌==◌ key) newest.new.entries ≡ option_or (newest_staged entries.items key) (lookup (pointwise ◌==◌ key) newest.old.entries)) }
+/// Each entry in turn becomes the newest version of its key. A key stays in the place of its first
+/// version.
+fn add_newest(
+    newest: &mut IndexMap<Key, Held, RandomState>,
+    entries: Vec<(Key, Held)>,
+) -> Result<(), Memory>
+    ensures order { OnOk result (newest.new.entries ≡ insert_all (pointwise ◌==◌) newest.old.entries entries.items) }
+    ensures newest { OnOk result ((key : List ℕ) → lookup (pointwise ◌==◌ key) newest.new.entries ≡ option_or (newest_staged entries.items key) (lookup (pointwise ◌==◌ key) newest.old.entries)) }
 {
     newest.extend(entries)?;
     Ok(())
@@ -55,13 +62,13 @@ fn add_newest(newest: &mut BTreeMap<Key, Held>, entries: Vec<(Key, Held)>) -> Re
 
 impl<C> World<C> {
     /// No version and no code. It takes no memory.
-    pub fn new(alloc: Global) -> World<C>
+    pub fn new(resources: Resources) -> World<C>
         ensures { result ≡ record { newest = []; codes = []; staged = []; staged_codes = [] } }
     {
         World {
-            newest: BTreeMap::new(alloc),
-            codes: Codes::new(alloc),
-            staged: Staged::new(alloc),
+            newest: IndexMap::with_hasher(resources.alloc, resources.hasher),
+            codes: Codes::new(resources),
+            staged: Staged::new(resources),
         }
     }
 
@@ -122,8 +129,10 @@ impl<C: Drop> World<C> {
     }
 
     /// What was staged becomes the newest: of each key the version staged last, and the codes after
-    /// those so far. Nothing is staged then. On `Memory` the world is given up.
+    /// those so far. Nothing is staged then. The keys of versions are in the order in which they
+    /// were first written. On `Memory` the world is given up.
     pub fn commit(self) -> Result<World<C>, Memory>
+        ensures order { IfOk result (λ world. world.newest ≡ insert_all (pointwise ◌==◌) self.newest self.staged) }
         ensures newest { IfOk result (λ world. (key : List ℕ) → newest_of world key ≡ newest_after self key) }
         ensures codes { IfOk result (λ world. world.codes ≡ self.codes ++ self.staged_codes) }
         ensures no_rows { IfOk result (λ world. world.staged ≡ []) }
@@ -136,14 +145,16 @@ impl<C: Drop> World<C> {
             mut codes,
             staged,
         } = self;
-        let entries = staged.into_entries();
-        let alloc = *entries.allocator();
-        add_newest(&mut newest, entries)?;
+        let resources = Resources {
+            alloc: *newest.allocator(),
+            hasher: *newest.hasher(),
+        };
+        add_newest(&mut newest, staged.into_entries())?;
         codes.commit();
         Ok(World {
             newest,
             codes,
-            staged: Staged::new(alloc),
+            staged: Staged::new(resources),
         })
     }
 }

@@ -1,5 +1,5 @@
 use Rattle.std.proofs.Common.{sym, ap, ◌∙◌}
-use Rattle.cli_lines.specs.Outcome.{bad_input}
+use Rattle.cli_append.specs.cli_lines.Outcome.{bad_input}
 use Rattle.cli_output.specs.Output.{source_outcome}
 use Rattle.chain_cli.proofs.Fmts.{source_wanted}
 use Rattle.chain_cli.proofs.fmt.source_outcome.Goals as goal

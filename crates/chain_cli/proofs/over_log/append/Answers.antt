@@ -2,7 +2,7 @@ use Rattle.std.proofs.Common.{Some, refl, ◌∙◌}
 use Rattle.scratch_model.specs.Scratch.{is_known}
 use Rattle.cli_words.specs.declared.words.Command.TheVariants.{Append}
 use Rattle.block_log.specs.Log.{next_in_log}
-use Rattle.recovery.specs.Node.{next_in_chain}
+use Rattle.cli_append.specs.recovery.Node.{next_in_chain}
 use Rattle.chain_cli.proofs.Runs.{append_run_is, append_refused}
 use Rattle.chain_cli.proofs.Ends.{answer_ends, answer_has_log}
 use Rattle.chain_cli.proofs.Moments.{stays_twice, append_any, append_log}

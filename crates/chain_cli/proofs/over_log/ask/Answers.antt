@@ -1,6 +1,6 @@
 use Rattle.std.proofs.Common.{Some, refl}
-use Rattle.recovery.specs.Node.{next_in_chain}
-use Rattle.chain_exec.specs.Compiled.{compiled_in}
+use Rattle.cli_append.specs.recovery.Node.{next_in_chain}
+use Rattle.cli_proofs.specs.chain_exec.Compiled.{compiled_in}
 use Rattle.cli_output.specs.Output.{answer_outcome, at_or_last}
 use Rattle.cli_words.specs.declared.words.Command.TheVariants.{Ask}
 use Rattle.cli_output.proofs.Ends.{asked_ends}

@@ -1,7 +1,7 @@
 use Rattle.std.proofs.Common.{Some, refl}
 use Rattle.block_log.specs.Standing.{standing}
-use Rattle.recovery.specs.Node.{next_in_chain}
-use Rattle.chain_exec.specs.Compiled.{compiled_in}
+use Rattle.cli_append.specs.recovery.Node.{next_in_chain}
+use Rattle.cli_proofs.specs.chain_exec.Compiled.{compiled_in}
 use Rattle.cli_output.specs.Output.{root_outcome, at_or_last}
 use Rattle.cli_words.specs.declared.words.Command.TheVariants.{Root}
 use Rattle.cli_output.proofs.Ends.{asked_ends}

@@ -3,12 +3,12 @@ use Rattle.block_codec.specs.Reading.{block_in}
 use Rattle.block_log.specs.Log.{next_in_log}
 use Rattle.scratch_model.specs.Scratch.{is_known}
 use Rattle.block_codec.proofs.WholeBlocks.{decided}
-use Rattle.chain_exec.specs.Compiled.{compiled_in}
-use Rattle.chain_exec.proofs.TheLaws.{one_compiler}
-use Rattle.recovery.specs.Node.{next_in_chain}
+use Rattle.cli_proofs.specs.chain_exec.Compiled.{compiled_in}
+use Rattle.cli_append.specs.recovery.Node.{next_in_chain}
 use Rattle.cli_output.specs.Output.{changes_log}
 use Rattle.chain_cli.proofs.Runs.{with_status}
 use Rattle.chain_cli.proofs.Moments.{any_command}
+use Rattle.chain_cli.proofs.OneOutput.{compiled_by}
 use Rattle.chain_cli.proofs.run.run.Goals as goal
 
 pub returns-clause-output : goal.returns-clause-output
@@ -17,7 +17,7 @@ returns-clause-output g c = (
   decided,
   (
     compiled_in,
-    one_compiler.is_compiler,
+    compiled_by.is_compiler,
     λ command is. with_status g.M.Clock.now g.M.Clock.disk g.M.Clock.told c.args.machine.now c.run_words.new.machine c.run_words.result c.run_words.result (g.I.Source.left c.args.source.now) (g.I.Source.left c.run_words.new.source) (is_known (g.S.Scratch.state c.args.scratch.now)) c.command_of-command.result command
         refl (c.command_of-command.ensures.one.only command is) c.run_words.ensures.run,
   ),
@@ -29,7 +29,7 @@ returns-clause-goes_on g c = (
   decided,
   (
     compiled_in,
-    one_compiler.is_compiler,
+    compiled_by.is_compiler,
     λ held. any_command g.M.Clock.now g.M.Clock.disk g.M.Clock.told next_in_chain (changes_log c.command_of-command.result) c.args.machine.now c.run_words.new.machine c.requires.settled c.run_words.ensures.untouched (λ changes. c.run_words.ensures.goes_on changes held),
   ),
 )

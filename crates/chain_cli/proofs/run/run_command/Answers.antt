@@ -1,10 +1,12 @@
 use Rattle.std.proofs.Common.{Some, refl}
 use Rattle.scratch_model.specs.Scratch.{is_known}
-use Rattle.recovery.specs.Node.{next_in_chain}
-use Rattle.cli_words.specs.declared.words.Command.TheVariants.{Scan, Fmt, Pack, Load, Append, Root, Ask, Prove, Verify, Expose}
+use Rattle.cli_append.specs.recovery.Node.{next_in_chain}
+use Rattle.cli_words.specs.declared.words.Command.TheVariants.{Scan, Fmt, Pack, Load, Append, Root}
+use Rattle.cli_words.specs.declared.words.Command.TheVariants.{Ask, Prove, Verify, Expose}
 use Rattle.cli_output.specs.Telling.{status_of_result}
 use Rattle.chain_cli.proofs.Ends.{done_ends, load_ends, load_stops, of_given, found_log, is_count}
-use Rattle.chain_cli.proofs.Runs.{scan_run, fmt_run, verify_run, pack_run, gen_run, load_run, of_command}
+use Rattle.chain_cli.proofs.Runs.{scan_run, fmt_run, verify_run, pack_run, gen_run, load_run}
+use Rattle.chain_cli.proofs.Runs.{of_command}
 use Rattle.chain_cli.proofs.run.run_command.Goals as goal
 
 pub returns-in-Scan-clause-run : goal.returns-in-Scan-clause-run

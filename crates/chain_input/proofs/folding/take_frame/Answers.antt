@@ -1,4 +1,4 @@
-use Rattle.chain_exec.specs.Compiled.{compiled_in}
+use Rattle.chain_replay.specs.chain_exec.Compiled.{compiled_in}
 use Rattle.chain_replay.specs.Judging.{Added}
 use Rattle.chain_replay.proofs.Judgements.{added}
 use Rattle.chain_input.proofs.folding.take_frame.Goals as goal

@@ -4,7 +4,7 @@ use Rattle.scratch_model.proofs.Retaining.{retains_refl, retains_trans}
 use Rattle.rooted_chain.specs.Roots.{kept_in}
 use Rattle.chain_load.specs.Building.{HasAdded}
 use Rattle.chain_load.proofs.Placed.{none_added, all_added}
-use Rattle.merkle_dag.proofs.Causes.{unblamed}
+use Rattle.rooted_chain.proofs.merkle_dag.Causes.{unblamed}
 use Rattle.chain_load.proofs.building.chain_made.Goals as goal
 
 pub loop-init : goal.loop-init

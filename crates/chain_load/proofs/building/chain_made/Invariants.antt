@@ -1,6 +1,6 @@
 use Rattle.std.proofs.Common.{◌≡◌}
 use Rattle.scratch_model.specs.Scratch.{is_known, Retains}
-use Rattle.merkle_dag.specs.Lineage.{AgreesWith}
+use Rattle.rooted_chain.specs.merkle_dag.Lineage.{AgreesWith}
 use Rattle.rooted_chain.specs.Roots.{kept_in, lineage_in}
 use Rattle.chain_load.specs.Building.{HasAdded}
 use Rattle.chain_load.proofs.building.chain_made.Given as goal

@@ -1,5 +1,5 @@
 use Rattle.std.proofs.Common.{ap}
-use Rattle.merkle_dag.specs.Lineage.{LineageState}
+use Rattle.rooted_chain.specs.merkle_dag.Lineage.{LineageState}
 use Rattle.rooted_chain.specs.Roots.{kept_in}
 use Rattle.chain_load.proofs.Told.{load_is}
 use Rattle.chain_load.proofs.loading.load_over.Goals as goal

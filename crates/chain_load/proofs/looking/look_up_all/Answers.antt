@@ -1,9 +1,9 @@
 use Rattle.std.proofs.Common.{◌∙◌, List, refl, ap, arith}
 use Rattle.lc_base.specs.declared.row.Row.{Row}
-use Rattle.merkle_dag.specs.Staying.{stays_refl, stays_trans}
+use Rattle.rooted_chain.specs.merkle_dag.Staying.{stays_refl, stays_trans}
 use Rattle.chain_load.specs.Lookups.{lookup_drawn, looked_at}
 use Rattle.chain_load.proofs.Counting.{begins, goes_on, count_few}
-use Rattle.merkle_dag.proofs.Causes.{unblamed}
+use Rattle.rooted_chain.proofs.merkle_dag.Causes.{unblamed}
 use Rattle.chain_load.proofs.looking.look_up_all.Goals as goal
 
 pub loop-init : goal.loop-init

@@ -1,5 +1,5 @@
 use Rattle.std.proofs.Common.{◌≡◌}
-use Rattle.merkle_dag.specs.Lineage.{StaysSame}
+use Rattle.rooted_chain.specs.merkle_dag.Lineage.{StaysSame}
 use Rattle.chain_load.proofs.Counting.{IsLooking}
 use Rattle.chain_load.proofs.looking.look_up_all.Given as goal
 

@@ -3,10 +3,12 @@ use Rattle.scratch_model.proofs.Retaining.{retains_refl, retains_trans}
 use Rattle.disk_model.proofs.Calls.{stay_keeps}
 use Rattle.block_log.specs.Log.{next_in_log}
 use Rattle.recovery.specs.Node.{next_in_chain}
+use Rattle.recovery.proofs.merkle_dag.Causes.{unblamed}
 use Rattle.crash_promises.specs.Laws.{GoesOn}
 use Rattle.cli_append.proofs.Loop.{begun, goes_on, whole_input, refused_form, refused_block}
 use Rattle.cli_append.proofs.Loop.{stopped_before, stopped_at, goes_from, goes_still, goes_step}
 use Rattle.cli_append.proofs.ByLog.{log_begun, log_more}
+use Rattle.cli_append.proofs.Causes.{carried}
 use Rattle.cli_append.proofs.appending.append.Goals as goal
 
 pub turns-init : goal.turns-init
@@ -178,3 +180,8 @@ returns-in-Err-take_frame-clause-log_goes_on g c content told = log_more g.M.Clo
     g.M.Clock.disk c.args.machine.now c.turns.machine c.take_frame.new.machine c.turns.node.log
     content told (c.turns.invariant.log_goes_on content told) c.turns.invariant.ready.log
     c.take_frame.ensures.log_goes_on
+
+pub returns-in-Ok-Err-clause-untold : goal.returns-in-Ok-Err-clause-untold
+returns-in-Ok-Err-clause-untold g c =
+    carried _ _ _ _ _ (unblamed _ _ c.in-Ok-Err.ensures.untold ∙ c.turns.invariant.wire_faults)
+    c.refuse.ensures.untold (λ blames. blames) (λ blames. blames)

@@ -1,7 +1,7 @@
 use Rattle.std.proofs.Common.{◌∙◌, refl}
 use Rattle.block_codec.specs.Reading.{block_in}
 use Rattle.chain_exec.specs.Compiled.{compiled_in}
-use Rattle.chain_replay.specs.Judging.{judgement_of}
+use Rattle.recovery.specs.chain_replay.Judging.{judgement_of}
 use Rattle.recovery.specs.Node.{next_in_chain}
 use Rattle.cli_append.proofs.Causes.{carried, kept}
 use Rattle.cli_append.proofs.Frames.{takes_whole, takes_part, takes_none, takes_refusal}
@@ -145,3 +145,21 @@ pub returns-clause-log_goes_on : goal.returns-clause-log_goes_on
 returns-clause-log_goes_on g c content told = log_taken g.M.Clock.now g.M.Clock.disk
     c.args.machine.now c.append.new.machine c.args.node.log content
     (block_in c.args.frame.now) c.requires.ready.log told c.append.ensures.log_images
+
+pub returns-in-Ok-tell_line-clause-scratch_fault : goal.returns-in-Ok-tell_line-clause-scratch_fault
+returns-in-Ok-tell_line-clause-scratch_fault g c =
+    let cause = c.in-Ok.ensures.scratch.cause in
+    record {
+      later = cause.later;
+      failed = λ both. cause.failed cc;
+      told = λ differ. absurd (cause.told differ);
+    }
+
+pub returns-in-Ok-appended_line-clause-scratch_fault : goal.returns-in-Ok-appended_line-clause-scratch_fault
+returns-in-Ok-appended_line-clause-scratch_fault g c =
+    let cause = c.in-Ok.ensures.scratch.cause in
+    record {
+      later = cause.later;
+      failed = λ both. cause.failed cc;
+      told = λ differ. absurd (cause.told differ);
+    }

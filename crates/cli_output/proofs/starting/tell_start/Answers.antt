@@ -1,7 +1,7 @@
 use Rattle.std.proofs.Common.{[], ◌∷◌}
-use Rattle.cli_lines.specs.Lines.{not_a_log_line, damaged_line}
-use Rattle.cli_lines.specs.Outcome.{outcome_with}
-use Rattle.cli_lines.specs.declared.outcome.Ending.TheVariants as endings
+use Rattle.cli_append.specs.cli_lines.Lines.{not_a_log_line, damaged_line}
+use Rattle.cli_append.specs.cli_lines.Outcome.{outcome_with}
+use Rattle.cli_append.specs.cli_lines.declared.outcome.Ending.TheVariants as endings
 use Rattle.cli_output.proofs.Ends.{known_ends}
 use Rattle.cli_output.proofs.starting.tell_start.Goals as goal
 

@@ -1,6 +1,6 @@
 use Rattle.std.proofs.Common.{refl}
 use Rattle.cli_append.specs.declared.ending.RunStop.TheVariants as stops
-use Rattle.recovery.specs.Node.{next_in_chain}
+use Rattle.cli_append.specs.recovery.Node.{next_in_chain}
 use Rattle.cli_output.proofs.Ends.{made_ends}
 use Rattle.cli_output.proofs.Meets.{made_ok, made_err}
 use Rattle.cli_output.proofs.telling.tell_made.Goals as goal

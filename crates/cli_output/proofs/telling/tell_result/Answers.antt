@@ -1,4 +1,4 @@
-use Rattle.recovery.specs.Node.{next_in_chain}
+use Rattle.cli_append.specs.recovery.Node.{next_in_chain}
 use Rattle.cli_output.proofs.Ends.{made_ends}
 use Rattle.cli_output.proofs.telling.tell_result.Goals as goal
 

@@ -1,7 +1,7 @@
 use Rattle.std.proofs.Common.{◌∙◌}
 use Rattle.scratch_model.specs.Scratch.{is_known}
 use Rattle.block_log.specs.Standing.{standing}
-use Rattle.recovery.specs.Node.{next_in_chain}
+use Rattle.cli_output.specs.recovery.Node.{next_in_chain}
 use Rattle.cli_output.proofs.Meets.{chain_of_node}
 use Rattle.cli_proofs.proofs.Exposes.{expose_run, expose_refused, has_log}
 use Rattle.cli_proofs.proofs.exposing.expose.Goals as goal

@@ -1,5 +1,5 @@
 use Rattle.std.proofs.Common.{ap}
-use Rattle.merkle_dag.specs.Lineage.{LineageState, ledger_in}
+use Rattle.answer_proof.specs.merkle_dag.Lineage.{LineageState, ledger_in}
 use Rattle.cli_proofs.proofs.exposing.last_held.Goals as goal
 
 pub returns-clause-outcome : goal.returns-clause-outcome

@@ -1,4 +1,4 @@
-use Rattle.merkle_dag.specs.Lineage.{ledger_in}
+use Rattle.answer_proof.specs.merkle_dag.Lineage.{ledger_in}
 use Rattle.cli_proofs.proofs.Proves.{proved_told}
 use Rattle.cli_proofs.proofs.proving.proof_outcome.Goals as goal
 

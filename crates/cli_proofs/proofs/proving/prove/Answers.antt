@@ -1,6 +1,6 @@
 use Rattle.std.proofs.Common.{Some, refl, ◌∙◌}
 use Rattle.block_log.specs.Standing.{standing}
-use Rattle.recovery.specs.Node.{next_in_chain}
+use Rattle.cli_output.specs.recovery.Node.{next_in_chain}
 use Rattle.chain_exec.specs.Compiled.{compiled_in}
 use Rattle.cli_words.specs.declared.words.Command.TheVariants.{Prove}
 use Rattle.cli_output.specs.Output.{prove_outcome}

@@ -5,7 +5,7 @@ use Rattle.contract_semantics.specs.Steps.{machine}
 use Rattle.contract_semantics.specs.Statements.{statements_run, loop_turn}
 use Rattle.eval_statements.proofs.Branches.{if_flows, while_flows}
 use Rattle.eval_statements.proofs.Loops.{turn_moved, one_more, stops, ends, unblamed_at_ok}
-use Rattle.eval_expressions.proofs.ToldRows.{told_at, told_all}
+use Rattle.eval_simple.proofs.eval_expressions.ToldRows.{told_at, told_all}
 use Rattle.eval_statements.proofs.statement.+statement.Goals as goal
 
 pub statement-returns-in_ok-chosen-in-If-clause-step : goal.statement-returns-in_ok-chosen-in-If-clause-step

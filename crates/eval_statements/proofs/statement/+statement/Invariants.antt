@@ -5,7 +5,7 @@ use Rattle.contract_tree.specs.Tree.{tree_of, statement_of, statement_list}
 use Rattle.contract_semantics.specs.Answers.{scene_in, place_in, IsFaithful}
 use Rattle.contract_semantics.specs.Steps.{machine, and_then}
 use Rattle.contract_semantics.specs.Statements.{statements_run, block_run, block_ended, turns, loop_turn, loop_run}
-use Rattle.eval_builtins.specs.Runs.{IsLent}
+use Rattle.eval_simple.specs.eval_builtins.Runs.{IsLent}
 use Rattle.eval_statements.proofs.statement.+statement.Given as goal
 
 abbrev pub invariant-block-loop-x : goal.invariant-block-loop-x

@@ -1,7 +1,7 @@
 use Rattle.std.proofs.Common.{◌≡◌, ◌∙◌, ◌+◌, List, ◌∷◌, [], ◌++◌, map, ap, sym, arith}
 use Rattle.std.specs.List.{range_with_len}
 use Rattle.std.proofs.lemmas.List.FromFn.{map-range_with_len_more}
-use Rattle.state_tree.specs.declared.states.LeafState.{LeafState}
+use Rattle.lineage_index.specs.state_tree.declared.states.LeafState.{LeafState}
 use Rattle.lineage_index.specs.Leaves.{state_of}
 use Rattle.lineage_front.proofs.Filled.{key_within}
 use Rattle.lineage_front.proofs.leaves.all_states.Goals as goal

@@ -1,8 +1,8 @@
 use Rattle.std.proofs.Common.{◌∙◌, List, [], length, ap}
 use Rattle.std.specs.List.{range_with_len}
-use Rattle.root_laws.specs.Root.{keys_of}
-use Rattle.state_tree.specs.declared.states.LeafState.{LeafState}
-use Rattle.state_tree.specs.Leaves.{with_states}
+use Rattle.typed_ledger.specs.root_laws.Root.{keys_of}
+use Rattle.lineage_index.specs.state_tree.declared.states.LeafState.{LeafState}
+use Rattle.lineage_index.specs.state_tree.Leaves.{with_states}
 use Rattle.lineage_index.proofs.LeafStates.{beside_leaves, states_within}
 use Rattle.lineage_front.proofs.AllLeaves.{all_within, leaves_made}
 use Rattle.lineage_front.proofs.leaves.renew_all.Goals as goal

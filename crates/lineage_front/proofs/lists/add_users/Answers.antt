@@ -3,8 +3,8 @@ use Rattle.std.specs.Prelude.{slice_set}
 use Rattle.std.proofs.lemmas.List.{take_all, length-take-le}
 use Rattle.std.proofs.lemmas.Option.{slice_get_within}
 use Rattle.lc_base.specs.declared.row.Dep.{Dep}
-use Rattle.forward_links.specs.declared.open_list.OpenList.{OpenList}
-use Rattle.forward_links.specs.Lists.{open_of, kept_at}
+use Rattle.lineage_index.specs.forward_links.declared.open_list.OpenList.{OpenList}
+use Rattle.lineage_index.specs.forward_links.Lists.{open_of, kept_at}
 use Rattle.lineage_front.proofs.Reading.{as_many_versions, version_there}
 use Rattle.lineage_front.proofs.Filled.{set_same, use_more, kept_of_list, lists_within}
 use Rattle.lineage_front.proofs.lists.add_users.Goals as goal

@@ -2,7 +2,7 @@ use Rattle.std.proofs.Common.{◌≡◌, List, take, map}
 use Rattle.std.specs.Prelude.{slice_set}
 use Rattle.lc_base.specs.declared.row.Row.{Row}
 use Rattle.lc_base.specs.declared.row.Dep.{Dep}
-use Rattle.forward_links.specs.Lists.{open_of}
+use Rattle.lineage_index.specs.forward_links.Lists.{open_of}
 use Rattle.lineage_front.specs.Front.{CanFill}
 use Rattle.lineage_front.proofs.lists.add_users.Given as goal
 

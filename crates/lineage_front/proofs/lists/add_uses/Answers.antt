@@ -1,7 +1,7 @@
 use Rattle.std.proofs.Common.{◌∙◌, [], get_or, map, ap, arith}
 use Rattle.std.proofs.lemmas.Option.{slice_get_within}
-use Rattle.root_laws.specs.Root.{keys_of}
-use Rattle.forward_links.specs.Lists.{open_of}
+use Rattle.typed_ledger.specs.root_laws.Root.{keys_of}
+use Rattle.lineage_index.specs.forward_links.Lists.{open_of}
 use Rattle.lineage_index.specs.Heads.{open_list}
 use Rattle.lineage_front.specs.Front.{first_lists}
 use Rattle.lineage_front.proofs.Reading.{newest_there}

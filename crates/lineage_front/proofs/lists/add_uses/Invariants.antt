@@ -1,7 +1,7 @@
 use Rattle.std.proofs.Common.{◌≡◌, List, map}
 use Rattle.lc_base.specs.declared.row.Row.{Row}
-use Rattle.root_laws.specs.Root.{keys_of}
-use Rattle.forward_links.specs.Lists.{open_of}
+use Rattle.typed_ledger.specs.root_laws.Root.{keys_of}
+use Rattle.lineage_index.specs.forward_links.Lists.{open_of}
 use Rattle.lineage_index.specs.Heads.{open_list}
 use Rattle.lineage_front.specs.Front.{AreEmpty, first_lists}
 use Rattle.lineage_front.proofs.lists.add_uses.Given as goal

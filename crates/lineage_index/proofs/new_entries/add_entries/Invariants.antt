@@ -4,6 +4,6 @@ use Rattle.lineage_store.specs.Entries.{entries_of}
 use Rattle.lineage_index.specs.NewEntries.{AreUsing}
 use Rattle.lineage_index.proofs.new_entries.add_entries.Given as goal
 
-abbrev pub invariant-loop-row : goal.invariant-loop-row
-invariant-loop-row l =
-    (rows : List Row) (n : ℕ) → AreUsing rows l.new n l.tree l.lists l.newest → l.initial.store ≡ entries_of rows rows → l.store ≡ entries_of (rows ++ l.new) (rows ++ take l.row-index l.new)
+abbrev pub invariant-loop-index : goal.invariant-loop-index
+invariant-loop-index l =
+    (rows : List Row) (n : ℕ) → AreUsing rows l.new n l.tree l.lists l.newest → l.initial.store ≡ entries_of rows rows → l.store ≡ entries_of (rows ++ l.new) (rows ++ take l.index l.new)

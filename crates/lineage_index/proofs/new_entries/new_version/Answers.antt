@@ -11,5 +11,4 @@ returns c keys list a =
       tx_is = refl;
       closed_is = ap (λ (one : OpenList). one.count) closed;
       closed_digest_is = ap (λ (one : OpenList). one.digest) closed;
-      body_is = c.in_ok-body.ensures;
     }

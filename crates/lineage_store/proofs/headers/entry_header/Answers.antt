@@ -1,5 +1,5 @@
 use Rattle.std.proofs.Common.{◌∙◌, map, slice_get, ap}
-use Rattle.entry_store.specs.Entries.{named_link}
+use Rattle.skip_list.specs.entry_store.Entries.{named_link}
 use Rattle.lineage_store.proofs.MadeAgain.{header_with, made_is, row_header}
 use Rattle.lineage_store.proofs.headers.entry_header.Goals as goal
 

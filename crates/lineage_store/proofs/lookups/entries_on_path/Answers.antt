@@ -1,7 +1,7 @@
 use Rattle.std.proofs.Common.{◌≡◌, true}
 use Rattle.std.specs.List.{AllByRecursion}
 use Rattle.std.proofs.lemmas.Result.{IfOk-weaker}
-use Rattle.entry_store.specs.declared.entry.EntryId.{EntryId}
+use Rattle.skip_list.specs.entry_store.declared.entry.EntryId.{EntryId}
 use Rattle.skip_list.specs.LookedAt.{AreAmong}
 use Rattle.lineage_store.specs.Versions.{versions_of_key}
 use Rattle.lineage_store.proofs.Hops.{have_rows}

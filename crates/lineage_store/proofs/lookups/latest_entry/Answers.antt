@@ -1,5 +1,5 @@
 use Rattle.std.proofs.Common.{◌∙◌, ap, arith}
-use Rattle.entry_store.specs.Steps.{raised_count}
+use Rattle.skip_list.specs.entry_store.Steps.{raised_count}
 use Rattle.lineage_store.specs.Versions.{versions_of_key}
 use Rattle.lineage_store.proofs.Looking.{newest_towered, found_latest, found_within, path_steps, none_found, no_steps}
 use Rattle.lineage_store.proofs.lookups.latest_entry.Goals as goal

@@ -1,14 +1,15 @@
 use Rattle.std.proofs.Common.{◌≡◌, ◌∙◌, ◌+◌, ◌++◌, ◌∷◌, [], sym, ap, subst, List, ℕ, length, map}
 use Rattle.std.proofs.Common.{arith}
 use Rattle.std.specs.List.{All}
-use Rattle.std.proofs.lemmas.List.{length-append}
+use Rattle.std.proofs.lemmas.List.{length-append, length-map}
 use Rattle.std.proofs.lemmas.List.Elements.{All-append}
 use Rattle.sha2.specs.Sha256.{sha256}
 use Rattle.lc_base.specs.declared.row.Row.{Row}
+use Rattle.lc_base.specs.History.{IsLawful}
 use Rattle.prov_entry.specs.declared.entry.Leaf.{Leaf}
-use Rattle.root_laws.specs.Root.{root_text, leaves}
+use Rattle.lineage_index.specs.lineage_store.root_laws.Root.{root_text, leaves}
 use Rattle.rows_index.specs.Index.{IsIndexOf as IsUsesIndexOf}
-use Rattle.typed_ledger.specs.TypedLedger.{IsTypedRow}
+use Rattle.lineage_front.specs.typed_ledger.TypedLedger.{IsTypedRow}
 use Rattle.lineage_index.specs.Growth.{Grows}
 use Rattle.lineage_index.specs.Index.{IsIndexOf}
 use Rattle.body_store.specs.Bodies.{bodies_in}
@@ -34,31 +35,25 @@ add_block-requires g c =
       subst (λ (m : ℕ). IsIndexOf rows m old.index) (sym given.next) given.whole.index_is,
     )
 
-pub add_rows-added-requires-clause-rows : goal.add_rows-added-requires-clause-rows
-add_rows-added-requires-clause-rows g c =
-    let old = c.args.kept.now in
-    let rows = rows_kept old.index in
-    let given = c.requires in
-    let growing = grows rows c.args.new.now old.digests.items old.roots.items c.args.number
-    c.args.digest c.args.digest given.whole.ledger given.next given.block given.lawful in
-    let after = c.in_ok-add_block.ensures rows c.args.number
-    (subst (λ (new : List Row). Grows rows new c.args.number) (sym c.as_slice.ensures) growing)
-    (subst (λ (m : ℕ). IsIndexOf rows m old.index) (sym given.next) given.whole.index_is) in
-    let index : IsIndexOf (rows ++ c.args.new.now) (c.args.number + 1) c.add_block.new.self = rw
-    c.as_slice.ensures at after in (
-      rows,
-      c.args.number + 1,
-      subst
-          (λ (new : List Row). IsIndexOf (rows ++ new) (c.args.number + 1) c.add_block.new.self)
-          (sym c.as_slice-2.ensures) index,
+pub add_uses-requires : goal.add_uses-requires
+add_uses-requires g c =
+    let given = c.requires in (
+      rows_kept c.args.kept.now.index,
+      subst (λ (new : List Row). IsLawful (rows_kept c.args.kept.now.index ++ new))
+          (sym c.as_slice-2.ensures) given.lawful,
       given.whole.uses_are,
     )
 
-pub add_rows-added-requires-clause-room : goal.add_rows-added-requires-clause-room
-add_rows-added-requires-clause-room g c =
+pub add_bodies-added-requires-clause-room : goal.add_bodies-added-requires-clause-room
+add_bodies-added-requires-clause-room g c =
     let old = c.args.kept.now in
     let rows = rows_kept old.index in
     let given = c.requires in
+    let growing = subst (λ (new : List Row). Grows rows new c.args.number) (sym c.as_slice.ensures)
+    (grows rows c.args.new.now old.digests.items old.roots.items c.args.number c.args.digest
+    c.args.digest given.whole.ledger given.next given.block given.lawful) in
+    let before = subst (λ (m : ℕ). IsIndexOf rows m old.index) (sym given.next)
+    given.whole.index_is in
     omega (
       arith,
       as_many_bodies rows old.index.store old.bodies
@@ -66,10 +61,13 @@ add_rows-added-requires-clause-room g c =
       length-append rows
           c.args.new.now,
       given.lawful.few,
-      ap length c.as_slice-2.ensures,
+      ap length c.as_slice.ensures,
+      ap length c.as_slice-3.ensures,
+      ap length (c.in_ok-spelled.ensures.bodies rows c.args.number growing before),
+      length-map c.as_slice.result.now (bytes_of (rows ++ c.as_slice.result.now)),
     )
 
-module _ (g : Over) (c : goal.In-Ok g) where
+module _ (g : Over) (c : goal.After-drop-spelled-inside-in-Ok g) where
   abbrev old : Kept
   old = c.args.kept.now
 
@@ -92,37 +90,41 @@ module _ (g : Over) (c : goal.In-Ok g) where
 
   index : IsIndexOf (rows ++ new) (number + 1) c.add_block.new.self
   index =
-      let after = c.in_ok-add_block.ensures rows number
+      let after = c.in_ok-spelled.ensures.index rows number
       (subst (λ (more : List Row). Grows rows more number) (sym c.as_slice.ensures) growing)
       before in
       subst (λ (more : List Row). IsIndexOf (rows ++ more) (number + 1) c.add_block.new.self)
       c.as_slice.ensures after
 
-  over : IsIndexOf (rows ++ c.as_slice-2.result.now) (number + 1) c.add_block.new.self
-  over = subst (λ (more : List Row). IsIndexOf (rows ++ more) (number + 1) c.add_block.new.self)
-      (sym c.as_slice-2.ensures) index
-
   typed : All IsTypedRow (rows ++ new)
   typed = All-append IsTypedRow rows new c.requires.whole.typed
-      (subst (All IsTypedRow) c.as_slice-2.ensures c.in-Ok.ensures.typed)
+      (subst (All IsTypedRow) c.as_slice-2.ensures c.in_ok-add_uses.ensures.typed)
 
   all_rows : rows_kept c.add_block.new.self ≡ rows ++ new
   all_rows = rows_are (rows ++ new) (number + 1) c.add_block.new.self index typed
 
-  users : IsUsesIndexOf (rows ++ new) c.add_rows-added.new.uses
+  users : IsUsesIndexOf (rows ++ new) c.add_uses.new.uses
   users =
-      let after = c.in-Ok.ensures.uses rows (number + 1) over c.requires.whole.uses_are in
-      subst (λ (more : List Row). IsUsesIndexOf (rows ++ more) c.add_rows-added.new.uses)
+      let lawful = subst (λ (more : List Row). IsLawful (rows ++ more)) (sym c.as_slice-2.ensures)
+      c.requires.lawful in
+      let after = c.in_ok-add_uses.ensures.uses rows lawful c.requires.whole.uses_are in
+      subst (λ (more : List Row). IsUsesIndexOf (rows ++ more) c.add_uses.new.uses)
       c.as_slice-2.ensures after
 
-  bodies : bodies_in c.add_rows-added.new.bodies ≡ map (λ (entry : Entry). entry.body)
+  spelled : c.as_slice-3.result.now ≡ map (bytes_of (rows ++ new)) new
+  spelled =
+      let made = c.in_ok-spelled.ensures.bodies rows number
+      (subst (λ (more : List Row). Grows rows more number) (sym c.as_slice.ensures) growing)
+      before in
+      c.as_slice-3.ensures ∙ made
+      ∙ ap (λ (more : List Row). map (bytes_of (rows ++ more)) more) c.as_slice.ensures
+
+  bodies : bodies_in c.add_bodies-added.new.bodies ≡ map (λ (entry : Entry). entry.body)
       c.add_block.new.self.store
-  bodies =
-      let added = c.in-Ok.ensures.bodies rows (number + 1) over c.requires.whole.uses_are in
-      bodies_after rows new number (number + 1) old.index c.add_block.new.self old.bodies
-      c.add_rows-added.new.bodies growing before index c.requires.whole.bodies_are
-      (subst (λ (more : List Row). bodies_in c.add_rows-added.new.bodies ≡ bodies_in old.bodies ++
-      map (bytes_of (rows ++ more)) more) c.as_slice-2.ensures added)
+  bodies = bodies_after rows new number (number + 1) old.index c.add_block.new.self old.bodies
+      c.add_bodies-added.new.bodies growing before index c.requires.whole.bodies_are
+      (c.in-Ok.ensures.bodies
+      ∙ ap (λ (more : List (List ℕ)). bodies_in old.bodies ++ more) spelled)
 
   made : c.root_of_tree-root.result.0 ≡ sha256
       (root_text number c.args.digest.0 (leaves (rows ++ new)))
@@ -136,8 +138,8 @@ returns-in-Ok-clause-whole g c =
     let root = c.root_of_tree-root.result in
     let digests = (old g c).digests.items in
     let roots = (old g c).roots.items in
-    keeps_at (rows g c ++ new g c) _ c.add_block.new.self c.add_rows-added.new.uses
-    c.add_rows-added.new.bodies (digests ++ c.args.digest ∷ []) _ (roots ++ root ∷ []) _
+    keeps_at (rows g c ++ new g c) _ c.add_block.new.self c.add_uses.new.uses
+    c.add_bodies-added.new.bodies (digests ++ c.args.digest ∷ []) _ (roots ++ root ∷ []) _
     (all_rows g c) c.in_ok-push.ensures.items c.in_ok-push-2.ensures.items (record {
       ledger = ledger_is (rows g c) (new g c) digests roots c.args.number c.args.digest root
           given.whole.ledger given.next given.block given.lawful given.low;

@@ -1,7 +1,9 @@
-use Rattle.std.proofs.Common.{◌∙◌, ◌+◌, length, take, ap, arith}
+use Rattle.std.proofs.Common.{◌∙◌, ◌+◌, [], ℕ, length, take, ap, arith}
 use Rattle.lc_base.specs.History.{up_to}
 use Rattle.body_store.specs.Bodies.{BodiesState}
+use Rattle.lineage_index.proofs.lineage_store.Entries.{as_many}
 use Rattle.merkle_dag.specs.Kept.{rows_kept}
+use Rattle.merkle_dag.specs.Lineage.{first_bodies}
 use Rattle.merkle_dag.proofs.FirstBlocks.{as_many_roots, count_within, first_keeps, first_typed}
 use Rattle.merkle_dag.proofs.RowBodies.{keeps_at, rows_are}
 use Rattle.merkle_dag.proofs.rewinding.first_blocks.Goals as goal
@@ -43,6 +45,19 @@ returns-clause-rows c =
     c.requires.within both.0
     (c.count.ensures.count ∙ ap length
     (c.store.ensures (up_to rows c.args.at) (c.args.at + 1) both.0)))
+
+pub returns-clause-bodies : goal.returns-clause-bodies
+returns-clause-bodies c =
+    let kept = c.args.kept.now in
+    let rows = rows_kept kept.index in
+    let first = up_to rows c.args.at in
+    let whole = c.requires.whole in
+    let both = c.in_ok-index.ensures rows (length kept.digests.items) whole.index_is whole.uses_are
+    in
+    c.in_ok-bodies.ensures.front
+    ∙ ap (λ (count : ℕ). first_bodies count kept.bodies)
+    (c.count.ensures.count ∙ ap length (c.store.ensures first (c.args.at + 1) both.0)
+    ∙ as_many first [] first)
 
 pub returns-clause-whole : goal.returns-clause-whole
 returns-clause-whole c =

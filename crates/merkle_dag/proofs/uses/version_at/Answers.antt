@@ -1,6 +1,6 @@
 use Rattle.std.proofs.Common.{ap, arith}
 use Rattle.entry_store.specs.declared.entry.Facts.{Facts}
-use Rattle.lineage_store.proofs.Entries.{row_facts}
+use Rattle.lineage_index.proofs.lineage_store.Entries.{row_facts}
 use Rattle.lineage_index.proofs.BlockSteps.{as_many_entries}
 use Rattle.merkle_dag.proofs.uses.version_at.Goals as goal
 

@@ -2,7 +2,7 @@ use Rattle.std.proofs.Common.{◌≡◌, List, take}
 use Rattle.lc_base.specs.declared.row.Row.{Row}
 use Rattle.lc_base.specs.declared.row.Dep.{Dep}
 use Rattle.rows_index.specs.Users.{AreVersionsAt}
-use Rattle.lineage_store.specs.Entries.{entries_of}
+use Rattle.lineage_index.specs.lineage_store.Entries.{entries_of}
 use Rattle.merkle_dag.proofs.uses.versions_at.Given as goal
 
 abbrev pub invariant-loop-place : goal.invariant-loop-place

@@ -1,7 +1,7 @@
 use Rattle.std.proofs.Common.{◌≡◌, ◌-◌, List}
 use Rattle.byte_fields.specs.Reading.{items_at}
 use Rattle.byte_fields.proofs.Loops.{with_prefix}
-use Rattle.prov_entry.specs.declared.entry.Header.{Header}
+use Rattle.proof_codec.specs.prov_entry.declared.entry.Header.{Header}
 use Rattle.entry_views.specs.Reading.{header_at}
 use Rattle.proof_lists.proofs.headers_view.skip_headers.Given as goal
 

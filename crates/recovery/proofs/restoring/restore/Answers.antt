@@ -3,12 +3,12 @@ use Rattle.std.proofs.lemmas.List.{map_push}
 use Rattle.std.proofs.lemmas.Result.{err_from_is_err_and}
 use Rattle.lc_base.specs.declared.digest.Digest.{Digest}
 use Rattle.scratch_model.proofs.Retaining.{retains_refl, retains_trans}
-use Rattle.merkle_dag.proofs.Causes.{unblamed}
+use Rattle.rooted_chain.proofs.merkle_dag.Causes.{unblamed}
 use Rattle.disk_model.specs.Disk.{content_of}
 use Rattle.disk_model.proofs.Moments.{stays_on, stays_here}
 use Rattle.block_log.specs.Standing.{Damaged, blocks_in}
 use Rattle.block_log.specs.declared.layout.Stored.{Stored}
-use Rattle.chain_replay.specs.Chain.{ChainState}
+use Rattle.rooted_chain.specs.chain_replay.Chain.{ChainState}
 use Rattle.recovery.proofs.Replaying.{AreRun, none_run, one_run, not_run}
 use Rattle.recovery.proofs.Started.{has_run, failed_turn}
 use Rattle.recovery.proofs.restoring.restore.Goals as goal

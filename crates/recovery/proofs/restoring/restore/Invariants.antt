@@ -5,7 +5,7 @@ use Rattle.disk_model.specs.Disk.{content_of}
 use Rattle.block_codec.specs.declared.limits.TheConstants.{MAX_BLOCKS}
 use Rattle.block_log.specs.Reader.{AreRead}
 use Rattle.block_log.specs.declared.layout.Stored.{Stored}
-use Rattle.chain_replay.specs.Chain.{IsKnownFor}
+use Rattle.rooted_chain.specs.chain_replay.Chain.{IsKnownFor}
 use Rattle.recovery.specs.Restoring.{digests_of}
 use Rattle.recovery.proofs.Replaying.{AreRun}
 use Rattle.recovery.proofs.restoring.restore.Given as goal

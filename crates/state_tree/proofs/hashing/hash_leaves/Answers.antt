@@ -1,4 +1,4 @@
-use Rattle.std.proofs.Common.{List, subst, sym}
+use Rattle.std.proofs.Common.{List, ◌∙◌, subst, sym}
 use Rattle.merkle_tree.specs.declared.setting_all.HashAt.{HashAt}
 use Rattle.merkle_tree.specs.Levels.{Renews}
 use Rattle.state_tree.specs.Leaves.{leaf_hashes}
@@ -9,10 +9,10 @@ pub renew-requires-clause-renews : goal.renew-requires-clause-renews
 renew-requires-clause-renews c =
     let leaves = c.args.leaves.now in
     let set = renews leaves c.args.levels.now c.args.indexes.now c.requires.hashed in
-    (leaf_hashes leaves, hash_count leaves, subst (λ (hashes : List HashAt). Renews c.args.levels.now (leaf_hashes leaves) hashes) (sym c.in_ok-hashes.ensures) set)
+    (leaf_hashes leaves, hash_count leaves ∙ sym c.count.ensures.count, subst (λ (hashes : List HashAt). Renews c.args.levels.now (leaf_hashes leaves) hashes) (sym c.in_ok-hashes.ensures) set)
 
 pub returns-clause-ok : goal.returns-clause-ok
 returns-clause-ok c =
     let leaves = c.args.leaves.now in
     let set = renews leaves c.args.levels.now c.args.indexes.now c.requires.hashed in
-    c.renew.ensures.ok (leaf_hashes leaves) (hash_count leaves) (subst (λ (hashes : List HashAt). Renews c.args.levels.now (leaf_hashes leaves) hashes) (sym c.in_ok-hashes.ensures) set)
+    c.renew.ensures.ok (leaf_hashes leaves) (hash_count leaves ∙ sym c.count.ensures.count) (subst (λ (hashes : List HashAt). Renews c.args.levels.now (leaf_hashes leaves) hashes) (sym c.in_ok-hashes.ensures) set)

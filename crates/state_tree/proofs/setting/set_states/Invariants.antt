@@ -9,6 +9,7 @@ abbrev pub invariant-loop-state : goal.invariant-loop-state
 invariant-loop-state l = record {
   leaves : l.leaves ≡ with_states l.fn.leaves (take l.state-index l.states);
   back : with_states l.leaves (reverse l.before.items) ≡ l.fn.leaves;
+  own : All (λ (state : LeafState). 0 < state.index) l.before.items;
   below : All (λ (state : LeafState). state.index < length l.fn.leaves) l.before.items;
   few : vec_len l.before ≤ l.state-index;
   room : length l.states ≤ vec_capacity l.before;

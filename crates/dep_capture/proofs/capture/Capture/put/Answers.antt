@@ -1,4 +1,4 @@
-use Rattle.std.proofs.Common.{◌≡◌, ◌&&◌, not, false, List, length, sym, ap, subst, ◌∙◌, arith}
+use Rattle.std.proofs.Common.{◌≡◌, ◌&&◌, not, false, List, length, sym, subst, ◌∙◌, arith}
 use Rattle.std.specs.Prelude.{nat_le}
 use Rattle.std.specs.List.{All}
 use Rattle.std.specs.Option.{option_copied}
@@ -18,11 +18,14 @@ invariant_of-self-2 c =
     let puts : List Put = c.self.inside.puts in
     let named = option_copied c.args.named in
     let deps : List Dep = c.in_ok-deps.deps in
-    let are : deps ≡ deps_of reads named = c.in_ok-deps.ensures.deps ∙ ap (λ (rs : List Read). deps_of rs named) c.as_slice-3.ensures in
+    let are : deps ≡ deps_of reads named = c.in_ok-deps.ensures.deps in
     let backed : AreBackedDeps reads deps = record {
       few = omega (arith, c.if-len-gt-MAX_DEPS.false, c.len.ensures);
       once = c.in_ok-deps.ensures.once;
       backed = subst (All (WasBacked reads)) (sym are) (deps_are_backed reads named);
     } in
-    let room = subst (λ (ps : List Put). (not (was_put ps c.args.key) && nat_le MAX_KEYS_PUT (length ps)) ≡ false) c.as_slice.ensures (sym c.is_one_too_many.ensures ∙ c.if-is_one_too_many.false) in
-    subst (IsCapture reads) (sym c.in_ok-set_put.ensures.ok) (put_keeps reads puts (record { key = c.args.key; value = c.args.value; deps = deps }) c.self.invariant backed room)
+    let room : (not (was_put puts c.args.key) && nat_le MAX_KEYS_PUT (length puts))
+    ≡ false = sym c.is_one_too_many.ensures ∙ c.if-is_one_too_many.false in
+    subst (IsCapture reads) (sym c.in_ok-set.ensures.ok)
+    (put_keeps reads puts (record { key = c.args.key; value = c.args.value; deps = deps })
+    c.self.invariant backed room)

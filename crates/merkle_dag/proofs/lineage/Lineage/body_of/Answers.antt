@@ -5,7 +5,7 @@ use Rattle.std.proofs.lemmas.Result.{IfOk-weaker}
 use Rattle.scratch_model.specs.Scratch.{is_known}
 use Rattle.body_store.specs.Bodies.{body_at_index}
 use Rattle.prov_entry.specs.Spelling.{body_fields}
-use Rattle.root_laws.specs.Naming.{body_of}
+use Rattle.lineage_index.specs.lineage_store.root_laws.Naming.{body_of}
 use Rattle.merkle_dag.specs.Kept.{rows_kept}
 use Rattle.merkle_dag.proofs.RowBodies.{as_many_bodies, body_is}
 use Rattle.merkle_dag.proofs.lineage.Lineage.body_of.Goals as goal

@@ -1,17 +1,19 @@
-use Rattle.std.proofs.Common.{◌≡◌, true, List, [], ◌∷◌, ◌++◌, length, Ok, refl, sym, ap, subst, ◌∙◌}
+use Rattle.std.proofs.Common.{◌≡◌, true, false, List, [], ◌∷◌, ◌++◌, length, Ok, refl, sym, ap, subst, ◌∙◌}
+use Rattle.std.proofs.Common.{true≢false}
 use Rattle.std.proofs.Common.{arith}
 use Rattle.std.proofs.lemmas.List.{length-append}
 use Rattle.lc_base.specs.declared.row.Row.{Row}
 use Rattle.scratch_model.specs.Scratch.{is_known}
 use Rattle.block_codec.specs.Reading.{block_in}
 use Rattle.block_codec.specs.declared.block.Block.{Block}
-use Rattle.chain_exec.specs.Compiled.{compiled_in}
-use Rattle.chain_exec.specs.Effect.{History}
-use Rattle.chain_exec.specs.Fold.{block_effects}
-use Rattle.chain_replay.specs.Chain.{placement_in}
-use Rattle.chain_replay.specs.Judging.{Added, judgement_of, IsNextBlock}
-use Rattle.chain_replay.proofs.Judgements.{added_is_next}
+use Rattle.rooted_chain.specs.chain_exec.Compiled.{compiled_in}
+use Rattle.rooted_chain.specs.chain_exec.Effect.{History}
+use Rattle.rooted_chain.specs.chain_exec.Fold.{block_effects}
+use Rattle.rooted_chain.specs.chain_replay.Chain.{placement_in}
+use Rattle.rooted_chain.specs.chain_replay.Judging.{Added, judgement_of, IsNextBlock}
+use Rattle.rooted_chain.proofs.chain_replay.Judgements.{added_is_next}
 use Rattle.rooted_chain.specs.Roots.{kept_in}
+use Rattle.rooted_chain.proofs.merkle_dag.Causes.{unblamed}
 use Rattle.recovery.specs.Node.{NodeState, AreOfBlocks, IsNodeOf}
 use Rattle.recovery.specs.contracts.node.Node.{the_view}
 use Rattle.recovery.proofs.Placing.{next_of_log}
@@ -154,3 +156,27 @@ returns-in-Err-store-clause-log_images g c blocks content told stands = spelled_
     (block_in c.args.bytes.now) c.requires.next.decoded
     (c.store.ensures.log_images content blocks c.args.block.now told stands
     c.requires.next.decoded)
+
+pub returns-in-Ok-store-clause-scratch : goal.returns-in-Ok-store-clause-scratch
+returns-in-Ok-store-clause-scratch g c =
+    let same = unblamed _ _ c.in-Ok.ensures.cause in
+    record {
+      retains = c.in-Ok.ensures.retains;
+      cause = record {
+        later = omega (arith, same);
+        failed = λ none. absurd none;
+        told = λ differ. differ same;
+      };
+    }
+
+pub returns-in-Err-store-clause-scratch : goal.returns-in-Err-store-clause-scratch
+returns-in-Err-store-clause-scratch g c =
+    let same = unblamed _ _ c.in-Ok.ensures.cause in
+    record {
+      retains = c.in-Ok.ensures.retains;
+      cause = record {
+        later = omega (arith, same);
+        failed = λ is. absurd (true≢false (sym is));
+        told = λ differ. absurd (differ same);
+      };
+    }

@@ -1,11 +1,11 @@
 use Rattle.std.proofs.Common.{refl, sym, subst, Result}
 use Rattle.disk_model.specs.Disk.{Keeps}
 use Rattle.block_codec.specs.Reading.{block_in}
-use Rattle.chain_exec.specs.Compiled.{compiled_in}
-use Rattle.chain_replay.specs.Chain.{StandsFor}
-use Rattle.chain_replay.specs.Judging.{Taken, judgement_of}
-use Rattle.chain_replay.specs.declared.refusal.Refusal.{Refusal}
-use Rattle.chain_replay.proofs.Judgements.{added}
+use Rattle.rooted_chain.specs.chain_exec.Compiled.{compiled_in}
+use Rattle.rooted_chain.specs.chain_replay.Chain.{StandsFor}
+use Rattle.rooted_chain.specs.chain_replay.Judging.{Taken, judgement_of}
+use Rattle.rooted_chain.specs.chain_replay.declared.refusal.Refusal.{Refusal}
+use Rattle.rooted_chain.proofs.chain_replay.Judgements.{added}
 use Rattle.rooted_chain.specs.Roots.{kept_in}
 use Rattle.recovery.specs.Node.{NodeState, IsStepOf}
 use Rattle.recovery.proofs.ByLog.{still_log}

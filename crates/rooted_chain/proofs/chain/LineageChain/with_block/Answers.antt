@@ -11,7 +11,8 @@ use Rattle.world_state.specs.declared.held.Held.{Held}
 use Rattle.chain_replay.specs.Chain.{IsAfter}
 use Rattle.chain_replay.proofs.Chains.{is_after, stands_after}
 use Rattle.root_laws.specs.Root.{root_of}
-use Rattle.merkle_dag.specs.Ledger.{Ledger}
+use Rattle.lineage_reading.specs.merkle_dag.Ledger.{Ledger}
+use Rattle.lineage_reading.proofs.merkle_dag.Causes.{unblamed, blameless}
 use Rattle.rooted_chain.specs.Roots.{RootedState, kept_in}
 use Rattle.rooted_chain.proofs.Rooted.{rooted}
 use Rattle.rooted_chain.proofs.HasRun.{rooted_of, run_lawful, run_kept}
@@ -68,3 +69,9 @@ returns-in-Ok-add_block-clause-few g c =
     let rows = ap (length {A = Row}) (rows_added g c) in
     let same = ap (λ (r : RootedState). length r.rows) c.self.view_is in
     omega (arith, rows, same, c.in-Ok.ensures.lawful.few, length-append c.self.inside.lineage.rows c.in-Ok.run'.rows)
+
+pub returns-in-Ok-add_block-clause-cause : goal.returns-in-Ok-add_block-clause-cause
+returns-in-Ok-add_block-clause-cause g c =
+    let ran = unblamed _ _ c.in-Ok.ensures.leaves.cause in
+    let added = unblamed _ _ c.in-Ok-add_block.ensures.cause in
+    blameless _ _ (added ∙ ran)

@@ -8,8 +8,8 @@ use Rattle.world_state.proofs.world.World.commit.Goals as goal
 
 pub returns-clause-newest : goal.returns-clause-newest
 returns-clause-newest g c = λ key.
-    rw (← c.self.view_is) (c.in_ok-add_newest.ensures key
-    ∙ ap (λ entries. option_or (newest_staged entries key) (lookup (pointwise ◌==◌ key) c.self.inside.newest.entries)) c.into_entries-entries.ensures)
+    rw (← c.self.view_is) (c.in_ok-add_newest.ensures.newest key
+    ∙ ap (λ entries. option_or (newest_staged entries key) (lookup (pointwise ◌==◌ key) c.self.inside.newest.entries)) c.into_entries.ensures)
 
 pub returns-clause-codes : goal.returns-clause-codes
 returns-clause-codes g c = rw (← c.self.view_is) (ap (λ codes. codes.committed) c.commit.ensures)

@@ -1,9 +1,0 @@
-use Rattle.std.proofs.Common.{ℕ, List, take}
-use Rattle.lc_base.specs.declared.row.Dep.{Dep}
-use Rattle.lineage_index.specs.Growth.{used_by}
-use Rattle.lineage_index.specs.Heads.{AreLists}
-use Rattle.lineage_index.proofs.uses.add_uses.Given as goal
-
-abbrev pub invariant-loop-row : goal.invariant-loop-row
-invariant-loop-row l =
-    (keys : List (List ℕ)) (list : List ℕ → List Dep) → AreLists l.tree l.initial.lists keys list → AreLists l.tree l.lists keys (used_by list (take l.row-index l.rows))

@@ -1,8 +1,0 @@
-use Rattle.std.proofs.Common.{◌≡◌, ◌==◌, ◌&&◌, not, ℕ, List, take}
-use Rattle.std.specs.List.{list_any}
-use Rattle.std.specs.Cmp.Lexicographic.{pointwise}
-use Rattle.world_state.specs.Rows.{has}
-use Rattle.world_state.proofs.staged.remove_keys.Given as goal
-
-abbrev pub invariant-loop-key : goal.invariant-loop-key
-invariant-loop-key l = (key : List ℕ) → has l.written key ≡ (has l.fn.written key && not (list_any (pointwise ◌==◌ key) (take l.key-index l.keys)))
