@@ -12,7 +12,7 @@ use Rattle.lc_base.specs.declared.row.Row.{Row}
 use Rattle.lc_base.specs.History.{up_to}
 use Rattle.root_laws.specs.Root.{digest_at, root_of}
 use Rattle.root_laws.proofs.Lists.{all_weaker, keep_all}
-use Rattle.typed_ledger.specs.TypedLedger.{IsTypedLedger}
+use Rattle.root_laws.specs.TypedLedger.{IsTypedLedger}
 use Rattle.proof_codec.specs.declared.proof.Proof.{Proof}
 use Rattle.proof_checks.specs.ProofTexts.{joined_texts, proof_texts}
 use Rattle.proof_checks.specs.LedgerTexts.{history_parts, ledger_texts}

@@ -1,4 +1,5 @@
 pub mod OneMore
+pub mod Onward
 pub mod TreeTexts
 pub mod Spelled
 pub mod Exposed

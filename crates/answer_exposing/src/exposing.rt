@@ -1,7 +1,7 @@
 //! If an accepted proof answers wrongly, a text of the proof and one of the ledger clash; `expose`
 //! finds the first such pair.
 
-ghost use Rattle.std.specs.Prelude.{◌≡◌, ◌<◌, true, Some, length, slice_get, IfOk, IsErrOf};
+ghost use Rattle.std.specs.Prelude.{◌≡◌, true, Some, ℕ, List, [], length, slice_get, IfOk, IsErrOf};
 ghost use Rattle.scratch_model.specs.Scratch.{is_known};
 ghost use Rattle.merkle_tree.specs.Tree.{audit_length};
 ghost use Rattle.merkle_dag.specs.Lineage.{ledger_in, AgreesWith, LeavesLineage};
@@ -9,16 +9,15 @@ ghost use Rattle.proof_checks.specs.{
   ProofTexts.{joined_texts, proof_texts},
   LedgerTexts.{history_parts, ledger_texts},
 };
-ghost use Rattle.text_clashes.specs.FirstClash.{ClashAt, text_at};
-ghost use Rattle.answer_exposing.specs.Exposing.{AreTextsAt, IsFound, IsExposed, Clears, TellsBeyond};
+ghost use Rattle.text_clashes.specs.Searching.{HasSearched};
+ghost use Rattle.answer_exposing.specs.Exposing.{IsFound, IsExposed, Clears, TellsBeyond};
 
-use crate::ledger::ledger_texts;
-use hashed_texts::{ProofView, proof_texts};
-use lc_base::{Bytes, Digest, HostError, Memory, TextList};
+use crate::ledger::search_ledger;
+use lc_base::{Bytes, Digest, HostError, Memory};
 use merkle_dag::Lineage;
 use scratch_model::Scratch;
 use std::alloc::Global;
-use text_clashes::first_clash;
+use text_clashes::{ClashSearch, ProofView, proof_texts};
 
 /// Two texts that differ and have one digest.
 #[derive(Debug, Drop)]
@@ -43,47 +42,30 @@ pub enum ExposeError {
     Memory,
 }
 
-/// Copies the text at a place.
-fn text_of(texts: &TextList, place: usize) -> Result<Bytes, Memory>
-    requires { place < length texts.now }
-    ensures { IfOk result (λ text. text ≡ text_at texts.now place) }
+/// A search for the first clash of the texts of a proof with others.
+fn search_of(alloc: Global, view: &ProofView) -> Result<ClashSearch, Memory>
+    requires { length view.now.audit ≡ audit_length view.now.leaf_index view.now.leaf_count }
+    ensures { IfOk result (HasSearched (proof_texts view.now) []) }
 {
-    texts.as_slice()[place].copy()
+    let given = proof_texts(alloc, view)?;
+    ClashSearch::new(alloc, given)
 }
 
-/// Copies the texts at the places of a clash.
-fn clash_at(given: &TextList, own: &TextList, pair: (usize, usize)) -> Result<Clash, Memory>
-    requires { ClashAt given.now own.now pair.0 pair.1 }
-    ensures { IfOk result (AreTextsAt given.now own.now pair) }
+/// The first clash that a search found.
+fn found_by(search: ClashSearch) -> Result<Option<Clash>, Memory>
+    ensures { IfOk result (λ found. (given own : List (List ℕ)) → HasSearched given own search
+        → IsFound given own found) }
 {
-    let proof_text = text_of(given, pair.0)?;
-    let chain_text = text_of(own, pair.1)?;
-    Ok(Clash {
-        proof_text,
-        chain_text,
-    })
-}
-
-/// The first clash of two lists of texts; `None` if they don't clash.
-fn clash_of(alloc: Global, given: &TextList, own: &TextList) -> Result<Option<Clash>, Memory>
-    ensures { IfOk result (IsFound given.now own.now) }
-{
-    match first_clash(alloc, given, own)? {
+    match search.finish()? {
         None => Ok(None),
-        Some(pair) => {
-            let clash = clash_at(given, own, pair)?;
+        Some((proof_text, chain_text)) => {
+            let clash = Clash {
+                proof_text,
+                chain_text,
+            };
             Ok(Some(clash))
         }
     }
-}
-
-/// The first clash of the texts of a proof with those of a ledger.
-fn clash_with(alloc: Global, view: &ProofView, own: &TextList) -> Result<Option<Clash>, Memory>
-    requires { length view.now.audit ≡ audit_length view.now.leaf_index view.now.leaf_count }
-    ensures { IfOk result (IsFound (proof_texts view.now) own.now) }
-{
-    let given = proof_texts(alloc, view)?;
-    clash_of(alloc, &given, own)
 }
 
 /// The first clash with all rows of a lineage, which must be those up to `root_at`, a block with
@@ -106,12 +88,14 @@ fn exposed_by_rows<S: Scratch>(
     ensures leaves { LeavesLineage S.state S.scratch_faults lineage.old scratch.old lineage.new
         scratch.new (IsErrOf result HostError.Fault) }
 {
-    match ledger_texts(alloc, lineage, scratch, root_at, block_digest) {
-        Ok(own) => match clash_with(alloc, view, &own) {
-            Ok(found) => Ok(found),
-            Err(Memory) => Err(HostError::Memory),
-        },
-        Err(error) => Err(error),
+    match search_of(alloc, view) {
+        Ok(mut search) => {
+            match search_ledger(alloc, &mut search, lineage, scratch, root_at, block_digest) {
+                Ok(()) => Ok(found_by(search)?),
+                Err(error) => Err(error),
+            }
+        }
+        Err(Memory) => Err(HostError::Memory),
     }
 }
 

@@ -8,4 +8,4 @@ mod nodes;
 mod rows;
 
 pub use exposing::{Clash, ExposeError, expose};
-pub use ledger::ledger_texts;
+pub use ledger::search_ledger;

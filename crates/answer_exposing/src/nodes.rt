@@ -1,31 +1,40 @@
-//! The nodes of a tree are hashed from below, each once, and each text is appended after those of
+//! The nodes of a tree are hashed from below, each once, and the text of each comes after those of
 //! its two sides.
 
-ghost use Rattle.std.specs.Prelude.{◌≡◌, ◌<◌, ◌≤◌, [], ◌∷◌, ◌++◌, length, map, OnOk, IfOk};
+ghost use Rattle.std.specs.Prelude.{◌≡◌, ◌<◌, ◌≤◌, [], ◌∷◌, length, map, OnOk, IfOk};
 ghost use Rattle.merkle_tree.specs.{
   Tree.{leaf_text, node_text, node_hash, hash_to, node_texts_to},
   declared.limits.TheConstants.{MAX_HEIGHT},
 };
+ghost use Rattle.text_clashes.specs.Searching.{Searches};
 
-use hashed_texts::{half_of, push_node};
-use lc_base::{Bytes, Digest, Memory, TextList};
-use merkle_tree::{MAX_HEIGHT, leaf_hash, node_hash};
+use lc_base::{Bytes, Digest, Memory};
+use merkle_tree::{MAX_HEIGHT, half_of, leaf_hash, node_hash};
+use std::alloc::Global;
+use text_clashes::{ClashSearch, node_text};
 
-/// Appends the text of a node and returns its hash.
-fn push_parts(texts: &mut TextList, left: &Digest, right: &Digest) -> Result<Digest, Memory>
+/// Adds the text of a node to a search and returns the node's hash.
+fn search_parts(
+    alloc: Global,
+    search: &mut ClashSearch,
+    left: &Digest,
+    right: &Digest,
+) -> Result<Digest, Memory>
     ensures hash { IfOk result (λ hash. hash.0 ≡ node_hash left.now.0 right.now.0) }
-    ensures texts { OnOk result (texts.new ≡ texts.old ++ node_text left.now.0 right.now.0 ∷ []) }
+    ensures texts { OnOk result
+        (Searches (node_text left.now.0 right.now.0 ∷ []) search.old search.new) }
 {
-    push_node(texts, left, right)?;
+    search.add(node_text(alloc, left, right)?);
     Ok(node_hash(left, right))
 }
 
-/// Appends the texts of the nodes over leaves with these bytes, in a tree of at most this height,
-/// and returns the hash at its top. The texts of the left side come first, then those of the right
-/// side, then that of the node over both. There must be at least one leaf.
+/// Adds the texts of the nodes over leaves with these bytes, in a tree of at most this height, to a
+/// search, and returns the hash at its top. The texts of the left side come first, then those of
+/// the right side, then that of the node over both. There must be at least one leaf.
 #[tactic(auto, using(merkle_tree::proofs::Steps::plain, crate::proofs::TreeTexts::nodes_upward))]
-pub(crate) fn push_nodes(
-    texts: &mut TextList,
+pub(crate) fn search_nodes(
+    alloc: Global,
+    search: &mut ClashSearch,
     height: u32,
     leaves: &[Bytes],
 ) -> Result<Digest, Memory>
@@ -33,7 +42,7 @@ pub(crate) fn push_nodes(
     requires low { height ≤ MAX_HEIGHT }
     ensures hash { IfOk result (λ hash. hash.0 ≡ hash_to height (map leaf_text leaves.now)) }
     ensures texts { OnOk result
-        (texts.new ≡ texts.old ++ node_texts_to height (map leaf_text leaves.now)) }
+        (Searches (node_texts_to height (map leaf_text leaves.now)) search.old search.new) }
 {
     if height == 0 {
         return Ok(leaf_hash(leaves[0].as_bytes()));
@@ -41,10 +50,10 @@ pub(crate) fn push_nodes(
     let half = half_of(height);
     if half < leaves.len() {
         let (first, rest) = leaves.split_at(half);
-        let left = push_nodes(texts, height - 1, first)?;
-        let right = push_nodes(texts, height - 1, rest)?;
-        push_parts(texts, &left, &right)
+        let left = search_nodes(alloc, search, height - 1, first)?;
+        let right = search_nodes(alloc, search, height - 1, rest)?;
+        search_parts(alloc, search, &left, &right)
     } else {
-        push_nodes(texts, height - 1, leaves)
+        search_nodes(alloc, search, height - 1, leaves)
     }
 }

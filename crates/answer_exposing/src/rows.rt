@@ -1,7 +1,8 @@
-//! The texts of the rows of a lineage: their headers, bodies, and uses.
+//! The texts of the rows of a lineage: their headers, bodies, and uses. No more than one is made at
+//! a time.
 
 ghost use Rattle.std.specs.{
-  Prelude.{◌≡◌, ◌<◌, ◌≤◌, true, [], ◌∷◌, ◌++◌, Some, length, slice_get, OnOk, IsErrOf},
+  Prelude.{◌≡◌, ◌<◌, ◌≤◌, true, [], ◌∷◌, Some, length, slice_get, OnOk, IsErrOf},
   List.{flat_map},
 };
 ghost use Rattle.lc_base.specs.declared.row.Row.{Row};
@@ -16,39 +17,49 @@ ghost use Rattle.proof_checks.specs.{
   ProofTexts.{texts_of_uses},
   LedgerTexts.{texts_of_row, texts_of_row_uses},
 };
+ghost use Rattle.text_clashes.specs.Searching.{Searches};
 
 use entry_store::EntryId;
-use hashed_texts::{push_tagged, push_use};
-use lc_base::{Dep, HostError, Memory, TextList};
+use lc_base::{Dep, HostError, Memory};
 use merkle_dag::Lineage;
 use prov_entry::{BODY, HEADER, Header, no_uses, with_use, write_header};
 use scratch_model::Scratch;
+use std::alloc::Global;
+use text_clashes::{ClashSearch, tagged_text, use_text};
 
-/// Appends the text of a header.
-fn push_header(texts: &mut TextList, header: &Header) -> Result<(), Memory>
+/// Adds the text of a header.
+fn search_header(alloc: Global, search: &mut ClashSearch, header: &Header) -> Result<(), Memory>
     requires { length header.now.links ≤ MAX_LINKS }
-    ensures { OnOk result (texts.new ≡ texts.old ++ header_text header.now ∷ []) }
+    ensures { OnOk result (Searches (header_text header.now ∷ []) search.old search.new) }
 {
-    let bytes = write_header(texts.allocator(), header)?;
-    push_tagged(texts, HEADER, bytes.as_bytes())
+    let bytes = write_header(alloc, header)?;
+    search.add(tagged_text(alloc, HEADER, bytes.as_bytes())?);
+    Ok(())
 }
 
-/// Appends the text of the header of the row at an index.
-fn push_row_header(texts: &mut TextList, lineage: &Lineage, index: u32) -> Result<(), Memory>
+/// Adds the text of the header of the row at an index.
+fn search_row_header(
+    alloc: Global,
+    search: &mut ClashSearch,
+    lineage: &Lineage,
+    index: u32,
+) -> Result<(), Memory>
     requires { index < length lineage.now.rows }
     ensures { (row : Row) → slice_get lineage.now.rows index ≡ Some row
-        → OnOk result (texts.new ≡ texts.old ++ header_text (header_of lineage.now.rows row) ∷ []) }
+        → OnOk result (Searches (header_text (header_of lineage.now.rows row) ∷ [])
+        search.old search.new) }
 {
     // The call makes it known that the rows are typed, so that their headers can be spelled.
     let _typed = lineage.row_count();
     let header = lineage.header(index)?;
-    push_header(texts, &header)
+    search_header(alloc, search, &header)
 }
 
-/// Appends the texts of the header and the body of the row at an index; the body's bytes are those
+/// Adds the texts of the header and the body of the row at an index; the body's bytes are those
 /// that the scratch device has.
-fn push_row<S: Scratch>(
-    texts: &mut TextList,
+fn search_row<S: Scratch>(
+    alloc: Global,
+    search: &mut ClashSearch,
     lineage: &mut Lineage,
     scratch: &mut S,
     index: u32,
@@ -58,34 +69,35 @@ fn push_row<S: Scratch>(
     // If it is known which bytes the scratch device holds:
     ensures texts { is_known (S.state scratch.old) ≡ true → (row : Row)
         → slice_get lineage.old.rows index ≡ Some row
-        → OnOk result (texts.new ≡ texts.old ++ texts_of_row lineage.old.rows row) }
+        → OnOk result (Searches (texts_of_row lineage.old.rows row) search.old search.new) }
     // Whether that is known or not:
     ensures leaves { LeavesLineage S.state S.scratch_faults lineage.old scratch.old lineage.new
         scratch.new (IsErrOf result HostError.Fault) }
 {
-    push_row_header(texts, lineage, index)?;
+    search_row_header(alloc, search, lineage, index)?;
     let bytes = lineage.body_of(scratch, EntryId(index))?;
-    push_tagged(texts, BODY, &bytes)?;
+    search.add(tagged_text(alloc, BODY, &bytes)?);
     Ok(())
 }
 
-/// Appends the texts of the header and the body of each row, in order.
-pub(crate) fn push_rows<S: Scratch>(
-    texts: &mut TextList,
+/// Adds the texts of the header and the body of each row, in order.
+pub(crate) fn search_rows<S: Scratch>(
+    alloc: Global,
+    search: &mut ClashSearch,
     lineage: &mut Lineage,
     scratch: &mut S,
 ) -> Result<(), HostError>
     requires agrees { AgreesWith lineage.old (S.state scratch.old) }
     // If it is known which bytes the scratch device holds:
     ensures texts { is_known (S.state scratch.old) ≡ true
-        → OnOk result (texts.new ≡ texts.old ++ flat_map (texts_of_row lineage.old.rows)
-        lineage.old.rows) }
+        → OnOk result (Searches (flat_map (texts_of_row lineage.old.rows) lineage.old.rows)
+        search.old search.new) }
     // Whether that is known or not:
     ensures leaves { LeavesLineage S.state S.scratch_faults lineage.old scratch.old lineage.new
         scratch.new (IsErrOf result HostError.Fault) }
 {
     for index in 0..lineage.row_count() as u32 {
-        match push_row(texts, lineage, scratch, index) {
+        match search_row(alloc, search, lineage, scratch, index) {
             Ok(()) => {}
             Err(error) => return Err(error),
         }
@@ -93,35 +105,44 @@ pub(crate) fn push_rows<S: Scratch>(
     Ok(())
 }
 
-/// Appends the texts of uses, each with the digest of those before it.
-fn push_uses(texts: &mut TextList, uses: &[Dep]) -> Result<(), Memory>
-    ensures { OnOk result (texts.new ≡ texts.old ++ texts_of_uses uses.now) }
+/// Adds the texts of uses, each with the digest of those before it.
+fn search_uses(alloc: Global, search: &mut ClashSearch, uses: &[Dep]) -> Result<(), Memory>
+    ensures { OnOk result (Searches (texts_of_uses uses.now) search.old search.new) }
 {
     let mut digest = no_uses();
     for one in uses {
-        push_use(texts, &digest, one)?;
+        search.add(use_text(alloc, &digest, one)?);
         digest = with_use(&digest, one);
     }
     Ok(())
 }
 
-/// Appends the texts of the uses of the row at an index.
-fn push_row_uses(texts: &mut TextList, lineage: &Lineage, index: u32) -> Result<(), Memory>
+/// Adds the texts of the uses of the row at an index.
+fn search_row_uses(
+    alloc: Global,
+    search: &mut ClashSearch,
+    lineage: &Lineage,
+    index: u32,
+) -> Result<(), Memory>
     requires { index < length lineage.now.rows }
     ensures { (row : Row) → slice_get lineage.now.rows index ≡ Some row
-        → OnOk result (texts.new ≡ texts.old ++ texts_of_row_uses lineage.now.rows row) }
+        → OnOk result (Searches (texts_of_row_uses lineage.now.rows row) search.old search.new) }
 {
     let uses = lineage.uses(index)?;
-    push_uses(texts, uses.as_slice())
+    search_uses(alloc, search, uses.as_slice())
 }
 
-/// Appends the texts of the uses of each row, in order.
-pub(crate) fn push_all_uses(texts: &mut TextList, lineage: &Lineage) -> Result<(), Memory>
-    ensures { OnOk result (texts.new ≡ texts.old ++ flat_map (texts_of_row_uses lineage.now.rows)
-        lineage.now.rows) }
+/// Adds the texts of the uses of each row, in order.
+pub(crate) fn search_all_uses(
+    alloc: Global,
+    search: &mut ClashSearch,
+    lineage: &Lineage,
+) -> Result<(), Memory>
+    ensures { OnOk result (Searches (flat_map (texts_of_row_uses lineage.now.rows)
+        lineage.now.rows) search.old search.new) }
 {
     for index in 0..lineage.row_count() as u32 {
-        push_row_uses(texts, lineage, index)?;
+        search_row_uses(alloc, search, lineage, index)?;
     }
     Ok(())
 }

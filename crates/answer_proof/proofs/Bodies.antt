@@ -9,8 +9,8 @@ use Rattle.entry_views.specs.Reading.{body_at}
 use Rattle.row_bodies.specs.Bodies.{body_read}
 use Rattle.row_bodies.proofs.Bodies.{body_back}
 use Rattle.root_laws.specs.Naming.{body_of}
-use Rattle.typed_ledger.specs.TypedLedger.{IsTypedHistory}
-use Rattle.typed_ledger.proofs.Spellings.{bodies_spelled}
+use Rattle.root_laws.specs.TypedLedger.{IsTypedHistory}
+use Rattle.root_laws.proofs.Spellings.{bodies_spelled}
 
 pub row_body : (rows : List Row) (index : ℕ) (row : Row) (bytes : List ℕ) (body : Body) → IsTypedHistory rows → slice_get rows index ≡ Some row
     → bytes ≡ concat (body_fields (body_of rows row)) → body ≡ body_read (body_at bytes) → body ≡ body_of rows row

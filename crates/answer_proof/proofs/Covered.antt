@@ -8,8 +8,8 @@ use Rattle.prov_entry.specs.declared.entry.Leaf.{Leaf}
 use Rattle.prov_entry.specs.Spelling.{key_or_empty}
 use Rattle.root_laws.specs.Root.{keys_of, is_below, next_key, leaf_of, leaves}
 use Rattle.root_laws.proofs.Lists.{all_weaker, all_contained}
-use Rattle.typed_ledger.specs.TypedLedger.{IsTypedRow}
-use Rattle.typed_ledger.proofs.Spellings.{leaf_cases}
+use Rattle.root_laws.specs.TypedLedger.{IsTypedRow}
+use Rattle.root_laws.proofs.Spellings.{leaf_cases}
 use Rattle.state_tree.specs.Covering.{Covers}
 use Rattle.proof_checks.specs.Checks.{covers}
 use Rattle.proof_checks.proofs.MadeThere.{leaf_covers, leaf_of_key}

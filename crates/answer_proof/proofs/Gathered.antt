@@ -23,7 +23,7 @@ use Rattle.prov_entry.specs.Spelling.{IsBody}
 use Rattle.root_laws.specs.Naming.{body_of}
 use Rattle.root_laws.specs.Root.{leaves, digest_at}
 use Rattle.root_laws.proofs.Lists.{all_weaker, keep_all}
-use Rattle.typed_ledger.specs.TypedLedger.{IsTypedHistory}
+use Rattle.root_laws.specs.TypedLedger.{IsTypedHistory}
 use Rattle.state_tree.specs.Leaves.{leaf_texts}
 use Rattle.state_tree.specs.Covering.{Covers}
 use Rattle.proof_codec.specs.declared.proof.Proof.{Proof}
@@ -33,6 +33,7 @@ use Rattle.proof_checks.proofs.Rows.{latest_key}
 use Rattle.proof_checks.proofs.MadeOnce.{made_once}
 use Rattle.proof_checks.proofs.MadeThere.{made_of_is_made}
 use Rattle.proof_checks.proofs.MadeLawful.{made_is_lawful}
+use Rattle.answer_proof.specs.Proving.{IsButForBody}
 use Rattle.answer_proof.proofs.Covered.{covers_key}
 
 -- ---- the rows
@@ -72,6 +73,16 @@ all_up_to_last rows block count last within = all_up_to rows block (subst (λ (n
 
 pub bytes_of : {E : Type 0} (result : Result (List ℕ) E) (proof other : Proof) → proof ≡ other → IfOk result (λ bytes. bytes ≡ concat (proof_fields proof)) → IfOk result (λ bytes. bytes ≡ concat (proof_fields other))
 bytes_of result proof other same are = subst (λ (p : Proof). IfOk result (λ bytes. bytes ≡ concat (proof_fields p))) same are
+
+pub but_for_body_of : {E : Type 0} (result : Result (List ℕ) E) (proof other : Proof) → proof
+    ≡ other → IfOk result (IsButForBody proof) → IfOk result (IsButForBody other)
+but_for_body_of result proof other same are = subst (λ (p : Proof). IfOk result (IsButForBody p))
+    same are
+
+pub some_body : (rows : List Row) (o : Option Row) → is_some (option_map (body_of rows) o)
+    ≡ is_some o
+some_body rows None = refl
+some_body rows (Some row) = refl
 
 -- ---- all parts together
 
@@ -141,11 +152,14 @@ module _ (rows : List Row) (block : ℕ) (digest : Digest) (query : Query) (tree
   gathered is =
       ap with_body is ∙ made_once rows block digest.0 (made_of rows block digest.0 query) (with_body own_body) history.lawful history.typed (made_of_is_made rows block digest.0 query some) is_made refl
 
+  pub gathered_always : with_body body ≡ record (made_of rows block digest.0 query) { body = body }
+  gathered_always =
+      ap (λ (p : Proof). record p { body = body })
+      (made_once rows block digest.0 (made_of rows block digest.0 query) (with_body own_body)
+      history.lawful history.typed (made_of_is_made rows block digest.0 query some) is_made
+      refl)
+
   pub gathered_lawful : is_some body ≡ is_some (latest rows query.key query.at) → IsIfAny IsBody body → block < 2 ^ 32 → query.at ≤ block → length digest.0 ≡ 32 → IsProof (with_body body)
   gathered_lawful there lawful fits early long =
       other_body (with_body own_body) body (made_is_lawful rows block digest.0 (with_body own_body) history.lawful history.typed fits early key long is_made)
-      (there ∙ sym (some_body (latest rows query.key query.at))) lawful
-    where
-      some_body : (o : Option Row) → is_some (option_map (body_of rows) o) ≡ is_some o
-      some_body None = refl
-      some_body (Some row) = refl
+      (there ∙ sym (some_body rows (latest rows query.key query.at))) lawful

@@ -3,7 +3,7 @@ use Rattle.std.proofs.Common.{◌≡◌, ℕ, ◌<◌, ◌≤◌, List, length}
 use Rattle.std.specs.List.{concat}
 use Rattle.lc_names.specs.KeyBytes.{IsKey}
 use Rattle.lc_base.specs.declared.answer.Query.{Query}
-use Rattle.typed_ledger.specs.TypedLedger.{IsTypedLedger}
+use Rattle.root_laws.specs.TypedLedger.{IsTypedLedger}
 use Rattle.proof_codec.specs.Spelling.{proof_fields}
 use Rattle.proof_checks.specs.Making.{made_proof}
 use Rattle.proof_checks.proofs.MadeThere.{made_is_there}

@@ -1,9 +1,11 @@
 -- A query has a proof under the root at a block exactly if the ledger has the block and the query's
 -- block isn't after it.
-use Rattle.std.specs.Prelude.{◌≡◌, ◌<◌, ◌≤◌, ◌⊎◌, ℕ, List, length, Result, Ok, Err}
+use Rattle.std.specs.Prelude.{◌≡◌, ◌<◌, ◌≤◌, ◌⊎◌, ℕ, List, length, Option, Result, Ok, Err}
 use Rattle.std.specs.List.{concat}
+use Rattle.std.specs.Option.{is_some}
 use Rattle.lc_base.specs.declared.answer.Query.{Query}
 use Rattle.lc_base.specs.History.{up_to, scan}
+use Rattle.prov_entry.specs.declared.entry.Body.{Body}
 use Rattle.root_laws.specs.Root.{root_of}
 use Rattle.proof_codec.specs.declared.proof.Proof.{Proof}
 use Rattle.proof_codec.specs.Spelling.{proof_fields}
@@ -43,3 +45,10 @@ IsProved ledger query root_at (Err errors.Memory) = IsWithin ledger query root_a
 abbrev pub Shows : Ledger → Query → ℕ → List ℕ → Type 0
 Shows ledger query root_at bytes =
     (proof : Proof) × Spells bytes proof × (verdict (root_of ledger.rows ledger.digests root_at) query proof ≡ Ok (scan (up_to ledger.rows root_at) query))
+
+-- The bytes spell this proof, but for its body: there may be another one in its place, and there is
+-- one exactly if the proof has one.
+abbrev pub IsButForBody : Proof → List ℕ → Type 0
+IsButForBody proof bytes =
+    (body : Option Body) × (is_some body ≡ is_some proof.body)
+    × Spells bytes (record proof { body = body })

@@ -13,6 +13,7 @@ ghost use Rattle.root_laws.specs.Naming.{body_of};
 ghost use Rattle.merkle_dag.specs.Lineage.{AgreesWith, LeavesLineage};
 ghost use Rattle.proof_codec.specs.Spelling.{IsProof, IsIfAny, proof_fields};
 ghost use Rattle.proof_checks.specs.Making.{made_of};
+ghost use Rattle.answer_proof.specs.Proving.{IsButForBody};
 
 use crate::answering::{body_if_any, uses_if_asked};
 use crate::asked::Asked;
@@ -45,6 +46,9 @@ fn proof_with(
         (latest lineage.now.rows asked.now.query.key asked.now.query.at)
         → IfOk result (λ proof. proof ≡ made_of lineage.now.rows asked.now.root_at
         asked.now.block_digest.0 asked.now.query) }
+    ensures always { IfOk result
+        (λ proof. proof ≡ record (made_of lineage.now.rows asked.now.root_at
+        asked.now.block_digest.0 asked.now.query) { body = body }) }
     ensures lawful { IfOk result IsProof }
 {
     check_types(lineage, asked);
@@ -82,6 +86,8 @@ pub(crate) fn bytes_of_rows<S: Scratch>(
         → IfOk result (λ bytes. bytes ≡ concat (proof_fields (made_of lineage.old.rows
         asked.now.root_at asked.now.block_digest.0 asked.now.query))) }
     // Whether that is known or not:
+    ensures always { IfOk result (IsButForBody (made_of lineage.old.rows asked.now.root_at
+        asked.now.block_digest.0 asked.now.query)) }
     ensures leaves { LeavesLineage S.state S.scratch_faults lineage.old scratch.old lineage.new
         scratch.new (IsErrOf result HostError.Fault) }
 {

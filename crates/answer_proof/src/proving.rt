@@ -9,7 +9,7 @@ ghost use Rattle.scratch_model.specs.Scratch.{is_known};
 ghost use Rattle.merkle_dag.specs.Lineage.{ledger_in, AgreesWith, LeavesLineage};
 ghost use Rattle.proof_codec.specs.Spelling.{proof_fields};
 ghost use Rattle.proof_checks.specs.Making.{made_proof};
-ghost use Rattle.answer_proof.specs.Proving.{IsProved, Shows, TellsBeyond};
+ghost use Rattle.answer_proof.specs.Proving.{IsProved, Shows, IsButForBody, TellsBeyond};
 
 use crate::asked::Asked;
 use crate::gathering::bytes_of_rows;
@@ -60,6 +60,8 @@ fn bytes_at<S: Scratch>(
         → IfOk result (λ bytes. bytes ≡ concat (proof_fields (made_proof lineage.old.rows
         lineage.old.digests asked.now.root_at asked.now.query))) }
     // Whether that is known or not:
+    ensures always { IfOk result (IsButForBody (made_proof lineage.old.rows lineage.old.digests
+        asked.now.root_at asked.now.query)) }
     ensures leaves { LeavesLineage S.state S.scratch_faults lineage.old scratch.old lineage.new
         scratch.new (IsErrOf result HostError.Fault) }
 {
@@ -78,7 +80,9 @@ fn bytes_at<S: Scratch>(
 }
 
 /// The bytes of the proof for a query, for one who has the root at `root_at`. Bodies are read from
-/// the scratch device; of the lineage, only which bodies are at hand may change.
+/// the scratch device; if it is not known which bytes that holds, nothing is promised of the body
+/// in the proof, and of its other parts as much as else. Of the lineage, only which bodies are at
+/// hand may change.
 pub fn prove<S: Scratch>(
     alloc: Global,
     lineage: &mut Lineage,
@@ -93,6 +97,8 @@ pub fn prove<S: Scratch>(
     // rows up to the root's block.
     ensures accepted { is_known (S.state scratch.old) ≡ true → IfOk result (Shows (ledger_in lineage.old) query.now root_at) }
     // Whether that is known or not:
+    ensures always { IfOk result
+        (IsButForBody (made_proof lineage.old.rows lineage.old.digests root_at query.now)) }
     ensures beyond { TellsBeyond (ledger_in lineage.old) query.now root_at result }
     ensures leaves { LeavesLineage S.state S.scratch_faults lineage.old scratch.old lineage.new
         scratch.new (IsErrOf result ProveError.Fault) }

@@ -3,7 +3,7 @@
 
 ghost use Rattle.std.specs.Prelude.{◌≡◌, ◌<◌, ◌^◌, length};
 ghost use Rattle.lc_names.specs.KeyBytes.{IsKey};
-ghost use Rattle.typed_ledger.specs.TypedLedger.{IsTypedLedger};
+ghost use Rattle.root_laws.specs.TypedLedger.{IsTypedLedger};
 
 use crate::asked::Asked;
 use lc_base::Digest;

@@ -7,6 +7,7 @@ ghost use Rattle.std.specs.{
 ghost use Rattle.lc_base.specs.Faults.{HasCause};
 ghost use Rattle.disk_model.specs.Disk.{Keeps, Rests, content_of};
 ghost use Rattle.block_codec.specs.{
+  Placement.{bytes_digest},
   Reading.{block_in},
   declared.block.Block.{Block},
   declared.limits.TheConstants.{MAX_BLOCK_BYTES},
@@ -22,8 +23,8 @@ use crate::error::DiskFault;
 use crate::layout::{CLOSED_GATE, OPEN_GATE};
 use crate::log::Log;
 use crate::steps::write_through;
-use block_codec::block_digest;
 use disk_model::Disk;
+use lc_base::Digest;
 
 // Puts a record together at the start of a slice.
 #[tactic(auto, unfolding(crate::specs::Steps::record_bytes))]
@@ -52,8 +53,14 @@ fn fill(buffer: &mut Vec<u8>, bytes: &[u8])
 impl Log {
     /// Appends the next block, which has these bytes, in two steps of a write and a sync each: it
     /// writes the record after the closed gate, ending in a closed gate, then opens the gate before
-    /// it. It takes no memory.
-    pub fn append<M: Disk>(self, machine: &mut M, bytes: &[u8]) -> Result<Log, DiskFault>
+    /// it. It takes no memory. `digest` is that of the bytes, so nothing is hashed here.
+    pub fn append<M: Disk>(
+        self,
+        machine: &mut M,
+        bytes: &[u8],
+        digest: Digest,
+    ) -> Result<Log, DiskFault>
+        requires digest { digest ≡ bytes_digest bytes.now }
         requires ready { self.is_ready ≡ true }
         requires agrees { Rests (M.disk machine.old (M.now machine.old)) (Agrees self) }
         requires next { IsNextOf self bytes.now }
@@ -85,7 +92,7 @@ impl Log {
             buffer,
             gate: gate + 5 + bytes.len() as u64,
             count: count + 1,
-            last: block_digest(bytes),
+            last: digest,
             is_ready: true,
             is_begun,
         })

@@ -8,8 +8,8 @@ ghost use Rattle.cli_words.specs.Words.{IsCount};
 ghost use Rattle.cli_output.specs.Output.{load_outcome};
 
 use chain_load::load_chain;
-use cli_append::{Ending, Outcome, load_line};
-use cli_output::OutcomeStop;
+use cli_append::{Ending, Outcome};
+use cli_output::{OutcomeStop, load_line};
 use cli_words::Generation;
 use lc_base::HostError;
 use resources::Resources;

@@ -2,7 +2,7 @@
 use Rattle.std.proofs.Common.{◌≡◌, ℕ, zero, suc, ◌^◌, ◌<◌, ◌≤◌, List, length, Option, Some, None}
 use Rattle.std.proofs.Common.{arith}
 use Rattle.lc_base.specs.declared.row.Row.{Row}
-use Rattle.skip_path.specs.Paths.{path, path_from, next_block}
+use Rattle.skip_links.specs.Paths.{path, path_from, next_block}
 use Rattle.entry_store.specs.Steps.{raised_count}
 
 path_from_within : (n : ℕ) (links_of : ℕ → List ℕ) (at : ℕ) (block : Option ℕ)

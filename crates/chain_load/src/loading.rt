@@ -1,8 +1,9 @@
 //! Running a load: as many look-ups as blocks, over a chain that takes no further block.
 
-ghost use Rattle.std.specs.Prelude.{◌≡◌, ℕ, ◌<◌, ◌≤◌, ◌-◌, true, length, IfOk, IsErrOf};
+ghost use Rattle.std.specs.Prelude.{◌≡◌, ℕ, ◌<◌, ◌≤◌, ◌+◌, ◌-◌, ◌*◌, true, length, IfOk, IsErrOf};
 ghost use Rattle.lc_base.specs.Faults.{HasCause};
 ghost use Rattle.scratch_model.specs.Scratch.{is_known, Retains};
+ghost use Rattle.skip_links.specs.Paths.{binary_digits};
 ghost use Rattle.block_codec.specs.declared.limits.TheConstants.{MAX_BLOCKS};
 ghost use Rattle.rooted_chain.specs.chain_exec.Compiled.{compiled_in};
 ghost use Rattle.rooted_chain.specs.chain_replay.Chain.{StandsFor};
@@ -31,10 +32,12 @@ pub struct Load {
     pub root: Digest,
     /// The number of look-ups, which is that of blocks.
     pub lookups: u32,
-    /// The number of versions that all look-ups looked at,
+    /// The number of versions that all look-ups looked at.
     pub entries: u64,
-    /// and the most versions that one of them looked at.
+    /// The most versions that one of them looked at.
     pub most: u64,
+    /// How many bytes the values have that they found; a number has eight. It is not printed.
+    pub value_bytes: u64,
 }
 
 /// The root at the last block of a chain of `blocks` blocks.
@@ -61,9 +64,11 @@ fn load_over<S: Scratch>(
     requires some { 0 < blocks }
     requires blocks { length chain.digests ≡ blocks }
     requires agrees { AgreesWith (lineage_in chain) (S.state scratch.old) }
-    ensures load { (seed : ℕ) → StandsFor (kept_in chain) (first_blocks seed blocks).blocks
+    ensures load { is_known (S.state scratch.old) ≡ true → (seed : ℕ)
+        → StandsFor (kept_in chain) (first_blocks seed blocks).blocks
         → generator ≡ progress seed blocks blocks
         → IfOk result (λ load. load ≡ load_of compiled_in blocks seed) }
+    ensures most { IfOk result (λ load. load.most ≤ 2 * binary_digits (blocks - 1) + 2) }
     ensures retains { Retains (S.state scratch.old) (S.state scratch.new) }
     ensures cause { HasCause (S.scratch_faults scratch.old) (S.scratch_faults scratch.new)
         (IsErrOf result HostError.Fault) }
@@ -81,6 +86,7 @@ fn load_over<S: Scratch>(
             lookups: blocks,
             entries: looked.entries,
             most: looked.most,
+            value_bytes: looked.value_bytes,
         }),
         Err(error) => Err(error),
     }
@@ -88,7 +94,8 @@ fn load_over<S: Scratch>(
 
 /// Adds the first `blocks` blocks of a seed to a chain in memory, whose bodies are on the scratch
 /// device, and makes as many look-ups, which are drawn after the blocks. What the load reports is
-/// known only if it is known which bytes the device holds.
+/// known only if it is known which bytes the device holds; but no look-up ever looks at more than
+/// `2 * B + 2` versions, where `B` is the number of binary digits of the last block's number.
 pub fn load_chain<S: Scratch>(
     resources: Resources,
     scratch: &mut S,
@@ -99,6 +106,7 @@ pub fn load_chain<S: Scratch>(
     requires few { blocks ≤ MAX_BLOCKS }
     ensures load { is_known (S.state scratch.old) ≡ true
         → IfOk result (λ load. load ≡ load_of compiled_in blocks seed) }
+    ensures most { IfOk result (λ load. load.most ≤ 2 * binary_digits (blocks - 1) + 2) }
     ensures retains { Retains (S.state scratch.old) (S.state scratch.new) }
     ensures cause { HasCause (S.scratch_faults scratch.old) (S.scratch_faults scratch.new)
         (IsErrOf result HostError.Fault) }

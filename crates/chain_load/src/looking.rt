@@ -1,14 +1,25 @@
 //! The look-ups of a load: each asks for the versions of a drawn key at a drawn block.
 
-ghost use Rattle.std.specs.Prelude.{◌≡◌, ◌<◌, ◌+◌, ◌^◌, max, length, map, IfOk, IsErrOf};
-ghost use Rattle.skip_path.specs.Paths.{path};
-ghost use Rattle.rooted_chain.specs.merkle_dag.Lineage.{AgreesWith, LeavesLineage};
+ghost use Rattle.std.specs.{
+  Prelude.{◌≡◌, ◌<◌, ◌≤◌, ◌+◌, ◌^◌, true, max, length, map, IfOk, IsErrOf},
+  List.{sum},
+};
+ghost use Rattle.lc_base.specs.{History.{scan}, declared.limits.TheConstants.{MAX_TEXT_BYTES}};
+ghost use Rattle.scratch_model.specs.Scratch.{is_known};
+ghost use Rattle.skip_links.specs.Paths.{path};
+ghost use Rattle.rooted_chain.specs.merkle_dag.{
+  Ledger.{most_looked_at},
+  Lineage.{AgreesWith, LeavesLineage},
+};
 ghost use Rattle.chain_gen.specs.Generator.{standing_at};
-ghost use Rattle.chain_load.specs.Lookups.{CanBeLookedUp, lookup_drawn, lookups_drawn, looked_at, lookup_counts};
+ghost use Rattle.chain_load.specs.{
+  Lookups.{CanBeLookedUp, lookup_drawn, lookups_drawn, looked_at, lookup_counts},
+  Lookups.{bytes_of_value, bytes_of_answer, bytes_found},
+};
 
 use chain_gen::Gen;
-use lc_base::{HostError, Kind, Query};
-use prov_query::{AskError, Steps, ask};
+use lc_base::{Answer, HostError, Kind, Query, Value};
+use lineage_host::{AskError, Steps, ask};
 use rooted_chain::Lineage;
 use scratch_model::Scratch;
 use std::alloc::Global;
@@ -20,47 +31,95 @@ pub struct LookupCounts {
     pub entries: u64,
     /// The most versions that one of them looked at.
     pub most: u64,
+    /// How many bytes the values have that they found; a number has eight.
+    pub value_bytes: u64,
+}
+
+/// What was counted of one look-up.
+#[derive(Clone, Copy, Debug, PartialEq, Eq)]
+pub struct LookupCount {
+    /// How many versions it looked at.
+    pub entries: u64,
+    /// How many bytes the value has that it found.
+    pub value_bytes: u64,
 }
 
 impl LookupCounts {
-    /// The counts with one more look-up, which looked at `count` versions.
-    fn with(self, count: u64) -> LookupCounts
-        requires { self.entries + count < 2 ^ 64 }
-        ensures { result ≡ record { entries = self.entries + count; most = max self.most count } }
+    /// The counts with one more look-up.
+    fn with(self, one: LookupCount) -> LookupCounts
+        requires entries { self.entries + one.entries < 2 ^ 64 }
+        requires bytes { self.value_bytes + one.value_bytes < 2 ^ 64 }
+        ensures { result ≡ record {
+          entries = self.entries + one.entries;
+          most = max self.most one.entries;
+          value_bytes = self.value_bytes + one.value_bytes;
+        } }
     {
         LookupCounts {
-            entries: self.entries + count,
-            most: self.most.max(count),
+            entries: self.entries + one.entries,
+            most: self.most.max(one.entries),
+            value_bytes: self.value_bytes + one.value_bytes,
         }
     }
 }
 
-/// Asks a question of the lineage at one of its blocks, and returns how many versions were looked
-/// at.
-fn versions_looked_at<S: Scratch>(
+/// How many bytes a value has; a number has eight.
+fn bytes_of_value(value: &Value) -> u64
+    ensures bytes { result ≡ bytes_of_value value.now }
+    ensures few { result ≤ MAX_TEXT_BYTES }
+{
+    match value {
+        Value::Int(_) => 8,
+        Value::Text(text) => text.as_bytes().len() as u64,
+    }
+}
+
+/// How many bytes the value has that an answer gives, or 0 if it gives no value.
+fn bytes_of_answer(answer: &Answer) -> u64
+    ensures bytes { result ≡ bytes_of_answer answer.now }
+    ensures few { result ≤ MAX_TEXT_BYTES }
+{
+    match answer {
+        Answer::Hist { value, .. } => bytes_of_value(value),
+        Answer::Nothing => 0,
+        Answer::Back { .. } => 0,
+        Answer::Fwd { .. } => 0,
+    }
+}
+
+/// Asks a question of the lineage at one of its blocks, and returns what was counted of it. If it
+/// is not known which bytes the scratch device holds, nothing is promised of the bytes of the value.
+fn count_asked<S: Scratch>(
     alloc: Global,
     lineage: &mut Lineage,
     scratch: &mut S,
     query: &Query,
-) -> Result<u64, HostError>
+) -> Result<LookupCount, HostError>
     requires block { query.now.at < length lineage.old.digests }
     requires few_rows { length lineage.old.rows < 2 ^ 32 }
     requires agrees { AgreesWith lineage.old (S.state scratch.old) }
-    ensures count { IfOk result
-        (λ count. count ≡ length (path lineage.old.rows query.now.key query.now.at)) }
+    ensures entries { IfOk result
+        (λ one. one.entries ≡ length (path lineage.old.rows query.now.key query.now.at)) }
+    ensures few { IfOk result (λ one. one.entries ≤ most_looked_at lineage.old.digests) }
+    ensures bytes { is_known (S.state scratch.old) ≡ true
+        → IfOk result (λ one. one.value_bytes ≡ bytes_of_answer (scan lineage.old.rows query.now)) }
+    ensures few_bytes { IfOk result (λ one. one.value_bytes ≤ MAX_TEXT_BYTES) }
     ensures leaves { LeavesLineage S.state S.scratch_faults lineage.old scratch.old lineage.new
         scratch.new (IsErrOf result HostError.Fault) }
 {
     let mut steps = Steps::new();
     match ask(alloc, lineage, scratch, query, &mut steps) {
-        Ok(_answer) => Ok(steps.count()),
+        Ok(answer) => Ok(LookupCount {
+            entries: steps.count(),
+            value_bytes: bytes_of_answer(&answer),
+        }),
         Err(AskError::Beyond { .. }) => unreachable!(),
         Err(AskError::Fault) => Err(HostError::Fault),
         Err(AskError::Memory) => Err(HostError::Memory),
     }
 }
 
-/// Draws a look-up over `blocks` blocks, makes it, and returns how many versions it looked at.
+/// Draws a look-up over `blocks` blocks, makes it, and returns what was counted of it.
 #[tactic(auto, unfolding(crate::specs::Lookups::lookup_drawn))]
 fn look_up<S: Scratch>(
     alloc: Global,
@@ -68,11 +127,17 @@ fn look_up<S: Scratch>(
     scratch: &mut S,
     generator: &mut Gen,
     blocks: u32,
-) -> Result<u64, HostError>
+) -> Result<LookupCount, HostError>
     requires ready { CanBeLookedUp lineage.old blocks }
     requires agrees { AgreesWith lineage.old (S.state scratch.old) }
-    ensures count { IfOk result
-        (λ count. count ≡ looked_at lineage.old.rows (lookup_drawn blocks generator.old.state).0) }
+    ensures entries { IfOk result
+        (λ one. one.entries ≡ looked_at lineage.old.rows
+        (lookup_drawn blocks generator.old.state).0) }
+    ensures few { IfOk result (λ one. one.entries ≤ most_looked_at lineage.old.digests) }
+    ensures bytes { is_known (S.state scratch.old) ≡ true
+        → IfOk result (λ one. one.value_bytes ≡ bytes_found lineage.old.rows
+        (lookup_drawn blocks generator.old.state).0) }
+    ensures few_bytes { IfOk result (λ one. one.value_bytes ≤ MAX_TEXT_BYTES) }
     ensures state { generator.new ≡ standing_at (lookup_drawn blocks generator.old.state).1
         generator.old }
     ensures leaves { LeavesLineage S.state S.scratch_faults lineage.old scratch.old lineage.new
@@ -85,7 +150,7 @@ fn look_up<S: Scratch>(
         key,
         at,
     };
-    versions_looked_at(alloc, lineage, scratch, &query)
+    count_asked(alloc, lineage, scratch, &query)
 }
 
 /// Draws as many look-ups as there are blocks, and makes them.
@@ -100,7 +165,12 @@ pub(crate) fn look_up_all<S: Scratch>(
     requires agrees { AgreesWith lineage.old (S.state scratch.old) }
     ensures looked { IfOk result
         (λ looked. looked ≡ lookup_counts
-        (map (looked_at lineage.old.rows) (lookups_drawn blocks blocks generator.state))) }
+        (map (looked_at lineage.old.rows) (lookups_drawn blocks blocks generator.state))
+        looked.value_bytes) }
+    ensures few { IfOk result (λ looked. looked.most ≤ most_looked_at lineage.old.digests) }
+    ensures bytes { is_known (S.state scratch.old) ≡ true
+        → IfOk result (λ looked. looked.value_bytes ≡ sum
+        (map (bytes_found lineage.old.rows) (lookups_drawn blocks blocks generator.state))) }
     ensures leaves { LeavesLineage S.state S.scratch_faults lineage.old scratch.old lineage.new
         scratch.new (IsErrOf result HostError.Fault) }
 {
@@ -108,10 +178,11 @@ pub(crate) fn look_up_all<S: Scratch>(
     let mut looked = LookupCounts {
         entries: 0,
         most: 0,
+        value_bytes: 0,
     };
     for _ in 0..blocks {
         match look_up(alloc, lineage, scratch, &mut generator, blocks) {
-            Ok(count) => looked = looked.with(count),
+            Ok(one) => looked = looked.with(one),
             Err(error) => return Err(error),
         }
     }

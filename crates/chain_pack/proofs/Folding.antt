@@ -10,7 +10,7 @@ use Rattle.block_codec.specs.Placement.{bytes_digest, no_parent}
 use Rattle.chain_pack.specs.declared.error.PackError.{PackError}
 use Rattle.chain_pack.specs.declared.error.PackError.TheVariants as errors
 use Rattle.chain_pack.specs.Draft.{pack_fault, text_in, texts_from, IsBlockText}
-use Rattle.chain_draft.proofs.Each.{with_prefix, regroup, prefix_nil, next, length_more}
+use Rattle.chain_pack.proofs.Each.{with_prefix, regroup, prefix_nil, next, length_more}
 
 -- The first `count` blocks have these texts, and this is the parent of the next one.
 pub record Packed {X : Type 0} (view : X → Data) (blocks : List X) (count : ℕ) (parent : Digest) (texts : List (List ℕ)) : Type 0 where

@@ -5,7 +5,7 @@ use Rattle.std.specs.Str.{is_utf8}
 use Rattle.std.proofs.lemmas.Str.{is_utf8-from_IsUtf8, IsUtf8-from_is_utf8}
 use Rattle.serde_json.specs.Data.{Data}
 use Rattle.serde_json.specs.Read.{read}
-use Rattle.chain_draft.specs.Json.{json_in}
+use Rattle.chain_pack.specs.Json.{json_in}
 
 pub found : (text : List ℕ) (json : Data) → IsUtf8 text → read text ≡ Some json → json_in text ≡ Some json
 found text json utf8 is = rw (is_utf8-from_IsUtf8 text utf8) is

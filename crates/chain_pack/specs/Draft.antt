@@ -8,8 +8,8 @@ use Rattle.block_codec.specs.Placement.{bytes_digest, block_budget, no_parent}
 use Rattle.block_codec.specs.declared.limits.TheConstants.{MAX_BLOCK_BUDGET, MAX_BLOCK_BYTES, MAX_TXS}
 use Rattle.block_codec.specs.declared.block.Tx.{Tx}
 use Rattle.block_codec.specs.declared.block.Block.{Block}
-use Rattle.chain_draft.specs.Json.{json_in, items_in}
-use Rattle.chain_draft.specs.Transactions.{each, with_first, tx_in}
+use Rattle.chain_pack.specs.Json.{json_in, items_in}
+use Rattle.chain_pack.specs.Transactions.{each, with_first, tx_in}
 use Rattle.chain_pack.specs.declared.error.PackError.{PackError}
 use Rattle.chain_pack.specs.declared.error.PackError.TheVariants.{Json, Top, Shape, BlockLimit, Memory}
 

@@ -1,1 +1,4 @@
 pub mod Draft
+pub mod Json
+pub mod Transactions
+pub mod Reading

@@ -7,12 +7,14 @@ ghost use Rattle.block_codec.specs.{
   Spelling.{IsTx, IsBlock, Spells},
   declared.limits.TheConstants.{MAX_TXS},
 };
-ghost use Rattle.chain_draft.specs.Transactions.{each, tx_in};
+ghost use Rattle.chain_pack.specs.Transactions.{each, tx_in};
 ghost use Rattle.chain_pack.specs.Draft.{pack_fault, at_block, txs_in, text_of, text_in, IsBlockText};
 
 use crate::error::PackError;
+use crate::fields::items_in;
+use crate::read_error::ReadError;
+use crate::transaction::tx_in;
 use block_codec::{Block, EncodeError, MAX_BLOCK_BUDGET, MAX_TXS, TxList, block_budget, encode};
-use chain_draft::{ReadError, items_in, tx_in};
 use lc_base::{Bytes, Digest, Memory};
 use serde_json::Value as Json;
 use std::alloc::Global;

@@ -7,7 +7,7 @@ ghost use Rattle.std.specs.{
 };
 ghost use Rattle.serde_json.specs.View.{view};
 ghost use Rattle.lc_base.specs.Answers.{Answers};
-ghost use Rattle.chain_draft.specs.Json.{json_in};
+ghost use Rattle.chain_pack.specs.Json.{json_in};
 ghost use Rattle.chain_pack.specs.{
   Draft.{pack_fault, texts_from, texts_of_draft, IsBlockText},
   declared.draft.TheConstants.{MAX_PACKED_BLOCKS},
@@ -16,8 +16,8 @@ ghost use Rattle.block_codec.specs.Placement.{no_parent};
 
 use crate::block::text_in;
 use crate::error::PackError;
+use crate::fields::items_in;
 use block_codec::{NO_PARENT, block_digest};
-use chain_draft::items_in;
 use lc_base::TextList;
 use serde_json::{Category, Value as Json};
 use std::alloc::Global;

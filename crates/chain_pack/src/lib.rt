@@ -4,6 +4,10 @@
 mod block;
 mod draft;
 mod error;
+mod fields;
+mod lists;
+mod read_error;
+mod transaction;
 
 pub use draft::{MAX_PACKED_BLOCKS, pack};
 pub use error::PackError;

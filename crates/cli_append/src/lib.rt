@@ -11,7 +11,7 @@ mod telling;
 
 pub use appending::append;
 pub use cli_lines::{
-    Ending, Outcome, Status, answer_lines, beyond_line, damaged_line, hex_after, load_line,
+    Ending, Outcome, Status, answer_lines, beyond_line, damaged_line, digest_text, hex_after, line,
     not_a_log_line, read_whole, refused_line, root_line, usage_line,
 };
 pub use ending::{AppendEnd, RunStop};

@@ -3,4 +3,3 @@ pub mod Lines
 pub mod Status
 pub mod Outcome
 pub use Rattle.chain_input.specs as chain_input
-pub use Rattle.chain_load.specs as chain_load

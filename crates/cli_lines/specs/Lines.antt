@@ -16,7 +16,6 @@ use Rattle.chain_input.specs.chain_replay.declared.refusal.Refusal.{Refusal}
 use Rattle.chain_input.specs.chain_replay.declared.refusal.Refusal.TheVariants as refusals
 use Rattle.chain_input.specs.declared.cause.Cause.{Cause}
 use Rattle.chain_input.specs.declared.cause.Cause.TheVariants as causes
-use Rattle.chain_load.specs.declared.loading.Load.{Load}
 
 -- A line ends with the byte 0x0A.
 abbrev pub line : List ℕ → List ℕ
@@ -50,13 +49,6 @@ beyond_line (Some head) = line (codes "beyond head " ++ decimal head)
 -- The line of the root at a block.
 abbrev pub root_line : ℕ → List ℕ → List ℕ
 root_line number root = line (codes "root " ++ decimal number ++ codes " " ++ encode_lower root)
-
--- The line of a load, with a word before each number: the blocks, the rows and the root at the last
--- block; the look-ups, the versions that all of them looked at, and the most that one did.
-abbrev pub load_line : Load → List ℕ
-load_line load =
-    line (codes "blocks " ++ decimal load.blocks ++ codes " rows " ++ decimal load.rows ++ codes " root " ++ encode_lower load.root.0
-    ++ codes " lookups " ++ decimal load.lookups ++ codes " entries " ++ decimal load.entries ++ codes " most " ++ decimal load.most)
 
 -- Why a chain refuses bytes, in words.
 abbrev pub refusal_text : Refusal → List ℕ

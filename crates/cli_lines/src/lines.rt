@@ -4,15 +4,15 @@ ghost use Rattle.std.specs.{
   Prelude.{◌≡◌, [], ◌∷◌, ◌++◌, codes, decimal, map, string_bytes, IfOk},
   Fmt.{signed_decimal},
 };
-ghost use Rattle.cli_lines.specs.Lines.{usage_line, beyond_line, refusal_text, cause_text, refused_line, value_text, dep_line, answer_lines, bad_input_line, not_a_log_line, damaged_line, root_line, load_line, line};
+ghost use Rattle.cli_lines.specs.Lines.{usage_line, beyond_line, refusal_text, cause_text, refused_line, value_text, dep_line, answer_lines, bad_input_line, not_a_log_line, damaged_line, root_line, line};
 ghost use Rattle.hex.specs.Hex.{encode_lower};
 
 use chain_input::{Cause, Refusal};
-use chain_load::Load;
 use lc_base::{Answer, Bytes, Dep, DepList, Digest, Memory, Seq, Value};
 use std::alloc::{AllocError, Global};
 
-fn line(alloc: Global, text: &str) -> Result<Bytes, Memory>
+/// A line of this text.
+pub fn line(alloc: Global, text: &str) -> Result<Bytes, Memory>
     ensures { IfOk result (λ bytes. bytes ≡ line text.now) }
 {
     let mut bytes = Vec::from_slice(alloc, text.as_bytes())?;
@@ -50,7 +50,8 @@ pub fn hex_after(alloc: Global, word: &str, bytes: &[u8]) -> Result<String, Allo
     Ok(text)
 }
 
-fn digest_text(alloc: Global, word: &str, digest: &Digest) -> Result<String, AllocError>
+/// A text of the word and then the digest in lower-case hex.
+pub fn digest_text(alloc: Global, word: &str, digest: &Digest) -> Result<String, AllocError>
     ensures { IfOk result (λ text. string_bytes text ≡ word.now ++ encode_lower digest.now.0) }
 {
     hex_after(alloc, word, digest.0.as_slice())
@@ -62,36 +63,6 @@ pub fn root_line(alloc: Global, number: u32, root: &Digest) -> Result<Bytes, Mem
 {
     let head = format!(in alloc; "root {number} ")?;
     let text = digest_text(alloc, head.as_str(), root)?;
-    line(alloc, text.as_str())
-}
-
-/// The first part of the line of a load: its blocks and rows.
-fn load_head(alloc: Global, load: &Load) -> Result<String, AllocError>
-    ensures { IfOk result (λ text. string_bytes text ≡ codes "blocks " ++ decimal load.now.blocks ++ codes " rows " ++ decimal load.now.rows ++ codes " root ") }
-{
-    let blocks = load.blocks;
-    let rows = load.rows;
-    format!(in alloc; "blocks {blocks} rows {rows} root ")
-}
-
-/// The last part of the line of a load: what its look-ups counted.
-fn counts_text(alloc: Global, load: &Load) -> Result<String, AllocError>
-    ensures { IfOk result (λ text. string_bytes text ≡ codes " lookups " ++ decimal load.now.lookups ++ codes " entries " ++ decimal load.now.entries ++ codes " most " ++ decimal load.now.most) }
-{
-    let lookups = load.lookups;
-    let entries = load.entries;
-    let most = load.most;
-    format!(in alloc; " lookups {lookups} entries {entries} most {most}")
-}
-
-/// The line of a load.
-pub fn load_line(alloc: Global, load: &Load) -> Result<Bytes, Memory>
-    ensures { IfOk result (λ bytes. bytes ≡ load_line load.now) }
-{
-    let head = load_head(alloc, load)?;
-    let mut text = digest_text(alloc, head.as_str(), &load.root)?;
-    let counts = counts_text(alloc, load)?;
-    text.push_str(counts.as_str())?;
     line(alloc, text.as_str())
 }
 

@@ -30,7 +30,7 @@ use Rattle.crash_promises.specs.Promises.{Line, plain, Change, NoChange, Appends
 use Rattle.cli_append.specs.Appending.{fold_lines}
 use Rattle.chain_pack.specs.Draft.{texts_of_draft}
 use Rattle.chain_gen.specs.Generator.{blocks_of_seed}
-use Rattle.cli_append.specs.chain_load.Loads.{load_of}
+use Rattle.chain_load.specs.Loads.{load_of}
 use Rattle.proof_codec.specs.declared.proof.Proof.{Proof}
 use Rattle.replay_soundness.specs.proof_checks.Making.{made_proof}
 use Rattle.replay_soundness.specs.proof_checks.ProofTexts.{proof_texts}
@@ -42,7 +42,8 @@ use Rattle.cli_words.specs.declared.words.Generation.{Generation}
 use Rattle.cli_words.specs.declared.words.Command.{Command}
 use Rattle.cli_words.specs.declared.words.Command.TheVariants.{Scan, Fmt, Pack, Gen, Load, Append}
 use Rattle.cli_words.specs.declared.words.Command.TheVariants.{Root, Ask, Prove, Verify, Expose}
-use Rattle.cli_append.specs.cli_lines.Lines.{usage_line, beyond_line, root_line, load_line}
+use Rattle.cli_append.specs.cli_lines.Lines.{usage_line, beyond_line, root_line}
+use Rattle.cli_output.specs.LoadLine.{load_line}
 use Rattle.cli_append.specs.cli_lines.Lines.{refused_line, answer_lines, syntax_cause, check_cause}
 use Rattle.cli_append.specs.cli_lines.Lines.{not_a_log_line, damaged_line}
 use Rattle.cli_append.specs.cli_lines.Outcome.{status_of, outcome_with, bad_input}

@@ -1,2 +1,5 @@
 pub mod Arguments
 pub mod Called
+pub mod Loops
+pub mod Branches
+pub use Rattle.eval_simple.proofs.eval_expressions as eval_expressions

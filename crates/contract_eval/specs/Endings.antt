@@ -6,7 +6,7 @@ use Rattle.lc_base.specs.declared.tx_status.TxStatus.{TxStatus}
 use Rattle.lc_base.specs.declared.tx_status.TxStatus.TheVariants as statuses
 use Rattle.contract_semantics.specs.declared.stop.EvalStop.{EvalStop}
 use Rattle.contract_semantics.specs.declared.stop.EvalStop.TheVariants as stops
-use Rattle.eval_statements.specs.eval_simple.declared.flow.Flow.{Flow}
+use Rattle.contract_eval.specs.eval_simple.declared.flow.Flow.{Flow}
 
 -- The status of a function whose body ended like this, or why it has none.
 abbrev pub IsStatusOf : Result Flow EvalStop → Result TxStatus HostError → Type 0

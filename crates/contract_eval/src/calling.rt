@@ -17,11 +17,13 @@ ghost use Rattle.contract_semantics.specs.{
   Answers.{scene_in, place_in, IsFaithful},
 };
 
+use crate::statement::block;
 use contract_check::Checked;
 use contract_semantics::{CallSite, EvalStop, Outcome};
 use contract_tree::{Function, Param, ValueKind};
 use dep_capture::Capture;
-use eval_statements::{Flow, Run, Variables, block};
+use eval_simple::{Flow, Run};
+use eval_variables::Variables;
 use lc_base::{Duplicate, Host, HostError, Memory, TxStatus, Value, ValueList};
 use std::alloc::Global;
 use world_state::World;

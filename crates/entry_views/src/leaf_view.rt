@@ -1,10 +1,8 @@
 //! Leaves that are read from bytes; their fields are copied.
 
 ghost use Rattle.std.specs.Prelude.{◌≡◌};
-ghost use Rattle.entry_views.specs.{Leaves.{leaf_codec}, Standing.{IsReadAt}};
 
 use crate::entry_view::EntryView;
-use crate::fault::FieldError;
 use lc_base::{Digest, Key};
 use prov_entry::Leaf;
 
@@ -53,12 +51,4 @@ impl<'p> EntryView<'p, Leaf> {
     {
         self.fields.open_digest
     }
-}
-
-/// Reads the leaf at the offset `at` of the bytes, without the byte that comes first when it is
-/// hashed. An error exactly if there is none; it says where the first invalid field begins.
-pub fn read_leaf<'p>(bytes: &'p [u8], at: usize) -> Result<LeafView<'p>, FieldError>
-    ensures { IsReadAt leaf_codec bytes.now at result }
-{
-    EntryView::read_at(bytes, at)
 }

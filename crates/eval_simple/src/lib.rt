@@ -5,6 +5,7 @@
 mod binding;
 mod flow;
 mod put;
+mod putting;
 mod simple;
 
 pub use binding::Binding;

@@ -11,10 +11,10 @@ ghost use Rattle.eval_expressions.specs.eval_builtins.Runs.{KeepsRun, Tells};
 ghost use Rattle.eval_simple.specs.Flows.{Flows};
 
 use crate::flow::Flow;
+use crate::putting::put;
 use contract_semantics::{CHARGE_NODE, CHARGE_PUT, EvalStop};
 use contract_tree::{Expr, ExprList};
 use eval_expressions::{Run, Variables, charge, value, values};
-use eval_puts::put;
 use lc_base::{Host, Value};
 
 /// The values of the keys in a `from`, if there is one.

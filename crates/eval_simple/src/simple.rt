@@ -11,7 +11,7 @@ ghost use Rattle.contract_semantics.specs.{
   Answers.{Gives, IsNoFault},
 };
 ghost use Rattle.eval_expressions.specs.eval_builtins.Runs.{KeepsRun, Tells};
-ghost use Rattle.eval_puts.specs.dep_capture.Captured.{Captured};
+ghost use Rattle.eval_simple.specs.dep_capture.Captured.{Captured};
 ghost use Rattle.eval_simple.specs.{Bindings.{bind_run}, Flows.{Flows}};
 
 use crate::binding::Binding;

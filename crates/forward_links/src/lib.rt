@@ -1,11 +1,13 @@
-//! The forward lists that are still open, one for each key. Of each, the number of its uses and
-//! their digest are kept, and not the uses.
+//! Of each key the forward list that is still open: the rows of its uses, with their number and
+//! their digest. Closing a list hands it out.
 #![tactic(auto)]
 
+mod kept_list;
 mod limits;
 mod lists;
 mod open_list;
 
-pub use limits::{MAX_LISTS, MAX_USES};
+pub use kept_list::Closed;
+pub use limits::MAX_LISTS;
 pub use lists::OpenLists;
 pub use open_list::OpenList;

@@ -1,17 +1,12 @@
-//! One open forward list. The digest with one use more is made of the digest before, so the uses
-//! are not kept.
+//! What is hashed of a forward list: its number and its digest.
 
-ghost use Rattle.std.specs.Prelude.{◌≡◌, ◌<◌, [], ◌∷◌, ◌++◌, List};
-ghost use Rattle.lc_base.specs.declared.row.Dep.{Dep};
-ghost use Rattle.forward_links.specs.{
-  Lists.{open_of, with_one},
-  declared.limits.TheConstants.{MAX_USES},
-};
+ghost use Rattle.std.specs.Prelude.{◌≡◌, []};
+ghost use Rattle.forward_links.specs.Lists.{open_of};
 
-use lc_base::{Dep, Digest};
-use prov_entry::{no_uses, with_use};
+use lc_base::Digest;
+use prov_entry::no_uses;
 
-/// What is kept of a forward list that is still open.
+/// What is hashed of a forward list.
 #[derive(Clone, Copy, Debug, PartialEq, Eq)]
 pub struct OpenList {
     /// The number of its uses.
@@ -21,7 +16,7 @@ pub struct OpenList {
 }
 
 impl OpenList {
-    /// The empty list.
+    /// That of the empty list.
     pub fn new() -> OpenList
         ensures { result ≡ open_of [] }
     {
@@ -29,14 +24,5 @@ impl OpenList {
             count: 0,
             digest: no_uses(),
         }
-    }
-
-    /// Appends a use.
-    pub(crate) fn push(&mut self, dep: &Dep)
-        requires { self.old.count < MAX_USES }
-        ensures { self.new ≡ with_one self.old dep.now }
-    {
-        self.count += 1;
-        self.digest = with_use(&self.digest, dep);
     }
 }

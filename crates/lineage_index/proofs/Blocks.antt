@@ -1,7 +1,6 @@
 -- What holds of the rows of a block, and of those before.
 use Rattle.std.proofs.Common.{◌≡◌, ◌∙◌, ℕ, ◌<◌, ◌≤◌, false, ◌&&◌, ◌==◌, List, [], ◌∷◌, ◌++◌, refl, ap, arith, map}
 use Rattle.std.specs.List.{list_any, AllByRecursion}
-use Rattle.std.specs.Option.{IsSomeAnd}
 use Rattle.std.specs.Cmp.Lexicographic.{pointwise}
 use Rattle.std.proofs.lemmas.List.Elements.{recursion_from_All}
 use Rattle.std.proofs.lemmas.Bool.{and_right, ne_eqb}
@@ -12,7 +11,7 @@ use Rattle.lineage_store.specs.root_laws.Naming.{closed_uses, uses_of}
 use Rattle.lineage_store.proofs.root_laws.Lists.{all_weaker, all_back, keep_none}
 use Rattle.lineage_store.proofs.root_laws.Growing.{below_now}
 use Rattle.lineage_store.proofs.root_laws.Headers.{recorded_is_older}
-use Rattle.lineage_index.specs.Growth.{Grows, open_uses}
+use Rattle.lineage_index.specs.Growth.{Grows, IsOnNewest}
 
 pub rows_before : (rows new : List Row) (n : ℕ) → Grows rows new n → AllByRecursion (λ (row : Row). row.block < n) rows
 rows_before rows new n g = recursion_from_All (λ (row : Row). row.block < n) rows g.before
@@ -24,7 +23,8 @@ pub before_are : (rows new : List Row) (n : ℕ) → Grows rows new n → below 
 before_are rows new n g = below_now rows new n (rows_before rows new n g) (rows_now rows new n g)
 
 -- the list that a version of the block closes is that of its key after all uses of the block
-pub closed_is_held : (rows new : List Row) (n : ℕ) (key : List ℕ) → Grows rows new n → closed_uses (rows ++ new) key n ≡ open_uses rows new key
+pub closed_is_held : (rows new : List Row) (n : ℕ) (key : List ℕ) → Grows rows new n → closed_uses
+    (rows ++ new) key n ≡ uses_of (rows ++ new) key (newest rows key)
 closed_is_held rows new n key g = ap (λ (rs : List Row). uses_of (rows ++ new) key (newest rs key)) (before_are rows new n g)
 
 lawful_deps : (rows new : List Row) (n : ℕ) → Grows rows new n → AllByRecursion (HasLawfulDeps (rows ++ new)) (rows ++ new)
@@ -32,10 +32,6 @@ lawful_deps rows new n g = recursion_from_All (HasLawfulDeps (rows ++ new)) (row
 
 pub new_deps : (rows new : List Row) (n : ℕ) → Grows rows new n → AllByRecursion (HasLawfulDeps (rows ++ new)) new
 new_deps rows new n g = all_back (HasLawfulDeps (rows ++ new)) rows new (lawful_deps rows new n g)
-
--- a dependency of a row of the block is on the newest version before
-abbrev pub IsOnNewest : List Row → Dep → Type 0
-IsOnNewest rows dep = IsSomeAnd (newest rows dep.key) (λ (version : Row). version.block ≡ dep.block)
 
 pub deps_on_newest : (rows new : List Row) (n : ℕ) (row : Row) → Grows rows new n → row.block ≡ n → HasLawfulDeps (rows ++ new) row → AllByRecursion (IsOnNewest rows) row.deps
 deps_on_newest rows new n row g at deps =

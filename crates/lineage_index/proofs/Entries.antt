@@ -1,5 +1,7 @@
 -- The entries of the keys after a block.
-use Rattle.std.proofs.Common.{◌≡◌, ◌∙◌, ℕ, suc, ◌<◌, ◌≤◌, Bool, true, false, ◌&&◌, ◌||◌, ◌==◌, List, [], ◌∷◌, ◌++◌, Option, Some, None, refl, sym, ap, arith, map, inl, inr}
+use Rattle.std.proofs.Common.{◌≡◌, ◌∙◌, ℕ, suc, ◌<◌, ◌≤◌, Bool, true, false, ◌&&◌, ◌||◌, ◌==◌, List}
+use Rattle.std.proofs.Common.{[], ◌∷◌, ◌++◌, Option, Some, None, refl, sym, ap, arith, map, inl}
+use Rattle.std.proofs.Common.{inr}
 use Rattle.std.specs.List.{list_any, AllByRecursion}
 use Rattle.std.specs.Option.{is_some}
 use Rattle.std.specs.Cmp.Lexicographic.{pointwise}
@@ -12,11 +14,13 @@ use Rattle.lc_base.specs.declared.row.Dep.{Dep}
 use Rattle.lc_base.specs.History.{newest, uses, depends_on, version_of}
 use Rattle.lineage_store.specs.root_laws.Naming.{header_digest, digest_among}
 use Rattle.lineage_store.specs.root_laws.Root.{is_among, keys_of, block_of}
-use Rattle.lineage_store.proofs.root_laws.Lists.{all_weaker, option_cases, not_both, or_false, keep_none, some_last}
+use Rattle.lineage_store.proofs.root_laws.Lists.{all_weaker, option_cases, not_both, or_false}
+use Rattle.lineage_store.proofs.root_laws.Lists.{keep_none, some_last}
 use Rattle.lineage_store.proofs.root_laws.Keys.{same_key, among_is_some}
 use Rattle.lineage_store.proofs.root_laws.Growing.{earlier_versions_stay, uses_append}
 use Rattle.lineage_store.proofs.root_laws.Headers.{newest_has}
-use Rattle.lineage_index.specs.Growth.{Grows, Entry, entry_of, entry_after, keys_of_row, keys_touched, is_of_key, changed_at}
+use Rattle.lineage_index.specs.Growth.{Grows, Entry, entry_of, entry_after, deps_touched}
+use Rattle.lineage_index.specs.Growth.{keys_of_deps, keys_touched, is_of_key, changed_at}
 use Rattle.lineage_index.proofs.Blocks.{rows_before, rows_now}
 use Rattle.lineage_index.proofs.ClosedLists.{newest_kept}
 
@@ -51,17 +55,41 @@ untouched_deps (dep ∷ deps) key block e =
     let rest = right_false (pointwise ◌==◌ dep.key key) (is_among (map (λ (dep : Dep). dep.key) deps) key) e in
     rw (and_left (pointwise ◌==◌ dep.key key) (dep.block == block) off) (untouched_deps deps key block rest)
 
+own_among : (new : List Row) (key : List ℕ)
+    → is_among (map (λ (row : Row). row.key) new) key ≡ list_any (is_of_key key) new
+own_among [] key = refl
+own_among (row ∷ new) key = ap (λ (b : Bool). pointwise ◌==◌ row.key key || b) (own_among new key)
+
+pub touched_split : (new : List Row) (key : List ℕ) → is_among (keys_touched new) key
+    ≡ (is_among (deps_touched new) key || list_any (is_of_key key) new)
+touched_split new key =
+    list_any-append (λ (other : List ℕ). pointwise ◌==◌ other key) (deps_touched new)
+    (map (λ (row : Row). row.key) new)
+    ∙ ap (λ (b : Bool). is_among (deps_touched new) key || b) (own_among new key)
+
+untouched_by : (new : List Row) (key : List ℕ) (block : ℕ)
+    → is_among (deps_touched new) key ≡ false
+    → AllByRecursion (λ (row : Row). depends_on key block row ≡ false) new
+untouched_by [] key block e = tt
+untouched_by (row ∷ new) key block e =
+    let split : is_among (deps_touched (row ∷ new)) key
+    ≡ (is_among (keys_of_deps row) key || is_among (deps_touched new) key) =
+    list_any-append (λ (other : List ℕ). pointwise ◌==◌ other key) (keys_of_deps row)
+    (deps_touched new) in (
+      untouched_deps row.deps key block (left_false (is_among (keys_of_deps row) key)
+          (is_among (deps_touched new) key) (sym split ∙ e)),
+      untouched_by new key block (right_false (is_among (keys_of_deps row) key)
+          (is_among (deps_touched new) key) (sym split ∙ e)),
+    )
+
 untouched_rows : (new : List Row) (key : List ℕ) (block : ℕ) → is_among (keys_touched new) key ≡ false
     → (list_any (is_of_key key) new ≡ false) × AllByRecursion (λ (row : Row). depends_on key block row ≡ false) new
-untouched_rows [] key block e = (refl, tt)
-untouched_rows (row ∷ new) key block e =
-    let split : is_among (keys_touched (row ∷ new)) key ≡ (is_among (keys_of_row row) key || is_among (keys_touched new) key) =
-    list_any-append (λ (other : List ℕ). pointwise ◌==◌ other key) (keys_of_row row) (keys_touched new) in
-    let own : is_among (keys_of_row row) key ≡ false = left_false (is_among (keys_of_row row) key) (is_among (keys_touched new) key) (sym split ∙ e) in
-    let rest = untouched_rows new key block (right_false (is_among (keys_of_row row) key) (is_among (keys_touched new) key) (sym split ∙ e)) in
-    let off = left_false (pointwise ◌==◌ row.key key) (is_among (map (λ (dep : Dep). dep.key) row.deps) key) own in
-    let deps = untouched_deps row.deps key block (right_false (pointwise ◌==◌ row.key key) (is_among (map (λ (dep : Dep). dep.key) row.deps) key) own) in
-    (rw off rest.0, (deps, rest.1))
+untouched_rows new key block e =
+    let split = sym (touched_split new key) ∙ e in (
+      right_false (is_among (deps_touched new) key) (list_any (is_of_key key) new) split,
+      untouched_by new key block (left_false (is_among (deps_touched new) key)
+          (list_any (is_of_key key) new) split),
+    )
 
 digest_kept : (rows new : List Row) (n : ℕ) (key : List ℕ) (block : ℕ) → Grows rows new n → block < n → header_digest (rows ++ new) key block ≡ header_digest rows key block
 digest_kept rows new n key block g l = ap (λ named. digest_among named key block) (earlier_versions_stay rows new (suc block)

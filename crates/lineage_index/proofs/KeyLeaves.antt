@@ -1,5 +1,7 @@
 -- The leaves of some keys: where a key's leaf is, a leaf that is set, and one more key.
-use Rattle.std.proofs.Common.{◌≡◌, ◌≢◌, ◌∙◌, ℕ, suc, ◌+◌, ◌-◌, ◌<◌, false, ◌==◌, List, [], ◌∷◌, ◌++◌, length, get_or, map, Option, Some, None, refl, sym, ap, arith, inl, inr}
+use Rattle.std.proofs.Common.{◌≡◌, ◌≢◌, ◌∙◌, ℕ, suc, ◌+◌, ◌-◌, ◌<◌, false, ◌==◌, List, [], ◌∷◌}
+use Rattle.std.proofs.Common.{◌++◌, length, get_or, map, Option, Some, None, refl, sym, ap, arith}
+use Rattle.std.proofs.Common.{inl, inr}
 use Rattle.std.specs.Prelude.{slice_get, position, slice_set}
 use Rattle.std.specs.List.{AllPairs, AllByRecursion, position_from}
 use Rattle.std.specs.Option.{option_map}
@@ -12,7 +14,8 @@ use Rattle.prov_entry.specs.declared.entry.Leaf.{Leaf}
 use Rattle.lineage_store.specs.root_laws.Root.{is_among, sentinel, next_key}
 use Rattle.lineage_store.proofs.root_laws.Lists.{map_map, map_on, not_both}
 use Rattle.lineage_store.proofs.root_laws.Keys.{same_key, key_is_key}
-use Rattle.state_tree.specs.Leaves.{index_of, is_this, leaf_key, leaf_keys, with_next, fresh_leaf, with_leaf_of}
+use Rattle.state_tree.specs.Leaves.{index_of, is_this, leaf_key, leaf_keys, with_next, fresh_leaf}
+use Rattle.state_tree.specs.Leaves.{with_leaf_of}
 use Rattle.state_tree.proofs.Keys.{none_below}
 use Rattle.lineage_index.specs.Growth.{Entry, leaf_with, changed_at}
 use Rattle.lineage_index.specs.Heads.{leaves_with, fresh_entry, IsKeyIndex}
@@ -42,12 +45,17 @@ place_of (first ∷ keys) key n = elim (cases_Bool (pointwise ◌==◌ key first
       rw f (place_later first keys key n (position_from (is_this key) (n + 1) (map (λ (other : List ℕ). let own : Option (List ℕ) = Some other in own) keys)) off (place_of keys key (n + 1)))
 ]
 
+-- The key of a leaf that has one.
+abbrev pub own_key : List ℕ → Option (List ℕ)
+own_key key = Some key
+
+pub index_is : (keys : List (List ℕ)) (entry : List ℕ → Entry) (key : List ℕ)
+    → index_of (leaves_with keys entry) key ≡ position_from (is_this key) 1 (map own_key keys)
+index_is keys entry key = ap (position (is_this key)) (keys_in keys entry)
+    ∙ position_from-zero (is_this key) (None ∷ map own_key keys)
+
 pub leaf_place : (keys : List (List ℕ)) (entry : List ℕ → Entry) (key : List ℕ) → IsPlace keys key 1 (index_of (leaves_with keys entry) key)
-leaf_place keys entry key =
-    let all : List (Option (List ℕ)) = None ∷ map (λ (other : List ℕ). let own : Option (List ℕ) = Some other in own) keys in
-    let is : index_of (leaves_with keys entry) key ≡ position_from (is_this key) 1 (map (λ (other : List ℕ). let own : Option (List ℕ) = Some other in own) keys) =
-    ap (position (is_this key)) (keys_in keys entry) ∙ position_from-zero (is_this key) all in
-    rw is (place_of keys key 1)
+leaf_place keys entry key = rw (index_is keys entry key) (place_of keys key 1)
 
 -- ---- a leaf that is set
 

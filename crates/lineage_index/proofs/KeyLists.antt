@@ -4,11 +4,10 @@ use Rattle.std.specs.Prelude.{slice_get, slice_set, slice_index_or}
 use Rattle.std.specs.List.{AllPairs}
 use Rattle.std.proofs.lemmas.List.{get_or-map, length-map}
 use Rattle.std.proofs.lemmas.Option.{slice_get_within, get_or_from_slice_get}
-use Rattle.lc_base.specs.declared.row.Dep.{Dep}
 use Rattle.prov_entry.specs.declared.entry.Leaf.{Leaf}
 use Rattle.lineage_store.specs.root_laws.Root.{is_among}
-use Rattle.forward_links.specs.declared.open_list.OpenList.{OpenList}
-use Rattle.forward_links.specs.Lists.{open_of, kept_at, with_use_at}
+use Rattle.forward_links.specs.declared.kept_list.KeptList.{KeptList}
+use Rattle.forward_links.specs.Lists.{Use, kept_of, kept_at, with_use_at}
 use Rattle.lineage_index.specs.Growth.{changed_at}
 use Rattle.lineage_index.specs.Heads.{AreLists}
 use Rattle.lineage_index.proofs.ByKey.{set_at_key, changed_nowhere, same_everywhere}
@@ -23,40 +22,60 @@ value_at f keys key i d at =
 pub value_set : {A : Type 0} (f : List ℕ → A) (keys : List (List ℕ)) (key : List ℕ) (i : ℕ) (x : A) → AllPairs ◌≢◌ keys → slice_get keys i ≡ Some key → slice_set (map f keys) i x ≡ map (changed_at f key x) keys
 value_set f keys key i x apart at = set_at_key f keys key i x key apart (slice_get_within keys i key at) (get_or_from_slice_get keys i key key at)
 
-pub lists_within : (tree : List Leaf) (lists : List OpenList) (keys : List (List ℕ)) (list : List ℕ → List Dep) (key : List ℕ) (i : ℕ) → AreLists tree lists keys list → slice_get keys i ≡ Some key → i < length lists
-lists_within tree lists keys list key i a at = omega (arith, slice_get_within keys i key at, ap length a.lists_are, length-map (map list keys) open_of, length-map keys list)
+pub lists_within : (tree : List Leaf) (lists : List KeptList) (keys : List (List ℕ))
+    (list : List ℕ → List Use) (key : List ℕ) (i : ℕ) → AreLists tree lists keys list
+    → slice_get keys i ≡ Some key → i < length lists
+lists_within tree lists keys list key i a at = omega (
+  arith,
+  slice_get_within keys i key at,
+  ap
+      length a.lists_are,
+  length-map (map list keys) kept_of,
+  length-map keys list,
+)
 
 -- what is kept of the list of a key
-pub kept_of_key : (tree : List Leaf) (lists : List OpenList) (keys : List (List ℕ)) (list : List ℕ → List Dep) (key : List ℕ) (i : ℕ) → AreLists tree lists keys list → slice_get keys i ≡ Some key → kept_at lists i ≡ open_of (list key)
+pub kept_of_key : (tree : List Leaf) (lists : List KeptList) (keys : List (List ℕ)) (list : List ℕ
+    → List Use) (key : List ℕ) (i : ℕ) → AreLists tree lists keys list
+    → slice_get keys i ≡ Some key → kept_at lists i ≡ kept_of (list key)
 kept_of_key tree lists keys list key i a at =
     let there = value_at list keys key i [] at in
-    ap (λ (kept : List OpenList). kept_at kept i) a.lists_are ∙ get_or-map open_of (map list keys) i [] (open_of []) there.0 ∙ ap open_of there.1
+    ap (λ (kept : List KeptList). kept_at kept i) a.lists_are ∙ get_or-map kept_of
+    (map list keys) i [] (kept_of []) there.0 ∙ ap kept_of there.1
 
-pub use_added : (tree : List Leaf) (lists more : List OpenList) (keys : List (List ℕ)) (list : List ℕ → List Dep) (key : List ℕ) (i : ℕ) (user : Dep) → AreLists tree lists keys list → slice_get keys i ≡ Some key
-    → more ≡ map open_of (with_use_at (map list keys) i user) → AreLists tree more keys (changed_at list key (list key ++ user ∷ []))
+pub use_added : (tree : List Leaf) (lists more : List KeptList) (keys : List (List ℕ))
+    (list : List ℕ → List Use) (key : List ℕ) (i : ℕ) (user : Use) → AreLists tree lists keys list
+    → slice_get keys i ≡ Some key
+    → more ≡ map kept_of (with_use_at (map list keys) i user) → AreLists tree more keys
+    (changed_at list key (list key ++ user ∷ []))
 use_added tree lists more keys list key i user a at is = record {
   apart = a.apart;
   entry = a.entry;
   leaves_are = a.leaves_are;
   lists_are =
-      is ∙ ap (map open_of)
-      (ap (λ (l : List Dep). slice_set (map list keys) i (l ++ user ∷ [])) (value_at list keys key i [] at).1
+      is ∙ ap (map kept_of)
+      (ap (λ (l : List Use). slice_set (map list keys) i (l ++ user ∷ [])) (value_at list keys key i
+      [] at).1
       ∙ value_set list keys key i (list key ++ user ∷ []) a.apart at);
 }
 
-pub use_nowhere : (tree : List Leaf) (lists : List OpenList) (keys : List (List ℕ)) (list : List ℕ → List Dep) (key : List ℕ) (x : List Dep) → AreLists tree lists keys list → is_among keys key ≡ false
+pub use_nowhere : (tree : List Leaf) (lists : List KeptList) (keys : List (List ℕ)) (list : List ℕ
+    → List Use) (key : List ℕ) (x : List Use) → AreLists tree lists keys list
+    → is_among keys key ≡ false
     → AreLists tree lists keys (changed_at list key x)
 use_nowhere tree lists keys list key x a none = record {
   apart = a.apart;
   entry = a.entry;
   leaves_are = a.leaves_are;
-  lists_are = a.lists_are ∙ ap (map open_of) (sym (changed_nowhere list key x keys none));
+  lists_are = a.lists_are ∙ ap (map kept_of) (sym (changed_nowhere list key x keys none));
 }
 
-pub lists_same : (tree : List Leaf) (lists : List OpenList) (keys : List (List ℕ)) (f g : List ℕ → List Dep) → AreLists tree lists keys f → ((key : List ℕ) → f key ≡ g key) → AreLists tree lists keys g
+pub lists_same : (tree : List Leaf) (lists : List KeptList) (keys : List (List ℕ)) (f g : List ℕ
+    → List Use) → AreLists tree lists keys f → ((key : List ℕ) → f key ≡ g key)
+    → AreLists tree lists keys g
 lists_same tree lists keys f g a same = record {
   apart = a.apart;
   entry = a.entry;
   leaves_are = a.leaves_are;
-  lists_are = a.lists_are ∙ ap (map open_of) (same_everywhere f g keys same);
+  lists_are = a.lists_are ∙ ap (map kept_of) (same_everywhere f g keys same);
 }

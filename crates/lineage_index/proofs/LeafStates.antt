@@ -15,7 +15,7 @@ use Rattle.lineage_store.proofs.root_laws.Lists.{all_weaker, all_map, all_filter
 use Rattle.lineage_store.proofs.root_laws.Keys.{all_among}
 use Rattle.state_tree.specs.declared.states.LeafState.{LeafState}
 use Rattle.state_tree.specs.Leaves.{index_of, with_state, with_states}
-use Rattle.forward_links.specs.declared.open_list.OpenList.{OpenList}
+use Rattle.forward_links.specs.declared.kept_list.KeptList.{KeptList}
 use Rattle.lineage_store.specs.entry_store.Entries.{Entry as StoreEntry}
 use Rattle.lineage_index.specs.Growth.{Entry, entry_of, leaf_with, changed_at, entry_after}
 use Rattle.lineage_index.specs.Heads.{leaves_with}
@@ -120,18 +120,23 @@ leaves_told keys old new done (index ∷ indexes) apart within =
 
 -- ---- the keys that a block touches
 
-pub beside_leaves : (rows : List Row) (entry : List ℕ → Entry) (done : List (List ℕ)) (tree : List Leaf) (lists : List OpenList) (newest : List ℕ) (entries : List StoreEntry)
+pub beside_leaves : (rows : List Row) (entry : List ℕ → Entry) (done : List (List ℕ))
+    (tree : List Leaf) (lists : List KeptList) (newest : List ℕ) (entries : List StoreEntry)
     → AreRenewing rows entry done tree lists newest entries → AreBesideLeaves rows lists newest entries
 beside_leaves rows entry done tree lists newest entries a = record { store = a.store; lists_are = a.heads.lists_are; newest_are = a.heads.newest_are }
 
-pub touched_within : (rows : List Row) (entry : List ℕ → Entry) (tree : List Leaf) (lists : List OpenList) (newest : List ℕ) (entries : List StoreEntry) (touched : List (List ℕ)) (indexes : List ℕ)
+pub touched_within : (rows : List Row) (entry : List ℕ → Entry) (tree : List Leaf)
+    (lists : List KeptList) (newest : List ℕ) (entries : List StoreEntry) (touched : List (List ℕ))
+    (indexes : List ℕ)
     → AreRenewing rows entry [] tree lists newest entries → HaveSameItems (leaf_indexes tree touched) indexes → All (IsLeafIndex (keys_of rows)) indexes
 touched_within rows entry tree lists newest entries touched indexes a same =
     let there = subst (λ (leaves : List Leaf). HaveSameItems (leaf_indexes leaves touched) indexes) a.heads.leaves_are same in
     all_alike (IsLeafIndex (keys_of rows)) (leaf_indexes (leaves_with (keys_of rows) (entry_after entry (entry_of rows) [])) touched) indexes there (indexes_within (keys_of rows) (entry_after entry (entry_of rows) []) touched)
 
 -- The states are for leaves of the tree, and none is for the sentinel.
-pub states_within : (rows : List Row) (entry : List ℕ → Entry) (tree : List Leaf) (lists : List OpenList) (newest : List ℕ) (entries : List StoreEntry) (indexes : List ℕ) (states : List LeafState)
+pub states_within : (rows : List Row) (entry : List ℕ → Entry) (tree : List Leaf)
+    (lists : List KeptList) (newest : List ℕ) (entries : List StoreEntry) (indexes : List ℕ)
+    (states : List LeafState)
     → AreRenewing rows entry [] tree lists newest entries → All (IsLeafIndex (keys_of rows)) indexes → states ≡ map (state_of rows) indexes
     → All (λ (state : LeafState). 0 < state.index) states × All (λ (state : LeafState). state.index < length tree) states
 states_within rows entry tree lists newest entries indexes states a within is =
@@ -146,7 +151,9 @@ states_within rows entry tree lists newest entries indexes states a within is =
     )
 
 -- Once their states in a history are set, the leaves of the touched keys are those of the history.
-pub leaves_renewed : (rows : List Row) (entry : List ℕ → Entry) (tree after : List Leaf) (lists : List OpenList) (newest : List ℕ) (entries : List StoreEntry) (touched : List (List ℕ)) (indexes : List ℕ)
+pub leaves_renewed : (rows : List Row) (entry : List ℕ → Entry) (tree after : List Leaf)
+    (lists : List KeptList) (newest : List ℕ) (entries : List StoreEntry) (touched : List (List ℕ))
+    (indexes : List ℕ)
     → AreRenewing rows entry [] tree lists newest entries → HaveSameItems (leaf_indexes tree touched) indexes → after ≡ with_states tree (map (state_of rows) indexes)
     → AreRenewing rows entry touched after lists newest entries
 leaves_renewed rows entry tree after lists newest entries touched indexes a same is =

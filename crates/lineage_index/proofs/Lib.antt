@@ -1,7 +1,6 @@
 pub mod Blocks
 pub mod ByKey
 pub mod Using
-pub mod Room
 pub mod ClosedLists
 pub mod Entries
 pub mod KeyLeaves
@@ -13,6 +12,10 @@ pub mod Renewed
 pub mod LeafStates
 pub mod Touched
 pub mod NewEntries
+pub mod MarkedUses
+pub mod ClosedRows
+pub mod SettledRows
+pub mod Listed
 pub mod BlockSteps
 pub mod Keeping
 pub mod NewestRows

@@ -7,6 +7,7 @@ use Rattle.lc_base.specs.declared.row.Row.{Row}
 use Rattle.lineage_store.specs.skip_links.Versions.{newest_index}
 use Rattle.prov_entry.specs.declared.entry.Leaf.{Leaf}
 use Rattle.lineage_store.specs.root_laws.Root.{is_among, keys_of}
+use Rattle.lineage_store.proofs.skip_links.Threads.{newest_below}
 use Rattle.rows_index.specs.Places.{IsRowAt}
 use Rattle.lineage_store.specs.entry_store.declared.entry.EntryId.{EntryId}
 use Rattle.lineage_store.specs.entry_store.Entries.{Entry as StoreEntry}
@@ -31,6 +32,11 @@ newest_unknown rows key none = sym (index_nowhere rows key none)
 
 pub newest_within : (rows : List Row) (tree : List Leaf) (newest_rows : List ℕ) (key : List ℕ) (i : ℕ) → AreNewest rows tree newest_rows → slice_get (keys_of rows) i ≡ Some key → i < length newest_rows
 newest_within rows tree newest_rows key i a place = rw a.newest_are (value_at (newest_at rows) (keys_of rows) key i 0 place).0
+
+-- the newest row of a key that has a leaf is one of the rows
+pub newest_low : (rows : List Row) (key : List ℕ) (at : ℕ) → Some at ≡ newest_index rows key
+    → at < length rows
+newest_low rows key at is = let low = newest_below rows key in rw (← is) at low
 
 -- ---- its entry
 

@@ -11,8 +11,8 @@ use Rattle.lineage_store.specs.root_laws.NamingLaws.{digest_of_row}
 use Rattle.lineage_store.specs.root_laws.Root.{block_of}
 use Rattle.lineage_store.proofs.root_laws.Lists.{all_contained}
 use Rattle.lineage_store.proofs.root_laws.Headers.{row_is_named, newest_has, newest_is_key}
-use Rattle.lineage_index.specs.Growth.{Grows, entry_of}
-use Rattle.lineage_index.proofs.Blocks.{rows_before, IsOnNewest}
+use Rattle.lineage_index.specs.Growth.{Grows, IsOnNewest, entry_of}
+use Rattle.lineage_index.proofs.Blocks.{rows_before}
 
 -- the digest of a dependency is in the entry of its key
 pub dep_is_named : (rows new : List Row) (n : ℕ) (dep : Dep) (named : List BodyDep) → Grows rows new n → IsOnNewest rows dep → named_before rows n ≡ named

@@ -1,8 +1,8 @@
 -- The state of a leaf is the entry of its key, read from what is kept.
-use Rattle.std.proofs.Common.{◌≡◌, ◌∙◌, ℕ, suc, ◌-◌, ◌<◌, List, [], length, map, get_or, Some, refl, sym, ap, arith}
+use Rattle.std.proofs.Common.{◌≡◌, ◌∙◌, ℕ, suc, ◌-◌, ◌<◌, List, [], length, map, get_or, Some, sym, ap, arith}
 use Rattle.std.specs.Prelude.{slice_get}
 use Rattle.std.specs.Option.{option_map}
-use Rattle.std.proofs.lemmas.List.{length-map, get_or-map}
+use Rattle.std.proofs.lemmas.List.{length-map}
 use Rattle.std.proofs.lemmas.Option.{slice_get_within, slice_get-get_or, get_or_from_slice_get}
 use Rattle.lc_base.specs.declared.digest.Digest.{Digest}
 use Rattle.lc_base.specs.declared.row.Row.{Row}
@@ -14,8 +14,9 @@ use Rattle.lineage_store.specs.root_laws.NamingLaws.{digest_of_row}
 use Rattle.lineage_store.specs.root_laws.Root.{keys_of, block_of}
 use Rattle.lineage_store.proofs.root_laws.Lists.{all_contained}
 use Rattle.lineage_store.proofs.root_laws.Headers.{row_is_named, newest_has, newest_is_key}
+use Rattle.forward_links.specs.declared.kept_list.KeptList.{KeptList}
 use Rattle.forward_links.specs.declared.open_list.OpenList.{OpenList}
-use Rattle.forward_links.specs.Lists.{open_of, kept_at}
+use Rattle.forward_links.specs.Lists.{Use, kept_of, open_of, versions_of}
 use Rattle.lineage_store.specs.entry_store.declared.entry.Facts.{Facts}
 use Rattle.lineage_store.specs.entry_store.Entries.{Entry as StoreEntry, facts_of}
 use Rattle.lineage_store.proofs.Entries.{row_facts, as_many}
@@ -24,13 +25,15 @@ use Rattle.lineage_index.specs.Heads.{newest_at, open_list}
 use Rattle.lineage_index.specs.Settling.{IsStoreOf}
 use Rattle.lineage_index.specs.Leaves.{IsLeafIndex, key_at, state_of_entry, state_of, AreBesideLeaves}
 use Rattle.lineage_index.proofs.KeyLists.{value_at}
+use Rattle.lineage_index.proofs.MarkedUses.{versions_at}
 use Rattle.lineage_index.proofs.KeptStates.{index_among}
 use Rattle.lineage_index.proofs.Settled.{row_there, index_there}
 
 -- ---- what is read for the entry of a key
 
 -- The index of the newest row of a key, with the row.
-newest_read : (rows : List Row) (lists : List OpenList) (newest_rows : List ℕ) (entries : List StoreEntry) (key : List ℕ) (i at : ℕ)
+newest_read : (rows : List Row) (lists : List KeptList) (newest_rows : List ℕ)
+    (entries : List StoreEntry) (key : List ℕ) (i at : ℕ)
     → AreBesideLeaves rows lists newest_rows entries → slice_get (keys_of rows) i ≡ Some key → slice_get newest_rows i ≡ Some at
     → (row : Row) × (newest rows key ≡ Some row) × (slice_get rows at ≡ Some row)
 newest_read rows lists newest_rows entries key i at a place read =
@@ -45,7 +48,10 @@ digest_read rows entries key row store newest_is =
 
 -- ---- the state of a leaf
 
-entry_is : (rows : List Row) (key : List ℕ) (row : Row) (block : ℕ) (digest : Digest) (list : List Dep) (count : ℕ) (list_digest : Digest) → newest rows key ≡ Some row → block ≡ row.block → digest ≡ header_digest rows key row.block → list ≡ open_list rows key
+entry_is : (rows : List Row) (key : List ℕ) (row : Row) (block : ℕ) (digest : Digest)
+    (list : List Dep) (count : ℕ) (list_digest : Digest) → newest rows key ≡ Some row
+    → block ≡ row.block → digest ≡ header_digest rows key row.block → list ≡ uses_of rows key
+    (newest rows key)
     → count ≡ length list → list_digest.0 ≡ uses_digest list → record { newest_block = block; newest = digest; open_count = count; open_digest = list_digest } ≡ entry_of rows key
 entry_is rows key row block digest list count list_digest newest_is block_is digest_is list_is count_is list_digest_is =
     let listed : list ≡ uses rows key row.block = list_is ∙ ap (uses_of rows key) newest_is in
@@ -65,9 +71,11 @@ pub key_there : (keys : List (List ℕ)) (index : ℕ) → IsLeafIndex keys inde
 key_there keys index at = slice_get-get_or keys (index - 1) [] (omega (arith, at))
 
 -- The state of the leaf is the entry of its key.
-pub state_told : (rows : List Row) (lists : List OpenList) (newest_rows : List ℕ) (entries : List StoreEntry) (index at : ℕ) (facts : Facts) (kept : OpenList)
+pub state_told : (rows : List Row) (lists : List KeptList) (newest_rows : List ℕ)
+    (entries : List StoreEntry) (index at : ℕ) (facts : Facts) (kept : OpenList)
     → AreBesideLeaves rows lists newest_rows entries → IsLeafIndex (keys_of rows) index → slice_get newest_rows (index - 1) ≡ Some at
-    → option_map (λ (entry : StoreEntry). entry.facts) (slice_get entries at) ≡ Some facts → kept ≡ kept_at lists (index - 1)
+    → option_map (λ (entry : StoreEntry). entry.facts) (slice_get entries at) ≡ Some facts
+    → kept ≡ open_of (get_or (map (open_list rows) (keys_of rows)) (index - 1) [])
     → record { index = index; newest_block = facts.block; newest = facts.digest; open_count = kept.count; open_digest = kept.digest } ≡ state_of rows index
 state_told rows lists newest_rows entries index at facts kept a within read facts_read kept_is =
     let keys = keys_of rows in
@@ -76,21 +84,35 @@ state_told rows lists newest_rows entries index at facts kept a within read fact
     let place = key_there keys index within in
     let row = newest_read rows lists newest_rows entries key i at a place read in
     let there = value_at (open_list rows) keys key i [] place in
-    let is : kept ≡ open_of (open_list rows key) =
-    kept_is ∙ ap (λ (all : List OpenList). kept_at all i) a.lists_are ∙ get_or-map open_of (map (open_list rows) keys) i [] (open_of []) there.0 ∙ ap open_of there.1 in
+    let is : kept ≡ open_of (open_list rows key) = kept_is ∙ ap open_of there.1 in
+    let list : List Use = open_list rows key in
+    let many : kept.count ≡ length (versions_of list) = ap (λ (one : OpenList). one.count) is
+    ∙ sym (length-map list (λ (u : Use). u.version)) in
     let says : facts ≡ facts_of (header_of rows row.0) = row_facts entries rows at row.0 facts a.store.entries_are row.2 facts_read in
-    ap (state_of_entry (keys_of rows) index) (entry_is rows key row.0 facts.block facts.digest (open_list rows key) kept.count kept.digest row.1
-    (ap (λ (f : Facts). f.block) says) (ap (λ (f : Facts). f.digest) says ∙ digest_read rows entries key row.0 a.store row.1) refl (ap (λ (one : OpenList). one.count) is) (ap (λ (one : OpenList). one.digest.0) is))
+    ap (state_of_entry (keys_of rows) index) (entry_is rows key row.0 facts.block facts.digest
+    (versions_of list) kept.count kept.digest row.1
+    (ap (λ (f : Facts). f.block) says) (ap (λ (f : Facts). f.digest) says
+    ∙ digest_read rows entries key row.0 a.store row.1) (versions_at rows key
+    (newest rows key)) many (ap (λ (one : OpenList). one.digest.0) is))
 
 -- What is read for a leaf is within the lists.
-pub read_within : (rows : List Row) (lists : List OpenList) (newest_rows : List ℕ) (entries : List StoreEntry) (index : ℕ)
+pub read_within : (rows : List Row) (lists : List KeptList) (newest_rows : List ℕ)
+    (entries : List StoreEntry) (index : ℕ)
     → AreBesideLeaves rows lists newest_rows entries → IsLeafIndex (keys_of rows) index → (index - 1 < length newest_rows) × (index - 1 < length lists)
 read_within rows lists newest_rows entries index a within = (
   omega (arith, within, ap length a.newest_are, length-map (keys_of rows) (newest_at rows)),
-  omega (arith, within, ap length a.lists_are, length-map (map (open_list rows) (keys_of rows)) open_of, length-map (keys_of rows) (open_list rows)),
+  omega (
+    arith,
+    within,
+    ap length a.lists_are,
+    length-map (map (open_list rows)
+        (keys_of rows)) kept_of,
+    length-map (keys_of rows) (open_list rows),
+  ),
 )
 
-pub row_within : (rows : List Row) (lists : List OpenList) (newest_rows : List ℕ) (entries : List StoreEntry) (index at : ℕ)
+pub row_within : (rows : List Row) (lists : List KeptList) (newest_rows : List ℕ)
+    (entries : List StoreEntry) (index at : ℕ)
     → AreBesideLeaves rows lists newest_rows entries → IsLeafIndex (keys_of rows) index → slice_get newest_rows (index - 1) ≡ Some at → at < length entries
 row_within rows lists newest_rows entries index at a within read =
     let row = newest_read rows lists newest_rows entries (key_at (keys_of rows) index) (index - 1) at a (key_there (keys_of rows) index within) read in

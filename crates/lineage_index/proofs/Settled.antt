@@ -6,7 +6,6 @@ use Rattle.std.specs.Cmp.Lexicographic.{pointwise}
 use Rattle.std.proofs.lemmas.List.{append_assoc}
 use Rattle.std.proofs.lemmas.Bool.{cases_Bool}
 use Rattle.lc_base.specs.declared.row.Row.{Row}
-use Rattle.lc_base.specs.declared.row.Dep.{Dep}
 use Rattle.lc_base.specs.History.{newest}
 use Rattle.lineage_store.specs.skip_links.Versions.{newest_index}
 use Rattle.lineage_store.proofs.skip_links.Threads.{newest_more, newest_found, newest_below}
@@ -15,8 +14,8 @@ use Rattle.lineage_store.specs.root_laws.Root.{is_among, with_key, keys_of}
 use Rattle.lineage_store.proofs.root_laws.Lists.{not_both}
 use Rattle.lineage_store.proofs.root_laws.Keys.{same_key, among_is_some, keys_append, keys_short}
 use Rattle.lineage_store.proofs.root_laws.Growing.{newest_append}
-use Rattle.forward_links.specs.declared.open_list.OpenList.{OpenList}
-use Rattle.forward_links.specs.Lists.{open_of}
+use Rattle.forward_links.specs.declared.kept_list.KeptList.{KeptList}
+use Rattle.forward_links.specs.Lists.{Use, kept_of}
 use Rattle.lineage_index.specs.Growth.{changed_at}
 use Rattle.lineage_index.specs.Heads.{KeyStates, AreHeads, leaves_with, with_version, with_key_more, with_version_more, fresh_entry, newest_at, index_or_zero}
 use Rattle.lineage_index.specs.Settling.{entry_or_fresh, settled_states}
@@ -26,12 +25,15 @@ use Rattle.lineage_index.proofs.KeptStates.{version_new, version_old, as_many}
 use Rattle.lineage_index.proofs.ClosedLists.{one_key_more}
 
 -- states that say the same of each key
-pub heads_same : (tree : List Leaf) (lists : List OpenList) (newest : List ℕ) (s t : KeyStates) → AreHeads tree lists newest s → s.keys ≡ t.keys → ((key : List ℕ) → s.entry key ≡ t.entry key) → ((key : List ℕ) → s.list key ≡ t.list key)
+pub heads_same : (tree : List Leaf) (lists : List KeptList) (newest : List ℕ) (s t : KeyStates)
+    → AreHeads tree lists newest s → s.keys ≡ t.keys → ((key : List ℕ)
+    → s.entry key ≡ t.entry key) → ((key : List ℕ) → s.list key ≡ t.list key)
     → ((key : List ℕ) → s.index key ≡ t.index key) → AreHeads tree lists newest t
 heads_same tree lists newest s t a keys entry list index = record {
   apart = rw (← keys) a.apart;
   leaves_are = a.leaves_are ∙ leaves_same s.keys s.entry t.entry entry ∙ ap (λ (ks : List (List ℕ)). leaves_with ks t.entry) keys;
-  lists_are = a.lists_are ∙ ap (map open_of) (same_everywhere s.list t.list s.keys list ∙ ap (map t.list) keys);
+  lists_are = a.lists_are ∙ ap (map kept_of) (same_everywhere s.list t.list s.keys list
+      ∙ ap (map t.list) keys);
   newest_are = a.newest_are ∙ same_everywhere s.index t.index s.keys index ∙ ap (map t.index) keys;
 }
 
@@ -101,7 +103,9 @@ index_more rows done row key =
       | inr f ↦ let is : newest_index (rows ++ (done ++ row ∷ [])) key ≡ newest_index (rows ++ done) key = more ∙ rw f refl in rw f (sym (ap index_or_zero is))
     ]
 
-states_more : (rows done : List Row) (list : List ℕ → List Dep) (row : Row) (tree : List Leaf) (lists : List OpenList) (newest : List ℕ) → AreHeads tree lists newest (with_version (settled_states rows list done) row.key (length (rows ++ done)))
+states_more : (rows done : List Row) (list : List ℕ → List Use) (row : Row) (tree : List Leaf)
+    (lists : List KeptList) (newest : List ℕ) → AreHeads tree lists newest (with_version
+    (settled_states rows list done) row.key (length (rows ++ done)))
     → AreHeads tree lists newest (settled_states rows list (done ++ row ∷ []))
 states_more rows done list row tree lists newest a = elim (cases_Bool (is_among (keys_of (rows ++ done)) row.key)) [
   | inl t ↦ heads_same tree lists newest (with_version_more (settled_states rows list done) row.key (length (rows ++ done))) (settled_states rows list (done ++ row ∷ []))
@@ -113,13 +117,16 @@ states_more rows done list row tree lists newest a = elim (cases_Bool (is_among 
 ]
 
 -- there are at most as many keys as rows
-pub settled_short : (rows done : List Row) (list : List ℕ → List Dep) (tree : List Leaf) (lists : List OpenList) (newest : List ℕ) → AreHeads tree lists newest (settled_states rows list done) → length newest ≤ length (rows ++ done)
+pub settled_short : (rows done : List Row) (list : List ℕ → List Use) (tree : List Leaf)
+    (lists : List KeptList) (newest : List ℕ) → AreHeads tree lists newest (settled_states rows list
+    done) → length newest ≤ length (rows ++ done)
 settled_short rows done list tree lists newest a =
     let many = as_many tree lists newest (settled_states rows list done) a in
     let short = keys_short [] (rows ++ done) in
     omega (arith, many.1, short)
 
-pub settled_more : (rows done : List Row) (list : List ℕ → List Dep) (row : Row) (tree : List Leaf) (lists : List OpenList) (newest : List ℕ) (index : ℕ) → index ≡ length (rows ++ done)
+pub heads_more : (rows done : List Row) (list : List ℕ → List Use) (row : Row) (tree : List Leaf)
+    (lists : List KeptList) (newest : List ℕ) (index : ℕ) → index ≡ length (rows ++ done)
     → AreHeads tree lists newest (with_version (settled_states rows list done) row.key index) → AreHeads tree lists newest (settled_states rows list (done ++ row ∷ []))
-settled_more rows done list row tree lists newest index at heads =
+heads_more rows done list row tree lists newest index at heads =
     states_more rows done list row tree lists newest (subst (λ (i : ℕ). AreHeads tree lists newest (with_version (settled_states rows list done) row.key i)) at heads)

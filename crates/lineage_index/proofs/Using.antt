@@ -3,19 +3,29 @@ use Rattle.std.proofs.Common.{◌≡◌, ◌≢◌, ◌∙◌, ℕ, zero, suc, �
 use Rattle.std.specs.List.{list_any, All, AllPairs, AllByRecursion}
 use Rattle.std.specs.Option.{IsSomeAnd}
 use Rattle.std.specs.Cmp.Lexicographic.{pointwise}
-use Rattle.std.proofs.lemmas.List.{append-nil, append_assoc, take_more}
-use Rattle.std.proofs.lemmas.List.Sums.{fold-append}
+use Rattle.std.proofs.lemmas.List.{append-nil, append_assoc, length-append, take_more}
 use Rattle.std.proofs.lemmas.List.Folds.{list_any-append}
 use Rattle.std.proofs.lemmas.Bool.{cases_Bool, eq-eqb}
 use Rattle.lc_base.specs.declared.row.Row.{Row}
 use Rattle.lc_base.specs.declared.row.Dep.{Dep}
-use Rattle.lc_base.specs.History.{newest, uses, depends_on, version_of}
-use Rattle.lineage_store.specs.root_laws.Naming.{uses_of}
+use Rattle.lc_base.specs.History.{newest, depends_on}
+use Rattle.forward_links.specs.Lists.{Use}
+use Rattle.rows_index.proofs.Marked.{marked_more}
 use Rattle.lineage_store.proofs.root_laws.Lists.{option_cases, or_false}
 use Rattle.lineage_store.proofs.root_laws.Keys.{same_key}
-use Rattle.lineage_store.proofs.root_laws.Growing.{uses_append}
-use Rattle.lineage_index.specs.Growth.{open_uses, list_with_uses, used_by_row, used_by, HaveDistinctKeys, is_on_key, changed_at}
-use Rattle.lineage_index.proofs.Blocks.{IsOnNewest}
+use Rattle.lineage_index.specs.Growth.{
+  IsOnNewest,
+  open_uses,
+  use_of,
+  uses_at,
+  list_with_uses,
+  used_by_row,
+  used_by,
+  HaveDistinctKeys,
+  is_on_key,
+  changed_at,
+}
+use Rattle.lineage_index.specs.Heads.{open_list}
 use Rattle.lineage_index.proofs.ByKey.{differ}
 
 -- ---- one dependency more
@@ -43,7 +53,8 @@ none_before (dep ∷ deps) (suc i) d distinct l =
     let off : pointwise ◌==◌ dep.key (get_or deps i d).key ≡ false = differ dep.key (get_or deps i d).key (distinct 0 (suc i) d (omega arith) (omega (arith, l))) in
     rw off (none_before deps i d (λ a b e x y. distinct (suc a) (suc b) e (omega (arith, x)) (omega (arith, y))) (omega (arith, l)))
 
-pub one_use_more : (list : List ℕ → List Dep) (user : Dep) (deps : List Dep) (i : ℕ) (d : Dep) (key : List ℕ) → HaveDistinctKeys deps → i < length deps
+pub one_use_more : (list : List ℕ → List Use) (user : Use) (deps : List Dep) (i : ℕ) (d : Dep)
+    (key : List ℕ) → HaveDistinctKeys deps → i < length deps
     → changed_at (list_with_uses list user (take i deps)) (get_or deps i d).key (list_with_uses list user (take i deps) (get_or deps i d).key ++ user ∷ []) key ≡ list_with_uses list user (take (i + 1) deps) key
 one_use_more list user deps i d key distinct l =
     let dep : Dep = get_or deps i d in
@@ -75,27 +86,32 @@ depends_by_key rows (dep ∷ deps) key version e on =
       | inr t ↦ rw (t, rest) refl
     ]
 
-one_row_uses : (row : Row) (key : List ℕ) (block : ℕ) → uses (row ∷ []) key block ≡ (if depends_on key block row then version_of row ∷ [] else [])
-one_row_uses row key block = elim (cases_Bool (depends_on key block row)) [
-  | inl t ↦ rw t refl
-  | inr t ↦ rw t refl
-]
+-- the uses of a version with one row more
+uses_with : (rows more : List Row) (row : Row) (n : ℕ) (key : List ℕ) (version : Row) → n ≡ length
+    (rows ++ more)
+    → uses_at (rows ++ (more ++ row ∷ [])) key (Some version)
+    ≡ (if depends_on key version.block row then uses_at (rows ++ more) key (Some version) ++ use_of
+    n row ∷ [] else uses_at (rows ++ more) key (Some version))
+uses_with rows more row n key version at =
+    let before = uses_at (rows ++ more) key (Some version) in
+    let next : 0 + length (rows ++ more) ≡ n = omega (arith, at) in
+    ap (λ (rs : List Row). uses_at rs key (Some version)) (sym (append_assoc rows more (row ∷ [])))
+    ∙ marked_more use_of (depends_on key version.block) 0 (rows ++ more) row
+    ∙ ap (λ (k : ℕ). if depends_on key version.block row then before ++ use_of k row ∷ [] else
+    before) next
 
-uses_with : (rows more : List Row) (row : Row) (key : List ℕ) (block : ℕ) → uses (rows ++ (more ++ row ∷ [])) key block ≡ uses (rows ++ more) key block ++ (if depends_on key block row then version_of row ∷ [] else [])
-uses_with rows more row key block =
-    ap (λ (rs : List Row). uses rs key block) (sym (append_assoc rows more (row ∷ [])))
-    ∙ uses_append (rows ++ more) (row ∷ []) key block ∙ ap (λ (us : List Dep). uses (rows ++ more) key block ++ us) (one_row_uses row key block)
-
-pub one_row_more : (rows more : List Row) (row : Row) (key : List ℕ) → AllByRecursion (IsOnNewest rows) row.deps → used_by_row (open_uses rows more) row key ≡ open_uses rows (more ++ row ∷ []) key
-one_row_more rows more row key on = elim (option_cases (newest rows key)) [
+pub one_row_more : (rows more : List Row) (row : Row) (n : ℕ) (key : List ℕ) → n ≡ length
+    (rows ++ more) → AllByRecursion (IsOnNewest rows) row.deps
+    → used_by_row (open_uses rows more) n row key ≡ open_uses rows (more ++ row ∷ []) key
+one_row_more rows more row n key at on = elim (option_cases (newest rows key)) [
   | inl none ↦
       let off : list_any (is_on_key key) row.deps ≡ false = none_on row.deps on none in
       rw (off, none) refl
   | inr s ↦
       let by : depends_on key s.0.block row ≡ list_any (is_on_key key) row.deps = depends_by_key rows row.deps key s.0 s.1 on in
       rw s.1 (elim (cases_Bool (list_any (is_on_key key) row.deps)) [
-        | inl t ↦ rw t (sym (uses_with rows more row key s.0.block ∙ rw (by, t) refl))
-        | inr t ↦ rw t (sym (uses_with rows more row key s.0.block ∙ rw (by, t) (append-nil (uses (rows ++ more) key s.0.block))))
+        | inl t ↦ rw t (sym (uses_with rows more row n key s.0 at ∙ rw (by, t) refl))
+        | inr t ↦ rw t (sym (uses_with rows more row n key s.0 at ∙ rw (by, t) refl))
       ])
 ]
   where
@@ -107,21 +123,48 @@ one_row_more rows more row key on = elim (option_cases (newest rows key)) [
     ]
 
 -- before the first row of the block
-pub held_first : (rows : List Row) (key : List ℕ) → open_uses rows [] key ≡ uses_of rows key (newest rows key)
-held_first rows key = ap (λ (rs : List Row). uses_of rs key (newest rows key)) (append-nil rows)
+pub held_first : (rows : List Row) (key : List ℕ) → open_uses rows [] key ≡ open_list rows key
+held_first rows key = ap (λ (rs : List Row). uses_at rs key (newest rows key)) (append-nil rows)
 
 -- ---- all rows of the block
 
-pub used_same : (f g : List ℕ → List Dep) (rows : List Row) (key : List ℕ) → ((k : List ℕ) → f k ≡ g k) → used_by f rows key ≡ used_by g rows key
-used_same f g [] key same = same key
-used_same f g (row ∷ rows) key same = used_same (used_by_row f row) (used_by_row g row) rows key (λ k. ap (λ (list : List Dep). if list_any (is_on_key k) row.deps then list ++ version_of row ∷ [] else list) (same k))
+pub used_same : (f g : List ℕ → List Use) (n : ℕ) (rows : List Row) (key : List ℕ) → ((k : List ℕ)
+    → f k ≡ g k) → used_by f n rows key ≡ used_by g n rows key
+used_same f g n [] key same = same key
+used_same f g n (row ∷ rows) key same = used_same (used_by_row f n row) (used_by_row g n row)
+    (suc n) rows key (λ k. ap (λ (list : List Use). if list_any (is_on_key k) row.deps then list ++
+    use_of n row ∷ [] else list) (same k))
 
-pub all_uses : (rows more new : List Row) (key : List ℕ) → AllByRecursion (λ (row : Row). AllByRecursion (IsOnNewest rows) row.deps) new → used_by (open_uses rows more) new key ≡ open_uses rows (more ++ new) key
-all_uses rows more [] key on = ap (λ (rs : List Row). open_uses rows rs key) (sym (append-nil more))
-all_uses rows more (row ∷ new) key on =
-    used_same (used_by_row (open_uses rows more) row) (open_uses rows (more ++ row ∷ [])) new key (λ k. one_row_more rows more row k on.0)
-    ∙ all_uses rows (more ++ row ∷ []) new key on.1
+pub all_uses : (rows more new : List Row) (n : ℕ) (key : List ℕ) → n ≡ length (rows ++ more)
+    → AllByRecursion (λ (row : Row). AllByRecursion (IsOnNewest rows) row.deps) new
+    → used_by (open_uses rows more) n new key ≡ open_uses rows (more ++ new) key
+all_uses rows more [] n key at on = ap (λ (rs : List Row). open_uses rows rs key) (sym
+    (append-nil more))
+all_uses rows more (row ∷ new) n key at on =
+    let next : suc n ≡ length (rows ++ (more ++ row ∷ [])) = omega (
+      arith,
+      at,
+      length-append rows
+          more,
+      length-append more (row ∷ []),
+      length-append rows (more ++ row ∷ []),
+    ) in
+    used_same (used_by_row (open_uses rows more) n row) (open_uses rows (more ++ row ∷ []))
+    (suc n) new key (λ k. one_row_more rows more row n k at on.0)
+    ∙ all_uses rows (more ++ row ∷ []) new (suc n) key next on.1
     ∙ ap (λ (rs : List Row). open_uses rows rs key) (append_assoc more (row ∷ []) new)
 
-pub one_row_used : (list : List ℕ → List Dep) (rows : List Row) (i : ℕ) (d : Row) → i < length rows → used_by_row (used_by list (take i rows)) (get_or rows i d) ≡ used_by list (take (i + 1) rows)
-one_row_used list rows i d l = sym (ap (used_by list) (take_more rows i d l) ∙ fold-append used_by_row list (take i rows) (get_or rows i d ∷ []))
+pub one_row_used : (list : List ℕ → List Use) (n : ℕ) (rows : List Row) (i : ℕ) (d : Row)
+    → i < length rows
+    → used_by_row (used_by list n (take i rows)) (n + i) (get_or rows i d) ≡ used_by list n (take
+    (i + 1) rows)
+one_row_used list n [] i d l = absurd (omega (arith, l))
+one_row_used list n (row ∷ rows) zero d l = let here : n + 0 ≡ n = omega arith in ap (λ
+    (k : ℕ). used_by_row list k row) here
+one_row_used list n (row ∷ rows) (suc i) d l =
+    let next : n + suc i ≡ suc n + i = omega arith in
+    let more : suc (i + 1) ≡ suc i + 1 = omega arith in
+    ap (λ (k : ℕ). used_by_row (used_by (used_by_row list n row) (suc n) (take i rows)) k
+    (get_or rows i d)) next
+    ∙ one_row_used (used_by_row list n row) (suc n) rows i d (omega (arith, l))
+    ∙ ap (λ (k : ℕ). used_by list n (take k (row ∷ rows))) more

@@ -1,14 +1,18 @@
 -- How what is kept of the keys of a history grows with a block. `rows` are those of the blocks
 -- before, and `more` rows of the block.
-use Rattle.std.specs.Prelude.{◌≡◌, ◌≢◌, ℕ, ◌<◌, ◌==◌, Bool, if◌then◌else◌, List, [], ◌∷◌, ◌++◌, length, map, Some}
-use Rattle.std.specs.List.{list_any, flat_map, fold, All, AllPairs}
+use Rattle.std.specs.Prelude.{◌≡◌, ◌≢◌, ℕ, suc, ◌<◌, ◌==◌, Bool, if◌then◌else◌, List, [], ◌∷◌, ◌++◌}
+use Rattle.std.specs.Prelude.{length, map, Option, None, Some}
+use Rattle.std.specs.List.{list_any, flat_map, All, AllPairs}
+use Rattle.std.specs.Option.{IsSomeAnd}
 use Rattle.std.specs.Cmp.Lexicographic.{pointwise}
 use Rattle.lc_base.specs.declared.digest.Digest.{Digest}
 use Rattle.lc_base.specs.declared.row.Row.{Row}
 use Rattle.lc_base.specs.declared.row.Dep.{Dep}
-use Rattle.lc_base.specs.History.{IsLawful, newest, uses, version_of}
+use Rattle.lc_base.specs.History.{IsLawful, depends_on, newest, uses, version_of}
 use Rattle.prov_entry.specs.declared.entry.Leaf.{Leaf}
-use Rattle.lineage_store.specs.root_laws.Naming.{uses_of, digest_of_uses, header_digest}
+use Rattle.rows_index.specs.Places.{marks_of}
+use Rattle.forward_links.specs.Lists.{Use}
+use Rattle.lineage_store.specs.root_laws.Naming.{digest_of_uses, header_digest}
 use Rattle.lineage_store.specs.root_laws.Root.{block_of, is_among, next_key}
 
 -- ---- what holds of a block
@@ -28,26 +32,41 @@ changed_at f key x other = if pointwise ◌==◌ key other then x else f other
 
 -- ---- forward lists
 
+-- A row as a use of what it depends on: its version, and its index.
+abbrev pub use_of : ℕ → Row → Use
+use_of n row = record { version = version_of row; row = n }
+
+-- The uses of a version of a key among these rows; none if there is no version.
+abbrev pub uses_at : List Row → List ℕ → Option Row → List Use
+uses_at rows key None = []
+uses_at rows key (Some version) = marks_of use_of (depends_on key version.block) 0 rows
+
 -- The uses, among `rows` and `more`, of the version that is the newest of a key in `rows`; empty if
 -- the key has no version there.
-abbrev pub open_uses : List Row → List Row → List ℕ → List Dep
-open_uses rows more key = uses_of (rows ++ more) key (newest rows key)
+abbrev pub open_uses : List Row → List Row → List ℕ → List Use
+open_uses rows more key = uses_at (rows ++ more) key (newest rows key)
+
+-- A dependency is on the newest version of its key.
+abbrev pub IsOnNewest : List Row → Dep → Type 0
+IsOnNewest rows dep = IsSomeAnd (newest rows dep.key) (λ (version : Row). version.block ≡ dep.block)
 
 -- Whether a dependency is on a version of the key.
 abbrev pub is_on_key : List ℕ → Dep → Bool
 is_on_key key dep = pointwise ◌==◌ dep.key key
 
--- The list of a key after this version was added to the lists of the keys of these dependencies.
-abbrev pub list_with_uses : (List ℕ → List Dep) → Dep → List Dep → List ℕ → List Dep
+-- The list of a key after this use was added to the lists of the keys of these dependencies.
+abbrev pub list_with_uses : (List ℕ → List Use) → Use → List Dep → List ℕ → List Use
 list_with_uses list user deps key = if list_any (is_on_key key) deps then list key ++ user ∷ [] else list key
 
--- The list of a key after a row was added to the lists of the keys that it depends on.
-abbrev pub used_by_row : (List ℕ → List Dep) → Row → List ℕ → List Dep
-used_by_row list row = list_with_uses list (version_of row) row.deps
+-- The list of a key after a row, which has this index, was added to the lists of the keys that it
+-- depends on.
+abbrev pub used_by_row : (List ℕ → List Use) → ℕ → Row → List ℕ → List Use
+used_by_row list n row = list_with_uses list (use_of n row) row.deps
 
--- The list of a key after these rows were added, one after another.
-abbrev pub used_by : (List ℕ → List Dep) → List Row → List ℕ → List Dep
-used_by list rows = fold used_by_row list rows
+-- The list of a key after these rows were added, one after another; the first has this index.
+abbrev pub used_by : (List ℕ → List Use) → ℕ → List Row → List ℕ → List Use
+used_by list n [] = list
+used_by list n (row ∷ rows) = used_by (used_by_row list n row) (suc n) rows
 
 -- No two of a row's dependencies are on one key.
 abbrev pub HaveDistinctKeys : List Dep → Type 0
@@ -58,7 +77,7 @@ abbrev pub is_of_key : List ℕ → Row → Bool
 is_of_key key row = pointwise ◌==◌ row.key key
 
 -- The list of a key after these rows closed the lists of their keys.
-abbrev pub list_after_rows : (List ℕ → List Dep) → List Row → List ℕ → List Dep
+abbrev pub list_after_rows : (List ℕ → List Use) → List Row → List ℕ → List Use
 list_after_rows list done key = if list_any (is_of_key key) done then [] else list key
 
 -- ---- leaves
@@ -90,13 +109,17 @@ leaf_with keys key entry = record {
   open_digest = entry.open_digest;
 }
 
--- The keys of a row: its own, and those that it depends on.
-abbrev pub keys_of_row : Row → List (List ℕ)
-keys_of_row row = row.key ∷ map (λ (dep : Dep). dep.key) row.deps
+-- The keys that a row depends on.
+abbrev pub keys_of_deps : Row → List (List ℕ)
+keys_of_deps row = map (λ (dep : Dep). dep.key) row.deps
 
--- The keys whose entries a block changes, one after another.
+-- The keys that the rows of a block depend on, one after another.
+abbrev pub deps_touched : List Row → List (List ℕ)
+deps_touched new = flat_map keys_of_deps new
+
+-- The keys whose entries a block changes: those that its rows depend on, and their own.
 abbrev pub keys_touched : List Row → List (List ℕ)
-keys_touched new = flat_map keys_of_row new
+keys_touched new = deps_touched new ++ map (λ (row : Row). row.key) new
 
 -- The entry of a key after the entries of these keys were replaced by new ones.
 abbrev pub entry_after : (List ℕ → Entry) → (List ℕ → Entry) → List (List ℕ) → List ℕ → Entry

@@ -1,18 +1,17 @@
 -- What is kept of the newest version of each key. Leaves, lists and indexes are in one order of
 -- keys.
-use Rattle.std.specs.Prelude.{◌≡◌, ◌≢◌, ℕ, List, [], ◌∷◌, ◌++◌, ◌+◌, ◌<◌, length, map, replicate, slice_get, false, if◌then◌else◌, Option, Some, None}
+use Rattle.std.specs.Prelude.{◌≡◌, ◌≢◌, ℕ, List, [], ◌∷◌, ◌++◌, map, replicate, slice_get, false}
+use Rattle.std.specs.Prelude.{if◌then◌else◌, Option, Some, None}
 use Rattle.std.specs.List.{AllPairs}
 use Rattle.lc_base.specs.declared.row.Row.{Row}
-use Rattle.lc_base.specs.declared.row.Dep.{Dep}
 use Rattle.lc_base.specs.History.{newest}
 use Rattle.lineage_store.specs.skip_links.Versions.{newest_index}
 use Rattle.prov_entry.specs.declared.entry.Leaf.{Leaf}
-use Rattle.lineage_store.specs.root_laws.Naming.{digest_of_uses, uses_of}
+use Rattle.lineage_store.specs.root_laws.Naming.{digest_of_uses}
 use Rattle.lineage_store.specs.root_laws.Root.{sentinel, is_among, keys_of}
-use Rattle.forward_links.specs.declared.open_list.OpenList.{OpenList}
-use Rattle.forward_links.specs.Lists.{open_of}
-use Rattle.forward_links.specs.declared.limits.TheConstants.{MAX_USES}
-use Rattle.lineage_index.specs.Growth.{Entry, leaf_with, entry_of, changed_at}
+use Rattle.forward_links.specs.declared.kept_list.KeptList.{KeptList}
+use Rattle.forward_links.specs.Lists.{Use, kept_of}
+use Rattle.lineage_index.specs.Growth.{Entry, leaf_with, entry_of, changed_at, uses_at}
 
 -- The leaves of some keys, with an entry for each, and the sentinel before them.
 abbrev pub leaves_with : List (List ℕ) → (List ℕ → Entry) → List Leaf
@@ -32,8 +31,8 @@ abbrev pub newest_at : List Row → List ℕ → ℕ
 newest_at rows key = index_or_zero (newest_index rows key)
 
 -- The forward list of the newest version of a key, which is open.
-abbrev pub open_list : List Row → List ℕ → List Dep
-open_list rows key = uses_of rows key (newest rows key)
+abbrev pub open_list : List Row → List ℕ → List Use
+open_list rows key = uses_at rows key (newest rows key)
 
 -- The index of a key among these keys; `None` if it is not among them.
 abbrev pub IsKeyIndex : List (List ℕ) → List ℕ → Option ℕ → Type 0
@@ -41,15 +40,12 @@ IsKeyIndex keys key None = is_among keys key ≡ false
 IsKeyIndex keys key (Some index) = slice_get keys index ≡ Some key
 
 -- What is kept of the lists of some keys, each key once, in the order of their leaves.
-pub record AreLists (tree : List Leaf) (lists : List OpenList) (keys : List (List ℕ)) (list : List ℕ → List Dep) : Type 0 where
+pub record AreLists (tree : List Leaf) (lists : List KeptList) (keys : List (List ℕ))
+    (list : List ℕ → List Use) : Type 0 where
   pub apart : AllPairs ◌≢◌ keys
   pub entry : List ℕ → Entry
   pub leaves_are : tree ≡ leaves_with keys entry
-  pub lists_are : lists ≡ map open_of (map list keys)
-
--- Each of these lists stays below the greatest number of uses with `more` uses added.
-abbrev pub HaveRoom : (List ℕ → List Dep) → ℕ → Type 0
-HaveRoom list more = (key : List ℕ) → length (list key) + more < MAX_USES
+  pub lists_are : lists ≡ map kept_of (map list keys)
 
 -- ---- all that is kept of keys
 
@@ -57,14 +53,15 @@ HaveRoom list more = (key : List ℕ) → length (list key) + more < MAX_USES
 pub record KeyStates : Type 0 where
   pub keys : List (List ℕ)
   pub entry : List ℕ → Entry
-  pub list : List ℕ → List Dep
+  pub list : List ℕ → List Use
   pub index : List ℕ → ℕ
 
 -- Leaves, lists and indexes are those of some keys, each key once.
-pub record AreHeads (tree : List Leaf) (lists : List OpenList) (newest : List ℕ) (states : KeyStates) : Type 0 where
+pub record AreHeads (tree : List Leaf) (lists : List KeptList) (newest : List ℕ)
+    (states : KeyStates) : Type 0 where
   pub apart : AllPairs ◌≢◌ states.keys
   pub leaves_are : tree ≡ leaves_with states.keys states.entry
-  pub lists_are : lists ≡ map open_of (map states.list states.keys)
+  pub lists_are : lists ≡ map kept_of (map states.list states.keys)
   pub newest_are : newest ≡ map states.index states.keys
 
 -- The states with one key more, which has an empty list, and whose newest row is the one at this

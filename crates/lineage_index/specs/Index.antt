@@ -6,4 +6,5 @@ use Rattle.lineage_index.specs.Blocks.{IsKeptIndex}
 
 -- This is the index over these rows, which are of the first `blocks` blocks.
 abbrev pub IsIndexOf : List Row → ℕ → LineageIndex → Type 0
-IsIndexOf rows blocks index = IsKeptIndex rows blocks index.tree index.lists index.newest.items index.store
+IsIndexOf rows blocks index = IsKeptIndex rows blocks index.tree index.lists index.newest.items
+    index.store index.closed.items

@@ -7,8 +7,8 @@ use Rattle.lineage_store.specs.entry_store.Entries.{Entry as StoreEntry}
 use Rattle.lineage_store.specs.root_laws.Root.{keys_of}
 use Rattle.state_tree.specs.declared.states.LeafState.{LeafState}
 use Rattle.state_tree.specs.Leaves.{index_of, state_of_leaf}
-use Rattle.forward_links.specs.declared.open_list.OpenList.{OpenList}
-use Rattle.forward_links.specs.Lists.{open_of}
+use Rattle.forward_links.specs.declared.kept_list.KeptList.{KeptList}
+use Rattle.forward_links.specs.Lists.{kept_of}
 use Rattle.lineage_index.specs.Growth.{Entry, leaf_with, entry_of}
 use Rattle.lineage_index.specs.Heads.{newest_at, open_list}
 use Rattle.lineage_index.specs.Settling.{IsStoreOf}
@@ -39,7 +39,8 @@ abbrev pub state_of : List Row → ℕ → LeafState
 state_of rows index = state_of_entry (keys_of rows) index (entry_of rows (key_at (keys_of rows) index))
 
 -- The entries of the rows of a history, and what is kept of its keys beside the leaves.
-pub record AreBesideLeaves (rows : List Row) (lists : List OpenList) (newest : List ℕ) (entries : List StoreEntry) : Type 0 where
+pub record AreBesideLeaves (rows : List Row) (lists : List KeptList) (newest : List ℕ)
+    (entries : List StoreEntry) : Type 0 where
   pub store : IsStoreOf rows entries
-  pub lists_are : lists ≡ map open_of (map (open_list rows) (keys_of rows))
+  pub lists_are : lists ≡ map kept_of (map (open_list rows) (keys_of rows))
   pub newest_are : newest ≡ map (newest_at rows) (keys_of rows)

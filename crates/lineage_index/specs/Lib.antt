@@ -2,6 +2,7 @@ pub mod Growth
 pub mod Heads
 pub mod Settling
 pub mod Leaves
+pub mod Closed
 pub mod NewEntries
 pub mod Blocks
 pub mod Index

@@ -12,7 +12,8 @@ use Rattle.prov_entry.specs.Spelling.{body_fields}
 use Rattle.lineage_store.specs.root_laws.Naming.{digest_of_uses}
 use Rattle.lineage_store.specs.root_laws.Root.{is_among, keys_of, sentinel}
 use Rattle.state_tree.specs.Leaves.{index_of}
-use Rattle.forward_links.specs.declared.open_list.OpenList.{OpenList}
+use Rattle.forward_links.specs.declared.kept_list.KeptList.{KeptList}
+use Rattle.forward_links.specs.Lists.{Use}
 use Rattle.lineage_store.specs.entry_store.Entries.{Entry as StoreEntry}
 use Rattle.lineage_store.specs.Entries.{entries_of}
 use Rattle.lineage_store.specs.declared.growing.NewVersion.{NewVersion}
@@ -25,7 +26,8 @@ states_with_uses rows new = record { keys = keys_of rows; entry = entry_of rows;
 
 -- The parts of an index are those of a history, whose lists have the uses of these rows of block
 -- `n` too.
-pub record AreUsing (rows new : List Row) (n : ℕ) (tree : List Leaf) (lists : List OpenList) (newest : List ℕ) : Type 0 where
+pub record AreUsing (rows new : List Row) (n : ℕ) (tree : List Leaf) (lists : List KeptList)
+    (newest : List ℕ) : Type 0 where
   pub grows : Grows rows new n
   pub heads : AreHeads tree lists newest (states_with_uses rows new)
 
@@ -41,7 +43,7 @@ abbrev pub dep_with : (List ℕ → Entry) → Dep → BodyDep
 dep_with entry dep = record { key = dep.key; block = dep.block; digest = (entry dep.key).newest }
 
 -- The list of a key, or an empty list if the key is not among these.
-abbrev pub list_if_among : List (List ℕ) → (List ℕ → List Dep) → List ℕ → List Dep
+abbrev pub list_if_among : List (List ℕ) → (List ℕ → List Use) → List ℕ → List Use
 list_if_among keys list key = if is_among keys key then list key else []
 
 -- The body of a row, with the digests of its dependencies from the entries of their keys.

@@ -12,6 +12,7 @@ use crate::spelling::spell_rows;
 use forward_links::OpenLists;
 use lc_base::{Memory, Row, TextList};
 use lineage_store::Store;
+use rows_index::IndexList;
 use state_tree::Tree;
 use std::alloc::Global;
 
@@ -24,18 +25,24 @@ pub(crate) fn advance(
     lists: &mut OpenLists,
     newest: &mut Vec<u32>,
     store: &mut Store,
+    closed: &mut Vec<IndexList>,
     new: &[Row],
 ) -> Result<TextList, Memory>
-    requires { (rows : List Row) × (n : ℕ) × Grows rows new.now n × IsKeptIndex rows n tree.old lists.old newest.old.items store.old }
-    ensures kept { (rows : List Row) (n : ℕ) → Grows rows new.now n → IsKeptIndex rows n tree.old lists.old newest.old.items store.old
-        → OnOk result (IsKeptIndex (rows ++ new.now) (n + 1) tree.new lists.new newest.new.items store.new) }
-    ensures bodies { (rows : List Row) (n : ℕ) → Grows rows new.now n → IsKeptIndex rows n tree.old lists.old newest.old.items store.old
+    requires { (rows : List Row) × (n : ℕ) × Grows rows new.now n
+        × IsKeptIndex rows n tree.old lists.old newest.old.items store.old closed.old.items }
+    ensures kept { (rows : List Row) (n : ℕ) → Grows rows new.now n
+        → IsKeptIndex rows n tree.old lists.old newest.old.items store.old closed.old.items
+        → OnOk result (IsKeptIndex (rows ++ new.now) (n + 1) tree.new lists.new newest.new.items
+        store.new closed.new.items) }
+    ensures bodies { (rows : List Row) (n : ℕ) → Grows rows new.now n
+        → IsKeptIndex rows n tree.old lists.old newest.old.items store.old closed.old.items
         → IfOk result (λ bodies. bodies ≡ map (bytes_of_body (rows ++ new.now)) new.now) }
 {
     let first = store.count();
-    let bodies = spell_rows(alloc, tree, lists, new)?;
+    let mut touched = Vec::new(alloc);
+    let bodies = spell_rows(alloc, tree, lists, &mut touched, first, new)?;
     add_entries(alloc, tree, lists, newest, store, new, bodies.as_slice())?;
-    settle_rows(tree, lists, newest, first, new)?;
-    renew_leaves(alloc, tree, lists, newest, store, new)?;
+    settle_rows(tree, lists, newest, closed, first, new)?;
+    renew_leaves(alloc, tree, lists, newest, store, touched, new)?;
     Ok(bodies)
 }

@@ -1,17 +1,40 @@
 //! The index over the rows of a lineage. It grows by whole blocks and keeps no rows: a lookup
 //! starts at the entry of the key's newest row, and follows the links of entries.
 
-ghost use Rattle.std.specs.Prelude.{◌≡◌, ℕ, ◌<◌, List, [], ◌+◌, ◌++◌, length, map, slice_get, Some, IfOk, OnOk};
-ghost use Rattle.lc_base.specs.{declared.row.Row.{Row}, History.{latest}};
+ghost use Rattle.std.specs.Prelude.{
+  ◌≡◌,
+  ℕ,
+  ◌<◌,
+  List,
+  [],
+  ◌+◌,
+  ◌++◌,
+  length,
+  map,
+  slice_get,
+  None,
+  Some,
+  IfOk,
+  MatchOption,
+  OnOk,
+};
+ghost use Rattle.lc_base.specs.{declared.row.Row.{Row}, History.{latest, newest, uses}};
 ghost use Rattle.lineage_store.specs.skip_links.Versions.{newest_index};
-ghost use Rattle.lineage_store.specs.skip_path.Paths.{path};
-ghost use Rattle.rows_index.specs.Places.{IsRowAt};
+ghost use Rattle.lineage_store.specs.skip_links.Paths.{path};
+ghost use Rattle.rows_index.specs.{Places.{IsRowAt}, Users.{AreVersionsAt, users}};
 ghost use Rattle.lineage_store.specs.root_laws.{Naming.{header_of}, Root.{leaves}};
 ghost use Rattle.lineage_store.specs.entry_store.Steps.{raised_count};
 ghost use Rattle.lineage_store.specs.{Entries.{entries_of, IsNewestOf}, OnPath.{AreEntriesIn}};
-ghost use Rattle.lineage_index.specs.{Growth.{Grows}, Blocks.{IsKeptIndex, bytes_of_body}, Index.{IsIndexOf}};
+ghost use Rattle.lineage_index.specs.{
+  Growth.{Grows},
+  Blocks.{IsKeptIndex, bytes_of_body},
+  Closed.{IsOpenListOf, closed_users},
+  Index.{IsIndexOf},
+};
 
 use crate::advancing::advance;
+use crate::heads::index_of;
+use crate::leaves::newest_at;
 use crate::newest_row::{newest_entry_of, newest_row_of};
 use forward_links::OpenLists;
 use lc_base::{Key, Memory, Row, TextList};
@@ -20,6 +43,7 @@ use lineage_store::{
 };
 use prov_entry::Header;
 use resources::Resources;
+use rows_index::IndexList;
 use state_tree::Tree;
 
 /// The leaves, open lists and newest rows of keys, and the entries of rows. It does not keep the rows.
@@ -29,6 +53,7 @@ pub struct LineageIndex {
     lists: OpenLists,
     newest: Vec<u32>,
     store: Store,
+    closed: Vec<IndexList>,
 }
 
 impl LineageIndex {
@@ -44,28 +69,38 @@ impl LineageIndex {
             lists: OpenLists::new(resources.alloc),
             newest: Vec::new(resources.alloc),
             store,
+            closed: Vec::new(resources.alloc),
         })
     }
 
-    /// The index made of these parts, which `lineage_front` makes of entries.
-    pub fn of_parts(tree: Tree, lists: OpenLists, newest: Vec<u32>, store: Store) -> LineageIndex
-        ensures { (rows : List Row) (n : ℕ) → IsKeptIndex rows n tree lists newest.items store → IsIndexOf rows n result }
+    /// The index made of these parts, which `lineage_rewind` makes of entries.
+    pub fn of_parts(
+        tree: Tree,
+        lists: OpenLists,
+        newest: Vec<u32>,
+        store: Store,
+        closed: Vec<IndexList>,
+    ) -> LineageIndex
+        ensures { (rows : List Row) (n : ℕ) → IsKeptIndex rows n tree lists newest.items store
+            closed.items → IsIndexOf rows n result }
     {
         LineageIndex {
             tree,
             lists,
             newest,
             store,
+            closed,
         }
     }
 
-    /// Adds the rows of the next block, and returns the bytes of their bodies. On `Memory` only a part of
-    /// the block may be there.
+    /// Adds the rows of the next block, and returns the bytes of their bodies. On `Memory` only a
+    /// part of the block may be there, and nothing is known of the index: drop it.
     pub fn add_block(&mut self, new: &[Row]) -> Result<TextList, Memory>
         requires { (rows : List Row) × (n : ℕ) × Grows rows new.now n × IsIndexOf rows n self.old }
         ensures index { (rows : List Row) (n : ℕ) → Grows rows new.now n → IsIndexOf rows n self.old
             → OnOk result (IsIndexOf (rows ++ new.now) (n + 1) self.new) }
-        ensures bodies { (rows : List Row) (n : ℕ) → Grows rows new.now n → IsIndexOf rows n self.old
+        ensures bodies { (rows : List Row) (n : ℕ) → Grows rows new.now n
+            → IsIndexOf rows n self.old
             → IfOk result (λ bodies. bodies ≡ map (bytes_of_body (rows ++ new.now)) new.now) }
     {
         let alloc = *self.newest.allocator();
@@ -75,6 +110,7 @@ impl LineageIndex {
             &mut self.lists,
             &mut self.newest,
             &mut self.store,
+            &mut self.closed,
             new,
         )?;
         Ok(bodies)
@@ -132,6 +168,63 @@ impl LineageIndex {
     {
         let alloc = *self.newest.allocator();
         entries_on_path(alloc, &self.store, self.newest_entry(key), at, steps)
+    }
+
+    /// The open list of a key: the indexes of the rows that were derived from its newest row, in
+    /// order. `None` exactly if the key has no row.
+    pub fn open_list(&self, key: &Key) -> Option<&[u32]>
+        requires { (rows : List Row) × (n : ℕ) × IsIndexOf rows n self.now }
+        ensures { (rows : List Row) (n : ℕ) → IsIndexOf rows n self.now
+            → MatchOption result (newest rows key.now ≡ None)
+            (λ list. IsOpenListOf rows key.now list.now) }
+    {
+        match index_of(&self.tree, key) {
+            None => None,
+            Some(index) => Some(self.lists.list(index)),
+        }
+    }
+
+    /// The list of the row at an index, once it was closed: the indexes of the rows that were
+    /// derived from it, in order. It is empty while the row is the newest of its key.
+    pub fn closed_list(&self, index: u32) -> &[u32]
+        requires { (rows : List Row) × (n : ℕ) × IsIndexOf rows n self.now × (index < length rows) }
+        ensures { (rows : List Row) (n : ℕ) (row : Row) → IsIndexOf rows n self.now
+            → slice_get rows index ≡ Some row → result.now ≡ closed_users rows rows index row }
+    {
+        self.closed[index as usize].as_slice()
+    }
+
+    /// The list of the row at an index, whose key is given: the open list of the key if it is the
+    /// newest row of the key.
+    fn list_of(&self, key: &Key, index: u32) -> &[u32]
+        requires { (rows : List Row) × (n : ℕ) × (row : Row) × IsIndexOf rows n self.now
+            × (slice_get rows index ≡ Some row) × (key.now ≡ row.key) }
+        ensures { (rows : List Row) (n : ℕ) (row : Row) → IsIndexOf rows n self.now
+            → slice_get rows index ≡ Some row → key.now ≡ row.key → result.now ≡ users rows row }
+    {
+        match index_of(&self.tree, key) {
+            None => unreachable!(),
+            Some(at) => {
+                if newest_at(self.newest.as_slice(), at) == index {
+                    self.lists.list(at)
+                } else {
+                    self.closed_list(index)
+                }
+            }
+        }
+    }
+
+    /// The indexes of the rows that were derived from the row at an index, in order.
+    pub fn uses(&self, index: u32) -> &[u32]
+        requires { (rows : List Row) × (n : ℕ) × IsIndexOf rows n self.now × (index < length rows) }
+        ensures indexes { (rows : List Row) (n : ℕ) (row : Row) → IsIndexOf rows n self.now
+            → slice_get rows index ≡ Some row → result.now ≡ users rows row }
+        ensures versions { (rows : List Row) (n : ℕ) (row : Row) → IsIndexOf rows n self.now
+            → slice_get rows index ≡ Some row
+            → AreVersionsAt rows result.now (uses rows row.key row.block) }
+    {
+        let facts = self.store.facts(EntryId(index));
+        self.list_of(&facts.key, index)
     }
 
     /// The header of the row at an index, made again of its entry.

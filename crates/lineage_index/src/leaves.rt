@@ -8,8 +8,8 @@ ghost use Rattle.std.specs.{
 ghost use Rattle.lc_base.specs.declared.row.Row.{Row};
 ghost use Rattle.lineage_store.specs.root_laws.Root.{keys_of};
 ghost use Rattle.lineage_index.specs.{
-  Growth.{Entry, keys_touched},
-  Leaves.{AreBesideLeaves, IsLeafIndex, state_of},
+  Growth.{Entry, deps_touched, keys_touched},
+  Leaves.{AreBesideLeaves, IsLeafIndex, leaf_indexes, state_of},
   Settling.{AreRenewing},
 };
 
@@ -67,20 +67,22 @@ fn leaf_states(
 }
 
 /// Sets the leaves of all keys that the rows of a block touch, together: of their own keys, and of
-/// those that they depend on.
+/// those that they depend on. `touched` has the indexes of the leaves of the latter.
 pub(crate) fn renew_leaves(
     alloc: Global,
     tree: &mut Tree,
     lists: &OpenLists,
     newest: &[u32],
     store: &Store,
+    touched: Vec<u32>,
     new: &[Row],
 ) -> Result<(), Memory>
-    requires { (rows : List Row) × (entry : List ℕ → Entry) × AreRenewing rows entry [] tree.old lists.now newest.now store.now }
+    requires touched { touched.items ≡ leaf_indexes tree.old (deps_touched new.now) }
+    requires renewing { (rows : List Row) × (entry : List ℕ → Entry) × AreRenewing rows entry [] tree.old lists.now newest.now store.now }
     ensures { (rows : List Row) (entry : List ℕ → Entry) → AreRenewing rows entry [] tree.old lists.now newest.now store.now
         → OnOk result (AreRenewing rows entry (keys_touched new.now) tree.new lists.now newest.now store.now) }
 {
-    let indexes = touched_indexes(alloc, tree, new)?;
+    let indexes = touched_indexes(tree, touched, new)?;
     let states = leaf_states(alloc, lists, newest, store, &indexes)?;
     tree.set_leaves(&states)?;
     Ok(())

@@ -2,8 +2,8 @@
 //! lists with the uses of the whole block.
 
 ghost use Rattle.std.specs.Prelude.{◌≡◌, ◌++◌, ◌∷◌, [], ℕ, List, map, OnOk};
-ghost use Rattle.lc_base.specs.{declared.row.Row.{Row}, declared.row.Dep.{Dep}};
-ghost use Rattle.forward_links.specs.Lists.{open_of};
+ghost use Rattle.lc_base.specs.declared.row.Row.{Row};
+ghost use Rattle.forward_links.specs.Lists.{Use, open_of, versions_of};
 ghost use Rattle.lineage_store.specs.Entries.{entries_of};
 ghost use Rattle.lineage_index.specs.{
   Heads.{AreLists},
@@ -20,8 +20,10 @@ use std::alloc::Global;
 
 /// The list that a new version of the key closes; an empty list if the key has no leaf.
 fn closed_by(tree: &Tree, lists: &OpenLists, key: &Key) -> OpenList
-    requires { (keys : List (List ℕ)) × (list : List ℕ → List Dep) × AreLists tree.now lists.now keys list }
-    ensures { (keys : List (List ℕ)) (list : List ℕ → List Dep) → AreLists tree.now lists.now keys list → result ≡ open_of (list_if_among keys list key.now) }
+    requires { (keys : List (List ℕ)) × (list : List ℕ → List Use)
+        × AreLists tree.now lists.now keys list }
+    ensures { (keys : List (List ℕ)) (list : List ℕ → List Use)
+        → AreLists tree.now lists.now keys list → result ≡ open_of (list_if_among keys list key.now) }
 {
     match index_of(tree, key) {
         None => OpenList::new(),
@@ -31,9 +33,11 @@ fn closed_by(tree: &Tree, lists: &OpenLists, key: &Key) -> OpenList
 
 /// The version of a row.
 fn new_version(tree: &Tree, lists: &OpenLists, row: &Row) -> NewVersion
-    requires { (keys : List (List ℕ)) × (list : List ℕ → List Dep) × AreLists tree.now lists.now keys list }
-    ensures { (keys : List (List ℕ)) (list : List ℕ → List Dep) → AreLists tree.now lists.now keys list
-        → IsVersionOf (list_if_among keys list row.now.key) row.now result }
+    requires { (keys : List (List ℕ)) × (list : List ℕ → List Use)
+        × AreLists tree.now lists.now keys list }
+    ensures { (keys : List (List ℕ)) (list : List ℕ → List Use)
+        → AreLists tree.now lists.now keys list
+        → IsVersionOf (versions_of (list_if_among keys list row.now.key)) row.now result }
 {
     let closed = closed_by(tree, lists, &row.key);
     NewVersion {

@@ -1,18 +1,29 @@
 //! The bodies of a block's rows, which name what the rows depend on. Each dependency is looked up
-//! once: its leaf has the digest that the body names, and its key's open list gets the use.
+//! once: its leaf has the digest that the body names and is touched, and its key's open list gets
+//! the use.
 
 ghost use Rattle.std.specs.{
-  Prelude.{◌≡◌, ◌≤◌, ◌++◌, ◌∷◌, [], ℕ, List, length, map, IfOk, OnOk},
+  Prelude.{◌≡◌, ◌≤◌, ◌++◌, ◌∷◌, ◌+◌, [], ℕ, List, length, map, IfOk, OnOk},
   List.{All},
 };
 ghost use Rattle.lc_base.specs.{
-  declared.limits.TheConstants.{MAX_DEPS},
+  declared.limits.TheConstants.{MAX_DEPS, MAX_ROWS},
   declared.row.Dep.{Dep},
   declared.row.Row.{Row},
 };
+ghost use Rattle.forward_links.specs.Lists.{Use};
 ghost use Rattle.lineage_index.specs.{
-  Growth.{changed_at, list_with_uses, used_by_row, used_by, HaveDistinctKeys},
-  Heads.{AreLists, HaveRoom},
+  Growth.{
+    changed_at,
+    list_with_uses,
+    used_by_row,
+    used_by,
+    HaveDistinctKeys,
+    keys_of_deps,
+    deps_touched,
+  },
+  Heads.{AreLists},
+  Leaves.{leaf_indexes},
   NewEntries.{newest_in, dep_in, bytes_in},
 };
 
@@ -23,99 +34,161 @@ use prov_entry::{Body, BodyDep, BodyDepList, write_body};
 use state_tree::Tree;
 use std::alloc::Global;
 
-/// Adds a use to the open list of a key, and returns the digest of the header of the key's newest
-/// version, which is in its leaf; zeros if the key has no leaf.
-fn add_use(tree: &Tree, lists: &mut OpenLists, key: &Key, user: &Dep) -> Digest
-    requires { (keys : List (List ℕ)) × (list : List ℕ → List Dep) × AreLists tree.now lists.old keys list × HaveRoom list 0 }
-    ensures digest { result ≡ newest_in tree.now key.now }
-    ensures lists { (keys : List (List ℕ)) (list : List ℕ → List Dep) → AreLists tree.now lists.old keys list
-        → AreLists tree.now lists.new keys (changed_at list key.now (list key.now ++ user.now ∷ [])) }
+/// A row that depends on others: its version, and its index.
+#[derive(Clone, Copy)]
+struct User {
+    version: Dep,
+    row: u32,
+}
+
+/// Adds a use to the open list of a key, and returns the digest of the header of its newest row,
+/// which is in the leaf of the key; zeros if the key has no leaf. The index of the leaf is appended
+/// to those that are touched.
+fn add_use(
+    tree: &Tree,
+    lists: &mut OpenLists,
+    touched: &mut Vec<u32>,
+    key: &Key,
+    user: &User,
+) -> Result<Digest, Memory>
+    requires { (keys : List (List ℕ)) × (list : List ℕ → List Use)
+        × AreLists tree.now lists.old keys list }
+    ensures digest { IfOk result (λ digest. digest ≡ newest_in tree.now key.now) }
+    ensures lists { (keys : List (List ℕ)) (list : List ℕ → List Use)
+        → AreLists tree.now lists.old keys list
+        → OnOk result (AreLists tree.now lists.new keys (changed_at list key.now (list key.now ++
+        record { version = user.now.version; row = user.now.row } ∷ []))) }
+    ensures touched { OnOk result (touched.new.items ≡ touched.old.items ++
+        leaf_indexes tree.now (key.now ∷ [])) }
 {
     match index_of(tree, key) {
-        None => Digest([0; 32]),
+        None => Ok(Digest([0; 32])),
         Some(index) => {
-            lists.add(index, user);
-            tree.leaf(index + 1).newest
+            lists.add(index, &user.version, user.row)?;
+            touched.push(index + 1)?;
+            Ok(tree.leaf(index + 1).newest)
         }
     }
 }
 
-/// Adds a use to the open list of the key of a dependency, and returns the dependency with the digest
-/// of its header.
-fn name_dep(tree: &Tree, lists: &mut OpenLists, dep: &Dep, user: &Dep) -> BodyDep
-    requires { (keys : List (List ℕ)) × (list : List ℕ → List Dep) × AreLists tree.now lists.old keys list × HaveRoom list 0 }
-    ensures named { result ≡ dep_in tree.now dep.now }
-    ensures lists { (keys : List (List ℕ)) (list : List ℕ → List Dep) → AreLists tree.now lists.old keys list
-        → AreLists tree.now lists.new keys (changed_at list dep.now.key (list dep.now.key ++ user.now ∷ [])) }
+/// Adds a use to the list of a dependency, and returns the dependency with the digest of its
+/// header.
+fn name_dep(
+    tree: &Tree,
+    lists: &mut OpenLists,
+    touched: &mut Vec<u32>,
+    dep: &Dep,
+    user: &User,
+) -> Result<BodyDep, Memory>
+    requires { (keys : List (List ℕ)) × (list : List ℕ → List Use)
+        × AreLists tree.now lists.old keys list }
+    ensures named { IfOk result (λ named. named ≡ dep_in tree.now dep.now) }
+    ensures lists { (keys : List (List ℕ)) (list : List ℕ → List Use)
+        → AreLists tree.now lists.old keys list
+        → OnOk result (AreLists tree.now lists.new keys (changed_at list dep.now.key (list
+        dep.now.key ++ record { version = user.now.version; row = user.now.row } ∷ []))) }
+    ensures touched { OnOk result (touched.new.items ≡ touched.old.items ++
+        leaf_indexes tree.now (dep.now.key ∷ [])) }
 {
-    let digest = add_use(tree, lists, &dep.key, user);
-    BodyDep {
+    let digest = add_use(tree, lists, touched, &dep.key, user)?;
+    Ok(BodyDep {
         key: dep.key,
         block: dep.block,
         digest,
-    }
+    })
 }
 
-/// Adds a use to the open list of the key of each dependency, and returns the dependencies with the
-/// digests of their headers.
+/// Adds a use to the list of each dependency, and returns the dependencies with the digests of
+/// their headers.
 fn name_deps(
-    alloc: Global,
     tree: &Tree,
     lists: &mut OpenLists,
+    touched: &mut Vec<u32>,
     deps: &[Dep],
-    user: &Dep,
+    user: &User,
 ) -> Result<BodyDepList, Memory>
     requires distinct { HaveDistinctKeys deps.now }
-    requires lists { (keys : List (List ℕ)) × (list : List ℕ → List Dep) × AreLists tree.now lists.old keys list × HaveRoom list 1 }
+    requires lists { (keys : List (List ℕ)) × (list : List ℕ → List Use)
+        × AreLists tree.now lists.old keys list }
     ensures named { IfOk result (λ list. list ≡ map (dep_in tree.now) deps.now) }
-    ensures lists { (keys : List (List ℕ)) (list : List ℕ → List Dep) → AreLists tree.now lists.old keys list
-        → OnOk result (AreLists tree.now lists.new keys (list_with_uses list user.now deps.now)) }
+    ensures lists { (keys : List (List ℕ)) (list : List ℕ → List Use)
+        → AreLists tree.now lists.old keys list
+        → OnOk result (AreLists tree.now lists.new keys (list_with_uses list
+        (record { version = user.now.version; row = user.now.row }) deps.now)) }
+    ensures touched { OnOk result (touched.new.items ≡ touched.old.items ++
+        leaf_indexes tree.now (map (λ (dep : Dep). dep.key) deps.now)) }
 {
-    let mut list = BodyDepList::new(alloc);
+    let mut list = BodyDepList::new(*touched.allocator());
     for dep in deps {
-        list.push(name_dep(tree, lists, dep, user))?;
+        let named = name_dep(tree, lists, touched, dep, user)?;
+        list.push(named)?;
     }
     Ok(list)
 }
 
-/// The bytes of the fields of a row's body. Its uses are added to the open lists.
-fn spell_row(alloc: Global, tree: &Tree, lists: &mut OpenLists, row: &Row) -> Result<Bytes, Memory>
+/// The bytes of the fields of the body of the row with this index. The row is added to the lists of
+/// its dependencies.
+fn spell_row(
+    alloc: Global,
+    tree: &Tree,
+    lists: &mut OpenLists,
+    touched: &mut Vec<u32>,
+    index: u32,
+    row: &Row,
+) -> Result<Bytes, Memory>
     requires few { length row.now.deps ≤ MAX_DEPS }
     requires distinct { HaveDistinctKeys row.now.deps }
-    requires lists { (keys : List (List ℕ)) × (list : List ℕ → List Dep) × AreLists tree.now lists.old keys list × HaveRoom list 1 }
+    requires lists { (keys : List (List ℕ)) × (list : List ℕ → List Use)
+        × AreLists tree.now lists.old keys list }
     ensures spelled { IfOk result (λ bytes. bytes ≡ bytes_in tree.now row.now) }
-    ensures lists { (keys : List (List ℕ)) (list : List ℕ → List Dep) → AreLists tree.now lists.old keys list
-        → OnOk result (AreLists tree.now lists.new keys (used_by_row list row.now)) }
+    ensures lists { (keys : List (List ℕ)) (list : List ℕ → List Use)
+        → AreLists tree.now lists.old keys list
+        → OnOk result (AreLists tree.now lists.new keys (used_by_row list index row.now)) }
+    ensures touched { OnOk result (touched.new.items ≡ touched.old.items ++
+        leaf_indexes tree.now (keys_of_deps row.now)) }
 {
-    let user = Dep {
-        key: row.key,
-        block: row.block,
+    let user = User {
+        version: Dep {
+            key: row.key,
+            block: row.block,
+        },
+        row: index,
     };
     let value = row.value.copy(alloc)?;
-    let deps = name_deps(alloc, tree, lists, row.deps.as_slice(), &user)?;
+    let deps = name_deps(tree, lists, touched, row.deps.as_slice(), &user)?;
     let bytes = write_body(alloc, &Body { value, deps })?;
     Ok(bytes)
 }
 
-/// The bytes of the fields of the bodies of a block's rows. The uses of the rows are added to the open
-/// lists, row by row. On `Memory` only some of them may be there.
+/// The bytes of the fields of the bodies of a block's rows, the first of which has this index. The
+/// uses of the rows are added to the open lists, and the indexes of the leaves of their
+/// dependencies to those that are touched, row by row. On `Memory` only some of them may be there.
 pub(crate) fn spell_rows(
     alloc: Global,
     tree: &Tree,
     lists: &mut OpenLists,
-    rows: &[Row],
+    touched: &mut Vec<u32>,
+    first: u32,
+    new: &[Row],
 ) -> Result<TextList, Memory>
-    requires few { All (λ (row : Row). length row.deps ≤ MAX_DEPS) rows.now }
-    requires distinct { All (λ (row : Row). HaveDistinctKeys row.deps) rows.now }
-    requires lists { (keys : List (List ℕ)) × (list : List ℕ → List Dep) × AreLists tree.now lists.old keys list × HaveRoom list (length rows.now) }
-    ensures spelled { IfOk result (λ bodies. bodies ≡ map (bytes_in tree.now) rows.now) }
-    ensures lists { (keys : List (List ℕ)) (list : List ℕ → List Dep) → AreLists tree.now lists.old keys list
-        → OnOk result (AreLists tree.now lists.new keys (used_by list rows.now)) }
+    requires room { first + length new.now ≤ MAX_ROWS }
+    requires few { All (λ (row : Row). length row.deps ≤ MAX_DEPS) new.now }
+    requires distinct { All (λ (row : Row). HaveDistinctKeys row.deps) new.now }
+    requires lists { (keys : List (List ℕ)) × (list : List ℕ → List Use)
+        × AreLists tree.now lists.old keys list }
+    ensures spelled { IfOk result (λ bodies. bodies ≡ map (bytes_in tree.now) new.now) }
+    ensures lists { (keys : List (List ℕ)) (list : List ℕ → List Use)
+        → AreLists tree.now lists.old keys list
+        → OnOk result (AreLists tree.now lists.new keys (used_by list first new.now)) }
+    ensures touched { OnOk result (touched.new.items ≡ touched.old.items ++
+        leaf_indexes tree.now (deps_touched new.now)) }
 {
     let mut bodies = TextList::new(alloc);
-    for row in rows {
-        let body = spell_row(alloc, tree, lists, row)?;
+    let mut index = first;
+    for row in new {
+        let body = spell_row(alloc, tree, lists, touched, index, row)?;
         bodies.push(body)?;
+        index += 1;
     }
     Ok(bodies)
 }

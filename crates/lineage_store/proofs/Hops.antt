@@ -15,7 +15,7 @@ use Rattle.skip_links.specs.Falling.{IsFalling}
 use Rattle.skip_links.proofs.Falls.{all_lower}
 use Rattle.skip_links.proofs.Threads.{row_at}
 use Rattle.skip_links.proofs.Towers.{ordered_fall}
-use Rattle.skip_list.proofs.skip_path.Towers.{tower_holds}
+use Rattle.skip_list.proofs.skip_links.PathTowers.{tower_holds}
 use Rattle.skip_list.specs.entry_store.declared.entry.Hop.{Hop}
 use Rattle.skip_list.specs.entry_store.declared.entry.Links.{Links}
 use Rattle.skip_list.specs.entry_store.Entries.{Entry, LeadsBack}

@@ -12,7 +12,7 @@ use Rattle.std.proofs.lemmas.Slice.Eq.{bytes_eq-Decides}
 use Rattle.lc_base.specs.declared.row.Row.{Row}
 use Rattle.lc_base.specs.History.{StandsBefore}
 use Rattle.skip_links.specs.Falling.{IsFalling}
-use Rattle.skip_list.proofs.skip_path.OverRows.{key_falls}
+use Rattle.skip_list.proofs.skip_links.OverRows.{key_falls}
 use Rattle.skip_list.specs.entry_store.declared.entry.Hop.{Hop}
 use Rattle.skip_list.specs.entry_store.declared.entry.Links.{Links}
 use Rattle.skip_list.specs.entry_store.Entries.{Entry}

@@ -4,8 +4,8 @@ use Rattle.std.proofs.Common.{◌≡◌, ◌∙◌, ℕ, ◌^◌, ◌<◌, List,
 use Rattle.std.specs.Prelude.{slice_get, MatchOption, IfSome}
 use Rattle.lc_base.specs.declared.row.Row.{Row}
 use Rattle.lc_base.specs.History.{latest}
-use Rattle.skip_list.specs.skip_path.Paths.{path, path_over}
-use Rattle.skip_list.proofs.skip_path.Walks.{over_none}
+use Rattle.skip_list.specs.skip_links.Paths.{path, path_over}
+use Rattle.skip_list.proofs.skip_links.Walks.{over_none}
 use Rattle.skip_list.specs.entry_store.declared.entry.EntryId.{EntryId}
 use Rattle.skip_list.specs.entry_store.declared.entry.Hop.{Hop}
 use Rattle.skip_list.specs.entry_store.Entries.{Entry}

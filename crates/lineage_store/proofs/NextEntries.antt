@@ -11,7 +11,7 @@ use Rattle.lc_base.specs.History.{IsLawful, StandsBefore, up_to}
 use Rattle.skip_links.specs.Links.{links}
 use Rattle.skip_links.proofs.Falls.{all_lower}
 use Rattle.skip_links.proofs.Towers.{links_up_to}
-use Rattle.skip_list.proofs.skip_path.Towers.{tower_holds}
+use Rattle.skip_list.proofs.skip_links.PathTowers.{tower_holds}
 use Rattle.root_laws.specs.prov_entry.declared.entry.Header.{Header}
 use Rattle.root_laws.specs.prov_entry.declared.entry.Link.{Link}
 use Rattle.root_laws.specs.prov_entry.Spelling.{body_fields}

@@ -9,8 +9,8 @@ use Rattle.lc_base.specs.declared.memory.Memory.{Memory}
 use Rattle.lc_base.specs.declared.row.Dep.{Dep}
 use Rattle.lc_base.specs.declared.row.Row.{Row}
 use Rattle.lc_base.specs.History.{version_of}
-use Rattle.skip_list.specs.skip_path.Paths.{path, path_over}
-use Rattle.skip_list.proofs.skip_path.Walks.{over_none}
+use Rattle.skip_list.specs.skip_links.Paths.{path, path_over}
+use Rattle.skip_list.proofs.skip_links.Walks.{over_none}
 use Rattle.skip_list.specs.entry_store.declared.entry.EntryId.{EntryId}
 use Rattle.skip_list.specs.entry_store.declared.entry.Hop.{Hop}
 use Rattle.skip_list.specs.entry_store.Entries.{Entry}

@@ -14,10 +14,10 @@ use Rattle.skip_links.specs.Links.{links, is_older}
 use Rattle.skip_links.specs.Falling.{older_blocks}
 use Rattle.skip_links.specs.Versions.{newest_index, index_in_reverse}
 use Rattle.skip_links.proofs.Threads.{row_at}
-use Rattle.skip_list.specs.skip_path.Towers.{tower}
-use Rattle.skip_list.specs.skip_path.Paths.{path, path_over, blocks_of_key}
-use Rattle.skip_list.proofs.skip_path.Towers.{map_tower}
-use Rattle.skip_list.proofs.skip_path.OverRows.{links_tower, path_of_blocks}
+use Rattle.skip_list.specs.skip_links.Towers.{tower}
+use Rattle.skip_list.specs.skip_links.Paths.{path, path_over, blocks_of_key}
+use Rattle.skip_list.proofs.skip_links.PathTowers.{map_tower}
+use Rattle.skip_list.proofs.skip_links.OverRows.{links_tower, path_of_blocks}
 use Rattle.skip_list.specs.entry_store.declared.entry.EntryId.{EntryId}
 use Rattle.skip_list.specs.entry_store.declared.entry.Hop.{Hop}
 use Rattle.skip_list.specs.Towered.{block_of, blocks_of, links_over}

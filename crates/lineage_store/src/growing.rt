@@ -3,7 +3,7 @@
 
 ghost use Rattle.std.specs.Prelude.{◌≡◌, ◌≤◌, ◌+◌, ◌++◌, ◌∷◌, [], List, length, OnOk, OnErr, IfOk};
 ghost use Rattle.lc_base.specs.declared.row.Row.{Row};
-ghost use Rattle.skip_list.specs.skip_path.Paths.{binary_digits};
+ghost use Rattle.skip_list.specs.skip_links.Paths.{binary_digits};
 ghost use Rattle.skip_list.specs.entry_store.declared.entry.EntryId.{EntryId};
 ghost use Rattle.lineage_store.specs.{Entries.{entries_of}, Growing.{IsNextVersion}};
 

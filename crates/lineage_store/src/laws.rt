@@ -7,7 +7,7 @@ ghost use Rattle.std.specs.{
 };
 ghost use Rattle.lc_base.specs.{declared.row.Row.{Row}, History.{IsLawful, latest}};
 ghost use Rattle.skip_links.specs.{Links.{links}, Versions.{newest_index}};
-ghost use Rattle.skip_list.specs.skip_path.Paths.{path, path_over};
+ghost use Rattle.skip_list.specs.skip_links.Paths.{path, path_over};
 ghost use Rattle.root_laws.specs.prov_entry.Spelling.{IsBody};
 ghost use Rattle.root_laws.specs.{
   Naming.{header_of, body_of},

@@ -3,7 +3,7 @@
 
 ghost use Rattle.std.specs.Prelude.{◌≡◌, ◌<◌, ℕ, List, length, None, slice_get, IfOk, MatchOption};
 ghost use Rattle.lc_base.specs.{declared.row.Row.{Row}, History.{latest}};
-ghost use Rattle.skip_list.specs.skip_path.Paths.{path};
+ghost use Rattle.skip_list.specs.skip_links.Paths.{path};
 ghost use Rattle.skip_list.specs.entry_store.{declared.entry.EntryId.{EntryId}, Steps.{raised_count}};
 ghost use Rattle.lineage_store.specs.{Entries.{IsNewestOf}, OnPath.{AreEntriesIn}};
 

@@ -7,9 +7,9 @@ use crate::lineages::{ROOM, chain_of, lineage_of};
 use chain_gen::blocks_of_seed;
 use chain_replay::{Chain, Replay};
 use lc_base::{Answer, Kind, Query, Value};
+use lineage_host::ask;
 use lineage_store::Steps;
 use merkle_dag::Lineage;
-use prov_query::ask;
 use scratch_model::{MemScratch, Scratch};
 use std::alloc::Global;
 

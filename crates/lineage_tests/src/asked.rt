@@ -10,10 +10,9 @@ use crate::lineages::lineage_in_memory;
 use chain_pack::pack;
 use hex::FromHex;
 use lc_base::{Answer, Dep, DepList, Digest, Key, Kind, Query, Value};
-use lineage_reading::answer;
+use lineage_host::{AskError, answer, ask};
 use lineage_store::Steps;
 use merkle_dag::Lineage;
-use prov_query::{AskError, ask};
 use scratch_model::{MemScratch, Scratch};
 use std::alloc::Global;
 

@@ -1,5 +1,5 @@
-//! Tests of lineages that are read over scratch devices: what they answer, which bodies are read
-//! from the device, and that its faults are reported.
+//! Tests of lineages that are read over scratch devices: what they answer, which lists they hold,
+//! which bodies are read from the device, and that its faults are reported.
 #![tactic(auto)]
 
 #[cfg(test)]
@@ -10,5 +10,7 @@ mod asked;
 mod devices;
 #[cfg(test)]
 mod lineages;
+#[cfg(test)]
+mod lists;
 #[cfg(test)]
 mod long;

@@ -14,11 +14,9 @@ use Rattle.body_store.specs.Bodies.{KeptBody, BodiesState}
 use Rattle.lineage_index.specs.lineage_store.root_laws.Root.{root_of}
 use Rattle.lineage_index.proofs.lineage_store.root_laws.Lists.{all_weaker, keep_none}
 use Rattle.lineage_index.proofs.lineage_store.root_laws.UpToBlock.{earlier_roots_stay}
-use Rattle.rows_index.specs.declared.index.RowsIndex.{RowsIndex}
-use Rattle.rows_index.specs.Index.{IsIndexOf as IsUsesIndexOf}
 use Rattle.rows_index.proofs.LastPlace.{blocks_rise}
-use Rattle.lineage_front.specs.typed_ledger.TypedLedger.{IsTypedRow}
-use Rattle.lineage_front.proofs.typed_ledger.Parts.{rows_up_to}
+use Rattle.lineage_rewind.specs.root_laws.TypedLedger.{IsTypedRow}
+use Rattle.lineage_rewind.proofs.root_laws.Parts.{rows_up_to}
 use Rattle.entry_store.specs.Entries.{Entry}
 use Rattle.lineage_index.specs.lineage_store.Entries.{entries_of}
 use Rattle.lineage_index.proofs.lineage_store.Entries.{as_many, earlier_entries}
@@ -121,9 +119,9 @@ as_many_roots rows digests roots are =
 
 -- ---- all that is kept
 
-module _ (rows : List Row) (index first : LineageIndex) (uses first_uses : RowsIndex)
+module _ (rows : List Row) (index first : LineageIndex)
     (bodies first_bodies : BodiesState) (digests roots : List Digest) (at count : ℕ)
-    (keeps : KeepsLineage rows index uses bodies digests roots) (within : at < length digests)
+    (keeps : KeepsLineage rows index bodies digests roots) (within : at < length digests)
     (is : IsIndexOf (up_to rows at) (at + 1) first)
     (count_is : count ≡ length (entries_of (up_to rows at) (up_to rows at))) where
   pub count_within : count ≤ length bodies.kept
@@ -145,11 +143,10 @@ module _ (rows : List Row) (index first : LineageIndex) (uses first_uses : RowsI
   pub first_typed : All IsTypedRow (up_to rows at)
   first_typed = rows_up_to rows at keeps.typed
 
-  pub first_keeps : IsUsesIndexOf (up_to rows at) first_uses
-      → first_bodies.kept ≡ take count bodies.kept
-      → KeepsLineage (up_to rows at) first first_uses first_bodies (take (at + 1) digests)
+  pub first_keeps : first_bodies.kept ≡ take count bodies.kept
+      → KeepsLineage (up_to rows at) first first_bodies (take (at + 1) digests)
       (take (at + 1) roots)
-  first_keeps users front =
+  first_keeps front =
       let long : length (take (at + 1) digests) ≡ at + 1 = length-take-le (at + 1) digests
       (omega (arith, within)) in
       let many : count ≡ length (up_to rows at) = count_is
@@ -166,7 +163,6 @@ module _ (rows : List Row) (index first : LineageIndex) (uses first_uses : RowsI
         digests_fit = All-take (λ (digest : Digest). length digest.0 ≡ 32) (at + 1) digests
             keeps.digests_fit;
         index_is = subst (λ (n : ℕ). IsIndexOf (up_to rows at) n first) (sym long) is;
-        uses_are = users;
         bodies_are =
             ap (map (λ (one : KeptBody). one.body)) front
             ∙ sym (take-map (λ (one : KeptBody). one.body) count bodies.kept)

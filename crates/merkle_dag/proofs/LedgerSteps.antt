@@ -13,7 +13,7 @@ use Rattle.sha2.specs.Sha256.{sha256}
 use Rattle.lc_base.specs.declared.digest.Digest.{Digest}
 use Rattle.lc_base.specs.declared.row.Row.{Row}
 use Rattle.lc_base.specs.History.{IsLawful}
-use Rattle.skip_path.proofs.skip_links.Lists.{range_more}
+use Rattle.skip_links.proofs.Lists.{range_more}
 use Rattle.lineage_index.specs.lineage_store.root_laws.Root.{root_of, root_text, digest_at, leaves}
 use Rattle.lineage_index.proofs.lineage_store.root_laws.Lists.{all_weaker, all_append}
 use Rattle.lineage_index.proofs.lineage_store.root_laws.Growing.{up_to_now}

@@ -18,11 +18,9 @@ use Rattle.lineage_index.proofs.lineage_store.Entries.{as_many, entries_stay}
 use Rattle.lineage_index.proofs.lineage_store.ReadBack.{rows_back}
 use Rattle.lineage_index.specs.declared.index.LineageIndex.{LineageIndex}
 use Rattle.lineage_index.specs.Index.{IsIndexOf}
-use Rattle.rows_index.specs.declared.index.RowsIndex.{RowsIndex}
-use Rattle.rows_index.specs.Index.{IsIndexOf as IsUsesIndexOf}
 use Rattle.lineage_index.specs.Growth.{Grows}
-use Rattle.lineage_front.specs.typed_ledger.TypedLedger.{IsTypedRow}
-use Rattle.lineage_front.proofs.typed_ledger.Spellings.{bodies_spelled}
+use Rattle.lineage_rewind.specs.root_laws.TypedLedger.{IsTypedRow}
+use Rattle.lineage_rewind.proofs.root_laws.Spellings.{bodies_spelled}
 use Rattle.merkle_dag.specs.Adding.{bytes_of}
 use Rattle.merkle_dag.specs.Kept.{rows_kept, KeepsLineage}
 use Rattle.merkle_dag.proofs.Keeping.{ledger_none, roots_none}
@@ -37,17 +35,15 @@ pub rows_none : (index : LineageIndex) → IsIndexOf [] 0 index → rows_kept in
 unfolding rows_kept
 rows_none index is = ap rows_read (is.store.entries_are ∙ no_entries)
 
-pub keeps_none : (index : LineageIndex) (uses : RowsIndex) (bodies : BodiesState)
-    (digests roots : List Digest) → IsIndexOf [] 0 index → IsUsesIndexOf [] uses
-    → bodies.kept ≡ [] → digests ≡ [] → roots ≡ []
-    → KeepsLineage (rows_kept index) index uses bodies digests roots
-keeps_none index uses bodies digests roots is users none no_digests no_roots = rw
+pub keeps_none : (index : LineageIndex) (bodies : BodiesState) (digests roots : List Digest)
+    → IsIndexOf [] 0 index → bodies.kept ≡ [] → digests ≡ [] → roots ≡ []
+    → KeepsLineage (rows_kept index) index bodies digests roots
+keeps_none index bodies digests roots is none no_digests no_roots = rw
     (rows_none index is, no_digests, no_roots) (record {
       ledger = ledger_none;
       typed = search rules;
       digests_fit = search rules;
       index_is = is;
-      uses_are = users;
       bodies_are = ap bodies_of none
           ∙ sym (ap (map (λ (entry : Entry). entry.body)) (is.store.entries_are ∙ no_entries));
       roots_are = roots_none;
@@ -55,12 +51,12 @@ keeps_none index uses bodies digests roots is users none no_digests no_roots = r
 
 -- ---- the same of equal lists
 
-pub keeps_at : (rows others : List Row) (index : LineageIndex) (uses : RowsIndex)
+pub keeps_at : (rows others : List Row) (index : LineageIndex)
     (bodies : BodiesState) (digests digests_after roots roots_after : List Digest)
     → others ≡ rows → digests_after ≡ digests → roots_after ≡ roots
-    → KeepsLineage rows index uses bodies digests roots
-    → KeepsLineage others index uses bodies digests_after roots_after
-keeps_at rows others index uses bodies digests digests_after roots roots_after same same_digests
+    → KeepsLineage rows index bodies digests roots
+    → KeepsLineage others index bodies digests_after roots_after
+keeps_at rows others index bodies digests digests_after roots roots_after same same_digests
     same_roots keeps = rw (same, same_digests, same_roots) keeps
 
 -- ---- the body of a row

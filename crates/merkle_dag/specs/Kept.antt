@@ -3,9 +3,7 @@ use Rattle.std.specs.Prelude.{◌≡◌, List, length, map}
 use Rattle.std.specs.List.{All}
 use Rattle.lc_base.specs.declared.digest.Digest.{Digest}
 use Rattle.lc_base.specs.declared.row.Row.{Row}
-use Rattle.lineage_front.specs.typed_ledger.TypedLedger.{IsTypedRow}
-use Rattle.rows_index.specs.declared.index.RowsIndex.{RowsIndex}
-use Rattle.rows_index.specs.Index.{IsIndexOf as IsUsesIndexOf}
+use Rattle.lineage_rewind.specs.root_laws.TypedLedger.{IsTypedRow}
 use Rattle.body_store.specs.Bodies.{BodiesState, bodies_in}
 use Rattle.entry_store.specs.Entries.{Entry}
 use Rattle.lineage_index.specs.lineage_store.ReadBack.{rows_read}
@@ -18,19 +16,18 @@ use Rattle.merkle_dag.specs.Ledger.{IsLedger, roots_of}
 unfoldable pub rows_kept : LineageIndex → List Row
 rows_kept index = rows_read index.store
 
--- Rows and digests of a ledger, within their types; the index over the rows, which rows were
--- derived from which, the bodies of the entries, one after another, and the roots of all blocks.
-pub record KeepsLineage (rows : List Row) (index : LineageIndex) (uses : RowsIndex) (bodies : BodiesState)
+-- Rows and digests of a ledger, within their types; the index over the rows, the bodies of the
+-- entries, one after another, and the roots of all blocks.
+pub record KeepsLineage (rows : List Row) (index : LineageIndex) (bodies : BodiesState)
     (digests roots : List Digest) : Type 0 where
   pub ledger : IsLedger rows digests
   pub typed : All IsTypedRow rows
   pub digests_fit : All (λ (digest : Digest). length digest.0 ≡ 32) digests
   pub index_is : IsIndexOf rows (length digests) index
-  pub uses_are : IsUsesIndexOf rows uses
   pub bodies_are : bodies_in bodies ≡ map (λ (entry : Entry). entry.body) index.store
   pub roots_are : map (λ (root : Digest). root.0) roots ≡ roots_of rows digests
 
 -- All parts that are kept are of one ledger, whose rows are those that are read back.
 abbrev pub IsWhole : Kept → Type 0
-IsWhole kept = KeepsLineage (rows_kept kept.index) kept.index kept.uses kept.bodies kept.digests.items
+IsWhole kept = KeepsLineage (rows_kept kept.index) kept.index kept.bodies kept.digests.items
     kept.roots.items

@@ -1,9 +1,11 @@
 -- A ledger: the rows of a history, and the digests of its blocks.
-use Rattle.std.specs.Prelude.{◌≡◌, ℕ, ◌<◌, ◌≤◌, ◌+◌, List, length, map, Option, MatchOption}
+use Rattle.std.specs.Prelude.{◌≡◌, ℕ, ◌<◌, ◌≤◌, ◌+◌, ◌-◌, ◌*◌, List, length, map, Option}
+use Rattle.std.specs.Prelude.{MatchOption}
 use Rattle.std.specs.List.{All, range_with_len}
 use Rattle.lc_base.specs.declared.digest.Digest.{Digest}
 use Rattle.lc_base.specs.declared.row.Row.{Row}
 use Rattle.lc_base.specs.History.{IsLawful}
+use Rattle.skip_links.specs.Paths.{binary_digits}
 use Rattle.lineage_index.specs.lineage_store.root_laws.Root.{root_of}
 use Rattle.merkle_dag.specs.declared.limits.TheConstants.{MAX_LINEAGE_BLOCKS}
 
@@ -26,3 +28,8 @@ roots_of rows digests = map (root_of rows digests) (range_with_len 0 (length dig
 -- The number of the last block; `None` if there is no block.
 abbrev pub IsHead : List Digest → Option ℕ → Type 0
 IsHead digests head = MatchOption head (length digests ≡ 0) (λ last. last + 1 ≡ length digests)
+
+-- The most versions that a look-up looks at, whatever its key and its block: twice the binary
+-- digits of the number of the last block, and two.
+abbrev pub most_looked_at : List Digest → ℕ
+most_looked_at digests = 2 * binary_digits (length digests - 1) + 2

@@ -6,5 +6,5 @@ pub mod Adding
 pub use Rattle.entry_store.specs as entry_store
 pub use Rattle.prov_entry.specs as prov_entry
 pub use Rattle.lineage_index.specs.lineage_store.root_laws as root_laws
-pub use Rattle.skip_path.specs as skip_path
-pub use Rattle.lineage_front.specs.typed_ledger as typed_ledger
+pub use Rattle.skip_links.specs as skip_links
+pub use Rattle.lineage_rewind.specs.root_laws as root_laws

@@ -1,42 +1,33 @@
-//! What a lineage keeps beside its index of a block's rows: what each was derived from, and its body.
+//! The bodies of a block's rows are pushed one after another, once the index is over the rows.
 
 ghost use Rattle.std.specs.{
-  Prelude.{◌≡◌, ◌+◌, ◌≤◌, ◌++◌, List, length, OnOk, IsErrOf},
+  Prelude.{◌≡◌, ◌+◌, ◌≤◌, ◌++◌, length, OnOk, IsErrOf},
   List.{All},
 };
 ghost use Rattle.lc_base.specs.{
   Faults.{HasCause},
-  History.{IsLawful},
   declared.limits.TheConstants.{MAX_ROWS},
   declared.row.Row.{Row},
   declared.host_error.HostError.TheVariants.{Fault},
 };
 ghost use Rattle.scratch_model.specs.Scratch.{Retains};
 ghost use Rattle.body_store.specs.{Bodies.{bodies_in}, Agreement.{Agrees}};
-ghost use Rattle.rows_index.specs.Index.{IsIndexOf as IsUsesIndexOf};
-ghost use Rattle.lineage_front.specs.typed_ledger.TypedLedger.{IsTypedRow};
+ghost use Rattle.lineage_rewind.specs.root_laws.TypedLedger.{IsTypedRow};
 
 use body_store::Bodies;
-use lc_base::{Bytes, HostError, Memory, Row};
-use lineage_front::check_row;
-use rows_index::RowsIndex;
+use lc_base::{Bytes, HostError, Row};
+use lineage_rewind::check_row;
 use scratch_model::Scratch;
 use std::alloc::Global;
 use std::rc::RcSlice;
 
-/// Adds the rows of the next block to what was derived from each row. On `Memory` only some of them
-/// may be there.
-pub(crate) fn add_uses(uses: &mut RowsIndex, new: &[Row]) -> Result<(), Memory>
-    requires { (rows : List Row) × IsLawful (rows ++ new.now) × IsUsesIndexOf rows uses.old }
-    ensures typed { OnOk result (All IsTypedRow new.now) }
-    ensures uses { (rows : List Row) → IsLawful (rows ++ new.now) → IsUsesIndexOf rows uses.old
-        → OnOk result (IsUsesIndexOf (rows ++ new.now) uses.new) }
+/// These rows are within their types. The call does nothing: contracts learn this by it.
+pub(crate) fn check_rows(rows: &[Row])
+    ensures { All IsTypedRow rows.now }
 {
-    for row in new {
+    for row in rows {
         check_row(row);
-        uses.add(row)?;
     }
-    Ok(())
 }
 
 /// Appends the bodies of a block's rows, which have these bytes. On an error only some of them may

@@ -18,20 +18,18 @@ ghost use Rattle.merkle_dag.specs.{
   Kept.{IsWhole, rows_kept},
 };
 
-use crate::adding::{add_bodies, add_uses};
+use crate::adding::{add_bodies, check_rows};
 use crate::root::root_of_tree;
 use body_store::Bodies;
 use lc_base::{Digest, HostError, RowList};
 use lineage_index::LineageIndex;
-use rows_index::RowsIndex;
 use scratch_model::Scratch;
 
-/// The index over the rows of all blocks, which rows were derived from which, where the bodies of
-/// the rows are kept, and the digest and the root of each block.
+/// The index over the rows of all blocks, where the bodies of the rows are kept, and the digest and
+/// the root of each block.
 #[derive(Drop)]
 pub(crate) struct Kept {
     pub index: LineageIndex,
-    pub uses: RowsIndex,
     pub bodies: Bodies,
     pub digests: Vec<Digest>,
     pub roots: Vec<Digest>,
@@ -45,8 +43,8 @@ fn check_digest(digest: &Digest)
 }
 
 /// Adds the next block: its number, its digest and its rows. Returns the root at the block. The
-/// bytes that the device is to keep are those whose digests are in the headers: each body is
-/// spelled once. On an error only a part of the block may be there: discard what is kept.
+/// bytes of the bodies are those that were hashed for the headers. On an error only a part of the
+/// block may be there: discard what is kept.
 pub(crate) fn grow<S: Scratch>(
     kept: &mut Kept,
     scratch: &mut S,
@@ -72,9 +70,9 @@ pub(crate) fn grow<S: Scratch>(
         (IsErrOf result Fault) }
 {
     check_digest(&digest);
+    check_rows(new.as_slice());
     let alloc = *kept.digests.allocator();
     let spelled = kept.index.add_block(new.as_slice())?;
-    add_uses(&mut kept.uses, new.as_slice())?;
     let root = root_of_tree(kept.index.tree(), number, &digest);
     kept.digests.push(digest)?;
     kept.roots.push(root)?;

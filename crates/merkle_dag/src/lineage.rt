@@ -2,30 +2,49 @@
 //! with a part of a block.
 
 ghost use Rattle.std.specs.{
-  Prelude.{◌≡◌, ◌≤◌, ◌<◌, ◌+◌, ◌^◌, ◌++◌, ◌∷◌, true, [], Some, length, slice_get, take, IfOk, IsErrOf, MatchOption},
+  Prelude.{
+    ◌≡◌,
+    ◌≤◌,
+    ◌<◌,
+    ◌+◌,
+    ◌^◌,
+    ◌++◌,
+    ◌∷◌,
+    true,
+    [],
+    None,
+    Some,
+    length,
+    slice_get,
+    take,
+    IfOk,
+    IsErrOf,
+    MatchOption,
+  },
   List.{All},
   Rc.{rc_slice_items},
 };
 ghost use Rattle.lc_base.specs.{
   Faults.{HasCause},
-  History.{IsLawful, latest, up_to, uses},
+  History.{IsLawful, latest, newest, up_to, uses},
   declared.row.Row.{Row},
 };
 ghost use Rattle.scratch_model.specs.Scratch.{ScratchState, is_known, Retains};
-ghost use Rattle.skip_path.specs.Paths.{path};
+ghost use Rattle.skip_links.specs.Paths.{path};
 ghost use Rattle.rows_index.specs.Places.{IsRowAt};
 ghost use Rattle.entry_store.specs.Steps.{raised_count};
+ghost use Rattle.lineage_index.specs.Closed.{IsOpenListOf, closed_users};
 ghost use Rattle.lineage_index.specs.lineage_store.{
   Versions.{newest_entry},
   Entries.{entries_of},
   OnPath.{AreEntriesIn},
 };
 ghost use Rattle.lineage_index.specs.lineage_store.root_laws.{Naming.{header_of}, Root.{root_of, leaves}};
-ghost use Rattle.lineage_front.specs.typed_ledger.TypedLedger.{IsTypedLedger};
+ghost use Rattle.lineage_rewind.specs.root_laws.TypedLedger.{IsTypedLedger};
 ghost use Rattle.merkle_dag.specs.{
   Adding.{bytes_of},
   declared.limits.TheConstants.{MAX_LINEAGE_BLOCKS},
-  Ledger.{IsLedger, IsHead},
+  Ledger.{IsLedger, IsHead, most_looked_at},
   Lineage.{AgreesWith, AreFactsOf, LeavesLineage, first_bodies, ledger_in},
 };
 
@@ -39,7 +58,6 @@ use lc_base::{Dep, DepList, Digest, HostError, Key, Memory, RowList};
 use lineage_index::{LineageIndex, Steps, Tree};
 use prov_entry::Header;
 use resources::Resources;
-use rows_index::RowsIndex;
 use scratch_model::Scratch;
 use std::marker::Model;
 use std::rc::RcSlice;
@@ -79,7 +97,6 @@ impl Lineage {
         let bodies = Bodies::new(resources.alloc)?;
         let kept = Kept {
             index,
-            uses: RowsIndex::new(resources.alloc),
             bodies,
             digests: Vec::new(resources.alloc),
             roots: Vec::new(resources.alloc),
@@ -182,12 +199,33 @@ impl Lineage {
         }
     }
 
+    /// The open list of the key: the indexes of the rows that were derived from its newest row, in
+    /// their order. `None` exactly if the key has no row.
+    pub fn open_list(&self, key: &Key) -> Option<&[u32]>
+        ensures { MatchOption result (newest self.now.rows key.now ≡ None)
+            (λ list. IsOpenListOf self.now.rows key.now list.now) }
+    {
+        self.kept.index.open_list(key)
+    }
+
+    /// The list of the row at an index, once the next version of its key closed it: the indexes of
+    /// the rows that were derived from the row, in their order. It is empty while the row is the
+    /// newest of its key.
+    pub fn closed_list(&self, index: u32) -> &[u32]
+        requires { index < length self.now.rows }
+        ensures { (row : Row) → slice_get self.now.rows index ≡ Some row
+            → result.now ≡ closed_users self.now.rows self.now.rows index row }
+    {
+        self.kept.index.closed_list(index)
+    }
+
     /// The index of the last row of the key in a block up to `at`; `None` exactly if there is none.
     /// `steps` rises by the number of the versions of the key that are looked at, also if none of
     /// them is found.
     pub fn latest_row(&self, key: &Key, at: u32, steps: &mut Steps) -> Option<u32>
         ensures latest { IsRowAt self.now.rows result (latest self.now.rows key.now at) }
         ensures count { steps.new ≡ raised_count steps.old (length (path self.now.rows key.now at)) }
+        ensures few { steps.new ≤ steps.old + most_looked_at self.now.digests }
     {
         self.kept.index.latest_row(key, at, steps)
     }

@@ -9,7 +9,7 @@ ghost use Rattle.merkle_dag.specs.{Kept.{IsWhole, rows_kept}, Lineage.{first_bod
 
 use crate::kept::Kept;
 use lc_base::{Digest, Memory};
-use lineage_front::front;
+use lineage_rewind::front;
 use std::alloc::{AllocError, Global};
 
 /// The first `count` digests.
@@ -38,13 +38,12 @@ pub(crate) fn first_blocks(alloc: Global, kept: &Kept, at: u32) -> Result<Kept, 
         kept.now.bodies) }
 {
     let count = at as usize + 1;
-    let (index, uses) = front(alloc, &kept.index, &kept.uses, at)?;
+    let index = front(alloc, &kept.index, at)?;
     let bodies = kept.bodies.front(index.store().count())?;
     let digests = first_digests(alloc, &kept.digests, count)?;
     let roots = first_digests(alloc, &kept.roots, count)?;
     Ok(Kept {
         index,
-        uses,
         bodies,
         digests,
         roots,

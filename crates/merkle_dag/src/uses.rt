@@ -65,5 +65,5 @@ pub(crate) fn users_of(kept: &Kept, index: u32) -> &[u32]
         → AreVersionsAt (rows_kept kept.now.index) result.now
         (uses (rows_kept kept.now.index) row.key row.block) }
 {
-    kept.uses.uses(index)
+    kept.index.uses(index)
 }

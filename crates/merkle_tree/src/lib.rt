@@ -22,5 +22,5 @@ pub use laws::{
 };
 pub use levels::Levels;
 pub use limits::{LEAF, MAX_HEIGHT, MAX_LEAVES, NODE};
-pub use plain::{TreeLeaf, tree_hash};
+pub use plain::{TreeLeaf, half_of, tree_hash};
 pub use setting_all::HashAt;

@@ -30,8 +30,9 @@ impl TreeLeaf for Bytes {
     }
 }
 
-/// Half of 2 to the power `height`.
-pub(crate) fn half_of(height: u32) -> usize
+/// 2 to the power `height - 1`: the number of leaves on the left of a tree that has more of them
+/// than that, and at most twice as many.
+pub fn half_of(height: u32) -> usize
     requires positive { 0 < height }
     requires low { height ≤ MAX_HEIGHT }
     ensures { result ≡ 2 ^ (height - 1) }

@@ -11,7 +11,7 @@ use Rattle.rows_index.specs.Index.{IsIndexOf}
 use Rattle.rows_index.specs.Users.{AreVersionsAt}
 use Rattle.rows_index.proofs.Marked.{get_here}
 use Rattle.rows_index.proofs.UsedEnd.{at_front, get_front}
-use Rattle.typed_ledger.specs.TypedLedger.{IsTypedRow}
+use Rattle.root_laws.specs.TypedLedger.{IsTypedRow}
 use Rattle.plain_rows.specs.declared.kept.KeptRow.{KeptRow}
 use Rattle.plain_rows.specs.Kept.{row_of, rows_with, rows_of, IsKeptAs, AreKept, KeepsRows}
 use Rattle.rows_index.proofs.Lists.{found_all, versions_stay}

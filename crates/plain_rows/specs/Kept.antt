@@ -7,7 +7,7 @@ use Rattle.lc_base.specs.History.{IsLawful}
 use Rattle.rows_index.specs.declared.index.RowsIndex.{RowsIndex}
 use Rattle.rows_index.specs.Index.{IsIndexOf}
 use Rattle.rows_index.specs.Users.{AreVersionsAt, version_at}
-use Rattle.typed_ledger.specs.TypedLedger.{IsTypedRow}
+use Rattle.root_laws.specs.TypedLedger.{IsTypedRow}
 use Rattle.plain_rows.specs.declared.kept.KeptRow.{KeptRow}
 
 -- The row that is kept, after these rows: its dependencies are the versions at their indexes.

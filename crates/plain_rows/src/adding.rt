@@ -8,7 +8,7 @@ ghost use Rattle.std.specs.{
 };
 ghost use Rattle.lc_base.specs.{declared.row.Row.{Row}, History.{IsLawful}};
 ghost use Rattle.rows_index.specs.Index.{IsIndexOf};
-ghost use Rattle.typed_ledger.specs.TypedLedger.{IsTypedRow};
+ghost use Rattle.root_laws.specs.TypedLedger.{IsTypedRow};
 ghost use Rattle.plain_rows.specs.{
   declared.kept.KeptRow.{KeptRow as Kept},
   Kept.{AreKept, KeepsRows, rows_of, rows_with},

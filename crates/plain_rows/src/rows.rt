@@ -3,7 +3,7 @@ ghost use Rattle.std.specs.{
   List.{All},
 };
 ghost use Rattle.lc_base.specs.History.{IsLawful, scan};
-ghost use Rattle.typed_ledger.specs.TypedLedger.{IsTypedRow};
+ghost use Rattle.root_laws.specs.TypedLedger.{IsTypedRow};
 
 use crate::adding::append;
 use crate::asking::answer;

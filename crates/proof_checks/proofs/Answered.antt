@@ -31,11 +31,11 @@ use Rattle.proof_codec.specs.Spelling.{IsUse, AreUses, IsIfAny, asks_uses}
 use Rattle.proof_codec.proofs.Uses.{use_field}
 use Rattle.proof_checks.specs.declared.claim.Claim.{Claim}
 use Rattle.proof_checks.specs.declared.reject.Reject.TheVariants as rejects
-use Rattle.typed_ledger.specs.TypedLedger.{IsTypedRow}
+use Rattle.root_laws.specs.TypedLedger.{IsTypedRow}
 use Rattle.proof_checks.specs.ProofTexts.{texts_of_uses, uses_texts, body_texts}
 use Rattle.proof_checks.specs.Checks.{fault_of_body, fault_of_uses, answer_by, answer_from, dep_of}
 use Rattle.proof_checks.proofs.Tests.{passed}
-use Rattle.typed_ledger.proofs.Spellings.{body_lawful}
+use Rattle.root_laws.proofs.Spellings.{body_lawful}
 use Rattle.proof_checks.proofs.Uses.{uses_are_uses}
 use Rattle.proof_checks.proofs.Onward.{claim_of_uses}
 

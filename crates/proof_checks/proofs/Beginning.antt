@@ -13,9 +13,9 @@ use Rattle.root_laws.specs.Root.{is_among, is_below, keys_of, sentinel, leaf_of,
 use Rattle.root_laws.proofs.Keys.{same_key}
 use Rattle.root_laws.proofs.Headers.{leaf_is_named, newest_is_key}
 use Rattle.proof_checks.specs.Checks.{covers, is_of_key, is_before_next, expected_first, claim_of_leaf}
-use Rattle.typed_ledger.specs.TypedLedger.{IsTypedRow}
+use Rattle.root_laws.specs.TypedLedger.{IsTypedRow}
 use Rattle.proof_checks.proofs.Rows.{latest_is_newest}
-use Rattle.typed_ledger.proofs.Spellings.{IsOneOf, newest_there, is_among_keys}
+use Rattle.root_laws.proofs.Spellings.{IsOneOf, newest_there, is_among_keys}
 use Rattle.proof_checks.proofs.Covering.{no_version}
 use Rattle.proof_checks.proofs.Onward.{begun, claim_of_uses, StandsAt, link_to}
 

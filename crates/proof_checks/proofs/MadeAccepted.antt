@@ -19,7 +19,7 @@ use Rattle.merkle_tree.proofs.TheLaws.{paths_are_complete}
 use Rattle.prov_entry.specs.declared.entry.Leaf.{Leaf}
 use Rattle.prov_entry.specs.declared.entry.Header.{Header}
 use Rattle.prov_entry.specs.declared.entry.Body.{Body}
-use Rattle.prov_entry.specs.Spelling.{leaf_bytes, body_text}
+use Rattle.prov_entry.specs.Spelling.{leaf_bytes, body_text, text_of_root}
 use Rattle.prov_entry.specs.ForwardLists.{uses_digest}
 use Rattle.root_laws.specs.Naming.{header_of, body_of}
 use Rattle.root_laws.specs.Root.{keys_of, leaf_of, leaves, root_text, digest_at, root_of}
@@ -28,16 +28,16 @@ use Rattle.proof_codec.specs.declared.proof.Proof.{Proof}
 use Rattle.proof_codec.specs.Spelling.{kind_byte, last_of, asks_uses}
 use Rattle.proof_checks.specs.declared.reject.Reject.{Reject}
 use Rattle.proof_checks.specs.declared.reject.Reject.TheVariants as rejects
-use Rattle.proof_checks.specs.Checks.{unless, first_fault, fault_in, answer_in, answer_from, verdict, verdict_of, query_fault, root_fault, leaf_fault, path_fault, body_fault, uses_fault, fault_of_body, fault_of_uses, text_of_root, climb_of, root_text_of, is_of_key, expected_first, claim_of_leaf, claim_before}
-use Rattle.typed_ledger.specs.TypedLedger.{IsTypedRow}
+use Rattle.proof_checks.specs.Checks.{unless, first_fault, fault_in, answer_in, answer_from, verdict, verdict_of, query_fault, root_fault, leaf_fault, path_fault, body_fault, uses_fault, fault_of_body, fault_of_uses, climb_of, root_text_of, is_of_key, expected_first, claim_of_leaf, claim_before}
+use Rattle.root_laws.specs.TypedLedger.{IsTypedRow}
 use Rattle.proof_checks.specs.LedgerTexts.{texts_of_leaves}
-use Rattle.skip_path.specs.Paths.{path_from}
-use Rattle.skip_path.proofs.OverRows.{path_turns, path_none}
+use Rattle.skip_links.specs.Paths.{path_from}
+use Rattle.skip_links.proofs.OverRows.{path_turns, path_none}
 use Rattle.skip_links.specs.Links.{links}
 use Rattle.proof_checks.specs.Making.{header_in, uses_if, IsMade, MadeProofsAreAccepted}
-use Rattle.typed_ledger.proofs.Parts.{lawful_up_to, rows_up_to}
+use Rattle.root_laws.proofs.Parts.{lawful_up_to, rows_up_to}
 use Rattle.proof_checks.proofs.Rows.{latest_none}
-use Rattle.typed_ledger.proofs.Spellings.{leaf_cases, IsOneOf, newest_of_key}
+use Rattle.root_laws.proofs.Spellings.{leaf_cases, IsOneOf, newest_of_key}
 use Rattle.proof_checks.proofs.Beginning.{no_version_of, own_key, begins, stands}
 use Rattle.proof_checks.proofs.Onward.{claim_of_uses}
 use Rattle.proof_checks.proofs.Walked.{walk_fault, path_is, Ends}

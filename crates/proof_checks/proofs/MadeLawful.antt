@@ -28,16 +28,16 @@ use Rattle.root_laws.proofs.Lists.{all_append, all_contained, all_reverse, all_f
 use Rattle.root_laws.proofs.Keys.{keys_short}
 use Rattle.proof_codec.specs.Spelling.{IsProof, IsDigest, AreUses, IsIfAny, last_of, is_answer, asks_uses}
 use Rattle.proof_checks.specs.LedgerTexts.{texts_of_leaves}
-use Rattle.skip_path.specs.Paths.{path}
-use Rattle.skip_path.proofs.OverRows.{path_short, path_none}
-use Rattle.skip_path.proofs.Walks.{digits_hold}
-use Rattle.typed_ledger.specs.TypedLedger.{IsTypedRow}
-use Rattle.typed_ledger.proofs.Parts.{parts_typed, blocks_typed}
+use Rattle.skip_links.specs.Paths.{path}
+use Rattle.skip_links.proofs.OverRows.{path_short, path_none}
+use Rattle.skip_links.proofs.Walks.{digits_hold}
+use Rattle.root_laws.specs.TypedLedger.{IsTypedRow}
+use Rattle.root_laws.proofs.Parts.{parts_typed, blocks_typed}
 use Rattle.proof_codec.specs.declared.proof.Proof.{Proof}
 use Rattle.proof_checks.specs.Making.{header_in, uses_if, IsMade, MadeProofsAreProofs}
 use Rattle.proof_checks.specs.Checks.{claim_of_leaf, claim_before}
 use Rattle.proof_checks.proofs.Rows.{latest_none}
-use Rattle.typed_ledger.proofs.Spellings.{is_row, few_uses, header_lawful, body_lawful, leaf_cases, one_lawful, newest_there, map_short}
+use Rattle.root_laws.proofs.Spellings.{is_row, few_uses, header_lawful, body_lawful, leaf_cases, one_lawful, newest_there, map_short}
 use Rattle.proof_checks.proofs.Uses.{uses_are_uses}
 use Rattle.proof_checks.proofs.Onward.{claim_of_uses}
 use Rattle.proof_checks.proofs.Walked.{Ends}

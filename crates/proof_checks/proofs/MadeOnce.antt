@@ -12,7 +12,7 @@ use Rattle.lc_base.specs.declared.answer.Query.{Query}
 use Rattle.lc_base.specs.History.{IsLawful, up_to, latest, uses}
 use Rattle.merkle_tree.specs.Tree.{audit_path}
 use Rattle.merkle_tree.specs.Climbing.{bytes_of}
-use Rattle.skip_path.specs.Paths.{path}
+use Rattle.skip_links.specs.Paths.{path}
 use Rattle.prov_entry.specs.declared.entry.Leaf.{Leaf}
 use Rattle.prov_entry.specs.declared.entry.Header.{Header}
 use Rattle.prov_entry.specs.declared.entry.Body.{Body}
@@ -23,9 +23,9 @@ use Rattle.root_laws.specs.Root.{is_among, keys_of, is_below, sentinel, leaf_of,
 use Rattle.root_laws.proofs.Lists.{not_both}
 use Rattle.root_laws.proofs.Keys.{same_key, keys_distinct}
 use Rattle.root_laws.proofs.NextKeys.{next_is, order, below_trans, not_itself}
-use Rattle.typed_ledger.specs.TypedLedger.{IsTypedRow}
-use Rattle.typed_ledger.proofs.Parts.{lawful_up_to, rows_up_to}
-use Rattle.typed_ledger.proofs.Spellings.{IsOneOf, leaf_cases, one_lawful, is_among_keys}
+use Rattle.root_laws.specs.TypedLedger.{IsTypedRow}
+use Rattle.root_laws.proofs.Parts.{lawful_up_to, rows_up_to}
+use Rattle.root_laws.proofs.Spellings.{IsOneOf, leaf_cases, one_lawful, is_among_keys}
 use Rattle.proof_codec.specs.declared.proof.Proof.{Proof}
 use Rattle.proof_codec.specs.entry_views.Reading.{digest_of_bytes}
 use Rattle.proof_checks.specs.Checks.{is_of_key, is_before_next, covers}

@@ -10,8 +10,8 @@ use Rattle.lc_base.specs.declared.row.Row.{Row}
 use Rattle.lc_base.specs.History.{IsLawful}
 use Rattle.skip_links.specs.Links.{links}
 use Rattle.skip_links.proofs.Towers.{links_up_to}
-use Rattle.skip_path.specs.Paths.{onward as link_onward, path_from}
-use Rattle.skip_path.proofs.Walks.{ended}
+use Rattle.skip_links.specs.Paths.{onward as link_onward, path_from}
+use Rattle.skip_links.proofs.Walks.{ended}
 use Rattle.prov_entry.specs.declared.entry.Link.{Link}
 use Rattle.prov_entry.specs.declared.entry.Header.{Header}
 use Rattle.root_laws.specs.Naming.{header_of, named_before, link_among}

@@ -35,13 +35,13 @@ use Rattle.proof_checks.specs.declared.reject.Reject.TheVariants as rejects
 use Rattle.proof_checks.specs.Checks.{fault_in, answer_in, answer_from, query_fault, root_fault, leaf_fault, path_fault, body_fault, uses_fault, fault_of_body, climb_of, root_text_of, covers, is_of_key, expected_first, claim_of_leaf, claim_before}
 use Rattle.proof_checks.specs.ProofTexts.{joined_texts, proof_parts, proof_texts, body_texts, uses_texts, texts_of_uses}
 use Rattle.proof_checks.specs.LedgerTexts.{texts_of_leaves, texts_of_row, texts_of_row_uses, history_parts, ledger_texts}
-use Rattle.typed_ledger.specs.TypedLedger.{IsTypedRow}
+use Rattle.root_laws.specs.TypedLedger.{IsTypedRow}
 use Rattle.proof_checks.specs.Soundness.{AcceptedProofsAreSound}
 use Rattle.proof_checks.proofs.Tests.{passed, neither, accepted, query_is}
 use Rattle.proof_checks.proofs.Parts.{alone, in_part, in_flat, in_map, agree_parts}
 use Rattle.proof_checks.proofs.Rows.{latest_none, latest_key}
-use Rattle.typed_ledger.proofs.Parts.{lawful_up_to, rows_up_to}
-use Rattle.typed_ledger.proofs.Spellings.{leaf_cases, one_lawful, IsOneOf, newest_of_key}
+use Rattle.root_laws.proofs.Parts.{lawful_up_to, rows_up_to}
+use Rattle.root_laws.proofs.Spellings.{leaf_cases, one_lawful, IsOneOf, newest_of_key}
 use Rattle.proof_checks.proofs.Rooted.{same_root}
 use Rattle.proof_checks.proofs.Beginning.{no_version_of, own_key, begins, stands}
 use Rattle.proof_checks.proofs.Onward.{claim_of_uses}

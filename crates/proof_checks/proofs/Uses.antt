@@ -6,7 +6,7 @@ use Rattle.std.proofs.lemmas.List.Elements.{recursion_from_All}
 use Rattle.lc_base.specs.declared.row.Row.{Row}
 use Rattle.lc_base.specs.History.{uses, depends_on, version_of}
 use Rattle.root_laws.proofs.Lists.{all_weaker, all_map}
-use Rattle.typed_ledger.specs.TypedLedger.{IsTypedRow}
+use Rattle.root_laws.specs.TypedLedger.{IsTypedRow}
 use Rattle.proof_codec.specs.Spelling.{IsUse}
 
 pub uses_are_uses : (rows : List Row) (are : All IsTypedRow rows) (key : List ℕ) (block : ℕ) → AllByRecursion IsUse (uses rows key block)

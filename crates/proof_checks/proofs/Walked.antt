@@ -25,11 +25,11 @@ use Rattle.proof_codec.specs.Spelling.{last_of}
 use Rattle.proof_checks.specs.declared.claim.Claim.{Claim}
 use Rattle.proof_checks.specs.declared.reject.Reject.{Reject}
 use Rattle.proof_checks.specs.declared.reject.Reject.TheVariants as rejects
-use Rattle.typed_ledger.specs.TypedLedger.{IsTypedRow}
+use Rattle.root_laws.specs.TypedLedger.{IsTypedRow}
 use Rattle.proof_checks.specs.Checks.{claim_of_header, claim_before, first_fault, header_fault, fault_of_step, step_fault, path_fault, expected_first, expected_after}
 use Rattle.proof_checks.proofs.Tests.{neither}
 use Rattle.proof_checks.proofs.Parts.{in_map}
-use Rattle.typed_ledger.proofs.Spellings.{header_lawful}
+use Rattle.root_laws.proofs.Spellings.{header_lawful}
 use Rattle.proof_checks.proofs.Onward.{begun, claim_of_uses, StandsAt, GoesOn, onward}
 
 -- ---- the first fault, from header to header

@@ -3,7 +3,6 @@
 use Rattle.std.specs.Prelude.{ℕ, zero, suc, ◌+◌, ◌==◌, ◌&&◌, ◌||◌, Bool, true, false, nat_lt, nat_le, if◌then◌else◌, List, [], ◌∷◌, ◌++◌, length, map, reverse, slice_get, Option, Some, None, Result, Ok, Err}
 use Rattle.std.specs.List.{find, range_with_len}
 use Rattle.std.specs.Option.{option_or, option_and_then}
-use Rattle.std.specs.Int.{w32, to_be_bytes}
 use Rattle.std.specs.Cmp.Lexicographic.{pointwise}
 use Rattle.sha2.specs.Sha256.{sha256}
 use Rattle.lc_base.specs.declared.row.Dep.{Dep}
@@ -15,13 +14,12 @@ use Rattle.lc_base.specs.declared.answer.Answer.TheVariants as answers
 use Rattle.merkle_tree.specs.Tree.{leaf_text, Climb}
 use Rattle.merkle_tree.specs.Climbing.{bytes_of, top_of}
 use Rattle.merkle_tree.specs.Levels.{digest_of}
-use Rattle.prov_entry.specs.declared.limits.TheConstants.{ROOT}
 use Rattle.prov_entry.specs.declared.entry.Link.{Link}
 use Rattle.prov_entry.specs.declared.entry.Header.{Header}
 use Rattle.prov_entry.specs.declared.entry.BodyDep.{BodyDep}
 use Rattle.prov_entry.specs.declared.entry.Body.{Body}
 use Rattle.prov_entry.specs.declared.entry.Leaf.{Leaf}
-use Rattle.prov_entry.specs.Spelling.{key_or_empty, leaf_bytes, header_text, body_text}
+use Rattle.prov_entry.specs.Spelling.{key_or_empty, leaf_bytes, header_text, body_text, text_of_root}
 use Rattle.prov_entry.specs.ForwardLists.{uses_digest}
 use Rattle.root_laws.specs.Root.{is_below}
 use Rattle.proof_codec.specs.declared.proof.Proof.{Proof}
@@ -51,11 +49,6 @@ abbrev pub query_fault : Query → Proof → Option Reject
 query_fault query proof = unless (is_same_query query proof.query) rejects.OtherQuery
 
 -- ---- the root
-
--- The text of a root: its tag, the block, the block's digest, the number of leaves, and their tree
--- hash.
-abbrev pub text_of_root : ℕ → List ℕ → ℕ → List ℕ → List ℕ
-text_of_root block digest count hash = ROOT ∷ to_be_bytes w32 block ++ digest ++ to_be_bytes w32 count ++ hash
 
 -- Where the climb from the proof's leaf to the root begins.
 abbrev pub climb_of : Proof → Climb

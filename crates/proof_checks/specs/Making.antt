@@ -11,7 +11,7 @@ use Rattle.lc_base.specs.declared.answer.Kind.{Kind}
 use Rattle.lc_base.specs.declared.answer.Kind.TheVariants.{Hist, Back, Fwd}
 use Rattle.lc_base.specs.declared.answer.Query.{Query}
 use Rattle.lc_base.specs.History.{up_to, latest, uses, scan}
-use Rattle.skip_path.specs.Paths.{path}
+use Rattle.skip_links.specs.Paths.{path}
 use Rattle.merkle_tree.specs.Tree.{audit_path}
 use Rattle.merkle_tree.specs.Climbing.{bytes_of}
 use Rattle.prov_entry.specs.declared.entry.Header.{Header}
@@ -19,7 +19,7 @@ use Rattle.prov_entry.specs.declared.entry.Leaf.{Leaf}
 use Rattle.root_laws.specs.Naming.{header_of, body_of}
 use Rattle.root_laws.specs.Root.{keys_of, sentinel, leaves, digest_at, root_of}
 use Rattle.root_laws.specs.WalkLaws.{is_version_in}
-use Rattle.typed_ledger.specs.TypedLedger.{IsTypedHistory, IsTypedLedger}
+use Rattle.root_laws.specs.TypedLedger.{IsTypedHistory, IsTypedLedger}
 use Rattle.proof_codec.specs.declared.proof.Proof.{Proof}
 use Rattle.proof_codec.specs.entry_views.Reading.{digest_of_bytes}
 use Rattle.proof_codec.specs.Spelling.{IsProof}

@@ -7,7 +7,7 @@ use Rattle.lc_base.specs.declared.answer.Answer.{Answer}
 use Rattle.lc_base.specs.History.{up_to, scan}
 use Rattle.merkle_tree.specs.Clash.{Clash}
 use Rattle.root_laws.specs.Root.{root_of}
-use Rattle.typed_ledger.specs.TypedLedger.{IsTypedHistory}
+use Rattle.root_laws.specs.TypedLedger.{IsTypedHistory}
 use Rattle.proof_codec.specs.declared.proof.Proof.{Proof}
 use Rattle.proof_codec.specs.Spelling.{IsProof}
 use Rattle.proof_checks.specs.Checks.{verdict}

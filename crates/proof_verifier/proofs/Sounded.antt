@@ -20,7 +20,7 @@ use Rattle.proof_views.specs.declared.proof_view.ViewError.TheVariants as views
 use Rattle.proof_checks.specs.declared.reject.Reject.{Reject}
 use Rattle.proof_checks.specs.Checks.{verdict, fault_in, answer_in, answer_from, answer_by}
 use Rattle.proof_checks.specs.ProofTexts.{proof_texts}
-use Rattle.proof_checks.specs.typed_ledger.TypedLedger.{IsTypedHistory}
+use Rattle.proof_checks.specs.root_laws.TypedLedger.{IsTypedHistory}
 use Rattle.proof_checks.specs.Soundness.{AnswersOrClashes}
 use Rattle.proof_checks.proofs.Tests.{accepted}
 use Rattle.proof_checks.proofs.Sound.{accepted_is_sound}

@@ -13,7 +13,7 @@ use crate::path::ToldHeader;
 use entry_views::{BodyView, HeaderView};
 use lc_base::{Digest, Kind};
 use proof_checks::{Claim, Reject};
-use proof_lists::UseView;
+use proof_views::UseView;
 use prov_entry::{no_uses, with_use};
 
 /// What is wrong with a body that a header names.

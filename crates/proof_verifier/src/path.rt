@@ -8,7 +8,7 @@ use crate::hashing::header_digest;
 use entry_views::{HeaderView, LinkView};
 use lc_base::Key;
 use proof_checks::{Claim, Reject};
-use proof_lists::HeadersView;
+use proof_views::HeadersView;
 use prov_entry::Link;
 use std::marker::Model;
 

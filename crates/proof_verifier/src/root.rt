@@ -4,15 +4,13 @@
 ghost use Rattle.std.specs.Prelude.{◌≡◌, length};
 ghost use Rattle.sha2.specs.Sha256.{sha256};
 ghost use Rattle.merkle_tree.specs.{Tree.{audit_length}, Climbing.{start_at, top_of}};
-ghost use Rattle.proof_checks.specs.Checks.{text_of_root, root_text_of};
+ghost use Rattle.proof_checks.specs.Checks.{root_text_of};
 
 use crate::hashing::leaf_digest;
-use digest_kit::TagHasher;
 use lc_base::Digest;
 use merkle_tree::{MAX_HEIGHT, root_from_leaf};
-use proof_lists::AuditView;
-use proof_views::ProofView;
-use prov_entry::ROOT;
+use proof_views::{AuditView, ProofView};
+use prov_entry::root_digest;
 
 /// The greatest number of hashes that an audit path can have.
 const MAX_PATH_HASHES: usize = MAX_HEIGHT as usize;
@@ -30,18 +28,6 @@ fn top(index: u32, count: u32, leaf: &Digest, audit: AuditView) -> Digest
         length += 1;
     }
     root_from_leaf(index, count, leaf, &path[..length])
-}
-
-/// The digest of a root's text.
-fn root_digest(block: u32, block_digest: &Digest, count: u32, top: &Digest) -> Digest
-    ensures { result.0 ≡ sha256 (text_of_root block block_digest.now.0 count top.now.0) }
-{
-    let mut hasher = TagHasher::new(ROOT);
-    hasher.add(&block.to_be_bytes());
-    hasher.add(&block_digest.0);
-    hasher.add(&count.to_be_bytes());
-    hasher.add(&top.0);
-    hasher.finish()
 }
 
 /// The root that a proof leads to.

@@ -8,7 +8,7 @@ ghost use Rattle.lc_base.specs.{
   declared.row.Row.{Row},
 };
 ghost use Rattle.root_laws.specs.Root.{root_of};
-ghost use Rattle.proof_checks.specs.typed_ledger.TypedLedger.{IsTypedHistory};
+ghost use Rattle.proof_checks.specs.root_laws.TypedLedger.{IsTypedHistory};
 ghost use Rattle.byte_fields.specs.Prefixes.{IsLongestPrefix};
 ghost use Rattle.proof_codec.specs.{
   Spelling.{IsProof, proof_fields},

@@ -1,9 +1,14 @@
-//! Proofs read in place: a view is checked once and borrows from the bytes.
+//! Proofs and their lists read in place: a view is checked once and borrows from the bytes.
 #![tactic(auto)]
 
+mod audit_view;
 mod front;
+mod headers_view;
 mod leaf;
 mod proof_view;
+mod use_view;
 
-pub use proof_lists::{AuditView, HeadersView, UseView};
+pub use audit_view::AuditView;
+pub use headers_view::HeadersView;
 pub use proof_view::{ProofView, ViewError, view};
+pub use use_view::UseView;

@@ -14,13 +14,15 @@ ghost use Rattle.proof_codec.specs.{
 };
 ghost use Rattle.proof_views.specs.Viewing.{Spells, proof_in, told_at};
 
+use crate::audit_view::{AuditView, read_audit};
 use crate::front::{FrontView, front};
+use crate::headers_view::{HeadersView, read_headers};
 use crate::leaf::leaf;
+use crate::use_view::{UseView, read_uses};
 use byte_fields::{Fault, Reader};
 use entry_views::{BodyView, LeafView};
 use lc_base::{Digest, Kind, Query};
 use merkle_tree::audit_length;
-use proof_lists::{AuditView, HeadersView, UseView, read_audit, read_headers, read_uses};
 use std::marker::Model;
 
 /// Why bytes aren't a proof.

@@ -6,7 +6,7 @@ use Rattle.std.specs.Int.{w16, w32, w64, to_be_bytes}
 use Rattle.lc_base.specs.lc_names.KeyBytes.{IsKey}
 use Rattle.lc_base.specs.declared.limits.TheConstants.{MAX_DEPS}
 use Rattle.byte_fields.specs.Spelling.{string_fields, value_fields, IsValue}
-use Rattle.prov_entry.specs.declared.limits.TheConstants.{HEADER, BODY, MAX_LINKS}
+use Rattle.prov_entry.specs.declared.limits.TheConstants.{HEADER, BODY, ROOT, MAX_LINKS}
 use Rattle.prov_entry.specs.declared.entry.Link.{Link}
 use Rattle.prov_entry.specs.declared.entry.Header.{Header}
 use Rattle.prov_entry.specs.declared.entry.BodyDep.{BodyDep}
@@ -108,3 +108,9 @@ body_text body = BODY ∷ concat (body_fields body)
 -- A leaf, as the tree hashes it after its own first byte.
 abbrev pub leaf_bytes : Leaf → List ℕ
 leaf_bytes leaf = concat (leaf_fields leaf)
+
+-- The text of a root: its tag, the block, the block's digest, the number of leaves, and their tree
+-- hash.
+abbrev pub text_of_root : ℕ → List ℕ → ℕ → List ℕ → List ℕ
+text_of_root block digest count hash =
+    ROOT ∷ to_be_bytes w32 block ++ digest ++ to_be_bytes w32 count ++ hash

@@ -1,5 +1,5 @@
-//! Digests of headers and leaves: the same fields as are written, hashed piece by piece. None of
-//! these calls takes memory.
+//! Digests of headers, leaves and roots: the same fields as are written, hashed piece by piece.
+//! None of these calls takes memory.
 
 ghost use Rattle.std.specs.{
   Prelude.{◌≡◌, ◌^◌, ◌<◌, ◌≤◌, length},
@@ -12,11 +12,11 @@ ghost use Rattle.merkle_tree.specs.Tree.{leaf_text};
 ghost use Rattle.prov_entry.specs.{
   declared.limits.TheConstants.{MAX_LINKS},
   Digests.{Adds},
-  Spelling.{IsLink, IsHeader, IsKeyIfAny, IsLeaf, link_fields, key_or_empty, next_fields, header_text, leaf_bytes},
+  Spelling.{IsLink, IsHeader, IsKeyIfAny, IsLeaf, link_fields, key_or_empty, next_fields, header_text, leaf_bytes, text_of_root},
 };
 
 use crate::entry::{Header, Leaf, Link};
-use crate::limits::HEADER;
+use crate::limits::{HEADER, ROOT};
 use lc_base::{Digest, Key};
 use merkle_tree::{LEAF, TagHasher, TreeLeaf};
 
@@ -106,6 +106,19 @@ pub fn leaf_digest(leaf: &Leaf) -> Digest
     hasher.add(&leaf.newest.0);
     hasher.add(&leaf.open_count.to_be_bytes());
     hasher.add(&leaf.open_digest.0);
+    hasher.finish()
+}
+
+/// The root of a block: SHA-256 of the byte `ROOT`, the block, its digest, the number of leaves, and
+/// their tree hash. The numbers have 4 bytes, big-endian.
+pub fn root_digest(block: u32, block_digest: &Digest, count: u32, tree_hash: &Digest) -> Digest
+    ensures { result.0 ≡ sha256 (text_of_root block block_digest.now.0 count tree_hash.now.0) }
+{
+    let mut hasher = TagHasher::new(ROOT);
+    hasher.add(&block.to_be_bytes());
+    hasher.add(&block_digest.0);
+    hasher.add(&count.to_be_bytes());
+    hasher.add(&tree_hash.0);
     hasher.finish()
 }
 

@@ -8,7 +8,7 @@ mod forward;
 mod limits;
 mod writing;
 
-pub use digests::{header_digest, leaf_digest};
+pub use digests::{header_digest, leaf_digest, root_digest};
 pub use entry::{Body, BodyDep, BodyDepList, Header, Leaf, Link, LinkList};
 pub use forward::{no_uses, with_use};
 pub use limits::{BODY, FORWARD_LINK, FORWARD_START, HEADER, MAX_LINKS, ROOT};

@@ -103,6 +103,12 @@ last_of digests digest =
     ∙ unwrap_or-slice_get (digests ++ digest ∷ []) (length digests) no_parent
     ∙ get_or_push digests digest no_parent (length digests) refl
 
+-- the digest of the next block is that of its bytes
+pub hashed : (chain : ChainState) (bytes : List ℕ) (block : Block) (digest : Digest)
+    → IsBytes bytes → IsNextBlock chain bytes block digest → digest ≡ bytes_digest bytes
+hashed chain bytes block digest fits next = next.digest_is
+    ∙ sym (ap bytes_digest (decided.found bytes block fits next.decoded).spelled)
+
 pub one_more : (chain longer : ChainState) (log new : LogState) (bytes : List ℕ) (block : Block)
     (digest : Digest) → IsBytes bytes → AreOfOneChain chain log
     → IsNextBlock chain bytes block digest → longer.digests ≡ chain.digests ++ digest ∷ []
@@ -116,6 +122,6 @@ one_more chain longer log new bytes block digest fits one next added count last 
     length-append
         chain.digests (digest ∷ []),
   );
-  last_is = last ∙ ap bytes_digest (decided.found bytes block fits next.decoded).spelled
-      ∙ sym next.digest_is ∙ sym (last_of chain.digests digest) ∙ ap last_digest (sym added);
+  last_is = last ∙ sym (hashed chain bytes block digest fits next)
+      ∙ sym (last_of chain.digests digest) ∙ ap last_digest (sym added);
 }

@@ -76,7 +76,7 @@ impl Node {
             Ok(done) => done,
             Err(error) => return Err((None, run_error(error))),
         };
-        match store(log, machine, bytes) {
+        match store(log, machine, bytes, digest) {
             Ok(log) => {
                 let added = Appended::Added {
                     number: block.number,

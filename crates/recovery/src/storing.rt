@@ -18,10 +18,17 @@ ghost use Rattle.block_log.specs.{
 
 use block_log::{DiskFault, Log};
 use disk_model::Disk;
+use lc_base::Digest;
 
-/// Appends the next block, which has these bytes, to a log. The log is created first if the disk
-/// has none yet.
-pub fn store<M: Disk>(log: Log, machine: &mut M, bytes: &[u8]) -> Result<Log, DiskFault>
+/// Appends the next block, which has these bytes, to a log; `digest` is that of the bytes. The log
+/// is created first if the disk has none yet.
+pub fn store<M: Disk>(
+    log: Log,
+    machine: &mut M,
+    bytes: &[u8],
+    digest: Digest,
+) -> Result<Log, DiskFault>
+    requires digest { digest ≡ bytes_digest bytes.now }
     requires agrees { Rests (M.disk machine.old (M.now machine.old)) (Agrees log) }
     requires next { IsNextOf log bytes.now }
     ensures count { IfOk result (λ longer. longer.count ≡ log.count + 1) }
@@ -51,8 +58,8 @@ pub fn store<M: Disk>(log: Log, machine: &mut M, bytes: &[u8]) -> Result<Log, Di
     ensures cause { HasCause (M.disk_faults machine.old) (M.disk_faults machine.new) (IsErr result) }
 {
     if log.ready() {
-        return log.append(machine, bytes);
+        return log.append(machine, bytes, digest);
     }
     let log = log.create(machine)?;
-    log.append(machine, bytes)
+    log.append(machine, bytes, digest)
 }

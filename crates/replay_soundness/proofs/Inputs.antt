@@ -8,12 +8,12 @@ use Rattle.block_codec.specs.declared.block.Block.{Block}
 use Rattle.block_codec.specs.declared.placement.Placement.{Placement}
 use Rattle.block_codec.specs.declared.placement.Placement.TheVariants.{Known as KnownBlock, Next, Fork, Full, Number, Parent, Budget}
 use Rattle.block_codec.proofs.FrameBytes.{frame_bytes}
-use Rattle.typed_replays.specs.chain_exec.Compiled.{Compiler}
-use Rattle.typed_replays.specs.chain_replay.Chain.{placement_in}
-use Rattle.typed_replays.specs.chain_replay.Judging.{Taken, Known, Added, judged_by_placement, judgement_of, added_by, added_by_all}
-use Rattle.typed_replays.specs.chain_replay.declared.refusal.Refusal.{Refusal}
+use Rattle.replay_soundness.specs.chain_exec.Compiled.{Compiler}
+use Rattle.replay_soundness.specs.chain_replay.Chain.{placement_in}
+use Rattle.replay_soundness.specs.chain_replay.Judging.{Taken, Known, Added, judged_by_placement, judgement_of, added_by, added_by_all}
+use Rattle.replay_soundness.specs.chain_replay.declared.refusal.Refusal.{Refusal}
 use Rattle.chain_input.specs.Folding.{Fold, fold_after_frame, fold_step, fold_from}
-use Rattle.typed_replays.specs.Chains.{IsLawfulChain}
+use Rattle.replay_soundness.specs.TypedChains.{IsLawfulChain}
 use Rattle.replay_soundness.specs.Chains.{InputsAddToChains, InputsHoldChains}
 use Rattle.replay_soundness.proofs.Longer.{no_blocks, longer_chain}
 

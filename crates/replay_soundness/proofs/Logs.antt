@@ -13,9 +13,9 @@ use Rattle.block_log.specs.declared.layout.TheConstants.{OPEN_GATE, FIRST_GATE}
 use Rattle.block_log.specs.declared.layout.Stored.{Stored}
 use Rattle.block_log.specs.Standing.{Standing, Blank, NotALog, Damaged, Holds, NextBlock, next_decoded, next_block, blocks_in, after_record, record_at, records_at, is_log, is_blank, standing, blocks_of}
 use Rattle.block_log.proofs.Chained.{placed}
-use Rattle.typed_replays.specs.chain_exec.Compiled.{Compiler}
-use Rattle.typed_replays.specs.chain_replay.Chain.{placement_in}
-use Rattle.typed_replays.specs.Chains.{IsLawfulChain}
+use Rattle.replay_soundness.specs.chain_exec.Compiled.{Compiler}
+use Rattle.replay_soundness.specs.chain_replay.Chain.{placement_in}
+use Rattle.replay_soundness.specs.TypedChains.{IsLawfulChain}
 use Rattle.replay_soundness.specs.Chains.{LogsHoldChains}
 use Rattle.replay_soundness.proofs.Longer.{no_blocks, longer_chain}
 

@@ -6,9 +6,9 @@ use Rattle.std.proofs.lemmas.List.Elements.{All-nil, All-push}
 use Rattle.block_codec.specs.Spelling.{IsBlock}
 use Rattle.block_codec.specs.declared.block.Block.{Block}
 use Rattle.block_codec.specs.declared.placement.Placement.TheVariants.{Next}
-use Rattle.typed_replays.specs.chain_exec.Compiled.{Compiler}
-use Rattle.typed_replays.specs.chain_replay.Chain.{IsChain, placement_in}
-use Rattle.typed_replays.specs.Chains.{IsLawfulChain}
+use Rattle.replay_soundness.specs.chain_exec.Compiled.{Compiler}
+use Rattle.replay_soundness.specs.chain_replay.Chain.{IsChain, placement_in}
+use Rattle.replay_soundness.specs.TypedChains.{IsLawfulChain}
 
 pub no_blocks : (compile : Compiler) → IsLawfulChain compile []
 no_blocks compile = record { lawful = All-nil IsBlock; chained = λ i block within. absurd (omega (arith, within)) }

@@ -6,11 +6,11 @@ use Rattle.lc_base.specs.declared.answer.Answer.{Answer}
 use Rattle.lc_base.specs.declared.answer.Answer.TheVariants.{Nothing}
 use Rattle.merkle_tree.specs.Clash.{Clash}
 use Rattle.block_codec.specs.Placement.{digest_of}
-use Rattle.typed_replays.specs.chain_exec.Replay.{replay}
+use Rattle.replay_soundness.specs.chain_exec.Replay.{replay}
 use Rattle.proof_checks.proofs.Sound.{accepted_is_sound}
 use Rattle.proof_checks.specs.ProofTexts.{proof_texts}
 use Rattle.text_clashes.specs.FirstClash.{IsFirstAt, IsFirstClash}
-use Rattle.typed_replays.proofs.Chains.{replays_are_typed}
+use Rattle.replay_soundness.proofs.TypedChains.{replays_are_typed}
 use Rattle.replay_soundness.specs.Soundness.{replayed_answer, AcceptedProofsAnswerAsReplays, AcceptedProofsAnswerAsLogs, AcceptedAnswersAgree, NothingAndSomethingClash, ChainsWithOneRootAnswerAlike, WrongAnswersAreExposed, replayed_texts}
 use Rattle.replay_soundness.proofs.Logs.{logs_hold_chains}
 

@@ -4,11 +4,11 @@ use Rattle.byte_fields.specs.Spelling.{IsBytes}
 use Rattle.block_codec.specs.Spelling.{Decoder, IsDecoder}
 use Rattle.block_codec.specs.declared.block.Block.{Block}
 use Rattle.block_log.specs.Standing.{next_block, chain_of}
-use Rattle.typed_replays.specs.chain_exec.Compiled.{Compiler}
-use Rattle.typed_replays.specs.chain_replay.Chain.{placement_in}
-use Rattle.typed_replays.specs.chain_replay.Judging.{added_by_all}
+use Rattle.replay_soundness.specs.chain_exec.Compiled.{Compiler}
+use Rattle.replay_soundness.specs.chain_replay.Chain.{placement_in}
+use Rattle.replay_soundness.specs.chain_replay.Judging.{added_by_all}
 use Rattle.chain_input.specs.Folding.{fold_from, fold_input}
-use Rattle.typed_replays.specs.Chains.{IsLawfulChain}
+use Rattle.replay_soundness.specs.TypedChains.{IsLawfulChain}
 
 -- The blocks that the bytes of a log stand for are a chain.
 abbrev pub LogsHoldChains : Type 0

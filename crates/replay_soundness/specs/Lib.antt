@@ -1,6 +1,11 @@
 pub mod Chains
 pub mod Soundness
+pub mod Literals
+pub mod TypedChains
+pub mod TypedLaws
+pub mod FalseLaws
 pub use Rattle.chain_input.specs as chain_input
-pub use Rattle.typed_replays.specs.chain_replay as chain_replay
 pub use Rattle.proof_checks.specs as proof_checks
 pub use Rattle.rooted_chain.specs as rooted_chain
+pub use Rattle.chain_replay.specs.chain_exec as chain_exec
+pub use Rattle.chain_replay.specs as chain_replay

@@ -10,9 +10,9 @@ use Rattle.block_codec.specs.Placement.{digest_of}
 use Rattle.block_codec.specs.Spelling.{Decoder, IsDecoder}
 use Rattle.block_codec.specs.declared.block.Block.{Block}
 use Rattle.block_log.specs.Standing.{next_block, chain_of}
-use Rattle.typed_replays.specs.chain_exec.Compiled.{Compiler, IsCompiler}
-use Rattle.typed_replays.specs.chain_exec.Replay.{replay}
-use Rattle.typed_replays.specs.chain_replay.Chain.{placement_in}
+use Rattle.replay_soundness.specs.chain_exec.Compiled.{Compiler, IsCompiler}
+use Rattle.replay_soundness.specs.chain_exec.Replay.{replay}
+use Rattle.replay_soundness.specs.chain_replay.Chain.{placement_in}
 use Rattle.rooted_chain.specs.Roots.{root_in}
 use Rattle.proof_checks.specs.proof_codec.declared.proof.Proof.{Proof}
 use Rattle.proof_checks.specs.proof_codec.Spelling.{IsProof}
@@ -21,7 +21,7 @@ use Rattle.proof_checks.specs.ProofTexts.{proof_texts}
 use Rattle.proof_checks.specs.LedgerTexts.{ledger_texts}
 use Rattle.proof_checks.specs.Soundness.{AnswersOrClashes}
 use Rattle.text_clashes.specs.FirstClash.{IsFirstAt, IsFirstClash}
-use Rattle.typed_replays.specs.Chains.{IsLawfulChain}
+use Rattle.replay_soundness.specs.TypedChains.{IsLawfulChain}
 
 -- ---- premises
 

@@ -1,11 +1,19 @@
-//! Laws of what accepted proofs say of chains of blocks, and of where chains are found.
+//! Laws of what accepted proofs say of chains of blocks, and of where chains are found; and of what
+//! calls, blocks and replays write, by which the rows of a chain are within their types.
 #![tactic(auto)]
 
 mod chains;
+mod refuted;
 mod soundness;
+mod typed_laws;
 
 pub use chains::{inputs_add_to_chains, inputs_hold_chains, logs_hold_chains};
+pub use refuted::{compilers_matter, limits_matter, places_matter};
 pub use soundness::{
     accepted_answers_agree, accepted_proofs_answer_as_logs, accepted_proofs_answer_as_replays,
     chains_with_one_root_answer_alike, nothing_and_something_clash, wrong_answers_are_exposed,
+};
+pub use typed_laws::{
+    blocks_add_typed_rows, calls_write_typed_rows, chains_of_values_are_typed,
+    compilers_give_values, replays_are_typed,
 };

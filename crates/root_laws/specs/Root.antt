@@ -1,7 +1,6 @@
 -- The leaves of a history, one for each key, and the root of the tree over them.
 use Rattle.std.specs.Prelude.{ℕ, ◌==◌, Bool, if◌then◌else◌, List, [], ◌∷◌, ◌++◌, length, map, filter, replicate, slice_index_or, Option, Some, None}
 use Rattle.std.specs.List.{list_any, fold}
-use Rattle.std.specs.Int.{w32, to_be_bytes}
 use Rattle.std.specs.Ordering.{nat_cmp, is_lt}
 use Rattle.std.specs.Cmp.Lexicographic.{pointwise, slice_cmp}
 use Rattle.sha2.specs.Sha256.{sha256}
@@ -9,9 +8,8 @@ use Rattle.prov_entry.specs.merkle_tree.Tree.{leaf_text, tree_hash}
 use Rattle.lc_base.specs.declared.digest.Digest.{Digest}
 use Rattle.lc_base.specs.declared.row.Row.{Row}
 use Rattle.lc_base.specs.History.{up_to, newest, uses}
-use Rattle.prov_entry.specs.declared.limits.TheConstants.{ROOT}
 use Rattle.prov_entry.specs.declared.entry.Leaf.{Leaf}
-use Rattle.prov_entry.specs.Spelling.{leaf_bytes}
+use Rattle.prov_entry.specs.Spelling.{leaf_bytes, text_of_root}
 use Rattle.root_laws.specs.Naming.{digest_of_uses, header_digest}
 
 -- ---- keys
@@ -90,9 +88,9 @@ leaves rows = sentinel (keys_of rows) ∷ map (leaf_of rows) (keys_of rows)
 abbrev pub leaves_hash : List Leaf → List ℕ
 leaves_hash leaves = tree_hash (map (λ (leaf : Leaf). leaf_text (leaf_bytes leaf)) leaves)
 
--- The text of a root: the block, its digest, the number of leaves, and their tree hash.
+-- The text of the root of a block over some leaves.
 abbrev pub root_text : ℕ → List ℕ → List Leaf → List ℕ
-root_text block digest leaves = ROOT ∷ to_be_bytes w32 block ++ digest ++ to_be_bytes w32 (length leaves) ++ leaves_hash leaves
+root_text block digest leaves = text_of_root block digest (length leaves) (leaves_hash leaves)
 
 -- The digest of a block, among those of all blocks.
 abbrev pub digest_at : List Digest → ℕ → List ℕ

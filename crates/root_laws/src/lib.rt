@@ -1,8 +1,11 @@
 //! The header and the body of each row of a history, the leaves over its keys, and its root: laws of
 //! what `specs/` defines, each the contract of a function that does nothing.
+//! Some are of histories whose parts are within their types.
 #![tactic(auto)]
 
 mod laws;
+mod typed_laws;
+mod types;
 
 pub use laws::{
     closed_lists_are_of_the_history, dependencies_name_headers, earlier_headers_stay,
@@ -13,3 +16,7 @@ pub use laws::{
     versions_of_a_block_are_named,
 };
 pub use prov_entry::Header;
+pub use typed_laws::{
+    blocks_are_typed, bodies_are_bodies, headers_are_headers, leaves_are_leaves, parts_are_typed,
+};
+pub use types::check_row;

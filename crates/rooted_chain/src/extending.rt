@@ -12,7 +12,7 @@ ghost use Rattle.block_codec.specs.Spelling.{IsBlock};
 ghost use Rattle.chain_replay.specs.chain_exec.Compiled.{compiled_in};
 ghost use Rattle.chain_replay.specs.Chain.{HasRoom, IsAfter, StandsFor};
 ghost use Rattle.root_laws.specs.Root.{root_of};
-ghost use Rattle.lineage_reading.specs.merkle_dag.Lineage.{AgreesWith};
+ghost use Rattle.lineage_host.specs.merkle_dag.Lineage.{AgreesWith};
 ghost use Rattle.rooted_chain.specs.Roots.{kept_in, lineage_in, root_in, IsSoWithNext};
 
 use crate::chain::{LineageChain, discard};

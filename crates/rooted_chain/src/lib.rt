@@ -7,4 +7,4 @@ mod running;
 
 pub use chain::LineageChain;
 pub use chain_replay::{Chain, Judged, ReceiptList, Refusal, Replay};
-pub use lineage_reading::Lineage;
+pub use lineage_host::Lineage;

@@ -11,13 +11,13 @@ ghost use Rattle.chain_replay.specs.chain_exec.{
   Running.{history_in, staged_in},
 };
 ghost use Rattle.lc_base.specs.declared.host_error.HostError.TheVariants.{Fault};
-ghost use Rattle.lineage_reading.specs.merkle_dag.Lineage.{AgreesWith, LeavesLineage};
+ghost use Rattle.lineage_host.specs.merkle_dag.Lineage.{AgreesWith, LeavesLineage};
 
 use block_codec::Block;
 use chain_replay::{BlockRun, run_block};
 use contract_check::Checked;
 use lc_base::HostError;
-use lineage_reading::{Lineage, Reading};
+use lineage_host::{Lineage, Reading};
 use scratch_model::Scratch;
 use std::alloc::Global;
 use world_state::World;

@@ -1,4 +1,4 @@
--- One place more of a key, or a new list of its places, changes what is kept of that key alone.
+-- One place more of a key changes what is kept of that key alone.
 use Rattle.std.proofs.Common.{◌≡◌, ◌==◌, ℕ, List, [], ◌∷◌, ◌++◌, cond, Some, ap, ◌∙◌, inl, inr}
 use Rattle.std.specs.BTreeMap.{BTreeMap, get}
 use Rattle.std.specs.Ordering.{nat_cmp, is_eq}
@@ -22,23 +22,6 @@ kept_more before after key other place list own updates = elim
           ∙ ap (λ (k : List ℕ). places_in before k ++ place ∷ []) ((bytes_eq-Decides key other).0 t))
       | inr f ↦ rw f (ap list_or_empty updates ∙ chosen f)
     ]
-  where
-    chosen : {b : _} → pointwise ◌==◌ key other ≡ b
-        → list_or_empty (cond (is_eq (slice_cmp nat_cmp key other)) (Some list)
-        (get (slice_cmp nat_cmp) before other)) ≡ list_or_empty
-        (cond b (Some list) (get (slice_cmp nat_cmp) before other))
-    chosen e = ap (λ b. list_or_empty (cond b (Some list) (get (slice_cmp nat_cmp) before other)))
-        (is_eq-slice_cmp key other ∙ e)
-
-pub kept_new : (before after : BTreeMap (List ℕ) (List Place)) (key other : List ℕ)
-    (list : List Place)
-    → get (slice_cmp nat_cmp) after other ≡ cond (is_eq (slice_cmp nat_cmp key other)) (Some list)
-    (get (slice_cmp nat_cmp) before other)
-    → places_in after other ≡ cond (pointwise ◌==◌ key other) list (places_in before other)
-kept_new before after key other list updates = elim (cases_Bool (pointwise ◌==◌ key other)) [
-  | inl t ↦ rw t (ap list_or_empty updates ∙ chosen t)
-  | inr f ↦ rw f (ap list_or_empty updates ∙ chosen f)
-]
   where
     chosen : {b : _} → pointwise ◌==◌ key other ≡ b
         → list_or_empty (cond (is_eq (slice_cmp nat_cmp key other)) (Some list)

@@ -2,7 +2,7 @@
 //! over them.
 
 ghost use Rattle.std.specs.{
-  Prelude.{◌≡◌, ◌<◌, ◌≤◌, ℕ, List, [], ◌∷◌, ◌++◌, length, take, slice_get, Some, OnOk, IfOk},
+  Prelude.{◌≡◌, ◌<◌, ℕ, List, [], ◌∷◌, ◌++◌, length, slice_get, Some, OnOk, IfOk},
   List.{AllPairs},
 };
 ghost use Rattle.lc_base.specs.{declared.row.Row.{Row}, History.{StandsBefore, latest, uses}};
@@ -12,8 +12,8 @@ ghost use Rattle.rows_index.specs.{
   Index.{IsIndexOf, IsNext},
 };
 
-use crate::places::{Place, PlaceList, places_below_end, push_place, row_up_to};
-use crate::users::{IndexList, add_users, users_below};
+use crate::places::{Place, PlaceList, push_place, row_up_to};
+use crate::users::{IndexList, add_users};
 use lc_base::{Key, Memory, Row};
 use std::alloc::Global;
 use std::collections::BTreeMap;
@@ -107,18 +107,5 @@ impl RowsIndex {
             → AreVersionsAt rows result.now (uses rows row.key row.block) }
     {
         uses_of(self.users.as_slice(), index as usize)
-    }
-    /// The index over the first `count` rows, made from this one without the rows.
-    pub fn front(&self, count: u32) -> Result<RowsIndex, Memory>
-        requires { (rows : List Row) × IsIndexOf rows self.now × (count ≤ length rows) }
-        ensures { (rows : List Row) → IsIndexOf rows self.now
-            → IfOk result (IsIndexOf (take count rows)) }
-    {
-        let alloc = *self.users.allocator();
-        let first = &self.users[..count as usize];
-        Ok(RowsIndex {
-            places: places_below_end(alloc, &self.places, count)?,
-            users: users_below(alloc, first, count)?,
-        })
     }
 }

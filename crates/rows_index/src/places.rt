@@ -2,16 +2,13 @@
 //! last one up to a block.
 
 ghost use Rattle.std.specs.{
-  Prelude.{◌≡◌, ◌==◌, ℕ, List, [], ◌∷◌, ◌++◌, reverse, filter, nat_le, if◌then◌else◌, OnOk, IfOk},
+  Prelude.{◌≡◌, ◌==◌, ℕ, List, [], ◌∷◌, ◌++◌, nat_le, if◌then◌else◌, OnOk},
   List.{AllPairs},
   List.Sorted.{IsNonDecreasingBy},
   Cmp.Lexicographic.{pointwise},
 };
 ghost use Rattle.lc_base.specs.{declared.row.Row.{Row}, History.{StandsBefore}};
-ghost use Rattle.rows_index.specs.{
-  Places.{ArePlaces, block_of, index_up_to, last_up_to, places_in},
-  First.{stands_below, places_below},
-};
+ghost use Rattle.rows_index.specs.Places.{ArePlaces, block_of, index_up_to, last_up_to, places_in};
 
 use lc_base::{Key, Memory, Seq};
 use std::alloc::Global;
@@ -78,50 +75,4 @@ pub(crate) fn row_up_to(places: &BTreeMap<Key, PlaceList>, key: &Key, at: u32) -
             Some(place) => Some(place.row),
         },
     }
-}
-
-/// Appends a place, if its row is below `end`.
-fn push_below(list: &mut PlaceList, place: &Place, end: u32) -> Result<(), Memory>
-    ensures { OnOk result (list.new ≡ list.old ++ filter (stands_below end) (place.now ∷ [])) }
-{
-    if place.row < end {
-        list.push(*place)?;
-    }
-    Ok(())
-}
-
-/// The places of rows below `end`.
-fn list_below(alloc: Global, places: &[Place], end: u32) -> Result<PlaceList, Memory>
-    ensures { IfOk result (λ below. below ≡ places_below end places.now) }
-{
-    let mut below = PlaceList::new(alloc);
-    for place in places {
-        push_below(&mut below, place, end)?;
-    }
-    Ok(below)
-}
-
-/// Sets the places of a key.
-fn put_places(kept: &mut BTreeMap<Key, PlaceList>, key: &Key, list: PlaceList) -> Result<(), Memory>
-    ensures { OnOk result ((other : List ℕ) → places_in kept.new other
-        ≡ (if pointwise ◌==◌ key.now other then list else places_in kept.old other)) }
-{
-    kept.insert(*key, list)?;
-    Ok(())
-}
-
-/// For each key its places of rows below `end`.
-pub(crate) fn places_below_end(
-    alloc: Global,
-    places: &BTreeMap<Key, PlaceList>,
-    end: u32,
-) -> Result<BTreeMap<Key, PlaceList>, Memory>
-    ensures { IfOk result (λ below. (key : List ℕ)
-        → places_in below key ≡ places_below end (places_in places.now key)) }
-{
-    let mut below = BTreeMap::new(alloc);
-    for (key, list) in places.iter() {
-        put_places(&mut below, key, list_below(alloc, list.as_slice(), end)?)?;
-    }
-    Ok(below)
 }

@@ -2,14 +2,13 @@
 //! from earlier rows, and nothing was derived from it yet.
 
 ghost use Rattle.std.specs.{
-  Prelude.{◌≡◌, ◌<◌, ℕ, List, [], ◌∷◌, ◌++◌, length, map, filter, slice_index_or, slice_set, OnOk, IfOk},
+  Prelude.{◌≡◌, ◌<◌, ℕ, List, [], ◌∷◌, ◌++◌, length, slice_index_or, slice_set, OnOk, IfOk},
   List.{AllPairs},
 };
 ghost use Rattle.lc_base.specs.{declared.row.Row.{Row}, History.{StandsBefore}};
 ghost use Rattle.rows_index.specs.{
   Places.{ArePlaces, StandsAt},
   Users.{AreUsers, AreUsersWith, AreVersionsAt, CanUse, IsUnused},
-  First.{is_below, numbers_below},
 };
 
 use crate::places::{PlaceList, row_up_to};
@@ -85,40 +84,4 @@ pub(crate) fn add_users(
     let deps = add_to_versions(alloc, places, users, index, row.deps.as_slice())?;
     users.push(IndexList::new(alloc))?;
     Ok(deps)
-}
-
-/// Appends the index of a row, if it is below `end`.
-fn push_below(list: &mut IndexList, index: u32, end: u32) -> Result<(), Memory>
-    ensures { OnOk result (list.new ≡ list.old ++ filter (is_below end) (index ∷ [])) }
-{
-    if index < end {
-        list.push(index)?;
-    }
-    Ok(())
-}
-
-/// The indexes below `end`.
-fn indexes_below(alloc: Global, indexes: &[u32], end: u32) -> Result<IndexList, Memory>
-    ensures { IfOk result (λ below. below ≡ numbers_below end indexes.now) }
-{
-    let mut below = IndexList::new(alloc);
-    for index in indexes {
-        push_below(&mut below, *index, end)?;
-    }
-    Ok(below)
-}
-
-/// For each of these lists its indexes below `end`.
-pub(crate) fn users_below(
-    alloc: Global,
-    users: &[IndexList],
-    end: u32,
-) -> Result<Vec<IndexList>, Memory>
-    ensures { IfOk result (λ below. below.items ≡ map (numbers_below end) users.now) }
-{
-    let mut below = Vec::with_capacity(alloc, users.len())?;
-    for list in users {
-        below.push(indexes_below(alloc, list.as_slice(), end)?)?;
-    }
-    Ok(below)
 }

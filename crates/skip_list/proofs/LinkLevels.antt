@@ -13,11 +13,11 @@ use Rattle.skip_links.specs.Falling.{IsFalling, is_first, from_level}
 use Rattle.skip_links.specs.declared.limits.TheConstants.{MAX_LEVEL}
 use Rattle.skip_links.proofs.Differing.{apart, together, higher}
 use Rattle.skip_links.proofs.Falls.{not_higher}
-use Rattle.skip_path.specs.Towers.{height_up_to, height_over, from_last, last_at}
-use Rattle.skip_path.specs.Paths.{binary_digits}
-use Rattle.skip_path.proofs.Levels.{IsAt, leads_to_level, highest_link_is_higher}
-use Rattle.skip_path.proofs.Towers.{map_from, levels_more}
-use Rattle.skip_path.proofs.Walks.{digits_hold}
+use Rattle.skip_links.specs.Towers.{height_up_to, height_over, from_last, last_at}
+use Rattle.skip_links.specs.Paths.{binary_digits}
+use Rattle.skip_links.proofs.PathLevels.{IsAt, leads_to_level, highest_link_is_higher}
+use Rattle.skip_links.proofs.PathTowers.{map_from, levels_more}
+use Rattle.skip_links.proofs.Walks.{digits_hold}
 
 -- ---- the last version at a level
 

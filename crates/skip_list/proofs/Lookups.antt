@@ -7,11 +7,11 @@ use Rattle.std.specs.Option.{option_map}
 use Rattle.std.proofs.lemmas.Bool.{cases_lt, le-leb}
 use Rattle.std.proofs.lemmas.Option.{none-some}
 use Rattle.skip_links.specs.Falling.{IsFalling}
-use Rattle.skip_path.specs.Paths.{onward, path_over}
+use Rattle.skip_links.specs.Paths.{onward, path_over}
 use Rattle.skip_links.proofs.Falls.{rest_falls}
-use Rattle.skip_path.proofs.Bound.{late, next_none}
-use Rattle.skip_path.proofs.Towers.{next_of, next_answers, map_next, goes, Goes}
-use Rattle.skip_path.proofs.Walks.{over_ends, over_on, over_none, path_over_short}
+use Rattle.skip_links.proofs.Bound.{late, next_none}
+use Rattle.skip_links.proofs.PathTowers.{next_of, next_answers, map_next, goes, Goes}
+use Rattle.skip_links.proofs.Walks.{over_ends, over_on, over_none, path_over_short}
 use Rattle.entry_store.specs.declared.entry.EntryId.{EntryId}
 use Rattle.entry_store.specs.declared.entry.Hop.{Hop}
 use Rattle.entry_store.specs.Entries.{Entry}

@@ -8,8 +8,8 @@ use Rattle.std.proofs.lemmas.Option.{none-some, same_Some}
 use Rattle.skip_links.specs.Falling.{IsFalling}
 use Rattle.skip_links.proofs.Falls.{rest_falls}
 use Rattle.skip_links.proofs.Lists.{range_first}
-use Rattle.skip_path.specs.Towers.{height_over, last_at, tower}
-use Rattle.skip_path.proofs.Levels.{at_bottom}
+use Rattle.skip_links.specs.Towers.{height_over, last_at, tower}
+use Rattle.skip_links.proofs.PathLevels.{at_bottom}
 use Rattle.entry_store.specs.declared.entry.EntryId.{EntryId}
 use Rattle.entry_store.specs.declared.entry.Hop.{Hop}
 use Rattle.entry_store.specs.declared.entry.Links.{Links}

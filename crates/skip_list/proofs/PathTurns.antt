@@ -8,10 +8,10 @@ use Rattle.std.proofs.lemmas.Bool.{cases_lt, le-leb}
 use Rattle.std.proofs.lemmas.List.{append-nil, append_assoc, map-append, length_push}
 use Rattle.std.proofs.lemmas.Option.{same_Some, none-some}
 use Rattle.skip_links.specs.Falling.{IsFalling}
-use Rattle.skip_path.specs.Paths.{onward, path_over}
-use Rattle.skip_path.proofs.Bound.{late, next_none}
-use Rattle.skip_path.proofs.Towers.{next_of, next_keeps, map_next, goes, Goes}
-use Rattle.skip_path.proofs.Walks.{over_ends, over_on, over_none}
+use Rattle.skip_links.specs.Paths.{onward, path_over}
+use Rattle.skip_links.proofs.Bound.{late, next_none}
+use Rattle.skip_links.proofs.PathTowers.{next_of, next_keeps, map_next, goes, Goes}
+use Rattle.skip_links.proofs.Walks.{over_ends, over_on, over_none}
 use Rattle.entry_store.specs.declared.entry.EntryId.{EntryId}
 use Rattle.entry_store.specs.declared.entry.Hop.{Hop}
 use Rattle.entry_store.specs.declared.entry.Links.{Links}

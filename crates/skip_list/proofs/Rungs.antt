@@ -8,11 +8,11 @@ use Rattle.std.proofs.lemmas.Option.{same_Some, none-some}
 use Rattle.skip_links.specs.Falling.{IsFalling, is_first}
 use Rattle.skip_links.proofs.Falls.{all_lower}
 use Rattle.skip_links.specs.declared.limits.TheConstants.{MAX_LEVEL}
-use Rattle.skip_path.specs.Towers.{height_over, from_last, last_at, tower}
-use Rattle.skip_path.proofs.Levels.{at_bottom, levels_below}
-use Rattle.skip_path.proofs.Towers.{from_keeps, levels_more}
+use Rattle.skip_links.specs.Towers.{height_over, from_last, last_at, tower}
+use Rattle.skip_links.proofs.PathLevels.{at_bottom, levels_below}
+use Rattle.skip_links.proofs.PathTowers.{from_keeps, levels_more}
 use Rattle.skip_list.proofs.LinkLevels.{from_here, from_older, from_again, is_at_level, highest_is_higher, has_link, levels_long, levels_top, at_height, height_least, height_over_is, height_fits}
-use Rattle.skip_path.specs.Paths.{binary_digits}
+use Rattle.skip_links.specs.Paths.{binary_digits}
 use Rattle.entry_store.specs.declared.entry.EntryId.{EntryId}
 use Rattle.entry_store.specs.declared.entry.Hop.{Hop}
 use Rattle.entry_store.specs.declared.entry.Links.{Links}

@@ -1,7 +1,7 @@
 -- Heights of versions that can be worked out by hand.
 use Rattle.std.specs.Prelude.{ℕ, zero, suc, List, [], ◌∷◌}
-use Rattle.skip_path.specs.Towers.{height_over}
-use Rattle.skip_path.specs.Examples.{down_from}
+use Rattle.skip_links.specs.Towers.{height_over}
+use Rattle.skip_links.specs.Examples.{down_from}
 
 -- The heights of the versions in the blocks from this one down to 1, with a version in each block
 -- from 0 on.

@@ -2,7 +2,7 @@
 use Rattle.std.specs.Prelude.{◌≡◌, ℕ, List, [], ◌∷◌, map, Option, Some, None, slice_get, IsSomeAnd}
 use Rattle.std.specs.Option.{option_map}
 use Rattle.skip_links.specs.Falling.{IsFalling}
-use Rattle.skip_path.specs.Towers.{tower}
+use Rattle.skip_links.specs.Towers.{tower}
 use Rattle.entry_store.specs.declared.entry.EntryId.{EntryId}
 use Rattle.entry_store.specs.declared.entry.Hop.{Hop}
 use Rattle.entry_store.specs.Entries.{Entry}

@@ -6,7 +6,7 @@ ghost use Rattle.std.specs.{
   List.{All},
 };
 ghost use Rattle.skip_links.specs.declared.limits.TheConstants.{MAX_LEVEL};
-ghost use Rattle.skip_path.specs.Paths.{binary_digits};
+ghost use Rattle.skip_links.specs.Paths.{binary_digits};
 ghost use Rattle.entry_store.specs.{declared.entry.Hop.{Hop}, Steps.{raised_count}};
 ghost use Rattle.skip_list.specs.{
   Climbing.{entries_climbed},

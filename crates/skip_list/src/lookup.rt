@@ -6,7 +6,7 @@ ghost use Rattle.std.specs.{
   List.{find},
   Option.{option_copied},
 };
-ghost use Rattle.skip_path.specs.Paths.{onward, path_over};
+ghost use Rattle.skip_links.specs.Paths.{onward, path_over};
 ghost use Rattle.entry_store.specs.{
   declared.entry.Hop.{Hop},
   declared.entry.EntryId.{EntryId},

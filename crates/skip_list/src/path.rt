@@ -1,7 +1,7 @@
 //! Lists the versions that a lookup looks at: their blocks are its path.
 
 ghost use Rattle.std.specs.Prelude.{◌≡◌, List, length, map, Some, IfOk};
-ghost use Rattle.skip_path.specs.Paths.{path_over};
+ghost use Rattle.skip_links.specs.Paths.{path_over};
 ghost use Rattle.entry_store.specs.{declared.entry.Hop.{Hop}, Steps.{raised_count}};
 ghost use Rattle.skip_list.specs.{
   Towered.{blocks_of, IsTowered},

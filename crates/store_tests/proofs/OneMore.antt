@@ -6,7 +6,7 @@ use Rattle.std.specs.Option.{option_map}
 use Rattle.std.proofs.lemmas.List.Elements.{All-from_recursion}
 use Rattle.skip_links.specs.Falling.{IsFalling}
 use Rattle.skip_links.proofs.Falls.{all_lower}
-use Rattle.skip_path.proofs.Towers.{tower_holds}
+use Rattle.skip_links.proofs.PathTowers.{tower_holds}
 use Rattle.entry_store.specs.declared.entry.EntryId.{EntryId}
 use Rattle.entry_store.specs.declared.entry.Hop.{Hop}
 use Rattle.entry_store.specs.Entries.{Entry, LeadsBack}

@@ -13,16 +13,16 @@ use Rattle.text_clashes.specs.FirstClash.{text_at}
 use Rattle.text_clashes.specs.Places.{IsOtherAt, IsFirstOther, ArePlaces, IsEntry, IsTable, places_with, entry_with, entry_of}
 
 module _ (texts : List (List ℕ)) (last : List ℕ) where
-  abbrev more : List (List ℕ)
+  abbrev pub more : List (List ℕ)
   more = texts ++ last ∷ []
 
-  longer : length more ≡ length texts + 1
+  pub longer : length more ≡ length texts + 1
   longer = length-append texts (last ∷ [])
 
-  inside : (i : ℕ) → i < length texts → text_at more i ≡ text_at texts i
+  pub inside : (i : ℕ) → i < length texts → text_at more i ≡ text_at texts i
   inside i within = get_or_append_left texts (last ∷ []) [] i within
 
-  at_end : text_at more (length texts) ≡ last
+  pub at_end : text_at more (length texts) ≡ last
   at_end = get_or_push texts last [] (length texts) refl
 
   -- what holds of each text before, and of the last one, holds of all

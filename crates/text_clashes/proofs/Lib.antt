@@ -1,4 +1,7 @@
 pub mod Adding
-pub mod Looking
 pub mod FirstPlaces
+pub mod Looking
 pub mod OneFirst
+pub mod Searched
+pub mod Ways
+pub mod Parts

@@ -1,2 +1,5 @@
 pub mod FirstClash
 pub mod Places
+pub mod Search
+pub mod Searching
+pub mod Ways

@@ -1,7 +1,18 @@
-//! The first clash of two lists of texts: a text of each, which differ and have one digest.
+//! The texts that a proof shows, each of which is what one digest of the proof is computed from; and
+//! the first clash of two lists of texts: a text of each, which differ and have one digest.
 #![tactic(auto)]
 
 mod finding;
+mod found;
+mod lists;
+mod proof;
+mod search;
 mod table;
+mod text;
+mod way;
 
 pub use finding::first_clash;
+pub use proof::proof_texts;
+pub use proof_views::ProofView;
+pub use search::ClashSearch;
+pub use text::{node_text, root_text, tagged_text, use_text};

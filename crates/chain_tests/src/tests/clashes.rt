@@ -2,7 +2,7 @@
 
 use lc_base::{Bytes, Memory, TextList};
 use std::alloc::Global;
-use text_clashes::first_clash;
+use text_clashes::{ClashSearch, first_clash};
 
 /// The list of these texts, each of one byte.
 fn texts_of(alloc: Global, bytes: &[u8]) -> Result<TextList, Memory> {
@@ -15,11 +15,18 @@ fn texts_of(alloc: Global, bytes: &[u8]) -> Result<TextList, Memory> {
     Ok(texts)
 }
 
-/// Whether memory suffices, and no two texts of these lists clash.
+/// Whether memory suffices, and no two texts of these lists clash: found by the lists, and by a
+/// search that is given the texts of the second one after another.
 fn has_no_clash(alloc: Global, given: &[u8], own: &[u8]) -> Result<bool, Memory> {
     let given = texts_of(alloc, given)?;
-    let own = texts_of(alloc, own)?;
-    Ok(first_clash(alloc, &given, &own)?.is_none())
+    let none_by_lists = first_clash(alloc, &given, &texts_of(alloc, own)?)?.is_none();
+    let mut search = ClashSearch::new(alloc, given)?;
+    for byte in own {
+        let mut text = Bytes::new(alloc);
+        text.push(*byte)?;
+        search.add(text);
+    }
+    Ok(none_by_lists && search.finish()?.is_none())
 }
 
 #[test]

@@ -1,5 +1,5 @@
 use Rattle.std.proofs.Common.{List, sym, subst}
-use Rattle.skip_path.specs.Paths.{path}
+use Rattle.skip_links.specs.Paths.{path}
 use Rattle.entry_store.specs.declared.entry.EntryId.{EntryId}
 use Rattle.lineage_store.specs.OnPath.{AreEntriesIn}
 use Rattle.answer_proof.proofs.walking.path_headers.Goals as goal

@@ -1,9 +1,9 @@
 use Rattle.std.proofs.Common.{ap}
 use Rattle.serde_json.specs.View.{view}
 use Rattle.block_codec.specs.Spelling.{IsTx}
-use Rattle.chain_draft.specs.Transactions.{tx_in}
+use Rattle.chain_pack.specs.Transactions.{tx_in}
 use Rattle.chain_pack.specs.Draft.{at_block}
-use Rattle.chain_draft.proofs.Each.{made_more, made_but, made_all}
+use Rattle.chain_pack.proofs.Each.{made_more, made_but, made_all}
 use Rattle.chain_pack.proofs.block.txs_at.Goals as goal
 
 pub returns-in-Err-Shape-clause-read : goal.returns-in-Err-Shape-clause-read

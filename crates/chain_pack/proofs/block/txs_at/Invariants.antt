@@ -1,7 +1,7 @@
 use Rattle.serde_json.specs.View.{view}
 use Rattle.block_codec.specs.Spelling.{IsTx}
-use Rattle.chain_draft.specs.Transactions.{tx_in}
-use Rattle.chain_draft.proofs.Each.{Made}
+use Rattle.chain_pack.specs.Transactions.{tx_in}
+use Rattle.chain_pack.proofs.Each.{Made}
 use Rattle.chain_pack.proofs.block.txs_at.Given as goal
 
 abbrev pub invariant-loop-item : goal.invariant-loop-item

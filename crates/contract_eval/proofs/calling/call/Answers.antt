@@ -8,7 +8,7 @@ use Rattle.contract_tree.specs.Tree.{contract_of, function_of}
 use Rattle.contract_semantics.specs.Scenes.{scene_of}
 use Rattle.contract_semantics.specs.Calls.{call_result, function_called}
 use Rattle.contract_eval.proofs.Called.{called_is, ok_so}
-use Rattle.eval_statements.proofs.eval_expressions.ToldRows.{told_at, told_all}
+use Rattle.contract_eval.proofs.eval_expressions.ToldRows.{told_at, told_all}
 use Rattle.contract_eval.proofs.calling.call.Goals as goal
 
 pub returns-clause-outcome : goal.returns-clause-outcome

@@ -8,9 +8,12 @@ use Rattle.lineage_index.specs.Leaves.{IsLeafIndex, state_of}
 use Rattle.lineage_index.proofs.LeafStates.{beside_leaves, touched_within, states_within, leaves_renewed}
 use Rattle.lineage_index.proofs.leaves.renew_leaves.Goals as goal
 
+pub touched_indexes-requires : goal.touched_indexes-requires
+touched_indexes-requires c = c.requires.touched
+
 pub leaf_states-requires : goal.leaf_states-requires
 leaf_states-requires c =
-    let given = c.requires in (
+    let given = c.requires.renewing in (
       given.0,
       beside_leaves given.0 given.1 [] c.args.tree.now c.args.lists.now c.args.newest.now c.args.store.now given.2,
       subst (All (IsLeafIndex (keys_of given.0))) (sym c.deref.ensures.value)
@@ -19,7 +22,7 @@ leaf_states-requires c =
 
 pub set_leaves-requires-clause-own : goal.set_leaves-requires-clause-own
 set_leaves-requires-clause-own c =
-    let given = c.requires in
+    let given = c.requires.renewing in
     let within = subst (All (IsLeafIndex (keys_of given.0))) (sym c.deref.ensures.value)
     (touched_within given.0 given.1 c.args.tree.now c.args.lists.now c.args.newest.now c.args.store.now (keys_touched c.args.new.now) c.in_ok-indexes.indexes.items given.2 c.in_ok-indexes.ensures.all) in
     (states_within given.0 given.1 c.args.tree.now c.args.lists.now c.args.newest.now c.args.store.now c.deref.result.now c.deref-2.result.now given.2 within
@@ -27,7 +30,7 @@ set_leaves-requires-clause-own c =
 
 pub set_leaves-requires-clause-below : goal.set_leaves-requires-clause-below
 set_leaves-requires-clause-below c =
-    let given = c.requires in
+    let given = c.requires.renewing in
     let within = subst (All (IsLeafIndex (keys_of given.0))) (sym c.deref.ensures.value)
     (touched_within given.0 given.1 c.args.tree.now c.args.lists.now c.args.newest.now c.args.store.now (keys_touched c.args.new.now) c.in_ok-indexes.indexes.items given.2 c.in_ok-indexes.ensures.all) in
     (states_within given.0 given.1 c.args.tree.now c.args.lists.now c.args.newest.now c.args.store.now c.deref.result.now c.deref-2.result.now given.2 within

@@ -5,11 +5,9 @@ use Rattle.std.proofs.lemmas.List.{length-append, length-map}
 use Rattle.std.proofs.lemmas.List.Elements.{All-append}
 use Rattle.sha2.specs.Sha256.{sha256}
 use Rattle.lc_base.specs.declared.row.Row.{Row}
-use Rattle.lc_base.specs.History.{IsLawful}
 use Rattle.prov_entry.specs.declared.entry.Leaf.{Leaf}
 use Rattle.lineage_index.specs.lineage_store.root_laws.Root.{root_text, leaves}
-use Rattle.rows_index.specs.Index.{IsIndexOf as IsUsesIndexOf}
-use Rattle.lineage_front.specs.typed_ledger.TypedLedger.{IsTypedRow}
+use Rattle.lineage_rewind.specs.root_laws.TypedLedger.{IsTypedRow}
 use Rattle.lineage_index.specs.Growth.{Grows}
 use Rattle.lineage_index.specs.Index.{IsIndexOf}
 use Rattle.body_store.specs.Bodies.{bodies_in}
@@ -29,19 +27,10 @@ add_block-requires g c =
     let given = c.requires in (
       rows,
       c.args.number,
-      subst (λ (new : List Row). Grows rows new c.args.number) (sym c.as_slice.ensures)
+      subst (λ (new : List Row). Grows rows new c.args.number) (sym c.as_slice-2.ensures)
           (grows rows c.args.new.now old.digests.items old.roots.items c.args.number c.args.digest
           c.args.digest given.whole.ledger given.next given.block given.lawful),
       subst (λ (m : ℕ). IsIndexOf rows m old.index) (sym given.next) given.whole.index_is,
-    )
-
-pub add_uses-requires : goal.add_uses-requires
-add_uses-requires g c =
-    let given = c.requires in (
-      rows_kept c.args.kept.now.index,
-      subst (λ (new : List Row). IsLawful (rows_kept c.args.kept.now.index ++ new))
-          (sym c.as_slice-2.ensures) given.lawful,
-      given.whole.uses_are,
     )
 
 pub add_bodies-added-requires-clause-room : goal.add_bodies-added-requires-clause-room
@@ -49,7 +38,8 @@ add_bodies-added-requires-clause-room g c =
     let old = c.args.kept.now in
     let rows = rows_kept old.index in
     let given = c.requires in
-    let growing = subst (λ (new : List Row). Grows rows new c.args.number) (sym c.as_slice.ensures)
+    let growing = subst (λ (new : List Row). Grows rows new c.args.number) (sym
+    c.as_slice-2.ensures)
     (grows rows c.args.new.now old.digests.items old.roots.items c.args.number c.args.digest
     c.args.digest given.whole.ledger given.next given.block given.lawful) in
     let before = subst (λ (m : ℕ). IsIndexOf rows m old.index) (sym given.next)
@@ -61,10 +51,10 @@ add_bodies-added-requires-clause-room g c =
       length-append rows
           c.args.new.now,
       given.lawful.few,
-      ap length c.as_slice.ensures,
+      ap length c.as_slice-2.ensures,
       ap length c.as_slice-3.ensures,
       ap length (c.in_ok-spelled.ensures.bodies rows c.args.number growing before),
-      length-map c.as_slice.result.now (bytes_of (rows ++ c.as_slice.result.now)),
+      length-map c.as_slice-2.result.now (bytes_of (rows ++ c.as_slice-2.result.now)),
     )
 
 module _ (g : Over) (c : goal.After-drop-spelled-inside-in-Ok g) where
@@ -91,33 +81,25 @@ module _ (g : Over) (c : goal.After-drop-spelled-inside-in-Ok g) where
   index : IsIndexOf (rows ++ new) (number + 1) c.add_block.new.self
   index =
       let after = c.in_ok-spelled.ensures.index rows number
-      (subst (λ (more : List Row). Grows rows more number) (sym c.as_slice.ensures) growing)
+      (subst (λ (more : List Row). Grows rows more number) (sym c.as_slice-2.ensures) growing)
       before in
       subst (λ (more : List Row). IsIndexOf (rows ++ more) (number + 1) c.add_block.new.self)
-      c.as_slice.ensures after
+      c.as_slice-2.ensures after
 
   typed : All IsTypedRow (rows ++ new)
   typed = All-append IsTypedRow rows new c.requires.whole.typed
-      (subst (All IsTypedRow) c.as_slice-2.ensures c.in_ok-add_uses.ensures.typed)
+      (subst (All IsTypedRow) c.as_slice.ensures c.check_rows.ensures)
 
   all_rows : rows_kept c.add_block.new.self ≡ rows ++ new
   all_rows = rows_are (rows ++ new) (number + 1) c.add_block.new.self index typed
 
-  users : IsUsesIndexOf (rows ++ new) c.add_uses.new.uses
-  users =
-      let lawful = subst (λ (more : List Row). IsLawful (rows ++ more)) (sym c.as_slice-2.ensures)
-      c.requires.lawful in
-      let after = c.in_ok-add_uses.ensures.uses rows lawful c.requires.whole.uses_are in
-      subst (λ (more : List Row). IsUsesIndexOf (rows ++ more) c.add_uses.new.uses)
-      c.as_slice-2.ensures after
-
   spelled : c.as_slice-3.result.now ≡ map (bytes_of (rows ++ new)) new
   spelled =
       let made = c.in_ok-spelled.ensures.bodies rows number
-      (subst (λ (more : List Row). Grows rows more number) (sym c.as_slice.ensures) growing)
+      (subst (λ (more : List Row). Grows rows more number) (sym c.as_slice-2.ensures) growing)
       before in
       c.as_slice-3.ensures ∙ made
-      ∙ ap (λ (more : List Row). map (bytes_of (rows ++ more)) more) c.as_slice.ensures
+      ∙ ap (λ (more : List Row). map (bytes_of (rows ++ more)) more) c.as_slice-2.ensures
 
   bodies : bodies_in c.add_bodies-added.new.bodies ≡ map (λ (entry : Entry). entry.body)
       c.add_block.new.self.store
@@ -138,7 +120,7 @@ returns-in-Ok-clause-whole g c =
     let root = c.root_of_tree-root.result in
     let digests = (old g c).digests.items in
     let roots = (old g c).roots.items in
-    keeps_at (rows g c ++ new g c) _ c.add_block.new.self c.add_uses.new.uses
+    keeps_at (rows g c ++ new g c) _ c.add_block.new.self
     c.add_bodies-added.new.bodies (digests ++ c.args.digest ∷ []) _ (roots ++ root ∷ []) _
     (all_rows g c) c.in_ok-push.ensures.items c.in_ok-push-2.ensures.items (record {
       ledger = ledger_is (rows g c) (new g c) digests roots c.args.number c.args.digest root
@@ -148,7 +130,6 @@ returns-in-Ok-clause-whole g c =
           c.check_digest.ensures;
       index_is = index_is (rows g c) (new g c) digests roots c.args.number c.args.digest root
           given.whole.ledger given.next given.block given.lawful c.add_block.new.self (index g c);
-      uses_are = users g c;
       bodies_are = bodies g c;
       roots_are = roots_are (rows g c) (new g c) digests roots c.args.number c.args.digest root
           given.whole.ledger given.next given.block given.lawful (made g c) given.whole.roots_are;

@@ -13,13 +13,12 @@ front-requires-2 c =
     let kept = c.args.kept.now in
     let rows = rows_kept kept.index in
     let whole = c.requires.whole in
-    let both = c.in_ok-index.ensures rows (length kept.digests.items) whole.index_is whole.uses_are
-    in
-    count_within rows kept.index c.in_ok-index.index kept.uses c.in_ok-index.uses kept.bodies
+    let first_is = c.in_ok-index.ensures rows (length kept.digests.items) whole.index_is in
+    count_within rows kept.index c.in_ok-index.index kept.bodies
     kept.bodies kept.digests.items kept.roots.items c.args.at c.count.result whole
-    c.requires.within both.0
+    c.requires.within first_is
     (c.count.ensures.count ∙ ap length
-    (c.store.ensures (up_to rows c.args.at) (c.args.at + 1) both.0))
+    (c.store.ensures (up_to rows c.args.at) (c.args.at + 1) first_is))
 
 pub first_digests-requires-2 : goal.first_digests-requires-2
 first_digests-requires-2 c =
@@ -37,14 +36,13 @@ returns-clause-rows c =
     let kept = c.args.kept.now in
     let rows = rows_kept kept.index in
     let whole = c.requires.whole in
-    let both = c.in_ok-index.ensures rows (length kept.digests.items) whole.index_is whole.uses_are
-    in
-    rows_are (up_to rows c.args.at) (c.args.at + 1) c.in_ok-index.index both.0
-    (first_typed rows kept.index c.in_ok-index.index kept.uses c.in_ok-index.uses kept.bodies
+    let first_is = c.in_ok-index.ensures rows (length kept.digests.items) whole.index_is in
+    rows_are (up_to rows c.args.at) (c.args.at + 1) c.in_ok-index.index first_is
+    (first_typed rows kept.index c.in_ok-index.index kept.bodies
     kept.bodies kept.digests.items kept.roots.items c.args.at c.count.result whole
-    c.requires.within both.0
+    c.requires.within first_is
     (c.count.ensures.count ∙ ap length
-    (c.store.ensures (up_to rows c.args.at) (c.args.at + 1) both.0)))
+    (c.store.ensures (up_to rows c.args.at) (c.args.at + 1) first_is)))
 
 pub returns-clause-bodies : goal.returns-clause-bodies
 returns-clause-bodies c =
@@ -52,11 +50,10 @@ returns-clause-bodies c =
     let rows = rows_kept kept.index in
     let first = up_to rows c.args.at in
     let whole = c.requires.whole in
-    let both = c.in_ok-index.ensures rows (length kept.digests.items) whole.index_is whole.uses_are
-    in
+    let first_is = c.in_ok-index.ensures rows (length kept.digests.items) whole.index_is in
     c.in_ok-bodies.ensures.front
     ∙ ap (λ (count : ℕ). first_bodies count kept.bodies)
-    (c.count.ensures.count ∙ ap length (c.store.ensures first (c.args.at + 1) both.0)
+    (c.count.ensures.count ∙ ap length (c.store.ensures first (c.args.at + 1) first_is)
     ∙ as_many first [] first)
 
 pub returns-clause-whole : goal.returns-clause-whole
@@ -64,19 +61,18 @@ returns-clause-whole c =
     let kept = c.args.kept.now in
     let rows = rows_kept kept.index in
     let whole = c.requires.whole in
-    let both = c.in_ok-index.ensures rows (length kept.digests.items) whole.index_is whole.uses_are
-    in
+    let first_is = c.in_ok-index.ensures rows (length kept.digests.items) whole.index_is in
     let count_is = c.count.ensures.count
-    ∙ ap length (c.store.ensures (up_to rows c.args.at) (c.args.at + 1) both.0) in
-    let typed = first_typed rows kept.index c.in_ok-index.index kept.uses c.in_ok-index.uses
-    kept.bodies kept.bodies kept.digests.items kept.roots.items c.args.at c.count.result whole
-    c.requires.within both.0 count_is in
-    keeps_at (up_to rows c.args.at) _ c.in_ok-index.index c.in_ok-index.uses c.in_ok-bodies.bodies
+    ∙ ap length (c.store.ensures (up_to rows c.args.at) (c.args.at + 1) first_is) in
+    let typed = first_typed rows kept.index c.in_ok-index.index kept.bodies kept.bodies
+    kept.digests.items kept.roots.items c.args.at c.count.result whole
+    c.requires.within first_is count_is in
+    keeps_at (up_to rows c.args.at) _ c.in_ok-index.index c.in_ok-bodies.bodies
     (take (c.args.at + 1) kept.digests.items) _ (take (c.args.at + 1) kept.roots.items) _
-    (rows_are (up_to rows c.args.at) (c.args.at + 1) c.in_ok-index.index both.0 typed)
+    (rows_are (up_to rows c.args.at) (c.args.at + 1) c.in_ok-index.index first_is typed)
     (c.in_ok-digests.ensures ∙ ap (take (c.args.at + 1)) c.deref.ensures.value)
     (c.in_ok-roots.ensures ∙ ap (take (c.args.at + 1)) c.deref-2.ensures.value)
-    (first_keeps rows kept.index c.in_ok-index.index kept.uses c.in_ok-index.uses kept.bodies
+    (first_keeps rows kept.index c.in_ok-index.index kept.bodies
     c.in_ok-bodies.bodies kept.digests.items kept.roots.items c.args.at c.count.result whole
-    c.requires.within both.0 count_is
-    both.1 (ap (λ (s : BodiesState). s.kept) c.in_ok-bodies.ensures.front))
+    c.requires.within first_is count_is
+    (ap (λ (s : BodiesState). s.kept) c.in_ok-bodies.ensures.front))

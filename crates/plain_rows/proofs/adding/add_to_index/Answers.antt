@@ -7,7 +7,7 @@ use Rattle.lc_base.specs.declared.row.Row.{Row}
 use Rattle.lc_base.specs.History.{IsLawful}
 use Rattle.rows_index.specs.Index.{IsIndexOf, IsNext}
 use Rattle.rows_index.proofs.OneRow.{split_at}
-use Rattle.typed_ledger.specs.TypedLedger.{IsTypedRow}
+use Rattle.root_laws.specs.TypedLedger.{IsTypedRow}
 use Rattle.plain_rows.specs.declared.kept.KeptRow.{KeptRow}
 use Rattle.plain_rows.specs.Kept.{AreKept, rows_with}
 use Rattle.plain_rows.proofs.Keeping.{kept_as, kept_more, rows_more}

@@ -1,6 +1,6 @@
 use Rattle.std.proofs.Common.{◌≡◌, ◌+◌, ◌-◌, ◌≤◌, List, length}
 use Rattle.std.specs.List.{filter_map, range_with_len}
-use Rattle.skip_path.specs.Towers.{last_at}
+use Rattle.skip_links.specs.Towers.{last_at}
 use Rattle.entry_store.specs.declared.entry.Hop.{Hop}
 use Rattle.skip_list.specs.Towered.{block_of, AreVersions}
 use Rattle.skip_list.specs.Climbing.{IsAllBelow}

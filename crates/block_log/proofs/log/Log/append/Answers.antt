@@ -80,7 +80,7 @@ returns-clause-agrees g c =
     let log = the_view c.self.inside in
     let bytes = c.args.bytes.now in
     let joined : take (length bytes + 5) c.deref.result.now ≡ record_bytes bytes = ap (take (length bytes + 5)) c.deref.ensures.value ∙ c.fill.ensures.record in
-    rw c.block_digest.ensures
+    rw c.requires.digest
     (agrees_then log c.args.self bytes c.self.view_is c.requires.next (λ i. omega (arith, c.type_inv.bytes i)) _ c.requires.ready c.requires.agrees _ _ (rw joined at c.in_ok-write_through.ensures.disk) c.in_ok-write_through-2.ensures.disk)
 
 pub returns-clause-added : goal.returns-clause-added

@@ -1,5 +1,6 @@
 use Rattle.std.proofs.Common.{length}
 use Rattle.merkle_dag.specs.Kept.{rows_kept}
+use Rattle.merkle_dag.proofs.LookedAt.{count_few}
 use Rattle.merkle_dag.proofs.lineage.Lineage.latest_row.Goals as goal
 
 pub latest_row-requires : goal.latest_row-requires
@@ -19,3 +20,11 @@ pub returns-clause-count : goal.returns-clause-count
 returns-clause-count c = rw (← c.self.view_is)
     (c.latest_row.ensures.count (rows_kept c.self.inside.kept.index)
     (length c.self.inside.kept.digests.items) c.self.invariant.index_is)
+
+pub returns-clause-few : goal.returns-clause-few
+returns-clause-few c = rw (← c.self.view_is)
+    (count_few (rows_kept c.self.inside.kept.index) c.self.inside.kept.digests.items c.args.key.now
+    c.args.at c.args.steps.now c.latest_row.new.steps
+    c.self.invariant.ledger
+    (c.latest_row.ensures.count (rows_kept c.self.inside.kept.index)
+    (length c.self.inside.kept.digests.items) c.self.invariant.index_is))

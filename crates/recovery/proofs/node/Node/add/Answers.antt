@@ -18,7 +18,7 @@ use Rattle.recovery.specs.Node.{NodeState, AreOfBlocks, IsNodeOf}
 use Rattle.recovery.specs.contracts.node.Node.{the_view}
 use Rattle.recovery.proofs.Placing.{next_of_log}
 use Rattle.recovery.proofs.ByLog.{still_log, spelled_log}
-use Rattle.recovery.proofs.Nodes.{is_added, still, next_after, longer_node, one_more}
+use Rattle.recovery.proofs.Nodes.{is_added, still, next_after, longer_node, hashed, one_more}
 use Rattle.recovery.proofs.node.Node.add.Given.{Over}
 use Rattle.recovery.proofs.node.Node.add.Goals as goal
 use Rattle.recovery.proofs.node.Node.add.Goals.{After-drop-run}
@@ -35,6 +35,10 @@ store-requires-clause-next g c =
     c.args.block.now c.args.digest) (sym c.self.view_is) c.requires.next in
     next_of_log (kept_in c.self.inside.chain) c.self.inside.log c.args.bytes.now c.args.block.now
     c.args.digest c.self.invariant next
+
+pub store-requires-clause-digest : goal.store-requires-clause-digest
+store-requires-clause-digest g c = hashed c.args.self.chain c.args.bytes.now c.args.block.now
+    c.args.digest (λ i. omega (arith, c.type_inv.bytes i)) c.requires.next
 
 pub overflow_cast-added : goal.overflow_cast-added
 overflow_cast-added g c =

@@ -11,8 +11,8 @@ use Rattle.world_state.specs.declared.held.Held.{Held}
 use Rattle.chain_replay.specs.Chain.{IsAfter}
 use Rattle.chain_replay.proofs.Chains.{is_after, stands_after}
 use Rattle.root_laws.specs.Root.{root_of}
-use Rattle.lineage_reading.specs.merkle_dag.Ledger.{Ledger}
-use Rattle.lineage_reading.proofs.merkle_dag.Causes.{unblamed, blameless}
+use Rattle.lineage_host.specs.merkle_dag.Ledger.{Ledger}
+use Rattle.lineage_host.proofs.merkle_dag.Causes.{unblamed, blameless}
 use Rattle.rooted_chain.specs.Roots.{RootedState, kept_in}
 use Rattle.rooted_chain.proofs.Rooted.{rooted}
 use Rattle.rooted_chain.proofs.HasRun.{rooted_of, run_lawful, run_kept}

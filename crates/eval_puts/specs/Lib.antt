@@ -1,1 +1,0 @@
-pub use Rattle.dep_capture.specs as dep_capture

@@ -1,3 +1,0 @@
-pub mod Loops
-pub mod Branches
-pub use Rattle.eval_simple.proofs.eval_expressions as eval_expressions

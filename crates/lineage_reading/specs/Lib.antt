@@ -1,4 +1,0 @@
-pub mod Found
-pub mod Telling
-pub use Rattle.merkle_dag.specs.entry_store as entry_store
-pub use Rattle.merkle_dag.specs as merkle_dag

@@ -1,0 +1,101 @@
+-- The rows of a chain are a typed ledger, by induction on its blocks from the first one on.
+use Rattle.std.proofs.Common.{◌≡◌, ◌≢◌, ℕ, ◌+◌, ◌<◌, ◌≤◌, List, [], ◌∷◌, ◌++◌, length, get_or, map, Option, None, Some, sym, ap, subst, ◌∙◌, arith}
+use Rattle.std.specs.Prelude.{◌==◌, ◌||◌, nat_lt, slice_get}
+use Rattle.std.specs.List.{All}
+use Rattle.std.proofs.Math.Seq.{get_or-append_seam, take-append_seam}
+use Rattle.std.proofs.lemmas.Bool.Decides.{nat_tests}
+use Rattle.std.proofs.lemmas.List.{append-nil, append_assoc, length-append, length-map}
+use Rattle.std.proofs.lemmas.List.Elements.{All-map}
+use Rattle.sha2.proofs.Facts256.{length-sha256}
+use Rattle.lc_base.specs.declared.digest.Digest.{Digest}
+use Rattle.lc_base.specs.declared.row.Row.{Row}
+use Rattle.block_codec.specs.Spelling.{IsBlock}
+use Rattle.block_codec.specs.Placement.{digest_of, last_digest, is_same_digest, new_placement, placement}
+use Rattle.block_codec.specs.declared.limits.TheConstants.{MAX_BLOCKS, MAX_ROWS_BEFORE_BLOCK}
+use Rattle.block_codec.specs.declared.block.Block.{Block}
+use Rattle.block_codec.specs.declared.placement.Placement.TheVariants.{Next}
+use Rattle.block_codec.proofs.Placed.{not_full, right_number, not_held}
+use Rattle.chain_replay.specs.chain_exec.Compiled.{Compiler}
+use Rattle.chain_replay.specs.chain_exec.Replay.{history_after, replay}
+use Rattle.chain_replay.proofs.chain_exec.TheLaws.{replay_grows}
+use Rattle.chain_replay.specs.Chain.{placement_in}
+use Rattle.replay_soundness.specs.TypedChains.{IsLawfulChain}
+use Rattle.replay_soundness.specs.TypedLaws.{CompilesValues, IsTypedBefore, ChainsOfValuesAreTyped, ReplaysAreTyped}
+use Rattle.replay_soundness.proofs.Compiling.{compilers_give_values}
+use Rattle.replay_soundness.proofs.Replays.{after_typed, nothing_typed_before}
+
+-- ---- a block that is next
+
+-- the block has the number of blocks before it, and there is room for it
+record HasRoom (held rows : ℕ) (block : Block) : Type 0 where
+  number : block.number ≡ held
+  room : held ≢ MAX_BLOCKS
+  few_rows : rows ≤ MAX_ROWS_BEFORE_BLOCK
+
+new_room : (held rows : ℕ) (parent : Digest) (block : Block) → new_placement held rows parent block ≡ Next → HasRoom held rows block
+new_room held rows parent block is =
+    let some = not_full (held == MAX_BLOCKS || nat_lt MAX_ROWS_BEFORE_BLOCK rows) _ is in
+    let same = right_number (block.number == held) held _ some.1 in
+    let test = some.0 in
+    record {
+      number = grind (arith, nat_tests, same);
+      room = λ full. absurd (grind (arith, nat_tests, test, full));
+      few_rows = grind (arith, nat_tests, test);
+    }
+
+next_room : (held rows : ℕ) (have : Option Digest) (parent : Digest) (block : Block) (digest : Digest) → placement held rows have parent block digest ≡ Next → HasRoom held rows block
+next_room held rows (Some have) parent block digest is = absurd (not_held (is_same_digest have digest) have is)
+next_room held rows None parent block digest is = new_room held rows parent block is
+
+-- ---- block by block
+
+module _ (compile : Compiler) (good : CompilesValues compile) where
+  -- the blocks so far left a typed history of their own rows, and are at most MAX_BLOCKS
+  record AreTyped (blocks : List Block) : Type 0 where
+    history : IsTypedBefore (length blocks) (replay compile blocks)
+    few : length blocks ≤ MAX_BLOCKS
+
+  one_more : (blocks : List Block) (block : Block) → AreTyped blocks → IsBlock block → placement_in compile blocks block ≡ Next → AreTyped (blocks ++ block ∷ [])
+  one_more blocks block typed is next =
+      let digests : List Digest = map digest_of blocks in
+      let rows : List Row = (replay compile blocks).rows in
+      let has = next_room (length blocks) (length rows) (slice_get digests block.number) (last_digest digests) block (digest_of block) next in
+      let after : IsTypedBefore (block.number + 1) (history_after compile (replay compile blocks) block) =
+      after_typed compile good (replay compile blocks) block (subst (λ n. IsTypedBefore n (replay compile blocks)) (sym has.number) typed.history) is has.few_rows in
+      let longer : length (blocks ++ block ∷ []) ≡ block.number + 1 = length-append blocks (block ∷ []) ∙ ap (λ n. n + 1) (sym has.number) in
+      let room : length blocks ≢ MAX_BLOCKS = has.room in
+      record {
+        history = subst (IsTypedBefore (length (blocks ++ block ∷ []))) (sym (replay_grows compile blocks block).history)
+            (subst (λ n. IsTypedBefore n (history_after compile (replay compile blocks) block)) (sym longer) after);
+        few = let few = typed.few in omega (arith, few, longer, has.number, room);
+      }
+
+  all_typed : (more blocks : List Block) → AreTyped blocks → IsLawfulChain compile (blocks ++ more) → AreTyped (blocks ++ more)
+  all_typed [] blocks typed chain = subst AreTyped (sym (append-nil blocks)) typed
+  all_typed (block ∷ more) blocks typed chain =
+      let within : length blocks < length (blocks ++ block ∷ more) = omega (arith, length-append blocks (block ∷ more)) in
+      let there : get_or (blocks ++ block ∷ more) (length blocks) block ≡ block = get_or-append_seam blocks block more block in
+      let is : IsBlock block = subst IsBlock there (chain.lawful (length blocks) block within) in
+      let next : placement_in compile blocks block ≡ Next =
+      sym (ap (λ (before : List Block). placement_in compile before (get_or (blocks ++ block ∷ more) (length blocks) block)) (take-append_seam blocks (block ∷ more)) ∙ ap (placement_in compile blocks) there)
+      ∙ chain.chained (length blocks) block within in
+      let same : (blocks ++ block ∷ []) ++ more ≡ blocks ++ block ∷ more = append_assoc blocks (block ∷ []) more in
+      subst AreTyped same (all_typed more (blocks ++ block ∷ []) (one_more blocks block typed is next) (subst (IsLawfulChain compile) (sym same) chain))
+
+  nothing_typed : AreTyped []
+  unfolding replay
+  nothing_typed = record { history = nothing_typed_before; few = omega arith }
+
+pub chains_of_values_are_typed : ChainsOfValuesAreTyped
+chains_of_values_are_typed compile blocks is =
+    let typed = all_typed compile is.0 blocks [] (nothing_typed compile is.0) is.1 in
+    let counted : length (map digest_of blocks) ≡ length blocks = length-map blocks digest_of in
+    record {
+      history = typed.history.rows;
+      within = subst (λ (n : ℕ). All (λ (row : Row). row.block < n) (replay compile blocks).rows) (sym counted) typed.history.before;
+      few = let few = typed.few in omega (arith, few, counted);
+      digests_fit = All-map (λ (digest : Digest). length digest.0 ≡ 32) digest_of blocks (λ i d within. length-sha256 _);
+    }
+
+pub replays_are_typed : ReplaysAreTyped
+replays_are_typed compile blocks is = chains_of_values_are_typed compile blocks (compilers_give_values compile is.0, is.1)

@@ -1,6 +1,0 @@
-use Rattle.std.proofs.Common.{◌≡◌, take}
-use Rattle.rows_index.specs.First.{numbers_below}
-use Rattle.rows_index.proofs.users.indexes_below.Given as goal
-
-abbrev pub invariant-loop-index : goal.invariant-loop-index
-invariant-loop-index l = l.below ≡ numbers_below l.end (take l.index-index l.indexes)

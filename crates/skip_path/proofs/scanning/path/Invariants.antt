@@ -1,7 +1,0 @@
-use Rattle.std.proofs.Common.{◌≡◌, ◌-◌, ◌++◌, length}
-use Rattle.skip_links.specs.Links.{links}
-use Rattle.skip_path.specs.Paths.{path_from, path}
-use Rattle.skip_path.proofs.scanning.path.Given as goal
-
-abbrev pub invariant-loop-turn : goal.invariant-loop-turn
-invariant-loop-turn l = l.blocks ++ path_from (length l.rows - l._turn) (links l.rows l.key) l.at l.next ≡ path l.rows l.key l.at

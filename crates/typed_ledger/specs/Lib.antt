@@ -1,3 +1,0 @@
-pub mod TypedLedger
-pub mod Laws
-pub use Rattle.root_laws.specs as root_laws
