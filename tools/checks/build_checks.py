@@ -165,18 +165,20 @@ def check(checks, tree, folder):
 
 
 def progress_of_proofs(checks):
-    """How far the proofs are is told by the lines of `rt`: of three crates the first was kept from before, and the
-    second, which is half as long as the third, took a minute."""
+    """How far the proofs are is told by the lines of `rt`: of three crates the first was kept from
+    before, and the second, which is half as long as the third, took a minute. Reading the sources
+    took half a minute."""
     proofs = Proofs({"first": 100, "second": 300, "third": 600})
     for line, seconds, text in [
-        ("== first\n", 1, "proved 1 of 3 crates, 0 functions, after 0 min 1 s"),
-        ("== second\n", 60, "proved 2 of 3 crates, 0 functions, after 1 min 0 s"),
-        ("logic=proved functions=3 sum=0\n", 60, "proved 2 of 3 crates, 3 functions, after 1 min 0 s; some 2 min left"),
-        ("== third\n", 180, "proved 3 of 3 crates, 3 functions, after 3 min 0 s"),
-        ("logic=proved functions=9 sum=0\n", 180, "proved 3 of 3 crates, 12 functions, after 3 min 0 s"),
-        ("== summary\n", 181, "proved 3 of 3 crates, 12 functions, after 3 min 1 s"),
+        ("only=0 proved=0\n", 30, "proved 0 of 3 crates, 0 functions, after 0 min 30 s"),
+        ("== first\n", 31, "proved 1 of 3 crates, 0 functions, after 0 min 31 s"),
+        ("== second\n", 90, "proved 2 of 3 crates, 0 functions, after 1 min 30 s"),
+        ("logic=proved functions=3 sum=0\n", 90, "proved 2 of 3 crates, 3 functions, after 1 min 30 s; some 2 min left"),
+        ("== third\n", 210, "proved 3 of 3 crates, 3 functions, after 3 min 30 s"),
+        ("logic=proved functions=9 sum=0\n", 210, "proved 3 of 3 crates, 12 functions, after 3 min 30 s"),
+        ("== summary\n", 211, "proved 3 of 3 crates, 12 functions, after 3 min 31 s"),
     ]:
-        proofs.read(line)
+        proofs.read(line, seconds)
         checks.same(f"how far the proofs are after {line!r}", proofs.text(seconds), text)
     below = crates_below(CRATE)
     tests = [crate for crate in below if crate.endswith("_tests") or crate == "run_cases"]

@@ -20,6 +20,8 @@ CRATE = "lineage"
 CHECK_BYTES = 4 << 30
 # What a crate's proof takes at least, in bytes of code whose proof takes as long.
 LEAST_BYTES = 5_000
+# Of what is to be proved, the part from which on it is estimated what is left: one in so many.
+ESTIMATED_FROM = 20
 # How often it is said how far a quick build is where there is no terminal, in seconds.
 QUICK_PERIOD = 20
 
@@ -143,13 +145,17 @@ class Proofs:
         self.sizes = sizes
         self.crates = len(sizes)
         self.done = self.functions = 0
-        self.left = sum(sizes.values())
-        # What the crates take that were proved since the start, and not kept from before; and the last crate.
+        self.whole = self.left = sum(sizes.values())
+        # When the first proof began, in seconds: once the compiler has read all sources.
+        self.begun = 0
+        # What the crates take that were proved since then and not kept from before; the last one.
         self.proved, self.last = 0, None
 
-    def read(self, line):
-        """Takes a line of the log. A crate's lines come when it is proved, first its name, and last
-        how many functions it has, unless its proof was kept from before."""
+    def read(self, line, seconds):
+        """Takes a line of the log, and when it came. A crate's lines come when it is proved, first
+        its name, and last how many functions it has, unless its proof was kept from before."""
+        if line.startswith("only="):
+            self.begun = seconds
         functions = re.match(r"logic=proved functions=(\d+)", line)
         crate = re.match(r"== (\w+)$", line)
         if functions:
@@ -161,10 +167,11 @@ class Proofs:
 
     def text(self, seconds):
         text = f"proved {self.done} of {self.crates} crates, {self.functions} functions, after {minutes(seconds)}"
-        if not self.proved or self.left <= 0:
+        if self.proved * ESTIMATED_FROM < self.whole or self.left <= 0:
             return text
-        # If the others go on as those that were proved since the start.
-        return f"{text}; some {max(1, round(seconds * self.left / self.proved / 60))} min left"
+        # If the others go on as those that were proved since the first began.
+        left = (seconds - self.begun) * self.left / self.proved
+        return f"{text}; some {max(1, round(left / 60))} min left"
 
 
 def run_logged(words, folder, log, read=len, source=subprocess.DEVNULL):
@@ -187,7 +194,8 @@ def build_proved(log):
     proofs, crate = Proofs(crates_below(CRATE)), f"{TOP}/crates/{CRATE}"
     say(f"proving {proofs.crates} crates; from nothing this takes many minutes. Log: {LOG}")
     with Progress(lambda: proofs.text(progress.seconds()), say) as progress:
-        if run_logged(["rt", "all", "check", "--jobs", str(jobs())], crate, log, proofs.read):
+        words = ["rt", "all", "check", "--jobs", str(jobs())]
+        if run_logged(words, crate, log, lambda line: proofs.read(line, progress.seconds())):
             return False
     say(f"proved {proofs.crates} crates in {minutes(progress.seconds())}; building the program")
     with open(f"{TOP}/examples/one-set.blocks", "rb") as example:
