@@ -1,6 +1,6 @@
 -- What `expose` returns: the first clash between the texts of a proof and those of a ledger at a
 -- block.
-use Rattle.std.specs.Prelude.{◌≡◌, ◌<◌, ◌≤◌, ℕ, List, length, Option, Some, None, Result, Ok, Err}
+use Rattle.std.specs.Prelude.{◌≡◌, ℕ, List, Option, Some, None, Result, Ok, IfOk}
 use Rattle.lc_base.specs.declared.answer.Query.{Query}
 use Rattle.lc_base.specs.declared.answer.Answer.{Answer}
 use Rattle.lc_base.specs.History.{up_to, scan}
@@ -12,10 +12,10 @@ use Rattle.proof_checks.specs.Checks.{verdict}
 use Rattle.proof_checks.specs.ProofTexts.{proof_texts}
 use Rattle.proof_checks.specs.LedgerTexts.{ledger_texts}
 use Rattle.text_clashes.specs.FirstClash.{text_at, IsFirstAt}
-use Rattle.merkle_dag.specs.Ledger.{Ledger, IsHead}
+use Rattle.merkle_dag.specs.Ledger.{Ledger}
+use Rattle.merkle_dag.specs.Questions.{TellsPastHead}
+use Rattle.merkle_dag.specs.declared.query_error.QueryError.{QueryError}
 use Rattle.answer_exposing.specs.declared.exposing.Clash.{Clash}
-use Rattle.answer_exposing.specs.declared.exposing.ExposeError.{ExposeError}
-use Rattle.answer_exposing.specs.declared.exposing.ExposeError.TheVariants as errors
 
 -- These are the texts at the two places: the first in the proof's texts, the second in the
 -- ledger's.
@@ -29,24 +29,13 @@ IsFound given own None = HasClash given own → ⊥
 IsFound given own (Some clash) = (pair : ℕ × ℕ) × IsFirstAt given own pair
     × AreTextsAt given own pair clash
 
--- A block is refused, with the number of the last block, exactly if it is after the last one.
-abbrev pub TellsBeyond : Ledger → ℕ → Result (Option Clash) ExposeError → Type 0
-TellsBeyond ledger root_at (Ok found) = root_at < length ledger.digests
-TellsBeyond ledger root_at (Err (errors.Beyond head)) = (length ledger.digests ≤ root_at)
-    × IsHead ledger.digests head
-TellsBeyond ledger root_at (Err errors.Fault) = root_at < length ledger.digests
-TellsBeyond ledger root_at (Err errors.Memory) = root_at < length ledger.digests
-
 -- For a block of the ledger, the first clash of the proof's texts with the ledger's texts at that
 -- block, unless the scratch device fails or memory runs out; a block after the last one is refused
 -- with the number of the last block.
-abbrev pub IsExposed : Ledger → ℕ → Proof → Result (Option Clash) ExposeError → Type 0
-IsExposed ledger root_at proof (Ok found) = (root_at < length ledger.digests)
-    × IsFound (proof_texts proof) (ledger_texts ledger.rows ledger.digests root_at) found
-IsExposed ledger root_at proof (Err (errors.Beyond head)) = (length ledger.digests ≤ root_at)
-    × IsHead ledger.digests head
-IsExposed ledger root_at proof (Err errors.Fault) = root_at < length ledger.digests
-IsExposed ledger root_at proof (Err errors.Memory) = root_at < length ledger.digests
+abbrev pub IsExposed : Ledger → ℕ → Proof → Result (Option Clash) QueryError → Type 0
+IsExposed ledger root_at proof result = TellsPastHead ledger.digests root_at result
+    × IfOk result
+    (IsFound (proof_texts proof) (ledger_texts ledger.rows ledger.digests root_at))
 
 -- If no clash is found, each answer with which the proof is accepted under the root at the block is
 -- that of scanning the rows up to it.

@@ -4,17 +4,20 @@
 ghost use Rattle.std.specs.Prelude.{◌≡◌, true, Some, ℕ, List, [], length, slice_get, IfOk, IsErrOf};
 ghost use Rattle.scratch_model.specs.Scratch.{is_known};
 ghost use Rattle.merkle_tree.specs.Tree.{audit_length};
-ghost use Rattle.merkle_dag.specs.Lineage.{ledger_in, AgreesWith, LeavesLineage};
+ghost use Rattle.merkle_dag.specs.{
+  Lineage.{ledger_in, AgreesWith, LeavesLineage},
+  Questions.{TellsPastHead},
+};
 ghost use Rattle.proof_checks.specs.{
   ProofTexts.{joined_texts, proof_texts},
   LedgerTexts.{history_parts, ledger_texts},
 };
 ghost use Rattle.text_clashes.specs.Searching.{HasSearched};
-ghost use Rattle.answer_exposing.specs.Exposing.{IsFound, IsExposed, Clears, TellsBeyond};
+ghost use Rattle.answer_exposing.specs.Exposing.{IsFound, IsExposed, Clears};
 
 use crate::ledger::search_ledger;
 use lc_base::{Bytes, Digest, HostError, Memory};
-use merkle_dag::Lineage;
+use merkle_dag::{Lineage, QueryError};
 use scratch_model::Scratch;
 use std::alloc::Global;
 use text_clashes::{ClashSearch, ProofView, proof_texts};
@@ -26,20 +29,6 @@ pub struct Clash {
     pub proof_text: Bytes,
     /// A text of the ledger.
     pub chain_text: Bytes,
-}
-
-/// Why it can't be said whether there is a clash.
-#[derive(Clone, Copy, Debug, PartialEq, Eq)]
-pub enum ExposeError {
-    /// The block is after the last one, or there are no blocks.
-    Beyond {
-        /// The number of the last block; `None` if there are no blocks.
-        head: Option<u32>,
-    },
-    /// The scratch device failed.
-    Fault,
-    /// Out of memory.
-    Memory,
 }
 
 /// A search for the first clash of the texts of a proof with others.
@@ -145,7 +134,7 @@ pub fn expose<S: Scratch>(
     scratch: &mut S,
     root_at: u32,
     view: &ProofView,
-) -> Result<Option<Clash>, ExposeError>
+) -> Result<Option<Clash>, QueryError>
     requires long { length view.now.audit ≡ audit_length view.now.leaf_index view.now.leaf_count }
     requires agrees { AgreesWith lineage.old (S.state scratch.old) }
     // If it is known which bytes the scratch device holds:
@@ -156,20 +145,16 @@ pub fn expose<S: Scratch>(
     ensures clears { is_known (S.state scratch.old) ≡ true
         → IfOk result (Clears (ledger_in lineage.old) root_at view.now) }
     // Whether that is known or not:
-    ensures beyond { TellsBeyond (ledger_in lineage.old) root_at result }
+    ensures beyond { TellsPastHead lineage.old.digests root_at result }
     ensures leaves { LeavesLineage S.state S.scratch_faults lineage.old scratch.old lineage.new
-        scratch.new (IsErrOf result ExposeError.Fault) }
+        scratch.new (IsErrOf result QueryError.Fault) }
 {
     // The call makes it known that the rows are typed.
     let _typed = lineage.row_count();
     let Some(block_digest) = lineage.digest(root_at) else {
-        return Err(ExposeError::Beyond {
+        return Err(QueryError::Beyond {
             head: lineage.head(),
         });
     };
-    match exposed_at(alloc, lineage, scratch, root_at, &block_digest, view) {
-        Ok(found) => Ok(found),
-        Err(HostError::Fault) => Err(ExposeError::Fault),
-        Err(HostError::Memory) => Err(ExposeError::Memory),
-    }
+    Ok(exposed_at(alloc, lineage, scratch, root_at, &block_digest, view)?)
 }

@@ -7,5 +7,5 @@ mod ledger;
 mod nodes;
 mod rows;
 
-pub use exposing::{Clash, ExposeError, expose};
+pub use exposing::{Clash, expose};
 pub use ledger::search_ledger;

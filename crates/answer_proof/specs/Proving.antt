@@ -1,6 +1,7 @@
 -- A query has a proof under the root at a block exactly if the ledger has the block and the query's
 -- block isn't after it.
-use Rattle.std.specs.Prelude.{◌≡◌, ◌<◌, ◌≤◌, ◌⊎◌, ℕ, List, length, Option, Result, Ok, Err}
+use Rattle.std.specs.Prelude.{◌≡◌, ◌<◌, ◌≤◌, ◌⊎◌, ℕ, List, length, Option, Result, Ok}
+use Rattle.std.specs.Prelude.{IfOk}
 use Rattle.std.specs.List.{concat}
 use Rattle.std.specs.Option.{is_some}
 use Rattle.lc_base.specs.declared.answer.Query.{Query}
@@ -12,9 +13,9 @@ use Rattle.proof_codec.specs.Spelling.{proof_fields}
 use Rattle.proof_views.specs.Viewing.{Spells}
 use Rattle.proof_checks.specs.Checks.{verdict}
 use Rattle.proof_checks.specs.Making.{made_proof}
-use Rattle.merkle_dag.specs.Ledger.{Ledger, IsHead}
-use Rattle.answer_proof.specs.declared.proving.ProveError.{ProveError}
-use Rattle.answer_proof.specs.declared.proving.ProveError.TheVariants as errors
+use Rattle.merkle_dag.specs.Ledger.{Ledger}
+use Rattle.merkle_dag.specs.Questions.{TellsBeyond}
+use Rattle.merkle_dag.specs.declared.query_error.QueryError.{QueryError}
 
 -- The ledger has the root's block, and the query's block isn't after it.
 abbrev pub IsWithin : Ledger → Query → ℕ → Type 0
@@ -25,20 +26,17 @@ abbrev pub IsBeyond : Ledger → Query → ℕ → Type 0
 IsBeyond ledger query root_at = (length ledger.digests ≤ root_at) ⊎ (root_at < query.at)
 
 -- A query is refused, with the number of the last block, exactly if it goes beyond.
-abbrev pub TellsBeyond : Ledger → Query → ℕ → Result (List ℕ) ProveError → Type 0
-TellsBeyond ledger query root_at (Ok bytes) = IsWithin ledger query root_at
-TellsBeyond ledger query root_at (Err (errors.Beyond head)) = IsBeyond ledger query root_at × IsHead ledger.digests head
-TellsBeyond ledger query root_at (Err errors.Fault) = IsWithin ledger query root_at
-TellsBeyond ledger query root_at (Err errors.Memory) = IsWithin ledger query root_at
+abbrev pub IsRefusedBeyond : Ledger → Query → ℕ → Result (List ℕ) QueryError → Type 0
+IsRefusedBeyond ledger query root_at result = TellsBeyond ledger.digests
+    (IsWithin ledger query root_at) (IsBeyond ledger query root_at) result
 
 -- A query within the ledger has the bytes of the proof that is made of the ledger at the root's
 -- block, unless the scratch device fails or memory runs out; one that goes beyond is refused with
 -- the number of the last block.
-abbrev pub IsProved : Ledger → Query → ℕ → Result (List ℕ) ProveError → Type 0
-IsProved ledger query root_at (Ok bytes) = IsWithin ledger query root_at × (bytes ≡ concat (proof_fields (made_proof ledger.rows ledger.digests root_at query)))
-IsProved ledger query root_at (Err (errors.Beyond head)) = IsBeyond ledger query root_at × IsHead ledger.digests head
-IsProved ledger query root_at (Err errors.Fault) = IsWithin ledger query root_at
-IsProved ledger query root_at (Err errors.Memory) = IsWithin ledger query root_at
+abbrev pub IsProved : Ledger → Query → ℕ → Result (List ℕ) QueryError → Type 0
+IsProved ledger query root_at result = IsRefusedBeyond ledger query root_at result
+    × IfOk result (λ bytes. bytes ≡ concat
+    (proof_fields (made_proof ledger.rows ledger.digests root_at query)))
 
 -- The bytes spell a proof that is accepted by one who has the root at the block, with the answer of
 -- scanning the rows up to it.

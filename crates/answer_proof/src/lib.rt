@@ -8,5 +8,5 @@ mod proving;
 mod typed;
 mod walking;
 
-pub use merkle_dag::Lineage;
-pub use proving::{ProveError, prove};
+pub use merkle_dag::{Lineage, QueryError};
+pub use proving::prove;

@@ -9,30 +9,15 @@ ghost use Rattle.scratch_model.specs.Scratch.{is_known};
 ghost use Rattle.merkle_dag.specs.Lineage.{ledger_in, AgreesWith, LeavesLineage};
 ghost use Rattle.proof_codec.specs.Spelling.{proof_fields};
 ghost use Rattle.proof_checks.specs.Making.{made_proof};
-ghost use Rattle.answer_proof.specs.Proving.{IsProved, Shows, IsButForBody, TellsBeyond};
+ghost use Rattle.answer_proof.specs.Proving.{IsProved, Shows, IsButForBody, IsRefusedBeyond};
 
 use crate::asked::Asked;
 use crate::gathering::bytes_of_rows;
 use crate::typed::check_types;
 use lc_base::{Bytes, HostError, Memory, Query};
-use merkle_dag::Lineage;
+use merkle_dag::{Lineage, QueryError};
 use scratch_model::Scratch;
 use std::alloc::Global;
-
-/// Why there is no proof for a query.
-#[derive(Clone, Copy, Debug, PartialEq, Eq)]
-pub enum ProveError {
-    /// The root's block is after the last one, or there are no blocks, or the query's block is
-    /// after the root's.
-    Beyond {
-        /// The number of the last block; `None` if there are no blocks.
-        head: Option<u32>,
-    },
-    /// The scratch device failed.
-    Fault,
-    /// Out of memory.
-    Memory,
-}
 
 /// Whether a block is the last one.
 fn is_last(lineage: &Lineage, block: u32) -> bool
@@ -89,7 +74,7 @@ pub fn prove<S: Scratch>(
     scratch: &mut S,
     query: &Query,
     root_at: u32,
-) -> Result<Bytes, ProveError>
+) -> Result<Bytes, QueryError>
     requires agrees { AgreesWith lineage.old (S.state scratch.old) }
     // If it is known which bytes the scratch device holds:
     ensures proved { is_known (S.state scratch.old) ≡ true → IsProved (ledger_in lineage.old) query.now root_at result }
@@ -99,17 +84,17 @@ pub fn prove<S: Scratch>(
     // Whether that is known or not:
     ensures always { IfOk result
         (IsButForBody (made_proof lineage.old.rows lineage.old.digests root_at query.now)) }
-    ensures beyond { TellsBeyond (ledger_in lineage.old) query.now root_at result }
+    ensures beyond { IsRefusedBeyond (ledger_in lineage.old) query.now root_at result }
     ensures leaves { LeavesLineage S.state S.scratch_faults lineage.old scratch.old lineage.new
-        scratch.new (IsErrOf result ProveError.Fault) }
+        scratch.new (IsErrOf result QueryError.Fault) }
 {
     let Some(block_digest) = lineage.digest(root_at) else {
-        return Err(ProveError::Beyond {
+        return Err(QueryError::Beyond {
             head: lineage.head(),
         });
     };
     if root_at < query.at {
-        return Err(ProveError::Beyond {
+        return Err(QueryError::Beyond {
             head: lineage.head(),
         });
     }
@@ -119,9 +104,5 @@ pub fn prove<S: Scratch>(
         block_digest,
     };
     check_types(lineage, &asked);
-    match bytes_at(alloc, lineage, scratch, &asked) {
-        Ok(bytes) => Ok(bytes),
-        Err(HostError::Fault) => Err(ProveError::Fault),
-        Err(HostError::Memory) => Err(ProveError::Memory),
-    }
+    Ok(bytes_at(alloc, lineage, scratch, &asked)?)
 }

@@ -6,18 +6,12 @@ ghost use Rattle.lc_names.specs.KeyBytes.{IsKey};
 ghost use Rattle.root_laws.specs.TypedLedger.{IsTypedLedger};
 
 use crate::asked::Asked;
-use lc_base::Digest;
+use lc_base::check_digest;
 use merkle_dag::Lineage;
 
 fn check_block(block: u32)
     ensures { block < 2 ^ 32 }
 {}
-
-fn check_digest(digest: &Digest)
-    ensures { length digest.now.0 ≡ 32 }
-{
-    let _digest = digest.0;
-}
 
 /// A lineage is a typed ledger, a query is of a key, a block number fits in 32 bits, and a digest
 /// has 32 bytes.

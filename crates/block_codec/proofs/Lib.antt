@@ -5,4 +5,4 @@ pub mod Blocks
 pub mod WholeBlocks
 pub mod Decoders
 pub mod FrameBytes
-pub mod Placed
+pub mod Placements

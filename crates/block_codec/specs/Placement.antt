@@ -1,5 +1,7 @@
 -- The place of a block relative to a chain: known, next, or why it is neither.
-use Rattle.std.specs.Prelude.{ℕ, ◌-◌, ◌==◌, ◌||◌, Bool, not, nat_lt, if◌then◌else◌, List, ◌∷◌, length, map, replicate, unwrap_or, slice_get, Option, Some, None}
+use Rattle.std.specs.Prelude.{◌≡◌, ◌≢◌, ◌≤◌, ℕ, ◌-◌, ◌==◌, ◌||◌, Bool, true, not, nat_lt}
+use Rattle.std.specs.Prelude.{if◌then◌else◌, List, ◌∷◌, length, map, replicate, unwrap_or, slice_get}
+use Rattle.std.specs.Prelude.{Option, Some, None}
 use Rattle.std.specs.List.{concat, sum_by}
 use Rattle.std.specs.Cmp.Lexicographic.{pointwise}
 use Rattle.sha2.specs.Sha256.{sha256}
@@ -11,7 +13,9 @@ use Rattle.block_codec.specs.declared.block.Tx.{Tx}
 use Rattle.block_codec.specs.declared.block.Tx.TheVariants.{Set, Deploy, Call}
 use Rattle.block_codec.specs.declared.block.Block.{Block}
 use Rattle.block_codec.specs.declared.placement.Placement.{Placement}
-use Rattle.block_codec.specs.declared.placement.Placement.TheVariants.{Known, Next, Fork, Full, Number, Parent, Budget}
+use Rattle.block_codec.specs.declared.placement.Placement.TheVariants.{Known, Next, Not}
+use Rattle.block_codec.specs.declared.placement.Misplaced.TheVariants.{Fork, Full, Number, Parent}
+use Rattle.block_codec.specs.declared.placement.Misplaced.TheVariants.{Budget}
 
 -- The digest of a block's bytes: SHA-256 (FIPS 180-4) of the byte 7 and the bytes.
 abbrev pub bytes_digest : List ℕ → Digest
@@ -31,7 +35,7 @@ is_same_digest a b = pointwise ◌==◌ a.0 b.0
 
 -- A block of a held number: the held block itself, or another.
 abbrev pub held_placement : Digest → Digest → Placement
-held_placement have digest = if is_same_digest have digest then Known else Fork have
+held_placement have digest = if is_same_digest have digest then Known else Not (Fork have)
 
 -- The budget of a transaction: a Call's own, and 0 for a Set and a Deploy.
 abbrev pub tx_budget : Tx → ℕ
@@ -47,10 +51,19 @@ block_budget block = sum_by tx_budget block.txs
 -- parent is the last block, and its budget is at most `MAX_BLOCK_BUDGET`.
 abbrev pub new_placement : ℕ → ℕ → Digest → Block → Placement
 new_placement held rows parent block =
-    if held == MAX_BLOCKS || nat_lt MAX_ROWS_BEFORE_BLOCK rows then Full
-    else (if not (block.number == held) then Number held
-    else (if not (is_same_digest block.parent parent) then Parent parent
-    else (if nat_lt MAX_BLOCK_BUDGET (block_budget block) then Budget (block_budget block) else Next)))
+    if held == MAX_BLOCKS || nat_lt MAX_ROWS_BEFORE_BLOCK rows then Not Full
+    else (if not (block.number == held) then Not (Number held)
+    else (if not (is_same_digest block.parent parent) then Not (Parent parent)
+    else (if nat_lt MAX_BLOCK_BUDGET (block_budget block) then Not (Budget (block_budget block))
+    else Next)))
+
+-- What each test of `new_placement` found of a block that is next.
+pub record IsNextPlaced (held rows : ℕ) (parent : Digest) (block : Block) : Type 0 where
+  pub room : held ≢ MAX_BLOCKS
+  pub few_rows : rows ≤ MAX_ROWS_BEFORE_BLOCK
+  pub number : block.number ≡ held
+  pub parent_is : is_same_digest block.parent parent ≡ true
+  pub cheap : block_budget block ≤ MAX_BLOCK_BUDGET
 
 -- The place of a block relative to a chain of `held` blocks and `rows` rows: `have` is the digest
 -- of the held block with its number, `parent` that of the last block.

@@ -18,4 +18,4 @@ pub use limits::{
     MAX_ARGS, MAX_BLOCK_BUDGET, MAX_BLOCK_BYTES, MAX_BLOCKS, MAX_CALL_BUDGET, MAX_FRAMES,
     MAX_ROWS_BEFORE_BLOCK, MAX_SOURCE_BYTES, MAX_TXS,
 };
-pub use placement::{NO_PARENT, Placement, block_budget, block_digest, place};
+pub use placement::{Misplaced, NO_PARENT, Placement, block_budget, block_digest, place};

@@ -24,9 +24,16 @@ pub enum Placement {
     Known,
     /// It is the next block of the chain.
     Next,
+    /// It is neither, for this reason.
+    Not(Misplaced),
+}
+
+/// Why a block is neither held by a chain nor its next one, with what a sender needs to mend it.
+#[derive(Clone, Copy, Debug, PartialEq, Eq)]
+pub enum Misplaced {
     /// The chain holds another block with its number, of the digest `have`.
     Fork { have: Digest },
-    /// The chain takes no further block.
+    /// The chain has `MAX_BLOCKS` blocks, or no room for the rows of another.
     Full,
     /// The next block has the number `want`.
     Number { want: u32 },
@@ -51,7 +58,7 @@ fn held_placement(have: Digest, digest: Digest) -> Placement
     if have == digest {
         Placement::Known
     } else {
-        Placement::Fork { have }
+        Placement::Not(Misplaced::Fork { have })
     }
 }
 
@@ -78,24 +85,24 @@ fn new_placement(held: u32, rows: u64, parent: Digest, block: &Block) -> Placeme
     ensures { result ≡ new_placement held rows parent block.now }
 {
     if held == MAX_BLOCKS || rows > MAX_ROWS_BEFORE_BLOCK {
-        return Placement::Full;
+        return Placement::Not(Misplaced::Full);
     }
     if block.number != held {
-        return Placement::Number { want: held };
+        return Placement::Not(Misplaced::Number { want: held });
     }
     if block.parent != parent {
-        return Placement::Parent { want: parent };
+        return Placement::Not(Misplaced::Parent { want: parent });
     }
     let sum = block_budget(block);
     if sum > MAX_BLOCK_BUDGET {
-        return Placement::Budget { sum };
+        return Placement::Not(Misplaced::Budget { sum });
     }
     Placement::Next
 }
 
 /// The place of a block with this digest relative to a chain of `held` blocks and `rows` rows.
 /// `have` is the digest of the held block with its number, `parent` that of the last block, or
-/// `NO_PARENT` if there is none. The cases are tested in the order of `Placement`, `Next` last.
+/// `NO_PARENT` if there is none. The reasons of `Misplaced` are tested in their order.
 pub fn place(
     held: u32,
     rows: u64,

@@ -11,14 +11,15 @@ use Rattle.block_codec.specs.declared.limits.TheConstants.{MAX_BLOCKS}
 use Rattle.block_codec.specs.Reading.{block_in}
 use Rattle.block_codec.specs.declared.block.Block.{Block}
 use Rattle.block_codec.specs.declared.placement.Placement.{Placement}
-use Rattle.block_codec.specs.declared.placement.Placement.TheVariants.{Known, Next, Fork, Full, Number, Parent, Budget}
+use Rattle.block_codec.specs.declared.placement.Placement.TheVariants.{Known, Next, Not}
+use Rattle.block_codec.proofs.Placements.{next_is_placed, next_is_new}
 use Rattle.block_log.specs.declared.layout.Stored.{Stored}
 use Rattle.block_log.specs.Standing.{Placer, if_next, next_decoded, blocks_in}
 use Rattle.block_log.specs.Log.{AreStored, log_placement, next_in_log}
 use Rattle.block_log.specs.Reader.{AreRead, log_at, next_of, stored_at}
 use Rattle.block_log.specs.declared.reading.Record.TheVariants as records
 use Rattle.block_log.specs.Reading.{record_of}
-use Rattle.block_log.proofs.NextRecord.{new_next, new_of, placed_next, last_of}
+use Rattle.block_log.proofs.NextRecord.{placed_next, last_of}
 use Rattle.block_log.proofs.Turns.{goes_on}
 
 -- The block that was found to be next, as it is stored.
@@ -39,11 +40,7 @@ none_given gate (Some block) is = absurd (cc is)
 pub placed : (decoded block : Block) (placement : Placement) → if_next decoded placement ≡ Some block → (placement ≡ Next) × (decoded ≡ block)
 placed decoded block Next is = (refl, cc is)
 placed decoded block Known is = absurd (cc is)
-placed decoded block (Fork have) is = absurd (cc is)
-placed decoded block Full is = absurd (cc is)
-placed decoded block (Number want) is = absurd (cc is)
-placed decoded block (Parent want) is = absurd (cc is)
-placed decoded block (Budget sum) is = absurd (cc is)
+placed decoded block (Not why) is = absurd (cc is)
 
 -- The block that is returned is placed next.
 is_placed : (place : Placer) (blocks : List Block) (read : Result Block ℕ) (block : Block) → next_decoded place blocks read ≡ Some block → place blocks block ≡ Next
@@ -92,20 +89,12 @@ stored_next stored gate block bytes are is lawful = record {
 none_next : (block : Block) (place : Placement) → (place ≡ Next → ⊥) → if_next block place ≡ None
 none_next block Next other = absurd (other refl)
 none_next block Known other = refl
-none_next block (Fork have) other = refl
-none_next block Full other = refl
-none_next block (Number want) other = refl
-none_next block (Parent want) other = refl
-none_next block (Budget sum) other = refl
+none_next block (Not why) other = refl
 
 both_next : (block : Block) (a b : Placement) → (a ≡ Next → b ≡ Next) → (b ≡ Next → a ≡ Next) → if_next block a ≡ if_next block b
 both_next block Next b there back = sym (ap (if_next block) (there refl))
 both_next block Known b there back = sym (none_next block b (λ is. cc (back is)))
-both_next block (Fork have) b there back = sym (none_next block b (λ is. cc (back is)))
-both_next block Full b there back = sym (none_next block b (λ is. cc (back is)))
-both_next block (Number want) b there back = sym (none_next block b (λ is. cc (back is)))
-both_next block (Parent want) b there back = sym (none_next block b (λ is. cc (back is)))
-both_next block (Budget sum) b there back = sym (none_next block b (λ is. cc (back is)))
+both_next block (Not why) b there back = sym (none_next block b (λ is. cc (back is)))
 
 -- The number of blocks and the last digest decide which block is next, as the blocks themselves do.
 module _ (count : ℕ) (last : Digest) (stored : List Stored) (count_is : count ≡ length stored) (last_is : last ≡ last_digest (map digest_of (blocks_in stored))) where
@@ -121,14 +110,17 @@ module _ (count : ℕ) (last : Digest) (stored : List Stored) (count_is : count 
           both_next block (new_placement count 0 last block) (log_placement (blocks_in stored) block) (placed_next (blocks_in stored) count last block long last_is)
           (λ is.
           ap (λ n. new_placement n 0 last block) long ∙ ap (λ d. new_placement (length (blocks_in stored)) 0 d block) last_is
-          ∙ new_of (length (blocks_in stored)) 0 _ (last_digest (map digest_of (blocks_in stored))) block (digest_of block) is)
+          ∙ (next_is_new (length (blocks_in stored)) 0 _ (last_digest (map digest_of (blocks_in stored)))
+          block (digest_of block) is).1)
 
 -- A log with the greatest number of blocks has no next one.
 pub has_room : (count : ℕ) (last : Digest) (bytes : List ℕ) (block : Block) → next_of count last bytes ≡ Some block → count ≢ MAX_BLOCKS
 has_room count last bytes block is = decoded (block_in bytes) is
   where
     decoded : (read : Result Block ℕ) → next_decoded (λ blocks block. new_placement count 0 last block) [] read ≡ Some block → count ≢ MAX_BLOCKS
-    decoded (Ok read) is = (new_next count 0 last read (placed read block (new_placement count 0 last read) is).0).1
+    decoded (Ok read) is =
+        (next_is_placed count 0 last read
+        (placed read block (new_placement count 0 last read) is).0).room
     decoded (Err offset) is = absurd (cc is)
 
 -- One more block was read.

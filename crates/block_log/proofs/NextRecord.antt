@@ -1,22 +1,21 @@
 -- The record of the next block of a log, by the log's own placement and by each stricter one.
 use Rattle.std.proofs.Common.{◌≡◌, ◌≢◌, ◌⊎◌, inl, inr, ℕ, ◌+◌, ◌-◌, ◌≤◌, ◌<◌, Bool, true, false, List, [], ◌∷◌, ◌++◌, length, length-append, map, refl, sym, ◌∙◌, ap, subst, arith}
-use Rattle.std.specs.Prelude.{Option, Some, None, ◌==◌, ◌||◌, nat_lt, MatchBool, slice_get, unwrap_or}
+use Rattle.std.specs.Prelude.{Option, Some, None, MatchBool, slice_get, unwrap_or}
 use Rattle.std.proofs.lemmas.List.{length-map, map-append}
 use Rattle.std.proofs.lemmas.Option.{slice_get_past, slice_get-get_or}
 use Rattle.std.proofs.Math.Seq.{get_or-append_seam}
-use Rattle.std.proofs.lemmas.Bool.Decides.{nat_tests}
 use Rattle.block_codec.specs.byte_fields.Spelling.{IsBytes}
 use Rattle.lc_base.specs.declared.digest.Digest.{Digest}
 use Rattle.lc_io.specs.Disk.{DiskState}
 use Rattle.disk_model.specs.Disk.{Torn, bytes_over, Rests, content_of, settled_disk}
 use Rattle.block_codec.specs.Spelling.{Spells}
 use Rattle.block_codec.specs.Reading.{block_in}
-use Rattle.block_codec.specs.Placement.{bytes_digest, digest_of, no_parent, last_digest, is_same_digest, new_placement, placement}
-use Rattle.block_codec.specs.declared.limits.TheConstants.{MAX_BLOCK_BYTES, MAX_BLOCKS, MAX_ROWS_BEFORE_BLOCK}
+use Rattle.block_codec.specs.Placement.{bytes_digest, digest_of, no_parent, last_digest, new_placement, placement}
+use Rattle.block_codec.specs.declared.limits.TheConstants.{MAX_BLOCK_BYTES, MAX_BLOCKS}
 use Rattle.block_codec.specs.declared.block.Block.{Block}
 use Rattle.block_codec.specs.declared.placement.Placement.TheVariants.{Next}
 use Rattle.block_codec.proofs.WholeBlocks.{is_spelled}
-use Rattle.block_codec.proofs.Placed.{not_full, right_number, not_held}
+use Rattle.block_codec.proofs.Placements.{next_is_placed, next_has_passed}
 use Rattle.block_log.specs.declared.layout.TheConstants.{OPEN_GATE}
 use Rattle.block_log.specs.declared.layout.Stored.{Stored}
 use Rattle.block_log.specs.Standing.{Holds, Placer, NextBlock, next_decoded, if_next, next_block, blocks_in, blocks_of, standing, chain_of}
@@ -29,26 +28,17 @@ use Rattle.block_log.proofs.TornRecords.{within, staged_within, torn_after, torn
 
 -- ---- the place of the next block
 
-pub new_next : (held rows : ℕ) (parent : Digest) (block : Block) → new_placement held rows parent block ≡ Next → (block.number ≡ held) × (held ≢ MAX_BLOCKS)
-new_next held rows parent block is =
-    let room = not_full (held == MAX_BLOCKS || nat_lt MAX_ROWS_BEFORE_BLOCK rows) _ is in
-    let same = right_number (block.number == held) held _ room.1 in
-    (grind (arith, nat_tests, same), λ full. let test = room.0 in absurd (grind (arith, nat_tests, test, full)))
-
-pub new_of : (held rows : ℕ) (have : Option Digest) (parent : Digest) (block : Block) (digest : Digest) → placement held rows have parent block digest ≡ Next → new_placement held rows parent block ≡ Next
-new_of held rows (Some have) parent block digest is = absurd (not_held (is_same_digest have digest) have is)
-new_of held rows None parent block digest is = is
-
 -- a next block comes after fewer blocks than the most that a chain has
 some_room : (blocks : List Block) (block : Block) → log_placement blocks block ≡ Next → length blocks ≢ MAX_BLOCKS
 some_room blocks block is =
     let digests = map digest_of blocks in
-    (new_next (length blocks) 0 (last_digest digests) block (new_of (length blocks) 0 (slice_get digests block.number) (last_digest digests) block (digest_of block) is)).1
+    (next_has_passed (length blocks) 0 (slice_get digests block.number) (last_digest digests) block
+    (digest_of block) is).room
 
 -- the next block by what a log keeps is the next one after the blocks themselves
 pub placed_next : (blocks : List Block) (count : ℕ) (last : Digest) (block : Block) → count ≡ length blocks → last ≡ last_digest (map digest_of blocks) → new_placement count 0 last block ≡ Next → log_placement blocks block ≡ Next
 placed_next blocks count last block count_is last_is is =
-    let number = (new_next count 0 last block is).0 in
+    let number = (next_is_placed count 0 last block is).number in
     let past : slice_get (map digest_of blocks) block.number ≡ None = slice_get_past (map digest_of blocks) block.number (omega (arith, number, count_is, length-map blocks digest_of)) in
     ap (λ (have : Option Digest). placement (length blocks) 0 have (last_digest (map digest_of blocks)) block (digest_of block)) past
     ∙ ap (λ n. new_placement n 0 (last_digest (map digest_of blocks)) block) (sym count_is) ∙ ap (λ d. new_placement count 0 d block) (sym last_is) ∙ is
@@ -114,7 +104,7 @@ module _ (log seen : LogState) (bytes : List ℕ) (same : log ≡ seen) (seen_ne
   -- the bounds of the log with the block
   pub kept : IsKeptLog log → IsKeptLog (log_with_block log bytes)
   kept is =
-      let room = (new_next log.count 0 log.last is_next.block is_next.placed).1 in
+      let room = (next_is_placed log.count 0 log.last is_next.block is_next.placed).room in
       record { few = omega (arith, below log.count MAX_BLOCKS is.few room); near = omega (arith, is.near, short); no_block = λ headless. absurd (cc headless) }
 
   -- the log's own view

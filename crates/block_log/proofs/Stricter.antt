@@ -10,7 +10,7 @@ use Rattle.block_codec.specs.Reading.{block_in}
 use Rattle.block_codec.specs.declared.limits.TheConstants.{MAX_BLOCKS}
 use Rattle.block_codec.specs.declared.block.Block.{Block}
 use Rattle.block_codec.specs.declared.placement.Placement.{Placement}
-use Rattle.block_codec.specs.declared.placement.Placement.TheVariants.{Known, Next, Fork, Full, Number, Parent, Budget}
+use Rattle.block_codec.specs.declared.placement.Placement.TheVariants.{Known, Next, Not}
 use Rattle.block_log.specs.declared.layout.TheConstants.{OPEN_GATE, FIRST_GATE}
 use Rattle.block_log.specs.declared.layout.Stored.{Stored}
 use Rattle.block_log.specs.Standing.{Standing, Blank, NotALog, Damaged, Holds, Placer, if_next, next_decoded, next_block, blocks_in, blocks_of, after_record, records_at, is_log, is_blank, standing, chain_of}
@@ -60,11 +60,7 @@ here place held closes gate = record {
 next_is : (block found : Block) (placement : Placement) → if_next block placement ≡ Some found → (placement ≡ Next) × (found ≡ block)
 next_is block found Next is = (refl, cc is)
 next_is block found Known is = absurd (cc is)
-next_is block found (Fork have) is = absurd (cc is)
-next_is block found Full is = absurd (cc is)
-next_is block found (Number want) is = absurd (cc is)
-next_is block found (Parent want) is = absurd (cc is)
-next_is block found (Budget sum) is = absurd (cc is)
+next_is block found (Not why) is = absurd (cc is)
 
 module _ (place : Placer) (is_stricter : IsStricter place) where
   -- a block that both find next, or the log alone, or neither

@@ -7,7 +7,7 @@ use Rattle.block_codec.specs.Placement.{digest_of}
 use Rattle.block_codec.specs.declared.limits.TheConstants.{MAX_BLOCK_BYTES, MAX_BLOCKS}
 use Rattle.block_codec.specs.declared.block.Block.{Block}
 use Rattle.block_codec.specs.declared.placement.Placement.{Placement}
-use Rattle.block_codec.specs.declared.placement.Placement.TheVariants.{Known, Next, Fork, Full, Number, Parent, Budget}
+use Rattle.block_codec.specs.declared.placement.Placement.TheVariants.{Known, Next, Not}
 use Rattle.block_log.specs.declared.layout.TheConstants.{OPEN_GATE, FIRST_GATE}
 use Rattle.block_log.specs.declared.layout.Stored.{Stored}
 
@@ -30,11 +30,7 @@ Placer = List Block → Block → Placement
 abbrev pub if_next : Block → Placement → Option Block
 if_next block Next = Some block
 if_next block Known = None
-if_next block (Fork have) = None
-if_next block Full = None
-if_next block (Number want) = None
-if_next block (Parent want) = None
-if_next block (Budget sum) = None
+if_next block (Not why) = None
 
 -- The decoded block, if it is the next one after others.
 abbrev pub next_decoded : Placer → List Block → Result Block ℕ → Option Block

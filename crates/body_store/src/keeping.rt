@@ -6,11 +6,10 @@ ghost use Rattle.std.specs.{
   Rc.{rc_slice_items},
 };
 ghost use Rattle.lc_base.specs.{
-  Faults.{HasCause},
   declared.limits.TheConstants.{MAX_ROWS},
   declared.host_error.HostError.TheVariants.{Fault},
 };
-ghost use Rattle.scratch_model.specs.Scratch.{is_known, HoldsAt, Retains};
+ghost use Rattle.scratch_model.specs.Scratch.{is_known, HoldsAt, Serves};
 ghost use Rattle.body_store.specs.{
   Bodies.{bodies_of, body_at},
   Agreement.{Agrees},
@@ -36,8 +35,7 @@ fn read<S: Scratch>(
     requires kept { (S.state scratch.old).kept place len ≡ true }
     ensures len { IfOk result (λ body. length (rc_slice_items body) ≡ len) }
     ensures bytes { IfOk result (λ body. HoldsAt (S.state scratch.old) place (rc_slice_items body)) }
-    ensures retains { Retains (S.state scratch.old) (S.state scratch.new) }
-    ensures cause { HasCause (S.scratch_faults scratch.old) (S.scratch_faults scratch.new)
+    ensures scratch { Serves S.state S.scratch_faults scratch.old scratch.new
         (IsErrOf result Fault) }
 {
     let mut bytes = zeros(alloc, len)?;
@@ -62,8 +60,7 @@ pub(crate) fn body_from<S: Scratch>(
     ensures capacity { cache.new.cap ≡ cache.old.cap }
     ensures agrees { Agrees (record { kept = kept.now; cached = pairs_of cache.new.entries })
         (S.state scratch.new) }
-    ensures retains { Retains (S.state scratch.old) (S.state scratch.new) }
-    ensures cause { HasCause (S.scratch_faults scratch.old) (S.scratch_faults scratch.new)
+    ensures scratch { Serves S.state S.scratch_faults scratch.old scratch.new
         (IsErrOf result Fault) }
 {
     if let Some(body) = body_at_hand(cache, index)? {
@@ -92,8 +89,7 @@ pub(crate) fn push_to<S: Scratch>(
     ensures capacity { cache.new.cap ≡ cache.old.cap }
     ensures agrees { Agrees (record { kept = kept.new; cached = pairs_of cache.new.entries })
         (S.state scratch.new) }
-    ensures retains { Retains (S.state scratch.old) (S.state scratch.new) }
-    ensures cause { HasCause (S.scratch_faults scratch.old) (S.scratch_faults scratch.new)
+    ensures scratch { Serves S.state S.scratch_faults scratch.old scratch.new
         (IsErrOf result Fault) }
 {
     let place = scratch.put(body.as_slice())?;

@@ -2,7 +2,7 @@
 //! the start of the invalid field on.
 
 ghost use Rattle.std.specs.{
-  Prelude.{◌≡◌, ◌≤◌, ◌==◌, ◌&&◌, nat_le, is_none, if◌then◌else◌, Ok, Err, length},
+  Prelude.{◌≡◌, ◌≤◌, ◌==◌, ◌&&◌, nat_le, nat_lt, is_none, if◌then◌else◌, Ok, Err, length},
   Int.{w16, w32, w64},
 };
 ghost use Rattle.lc_base.specs.lc_names.{
@@ -22,16 +22,10 @@ use crate::fault::{Fault, ReadError};
 use crate::value_view::ValueView;
 use lc_base::{
     Bytes, Key, KeyList, MAX_KEY_BYTES, MAX_NAME_BYTES, MAX_TEXT_BYTES, Name, Seq, Text, TextError,
-    Value, is_text_byte,
+    Value, bad_text_byte,
 };
 use std::alloc::Global;
 use std::marker::Model;
-
-fn bad_text_byte(bytes: &[u8]) -> Option<usize>
-    ensures { result ≡ bad_text_byte bytes.now }
-{
-    bytes.iter().position(|byte| !is_text_byte(*byte))
-}
 
 /// The value of a field, or the fault if the value breaks the field's rule.
 fn lawful_or<T: Copy>(value: T, is_lawful: bool, fault: Fault) -> Result<T, Fault>
@@ -172,6 +166,24 @@ impl<'a> Reader<'a> {
         let fault = self.fault();
         let number = self.u32()?;
         lawful_or(number, number <= greatest, fault)
+    }
+
+    /// A number of four bytes, at least `least`.
+    pub fn u32_at_least(&mut self, least: u32) -> Result<u32, Fault>
+        ensures { Reads fault_left result (ruled_at (λ n. nat_le least n) (number_at w32) self.old) self.new }
+    {
+        let fault = self.fault();
+        let number = self.u32()?;
+        lawful_or(number, least <= number, fault)
+    }
+
+    /// A number of four bytes, below `limit`.
+    pub fn u32_below(&mut self, limit: u32) -> Result<u32, Fault>
+        ensures { Reads fault_left result (ruled_at (λ n. nat_lt n limit) (number_at w32) self.old) self.new }
+    {
+        let fault = self.fault();
+        let number = self.u32()?;
+        lawful_or(number, number < limit, fault)
     }
 
     /// `count` bytes, borrowed.

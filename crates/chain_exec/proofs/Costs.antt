@@ -1,14 +1,12 @@
 -- Costs stay within budgets: of a transaction, of a block, and of a block that is placed as the
 -- next.
-use Rattle.std.proofs.Common.{◌≡◌, ℕ, ◌+◌, ◌≤◌, Bool, true, false, List, [], ◌∷◌, ◌++◌}
-use Rattle.std.proofs.Common.{Option, Some, None, refl, sym, subst, arith}
-use Rattle.std.specs.Prelude.{not, ◌||◌, ◌==◌, nat_lt, if◌then◌else◌, codes}
+use Rattle.std.proofs.Common.{ℕ, ◌+◌, ◌≤◌, Bool, true, false, List, [], ◌∷◌, ◌++◌}
+use Rattle.std.proofs.Common.{Option, Some, None, sym, subst, arith}
+use Rattle.std.specs.Prelude.{not, ◌==◌, if◌then◌else◌, codes}
 use Rattle.std.specs.Prelude.{length, map, slice_get}
 use Rattle.std.specs.List.{starts_with, sum_by}
-use Rattle.std.proofs.lemmas.Bool.{ltb-false}
 use Rattle.std.proofs.lemmas.List.{append_assoc, append-nil}
 use Rattle.std.proofs.lemmas.List.Sums.{sum_by-cons, sum_by_push}
-use Rattle.lc_base.specs.declared.digest.Digest.{Digest}
 use Rattle.lc_base.specs.declared.row.Row.{Row}
 use Rattle.lc_base.specs.declared.tx_status.TxStatus.TheVariants as statuses
 use Rattle.lc_base.specs.declared.value.Value.{Value}
@@ -18,16 +16,11 @@ use Rattle.contract_semantics.specs.Calls.{function_called, function_of_name, ar
 use Rattle.contract_semantics.specs.Scenes.{Scene, scene_of}
 use Rattle.contract_semantics.specs.Statements.{Ending}
 use Rattle.contract_semantics.specs.Steps.{Step, Done, Failed}
-use Rattle.block_codec.specs.declared.limits.TheConstants.{MAX_BLOCK_BUDGET, MAX_BLOCKS}
-use Rattle.block_codec.specs.declared.limits.TheConstants.{MAX_ROWS_BEFORE_BLOCK}
 use Rattle.block_codec.specs.declared.block.Tx.{Tx}
 use Rattle.block_codec.specs.declared.block.Tx.TheVariants.{Set, Deploy, Call}
-use Rattle.block_codec.specs.declared.block.Block.{Block}
-use Rattle.block_codec.specs.declared.placement.Placement.{Placement}
-use Rattle.block_codec.specs.declared.placement.Placement.TheVariants as places
-use Rattle.block_codec.specs.Placement.{is_same_digest, placement, tx_budget, block_budget}
+use Rattle.block_codec.specs.Placement.{tx_budget}
 use Rattle.block_codec.specs.Placement.{digest_of, last_digest}
-use Rattle.block_codec.proofs.Placed.{not_full, not_held}
+use Rattle.block_codec.proofs.Placements.{next_has_passed}
 use Rattle.chain_exec.specs.BlockRows.{IsWithinBudget, AreWithinBudgets}
 use Rattle.chain_exec.specs.Compiled.{Compiler}
 use Rattle.chain_exec.specs.Effect.{Codes, History, is_written, meets_conflict, deps_on, code_in}
@@ -137,40 +130,14 @@ costs_are_within_budgets compile history block =
 
 -- ---- a block that is next
 
-not_number : (same : Bool) (held : ℕ) (other : Placement)
-    → (if not same then places.Number held else other) ≡ places.Next → other ≡ places.Next
-not_number true held other is = is
-not_number false held other is = absurd (cc is)
-
-not_parent : (same : Bool) (parent : Digest) (other : Placement)
-    → (if not same then places.Parent parent else other) ≡ places.Next → other ≡ places.Next
-not_parent true parent other is = is
-not_parent false parent other is = absurd (cc is)
-
-not_over : (over : Bool) (budget : ℕ)
-    → (if over then places.Budget budget else places.Next) ≡ places.Next → over ≡ false
-not_over true budget is = absurd (cc is)
-not_over false budget is = refl
-
-next_within : (held rows : ℕ) (have : Option Digest) (parent : Digest) (block : Block)
-    (digest : Digest)
-    → placement held rows have parent block digest ≡ places.Next
-    → block_budget block ≤ MAX_BLOCK_BUDGET
-next_within held rows (Some have) parent block digest is =
-    absurd (not_held (is_same_digest have digest) have is)
-next_within held rows None parent block digest is =
-    let has_room = not_full (held == MAX_BLOCKS || nat_lt MAX_ROWS_BEFORE_BLOCK rows) _ is in
-    let numbered = not_number (block.number == held) held _ has_room.1 in
-    let joined = not_parent (is_same_digest block.parent parent) parent _ numbered in
-    ltb-false MAX_BLOCK_BUDGET (block_budget block) (not_over _ _ joined)
-
 pub next_blocks_are_within_budget : NextBlocksAreWithinBudget
 next_blocks_are_within_budget compile history rows blocks block is =
     let digests = map digest_of blocks in
     let have = slice_get digests block.number in
     let parent = last_digest digests in
+    let placed = next_has_passed (length blocks) rows have parent block (digest_of block) is in
     omega (
       arith,
       sum_within compile history block.number 0 nothing_staged block.txs,
-      next_within (length blocks) rows have parent block (digest_of block) is,
+      placed.cheap,
     )

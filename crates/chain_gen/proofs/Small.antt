@@ -1,5 +1,6 @@
 -- What is drawn is lawful, short and cheap, so a drawn block keeps to the limits.
-use Rattle.std.proofs.Common.{◌≡◌, ℕ, zero, suc, ◌*◌, ◌<◌, ◌≤◌, ◌^◌, Bool, true, false, cond, ltb, eq-eqb, pos, List, [], ◌∷◌, ◌++◌, length, refl, ap, arith, length-append}
+use Rattle.std.proofs.Common.{◌≡◌, ℕ, zero, suc, ◌*◌, ◌<◌, ◌≤◌, ◌^◌, Bool, true, false, cond, pos}
+use Rattle.std.proofs.Common.{List, [], ◌∷◌, ◌++◌, length, refl, ap, arith, length-append}
 use Rattle.std.specs.Prelude.{◌==◌}
 use Rattle.std.specs.List.{concat, flat_map, sum_by, AllByRecursion}
 use Rattle.std.proofs.Math.Nat.{mod-lt}
@@ -7,18 +8,18 @@ use Rattle.std.proofs.lemmas.List.Folds.{concat-append}
 use Rattle.std.proofs.lemmas.List.Sums.{sum_by-cons}
 use Rattle.std.specs.Int.{w16, to_be_bytes}
 use Rattle.std.specs.Cmp.Lexicographic.{bytes_decides}
-use Rattle.std.proofs.lemmas.Bool.{le-ltb, ne_eqb}
 use Rattle.lc_names.specs.KeyBytes.{IsKey}
 use Rattle.lc_names.specs.NameBytes.{IsName}
 use Rattle.lc_base.specs.declared.digest.Digest.{Digest}
 use Rattle.byte_fields.specs.Spelling.{string_fields, int_bytes}
 use Rattle.block_codec.specs.Spelling.{IsTx, tx_fields, Spells}
-use Rattle.block_codec.specs.Placement.{tx_budget, block_budget, is_same_digest, new_placement}
+use Rattle.block_codec.specs.Placement.{tx_budget, is_same_digest, new_placement}
 use Rattle.block_codec.specs.declared.placement.Placement.TheVariants.{Next}
-use Rattle.block_codec.specs.declared.limits.TheConstants.{MAX_BLOCKS, MAX_BLOCK_BUDGET, MAX_ROWS_BEFORE_BLOCK}
+use Rattle.block_codec.specs.declared.limits.TheConstants.{MAX_BLOCKS, MAX_ROWS_BEFORE_BLOCK}
 use Rattle.block_codec.specs.declared.block.Tx.{Tx}
 use Rattle.block_codec.specs.declared.block.Tx.TheVariants.{Set}
 use Rattle.lc_base.specs.declared.value.Value.TheVariants.{Int}
+use Rattle.block_codec.proofs.Placements.{placed_is_next}
 use Rattle.byte_fields.proofs.WrittenItems.{all_more}
 use Rattle.chain_gen.specs.Draws.{number_below, number_of_key, key_drawn, draw_list}
 use Rattle.chain_gen.specs.Transactions.{sender, contract, function, deploy, call_with, set_drawn, later_txs, txs_drawn}
@@ -171,8 +172,13 @@ is_next number state parent room rows few_rows =
     let block = (block_drawn number parent state).0 in
     let small = drawn_are_small number state in
     let few = small.few in
-    let cheap : ltb MAX_BLOCK_BUDGET (block_budget block) ≡ false = le-ltb MAX_BLOCK_BUDGET (block_budget block) (omega (arith, few, small_are_cheap block.txs small.small)) in
-    rw (ne_eqb number MAX_BLOCKS (omega (arith, room)), le-ltb MAX_ROWS_BEFORE_BLOCK rows few_rows, eq-eqb number number refl, same_digest parent, cheap) refl
+    placed_is_next number rows parent block (record {
+      room = omega (arith, room);
+      few_rows = few_rows;
+      number = refl;
+      parent_is = same_digest parent;
+      cheap = omega (arith, few, small_are_cheap block.txs small.small);
+    })
 
 pub drawn_is_placed : (number state : ℕ) (parent : Digest) → IsPlaced number parent (block_drawn number parent state).0
 drawn_is_placed number state parent = record { next = is_next number state parent }

@@ -1,3 +1,4 @@
 pub mod Folding
 pub mod Turns
+pub use Rattle.block_codec.specs as block_codec
 pub use Rattle.chain_replay.specs as chain_replay

@@ -4,6 +4,7 @@
 mod cause;
 mod folding;
 
+pub use block_codec::Misplaced;
 pub use cause::Cause;
 pub use chain_replay::Refusal;
 pub use folding::{Folded, cause_of, fold};

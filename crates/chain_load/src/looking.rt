@@ -19,7 +19,7 @@ ghost use Rattle.chain_load.specs.{
 
 use chain_gen::Gen;
 use lc_base::{Answer, HostError, Kind, Query, Value};
-use lineage_host::{AskError, Steps, ask};
+use lineage_host::{QueryError, Steps, ask};
 use rooted_chain::Lineage;
 use scratch_model::Scratch;
 use std::alloc::Global;
@@ -113,9 +113,9 @@ fn count_asked<S: Scratch>(
             entries: steps.count(),
             value_bytes: bytes_of_answer(&answer),
         }),
-        Err(AskError::Beyond { .. }) => unreachable!(),
-        Err(AskError::Fault) => Err(HostError::Fault),
-        Err(AskError::Memory) => Err(HostError::Memory),
+        Err(QueryError::Beyond { .. }) => unreachable!(),
+        Err(QueryError::Fault) => Err(HostError::Fault),
+        Err(QueryError::Memory) => Err(HostError::Memory),
     }
 }
 

@@ -7,7 +7,7 @@ use Rattle.block_codec.specs.Spelling.{IsBlock}
 use Rattle.block_codec.specs.Placement.{digest_of}
 use Rattle.block_codec.specs.declared.block.Block.{Block}
 use Rattle.block_codec.specs.declared.placement.Placement.{Placement}
-use Rattle.block_codec.specs.declared.placement.Placement.TheVariants.{Known as KnownBlock, Next, Fork, Full, Number, Parent, Budget}
+use Rattle.block_codec.specs.declared.placement.Placement.TheVariants.{Known as KnownBlock, Next, Not}
 use Rattle.chain_exec.specs.Compiled.{Compiler}
 use Rattle.chain_replay.specs.Chain.{ChainState, HasRoom, placement_in, placement_kept}
 use Rattle.chain_replay.specs.Judging.{Added, judgement_of, judged_by_placement, IsJudged, IsPlacedBlock, IfNext, IsNextBlock}
@@ -17,11 +17,7 @@ use Rattle.chain_replay.specs.declared.judging.Judged.TheVariants as judgements
 added_stands : (block other : Block) (place : Placement) → judged_by_placement block place ≡ Ok (Added other) → place ≡ Next
 added_stands block other KnownBlock is = absurd (cc is)
 added_stands block other Next is = refl
-added_stands block other (Fork have) is = absurd (cc is)
-added_stands block other Full is = absurd (cc is)
-added_stands block other (Number want) is = absurd (cc is)
-added_stands block other (Parent want) is = absurd (cc is)
-added_stands block other (Budget sum) is = absurd (cc is)
+added_stands block other (Not why) is = absurd (cc is)
 
 -- a block that a chain reports as its next one is judged and placed as the next one
 pub record IsAdded (compile : Compiler) (blocks : List Block) (kept : ChainState) (bytes : List ℕ) (block : Block) (digest : Digest) : Type 0 where

@@ -1,18 +1,18 @@
 -- What is kept stays well-formed with the next block: there is room for it, and its rows are
 -- lawful.
-use Rattle.std.proofs.Common.{◌≡◌, ℕ, ◌+◌, ◌<◌, ◌≤◌, Bool, true, false, cond, eqb, List, [], ◌∷◌, ◌++◌, length, Option, Some, None, refl, sym, ap, subst, ◌∙◌, arith, inl, inr}
-use Rattle.std.specs.Prelude.{◌||◌, nat_lt}
+use Rattle.std.proofs.Common.{◌≡◌, ℕ, ◌+◌, ◌<◌, ◌≤◌, List, [], ◌∷◌, ◌++◌, length, Option}
+use Rattle.std.proofs.Common.{sym, ap, subst, ◌∙◌, arith, inl, inr}
 use Rattle.std.specs.List.{All}
-use Rattle.std.proofs.lemmas.Bool.{both_ways, eq-eqb, cases_lt}
+use Rattle.std.proofs.lemmas.Bool.{cases_lt}
 use Rattle.std.proofs.lemmas.List.{length-append}
 use Rattle.lc_base.specs.History.{IsLawful}
 use Rattle.lc_base.specs.declared.digest.Digest.{Digest}
 use Rattle.lc_base.specs.declared.row.Row.{Row}
-use Rattle.block_codec.specs.Placement.{placement, is_same_digest}
+use Rattle.block_codec.specs.Placement.{placement}
 use Rattle.block_codec.specs.declared.limits.TheConstants.{MAX_BLOCKS, MAX_TXS, MAX_ROWS_BEFORE_BLOCK}
 use Rattle.block_codec.specs.declared.block.Block.{Block}
-use Rattle.block_codec.specs.declared.placement.Placement.{Placement}
-use Rattle.block_codec.specs.declared.placement.Placement.TheVariants.{Known as KnownBlock, Next, Fork, Full}
+use Rattle.block_codec.specs.declared.placement.Placement.TheVariants.{Next}
+use Rattle.block_codec.proofs.Placements.{next_has_passed}
 use Rattle.contract_tree.specs.declared.tree.Contract.{Contract}
 use Rattle.world_state.specs.Known.{Known}
 use Rattle.world_state.specs.World.{newest_of, StandsForRows}
@@ -23,25 +23,12 @@ use Rattle.chain_replay.specs.Chain.{IsKeptChain}
 
 -- ---- a block that is next has room
 
-not_held : (same : Bool) (have : Digest) → Next ≡ cond same KnownBlock (Fork have) → ⊥
-not_held true have next = absurd cc
-not_held false have next = absurd cc
-
-not_full : (full : Bool) (rest : Placement) → Next ≡ cond full Full rest → full ≡ false
-not_full true rest next = absurd cc
-not_full false rest next = refl
-
-pub or_false : (a b : Bool) → (a || b) ≡ false → a ≡ false
-or_false true b e = e
-or_false false b e = refl
-
 pub next_room : (held rows : ℕ) (have : Option Digest) (parent : Digest) (block : Block) (digest : Digest) → Next ≡ placement held rows have parent block digest → held ≤ MAX_BLOCKS → held < MAX_BLOCKS
-next_room held rows (Some have) parent block digest next few = absurd (not_held (is_same_digest have digest) have next)
-next_room held rows None parent block digest next few =
-    let not_last : eqb held MAX_BLOCKS ≡ false = or_false (eqb held MAX_BLOCKS) (nat_lt MAX_ROWS_BEFORE_BLOCK rows) (not_full _ _ next) in
+next_room held rows have parent block digest next few =
+    let placed = next_has_passed held rows have parent block digest (sym next) in
     elim (cases_lt held MAX_BLOCKS) [
       | inl room ↦ room
-      | inr past ↦ let last : held ≡ MAX_BLOCKS = omega (arith, past, few) in absurd (both_ways (eqb held MAX_BLOCKS) not_last (eq-eqb held MAX_BLOCKS last))
+      | inr past ↦ absurd (placed.room (omega (arith, past, few)))
     ]
 
 -- ---- the rows of the next block

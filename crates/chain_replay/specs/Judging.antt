@@ -24,11 +24,7 @@ pub data Taken : Type 0 where
 abbrev pub judged_by_placement : Block → Placement → Result Taken Refusal
 judged_by_placement block placements.Known = Ok (Known block)
 judged_by_placement block placements.Next = Ok (Added block)
-judged_by_placement block (placements.Fork have) = Err (refusals.Fork have)
-judged_by_placement block placements.Full = Err refusals.Full
-judged_by_placement block (placements.Number want) = Err (refusals.Number want)
-judged_by_placement block (placements.Parent want) = Err (refusals.Parent want)
-judged_by_placement block (placements.Budget sum) = Err (refusals.Budget sum)
+judged_by_placement block (placements.Not why) = Err (refusals.Placed why)
 
 -- The judgement of bytes, by what they spell: a block, or the offset from which they are invalid.
 abbrev pub judgement_of : Compiler → List Block → Result Block ℕ → Result Taken Refusal

@@ -27,10 +27,6 @@ pub fn judge_block(block: Block, digest: Digest, placement: Placement) -> Judged
             number: block.number,
         },
         Placement::Next => Judged::Next { block, digest },
-        Placement::Fork { have } => Judged::Refused(Refusal::Fork(have)),
-        Placement::Full => Judged::Refused(Refusal::Full),
-        Placement::Number { want } => Judged::Refused(Refusal::Number(want)),
-        Placement::Parent { want } => Judged::Refused(Refusal::Parent(want)),
-        Placement::Budget { sum } => Judged::Refused(Refusal::Budget(sum)),
+        Placement::Not(why) => Judged::Refused(Refusal::Placed(why)),
     }
 }

@@ -12,6 +12,8 @@ use Rattle.contract_check.specs.declared.fault.Fault.{Fault}
 use Rattle.contract_check.specs.declared.fault.CheckKind.{CheckKind}
 use Rattle.contract_check.specs.declared.fault.CheckKind.TheVariants as checks
 use Rattle.hex.specs.Hex.{encode_lower}
+use Rattle.chain_input.specs.block_codec.declared.placement.Misplaced.{Misplaced}
+use Rattle.chain_input.specs.block_codec.declared.placement.Misplaced.TheVariants as misplaced
 use Rattle.chain_input.specs.chain_replay.declared.refusal.Refusal.{Refusal}
 use Rattle.chain_input.specs.chain_replay.declared.refusal.Refusal.TheVariants as refusals
 use Rattle.chain_input.specs.declared.cause.Cause.{Cause}
@@ -50,14 +52,18 @@ beyond_line (Some head) = line (codes "beyond head " ++ decimal head)
 abbrev pub root_line : ℕ → List ℕ → List ℕ
 root_line number root = line (codes "root " ++ decimal number ++ codes " " ++ encode_lower root)
 
+-- Why a block is neither held by a chain nor its next one, in words.
+abbrev pub misplaced_text : Misplaced → List ℕ
+misplaced_text (misplaced.Fork have) = codes "fork " ++ encode_lower have.0
+misplaced_text misplaced.Full = codes "full"
+misplaced_text (misplaced.Number want) = codes "number " ++ decimal want
+misplaced_text (misplaced.Parent want) = codes "parent " ++ encode_lower want.0
+misplaced_text (misplaced.Budget sum) = codes "budget " ++ decimal sum
+
 -- Why a chain refuses bytes, in words.
 abbrev pub refusal_text : Refusal → List ℕ
 refusal_text (refusals.Malformed offset) = codes "malformed " ++ decimal offset
-refusal_text (refusals.Fork have) = codes "fork " ++ encode_lower have.0
-refusal_text refusals.Full = codes "full"
-refusal_text (refusals.Number want) = codes "number " ++ decimal want
-refusal_text (refusals.Parent want) = codes "parent " ++ encode_lower want.0
-refusal_text (refusals.Budget sum) = codes "budget " ++ decimal sum
+refusal_text (refusals.Placed why) = misplaced_text why
 
 -- Why a frame is refused, in words.
 abbrev pub cause_text : Cause → List ℕ

@@ -4,10 +4,11 @@ ghost use Rattle.std.specs.{
   Prelude.{◌≡◌, [], ◌∷◌, ◌++◌, codes, decimal, map, string_bytes, IfOk},
   Fmt.{signed_decimal},
 };
-ghost use Rattle.cli_lines.specs.Lines.{usage_line, beyond_line, refusal_text, cause_text, refused_line, value_text, dep_line, answer_lines, bad_input_line, not_a_log_line, damaged_line, root_line, line};
+ghost use Rattle.cli_lines.specs.Lines.{usage_line, beyond_line, misplaced_text, refusal_text, cause_text, refused_line, value_text, dep_line, answer_lines, bad_input_line, not_a_log_line, damaged_line, root_line, line};
 ghost use Rattle.hex.specs.Hex.{encode_lower};
 
-use chain_input::{Cause, Refusal};
+use chain_input::{Cause, Misplaced, Refusal};
+use digest_kit::digest_text;
 use lc_base::{Answer, Bytes, Dep, DepList, Digest, Memory, Seq, Value};
 use std::alloc::{AllocError, Global};
 
@@ -50,13 +51,6 @@ pub fn hex_after(alloc: Global, word: &str, bytes: &[u8]) -> Result<String, Allo
     Ok(text)
 }
 
-/// A text of the word and then the digest in lower-case hex.
-pub fn digest_text(alloc: Global, word: &str, digest: &Digest) -> Result<String, AllocError>
-    ensures { IfOk result (λ text. string_bytes text ≡ word.now ++ encode_lower digest.now.0) }
-{
-    hex_after(alloc, word, digest.0.as_slice())
-}
-
 /// The line of the root at the block `number`.
 pub fn root_line(alloc: Global, number: u32, root: &Digest) -> Result<Bytes, Memory>
     ensures { IfOk result (λ bytes. bytes ≡ root_line number root.now.0) }
@@ -66,17 +60,26 @@ pub fn root_line(alloc: Global, number: u32, root: &Digest) -> Result<Bytes, Mem
     line(alloc, text.as_str())
 }
 
+/// Why a block is neither held by a chain nor its next one, in words.
+fn misplaced_text(alloc: Global, why: &Misplaced) -> Result<String, AllocError>
+    ensures { IfOk result (λ text. string_bytes text ≡ misplaced_text why.now) }
+{
+    match why {
+        Misplaced::Fork { have } => digest_text(alloc, "fork ", have),
+        Misplaced::Full => String::from_str(alloc, "full"),
+        Misplaced::Number { want } => format!(in alloc; "number {want}"),
+        Misplaced::Parent { want } => digest_text(alloc, "parent ", want),
+        Misplaced::Budget { sum } => format!(in alloc; "budget {sum}"),
+    }
+}
+
 /// Why a chain refuses bytes, in words.
 fn refusal_text(alloc: Global, refusal: &Refusal) -> Result<String, AllocError>
     ensures { IfOk result (λ text. string_bytes text ≡ refusal_text refusal.now) }
 {
     match refusal {
         Refusal::Malformed(offset) => format!(in alloc; "malformed {offset}"),
-        Refusal::Fork(have) => digest_text(alloc, "fork ", have),
-        Refusal::Full => String::from_str(alloc, "full"),
-        Refusal::Number(want) => format!(in alloc; "number {want}"),
-        Refusal::Parent(want) => digest_text(alloc, "parent ", want),
-        Refusal::Budget(sum) => format!(in alloc; "budget {sum}"),
+        Refusal::Placed(why) => misplaced_text(alloc, why),
     }
 }
 

@@ -29,8 +29,8 @@ ghost use Rattle.cli_proofs.specs.Exposing.{IsHeld, found_outcome, ledger_kept, 
 
 use crate::lines::line_of;
 use crate::verifying::{bad_hex, rejected_outcome};
-use answer_exposing::{Clash, ExposeError, expose as expose_proof};
-use answer_proof::Lineage;
+use answer_exposing::{Clash, expose as expose_proof};
+use answer_proof::{Lineage, QueryError};
 use cli_output::{
     Ending, Node, Outcome, OutcomeStop, RunStop, beyond, hex_after, read_whole, tell_answer,
     tell_start,
@@ -97,9 +97,9 @@ fn accepted_outcome<S: Scratch>(
 {
     match expose_proof(alloc, lineage, scratch, root_at, proof) {
         Ok(found) => Ok(found_outcome(alloc, &found)?),
-        Err(ExposeError::Beyond { .. }) => unreachable!(),
-        Err(ExposeError::Fault) => Err(OutcomeStop::ScratchFault),
-        Err(ExposeError::Memory) => Err(OutcomeStop::Memory),
+        Err(QueryError::Beyond { .. }) => unreachable!(),
+        Err(QueryError::Fault) => Err(OutcomeStop::ScratchFault),
+        Err(QueryError::Memory) => Err(OutcomeStop::Memory),
     }
 }
 

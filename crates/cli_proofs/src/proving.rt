@@ -21,7 +21,7 @@ ghost use Rattle.cli_output.specs.{
 ghost use Rattle.cli_proofs.specs.Exposing.{ledger_kept};
 
 use crate::lines::line_of;
-use answer_proof::{Lineage, ProveError, prove as prove_answer};
+use answer_proof::{Lineage, QueryError, prove as prove_answer};
 use cli_output::{Ending, Node, Outcome, OutcomeStop, RunStop, beyond, tell_answer, tell_start};
 use disk_model::Disk;
 use lc_base::{Bytes, Memory, Query};
@@ -59,9 +59,9 @@ fn proof_outcome<S: Scratch>(
             let line = hex_line(alloc, proof.as_bytes())?;
             Ok(Outcome::from_line(alloc, line, Ending::Done)?)
         }
-        Err(ProveError::Beyond { head }) => Ok(beyond(alloc, head)?),
-        Err(ProveError::Fault) => Err(OutcomeStop::ScratchFault),
-        Err(ProveError::Memory) => Err(OutcomeStop::Memory),
+        Err(QueryError::Beyond { head }) => Ok(beyond(alloc, head)?),
+        Err(QueryError::Fault) => Err(OutcomeStop::ScratchFault),
+        Err(QueryError::Memory) => Err(OutcomeStop::Memory),
     }
 }
 

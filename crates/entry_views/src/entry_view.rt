@@ -46,6 +46,13 @@ impl<'p, F: EntryFields> Model for EntryView<'p, F> {
 }
 
 impl<'p, F: EntryFields> EntryView<'p, F> {
+    /// Its fields.
+    pub fn fields(&self) -> &F
+        ensures { result.now ≡ self.now.value }
+    {
+        &self.fields
+    }
+
     /// The bytes that it was read from: its fields, as they are hashed after their first byte.
     pub fn bytes(&self) -> &'p [u8]
         ensures spelled { IsSpelled F.codec.fields F.codec.lawful self.now.value result.now }

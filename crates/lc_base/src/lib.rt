@@ -15,7 +15,7 @@ mod tx_status;
 mod value;
 
 pub use answer::{Answer, Kind, Query};
-pub use digest::Digest;
+pub use digest::{Digest, check_digest};
 pub use host::Host;
 pub use host_error::HostError;
 pub use lc_names::{Key, KeyError, MAX_KEY_BYTES, MAX_NAME_BYTES, Name, is_name_byte};
@@ -23,6 +23,6 @@ pub use limits::{MAX_DEPS, MAX_ROWS, MAX_TEXT_BYTES};
 pub use list::{Bytes, DepList, DigestList, Duplicate, KeyList, RowList, Seq, TextList, ValueList};
 pub use memory::{Memory, zeros};
 pub use row::{Dep, Row, Version};
-pub use text::{Text, TextError, is_text_byte};
+pub use text::{Text, TextError, bad_text_byte, is_text_byte};
 pub use tx_status::TxStatus;
 pub use value::Value;

@@ -60,7 +60,8 @@ pub fn is_text_byte(byte: u8) -> bool
     matches!(byte, 0x20..=0x7E)
 }
 
-fn bad_text_byte(bytes: &[u8]) -> Option<usize>
+/// The offset of the first byte that a text may not have.
+pub fn bad_text_byte(bytes: &[u8]) -> Option<usize>
     ensures { result ≡ bad_text_byte bytes.now }
 {
     bytes.iter().position(|byte| !is_text_byte(*byte))

@@ -1,5 +1,5 @@
 -- Zero-padded arrays are ordered as the bytes that they hold, if none of these is zero.
-use Rattle.std.proofs.Common.{◌≡◌, ◌+◌, ◌-◌, ◌<◌, ◌≤◌, ℕ, zero, suc, Bool, true, false, cond, not, nat_lt, List, [], ◌∷◌, ◌++◌, length, get_or, replicate, Some, None, inl, inr, true≢false, refl, sym, ap, ◌∙◌, arith}
+use Rattle.std.proofs.Common.{◌≡◌, ◌+◌, ◌-◌, ◌≤◌, ℕ, zero, suc, Bool, true, false, cond, not, nat_lt, List, [], ◌∷◌, ◌++◌, length, get_or, take, replicate, Some, None, inl, inr, true≢false, refl, sym, ap, ◌∙◌, arith}
 use Rattle.std.specs.Prelude.{position}
 use Rattle.std.specs.List.{position_or_len}
 use Rattle.std.specs.Ordering.{nat_cmp, ordering_then}
@@ -8,16 +8,12 @@ use Rattle.std.specs.Cmp.Lexicographic.{slice_cmp}
 use Rattle.std.proofs.lemmas.Bool.{cases_eq, cases_Bool, ltb-false}
 use Rattle.std.proofs.lemmas.Option.{none-some}
 use Rattle.std.proofs.lemmas.Cmp.{nat_list_cmp_total}
+use Rattle.std.proofs.lemmas.List.{length-take}
 use Rattle.std.proofs.lemmas.List.Sums.{fails_before_first}
-use Rattle.lc_names.specs.KeyBytes.{IsKey, is_key_byte}
-use Rattle.lc_names.specs.NameBytes.{IsName, is_name_byte, starts_with_letter, foreign_byte}
-use Rattle.lc_names.specs.Padding.{zero_padded}
-use Rattle.lc_names.specs.declared.limits.TheConstants.{MAX_KEY_BYTES, MAX_NAME_BYTES}
+use Rattle.lc_names.specs.KeyBytes.{is_key_byte, bad_key_byte}
+use Rattle.lc_names.specs.NameBytes.{is_name_byte, starts_with_letter, foreign_byte, bad_name_byte}
+use Rattle.lc_names.specs.Padding.{zero_padded, HasNoZero, IsPadded}
 use Rattle.lc_names.proofs.WordOrder.{less, greater}
-
--- No byte is zero.
-abbrev HasNoZero : List ℕ → Type 0
-HasNoZero bytes = (i : ℕ) → i < length bytes → 0 < get_or bytes i 0
 
 none_found : (is_bad : ℕ → Bool) (bytes : List ℕ) → position is_bad bytes ≡ None → length bytes ≤ position_or_len is_bad bytes
 none_found is_bad bytes good =
@@ -52,19 +48,17 @@ zeros_order (x ∷ xs) (y ∷ ys) m n same left right =
 padded_order : (width : ℕ) (xs ys : List ℕ) → length xs ≤ width → length ys ≤ width → HasNoZero xs → HasNoZero ys → slice_cmp nat_cmp (zero_padded width xs) (zero_padded width ys) ≡ slice_cmp nat_cmp xs ys
 padded_order width xs ys short shorter left right = zeros_order xs ys (width - length xs) (width - length ys) (omega arith) left right
 
-key_has_no_zero : (key : List ℕ) → IsKey key → HasNoZero key
-key_has_no_zero key is = no_zero (λ byte. not (is_key_byte byte)) key refl is.good
+-- Two arrays are ordered as the bytes that they hold.
+pub array_order : (width m n : ℕ) (xs ys : List ℕ) → IsPadded width m xs → IsPadded width n ys → slice_cmp nat_cmp xs ys ≡ slice_cmp nat_cmp (take m xs) (take n ys)
+array_order width m n xs ys left right =
+    (λ i. slice_cmp nat_cmp (left.padded i) (right.padded i))
+    ∙ padded_order width (take m xs) (take n ys) (omega (arith, left.short, length-take m xs)) (omega (arith, right.short, length-take n ys)) left.no_zero right.no_zero
 
--- The arrays of keys are ordered as the keys are.
-pub key_order : (xs ys : List ℕ) → IsKey xs → IsKey ys → slice_cmp nat_cmp (zero_padded MAX_KEY_BYTES xs) (zero_padded MAX_KEY_BYTES ys) ≡ slice_cmp nat_cmp xs ys
-key_order xs ys left right = padded_order MAX_KEY_BYTES xs ys left.short right.short (key_has_no_zero xs left) (key_has_no_zero ys right)
+pub key_has_no_zero : (key : List ℕ) → bad_key_byte key ≡ None → HasNoZero key
+key_has_no_zero key good = no_zero (λ byte. not (is_key_byte byte)) key refl good
 
-name_has_no_zero : (name : List ℕ) → IsName name → HasNoZero name
-name_has_no_zero name is = elim (cases_Bool (starts_with_letter name)) [
-  | inl starts ↦ no_zero (λ byte. not (is_name_byte byte)) name refl (ap (λ (b : Bool). cond b (foreign_byte name) (Some 0)) (sym starts) ∙ is.good)
-  | inr digit ↦ absurd (none-some 0 (sym is.good ∙ ap (λ (b : Bool). cond b (foreign_byte name) (Some 0)) digit))
+pub name_has_no_zero : (name : List ℕ) → bad_name_byte name ≡ None → HasNoZero name
+name_has_no_zero name good = elim (cases_Bool (starts_with_letter name)) [
+  | inl starts ↦ no_zero (λ byte. not (is_name_byte byte)) name refl (ap (λ (b : Bool). cond b (foreign_byte name) (Some 0)) (sym starts) ∙ good)
+  | inr digit ↦ absurd (none-some 0 (sym good ∙ ap (λ (b : Bool). cond b (foreign_byte name) (Some 0)) digit))
 ]
-
--- The arrays of names are ordered as the names are.
-pub name_order : (xs ys : List ℕ) → IsName xs → IsName ys → slice_cmp nat_cmp (zero_padded MAX_NAME_BYTES xs) (zero_padded MAX_NAME_BYTES ys) ≡ slice_cmp nat_cmp xs ys
-name_order xs ys left right = padded_order MAX_NAME_BYTES xs ys left.short right.short (name_has_no_zero xs left) (name_has_no_zero ys right)

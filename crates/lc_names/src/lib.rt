@@ -4,6 +4,7 @@
 mod key;
 mod limits;
 mod name;
+mod padded;
 mod words;
 
 pub use key::{Key, KeyError};

@@ -12,5 +12,5 @@ mod questions;
 pub use answers::answer;
 pub use host::Reading;
 pub use lineage_store::Steps;
-pub use merkle_dag::Lineage;
-pub use questions::{AskError, ask};
+pub use merkle_dag::{Lineage, QueryError};
+pub use questions::ask;

@@ -8,29 +8,16 @@ ghost use Rattle.lineage_host.specs.{
   Bodiless.{IsButForBody},
   merkle_dag.Ledger.{most_looked_at},
   merkle_dag.Lineage.{ledger_in, AgreesWith, LeavesLineage},
+  merkle_dag.Questions.{TellsPastHead},
 };
-ghost use Rattle.lineage_host.specs.Asking.{IsAnswered, IsRefusedBeyond, IsCounted};
+ghost use Rattle.lineage_host.specs.Asking.{IsAnswered, IsCounted};
 
 use crate::answers::answer;
-use lc_base::{Answer, HostError, Query};
+use lc_base::{Answer, Query};
 use lineage_store::Steps;
-use merkle_dag::Lineage;
+use merkle_dag::{Lineage, QueryError};
 use scratch_model::Scratch;
 use std::alloc::Global;
-
-/// Why a question has no answer.
-#[derive(Clone, Copy, Debug, PartialEq, Eq)]
-pub enum AskError {
-    /// It asks past the last block, or there is no block.
-    Beyond {
-        /// The number of the last block; `None` if there is no block.
-        head: Option<u32>,
-    },
-    /// The scratch device failed.
-    Fault,
-    /// Out of memory.
-    Memory,
-}
 
 /// The answer to a question about the blocks up to the one that it names. If it is not known which
 /// bytes the device holds, nothing is promised of the value and of the dependencies, and of all
@@ -45,25 +32,21 @@ pub fn ask<S: Scratch>(
     scratch: &mut S,
     query: &Query,
     steps: &mut Steps,
-) -> Result<Answer, AskError>
+) -> Result<Answer, QueryError>
     requires agrees { AgreesWith lineage.old (S.state scratch.old) }
     ensures answered { is_known (S.state scratch.old) ≡ true
         → IsAnswered (ledger_in lineage.old) query.now result }
     ensures always { IfOk result (IsButForBody (scan lineage.old.rows query.now)) }
-    ensures beyond { IsRefusedBeyond (ledger_in lineage.old) query.now result }
+    ensures beyond { TellsPastHead lineage.old.digests query.now.at result }
     ensures counted { IsCounted (ledger_in lineage.old) query.now result steps.old steps.new }
     ensures few { steps.new ≤ steps.old + most_looked_at lineage.old.digests }
     ensures leaves { LeavesLineage S.state S.scratch_faults lineage.old scratch.old lineage.new
-        scratch.new (IsErrOf result AskError.Fault) }
+        scratch.new (IsErrOf result QueryError.Fault) }
 {
     if lineage.digest(query.at).is_none() {
-        return Err(AskError::Beyond {
+        return Err(QueryError::Beyond {
             head: lineage.head(),
         });
     }
-    match answer(alloc, lineage, scratch, query, steps) {
-        Ok(answer) => Ok(answer),
-        Err(HostError::Fault) => Err(AskError::Fault),
-        Err(HostError::Memory) => Err(AskError::Memory),
-    }
+    Ok(answer(alloc, lineage, scratch, query, steps)?)
 }

@@ -1,19 +1,16 @@
 //! A lineage that is asked by calls that the program doesn't make, over the chain of
 //! `examples/recall.blocks`.
 
-ghost use Rattle.std.specs.Prelude.{IfSome};
-ghost use Rattle.scratch_model.specs.MemScratch.{state_over};
 ghost use Rattle.merkle_dag.specs.Lineage.{AgreesWith};
 
 use crate::alike::is_same_answer;
-use crate::lineages::lineage_in_memory;
-use chain_pack::pack;
+use crate::lineages::lineage_of_draft;
 use hex::FromHex;
 use lc_base::{Answer, Dep, DepList, Digest, Key, Kind, Query, Value};
-use lineage_host::{AskError, answer, ask};
+use lineage_host::{answer, ask};
 use lineage_store::Steps;
-use merkle_dag::Lineage;
-use scratch_model::{MemScratch, Scratch};
+use merkle_dag::{Lineage, QueryError};
+use scratch_model::Scratch;
 use std::alloc::Global;
 
 /// The draft of the three blocks.
@@ -38,13 +35,6 @@ const PAIR: &str = "b72932a29059361920a50e4214789bbc92396695ddfb08a1894f6bf5c1f5
 
 /// The tree hash of the first four leaves.
 const FOUR: &str = "7c2e11c93b331c080c08fe17b970b57e84664f9a9aa963df1fed9f7f89c725e4";
-
-/// A lineage of the three blocks, over a device in memory.
-fn lineage_of_draft(alloc: Global) -> Option<(MemScratch, Lineage)>
-    ensures agrees { IfSome result (λ made. AgreesWith made.1 (state_over made.0.bytes)) }
-{
-    lineage_in_memory(alloc, &[], &pack(alloc, DRAFT).ok()?)
-}
 
 /// The versions of these keys, each in the block beside it.
 fn versions(alloc: Global, places: &[(&[u8], u32)]) -> Option<DepList> {
@@ -84,7 +74,7 @@ fn tells_the_head<S: Scratch>(alloc: Global, lineage: &mut Lineage, scratch: &mu
     let query = question(Kind::Fwd, b"raw/part/p1", 3)?;
     match ask(alloc, lineage, scratch, &query, &mut steps) {
         Ok(_) => None,
-        Err(error) => Some(error == AskError::Beyond { head: Some(2) } && steps.count() == 0),
+        Err(error) => Some(error == QueryError::Beyond { head: Some(2) } && steps.count() == 0),
     }
 }
 
@@ -132,7 +122,7 @@ fn has_audit_path(lineage: &Lineage) -> Option<bool> {
 #[test]
 fn answers_of_a_lineage(rt: HostRuntime) {
     let alloc = rt.alloc();
-    let Some((mut scratch, mut lineage)) = lineage_of_draft(alloc) else {
+    let Some((mut scratch, mut lineage)) = lineage_of_draft(alloc, DRAFT) else {
         assert!(rt; false);
         return;
     };

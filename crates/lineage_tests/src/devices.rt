@@ -8,9 +8,8 @@ use crate::lineages::{add_block, int_at, lineage_in_memory, lineage_of, set};
 use block_codec::TxList;
 use file_scratch::FileScratch;
 use lc_base::{Key, TextList};
-use lineage_host::AskError;
 use lineage_store::Steps;
-use merkle_dag::Lineage;
+use merkle_dag::{Lineage, QueryError};
 use scratch_model::{MemScratch, Scratch};
 use std::alloc::Global;
 use std::fs;
@@ -64,7 +63,7 @@ fn int_of<S: Scratch>(
     lineage: &mut Lineage,
     scratch: &mut S,
     number: u32,
-) -> Result<Option<i64>, AskError>
+) -> Result<Option<i64>, QueryError>
     requires agrees { AgreesWith lineage.old (S.state scratch.old) }
     ensures agrees { AgreesWith lineage.new (S.state scratch.new) }
 {
@@ -127,9 +126,9 @@ fn failed_get_is_a_fault(rt: HostRuntime) {
         assert!(rt; false);
         return;
     };
-    assert!(rt; int_of(alloc, &mut lineage, &mut scratch, 0) == Err(AskError::Fault));
+    assert!(rt; int_of(alloc, &mut lineage, &mut scratch, 0) == Err(QueryError::Fault));
     assert!(rt; int_of(alloc, &mut lineage, &mut scratch, KEYS - 1) == Ok(Some(5)));
-    assert!(rt; int_of(alloc, &mut lineage, &mut scratch, 0) == Err(AskError::Fault));
+    assert!(rt; int_of(alloc, &mut lineage, &mut scratch, 0) == Err(QueryError::Fault));
     // Then it is read, and is at hand.
     assert!(rt; int_of(alloc, &mut lineage, &mut scratch, 0) == Ok(Some(5)));
     lineage.give_up();

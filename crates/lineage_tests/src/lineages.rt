@@ -5,12 +5,13 @@ ghost use Rattle.scratch_model.specs.MemScratch.{state_over};
 ghost use Rattle.merkle_dag.specs.Lineage.{AgreesWith};
 
 use block_codec::{Block, NO_PARENT, Tx, TxList, block_digest, encode};
+use chain_pack::pack;
 use chain_replay::{Judged, Replay};
 use lc_base::{Answer, Key, KeyList, Kind, Query, TextList, Value};
 use lc_io::Room;
-use lineage_host::{AskError, ask};
+use lineage_host::ask;
 use lineage_store::Steps;
-use merkle_dag::Lineage;
+use merkle_dag::{Lineage, QueryError};
 use resources::{Resources, Zeros};
 use rooted_chain::LineageChain;
 use scratch_model::{MemScratch, Scratch};
@@ -112,6 +113,13 @@ pub(crate) fn lineage_in_memory(
     Some((scratch, lineage))
 }
 
+/// A device in memory, and a lineage of the blocks of a draft over it.
+pub(crate) fn lineage_of_draft(alloc: Global, draft: &[u8]) -> Option<(MemScratch, Lineage)>
+    ensures agrees { IfSome result (λ made. AgreesWith made.1 (state_over made.0.bytes)) }
+{
+    lineage_in_memory(alloc, &[], &pack(alloc, draft).ok()?)
+}
+
 /// The int of an answer, and the block of its version.
 fn int_in(answer: &Answer) -> Option<(u32, i64)> {
     match answer {
@@ -132,7 +140,7 @@ pub(crate) fn int_at<S: Scratch>(
     key: Key,
     at: u32,
     steps: &mut Steps,
-) -> Result<Option<(u32, i64)>, AskError>
+) -> Result<Option<(u32, i64)>, QueryError>
     requires agrees { AgreesWith lineage.old (S.state scratch.old) }
     ensures agrees { AgreesWith lineage.new (S.state scratch.new) }
 {

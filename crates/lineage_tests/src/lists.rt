@@ -1,15 +1,8 @@
 //! The open list of a key, and the lists that later versions of a key closed.
 
-ghost use Rattle.std.specs.Prelude.{IfSome};
-ghost use Rattle.scratch_model.specs.MemScratch.{state_over};
-ghost use Rattle.merkle_dag.specs.Lineage.{AgreesWith};
-
-use crate::lineages::lineage_in_memory;
-use chain_pack::pack;
+use crate::lineages::lineage_of_draft;
 use lc_base::Key;
 use merkle_dag::Lineage;
-use scratch_model::MemScratch;
-use std::alloc::Global;
 
 /// The draft of four blocks of six rows. A lot is made of the first version of a part, then the
 /// part has a second one, of which another lot is made.
@@ -29,13 +22,6 @@ const DRAFT: &[u8] = br#"[
     {"set": {"sender": "plant", "key": "raw/lot/l3", "value": 200, "deps": ["raw/part/p1"]}}
   ]
 ]"#;
-
-/// A lineage of the four blocks, over a device in memory.
-fn lineage_of_draft(alloc: Global) -> Option<(MemScratch, Lineage)>
-    ensures agrees { IfSome result (λ made. AgreesWith made.1 (state_over made.0.bytes)) }
-{
-    lineage_in_memory(alloc, &[], &pack(alloc, DRAFT).ok()?)
-}
 
 /// Whether the open list of a key is this one.
 fn has_open_list(lineage: &Lineage, key: &[u8], wanted: &[u32]) -> Option<bool> {
@@ -66,7 +52,7 @@ fn has_closed_lists(lineage: &Lineage) -> Option<bool> {
 
 #[test]
 fn next_version_closes_the_list(rt: HostRuntime) {
-    let Some((_, mut lineage)) = lineage_of_draft(rt.alloc()) else {
+    let Some((_, mut lineage)) = lineage_of_draft(rt.alloc(), DRAFT) else {
         assert!(rt; false);
         return;
     };

@@ -1,4 +1,5 @@
 pub mod Ledger
+pub mod Questions
 pub mod Lineage
 pub mod Staying
 pub mod Kept

@@ -21,7 +21,7 @@ ghost use Rattle.merkle_dag.specs.{
 use crate::adding::{add_bodies, check_rows};
 use crate::root::root_of_tree;
 use body_store::Bodies;
-use lc_base::{Digest, HostError, RowList};
+use lc_base::{Digest, HostError, RowList, check_digest};
 use lineage_index::LineageIndex;
 use scratch_model::Scratch;
 
@@ -33,13 +33,6 @@ pub(crate) struct Kept {
     pub bodies: Bodies,
     pub digests: Vec<Digest>,
     pub roots: Vec<Digest>,
-}
-
-/// Does nothing: its contract makes known that a digest has 32 bytes.
-fn check_digest(digest: &Digest)
-    ensures { length digest.now.0 ≡ 32 }
-{
-    let _bytes = digest.0.as_slice();
 }
 
 /// Adds the next block: its number, its digest and its rows. Returns the root at the block. The

@@ -3,10 +3,10 @@
 #![tactic(auto)]
 
 mod adding;
-mod bodies;
 mod kept;
 mod limits;
 mod lineage;
+mod query_error;
 mod rewinding;
 mod root;
 mod uses;
@@ -15,3 +15,4 @@ pub use entry_store::EntryId;
 pub use limits::MAX_LINEAGE_BLOCKS;
 pub use lineage::Lineage;
 pub use lineage_index::Steps;
+pub use query_error::QueryError;

@@ -48,7 +48,6 @@ ghost use Rattle.merkle_dag.specs.{
   Lineage.{AgreesWith, AreFactsOf, LeavesLineage, first_bodies, ledger_in},
 };
 
-use crate::bodies::body_at;
 use crate::kept::{Kept, discard, grow};
 use crate::rewinding::first_blocks;
 use crate::uses::{nth_version, users_of, versions_at};
@@ -303,7 +302,7 @@ impl Lineage {
         ensures leaves { LeavesLineage S.state S.scratch_faults self.old scratch.old self.new
             scratch.new (IsErrOf result HostError.Fault) }
     {
-        body_at(&mut self.kept.bodies, scratch, id.0)
+        self.kept.bodies.body(scratch, id.0)
     }
 
     /// The lineage of the blocks 0 to `at`. The bodies stay where they are; none of them is at

@@ -16,6 +16,9 @@ use contract_tree::{Expr, ExprList, ExprNode, Sign};
 use lc_base::Name;
 use std::alloc::Global;
 
+/// What was read, or why reading stopped.
+pub type Parsed<T> = Result<T, ParseStop>;
+
 /// An expression that was read, and its height.
 #[derive(Drop)]
 pub struct Subtree {
@@ -46,7 +49,7 @@ pub fn leaf(at: u32, node: ExprNode) -> Subtree
 }
 
 /// A call of this name; `Height` if it would be too high.
-pub fn call(at: u32, name: Name, args: Subtrees) -> Result<Subtree, ParseStop>
+pub fn call(at: u32, name: Name, args: Subtrees) -> Parsed<Subtree>
     ensures { (ts : List Token) → Gives (λ b. tree_of b.expr) result
         (node at (tree.Call at name (trees (map tree_of args.items.items))) ts) ts }
 {
@@ -65,7 +68,7 @@ pub fn call(at: u32, name: Name, args: Subtrees) -> Result<Subtree, ParseStop>
 }
 
 /// This operator before an operand; `Height` if the result would be too high.
-pub fn prefix(alloc: Global, at: u32, sign: Sign, operand: Subtree) -> Result<Subtree, ParseStop>
+pub fn prefix(alloc: Global, at: u32, sign: Sign, operand: Subtree) -> Parsed<Subtree>
     ensures { (ts : List Token) → Gives (λ b. tree_of b.expr) result
         (node at (tree.Prefix at sign (tree_of operand.expr)) ts) ts }
 {
@@ -84,13 +87,7 @@ pub fn prefix(alloc: Global, at: u32, sign: Sign, operand: Subtree) -> Result<Su
 }
 
 /// This operator between two operands; `Height` if the result would be too high.
-pub fn binary(
-    alloc: Global,
-    at: u32,
-    sign: Sign,
-    left: Subtree,
-    right: Subtree,
-) -> Result<Subtree, ParseStop>
+pub fn binary(alloc: Global, at: u32, sign: Sign, left: Subtree, right: Subtree) -> Parsed<Subtree>
     ensures { (ts : List Token) → Gives (λ b. tree_of b.expr) result
         (node at (tree.Binary at sign (tree_of left.expr) (tree_of right.expr)) ts) ts }
 {
@@ -121,7 +118,7 @@ impl Subtrees {
     }
 
     /// Appends an expression.
-    pub fn push(&mut self, item: Subtree) -> Result<(), ParseStop>
+    pub fn push(&mut self, item: Subtree) -> Parsed<()>
         ensures pushed { IfOk result
             (λ _. map tree_of self.new.items.items
             ≡ map tree_of self.old.items.items ++ tree_of item.expr ∷ []) }

@@ -14,12 +14,12 @@ ghost use Rattle.contract_grammar.specs.{
   declared.limits.TheConstants.{WHOLE},
 };
 
-use crate::build::{self, Subtree, Subtrees};
-use contract_grammar::{COMPARISONS, Cursor, MAX_PENDING, NameKind, Obstacle, ParseStop, WHOLE};
+use crate::build::{self, Parsed, Subtree, Subtrees};
+use contract_grammar::{COMPARISONS, Cursor, MAX_PENDING, NameKind, Obstacle, WHOLE};
 use contract_tokens::Mark;
 use contract_tree::{Expr, ExprList, ExprNode};
 
-fn literal(cursor: &mut Cursor<'_>) -> Result<Subtree, ParseStop>
+fn literal(cursor: &mut Cursor<'_>) -> Parsed<Subtree>
     ensures { Gives (λ b. tree_of b.expr) result (literal cursor.old) cursor.new }
 {
     if cursor.next_is_text() {
@@ -31,7 +31,7 @@ fn literal(cursor: &mut Cursor<'_>) -> Result<Subtree, ParseStop>
 }
 
 #[cycle(expression)]
-fn name_or_call(cursor: &mut Cursor<'_>, depth: u32) -> Result<Subtree, ParseStop>
+fn name_or_call(cursor: &mut Cursor<'_>, depth: u32) -> Parsed<Subtree>
     ensures { Gives (λ b. tree_of b.expr) result (name_or_call (arguments_in (inner_operand depth)) cursor.old)
         cursor.new }
 {
@@ -44,7 +44,7 @@ fn name_or_call(cursor: &mut Cursor<'_>, depth: u32) -> Result<Subtree, ParseSto
 }
 
 #[cycle(expression)]
-fn builtin_call(cursor: &mut Cursor<'_>, depth: u32) -> Result<Subtree, ParseStop>
+fn builtin_call(cursor: &mut Cursor<'_>, depth: u32) -> Parsed<Subtree>
     ensures { Gives (λ b. tree_of b.expr) result (builtin_call (arguments_in (inner_operand depth)) cursor.old)
         cursor.new }
 {
@@ -54,7 +54,7 @@ fn builtin_call(cursor: &mut Cursor<'_>, depth: u32) -> Result<Subtree, ParseSto
 }
 
 #[cycle(expression)]
-fn prefix_operand(cursor: &mut Cursor<'_>, depth: u32) -> Result<Subtree, ParseStop>
+fn prefix_operand(cursor: &mut Cursor<'_>, depth: u32) -> Parsed<Subtree>
     ensures { Gives (λ b. tree_of b.expr) result (prefix_operand_in (inner_operand depth) cursor.old)
         cursor.new }
 {
@@ -67,7 +67,7 @@ fn prefix_operand(cursor: &mut Cursor<'_>, depth: u32) -> Result<Subtree, ParseS
 }
 
 #[cycle(expression)]
-fn group(cursor: &mut Cursor<'_>, depth: u32) -> Result<Subtree, ParseStop>
+fn group(cursor: &mut Cursor<'_>, depth: u32) -> Parsed<Subtree>
     ensures { Gives (λ b. tree_of b.expr) result (group_in (inner_operand depth) cursor.old)
         cursor.new }
 {
@@ -81,14 +81,14 @@ fn group(cursor: &mut Cursor<'_>, depth: u32) -> Result<Subtree, ParseStop>
 }
 
 #[cycle(expression)]
-fn operand(cursor: &mut Cursor<'_>, depth: u32) -> Result<Subtree, ParseStop>
+fn operand(cursor: &mut Cursor<'_>, depth: u32) -> Parsed<Subtree>
     ensures { Gives (λ b. tree_of b.expr) result (operand depth cursor.old) cursor.new }
 {
     operand_by_start(cursor, depth)
 }
 
 #[cycle(expression)]
-fn operand_by_start(cursor: &mut Cursor<'_>, depth: u32) -> Result<Subtree, ParseStop>
+fn operand_by_start(cursor: &mut Cursor<'_>, depth: u32) -> Parsed<Subtree>
     ensures { Gives (λ b. tree_of b.expr) result (operand_in (inner_operand depth) cursor.old)
         cursor.new }
 {
@@ -108,7 +108,7 @@ fn operand_by_start(cursor: &mut Cursor<'_>, depth: u32) -> Result<Subtree, Pars
 }
 
 #[cycle(expression)]
-fn arguments(cursor: &mut Cursor<'_>, depth: u32) -> Result<Subtrees, ParseStop>
+fn arguments(cursor: &mut Cursor<'_>, depth: u32) -> Parsed<Subtrees>
     ensures { Gives (λ l. map tree_of l.items.items) result (arguments_in (inner_operand depth) cursor.old)
         cursor.new }
 {
@@ -125,12 +125,7 @@ fn arguments(cursor: &mut Cursor<'_>, depth: u32) -> Result<Subtrees, ParseStop>
 }
 
 #[cycle(expression)]
-fn more_items(
-    cursor: &mut Cursor<'_>,
-    depth: u32,
-    mark: Mark,
-    first: Subtree,
-) -> Result<Subtrees, ParseStop>
+fn more_items(cursor: &mut Cursor<'_>, depth: u32, mark: Mark, first: Subtree) -> Parsed<Subtrees>
     ensures { Gives (λ l. map tree_of l.items.items) result
         (more_of (level_of (operand depth) WHOLE) mark (tree_of first.expr) cursor.old)
         cursor.new }
@@ -143,7 +138,7 @@ fn more_items(
 }
 
 #[cycle(expression)]
-fn items(cursor: &mut Cursor<'_>, depth: u32, earlier: Subtrees) -> Result<Subtrees, ParseStop>
+fn items(cursor: &mut Cursor<'_>, depth: u32, earlier: Subtrees) -> Parsed<Subtrees>
     ensures { Gives (λ l. map tree_of l.items.items) result
         (each (is m.Comma) (comma_then (level_of (operand depth) WHOLE))
         (map tree_of earlier.items.items) cursor.old)
@@ -157,7 +152,7 @@ fn items(cursor: &mut Cursor<'_>, depth: u32, earlier: Subtrees) -> Result<Subtr
 }
 
 #[cycle(expression)]
-fn item(cursor: &mut Cursor<'_>, depth: u32, earlier: Subtrees) -> Result<Subtrees, ParseStop>
+fn item(cursor: &mut Cursor<'_>, depth: u32, earlier: Subtrees) -> Parsed<Subtrees>
     ensures { Gives (λ l. map tree_of l.items.items) result
         (put (comma_then (level_of (operand depth) WHOLE)) (map tree_of earlier.items.items)
         cursor.old)
@@ -171,12 +166,7 @@ fn item(cursor: &mut Cursor<'_>, depth: u32, earlier: Subtrees) -> Result<Subtre
 }
 
 #[cycle(expression)]
-fn binary(
-    cursor: &mut Cursor<'_>,
-    depth: u32,
-    level: u8,
-    left: Subtree,
-) -> Result<Subtree, ParseStop>
+fn binary(cursor: &mut Cursor<'_>, depth: u32, level: u8, left: Subtree) -> Parsed<Subtree>
     requires { 0 < level }
     ensures { Gives (λ b. tree_of b.expr) result
         (binary level (level_of (operand depth) (level - 1)) (tree_of left.expr) cursor.old)
@@ -188,12 +178,7 @@ fn binary(
 }
 
 #[cycle(expression)]
-fn chain(
-    cursor: &mut Cursor<'_>,
-    depth: u32,
-    level: u8,
-    first: Subtree,
-) -> Result<Subtree, ParseStop>
+fn chain(cursor: &mut Cursor<'_>, depth: u32, level: u8, first: Subtree) -> Parsed<Subtree>
     requires { 0 < level }
     ensures { Gives (λ b. tree_of b.expr) result
         (turns (has (sign_of level))
@@ -209,12 +194,7 @@ fn chain(
 }
 
 #[cycle(expression)]
-fn rest(
-    cursor: &mut Cursor<'_>,
-    depth: u32,
-    level: u8,
-    first: Subtree,
-) -> Result<Subtree, ParseStop>
+fn rest(cursor: &mut Cursor<'_>, depth: u32, level: u8, first: Subtree) -> Parsed<Subtree>
     requires { 0 < level }
     ensures { Gives (λ b. tree_of b.expr) result
         (rest_of_level (is_chained level) level (level_of (operand depth) (level - 1))
@@ -231,7 +211,7 @@ fn rest(
 }
 
 #[cycle(expression)]
-fn binary_level(cursor: &mut Cursor<'_>, depth: u32, level: u8) -> Result<Subtree, ParseStop>
+fn binary_level(cursor: &mut Cursor<'_>, depth: u32, level: u8) -> Parsed<Subtree>
     requires { 0 < level }
     ensures { Gives (λ b. tree_of b.expr) result
         (next
@@ -245,7 +225,7 @@ fn binary_level(cursor: &mut Cursor<'_>, depth: u32, level: u8) -> Result<Subtre
 }
 
 #[cycle(expression)]
-fn at_level(cursor: &mut Cursor<'_>, depth: u32, level: u8) -> Result<Subtree, ParseStop>
+fn at_level(cursor: &mut Cursor<'_>, depth: u32, level: u8) -> Parsed<Subtree>
     ensures { Gives (λ b. tree_of b.expr) result (level_of (operand depth) level cursor.old)
         cursor.new }
 {
@@ -257,7 +237,7 @@ fn at_level(cursor: &mut Cursor<'_>, depth: u32, level: u8) -> Result<Subtree, P
 
 /// A whole expression.
 #[tactic(auto, unfolding(contract_grammar::specs::Reading::expression))]
-pub fn expression(cursor: &mut Cursor<'_>) -> Result<Expr, ParseStop>
+pub fn expression(cursor: &mut Cursor<'_>) -> Parsed<Expr>
     ensures { Gives tree_of result (expression cursor.old) cursor.new }
 {
     let built = at_level(cursor, MAX_PENDING, WHOLE)?;
@@ -266,7 +246,7 @@ pub fn expression(cursor: &mut Cursor<'_>) -> Result<Expr, ParseStop>
 
 /// Whole expressions, at least one, with commas between them, then the closing sign.
 #[tactic(auto, unfolding(contract_grammar::specs::Reading::expression))]
-pub fn expressions(cursor: &mut Cursor<'_>, mark: Mark) -> Result<ExprList, ParseStop>
+pub fn expressions(cursor: &mut Cursor<'_>, mark: Mark) -> Parsed<ExprList>
     ensures { Gives (λ v. map tree_of v.items) result
         (seq expression (more_of expression mark) cursor.old) cursor.new }
 {

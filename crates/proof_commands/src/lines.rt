@@ -2,21 +2,12 @@
 //! computed.
 
 ghost use Rattle.std.specs.Prelude.{◌≡◌, [], ◌∷◌, ◌++◌, codes, string_bytes, IfOk};
-ghost use Rattle.hex.specs.Hex.{encode_lower};
 ghost use Rattle.proof_commands.specs.Lines.{reject_text, rejected_line};
 
+use digest_kit::digest_text;
 use lc_base::{Bytes, Digest, Memory};
 use proof_verifier::Reject;
 use std::alloc::{AllocError, Global};
-
-/// The word, then the digest in lower-case hex.
-fn digest_text(alloc: Global, word: &str, digest: &Digest) -> Result<String, AllocError>
-    ensures { IfOk result (λ text. string_bytes text ≡ word.now ++ encode_lower digest.now.0) }
-{
-    let hex = hex::encode(alloc, digest.0.as_slice())?;
-    let hex = hex.as_str();
-    format!(in alloc; "{word}{hex}")
-}
 
 fn link_text(alloc: Global, step: u8, computed: &Digest) -> Result<String, AllocError>
     ensures { IfOk result (λ text. string_bytes text ≡ reject_text (Reject.LinkDiffers step computed.now)) }

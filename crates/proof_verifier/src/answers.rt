@@ -21,7 +21,7 @@ fn fault_of_body(header: &HeaderView, body: &BodyView) -> Option<Reject>
     ensures { result ≡ fault_of_body (Some header.now.value) (Some body.now.value) }
 {
     let computed = body_digest(body);
-    if computed.0 != header.body().0 {
+    if computed.0 != header.fields().body.0 {
         return Some(Reject::BodyDiffers { computed });
     }
     None
@@ -64,18 +64,18 @@ fn answer_by<'p>(
 {
     match kind {
         Kind::Hist => Found::Hist {
-            block: header.block(),
-            tx: header.tx(),
+            block: header.fields().block,
+            tx: header.fields().tx,
             value: body.value(),
         },
         Kind::Back => Found::Back {
-            block: header.block(),
+            block: header.fields().block,
             deps: body.deps(),
         },
         Kind::Fwd => match uses {
             None => Found::Nothing,
             Some(uses) => Found::Fwd {
-                block: header.block(),
+                block: header.fields().block,
                 uses,
             },
         },

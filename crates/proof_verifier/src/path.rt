@@ -53,18 +53,18 @@ fn next_link(links: &LinkView, at: u32) -> Option<Link>
 fn expected_after(at: u32, header: &HeaderView) -> Option<Link>
     ensures { result ≡ expected_after at header.now.value }
 {
-    if header.block() <= at {
+    if header.fields().block <= at {
         return None;
     }
-    next_link(&header.links(), at)
+    next_link(&header.fields().links, at)
 }
 
 fn claim_of_header(header: &HeaderView) -> Claim
     ensures { result ≡ claim_of_header header.now.value }
 {
     Claim {
-        count: header.closed(),
-        digest: header.closed_digest(),
+        count: header.fields().closed,
+        digest: header.fields().closed_digest,
     }
 }
 
@@ -76,10 +76,10 @@ fn header_fault(key: &Key, step: u8, expected: &Link, header: &HeaderView) -> Op
     if computed.0 != expected.digest.0 {
         return Some(Reject::LinkDiffers { step, computed });
     }
-    if header.key().as_bytes() != key.as_bytes() {
+    if header.fields().key.as_bytes() != key.as_bytes() {
         return Some(Reject::PathShape { step });
     }
-    if header.block() != expected.block {
+    if header.fields().block != expected.block {
         return Some(Reject::PathShape { step });
     }
     None

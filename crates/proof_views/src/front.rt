@@ -1,9 +1,9 @@
 //! Reads what comes before the leaf: the magic bytes, the query, the root, and the leaf's index.
 
-ghost use Rattle.std.specs.{Prelude.{nat_le, nat_lt}, Int.{w32}};
+ghost use Rattle.std.specs.Prelude.{nat_le};
 ghost use Rattle.byte_fields.specs.{
   Reader.{fault_left, Reads, ReadsAs},
-  Reading.{made_at, ruled_at, number_at, byte_at},
+  Reading.{made_at, ruled_at, byte_at},
 };
 ghost use Rattle.proof_codec.specs.Reading.{kind_of, magic_at, query_at, front_at};
 
@@ -54,30 +54,6 @@ fn magic<'p>(reader: &mut Reader<'p>) -> Result<&'p [u8], Fault>
     Ok(bytes)
 }
 
-/// Reads a big-endian number of four bytes that is at least `least`.
-fn u32_at_least(reader: &mut Reader, least: u32) -> Result<u32, Fault>
-    ensures { Reads fault_left result (ruled_at (λ n. nat_le least n) (number_at w32) reader.old) reader.new }
-{
-    let left = reader.remaining();
-    let number = reader.u32()?;
-    if number < least {
-        return Err(Fault { left });
-    }
-    Ok(number)
-}
-
-/// Reads a big-endian number of four bytes that is below `limit`.
-fn u32_below(reader: &mut Reader, limit: u32) -> Result<u32, Fault>
-    ensures { Reads fault_left result (ruled_at (λ n. nat_lt n limit) (number_at w32) reader.old) reader.new }
-{
-    let left = reader.remaining();
-    let number = reader.u32()?;
-    if number >= limit {
-        return Err(Fault { left });
-    }
-    Ok(number)
-}
-
 /// Reads everything before the leaf.
 #[tactic(auto, unfolding(proof_codec::specs::Reading::front_at))]
 pub(crate) fn front(reader: &mut Reader) -> Result<FrontView, Fault>
@@ -85,10 +61,10 @@ pub(crate) fn front(reader: &mut Reader) -> Result<FrontView, Fault>
 {
     magic(reader)?;
     let query = query(reader)?;
-    let root_at = u32_at_least(reader, query.at)?;
+    let root_at = reader.u32_at_least(query.at)?;
     let block_digest = Digest(reader.digest_bytes()?);
-    let leaf_count = u32_at_least(reader, 1)?;
-    let leaf_index = u32_below(reader, leaf_count)?;
+    let leaf_count = reader.u32_at_least(1)?;
+    let leaf_index = reader.u32_below(leaf_count)?;
     Ok(FrontView {
         query,
         root_at,

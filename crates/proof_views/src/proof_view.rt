@@ -145,7 +145,7 @@ fn is_answered(headers: &HeadersView, at: u32) -> bool
     let mut rest = headers.again();
     let mut answered = false;
     while let Some(header) = rest.next() {
-        answered = header.block() <= at;
+        answered = header.fields().block <= at;
     }
     answered
 }

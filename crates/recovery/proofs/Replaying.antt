@@ -5,8 +5,7 @@ use Rattle.std.specs.Option.{is_some}
 use Rattle.std.proofs.lemmas.List.{append-nil, map_push}
 use Rattle.block_codec.specs.declared.block.Block.{Block}
 use Rattle.block_codec.specs.declared.placement.Placement.{Placement}
-use Rattle.block_codec.specs.declared.placement.Placement.TheVariants.{Known, Next, Fork, Full}
-use Rattle.block_codec.specs.declared.placement.Placement.TheVariants.{Number, Parent, Budget}
+use Rattle.block_codec.specs.declared.placement.Placement.TheVariants.{Known, Next, Not}
 use Rattle.block_log.specs.Standing.{Standing, Damaged, if_next, blocks_in, records_at, standing}
 use Rattle.block_log.specs.Log.{next_in_log}
 use Rattle.block_log.specs.Stricter.{standing_after}
@@ -41,11 +40,7 @@ not_next : (block : Block) (place : Placement) → (place ≡ Next → ⊥)
     → is_some (if_next block place) ≡ false
 not_next block Known other = refl
 not_next block Next other = absurd (other refl)
-not_next block (Fork have) other = refl
-not_next block Full other = refl
-not_next block (Number want) other = refl
-not_next block (Parent want) other = refl
-not_next block (Budget sum) other = refl
+not_next block (Not why) other = refl
 
 module _ (stored : List Stored) (chain : ChainState) (run : AreRun stored chain) where
   -- one more block, which is the next one

@@ -6,7 +6,7 @@ use Rattle.block_codec.specs.Spelling.{Decoder, IsDecoder}
 use Rattle.block_codec.specs.declared.limits.TheConstants.{MAX_FRAMES}
 use Rattle.block_codec.specs.declared.block.Block.{Block}
 use Rattle.block_codec.specs.declared.placement.Placement.{Placement}
-use Rattle.block_codec.specs.declared.placement.Placement.TheVariants.{Known as KnownBlock, Next, Fork, Full, Number, Parent, Budget}
+use Rattle.block_codec.specs.declared.placement.Placement.TheVariants.{Known as KnownBlock, Next, Not}
 use Rattle.block_codec.proofs.FrameBytes.{frame_bytes}
 use Rattle.replay_soundness.specs.chain_exec.Compiled.{Compiler}
 use Rattle.replay_soundness.specs.chain_replay.Chain.{placement_in}
@@ -32,11 +32,7 @@ module _ (read : Decoder) (compile : Compiler) (right : IsDecoder read) where
   by_placement blocks bytes block frame fits chain spelled Next e is =
       let new : Added block ≡ frame = cc is in
       subst (λ (f : Taken). IsLawfulChain compile (blocks ++ added_by f)) new (longer_chain compile blocks block chain (right.found bytes block fits spelled).lawful e)
-  by_placement blocks bytes block frame fits chain spelled (Fork have) e is = absurd (cc is)
-  by_placement blocks bytes block frame fits chain spelled Full e is = absurd (cc is)
-  by_placement blocks bytes block frame fits chain spelled (Number want) e is = absurd (cc is)
-  by_placement blocks bytes block frame fits chain spelled (Parent want) e is = absurd (cc is)
-  by_placement blocks bytes block frame fits chain spelled (Budget sum) e is = absurd (cc is)
+  by_placement blocks bytes block frame fits chain spelled (Not why) e is = absurd (cc is)
 
   by_judgement : (blocks : List Block) (bytes : List ℕ) (frame : Taken) → IsBytes bytes → IsLawfulChain compile blocks → (decoded : Result Block ℕ) → read bytes ≡ decoded
       → judgement_of compile blocks decoded ≡ Ok frame → IsLawfulChain compile (blocks ++ added_by frame)

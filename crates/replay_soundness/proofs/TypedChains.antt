@@ -1,20 +1,19 @@
 -- The rows of a chain are a typed ledger, by induction on its blocks from the first one on.
-use Rattle.std.proofs.Common.{◌≡◌, ◌≢◌, ℕ, ◌+◌, ◌<◌, ◌≤◌, List, [], ◌∷◌, ◌++◌, length, get_or, map, Option, None, Some, sym, ap, subst, ◌∙◌, arith}
-use Rattle.std.specs.Prelude.{◌==◌, ◌||◌, nat_lt, slice_get}
+use Rattle.std.proofs.Common.{◌≡◌, ◌≢◌, ℕ, ◌+◌, ◌<◌, ◌≤◌, List, [], ◌∷◌, ◌++◌, length, get_or, map, sym, ap, subst, ◌∙◌, arith}
+use Rattle.std.specs.Prelude.{slice_get}
 use Rattle.std.specs.List.{All}
 use Rattle.std.proofs.Math.Seq.{get_or-append_seam, take-append_seam}
-use Rattle.std.proofs.lemmas.Bool.Decides.{nat_tests}
 use Rattle.std.proofs.lemmas.List.{append-nil, append_assoc, length-append, length-map}
 use Rattle.std.proofs.lemmas.List.Elements.{All-map}
 use Rattle.sha2.proofs.Facts256.{length-sha256}
 use Rattle.lc_base.specs.declared.digest.Digest.{Digest}
 use Rattle.lc_base.specs.declared.row.Row.{Row}
 use Rattle.block_codec.specs.Spelling.{IsBlock}
-use Rattle.block_codec.specs.Placement.{digest_of, last_digest, is_same_digest, new_placement, placement}
-use Rattle.block_codec.specs.declared.limits.TheConstants.{MAX_BLOCKS, MAX_ROWS_BEFORE_BLOCK}
+use Rattle.block_codec.specs.Placement.{digest_of, last_digest}
+use Rattle.block_codec.specs.declared.limits.TheConstants.{MAX_BLOCKS}
 use Rattle.block_codec.specs.declared.block.Block.{Block}
 use Rattle.block_codec.specs.declared.placement.Placement.TheVariants.{Next}
-use Rattle.block_codec.proofs.Placed.{not_full, right_number, not_held}
+use Rattle.block_codec.proofs.Placements.{next_has_passed}
 use Rattle.chain_replay.specs.chain_exec.Compiled.{Compiler}
 use Rattle.chain_replay.specs.chain_exec.Replay.{history_after, replay}
 use Rattle.chain_replay.proofs.chain_exec.TheLaws.{replay_grows}
@@ -23,31 +22,6 @@ use Rattle.replay_soundness.specs.TypedChains.{IsLawfulChain}
 use Rattle.replay_soundness.specs.TypedLaws.{CompilesValues, IsTypedBefore, ChainsOfValuesAreTyped, ReplaysAreTyped}
 use Rattle.replay_soundness.proofs.Compiling.{compilers_give_values}
 use Rattle.replay_soundness.proofs.Replays.{after_typed, nothing_typed_before}
-
--- ---- a block that is next
-
--- the block has the number of blocks before it, and there is room for it
-record HasRoom (held rows : ℕ) (block : Block) : Type 0 where
-  number : block.number ≡ held
-  room : held ≢ MAX_BLOCKS
-  few_rows : rows ≤ MAX_ROWS_BEFORE_BLOCK
-
-new_room : (held rows : ℕ) (parent : Digest) (block : Block) → new_placement held rows parent block ≡ Next → HasRoom held rows block
-new_room held rows parent block is =
-    let some = not_full (held == MAX_BLOCKS || nat_lt MAX_ROWS_BEFORE_BLOCK rows) _ is in
-    let same = right_number (block.number == held) held _ some.1 in
-    let test = some.0 in
-    record {
-      number = grind (arith, nat_tests, same);
-      room = λ full. absurd (grind (arith, nat_tests, test, full));
-      few_rows = grind (arith, nat_tests, test);
-    }
-
-next_room : (held rows : ℕ) (have : Option Digest) (parent : Digest) (block : Block) (digest : Digest) → placement held rows have parent block digest ≡ Next → HasRoom held rows block
-next_room held rows (Some have) parent block digest is = absurd (not_held (is_same_digest have digest) have is)
-next_room held rows None parent block digest is = new_room held rows parent block is
-
--- ---- block by block
 
 module _ (compile : Compiler) (good : CompilesValues compile) where
   -- the blocks so far left a typed history of their own rows, and are at most MAX_BLOCKS
@@ -59,7 +33,8 @@ module _ (compile : Compiler) (good : CompilesValues compile) where
   one_more blocks block typed is next =
       let digests : List Digest = map digest_of blocks in
       let rows : List Row = (replay compile blocks).rows in
-      let has = next_room (length blocks) (length rows) (slice_get digests block.number) (last_digest digests) block (digest_of block) next in
+      let has = next_has_passed (length blocks) (length rows) (slice_get digests block.number)
+      (last_digest digests) block (digest_of block) next in
       let after : IsTypedBefore (block.number + 1) (history_after compile (replay compile blocks) block) =
       after_typed compile good (replay compile blocks) block (subst (λ n. IsTypedBefore n (replay compile blocks)) (sym has.number) typed.history) is has.few_rows in
       let longer : length (blocks ++ block ∷ []) ≡ block.number + 1 = length-append blocks (block ∷ []) ∙ ap (λ n. n + 1) (sym has.number) in

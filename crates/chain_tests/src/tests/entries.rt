@@ -27,7 +27,8 @@ fn is_read_again(alloc: Global) -> bool {
     let Ok(view) = read_header(bytes.as_bytes(), 0) else {
         return false;
     };
-    let read = (view.key(), view.block(), view.tx(), view.body(), view.end());
+    let fields = view.fields();
+    let read = (fields.key, fields.block, fields.tx, fields.body, view.end());
     read == (key, 0, 1, header.body, bytes.len())
 }
 

@@ -14,7 +14,7 @@ pub returns-in-Some-clause-agrees : goal.returns-in-Some-clause-agrees
 returns-in-Some-clause-agrees g c = agrees_fewer _ _ _ _ c.body_at_hand.ensures.kept c.requires.agrees
 
 pub returns-in_err-body-2-clause-agrees : goal.returns-in_err-body-2-clause-agrees
-returns-in_err-body-2-clause-agrees g c = agrees_on _ _ _ c.read.ensures.retains
+returns-in_err-body-2-clause-agrees g c = agrees_on _ _ _ c.read.ensures.scratch.retains
     (agrees_fewer _ _ _ _ c.body_at_hand.ensures.kept c.requires.agrees)
 
 module _ (g : Over) (c : goal.After-keep_shared g) where
@@ -40,6 +40,6 @@ returns-clause-body g c = body_is g c
 pub returns-clause-agrees : goal.returns-clause-agrees
 returns-clause-agrees g c =
     agrees_more (kept g c) _ _ _ _ c.keep_shared.ensures.at_hand
-    (λ told. body_is g c (sym c.read.ensures.retains.known ∙ told))
-    (agrees_on _ (before g c) _ c.read.ensures.retains
+    (λ told. body_is g c (sym c.read.ensures.scratch.retains.known ∙ told))
+    (agrees_on _ (before g c) _ c.read.ensures.scratch.retains
     (agrees_fewer (kept g c) _ _ _ c.body_at_hand.ensures.kept c.requires.agrees))

@@ -10,8 +10,8 @@ use Rattle.merkle_dag.specs.Kept.{rows_kept}
 use Rattle.merkle_dag.proofs.RowBodies.{as_many_bodies, body_is}
 use Rattle.merkle_dag.proofs.lineage.Lineage.body_of.Goals as goal
 
-pub body_at-requires-clause-within : goal.body_at-requires-clause-within
-body_at-requires-clause-within g c =
+pub body-requires-clause-within : goal.body-requires-clause-within
+body-requires-clause-within g c =
     let kept = c.self.inside.kept in
     omega (
       arith,
@@ -25,10 +25,10 @@ pub returns-clause-body : goal.returns-clause-body
 returns-clause-body g c = rw (← c.self.view_is) (λ row at told.
     let kept = c.self.inside.kept in
     let rows = rows_kept kept.index in
-    IfOk-weaker c.body_at.result
+    IfOk-weaker c.body.result
     (λ bytes. is_known (g.S.Scratch.state c.args.scratch.now) ≡ true
     → body_at_index kept.bodies c.args.id.0 ≡ Some (rc_slice_items bytes))
     (λ bytes. rc_slice_items bytes ≡ concat (body_fields (body_of rows row)))
     (λ bytes read. body_is rows kept.index.store kept.bodies c.args.id.0 row (rc_slice_items bytes)
     c.self.invariant.index_is.store.entries_are c.self.invariant.bodies_are at (read told))
-    c.body_at.ensures.body)
+    c.body.ensures.body)
