@@ -33,7 +33,7 @@ pub struct Clash {
 
 /// A search for the first clash of the texts of a proof with others.
 fn search_of(alloc: Global, view: &ProofView) -> Result<ClashSearch, Memory>
-    requires { length view.now.audit ≡ audit_length view.now.leaf_index view.now.leaf_count }
+    requires { length view.now.leaf_proof.audit ≡ audit_length view.now.leaf_proof.leaf_index view.now.leaf_proof.leaf_count }
     ensures { IfOk result (HasSearched (proof_texts view.now) []) }
 {
     let given = proof_texts(alloc, view)?;
@@ -67,7 +67,7 @@ fn exposed_by_rows<S: Scratch>(
     block_digest: &Digest,
     view: &ProofView,
 ) -> Result<Option<Clash>, HostError>
-    requires long { length view.now.audit ≡ audit_length view.now.leaf_index view.now.leaf_count }
+    requires long { length view.now.leaf_proof.audit ≡ audit_length view.now.leaf_proof.leaf_index view.now.leaf_proof.leaf_count }
     requires agrees { AgreesWith lineage.old (S.state scratch.old) }
     // If it is known which bytes the scratch device holds:
     ensures found { is_known (S.state scratch.old) ≡ true
@@ -99,7 +99,7 @@ fn exposed_at<S: Scratch>(
     view: &ProofView,
 ) -> Result<Option<Clash>, HostError>
     requires within { slice_get lineage.old.digests root_at ≡ Some block_digest.now }
-    requires long { length view.now.audit ≡ audit_length view.now.leaf_index view.now.leaf_count }
+    requires long { length view.now.leaf_proof.audit ≡ audit_length view.now.leaf_proof.leaf_index view.now.leaf_proof.leaf_count }
     requires agrees { AgreesWith lineage.old (S.state scratch.old) }
     // If it is known which bytes the scratch device holds:
     ensures found { is_known (S.state scratch.old) ≡ true
@@ -135,7 +135,7 @@ pub fn expose<S: Scratch>(
     root_at: u32,
     view: &ProofView,
 ) -> Result<Option<Clash>, QueryError>
-    requires long { length view.now.audit ≡ audit_length view.now.leaf_index view.now.leaf_count }
+    requires long { length view.now.leaf_proof.audit ≡ audit_length view.now.leaf_proof.leaf_index view.now.leaf_proof.leaf_count }
     requires agrees { AgreesWith lineage.old (S.state scratch.old) }
     // If it is known which bytes the scratch device holds:
     ensures exposed { is_known (S.state scratch.old) ≡ true

@@ -117,21 +117,6 @@ fn search_uses(alloc: Global, search: &mut ClashSearch, uses: &[Dep]) -> Result<
     Ok(())
 }
 
-/// Adds the texts of the uses of the row at an index.
-fn search_row_uses(
-    alloc: Global,
-    search: &mut ClashSearch,
-    lineage: &Lineage,
-    index: u32,
-) -> Result<(), Memory>
-    requires { index < length lineage.now.rows }
-    ensures { (row : Row) → slice_get lineage.now.rows index ≡ Some row
-        → OnOk result (Searches (texts_of_row_uses lineage.now.rows row) search.old search.new) }
-{
-    let uses = lineage.uses(index)?;
-    search_uses(alloc, search, uses.as_slice())
-}
-
 /// Adds the texts of the uses of each row, in order.
 pub(crate) fn search_all_uses(
     alloc: Global,
@@ -142,7 +127,8 @@ pub(crate) fn search_all_uses(
         lineage.now.rows) search.old search.new) }
 {
     for index in 0..lineage.row_count() as u32 {
-        search_row_uses(alloc, search, lineage, index)?;
+        let uses = lineage.uses(index)?;
+        search_uses(alloc, search, uses.as_slice())?;
     }
     Ok(())
 }

@@ -1,5 +1,7 @@
 -- The parts that are gathered over the rows are the proof that is made of them.
-use Rattle.std.proofs.Common.{◌≡◌, ◌∙◌, ℕ, ◌+◌, ◌<◌, ◌≤◌, ◌^◌, true, nat_le, List, [], length, slice_get, Option, Some, None, is_some, Result, refl, sym, ap, subst, arith}
+use Rattle.std.proofs.Common.{◌≡◌, ◌∙◌, ℕ, ◌+◌, ◌<◌, ◌≤◌, ◌^◌, true, nat_le, List, [], length}
+use Rattle.std.proofs.Common.{slice_get, Option, Some, None, is_some, Result, refl, sym, ap, subst}
+use Rattle.std.proofs.Common.{arith}
 use Rattle.std.specs.Prelude.{IfOk}
 use Rattle.std.specs.List.{All, concat}
 use Rattle.std.specs.Option.{option_map}
@@ -39,7 +41,8 @@ use Rattle.answer_proof.proofs.Covered.{covers_key}
 -- ---- the rows
 
 -- If all rows are of blocks up to `block`, the rows up to it are all rows.
-pub all_up_to : (rows : List Row) (block : ℕ) → All (λ (row : Row). row.block < block + 1) rows → up_to rows block ≡ rows
+pub all_up_to : (rows : List Row) (block : ℕ) → All (λ (row : Row). row.block < block + 1) rows
+    → up_to rows block ≡ rows
 all_up_to rows block within =
     let are = recursion_from_All (λ (row : Row). row.block < block + 1) rows within in
     keep_all (λ (row : Row). nat_le row.block block) rows
@@ -61,18 +64,24 @@ pub own_uses : (rows : List Row) (kind : Kind) (key : List ℕ) (at : ℕ)
     → uses_if kind (option_map (λ (row : Row). uses rows row.key row.block) (latest rows key at)) ≡ uses_if kind (option_map (λ (row : Row). uses rows key row.block) (latest rows key at))
 own_uses rows kind key at = ap (uses_if kind) (go (latest rows key at) refl)
   where
-    go : (o : Option Row) → latest rows key at ≡ o → option_map (λ (row : Row). uses rows row.key row.block) o ≡ option_map (λ (row : Row). uses rows key row.block) o
+    go : (o : Option Row) → latest rows key at ≡ o
+        → option_map (λ (row : Row). uses rows row.key row.block) o ≡ option_map (λ (row : Row). uses rows key row.block) o
     go None e = refl
-    go (Some row) e = ap (λ (k : List ℕ). Some (uses rows k row.block)) (latest_key rows key at row e)
+    go (Some row) e =
+        ap (λ (k : List ℕ). Some (uses rows k row.block)) (latest_key rows key at row e)
 
 -- Up to the last block, the rows are all rows.
-pub all_up_to_last : (rows : List Row) (block count : ℕ) → block + 1 ≡ count → All (λ (row : Row). row.block < count) rows → up_to rows block ≡ rows
+pub all_up_to_last : (rows : List Row) (block count : ℕ) → block + 1 ≡ count
+    → All (λ (row : Row). row.block < count) rows → up_to rows block ≡ rows
 all_up_to_last rows block count last within = all_up_to rows block (subst (λ (n : ℕ). All (λ (row : Row). row.block < n) rows) (sym last) within)
 
 -- ---- the bytes
 
-pub bytes_of : {E : Type 0} (result : Result (List ℕ) E) (proof other : Proof) → proof ≡ other → IfOk result (λ bytes. bytes ≡ concat (proof_fields proof)) → IfOk result (λ bytes. bytes ≡ concat (proof_fields other))
-bytes_of result proof other same are = subst (λ (p : Proof). IfOk result (λ bytes. bytes ≡ concat (proof_fields p))) same are
+pub bytes_of : {E : Type 0} (result : Result (List ℕ) E) (proof other : Proof) → proof ≡ other
+    → IfOk result (λ bytes. bytes ≡ concat (proof_fields proof))
+    → IfOk result (λ bytes. bytes ≡ concat (proof_fields other))
+bytes_of result proof other same are =
+    subst (λ (p : Proof). IfOk result (λ bytes. bytes ≡ concat (proof_fields p))) same are
 
 pub but_for_body_of : {E : Type 0} (result : Result (List ℕ) E) (proof other : Proof) → proof
     ≡ other → IfOk result (IsButForBody proof) → IfOk result (IsButForBody other)
@@ -87,18 +96,12 @@ some_body rows (Some row) = refl
 -- ---- all parts together
 
 -- A proof stays lawful if another lawful body replaces its own.
-other_body : (proof : Proof) (body : Option Body) → IsProof proof → is_some body ≡ is_some proof.body → IsIfAny IsBody body → IsProof (record proof { body = body })
+other_body : (proof : Proof) (body : Option Body) → IsProof proof
+    → is_some body ≡ is_some proof.body → IsIfAny IsBody body
+    → IsProof (record proof { body = body })
 other_body proof body is there lawful = record {
   key_is_key = is.key_is_key;
-  root_at_fits = is.root_at_fits;
-  at_within = is.at_within;
-  block_digest_fits = is.block_digest_fits;
-  leaf_count_fits = is.leaf_count_fits;
-  leaf_within = is.leaf_within;
-  leaf_is_leaf = is.leaf_is_leaf;
-  first_without_key = is.first_without_key;
-  audit_counted = is.audit_counted;
-  audit_fits = is.audit_fits;
+  leaf_proof_is = is.leaf_proof_is;
   few_headers = is.few_headers;
   headers_are_headers = is.headers_are_headers;
   body_if_answered = there ∙ is.body_if_answered;
@@ -118,12 +121,7 @@ module _ (rows : List Row) (block : ℕ) (digest : Digest) (query : Query) (tree
   abbrev with_body : Option Body → Proof
   with_body one = record {
     query = query;
-    root_at = block;
-    block_digest = digest;
-    leaf_count = count;
-    leaf_index = index;
-    leaf = leaf;
-    audit = audit;
+    leaf_proof = record { root_at = block; block_digest = digest; leaf_count = count; leaf_index = index; leaf = leaf; audit = audit };
     headers = headers;
     body = one;
     uses = list;
@@ -137,12 +135,14 @@ module _ (rows : List Row) (block : ℕ) (digest : Digest) (query : Query) (tree
 
   is_made : IsMade rows block digest.0 (with_body own_body)
   is_made = record {
-    root_at_is = refl;
-    block_digest_is = refl;
-    leaf_count_is = count_is ∙ ap (λ (ls : List Leaf). length ls) tree_is;
-    leaf_is = at_leaf;
-    leaf_covers = covers_key rows query.key index leaf history.lawful history.typed some at_leaf (subst (λ (ls : List Leaf). Covers ls query.key index) tree_is covering);
-    audit_is = audit_is ∙ ap (λ (ls : List Leaf). audit_path index (leaf_texts ls)) tree_is;
+    leaf_proof_is = record {
+      root_at_is = refl;
+      block_digest_is = refl;
+      leaf_count_is = count_is ∙ ap (λ (ls : List Leaf). length ls) tree_is;
+      leaf_is = at_leaf;
+      leaf_covers = covers_key rows query.key index leaf history.lawful history.typed some at_leaf (subst (λ (ls : List Leaf). Covers ls query.key index) tree_is covering);
+      audit_is = audit_is ∙ ap (λ (ls : List Leaf). audit_path index (leaf_texts ls)) tree_is;
+    };
     headers_are = headers_are;
     body_is = refl;
     uses_are = list_is (latest rows query.key query.at) stands ∙ own_uses rows query.kind query.key query.at;
@@ -159,7 +159,9 @@ module _ (rows : List Row) (block : ℕ) (digest : Digest) (query : Query) (tree
       history.lawful history.typed (made_of_is_made rows block digest.0 query some) is_made
       refl)
 
-  pub gathered_lawful : is_some body ≡ is_some (latest rows query.key query.at) → IsIfAny IsBody body → block < 2 ^ 32 → query.at ≤ block → length digest.0 ≡ 32 → IsProof (with_body body)
+  pub gathered_lawful : is_some body ≡ is_some (latest rows query.key query.at)
+      → IsIfAny IsBody body → block < 2 ^ 32 → query.at ≤ block → length digest.0 ≡ 32
+      → IsProof (with_body body)
   gathered_lawful there lawful fits early long =
       other_body (with_body own_body) body (made_is_lawful rows block digest.0 (with_body own_body) history.lawful history.typed fits early key long is_made)
       (there ∙ sym (some_body rows (latest rows query.key query.at))) lawful

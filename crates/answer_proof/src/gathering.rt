@@ -22,7 +22,7 @@ use crate::walking::path_headers;
 use lc_base::{Bytes, HostError, Memory};
 use lineage_store::Steps;
 use merkle_dag::Lineage;
-use proof_codec::{Proof, write};
+use proof_codec::{LeafProof, Proof, write};
 use prov_entry::Body;
 use scratch_model::Scratch;
 use std::alloc::Global;
@@ -59,12 +59,14 @@ fn proof_with(
     let uses = uses_if_asked(lineage, asked.query.kind, answer)?;
     Ok(Proof {
         query: asked.query,
-        root_at: asked.root_at,
-        block_digest: asked.block_digest,
-        leaf_count: tree.count(),
-        leaf_index,
-        leaf: tree.leaf(leaf_index),
-        audit,
+        leaf_proof: LeafProof {
+            root_at: asked.root_at,
+            block_digest: asked.block_digest,
+            leaf_count: tree.count(),
+            leaf_index,
+            leaf: tree.leaf(leaf_index),
+            audit,
+        },
         headers,
         body,
         uses,

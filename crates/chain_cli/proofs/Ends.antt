@@ -1,7 +1,9 @@
 -- Each command ends only with statuses that it may end with.
 use Rattle.std.proofs.Common.{◌≡◌, true, false, List, ℕ, [], Option, Some, None, Result, Ok, Err}
 use Rattle.std.proofs.Common.{refl, sym, subst}
-use Rattle.std.specs.Prelude.{IfOk, IfErr}
+use Rattle.std.specs.Prelude.{IfOk}
+use Rattle.lc_io.specs.Disk.{DiskState}
+use Rattle.lc_io.specs.Outside.{Tell}
 use Rattle.contract_tree.specs.Tree.{FunctionTree}
 use Rattle.contract_parse.specs.Syntax.{Outcome as SourceOutcome}
 use Rattle.contract_check.specs.Faults.{check_fault}
@@ -13,7 +15,8 @@ use Rattle.cli_append.specs.declared.ending.RunStop.{RunStop}
 use Rattle.cli_words.specs.Words.{CanBeGiven, IsCount}
 use Rattle.cli_words.specs.declared.words.Generation.{Generation}
 use Rattle.cli_words.specs.declared.words.Command.{Command}
-use Rattle.cli_words.specs.declared.words.Command.TheVariants.{Fmt, Pack, Load, Append}
+use Rattle.cli_words.specs.declared.words.Command.TheVariants.{Scan, Fmt, Pack, Gen, Load, Append}
+use Rattle.cli_words.specs.declared.words.Command.TheVariants.{Root, Ask, Prove, Verify, Expose}
 use Rattle.cli_append.specs.cli_lines.Outcome.{status_of}
 use Rattle.cli_append.specs.cli_lines.declared.outcome.Outcome.{Outcome}
 use Rattle.cli_append.specs.cli_lines.declared.outcome.Ending.{Ending}
@@ -22,12 +25,15 @@ use Rattle.cli_append.specs.cli_lines.declared.status.Status.{Status}
 use Rattle.cli_append.specs.cli_lines.declared.status.Status.TheVariants as statuses
 use Rattle.cli_output.specs.Blocks.{draft_outcome}
 use Rattle.cli_output.specs.Output.{Output, output_of, fmt_outcome, source_outcome, IsFmtOutput}
-use Rattle.cli_output.specs.Output.{Long, Source, uses_disk}
+use Rattle.cli_output.specs.Output.{Long, Source}
+use Rattle.cli_output.specs.Uses.{reads_input, uses_disk, changes_log}
 use Rattle.cli_output.specs.Running.{MayEnd, found_no_log}
-use Rattle.cli_output.specs.Telling.{status_of_result, status_of_stop, stop_of_outcome}
-use Rattle.cli_output.specs.Telling.{OnlyTells, append_answer}
+use Rattle.cli_output.specs.Telling.{status_of_result, status_of_stop, status_of_found}
+use Rattle.cli_output.specs.Telling.{OnlyReads, OnlyTells, append_answer, Tells}
 use Rattle.cli_output.specs.declared.stop.OutcomeStop.{OutcomeStop}
 use Rattle.cli_output.specs.declared.stop.OutcomeStop.TheVariants as outcomes
+use Rattle.cli_output.proofs.Ends.{may_end}
+use Rattle.cli_append.specs.recovery.Node.{next_in_chain}
 use Rattle.cli_append.specs.declared.ending.RunStop.TheVariants as stops
 
 -- ---- inputs that are read whole
@@ -83,6 +89,13 @@ answer_has_log (Err stops.DiskFault) = refl
 answer_has_log (Err stops.ScratchFault) = refl
 answer_has_log (Err stops.Memory) = refl
 
+stop_has_log : (stop : RunStop) → found_no_log (status_of_stop stop) ≡ false
+stop_has_log stops.Unreadable = refl
+stop_has_log stops.Untold = refl
+stop_has_log stops.DiskFault = refl
+stop_has_log stops.ScratchFault = refl
+stop_has_log stops.Memory = refl
+
 -- ---- whole runs
 
 -- a command that prints what it makes
@@ -97,20 +110,53 @@ done_ends (Err stops.DiskFault) command done only = absurd (only.writes refl)
 done_ends (Err stops.ScratchFault) command done only = absurd (only.keeps refl)
 done_ends (Err stops.Memory) command done only = tt
 
-pub load_ends : {E : Type 0} (generation : Generation) (found : Result Outcome E)
-    → IfOk found (λ outcome. outcome.ending ≡ endings.Done)
-    → IfOk found (λ outcome. MayEnd (status_of outcome.ending) (Some (Load generation)))
-load_ends generation (Ok outcome) done = subst
-    (λ (e : Ending). MayEnd (status_of e) (Some (Load generation))) (sym done) refl
-load_ends generation (Err error) done = tt
+-- ---- what was found
 
-pub load_stops : (generation : Generation) (found : Result Outcome OutcomeStop)
-    → (found ≡ Err outcomes.Unreadable → ⊥)
-    → IfErr found (λ stop. MayEnd (status_of_stop (stop_of_outcome stop)) (Some (Load generation)))
-load_stops generation (Ok outcome) reads = tt
-load_stops generation (Err outcomes.Unreadable) reads = absurd (reads refl)
-load_stops generation (Err outcomes.ScratchFault) reads = refl
-load_stops generation (Err outcomes.Memory) reads = tt
+-- a command that only reads its input
+pub read_ends : (found : Result Outcome OutcomeStop) (command : Option Command)
+    → reads_input command ≡ true
+    → IfOk found (λ outcome. MayEnd (status_of outcome.ending) command) → OnlyReads found
+    → MayEnd (status_of_found found) command
+read_ends found command reads ends only = may_end found command ends (λ e. reads)
+    (λ e. absurd (only.disk e)) (λ e. absurd (only.scratch e))
+
+pub load_ends : (generation : Generation) (found : Result Outcome OutcomeStop)
+    → IfOk found (λ outcome. outcome.ending ≡ endings.Done)
+    → (found ≡ Err outcomes.Unreadable → ⊥) → (found ≡ Err outcomes.DiskFault → ⊥)
+    → MayEnd (status_of_found found) (Some (Load generation))
+load_ends generation (Ok outcome) done reads disk = subst
+    (λ (e : Ending). MayEnd (status_of e) (Some (Load generation))) (sym done) refl
+load_ends generation (Err outcomes.Unreadable) done reads disk = absurd (reads refl)
+load_ends generation (Err outcomes.DiskFault) done reads disk = absurd (disk refl)
+load_ends generation (Err outcomes.ScratchFault) done reads disk = refl
+load_ends generation (Err outcomes.Memory) done reads disk = tt
+
+-- an outcome that says that there is no log was found, not printed
+pub no_log_found : {D : Type 0} (now : D → ℕ) (disk : D → ℕ → Option DiskState)
+    (told : D → Option (List Tell)) (old new : D) (found : Result Outcome OutcomeStop)
+    (result : Result Ending RunStop) → Tells next_in_chain now disk told old new found result
+    → found_no_log (status_of_result result) ≡ true → found_no_log (status_of_found found) ≡ true
+no_log_found now disk told old new (Ok outcome) (Ok ending) says none = subst
+    (λ (e : Ending). found_no_log (status_of e) ≡ true) says.ending none
+no_log_found now disk told old new (Ok outcome) (Err stop) says none =
+    absurd (cc (none, stop_has_log stop))
+no_log_found now disk told old new (Err stop) result says none = subst
+    (λ (r : Result Ending RunStop). found_no_log (status_of_result r) ≡ true) says.stop_is none
+
+-- a command other than `append` leaves the log as it is
+pub others_keep : (command : Command) → (command ≡ Append → ⊥)
+    → changes_log (Some command) ≡ false
+others_keep (Scan query) other = refl
+others_keep Fmt other = refl
+others_keep Pack other = refl
+others_keep (Gen generation) other = refl
+others_keep (Load generation) other = refl
+others_keep Append other = absurd (other refl)
+others_keep (Root at) other = refl
+others_keep (Ask kind key at) other = refl
+others_keep (Prove query root_at) other = refl
+others_keep (Verify root query) other = refl
+others_keep (Expose root query root_at) other = refl
 
 -- a load that words can spell is of a number of blocks that may be made
 pub is_count : (command : Command) (generation : Generation) → command ≡ Load generation

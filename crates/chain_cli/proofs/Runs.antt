@@ -1,4 +1,4 @@
--- Whole runs have the output of their command.
+-- What is found for each command, and whole runs: they have the output of their command.
 use Rattle.std.proofs.Common.{◌≡◌, ℕ, ◌+◌, Bool, true, false, cond, List, [], ◌∷◌, ◌++◌, map}
 use Rattle.std.proofs.Common.{Option, Some, None, Result, Ok, Err, refl, sym, ap, ◌∙◌, subst}
 use Rattle.std.specs.Prelude.{IfOk, IfSome, is_ok}
@@ -8,6 +8,7 @@ use Rattle.lc_io.specs.Disk.{DiskState, Stays}
 use Rattle.lc_io.specs.Outside.{Tell}
 use Rattle.disk_model.specs.Disk.{IsSettled, Keeps, Rests, content_of}
 use Rattle.disk_model.proofs.Moments.{then_keeps, weaker, stays_on}
+use Rattle.lc_base.specs.declared.answer.Kind.{Kind}
 use Rattle.lc_base.specs.declared.answer.Query.{Query}
 use Rattle.lc_base.specs.declared.digest.Digest.{Digest}
 use Rattle.block_codec.specs.Reading.{block_in}
@@ -16,9 +17,9 @@ use Rattle.block_codec.specs.declared.limits.TheConstants.{MAX_FRAMES}
 use Rattle.block_log.specs.Standing.{Standing, Blank, NotALog, Damaged, Holds, blocks_of, blocks_in}
 use Rattle.block_log.specs.Standing.{chain_of, standing}
 use Rattle.cli_proofs.specs.chain_exec.Compiled.{compiled_in}
+use Rattle.chain_replay.specs.Chain.{ChainState, StandsFor}
 use Rattle.chain_replay.specs.Judging.{added_by_all}
 use Rattle.chain_input.specs.Folding.{Fold, FoldEnd, fold_from, fold_input}
-use Rattle.lc_base.specs.declared.host_error.HostError.{HostError}
 use Rattle.cli_append.specs.recovery.Node.{NodeState, IsNodeOf, IsNodeStarted, IsNoStart}
 use Rattle.cli_append.specs.recovery.Node.{next_in_chain}
 use Rattle.cli_append.specs.recovery.declared.errors.StartError.{StartError}
@@ -33,7 +34,7 @@ use Rattle.chain_gen.specs.Generator.{blocks_of_seed}
 use Rattle.cli_words.specs.declared.words.Generation.{Generation}
 use Rattle.cli_words.specs.declared.words.Command.{Command}
 use Rattle.cli_words.specs.declared.words.Command.TheVariants.{Scan, Fmt, Pack, Gen, Load, Append}
-use Rattle.cli_words.specs.declared.words.Command.TheVariants.{Verify}
+use Rattle.cli_words.specs.declared.words.Command.TheVariants.{Root, Ask, Prove, Verify, Expose}
 use Rattle.cli_append.specs.cli_lines.Lines.{usage_line}
 use Rattle.cli_append.specs.cli_lines.Outcome.{status_of, outcome_with}
 use Rattle.cli_append.specs.cli_lines.declared.outcome.Outcome.{Outcome}
@@ -42,17 +43,25 @@ use Rattle.cli_append.specs.cli_lines.declared.outcome.Ending.TheVariants as end
 use Rattle.cli_append.specs.cli_lines.declared.status.Status.{Status}
 use Rattle.cli_output.specs.Blocks.{frame}
 use Rattle.cli_output.specs.Output.{Output, output_of, usage_output, scan_output, pack_output}
-use Rattle.cli_output.specs.Output.{gen_output, load_outcome, load_output, append_output, on_log}
-use Rattle.cli_output.specs.Output.{fold_ending, IsFmtOutput, Long, Source, IsVerifyOutput}
-use Rattle.cli_output.specs.Output.{LongProof, Verified}
+use Rattle.cli_output.specs.Output.{gen_output, load_outcome, append_output, on_log, fold_ending}
+use Rattle.cli_output.specs.Output.{answer_outcome, root_outcome, prove_outcome, at_or_last}
+use Rattle.cli_output.specs.Output.{IsFmtOutput, Long, Source, IsVerifyOutput, LongProof, Verified}
+use Rattle.cli_output.specs.Output.{root_output, ask_output, prove_output, IsExposeOutput, Wants}
+use Rattle.cli_output.specs.Uses.{changes_log, uses_disk}
 use Rattle.cli_output.specs.Running.{came_to_end, leaves, appends_none, Meets, IsGiven, IsRun}
-use Rattle.cli_output.specs.Scanning.{GivesOutput, IsFmtOutcome, IsVerifyOutcome}
-use Rattle.cli_output.specs.Telling.{status_of_result, status_of_usage, append_answer}
-use Rattle.cli_output.specs.Telling.{Says, TellsResult, TellsStart}
+use Rattle.cli_output.specs.Scanning.{GivesAny, GivesOutput, IsFmtOutcome, IsVerifyOutcome}
+use Rattle.cli_output.specs.Scanning.{IsExposeOutcome, IsFoundFor, IsFoundOver}
+use Rattle.cli_output.specs.Telling.{status_of_result, status_of_usage, append_answer, Tells}
+use Rattle.cli_output.specs.Telling.{stop_of_outcome, start_outcome}
+use Rattle.cli_output.specs.declared.stop.OutcomeStop.{OutcomeStop}
 use Rattle.chain_cli.proofs.OneOutput.{some_output}
+use Rattle.cli_output.proofs.Exposed.{expose_no_change}
+use Rattle.cli_output.proofs.Found.{read_found, unread_found}
 use Rattle.cli_output.proofs.Meets.{ending_ends, stop_stops, told_input, left_same, left_read}
-use Rattle.cli_output.proofs.Meets.{rests_given, on_log_blocks, content_stays, quiet_images}
-use Rattle.cli_output.proofs.Meets.{said_met, reading_since, start_met}
+use Rattle.cli_output.proofs.Meets.{rests_given, on_log_blocks, on_log_is, is_on_no_log}
+use Rattle.cli_output.proofs.Meets.{on_log_no_change, is_on_log_no_change, same_may_leave}
+use Rattle.cli_output.proofs.Meets.{of_blocks, content_stays}
+use Rattle.cli_output.proofs.Meets.{quiet_images, said_met, silent_met, says_since}
 
 -- ---- what is known
 
@@ -60,10 +69,6 @@ told_disk : (state : Option DiskState) (content : List ℕ) → IsGiven true (co
     → IsKnown state
 told_disk None content given = absurd given
 told_disk (Some s) content given = refl
-
-given_here : (P : List ℕ → Type 0) (left : Option (List ℕ)) (input : List ℕ) → left ≡ Some input
-    → IfSome left P → P input
-given_here P left input is holds = subst (λ (o : Option (List ℕ)). IfSome o P) is holds
 
 -- ---- changes
 
@@ -101,14 +106,168 @@ verify_no_change : (root : List ℕ) (query : Query) (input : List ℕ) (output 
 verify_no_change root query input _ (LongProof long) = refl
 verify_no_change root query input _ (Verified fits told is) = refl
 
+pack_no_change : (long : Bool) (a b : Output) → a.change ≡ NoChange → b.change ≡ NoChange
+    → (cond long a b).change ≡ NoChange
+pack_no_change true a b is_a is_b = is_a
+pack_no_change false a b is_a is_b = is_b
+
+-- a command that does not change the log has no output that does
+no_change : (command : Option Command) (input content : List ℕ) (output : Output)
+    → changes_log command ≡ false → Wants block_in compiled_in command input content output
+    → output.change ≡ NoChange
+no_change None input content output quiet is = ap (λ (o : Output). o.change) is
+no_change (Some (Scan query)) input content output quiet is = ap (λ (o : Output). o.change) is
+no_change (Some Fmt) input content output quiet is = fmt_no_change input output is
+no_change (Some Pack) input content output quiet is = ap (λ (o : Output). o.change) is
+    ∙ pack_no_change _ _ _ refl refl
+no_change (Some (Gen generation)) input content output quiet is = ap (λ (o : Output). o.change) is
+no_change (Some (Load generation)) input content output quiet is = ap (λ (o : Output). o.change) is
+no_change (Some Append) input content output quiet is = absurd (cc quiet)
+no_change (Some (Root at)) input content output quiet is = ap (λ (o : Output). o.change) is
+    ∙ on_log_no_change (root_output compiled_in at input) (λ blocks. refl) input
+    (standing next_in_chain content)
+no_change (Some (Ask kind key at)) input content output quiet is = ap (λ (o : Output). o.change) is
+    ∙ on_log_no_change (ask_output compiled_in kind key at input) (λ blocks. refl) input
+    (standing next_in_chain content)
+no_change (Some (Prove query root_at)) input content output quiet is = ap
+    (λ (o : Output). o.change) is
+    ∙ on_log_no_change (prove_output compiled_in query root_at input) (λ blocks. refl) input
+    (standing next_in_chain content)
+no_change (Some (Verify root query)) input content output quiet is = verify_no_change root.0 query
+    input output is
+no_change (Some (Expose root query root_at)) input content output quiet is = is_on_log_no_change
+    (IsExposeOutput compiled_in root.0 query root_at input)
+    (expose_no_change compiled_in root.0 query root_at input) input
+    (standing next_in_chain content) output is
+
 -- a change that appends no block has none to append
 no_blocks : (added : List Block) → appends_none (Appends added) ≡ true → added ≡ []
 no_blocks [] none = refl
 no_blocks (block ∷ blocks) none = absurd (cc none)
 
+-- ---- what is found for each command
+
+gives : (found : Result Outcome OutcomeStop) (left_new : Option (List ℕ)) (wanted : Output)
+    → IfOk found (λ outcome. GivesOutput outcome left_new wanted)
+    → IfOk found (λ outcome. GivesAny (λ output. output ≡ wanted) outcome left_new)
+gives (Ok outcome) left_new wanted (is, left) = (wanted.left, left, sym is)
+gives (Err stop) left_new wanted is = tt
+
+gives_here : (wanted : List ℕ → Output) (found : Result Outcome OutcomeStop)
+    (left_old left_new : Option (List ℕ))
+    → IfSome left_old (λ input. IfOk found (λ outcome. GivesOutput outcome left_new (wanted input)))
+    → IfSome left_old (λ input. IfOk found
+    (λ outcome. GivesAny (λ output. output ≡ wanted input) outcome left_new))
+gives_here wanted found None left_new is = tt
+gives_here wanted found (Some input) left_new is = gives found left_new (wanted input) is
+
+module _ (state : Option DiskState) (found : Result Outcome OutcomeStop)
+    (left_old left_new : Option (List ℕ)) (held : Bool) where
+  pub scan_found : (query : Query)
+      → IfSome left_old (λ input. IfOk found
+      (λ outcome. GivesOutput outcome left_new
+      (scan_output compiled_in query (fold_input block_in compiled_in input))))
+      → IsFoundFor state left_old left_new held (Some (Scan query)) found
+  scan_found query is heard input content given_input given =
+      let wanted : List ℕ → Output = λ input.
+      scan_output compiled_in query (fold_input block_in compiled_in input) in
+      read_found (λ input output. output ≡ wanted input) found left_old left_new
+      (gives_here wanted found left_old left_new is) input given_input
+
+  pub pack_found : IfSome left_old (λ input. IfOk found
+      (λ outcome. GivesOutput outcome left_new (pack_output input)))
+      → IsFoundFor state left_old left_new held (Some Pack) found
+  pack_found is heard input content given_input given =
+      read_found (λ input output. output ≡ pack_output input) found left_old left_new
+      (gives_here pack_output found left_old left_new is) input given_input
+
+  pub fmt_found : IfSome left_old (λ input. IfOk found
+      (λ outcome. IsFmtOutcome outcome left_new input))
+      → IsFoundFor state left_old left_new held (Some Fmt) found
+  fmt_found is heard input content given_input given =
+      read_found IsFmtOutput found left_old left_new is input given_input
+
+  pub verify_found : (root : Digest) (query : Query) → IfSome left_old (λ input. IfOk found
+      (λ outcome. IsVerifyOutcome root.0 query outcome left_new input))
+      → IsFoundFor state left_old left_new held (Some (Verify root query)) found
+  verify_found root query is heard input content given_input given =
+      read_found (IsVerifyOutput root.0 query) found left_old left_new is input given_input
+
+  pub of_found : (command given : Command) → command ≡ given
+      → IsFoundFor state left_old left_new held (Some given) found
+      → IsFoundFor state left_old left_new held (Some command) found
+  of_found command given is right = subst
+      (λ (c : Command). IsFoundFor state left_old left_new held (Some c) found) (sym is) right
+
+pub load_found : (state : Option DiskState) (generation : Generation)
+    (found : Result Outcome OutcomeStop) (left : Option (List ℕ)) (held : Bool)
+    → (held ≡ true → IfOk found (λ outcome. outcome ≡ load_outcome compiled_in generation))
+    → IsFoundFor state left left held (Some (Load generation)) found
+load_found state generation found left held is heard input content given_input given =
+    unread_found (load_outcome compiled_in generation) found false left input given_input
+    (is (heard refl))
+
+-- ---- what is found over the blocks of the log
+
+module _ (kept : ChainState) (found : Result Outcome OutcomeStop) where
+  pub root_over : (at : Option ℕ) (left : Option (List ℕ))
+      → IfOk found (λ outcome. (blocks : List Block) → StandsFor kept blocks
+      → outcome ≡ root_outcome compiled_in (at_or_last at blocks) blocks)
+      → IsFoundOver kept left left (Root at) found
+  root_over at left is input given blocks stands =
+      unread_found (root_outcome compiled_in (at_or_last at blocks) blocks) found false left input
+      given (of_blocks found (StandsFor kept)
+      (λ b o. o ≡ root_outcome compiled_in (at_or_last at b) b) is blocks stands)
+
+  pub ask_over : (kind : Kind) (key : List ℕ) (at : Option ℕ) (left : Option (List ℕ))
+      → IfOk found (λ outcome. (blocks : List Block) → StandsFor kept blocks
+      → outcome ≡ answer_outcome compiled_in
+      (record { kind = kind; key = key; at = at_or_last at blocks }) blocks)
+      → IsFoundOver kept left left (Ask kind key at) found
+  ask_over kind key at left is input given blocks stands =
+      unread_found (answer_outcome compiled_in
+      (record { kind = kind; key = key; at = at_or_last at blocks }) blocks) found false left input
+      given (of_blocks found (StandsFor kept) (λ b o. o ≡ answer_outcome compiled_in
+      (record { kind = kind; key = key; at = at_or_last at b }) b) is blocks stands)
+
+  pub prove_over : (query : Query) (root_at : ℕ) (left : Option (List ℕ))
+      → IfOk found (λ outcome. (blocks : List Block) → StandsFor kept blocks
+      → outcome ≡ prove_outcome compiled_in query root_at blocks)
+      → IsFoundOver kept left left (Prove query root_at) found
+  prove_over query root_at left is input given blocks stands =
+      unread_found (prove_outcome compiled_in query root_at blocks) found false left input given
+      (of_blocks found (StandsFor kept) (λ b o. o ≡ prove_outcome compiled_in query root_at b) is
+      blocks stands)
+
+  every_block : (root : Digest) (query : Query) (root_at : ℕ) (left_old left_new : Option (List ℕ))
+      (blocks : List Block) → StandsFor kept blocks
+      → IfSome left_old (λ input. IfOk found (λ outcome. (blocks : List Block)
+      → StandsFor kept blocks → IsExposeOutcome root.0 query root_at blocks outcome left_new input))
+      → IfSome left_old (λ input. IfOk found
+      (λ outcome. IsExposeOutcome root.0 query root_at blocks outcome left_new input))
+  every_block root query root_at None left_new blocks stands is = tt
+  every_block root query root_at (Some input) left_new blocks stands is = of_blocks found
+      (StandsFor kept)
+      (λ b o. IsExposeOutcome root.0 query root_at b o left_new input) is blocks stands
+
+  pub expose_over : (root : Digest) (query : Query) (root_at : ℕ)
+      (left_old left_new : Option (List ℕ))
+      → IfSome left_old (λ input. IfOk found (λ outcome. (blocks : List Block)
+      → StandsFor kept blocks → IsExposeOutcome root.0 query root_at blocks outcome left_new input))
+      → IsFoundOver kept left_old left_new (Expose root query root_at) found
+  expose_over root query root_at left_old left_new is input given blocks stands =
+      read_found (λ i. IsExposeOutput compiled_in root.0 query root_at i blocks) found left_old
+      left_new (every_block root query root_at left_old left_new blocks stands is) input given
+
+  pub of_over : (left_old left_new : Option (List ℕ)) (command given : Command) → command ≡ given
+      → IsFoundOver kept left_old left_new given found
+      → IsFoundOver kept left_old left_new command found
+  of_over left_old left_new command given is right = subst
+      (λ (c : Command). IsFoundOver kept left_old left_new c found) (sym is) right
+
 module _ {D : Type 0} (now : D → ℕ) (disk : D → ℕ → Option DiskState)
     (told : D → Option (List Tell)) where
-  -- ---- words that are no command, `gen` and `load`
+  -- ---- words that are no command, and `gen`
 
   usage_met : {T : Type 0} (old new : D) (result : Result T RunStop) (left : Option (List ℕ))
       (input content : List ℕ) → Rests (disk old (now old)) (λ c. c ≡ content)
@@ -168,149 +327,44 @@ module _ {D : Type 0} (now : D → ℕ) (disk : D → ℕ → Option DiskState)
             (record { lines = lines; ending = ending }) (left_same left input given_input),
       )
 
-  pub load_run : {E : Type 0} (old new : D) (generation : Generation) (found : Result Outcome E)
-      (result : Result Ending RunStop) (left : Option (List ℕ)) (held : Bool)
-      → IsSettled (disk old (now old)) → Stays now disk old new
-      → ((wanted : Outcome) → IfOk found (λ outcome. outcome ≡ wanted)
-      → Says next_in_chain now disk told old new wanted result)
-      → (held ≡ true → IfOk found (λ outcome. outcome ≡ load_outcome compiled_in generation))
-      → IsRun now disk told old new (status_of_result result) left left held block_in compiled_in
-      (Some (Load generation))
-  load_run old new generation found result left held settled stays says is heard input content
-      given_input given = (
-        load_output compiled_in generation input,
-        refl,
-        said_met now disk told old new content (load_outcome compiled_in generation) result left left
-            input (rests_given false (disk old (now old)) content settled given) stays
-            (says (load_outcome compiled_in generation) (is (heard refl)))
-            (left_same left input given_input),
-      )
-
-  -- ---- commands that read an input
-
-  reading_met : (old new : D) (Wanted : Output → Type 0) (some : Output) → Wanted some
-      → some.change ≡ NoChange
-      → (found : Result Outcome HostError) (result : Result Ending RunStop)
-      (left_old left_new : Option (List ℕ)) (input content : List ℕ)
-      → Rests (disk old (now old)) (λ c. c ≡ content) → Stays now disk old new
-      → left_old ≡ Some input → TellsResult next_in_chain now disk told old new found result
-      → IfOk found (λ outcome. (rest : List ℕ) × (left_new ≡ Some rest)
-      × Wanted (output_of outcome rest))
-      → (output : Output) × Wanted output
-      × Meets next_in_chain now disk told old new (status_of_result result) left_old left_new
-      content output
-  reading_met old new Wanted some wanted none found result left_old left_new input content rests
-      stays left_is says is =
-      reading_since now disk told old old new Wanted some wanted none found result left_old left_new
-      input content rests stays refl left_is says is
-
-  gives : (found : Result Outcome HostError) (left_new : Option (List ℕ)) (wanted : Output)
-      → IfOk found (λ outcome. GivesOutput outcome left_new wanted)
-      → IfOk found (λ outcome. (rest : List ℕ) × (left_new ≡ Some rest)
-      × (output_of outcome rest ≡ wanted))
-  gives (Ok outcome) left_new wanted (is, left) = (wanted.left, left, sym is)
-  gives (Err stop) left_new wanted is = tt
-
-  pub scan_run : (old new : D) (query : Query) (found : Result Outcome HostError)
-      (result : Result Ending RunStop) (left_old left_new : Option (List ℕ)) (held : Bool)
-      → IsSettled (disk old (now old)) → Stays now disk old new
-      → TellsResult next_in_chain now disk told old new found result
-      → IfSome left_old (λ input. IfOk found
-      (λ outcome. GivesOutput outcome left_new
-      (scan_output compiled_in query (fold_input block_in compiled_in input))))
-      → IsRun now disk told old new (status_of_result result) left_old left_new held block_in
-      compiled_in (Some (Scan query))
-  scan_run old new query found result left_old left_new held settled stays says is heard input
-      content given_input given =
-      let wanted = scan_output compiled_in query (fold_input block_in compiled_in input) in
-      let left_is = told_input left_old input given_input in
-      reading_met old new (λ o. o ≡ wanted) wanted refl refl found result left_old left_new input
-      content (rests_given false (disk old (now old)) content settled given) stays left_is says
-      (gives found left_new wanted
-      (given_here (λ input. IfOk found
-      (λ outcome. GivesOutput outcome left_new
-      (scan_output compiled_in query (fold_input block_in compiled_in input)))) left_old input
-      left_is is))
-
-  pack_no_change : (long : Bool) (a b : Output) → a.change ≡ NoChange → b.change ≡ NoChange
-      → (cond long a b).change ≡ NoChange
-  pack_no_change true a b is_a is_b = is_a
-  pack_no_change false a b is_a is_b = is_b
-
-  pub pack_run : (old new : D) (found : Result Outcome HostError) (result : Result Ending RunStop)
-      (left_old left_new : Option (List ℕ)) (held : Bool) → IsSettled (disk old (now old))
-      → Stays now disk old new → TellsResult next_in_chain now disk told old new found result
-      → IfSome left_old (λ input. IfOk found
-      (λ outcome. GivesOutput outcome left_new (pack_output input)))
-      → IsRun now disk told old new (status_of_result result) left_old left_new held block_in
-      compiled_in (Some Pack)
-  pack_run old new found result left_old left_new held settled stays says is heard input content
-      given_input given =
-      let left_is = told_input left_old input given_input in
-      reading_met old new (λ o. o ≡ pack_output input) (pack_output input) refl
-      (pack_no_change _ _ _ refl refl) found result left_old left_new input content
-      (rests_given false (disk old (now old)) content settled given) stays left_is says
-      (gives found left_new (pack_output input)
-      (given_here (λ input. IfOk found
-      (λ outcome. GivesOutput outcome left_new (pack_output input))) left_old input left_is is))
-
-  pub fmt_run : (old new : D) (found : Result Outcome HostError) (result : Result Ending RunStop)
-      (left_old left_new : Option (List ℕ)) (held : Bool) → IsSettled (disk old (now old))
-      → Stays now disk old new → TellsResult next_in_chain now disk told old new found result
-      → IfSome left_old (λ input. IfOk found (λ outcome. IsFmtOutcome outcome left_new input))
-      → IsRun now disk told old new (status_of_result result) left_old left_new held block_in
-      compiled_in (Some Fmt)
-  fmt_run old new found result left_old left_new held settled stays says is heard input content
-      given_input given =
-      let left_is = told_input left_old input given_input in
-      let some = some_output (Some Fmt) input content in
-      reading_met old new (IsFmtOutput input) some.0 some.1 (fmt_no_change input some.0 some.1)
-      found result left_old left_new input content
-      (rests_given false (disk old (now old)) content settled given) stays left_is says
-      (given_here (λ input. IfOk found (λ outcome. IsFmtOutcome outcome left_new input)) left_old
-      input left_is is)
-
-  pub verify_run : (old new : D) (root : Digest) (query : Query) (found : Result Outcome HostError)
-      (result : Result Ending RunStop) (left_old left_new : Option (List ℕ)) (held : Bool)
-      → IsSettled (disk old (now old)) → Stays now disk old new
-      → TellsResult next_in_chain now disk told old new found result
-      → IfSome left_old (λ input. IfOk found
-      (λ outcome. IsVerifyOutcome root.0 query outcome left_new input))
-      → IsRun now disk told old new (status_of_result result) left_old left_new held block_in
-      compiled_in (Some (Verify root query))
-  verify_run old new root query found result left_old left_new held settled stays says is heard
-      input content given_input given =
-      let left_is = told_input left_old input given_input in
-      let some = some_output (Some (Verify root query)) input content in
-      reading_met old new (IsVerifyOutput root.0 query input) some.0 some.1
-      (verify_no_change root.0 query input some.0 some.1) found result left_old left_new input
-      content (rests_given false (disk old (now old)) content settled given) stays left_is says
-      (given_here (λ input. IfOk found
-      (λ outcome. IsVerifyOutcome root.0 query outcome left_new input)) left_old input left_is
-      is)
-
   -- ---- `append`
 
-  pub append_refused : (old mid new : D) (error : StartError) (result : Result Ending RunStop)
-      (left : Option (List ℕ)) (held : Bool) → IsSettled (disk old (now old))
-      → Stays now disk old mid → told mid ≡ told old
+  pub append_refused : (old mid new : D) (error : StartError) (found : Result Outcome OutcomeStop)
+      (result : Result Ending RunStop) (left : Option (List ℕ)) (held : Bool)
+      → IsSettled (disk old (now old)) → Stays now disk old mid → told mid ≡ told old
       → (held ≡ true → (content : List ℕ) → content_of (disk old (now old)) ≡ Some content
-      → IsNoStart (standing next_in_chain content) error) → Stays now disk mid new
-      → TellsStart next_in_chain now disk told mid new error result
+      → IsNoStart (standing next_in_chain content) error)
+      → IfOk found (λ outcome. start_outcome error ≡ Ok outcome) → Stays now disk mid new
+      → Tells next_in_chain now disk told mid new found result
       → IsRun now disk told old new (status_of_result result) left left held block_in compiled_in
       (Some Append)
-  append_refused old mid new error result left held settled begins same started stays says heard
-      input content given_input given =
-      let left_is = told_input left input given_input in (
-        on_log (appended input) input (standing next_in_chain content),
-        refl,
-        start_met now disk told old mid new (appended input) error result left left input content
+  append_refused old mid new error (Ok outcome) result left held settled begins same started is
+      stays says heard input content given_input given =
+      let left_is = told_input left input given_input in
+      let stands = standing next_in_chain content in
+      let none = started (heard refl) content
+      (told_input (content_of (disk old (now old))) content given) in (
+        output_of outcome input,
+        on_log_is (appended input) input stands (output_of outcome input)
+            (is_on_no_log (λ blocks o. o ≡ appended input blocks) input stands error outcome none
+            is),
+        said_met now disk told old new content outcome result left left input
             (rests_given true (disk old (now old)) content settled given)
-            (stays_on now disk old mid new begins stays) same
-            (left_is ∙ left_read left input input left_is)
-            (append_may_leave content input (standing next_in_chain content) refl)
-            (started (heard refl) content
-            (told_input (content_of (disk old (now old))) content given)) says,
+            (stays_on now disk old mid new begins stays)
+            (says_since now disk told old mid new outcome result same says)
+            (left_is ∙ left_read left input input left_is),
+      )
+  append_refused old mid new error (Err stop) result left held settled begins same started is stays
+      says heard input content given_input given =
+      let output = on_log (appended input) input (standing next_in_chain content) in (
+        output,
+        refl,
+        silent_met now disk told old new content output (stop_of_outcome stop) result left left
+            (quiet_images now disk told old new content output.change
+            (rests_given true (disk old (now old)) content settled given)
+            (stays_on now disk old mid new begins stays)
+            (append_may_leave content input (standing next_in_chain content) refl))
+            (record { stop_is = says.stop_is; silent = says.silent ∙ same }),
       )
 
   changed : (state : Option DiskState) (content : List ℕ) (blocks added : List Block)
@@ -417,6 +471,40 @@ module _ {D : Type 0} (now : D → ℕ) (disk : D → ℕ → Option DiskState)
       all)
 
   -- ---- whole runs
+
+  -- what was found for a command that appends nothing, and printed
+  pub found_run : (old mid new : D) (command : Option Command) (found : Result Outcome OutcomeStop)
+      (result : Result Ending RunStop) (left_old left_new : Option (List ℕ)) (held : Bool)
+      → changes_log command ≡ false → IsSettled (disk old (now old)) → Stays now disk old mid
+      → told mid ≡ told old → Stays now disk mid new
+      → Tells next_in_chain now disk told mid new found result
+      → IsFoundFor (disk old (now old)) left_old left_new held command found
+      → IsRun now disk told old new (status_of_result result) left_old left_new held block_in
+      compiled_in command
+  found_run old mid new command (Ok outcome) result left_old left_new held quiet settled begins same
+      stays says is heard input content given_input given =
+      let from = is heard input content given_input given in (
+        output_of outcome from.0,
+        from.2,
+        said_met now disk told old new content outcome result left_old left_new from.0
+            (rests_given (uses_disk command) (disk old (now old)) content settled given)
+            (stays_on now disk old mid new begins stays)
+            (says_since now disk told old mid new outcome result same says) from.1,
+      )
+  found_run old mid new command (Err stop) result left_old left_new held quiet settled begins same
+      stays says is heard input content given_input given =
+      let some = some_output command input content in (
+        some.0,
+        some.1,
+        silent_met now disk told old new content some.0 (stop_of_outcome stop) result left_old
+            left_new
+            (quiet_images now disk told old new content some.0.change
+            (rests_given (uses_disk command) (disk old (now old)) content settled given)
+            (stays_on now disk old mid new begins stays)
+            (λ c at. same_may_leave content some.0.change c
+            (no_change command input content some.0 quiet some.1) at))
+            (record { stop_is = says.stop_is; silent = says.silent ∙ same }),
+      )
 
   pub of_command : (old new : D) (status : Status) (left_old left_new : Option (List ℕ))
       (held : Bool) (command given : Command) → command ≡ given

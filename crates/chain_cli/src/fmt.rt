@@ -14,14 +14,16 @@ ghost use Rattle.cli_output.specs.{
   Output.{fmt_outcome, IsFmtOutput, output_of},
   Running.{MayEnd},
   Scanning.{IsFmtOutcome},
+  Telling.{OnlyReads},
   Texts.{last_line, lines_after, lines_of},
 };
 
 use cli_append::{Ending, Outcome, read_whole};
+use cli_output::OutcomeStop;
 use contract_check::{CheckError, CheckKind, check};
 use contract_parse::{Contract, SyntaxError, SyntaxKind, parse};
 use contract_print::print;
-use lc_base::{Bytes, HostError, Memory, Seq};
+use lc_base::{Bytes, Memory, Seq};
 use lc_io::Source;
 use std::alloc::{AllocError, Global};
 use std::mem;
@@ -146,10 +148,11 @@ fn source_outcome(alloc: Global, source: &[u8]) -> Result<Outcome, Memory>
 }
 
 /// The outcome of `fmt`: the canonical text of the contract that the input is, or its first fault.
-pub fn fmt<I: Source>(alloc: Global, source: &mut I) -> Result<Outcome, HostError>
+pub fn fmt<I: Source>(alloc: Global, source: &mut I) -> Result<Outcome, OutcomeStop>
     ensures outcome { IfSome (I.left source.old) (λ input. IfOk result (λ outcome. IsFmtOutcome outcome (I.left source.new) input)) }
     ensures ends { IfOk result (λ outcome. MayEnd (status_of outcome.ending) (Some Fmt)) }
-    ensures cause { HasCause (I.source_faults source.old) (I.source_faults source.new) (IsErrOf result HostError.Fault) }
+    ensures only { OnlyReads result }
+    ensures cause { HasCause (I.source_faults source.old) (I.source_faults source.new) (IsErrOf result OutcomeStop.Unreadable) }
 {
     match read_whole(alloc, source)? {
         None => Ok(Outcome::bad_input(alloc, "long")?),

@@ -1,6 +1,7 @@
 //! The ledger at the command line: what each command prints for its words, its input and the log.
 #![tactic(auto)]
 
+mod answering;
 mod fmt;
 mod generating;
 mod loading;

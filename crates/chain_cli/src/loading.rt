@@ -27,6 +27,7 @@ pub fn load_outcome<S: Scratch>(
     // Holds in either case.
     ensures ending { IfOk result (λ outcome. outcome.ending ≡ Ending.Done) }
     ensures reads { IsErrOf result OutcomeStop.Unreadable → ⊥ }
+    ensures disk { IsErrOf result OutcomeStop.DiskFault → ⊥ }
     ensures cause { HasCause (S.scratch_faults scratch.old) (S.scratch_faults scratch.new) (IsErrOf result OutcomeStop.ScratchFault) }
 {
     let alloc = resources.alloc;

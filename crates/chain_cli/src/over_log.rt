@@ -1,29 +1,30 @@
-//! The commands over the log: `append`, `root`, and the questions `hist`, `back` and `fwd`.
+//! The commands over the log: `append`, and what is found for `root` and for the questions `hist`,
+//! `back` and `fwd`.
 
-ghost use Rattle.std.specs.Prelude.{◌≡◌, ℕ, Bool, true, List, Option, Some, IfOk, IsErrOf};
+ghost use Rattle.std.specs.Prelude.{◌≡◌, ℕ, true, List, Some, IfOk, IsErrOf};
 ghost use Rattle.lc_base.specs.Faults.{HasCause};
 ghost use Rattle.disk_model.specs.Disk.{IsSettled, Keeps, content_of};
 ghost use Rattle.block_codec.specs.{Reading.{block_in}, declared.block.Block.{Block as Blocks}};
 ghost use Rattle.block_log.specs.Log.{next_in_log};
 ghost use Rattle.cli_proofs.specs.chain_exec.Compiled.{compiled_in};
-ghost use Rattle.chain_replay.specs.Chain.{StandsFor};
+ghost use Rattle.chain_replay.specs.Chain.{ChainState, StandsFor};
 ghost use Rattle.scratch_model.specs.Scratch.{is_known};
 ghost use Rattle.cli_append.specs.recovery.Node.{next_in_chain};
 ghost use Rattle.crash_promises.specs.Promises.{MayLeaveAny};
-ghost use Rattle.cli_words.specs.declared.words.Command.TheVariants.{Append, Root, Ask};
+ghost use Rattle.cli_proofs.specs.{Exposing.{ledger_kept}, merkle_dag.Lineage.{ledger_in}};
+ghost use Rattle.cli_words.specs.declared.words.Command.TheVariants.{Append};
 ghost use Rattle.cli_output.specs.{
   Output.{answer_outcome, root_outcome, at_or_last},
-  Running.{IsRun, IsSilent, MayEnd, found_no_log},
+  Running.{IsRun, MayEnd, found_no_log},
   Scanning.{EndsAsked},
-  Telling.{TellsOfLog, append_answer, status_of_result},
+  Telling.{append_answer, status_of_result},
 };
 
 use crate::scan::whole_outcome;
 use chain_replay::Chain;
-use cli_append::{
-    AppendEnd, Ending, Node, Outcome, append as append_frames, root_line, start, stored_chain,
-};
-use cli_output::{RunStop, beyond, tell_made, tell_start};
+use cli_append::{AppendEnd, Ending, Outcome, append as append_frames, root_line, start};
+use cli_output::{RunStop, beyond, start_outcome, tell};
+use cli_proofs::Lineage;
 use disk_model::Disk;
 use lc_base::{Key, Kind, Memory, Query};
 use lc_io::{Source, Wire};
@@ -63,13 +64,13 @@ pub fn append<I: Source, M: Disk + Wire, S: Scratch>(
     let alloc = resources.alloc;
     match start(resources, machine, scratch) {
         Ok(node) => append_answer(append_frames(alloc, source, machine, scratch, node)),
-        Err(error) => tell_start(alloc, machine, error),
+        Err(error) => tell(machine, start_outcome(alloc, error)),
     }
 }
 
 /// The answer over the rows of the chain, if the chain has the block up to which it is asked for:
 /// `at`, or else the last one. The chain is discarded.
-fn last_answer(
+pub fn ask_outcome(
     alloc: Global,
     kind: Kind,
     key: Key,
@@ -83,73 +84,18 @@ fn last_answer(
     whole_outcome(alloc, &Query { kind, key, at }, chain)
 }
 
-/// Prints the answer to a question over the blocks of the log.
-pub fn ask<M: Disk + Wire>(
-    resources: Resources,
-    kind: Kind,
-    key: Key,
-    at: Option<u32>,
-    machine: &mut M,
-) -> Result<Ending, RunStop>
-    requires settled { IsSettled (M.disk machine.old (M.now machine.old)) }
-    ensures run { (left : Option (List ℕ)) (held : Bool) → IsRun M.now M.disk M.told machine.old machine.new (status_of_result result) left left held block_in compiled_in (Some (Ask kind key at)) }
-    ensures ends { MayEnd (status_of_result result) (Some (Ask kind key at)) }
-    ensures silent { IsSilent (status_of_result result) (M.told machine.old) (M.told machine.new) }
-    ensures reads { IsErrOf result RunStop.Unreadable → ⊥ }
-    ensures machine { TellsOfLog M.now M.disk M.disk_faults M.wire_faults machine.old machine.new result }
-    ensures keeps { IsErrOf result RunStop.ScratchFault → ⊥ }
-{
-    let alloc = resources.alloc;
-    match stored_chain(resources, machine) {
-        Ok(chain) => tell_made(machine, last_answer(alloc, kind, key, at, chain)),
-        Err(error) => tell_start(alloc, machine, error),
-    }
-}
-
-/// The root at a block of a node's chain: `at`, or else the last one.
-fn root_outcome(alloc: Global, at: Option<u32>, node: &Node) -> Result<Outcome, Memory>
-    ensures outcome { IfOk result (λ outcome. (blocks : List Blocks) → StandsFor node.now.chain blocks → outcome ≡ root_outcome compiled_in (at_or_last at blocks) blocks) }
+/// The root at a block of a chain: `at`, or else the last one.
+pub fn root_outcome(alloc: Global, at: Option<u32>, lineage: &Lineage) -> Result<Outcome, Memory>
+    ensures outcome { (kept : ChainState) → ledger_in lineage.now ≡ ledger_kept kept
+        → IfOk result (λ outcome. (blocks : List Blocks) → StandsFor kept blocks → outcome ≡ root_outcome compiled_in (at_or_last at blocks) blocks) }
     ensures ends { IfOk result (λ outcome. EndsAsked outcome.ending) }
 {
-    let count = node.blocks();
-    if count == 0 {
+    let Some(last) = lineage.head() else {
         return beyond(alloc, None);
-    }
-    let at = at.unwrap_or(count - 1);
-    match node.root(at) {
+    };
+    let at = at.unwrap_or(last);
+    match lineage.root(at) {
         Some(root) => Outcome::from_line(alloc, root_line(alloc, at, &root)?, Ending::Done),
-        None => beyond(alloc, Some(count - 1)),
-    }
-}
-
-/// The same, for a node that is discarded.
-fn last_root(alloc: Global, at: Option<u32>, node: Node) -> Result<Outcome, Memory>
-    ensures outcome { IfOk result (λ outcome. (blocks : List Blocks) → StandsFor node.chain blocks → outcome ≡ root_outcome compiled_in (at_or_last at blocks) blocks) }
-    ensures ends { IfOk result (λ outcome. EndsAsked outcome.ending) }
-{
-    let outcome = root_outcome(alloc, at, &node);
-    node.give_up();
-    outcome
-}
-
-/// Prints the root at a block of the log.
-pub fn root<M: Disk + Wire, S: Scratch>(
-    resources: Resources,
-    at: Option<u32>,
-    machine: &mut M,
-    scratch: &mut S,
-) -> Result<Ending, RunStop>
-    requires settled { IsSettled (M.disk machine.old (M.now machine.old)) }
-    ensures run { (left : Option (List ℕ)) → IsRun M.now M.disk M.told machine.old machine.new (status_of_result result) left left (is_known (S.state scratch.old)) block_in compiled_in (Some (Root at)) }
-    ensures ends { MayEnd (status_of_result result) (Some (Root at)) }
-    ensures silent { IsSilent (status_of_result result) (M.told machine.old) (M.told machine.new) }
-    ensures reads { IsErrOf result RunStop.Unreadable → ⊥ }
-    ensures machine { TellsOfLog M.now M.disk M.disk_faults M.wire_faults machine.old machine.new result }
-    ensures scratch_fault { HasCause (S.scratch_faults scratch.old) (S.scratch_faults scratch.new) (IsErrOf result RunStop.ScratchFault) }
-{
-    let alloc = resources.alloc;
-    match Node::start(resources, machine, scratch) {
-        Ok(node) => tell_made(machine, last_root(alloc, at, node)),
-        Err(error) => tell_start(alloc, machine, error),
+        None => beyond(alloc, Some(last)),
     }
 }

@@ -10,12 +10,14 @@ ghost use Rattle.cli_output.specs.{
   Output.{pack_output},
   Running.{MayEnd},
   Scanning.{GivesOutput},
+  Telling.{OnlyReads},
 };
 
 use byte_fields::put_u32;
 use chain_pack::{PackError, pack as blocks_of};
 use cli_append::{Ending, Outcome, read_whole};
-use lc_base::{Bytes, HostError, Memory, Seq, TextList};
+use cli_output::OutcomeStop;
+use lc_base::{Bytes, Memory, Seq, TextList};
 use lc_io::Source;
 use std::alloc::Global;
 
@@ -77,10 +79,11 @@ fn draft_outcome(alloc: Global, draft: &[u8]) -> Result<Outcome, Memory>
 }
 
 /// The outcome of `pack`: the block file of the draft that the input is, or its first fault.
-pub fn pack<I: Source>(alloc: Global, source: &mut I) -> Result<Outcome, HostError>
+pub fn pack<I: Source>(alloc: Global, source: &mut I) -> Result<Outcome, OutcomeStop>
     ensures outcome { IfSome (I.left source.old) (λ input. IfOk result (λ outcome. GivesOutput outcome (I.left source.new) (pack_output input))) }
     ensures ends { IfOk result (λ outcome. MayEnd (status_of outcome.ending) (Some Pack)) }
-    ensures cause { HasCause (I.source_faults source.old) (I.source_faults source.new) (IsErrOf result HostError.Fault) }
+    ensures only { OnlyReads result }
+    ensures cause { HasCause (I.source_faults source.old) (I.source_faults source.new) (IsErrOf result OutcomeStop.Unreadable) }
 {
     match read_whole(alloc, source)? {
         None => Ok(Outcome::bad_input(alloc, "long")?),

@@ -16,28 +16,25 @@ ghost use Rattle.scratch_model.specs.Scratch.{is_known};
 ghost use Rattle.cli_append.specs.recovery.Node.{next_in_chain};
 ghost use Rattle.crash_promises.specs.Promises.{MayLeaveAny};
 ghost use Rattle.cli_output.specs.{
-  Output.{FormatsAgain, IsWanted, IsOneOutput, log_next_by, next_by, reads_input, uses_disk, uses_scratch, changes_log, tells_as_it_goes},
+  Output.{FormatsAgain, IsWanted, IsOneOutput, log_next_by, next_by},
   Running.{IsRun, IsSilent, MayEnd, found_no_log},
   Showing.{VerifiedAnswersHold, WrongAnswersAreTold},
   Telling.{status_of_result},
+  Uses.{reads_input, uses_disk, uses_scratch, changes_log, tells_as_it_goes},
 };
 
-use crate::fmt::fmt;
+use crate::answering::find;
 use crate::generating::generate;
-use crate::loading::load_outcome;
-use crate::over_log::{append, ask, root};
-use crate::packing::pack;
-use crate::scan::scan;
+use crate::over_log::append;
 use cli_append::{Ending, Status};
-use cli_output::{RunStop, status_of_stop, tell_answer, tell_result, tell_usage};
-use cli_proofs::{expose, prove, verify};
+use cli_output::{RunStop, status_of_stop, tell, tell_usage};
 use cli_words::{Command, command_of};
 use disk_model::Disk;
 use lc_io::{Source, Wire};
 use resources::Resources;
 use scratch_model::Scratch;
 
-/// Runs a command.
+/// Runs a command. What is found for one that prints at its end is printed once all of it is made.
 fn run_command<I: Source, M: Disk + Wire, S: Scratch>(
     resources: Resources,
     command: &Command,
@@ -64,25 +61,13 @@ fn run_command<I: Source, M: Disk + Wire, S: Scratch>(
     ensures disk_fault { HasCause (M.disk_faults machine.old) (M.disk_faults machine.new) (IsErrOf result RunStop.DiskFault) }
     ensures scratch_fault { HasCause (S.scratch_faults scratch.old) (S.scratch_faults scratch.new) (IsErrOf result RunStop.ScratchFault) }
 {
-    let alloc = resources.alloc;
     match command {
-        Command::Scan(query) => tell_result(machine, scan(resources, query, source)),
-        Command::Fmt => tell_result(machine, fmt(alloc, source)),
-        Command::Pack => tell_result(machine, pack(alloc, source)),
-        Command::Gen(generation) => generate(alloc, machine, generation),
-        Command::Load(generation) => {
-            tell_answer(machine, load_outcome(resources, scratch, generation))
-        }
+        Command::Gen(generation) => generate(resources.alloc, machine, generation),
         Command::Append => append(resources, source, machine, scratch),
-        Command::Root(at) => root(resources, *at, machine, scratch),
-        Command::Ask { kind, key, at } => ask(resources, *kind, *key, *at, machine),
-        Command::Prove { query, root_at } => prove(resources, query, *root_at, machine, scratch),
-        Command::Verify { root, query } => tell_result(machine, verify(alloc, root, query, source)),
-        Command::Expose {
-            root,
-            query,
-            root_at,
-        } => expose(resources, root, query, *root_at, source, machine, scratch),
+        _ => {
+            let found = find(resources, command, source, machine, scratch);
+            tell(machine, found)
+        }
     }
 }
 

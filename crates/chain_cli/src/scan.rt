@@ -10,6 +10,7 @@ ghost use Rattle.cli_output.specs.{
   Output.{answer_outcome, scan_output},
   Running.{MayEnd},
   Scanning.{GivesOutput, EndsAsked},
+  Telling.{OnlyReads},
 };
 ghost use Rattle.cli_proofs.specs.chain_exec.Compiled.{compiled_in};
 ghost use Rattle.chain_input.specs.Folding.{fold_input};
@@ -17,8 +18,8 @@ ghost use Rattle.chain_input.specs.Folding.{fold_input};
 use chain_input::{Cause, Folded, fold};
 use chain_replay::{Chain, Replay};
 use cli_append::{Ending, Outcome, answer_lines, refused_line};
-use cli_output::beyond;
-use lc_base::{HostError, Memory, Query};
+use cli_output::{OutcomeStop, beyond};
+use lc_base::{Memory, Query};
 use lc_io::Source;
 use resources::Resources;
 use std::alloc::Global;
@@ -65,10 +66,11 @@ pub fn scan<I: Source>(
     resources: Resources,
     query: &Query,
     source: &mut I,
-) -> Result<Outcome, HostError>
+) -> Result<Outcome, OutcomeStop>
     ensures outcome { IfSome (I.left source.old) (λ input. IfOk result (λ outcome. GivesOutput outcome (I.left source.new) (scan_output compiled_in query.now (fold_input block_in compiled_in input)))) }
     ensures ends { IfOk result (λ outcome. MayEnd (status_of outcome.ending) (Some (Scan query.now))) }
-    ensures cause { HasCause (I.source_faults source.old) (I.source_faults source.new) (IsErrOf result HostError.Fault) }
+    ensures only { OnlyReads result }
+    ensures cause { HasCause (I.source_faults source.old) (I.source_faults source.new) (IsErrOf result OutcomeStop.Unreadable) }
 {
     let alloc = resources.alloc;
     match fold(resources, source)? {

@@ -1,3 +1,6 @@
+ghost use Rattle.chain_input.specs.Turns.{IsCauseOf};
+
+use block_codec::FrameError;
 use chain_replay::Refusal;
 
 /// Why a frame of the input is refused.
@@ -11,4 +14,18 @@ pub enum Cause {
     Many,
     /// The chain refuses its bytes, for this reason.
     Block(Refusal),
+}
+
+/// The cause for which a frame is refused, or an error that says nothing of the input: `fault` if
+/// reading failed, and `memory` if memory ran out.
+pub fn cause_of<E: Copy>(error: FrameError, fault: E, memory: E) -> Result<Cause, E>
+    ensures { IsCauseOf fault memory error result }
+{
+    match error {
+        FrameError::Truncated => Ok(Cause::Truncated),
+        FrameError::Length(count) => Ok(Cause::Length(count)),
+        FrameError::Many => Ok(Cause::Many),
+        FrameError::Fault => Err(fault),
+        FrameError::Memory => Err(memory),
+    }
 }

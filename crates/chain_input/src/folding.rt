@@ -1,18 +1,17 @@
 //! Folding an input into a chain: its frames are judged and taken in order, until one is refused.
 
-ghost use Rattle.lc_base.specs.Faults.{HasCause, Rose};
-ghost use Rattle.std.specs.Prelude.{◌≡◌, [], IfOk, IfSome, List, IsErrOf};
-ghost use Rattle.block_codec.specs.{Reading.{block_in}, declared.block.Block.{Block as Blocks}};
+ghost use Rattle.lc_base.specs.Faults.{HasCause};
+ghost use Rattle.std.specs.Prelude.{◌≡◌, IfOk, IfSome, IsErrOf};
+ghost use Rattle.block_codec.specs.Reading.{block_in};
 ghost use Rattle.chain_replay.specs.chain_exec.Compiled.{compiled_in};
-ghost use Rattle.chain_replay.specs.{Chain.{StandsFor}, Judging.{judgement_of}};
 ghost use Rattle.chain_input.specs.{
   Folding.{fold_input},
-  Turns.{IsTakenIn, IsFoldResult, IsCauseOf, IsTurn, CountsFrames},
+  Turns.{IsFoldResult, IsTurnIn},
 };
 
 use crate::cause::Cause;
-use block_codec::{FrameError, Frames};
-use chain_replay::{Chain, Judged, Refusal, Replay};
+use crate::taking::{FrameTaker, InputEnd, InputStop, Turn, take_frames};
+use chain_replay::{Chain, Judged, Replay};
 use lc_base::{HostError, Memory};
 use lc_io::Source;
 use resources::Resources;
@@ -27,75 +26,48 @@ pub enum Folded {
     Refused { frame: u32, cause: Cause },
 }
 
-/// What one look at the start of the input found.
+/// Takes frames into a chain and keeps nothing of what their blocks did.
 #[derive(Drop)]
-enum Turn {
-    /// The input has ended.
-    Ended(Chain),
-    /// A frame was taken into the chain.
-    Taken(Chain, Frames),
-    /// The next frame is refused.
-    Refused(Cause),
-}
+struct Folder;
 
-/// Takes a frame into the chain: its block is added if it is the next one, and the chain is
-/// unchanged if it holds the block already. If the frame is refused, the chain is discarded.
-fn take_frame(alloc: Global, chain: Chain, frame: &[u8]) -> Result<Result<Chain, Refusal>, Memory>
-    ensures { IfOk result (λ taken. (blocks : List Blocks) → StandsFor chain blocks → IsTakenIn blocks taken (judgement_of compiled_in blocks (block_in frame.now))) }
-{
-    match chain.judge(alloc, frame) {
-        Ok(Judged::Known { .. }) => Ok(Ok(chain)),
-        Ok(Judged::Next { block, digest }) => {
-            let (chain, _) = chain.with_block(alloc, &block, digest)?;
-            Ok(Ok(chain))
-        }
-        Ok(Judged::Refused(refusal)) => {
-            chain.give_up();
-            Ok(Err(refusal))
-        }
-        Err(Memory) => {
-            chain.give_up();
-            Err(Memory)
+impl FrameTaker for Folder {
+    type Chain = Chain;
+
+    type Stop = Memory;
+
+    ghost ready = { λ _ _. Unit {0} };
+
+    ghost same = { λ _ _. Unit {0} };
+
+    ghost turn = { λ _ chain frame _ result. IfOk result (IsTurnIn chain frame) };
+
+    /// Takes a frame into the chain: its block is added if it is the next one, and the chain is
+    /// unchanged if it holds the block already. If the frame is refused, the chain is discarded.
+    fn take(&mut self, alloc: Global, chain: Chain, frame: &[u8]) -> Result<Turn<Chain>, Memory>
+        ensures turn { IfOk result (IsTurnIn chain frame.now) }
+    {
+        match chain.judge(alloc, frame) {
+            Ok(Judged::Known { .. }) => Ok(Turn::Taken(chain)),
+            Ok(Judged::Next { block, digest }) => {
+                let (chain, _) = chain.with_block(alloc, &block, digest)?;
+                Ok(Turn::Taken(chain))
+            }
+            Ok(Judged::Refused(refusal)) => {
+                chain.give_up();
+                Ok(Turn::Refused(refusal))
+            }
+            Err(Memory) => {
+                chain.give_up();
+                Err(Memory)
+            }
         }
     }
-}
 
-/// The cause for which a frame is refused, or an error that says nothing of the input: `fault` if
-/// reading failed, and `memory` if memory ran out.
-pub fn cause_of<E: Copy>(error: FrameError, fault: E, memory: E) -> Result<Cause, E>
-    ensures { IsCauseOf fault memory error result }
-{
-    match error {
-        FrameError::Truncated => Ok(Cause::Truncated),
-        FrameError::Length(count) => Ok(Cause::Length(count)),
-        FrameError::Many => Ok(Cause::Many),
-        FrameError::Fault => Err(fault),
-        FrameError::Memory => Err(memory),
-    }
-}
+    ghost same_refl = { λ _. tt };
 
-/// Looks once at the start of the input, and takes a frame from it.
-fn look<I: Source>(
-    alloc: Global,
-    chain: Chain,
-    frames: Frames,
-    source: &mut I,
-) -> Result<Turn, HostError>
-    ensures turn { IfSome (I.left source.old) (λ input. IfOk result (IsTurn chain frames input (I.left source.new))) }
-    ensures count { IfOk result (CountsFrames frames) }
-    ensures cause { HasCause (I.source_faults source.old) (I.source_faults source.new) (IsErrOf result HostError.Fault) }
-{
-    match frames.next(alloc, source) {
-        Ok(None) => Ok(Turn::Ended(chain)),
-        Ok(Some((frame, more))) => match take_frame(alloc, chain, frame.as_bytes())? {
-            Ok(chain) => Ok(Turn::Taken(chain, more)),
-            Err(refusal) => Ok(Turn::Refused(Cause::Block(refusal))),
-        },
-        Err(error) => {
-            chain.give_up();
-            Ok(Turn::Refused(cause_of(error, HostError::Fault, HostError::Memory)?))
-        }
-    }
+    ghost same_trans = { λ _ _ _ _ _. tt };
+
+    ghost turn_ready = { λ _ _ _ _ _ _. tt };
 }
 
 /// Takes the frames of an input one after another, starting from the chain of no block.
@@ -103,17 +75,11 @@ pub fn fold<I: Source>(resources: Resources, source: &mut I) -> Result<Folded, H
     ensures fold { IfSome (I.left source.old) (λ input. IfOk result (λ folded. IsFoldResult folded (I.left source.new) (fold_input block_in compiled_in input))) }
     ensures cause { HasCause (I.source_faults source.old) (I.source_faults source.new) (IsErrOf result HostError.Fault) }
 {
-    let mut chain = Chain::new(resources);
-    let mut frames = Frames::new();
-    'turns: loop {
-        let frame = frames.count();
-        match look(resources.alloc, chain, frames, source)? {
-            Turn::Ended(whole) => return Ok(Folded::Whole(whole)),
-            Turn::Taken(longer, more) => {
-                chain = longer;
-                frames = more;
-            }
-            Turn::Refused(cause) => return Ok(Folded::Refused { frame, cause }),
-        }
+    let chain = Chain::new(resources);
+    match take_frames(resources.alloc, source, &mut Folder, chain) {
+        Ok(InputEnd::Whole(chain)) => Ok(Folded::Whole(chain)),
+        Ok(InputEnd::Refused { frame, cause }) => Ok(Folded::Refused { frame, cause }),
+        Err(InputStop::Fault) => Err(HostError::Fault),
+        Err(InputStop::Memory | InputStop::Taker(Memory)) => Err(HostError::Memory),
     }
 }

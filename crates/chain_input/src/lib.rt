@@ -3,8 +3,10 @@
 
 mod cause;
 mod folding;
+mod taking;
 
 pub use block_codec::Misplaced;
-pub use cause::Cause;
+pub use cause::{Cause, cause_of};
 pub use chain_replay::Refusal;
-pub use folding::{Folded, cause_of, fold};
+pub use folding::{Folded, fold};
+pub use taking::{FrameTaker, InputEnd, InputStop, Turn, take_frames};

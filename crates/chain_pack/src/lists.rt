@@ -15,7 +15,7 @@ ghost use Rattle.chain_pack.specs.{
 
 use crate::fields::{items_in, key_in, value_in};
 use crate::read_error::ReadError;
-use lc_base::{Key, Seq, Value};
+use lc_base::{Key, Memory, Seq, Value};
 use serde_json::Value as Json;
 use std::alloc::Global;
 
@@ -59,7 +59,10 @@ fn each<T: FromJson>(alloc: Global, items: &[Json]) -> Result<Seq<T>, ReadError>
     let mut list = Seq::new(alloc);
     for item in items {
         let value = T::from_json(alloc, item)?;
-        list.push(value)?;
+        match list.push(value) {
+            Ok(()) => {}
+            Err(Memory) => return Err(ReadError::Memory),
+        }
     }
     Ok(list)
 }

@@ -1,9 +1,5 @@
 //! Why a part of a draft was not read.
 
-ghost use Rattle.std.specs.Prelude.{◌≡◌};
-
-use lc_base::Memory;
-
 /// Why a part of a draft was not read.
 #[derive(Clone, Copy, Debug, PartialEq, Eq)]
 pub enum ReadError {
@@ -11,14 +7,4 @@ pub enum ReadError {
     Shape,
     /// Out of memory.
     Memory,
-}
-
-impl From<Memory> for ReadError {
-    ghost use Rattle.chain_pack.specs.declared.read_error.ReadError.TheVariants.{Memory};
-
-    ghost from_gives = { λ _ error. error ≡ Memory };
-
-    fn from(_memory: Memory) -> ReadError {
-        ReadError::Memory
-    }
 }

@@ -1,5 +1,6 @@
 -- One frame: what was printed for it, and what a crash may leave.
-use Rattle.std.proofs.Common.{◌≡◌, inr, ℕ, Bool, true, false, List, [], ◌∷◌, ◌++◌, refl, sym, ◌∙◌, ap, subst}
+use Rattle.std.proofs.Common.{◌≡◌, inr, ℕ, Bool, true, false, List, [], ◌∷◌, ◌++◌, refl, sym, ◌∙◌}
+use Rattle.std.proofs.Common.{ap, subst}
 use Rattle.std.specs.Prelude.{Option, Some, None, Result, Ok, Err}
 use Rattle.lc_io.specs.Disk.{DiskState, Stays}
 use Rattle.lc_io.specs.Outside.{Tell}
@@ -11,7 +12,8 @@ use Rattle.block_log.specs.Log.{LogState}
 use Rattle.chain_exec.specs.Compiled.{compiled_in}
 use Rattle.recovery.specs.chain_replay.Judging.{Taken, Known, Added, judgement_of, added_by}
 use Rattle.recovery.specs.chain_replay.declared.refusal.Refusal.{Refusal}
-use Rattle.recovery.specs.Node.{NodeState, HoldsChain, IsNodeOf, IsStepOf, IsAppended, was_added, blocks_after, next_in_chain, chain_in}
+use Rattle.recovery.specs.Node.{NodeState, HoldsChain, IsNodeOf, IsStepOf, IsAppended, was_added}
+use Rattle.recovery.specs.Node.{blocks_after, next_in_chain, chain_in}
 use Rattle.recovery.specs.declared.node.Appended.{Appended}
 use Rattle.recovery.specs.declared.node.Appended.TheVariants as appendeds
 use Rattle.crash_promises.specs.Promises.{Promise, IsKeptAt, Telling}
@@ -20,20 +22,24 @@ use Rattle.crash_promises.proofs.Sure.{sure_kept}
 use Rattle.cli_append.specs.Appending.{IsKnown, line_of}
 use Rattle.cli_append.specs.Steps.{appended_text, lines_for, added_for, Takes}
 use Rattle.cli_append.specs.declared.ending.RunStop.{RunStop}
+use Rattle.chain_input.specs.declared.taking.Turn.TheVariants as turns
 use Rattle.cli_append.proofs.Promised.{line_sure}
 
 -- a disk that is known has a content
-pub content_known : (state : Option DiskState) → IsKnown state → (content : List ℕ) × (content_of state ≡ Some content)
+pub content_known : (state : Option DiskState) → IsKnown state
+    → (content : List ℕ) × (content_of state ≡ Some content)
 content_known None is_told = absurd (cc is_told)
 content_known (Some state) is_told = (state.content, refl)
 
 -- the content on the disk of a node stands for its blocks
-pub stands_at : (log : LogState) (blocks : List Block) (state : Option DiskState) → Rests state (HoldsChain log blocks) → Rests state (λ image. chain_in image ≡ Some blocks)
+pub stands_at : (log : LogState) (blocks : List Block) (state : Option DiskState)
+    → Rests state (HoldsChain log blocks) → Rests state (λ image. chain_in image ≡ Some blocks)
 stands_at log blocks None rests = tt
 stands_at log blocks (Some state) rests = (rests.0, rests.1.stands)
 
 -- if nothing is pending, each image that a crash may leave is the content
-pub rests_each : (state : Option DiskState) (P : List ℕ → Type 0) → Rests state P → (s : DiskState) (image : List ℕ) → state ≡ Some s → IsImage s image → P image
+pub rests_each : (state : Option DiskState) (P : List ℕ → Type 0) → Rests state P
+    → (s : DiskState) (image : List ℕ) → state ≡ Some s → IsImage s image → P image
 rests_each state P rests s image is at =
     let r = subst (λ (o : Option DiskState). Rests o P) is rests in
     subst P (sym (settled_image s.content image (subst (λ (u : DiskState). IsImage u image) r.0 at))) r.1
@@ -41,21 +47,27 @@ rests_each state P rests s image is at =
 -- what is printed for a frame that was taken is its line
 pub took : (old node : NodeState) (appended : Appended) (blocks : List Block) (judgement : Result Taken Refusal) → IsAppended old blocks judgement node appended
     → (frame : Taken) × (judgement ≡ Ok frame) × (appended_text appended ≡ (line_of compiled_in blocks frame).text)
-took old node (appendeds.Known number) blocks judgement (block, is, number_is, same) = (Known block, is, rw number_is refl)
+took old node (appendeds.Known number) blocks judgement (block, is, number_is, same) =
+    (Known block, is, rw number_is refl)
 took old node (appendeds.Added number rows receipts root) blocks judgement (block, is, number_is, rows_is, receipts_are, root_is) = (Added block, is, rw (number_is, rows_is, receipts_are, root_is) refl)
 
 -- a block that is not added is reported as one that is held
-not_added : (old node : NodeState) (appended : Appended) (blocks : List Block) (judgement : Result Taken Refusal) → IsAppended old blocks judgement node appended → added_for judgement ≡ [] → was_added appended ≡ false
+not_added : (old node : NodeState) (appended : Appended) (blocks : List Block) (judgement : Result Taken Refusal)
+    → IsAppended old blocks judgement node appended → added_for judgement ≡ []
+    → was_added appended ≡ false
 not_added old node (appendeds.Known number) blocks judgement is none = refl
 not_added old node (appendeds.Added number rows receipts root) blocks judgement (block, is, number_is, rows_is, receipts_are, root_is) none = absurd (cc (sym (ap added_for is) ∙ none))
 
 module _ {D : Type 0} (now : D → ℕ) (disk : D → ℕ → Option DiskState) (told : D → Option (List Tell)) where
   -- a disk that was known stays known
-  pub still_known : (old new : D) (P : List ℕ → Type 0) → Keeps now disk old new P → IsKnown (disk old (now old)) → IsKnown (disk new (now new))
+  pub still_known : (old new : D) (P : List ℕ → Type 0) → Keeps now disk old new P
+      → IsKnown (disk old (now old)) → IsKnown (disk new (now new))
   still_known old new P keeps is_told = keeps.told ∙ is_told
 
   -- while the line of a frame is printed, the disk holds its chain
-  after_images : (mid new : D) (blocks : List Block) (frame : Taken) → Rests (disk mid (now mid)) (λ image. chain_in image ≡ Some (blocks ++ added_by frame)) → Stays now disk mid new → Keeps now disk mid new (IsStepOf blocks (Ok frame))
+  after_images : (mid new : D) (blocks : List Block) (frame : Taken)
+      → Rests (disk mid (now mid)) (λ image. chain_in image ≡ Some (blocks ++ added_by frame))
+      → Stays now disk mid new → Keeps now disk mid new (IsStepOf blocks (Ok frame))
   after_images mid new blocks frame rests stays =
       let P : List ℕ → Type 0 = λ image. chain_in image ≡ Some (blocks ++ added_by frame) in
       weaker now disk mid new P (IsStepOf blocks (Ok frame)) (still next_in_chain now disk told mid new P (rests_each (disk mid (now mid)) P rests) stays) (λ image is. inr is)
@@ -92,10 +104,10 @@ module _ {D : Type 0} (now : D → ℕ) (disk : D → ℕ → Option DiskState) 
       → (IsKnown (disk old (now old)) → Keeps now disk old mid (IsStepOf blocks (judgement_of compiled_in blocks spelled))) → told mid ≡ told old
       → IsNodeOf node (disk mid (now mid)) (blocks_after blocks (judgement_of compiled_in blocks spelled))
       → ((promise : Promise) → IsKeptAt next_in_chain now disk mid promise → Telling next_in_chain now disk told mid new (record { text = bytes; promise = promise } ∷ []) true) → Stays now disk mid new → (was_added appended ≡ false → mid ≡ old)
-      → Takes now disk told old new blocks (judgement_of compiled_in blocks spelled) (Ok (Ok node))
+      → Takes now disk told old new blocks (judgement_of compiled_in blocks spelled) (Ok (turns.Taken node))
   takes_whole old mid new blocks spelled start node appended bytes is text images same is_node tell stays untouched =
       let s = stored old mid new blocks spelled start node appended bytes true is text images same is_node tell stays in
-      subst (λ (j : Result Taken Refusal). Takes now disk told old new blocks j (Ok (Ok node))) (sym s.1) (record {
+      subst (λ (j : Result Taken Refusal). Takes now disk told old new blocks j (Ok (turns.Taken node))) (sym s.1) (record {
         images = s.3;
         lines = s.4;
         unwritten = λ ok none. subst (λ (m : D). Stays now disk m new) (untouched (not_added start node appended blocks (judgement_of compiled_in blocks spelled) is (ap added_for s.1 ∙ none))) stays;
@@ -119,7 +131,7 @@ module _ {D : Type 0} (now : D → ℕ) (disk : D → ℕ → Option DiskState) 
 
   -- a frame was refused
   pub takes_refusal : (old new : D) (blocks : List Block) (judgement : Result Taken Refusal) (node : NodeState) (refusal : Refusal) → (IsKnown (disk old (now old)) → Keeps now disk old new (IsStepOf blocks judgement)) → told new ≡ told old
-      → new ≡ old → judgement ≡ Err refusal → IsNodeOf node (disk new (now new)) blocks → Takes now disk told old new blocks judgement (Ok (Err refusal))
+      → new ≡ old → judgement ≡ Err refusal → IsNodeOf node (disk new (now new)) blocks → Takes now disk told old new blocks judgement (Ok (turns.Refused refusal))
   takes_refusal old new blocks judgement node refusal images same untouched is is_node = record {
     images = images;
     lines = λ is_told. subst (λ (j : Result Taken Refusal). Telling next_in_chain now disk told old new (lines_for blocks j) true) (sym is) (none_to_tell next_in_chain now disk told old new true same);

@@ -1,37 +1,41 @@
 -- The loop's invariant: the frames taken so far, and then the fold of what is left, are the whole
 -- fold.
-use Rattle.std.proofs.Common.{◌≡◌, inl, inr, ℕ, suc, ◌+◌, ◌-◌, ◌≤◌, Bool, true, false, List, [], ◌∷◌, ◌++◌, drop, refl, sym, ◌∙◌, ap, subst, arith, append_assoc, append-nil}
+use Rattle.std.proofs.Common.{◌≡◌, inl, inr, ℕ, ◌+◌, ◌-◌, ◌≤◌, Bool, true, false, List, [], ◌∷◌}
+use Rattle.std.proofs.Common.{◌++◌, refl, sym, ◌∙◌, ap, subst, arith, append_assoc, append-nil}
 use Rattle.std.specs.Prelude.{Option, Some, None, Result, Ok, Err, is_ok, IfOk, IfSome, take}
 use Rattle.lc_io.specs.Disk.{DiskState, Stays}
 use Rattle.lc_io.specs.Outside.{Tell}
 use Rattle.disk_model.specs.Disk.{Keeps, Rests}
 use Rattle.disk_model.proofs.Calls.{stay_keeps}
-use Rattle.disk_model.proofs.Moments.{started, then_keeps, weaker, stays_on, stays_here}
-use Rattle.block_codec.specs.Frames.{frame_step, IsFrameAnswer}
+use Rattle.disk_model.proofs.Moments.{then_keeps, weaker, stays_on}
+use Rattle.block_codec.specs.Frames.{IsFrameAnswer}
 use Rattle.block_codec.specs.Reading.{block_in}
 use Rattle.block_codec.specs.declared.limits.TheConstants.{MAX_FRAMES}
 use Rattle.block_codec.specs.declared.block.Block.{Block}
-use Rattle.block_codec.specs.declared.error.FrameError.{FrameError}
-use Rattle.block_codec.specs.declared.error.FrameError.TheVariants as frames
 use Rattle.chain_exec.specs.Compiled.{compiled_in}
 use Rattle.recovery.specs.chain_replay.Judging.{Taken, judgement_of, added_by, added_by_all}
 use Rattle.recovery.specs.chain_replay.declared.refusal.Refusal.{Refusal}
 use Rattle.cli_lines.specs.Lines.{refused_line}
-use Rattle.cli_lines.specs.chain_input.Folding.{Fold, FoldEnd, Whole, Refused, ends_at, taken_before, fold_after_frame, fold_step, fold_from}
+use Rattle.cli_lines.specs.chain_input.Folding.{Fold, FoldEnd, Whole, Refused, ends_at}
+use Rattle.cli_lines.specs.chain_input.Folding.{taken_before, fold_after_frame, fold_step}
+use Rattle.cli_lines.specs.chain_input.Folding.{fold_from}
 use Rattle.cli_lines.specs.chain_input.declared.cause.Cause.{Cause}
 use Rattle.cli_lines.specs.chain_input.declared.cause.Cause.TheVariants as causes
 use Rattle.recovery.specs.Node.{NodeState, IsNodeOf, IsStepOf, next_in_chain, chain_in}
-use Rattle.crash_promises.specs.Promises.{Line, plain, KeepsLines, IsPartly, Telling}
-use Rattle.crash_promises.proofs.Tellings.{none_to_tell, join, longer, still}
-use Rattle.crash_promises.proofs.Sure.{AreSure, all_sure_more, sure_push, all_sure_kept, partly_more, partly_held, partly_longer}
-use Rattle.cli_append.specs.Appending.{IsKnown, line_of, lines_of, end_lines, fold_lines, fold_end, HasEnded, AppendsAll, GoesFrom}
-use Rattle.cli_lines.specs.chain_input.Turns.{IsCauseOf}
+use Rattle.crash_promises.specs.Promises.{Line, plain, IsPartly, Telling}
+use Rattle.crash_promises.proofs.Tellings.{join, longer, still}
+use Rattle.crash_promises.proofs.Sure.{all_sure_kept, partly_more, partly_held}
+use Rattle.cli_append.specs.Appending.{IsKnown, line_of, lines_of, end_lines, fold_lines, fold_end}
+use Rattle.cli_append.specs.Appending.{HasEnded, AppendsAll, GoesFrom}
+use Rattle.chain_input.specs.declared.taking.Turn.{Turn}
+use Rattle.chain_input.specs.declared.taking.Turn.TheVariants as turns
+use Rattle.chain_input.proofs.Folds.{folded_turn, taken_taken, FoldEnds, whole_ends}
 use Rattle.cli_append.specs.Steps.{lines_for, added_for, Takes}
 use Rattle.cli_append.specs.declared.ending.AppendEnd.{AppendEnd}
 use Rattle.cli_append.specs.declared.ending.AppendEnd.TheVariants as ends
-use Rattle.cli_append.specs.declared.ending.RunStop.TheVariants as stops
 use Rattle.cli_append.specs.declared.ending.RunStop.{RunStop}
-use Rattle.cli_append.proofs.Promised.{line_sure, added_append, added_push, lines_append}
+use Rattle.cli_append.proofs.Stored.{Stored, nothing_stored, then_frame, then_stop}
+use Rattle.cli_append.proofs.Promised.{added_append, added_push, lines_append}
 use Rattle.cli_append.proofs.Frames.{rests_each, stands_at, still_known}
 
 -- ---- the fold
@@ -40,39 +44,6 @@ use Rattle.cli_append.proofs.Frames.{rests_each, stands_at, still_known}
 abbrev fold_all : List Block → List ℕ → Fold
 fold_all blocks input = fold_from block_in compiled_in (MAX_FRAMES + 1) blocks input
 
--- one step of the fold at the start of an input
-abbrev step_at_start : (List Block → List ℕ → Fold) → ℕ → List Block → List ℕ → Fold
-step_at_start next count blocks input = fold_step block_in compiled_in next count blocks input (frame_step count input)
-
-taken_taken : (a b : List Taken) (fold : Fold) → taken_before a (taken_before b fold) ≡ taken_before (a ++ b) fold
-taken_taken a b fold = ap (λ (all : List Taken). record { taken = all; end = fold.end; left = fold.left }) (sym (append_assoc a b fold.taken))
-
--- one look at the start of the input
-folded_turn : (count : ℕ) (blocks : List Block) (rest : List ℕ) → count ≤ MAX_FRAMES → fold_from block_in compiled_in (MAX_FRAMES + 1 - count) blocks rest ≡ step_at_start (fold_from block_in compiled_in (MAX_FRAMES - count)) count blocks rest
-unfolding fold_from
-folded_turn count blocks rest bound =
-    let m : ℕ = MAX_FRAMES - count in
-    let e : MAX_FRAMES + 1 - count ≡ suc m = omega arith in
-    let t : MAX_FRAMES - m ≡ count = omega arith in
-    ap (λ (n : ℕ). fold_from block_in compiled_in n blocks rest) e ∙ ap (λ (n : ℕ). fold_step block_in compiled_in (fold_from block_in compiled_in m) n blocks rest (frame_step n rest)) t
-
--- ---- one frame that was judged
-
-partly_step : (first added blocks : List Block) (judgement : Result Taken Refusal) (image : List ℕ) → blocks ≡ first ++ added → IsStepOf blocks judgement image → IsPartly next_in_chain first (added ++ added_for judgement) image
-partly_step first added blocks (Ok frame) image same (inl is) = partly_held next_in_chain first added (added_by frame) blocks image same is
-partly_step first added blocks (Ok frame) image same (inr is) = partly_longer next_in_chain first added (added_by frame) blocks image same is
-partly_step first added blocks (Err refusal) image same is = partly_held next_in_chain first added [] blocks image same is
-
-kept_step : (blocks : List Block) (lines : List Line) (judgement : Result Taken Refusal) (image : List ℕ) → AreSure blocks lines → IsStepOf blocks judgement image → KeepsLines next_in_chain lines image
-kept_step blocks lines (Ok frame) image sure (inl is) = all_sure_kept next_in_chain blocks [] lines image sure (is ∙ ap Some (sym (append-nil blocks)))
-kept_step blocks lines (Ok frame) image sure (inr is) = all_sure_kept next_in_chain blocks (added_by frame) lines image sure is
-kept_step blocks lines (Err refusal) image sure is = all_sure_kept next_in_chain blocks [] lines image sure (is ∙ ap Some (sym (append-nil blocks)))
-
--- lists that are empty together are both empty
-both_empty : (a b : List Block) → a ++ b ≡ [] → (a ≡ []) × (b ≡ [])
-both_empty [] b none = (refl, none)
-both_empty (block ∷ a) b none = absurd (cc none)
-
 -- ---- the fold of what is left, after the frames that were taken, is the fold of the whole input
 
 pub record Leads (input : List ℕ) (left : Option (List ℕ)) (count : ℕ) (first blocks : List Block) (taken : List Taken) : Type 0 where
@@ -80,49 +51,24 @@ pub record Leads (input : List ℕ) (left : Option (List ℕ)) (count : ℕ) (fi
   pub left_is : left ≡ Some rest
   pub same : fold_all first input ≡ taken_before taken (fold_from block_in compiled_in (MAX_FRAMES + 1 - count) blocks rest)
 
--- the fold ends here
-pub record FoldEnds (count : ℕ) (blocks : List Block) (rest : List ℕ) (left : Option (List ℕ)) (end : FoldEnd) : Type 0 where
-  pub after_it : List ℕ
-  pub left_is : left ≡ Some after_it
-  pub is_end : (next : List Block → List ℕ → Fold) → step_at_start next count blocks rest ≡ ends_at end after_it
-
-frames_end : (count : ℕ) (blocks : List Block) (before left : Option (List ℕ)) (rest : List ℕ) → before ≡ Some rest → IfSome before (λ input. IsFrameAnswer count input (Ok None) left) → FoldEnds count blocks rest left Whole
-frames_end count blocks before left rest is answer =
-    let a = subst (λ (o : Option (List ℕ)). IfSome o (λ input. IsFrameAnswer count input (Ok None) left)) is answer in
-    record { after_it = []; left_is = a.1; is_end = λ next. ap (fold_step block_in compiled_in next count blocks rest) a.0 }
-
-error_ends : (count : ℕ) (blocks : List Block) (rest : List ℕ) (left : Option (List ℕ)) (error : FrameError) (cause : Cause) → IsFrameAnswer count rest (Err error) left → IsCauseOf stops.Unreadable stops.Memory error (Ok cause) → FoldEnds count blocks rest left (Refused count cause)
-error_ends count blocks rest left frames.Truncated cause a e = record { after_it = []; left_is = a.1; is_end = λ next. ap (fold_step block_in compiled_in next count blocks rest) a.0 ∙ ap (λ (c : Cause). ends_at (Refused count c) []) (sym (cc e)) }
-error_ends count blocks rest left (frames.Length size) cause a e = record { after_it = drop 4 rest; left_is = a.1; is_end = λ next. ap (fold_step block_in compiled_in next count blocks rest) a.0 ∙ ap (λ (c : Cause). ends_at (Refused count c) (drop 4 rest)) (sym (cc e)) }
-error_ends count blocks rest left frames.Many cause a e = record { after_it = drop 4 rest; left_is = a.1; is_end = λ next. ap (fold_step block_in compiled_in next count blocks rest) a.0 ∙ ap (λ (c : Cause). ends_at (Refused count c) (drop 4 rest)) (sym (cc e)) }
-error_ends count blocks rest left frames.Fault cause a e = absurd (cc e)
-error_ends count blocks rest left frames.Memory cause a e = absurd (cc e)
-
-frames_error : (count : ℕ) (blocks : List Block) (before left : Option (List ℕ)) (error : FrameError) (cause : Cause) (rest : List ℕ) → before ≡ Some rest → IfSome before (λ input. IsFrameAnswer count input (Err error) left) → IsCauseOf stops.Unreadable stops.Memory error (Ok cause)
-    → FoldEnds count blocks rest left (Refused count cause)
-frames_error count blocks before left error cause rest is answer because = error_ends count blocks rest left error cause (subst (λ (o : Option (List ℕ)). IfSome o (λ input. IsFrameAnswer count input (Err error) left)) is answer) because
-
-frame_refused : (count : ℕ) (blocks : List Block) (before left : Option (List ℕ)) (bytes : List ℕ) (more : ℕ) (refusal : Refusal) (rest : List ℕ) → before ≡ Some rest → IfSome before (λ input. IsFrameAnswer count input (Ok (Some (bytes, more))) left)
-    → judgement_of compiled_in blocks (block_in bytes) ≡ Err refusal → FoldEnds count blocks rest left (Refused count (causes.Block refusal))
-frame_refused count blocks before left bytes more refusal rest is answer judgement =
-    let a = subst (λ (o : Option (List ℕ)). IfSome o (λ input. IsFrameAnswer count input (Ok (Some (bytes, more))) left)) is answer in
-    record { after_it = a.0; left_is = a.2; is_end = λ next. ap (fold_step block_in compiled_in next count blocks rest) a.1 ∙ ap (fold_after_frame next count blocks a.0) judgement }
-
 -- what follows a frame that was judged: its line and block, and then others
 judged_lines : (next : List Block → List ℕ → Fold) (count : ℕ) (blocks : List Block) (rest : List ℕ) (judgement : Result Taken Refusal)
     → (more : List Line) × (fold_lines compiled_in blocks (fold_after_frame next count blocks rest judgement) ≡ lines_for blocks judgement ++ more)
 judged_lines next count blocks rest (Ok frame) =
     let f = next (blocks ++ added_by frame) rest in
     (lines_of compiled_in (blocks ++ added_by frame) f.taken ++ end_lines f.end, refl)
-judged_lines next count blocks rest (Err refusal) = (end_lines (Refused count (causes.Block refusal)), refl)
+judged_lines next count blocks rest (Err refusal) =
+    (end_lines (Refused count (causes.Block refusal)), refl)
 
 judged_added : (next : List Block → List ℕ → Fold) (count : ℕ) (blocks : List Block) (rest : List ℕ) (judgement : Result Taken Refusal)
     → (others : List Block) × (added_by_all (fold_after_frame next count blocks rest judgement).taken ≡ added_for judgement ++ others)
-judged_added next count blocks rest (Ok frame) = (added_by_all (next (blocks ++ added_by frame) rest).taken, refl)
+judged_added next count blocks rest (Ok frame) =
+    (added_by_all (next (blocks ++ added_by frame) rest).taken, refl)
 judged_added next count blocks rest (Err refusal) = ([], refl)
 
 -- the lines of all frames, if some were taken before the others
-lines_before : (first : List Block) (taken : List Taken) (fold : Fold) → fold_lines compiled_in first (taken_before taken fold) ≡ lines_of compiled_in first taken ++ fold_lines compiled_in (first ++ added_by_all taken) fold
+lines_before : (first : List Block) (taken : List Taken) (fold : Fold)
+    → fold_lines compiled_in first (taken_before taken fold) ≡ lines_of compiled_in first taken ++ fold_lines compiled_in (first ++ added_by_all taken) fold
 lines_before first taken fold =
     ap (λ (l : List Line). l ++ end_lines fold.end) (lines_append first taken fold.taken) ∙ append_assoc (lines_of compiled_in first taken) (lines_of compiled_in (first ++ added_by_all taken) fold.taken) (end_lines fold.end)
 
@@ -130,71 +76,46 @@ module _ {D : Type 0} (now : D → ℕ) (disk : D → ℕ → Option DiskState) 
   pub record Progress (old new : D) (node : NodeState) (count : ℕ) (left_old left_new : Option (List ℕ)) (first : List Block) : Type 0 where
     pub taken : List Taken
     pub blocks : List Block
-    pub blocks_are : blocks ≡ first ++ added_by_all taken
-    pub is_node : IsNodeOf node (disk new (now new)) blocks
-    pub sure : AreSure blocks (lines_of compiled_in first taken)
-    pub telling : IsKnown (disk old (now old)) → Telling next_in_chain now disk told old new (lines_of compiled_in first taken) true
-    pub images : IsKnown (disk old (now old)) → Keeps now disk old new (IsPartly next_in_chain first (added_by_all taken))
-    pub unwritten : added_by_all taken ≡ [] → Stays now disk old new
-    pub leads : (input : List ℕ) → left_old ≡ Some input → Leads input left_new count first blocks taken
+    pub stored : Stored now disk told old new node first blocks (added_by_all taken) (lines_of compiled_in first taken)
+    pub leads : (input : List ℕ) → left_old ≡ Some input
+        → Leads input left_new count first blocks taken
 
-  pub begun : (old : D) (node : NodeState) (left : Option (List ℕ)) (first : List Block) → IsNodeOf node (disk old (now old)) first → Progress old old node 0 left left first
-  begun old node left first is =
-      let rests = stands_at node.log first (disk old (now old)) is.log in
-      record {
-        taken = [];
-        blocks = first;
-        blocks_are = sym (append-nil first);
-        is_node = is;
-        sure = tt;
-        telling = λ is_told. none_to_tell next_in_chain now disk told old old true refl;
-        images = λ is_told. started now disk old (IsPartly next_in_chain first [])
-            (λ s image at shows. (0, rests_each (disk old (now old)) (λ c. chain_in c ≡ Some first) rests s image at shows ∙ ap Some (sym (append-nil first))));
-        unwritten = λ none. stays_here now disk old;
-        leads = λ input is. record { rest = input; left_is = is; same = refl };
-      }
+  pub begun : (old : D) (node : NodeState) (left : Option (List ℕ)) (first : List Block)
+      → IsNodeOf node (disk old (now old)) first → Progress old old node 0 left left first
+  begun old node left first is = record {
+    taken = [];
+    blocks = first;
+    stored = nothing_stored now disk told old node first is;
+    leads = λ input is. record { rest = input; left_is = is; same = refl };
+  }
 
   -- the node of the frames so far is that of some blocks
-  pub node_is : (old new : D) (node : NodeState) (count : ℕ) (left_old left_new : Option (List ℕ)) (first : List Block) → Progress old new node count left_old left_new first → (blocks : List Block) × IsNodeOf node (disk new (now new)) blocks
-  node_is old new node count left_old left_new first p = (p.blocks, p.is_node)
+  pub node_is : (old new : D) (node : NodeState) (count : ℕ) (left_old left_new : Option (List ℕ)) (first : List Block)
+      → Progress old new node count left_old left_new first
+      → (blocks : List Block) × IsNodeOf node (disk new (now new)) blocks
+  node_is old new node count left_old left_new first p = (p.blocks, p.stored.is_node)
 
   -- one more frame
   pub goes_on : (old mid new : D) (node longer_node : NodeState) (count more : ℕ) (left_old left_mid left_new : Option (List ℕ)) (first : List Block) (bytes : List ℕ)
       → Progress old mid node count left_old left_mid first → count ≤ MAX_FRAMES → more ≡ count + 1 → IfSome left_mid (λ input. IsFrameAnswer count input (Ok (Some (bytes, more))) left_new)
-      → ((blocks : List Block) → IsNodeOf node (disk mid (now mid)) blocks → Takes now disk told mid new blocks (judgement_of compiled_in blocks (block_in bytes)) (Ok (Ok longer_node)))
+      → ((blocks : List Block) → IsNodeOf node (disk mid (now mid)) blocks → Takes now disk told mid new blocks (judgement_of compiled_in blocks (block_in bytes)) (Ok (turns.Taken longer_node)))
       → Progress old new longer_node more left_old left_new first
   goes_on old mid new node longer_node count more left_old left_mid left_new first bytes p bound one_more answer takes =
       let j : Result Taken Refusal = judgement_of compiled_in p.blocks (block_in bytes) in
-      let t = takes p.blocks p.is_node in
+      let t = takes p.blocks p.stored.is_node in
       let frame : Taken = t.answer.0 in
       let e : j ≡ Ok frame = t.answer.1 in
-      let keeps = subst (λ (r : Result Taken Refusal). IsKnown (disk mid (now mid)) → Keeps now disk mid new (IsStepOf p.blocks r)) e t.images in
-      let line = subst (λ (r : Result Taken Refusal). IsKnown (disk mid (now mid)) → Telling next_in_chain now disk told mid new (lines_for p.blocks r) true) e t.lines in
       let lines : List Line = lines_of compiled_in first p.taken in
       let all : List Taken = p.taken ++ frame ∷ [] in
       let added : added_by_all all ≡ added_by_all p.taken ++ added_by frame = added_push p.taken frame in
       let lines_are : lines_of compiled_in first all ≡ lines ++ line_of compiled_in p.blocks frame ∷ [] =
-      lines_append first p.taken (frame ∷ []) ∙ ap (λ (l : List Block). lines ++ line_of compiled_in l frame ∷ []) (sym p.blocks_are) in
-      let still_is = λ (is_told : IsKnown (disk old (now old))). still_known now disk told old mid (IsPartly next_in_chain first (added_by_all p.taken)) (p.images is_told) is_told in
+      lines_append first p.taken (frame ∷ []) ∙ ap (λ (l : List Block). lines ++ line_of compiled_in l frame ∷ []) (sym p.stored.blocks_are) in
       record {
         taken = all;
         blocks = p.blocks ++ added_by frame;
-        blocks_are = ap (λ (l : List Block). l ++ added_by frame) p.blocks_are ∙ append_assoc first (added_by_all p.taken) (added_by frame) ∙ ap (λ (l : List Block). first ++ l) (sym added);
-        is_node = t.answer.2;
-        sure = subst (AreSure (p.blocks ++ added_by frame)) (sym lines_are)
-            (sure_push (p.blocks ++ added_by frame) lines (line_of compiled_in p.blocks frame) (all_sure_more p.blocks (added_by frame) lines p.sure) (line_sure p.blocks (block_in bytes) frame e));
-        telling = λ is_told. subst (λ (l : List Line). Telling next_in_chain now disk told old new l true) (sym lines_are)
-            (join next_in_chain now disk told old mid new (IsStepOf p.blocks (Ok frame)) lines (line_of compiled_in p.blocks frame ∷ []) true (p.telling is_told) (keeps (still_is is_told))
-            (λ image step. kept_step p.blocks lines (Ok frame) image p.sure step) (line (still_is is_told)));
-        images = λ is_told.
-            let P : List ℕ → Type 0 = IsPartly next_in_chain first (added_by_all p.taken ++ added_by frame) in
-            subst (λ (l : List Block). Keeps now disk old new (IsPartly next_in_chain first l)) (sym added)
-            (then_keeps now disk old mid new P
-            (weaker now disk old mid (IsPartly next_in_chain first (added_by_all p.taken)) P (p.images is_told) (partly_more next_in_chain first (added_by_all p.taken) (added_by frame)))
-            (weaker now disk mid new (IsStepOf p.blocks (Ok frame)) P (keeps (still_is is_told)) (λ image step. partly_step first (added_by_all p.taken) p.blocks (Ok frame) image p.blocks_are step)));
-        unwritten = λ none.
-            let parts = both_empty (added_by_all p.taken) (added_by frame) (sym added ∙ none) in
-            stays_on now disk old mid new (p.unwritten parts.0) (t.unwritten refl (ap added_for e ∙ parts.1));
+        stored = subst (λ (blocks : List Block). Stored now disk told old new longer_node first (p.blocks ++ added_by frame) blocks (lines_of compiled_in first all)) (sym added)
+            (subst (λ (ls : List Line). Stored now disk told old new longer_node first (p.blocks ++ added_by frame) (added_by_all p.taken ++ added_by frame) ls) (sym lines_are)
+            (then_frame now disk told old mid new node longer_node first p.blocks (added_by_all p.taken) lines (block_in bytes) p.stored t));
         leads = λ input is.
             let l = p.leads input is in
             let a = subst (λ (o : Option (List ℕ)). IfSome o (λ rest. IsFrameAnswer count rest (Ok (Some (bytes, more))) left_new)) l.left_is answer in
@@ -205,7 +126,7 @@ module _ {D : Type 0} (now : D → ℕ) (disk : D → ℕ → Option DiskState) 
               left_is = a.2;
               same = l.same
                   ∙ ap (taken_before p.taken) (folded_turn count p.blocks l.rest bound ∙ ap (fold_step block_in compiled_in next count p.blocks l.rest) a.1 ∙ ap (fold_after_frame next count p.blocks a.0) e)
-                  ∙ taken_taken p.taken (frame ∷ []) (next (p.blocks ++ added_by frame) a.0)
+                  ∙ sym (taken_taken p.taken (frame ∷ []) (next (p.blocks ++ added_by frame) a.0))
                   ∙ ap (λ (n : ℕ). taken_before all (fold_from block_in compiled_in n (p.blocks ++ added_by frame) a.0)) fewer;
             };
       }
@@ -230,7 +151,8 @@ module _ {D : Type 0} (now : D → ℕ) (disk : D → ℕ → Option DiskState) 
     ended = at_end result is;
   }
     where
-      at_end : (result : Result AppendEnd RunStop) → IfOk result (λ answer. fold_end answer ≡ end) → IfOk result (HasEnded (disk new (now new)) left first (taken_before taken (ends_at end rest)))
+      at_end : (result : Result AppendEnd RunStop) → IfOk result (λ answer. fold_end answer ≡ end)
+          → IfOk result (HasEnded (disk new (now new)) left first (taken_before taken (ends_at end rest)))
       at_end (Ok answer) is = record {
         end_is = is;
         left_is = left_is;
@@ -243,14 +165,17 @@ module _ {D : Type 0} (now : D → ℕ) (disk : D → ℕ → Option DiskState) 
       → IfSome left_mid (λ input. IsFrameAnswer count input (Ok None) left) → AppendsAll now disk told old new left first (fold_all first input) (Ok ends.Whole)
   whole_input old new node count left_old left_mid left first input p bound is answer =
       let l = p.leads input is in
-      let s = frames_end count p.blocks left_mid left l.rest l.left_is answer in
+      let s = whole_ends count p.blocks left_mid left l.rest l.left_is answer in
       subst (λ (f : Fold). AppendsAll now disk told old new left first f (Ok ends.Whole)) (ends_same old new node count left_old left_mid left first Whole input p bound l s)
-      (all_of old new left first p.blocks p.taken Whole s.after_it (Ok ends.Whole) p.images p.blocks_are
-      (λ is_told. subst (λ (ls : List Line). Telling next_in_chain now disk told old new ls true) (sym (append-nil (lines_of compiled_in first p.taken))) (p.telling is_told)) refl s.left_is
-      (stands_at node.log p.blocks (disk new (now new)) p.is_node.log) (λ ok. p.unwritten))
+      (all_of old new left first p.blocks p.taken Whole s.after_it (Ok ends.Whole) p.stored.images p.stored.blocks_are
+      (λ is_told. subst (λ (ls : List Line). Telling next_in_chain now disk told old new ls true) (sym (append-nil (lines_of compiled_in first p.taken))) (p.stored.telling is_told)) refl s.left_is
+      (stands_at node.log p.blocks (disk new (now new)) p.stored.is_node.log) (λ ok. p.stored.unwritten))
 
-  refused_end : (frame count : ℕ) (cause : Cause) (result : Result AppendEnd RunStop) → frame ≡ count → IfOk result (λ answer. answer ≡ ends.Refused frame cause) → IfOk result (λ answer. fold_end answer ≡ Refused count cause)
-  refused_end frame count cause (Ok answer) number is = ap fold_end is ∙ ap (λ (n : ℕ). Refused n cause) number
+  refused_end : (frame count : ℕ) (cause : Cause) (result : Result AppendEnd RunStop)
+      → frame ≡ count → IfOk result (λ answer. answer ≡ ends.Refused frame cause)
+      → IfOk result (λ answer. fold_end answer ≡ Refused count cause)
+  refused_end frame count cause (Ok answer) number is =
+      ap fold_end is ∙ ap (λ (n : ℕ). Refused n cause) number
   refused_end frame count cause (Err stop) number is = tt
 
   -- a frame is refused, and its line is printed
@@ -264,47 +189,49 @@ module _ {D : Type 0} (now : D → ℕ) (disk : D → ℕ → Option DiskState) 
       let told_line = λ (is_told : IsKnown (disk mid (now mid))). subst (λ (n : ℕ). Telling next_in_chain now disk told mid new (plain (refused_line n cause) ∷ []) (is_ok result)) number (line is_told) in
       let P : List ℕ → Type 0 = λ image. chain_in image ≡ Some p.blocks in
       let Q : List ℕ → Type 0 = IsPartly next_in_chain first (added_by_all p.taken) in
-      let still_is = λ (is_told : IsKnown (disk old (now old))). still_known now disk told old mid Q (p.images is_told) is_told in
+      let still_is = λ (is_told : IsKnown (disk old (now old))). still_known now disk told old mid Q (p.stored.images is_told) is_told in
       subst (λ (f : Fold). AppendsAll now disk told old new left first f result) (ends_same old mid node count left_old left_mid left first (Refused count cause) input p bound l s)
       (all_of old new left first p.blocks p.taken (Refused count cause) s.after_it result
-      (λ is_told. then_keeps now disk old mid new Q (p.images is_told) (weaker now disk mid new P Q (images (still_is is_told))
-      (λ image at. subst (λ (a : List Block). IsPartly next_in_chain first a image) (append-nil (added_by_all p.taken)) (partly_held next_in_chain first (added_by_all p.taken) [] p.blocks image p.blocks_are at))))
-      p.blocks_are
-      (λ is_told. join next_in_chain now disk told old mid new P lines (plain (refused_line count cause) ∷ []) (is_ok result) (p.telling is_told) (images (still_is is_told))
-      (λ image at. all_sure_kept next_in_chain p.blocks [] lines image p.sure (at ∙ ap Some (sym (append-nil p.blocks)))) (told_line (still_is is_told)))
-      (refused_end frame count cause result number end) s.left_is rests (λ ok none. stays_on now disk old mid new (p.unwritten none) (stays ok)))
+      (λ is_told. then_keeps now disk old mid new Q (p.stored.images is_told) (weaker now disk mid new P Q (images (still_is is_told))
+      (λ image at. subst (λ (a : List Block). IsPartly next_in_chain first a image) (append-nil (added_by_all p.taken)) (partly_held next_in_chain first (added_by_all p.taken) [] p.blocks image p.stored.blocks_are at))))
+      p.stored.blocks_are
+      (λ is_told. join next_in_chain now disk told old mid new P lines (plain (refused_line count cause) ∷ []) (is_ok result) (p.stored.telling is_told) (images (still_is is_told))
+      (λ image at. all_sure_kept next_in_chain p.blocks [] lines image p.stored.sure (at ∙ ap Some (sym (append-nil p.blocks)))) (told_line (still_is is_told)))
+      (refused_end frame count cause result number end) s.left_is rests (λ ok none. stays_on now disk old mid new (p.stored.unwritten none) (stays ok)))
 
-  same_rests : (mid new : D) (P : List ℕ → Type 0) → Rests (disk mid (now mid)) P → Stays now disk mid new → Rests (disk new (now new)) P
-  same_rests mid new P rests stays = subst (λ (o : Option DiskState). Rests o P) (sym stays.last) rests
+  same_rests : (mid new : D) (P : List ℕ → Type 0) → Rests (disk mid (now mid)) P
+      → Stays now disk mid new → Rests (disk new (now new)) P
+  same_rests mid new P rests stays =
+      subst (λ (o : Option DiskState). Rests o P) (sym stays.last) rests
 
   -- the form of the frame is refused
-  pub refused_form : (old mid new : D) (node : NodeState) (count frame : ℕ) (left_old left_mid left : Option (List ℕ)) (first : List Block) (input : List ℕ) (error : FrameError) (cause : Cause) (result : Result AppendEnd RunStop)
-      → Progress old mid node count left_old left_mid first → count ≤ MAX_FRAMES
-      → frame ≡ count → left_old ≡ Some input → IfSome left_mid (λ input. IsFrameAnswer count input (Err error) left) → IsCauseOf stops.Unreadable stops.Memory error (Ok cause) → Stays now disk mid new
+  pub refused_form : (old mid new : D) (node : NodeState) (count frame : ℕ) (left_old left_mid left : Option (List ℕ)) (first : List Block) (input : List ℕ) (cause : Cause) (result : Result AppendEnd RunStop)
+      → (p : Progress old mid node count left_old left_mid first) → count ≤ MAX_FRAMES
+      → frame ≡ count → left_old ≡ Some input → ((rest : List ℕ) → left_mid ≡ Some rest → FoldEnds count p.blocks rest left (Refused count cause)) → Stays now disk mid new
       → Telling next_in_chain now disk told mid new (plain (refused_line frame cause) ∷ []) (is_ok result) → IfOk result (λ answer. answer ≡ ends.Refused frame cause) → AppendsAll now disk told old new left first (fold_all first input) result
-  refused_form old mid new node count frame left_old left_mid left first input error cause result p bound number is answer because stays line end =
+  refused_form old mid new node count frame left_old left_mid left first input cause result p bound number is ends_here stays line end =
       let l = p.leads input is in
       let P : List ℕ → Type 0 = λ image. chain_in image ≡ Some p.blocks in
-      let rests = stands_at node.log p.blocks (disk mid (now mid)) p.is_node.log in
-      refused_at old mid new node count frame left_old left_mid left first input cause result p bound number l (frames_error count p.blocks left_mid left error cause l.rest l.left_is answer because)
+      let rests = stands_at node.log p.blocks (disk mid (now mid)) p.stored.is_node.log in
+      refused_at old mid new node count frame left_old left_mid left first input cause result p bound number l (ends_here l.rest l.left_is)
       (λ is_told. still next_in_chain now disk told mid new P (rests_each (disk mid (now mid)) P rests) stays) (λ is_told. line) end (same_rests mid new P rests stays) (λ ok. stays)
 
   -- the block of the frame is refused
-  pub refused_block : (old mid next new : D) (node : NodeState) (count more frame : ℕ) (left_old left_mid left : Option (List ℕ)) (first : List Block) (input bytes : List ℕ) (refusal : Refusal) (result : Result AppendEnd RunStop)
-      → Progress old mid node count left_old left_mid first → count ≤ MAX_FRAMES
-      → frame ≡ count → left_old ≡ Some input → IfSome left_mid (λ input. IsFrameAnswer count input (Ok (Some (bytes, more))) left)
-      → ((blocks : List Block) → IsNodeOf node (disk mid (now mid)) blocks → Takes now disk told mid next blocks (judgement_of compiled_in blocks (block_in bytes)) (Ok (Err refusal))) → Stays now disk next new
+  pub refused_block : (old mid next new : D) (node : NodeState) (count frame : ℕ) (left_old left_mid left : Option (List ℕ)) (first : List Block) (input bytes : List ℕ) (refusal : Refusal) (result : Result AppendEnd RunStop)
+      → (p : Progress old mid node count left_old left_mid first) → count ≤ MAX_FRAMES
+      → frame ≡ count → left_old ≡ Some input → ((rest : List ℕ) → left_mid ≡ Some rest → FoldEnds count p.blocks rest left (Refused count (causes.Block refusal)))
+      → ((blocks : List Block) → IsNodeOf node (disk mid (now mid)) blocks → Takes now disk told mid next blocks (judgement_of compiled_in blocks (block_in bytes)) (Ok (turns.Refused refusal))) → Stays now disk next new
       → Telling next_in_chain now disk told next new (plain (refused_line frame (causes.Block refusal)) ∷ []) (is_ok result) → IfOk result (λ answer. answer ≡ ends.Refused frame (causes.Block refusal))
       → AppendsAll now disk told old new left first (fold_all first input) result
-  refused_block old mid next new node count more frame left_old left_mid left first input bytes refusal result p bound number is answer takes stays line end =
+  refused_block old mid next new node count frame left_old left_mid left first input bytes refusal result p bound number is ends_here takes stays line end =
       let l = p.leads input is in
       let P : List ℕ → Type 0 = λ image. chain_in image ≡ Some p.blocks in
-      let t = takes p.blocks p.is_node in
+      let t = takes p.blocks p.stored.is_node in
       let e = t.answer.0 in
       let before = λ (is_told : IsKnown (disk mid (now mid))). subst (λ (r : Result Taken Refusal). Keeps now disk mid next (IsStepOf p.blocks r)) e (t.images is_told) in
       let after : Keeps now disk next new P = still next_in_chain now disk told next new P (rests_each (disk next (now next)) P t.answer.1) stays in
       let nothing = λ (is_told : IsKnown (disk mid (now mid))). subst (λ (r : Result Taken Refusal). Telling next_in_chain now disk told mid next (lines_for p.blocks r) true) e (t.lines is_told) in
-      refused_at old mid new node count frame left_old left_mid left first input (causes.Block refusal) result p bound number l (frame_refused count p.blocks left_mid left bytes more refusal l.rest l.left_is answer e)
+      refused_at old mid new node count frame left_old left_mid left first input (causes.Block refusal) result p bound number l (ends_here l.rest l.left_is)
       (λ is_told. then_keeps now disk mid next new P (before is_told) after)
       (λ is_told. join next_in_chain now disk told mid next new P [] (plain (refused_line frame (causes.Block refusal)) ∷ []) (is_ok result) (nothing is_told) after (λ image at. tt) line) end (same_rests next new P t.answer.1 stays) (λ ok. stays_on now disk mid next new (t.unwritten refl (ap added_for e)) stays)
 
@@ -328,7 +255,7 @@ module _ {D : Type 0} (now : D → ℕ) (disk : D → ℕ → Option DiskState) 
       let l = p.leads input is in
       let f : Fold = fold_from block_in compiled_in (MAX_FRAMES + 1 - count) p.blocks l.rest in
       subst (λ (x : Fold). AppendsAll now disk told old new left first x (Err stop)) (sym l.same)
-      (stopped old new left first (taken_before p.taken f) (lines_of compiled_in first p.taken) (fold_lines compiled_in (first ++ added_by_all p.taken) f) (added_by_all p.taken) (added_by_all f.taken) true stop p.images p.telling
+      (stopped old new left first (taken_before p.taken f) (lines_of compiled_in first p.taken) (fold_lines compiled_in (first ++ added_by_all p.taken) f) (added_by_all p.taken) (added_by_all f.taken) true stop p.stored.images p.stored.telling
       (lines_before first p.taken f) (added_append p.taken f.taken))
 
   -- taking a frame was stopped
@@ -338,7 +265,7 @@ module _ {D : Type 0} (now : D → ℕ) (disk : D → ℕ → Option DiskState) 
       → AppendsAll now disk told old new left first (fold_all first input) (Err stop)
   stopped_at old mid new node count more left_old left_mid left first input bytes stop p bound is answer takes =
       let l = p.leads input is in
-      let t = takes p.blocks p.is_node in
+      let t = takes p.blocks p.stored.is_node in
       let j : Result Taken Refusal = judgement_of compiled_in p.blocks (block_in bytes) in
       let a = subst (λ (o : Option (List ℕ)). IfSome o (λ rest. IsFrameAnswer count rest (Ok (Some (bytes, more))) left)) l.left_is answer in
       let next : List Block → List ℕ → Fold = fold_from block_in compiled_in (MAX_FRAMES - count) in
@@ -348,34 +275,34 @@ module _ {D : Type 0} (now : D → ℕ) (disk : D → ℕ → Option DiskState) 
       let added : List Block = added_by_all p.taken in
       let line = judged_lines next count p.blocks a.0 j in
       let others = judged_added next count p.blocks a.0 j in
-      let P : List ℕ → Type 0 = IsPartly next_in_chain first (added ++ added_for j) in
-      let still_is = λ (is_told : IsKnown (disk old (now old))). still_known now disk told old mid (IsPartly next_in_chain first added) (p.images is_told) is_told in
+      let q = then_stop now disk told old mid new node first p.blocks added lines j stop p.stored t in
       subst (λ (x : Fold). AppendsAll now disk told old new left first x (Err stop)) (sym same)
-      (stopped old new left first (taken_before p.taken f) (lines ++ lines_for p.blocks j) line.0 (added ++ added_for j) others.0 false stop
-      (λ is_told. then_keeps now disk old mid new P
-      (weaker now disk old mid (IsPartly next_in_chain first added) P (p.images is_told) (partly_more next_in_chain first added (added_for j)))
-      (weaker now disk mid new (IsStepOf p.blocks j) P (t.images (still_is is_told)) (λ image step. partly_step first added p.blocks j image p.blocks_are step)))
-      (λ is_told. join next_in_chain now disk told old mid new (IsStepOf p.blocks j) lines (lines_for p.blocks j) false (p.telling is_told) (t.images (still_is is_told)) (λ image step. kept_step p.blocks lines j image p.sure step) (t.lines (still_is is_told)))
-      (lines_before first p.taken f ∙ ap (λ (b : List Block). lines ++ fold_lines compiled_in b f) (sym p.blocks_are) ∙ ap (λ (ls : List Line). lines ++ ls) line.1 ∙ sym (append_assoc lines (lines_for p.blocks j) line.0))
+      (stopped old new left first (taken_before p.taken f) (lines ++ lines_for p.blocks j) line.0 (added ++ added_for j) others.0 false stop q.0 q.1
+      (lines_before first p.taken f ∙ ap (λ (b : List Block). lines ++ fold_lines compiled_in b f) (sym p.stored.blocks_are) ∙ ap (λ (ls : List Line). lines ++ ls) line.1 ∙ sym (append_assoc lines (lines_for p.blocks j) line.0))
       (added_append p.taken f.taken ∙ ap (λ (b : List Block). added ++ b) others.1 ∙ sym (append_assoc added (added_for j) others.0)))
 
   -- ---- whether or not it is known what the source has left
 
-  step_goes : (first blocks added : List Block) (judgement : Result Taken Refusal) (image : List ℕ) → blocks ≡ first ++ added → IsStepOf blocks judgement image → GoesFrom first image
+  step_goes : (first blocks added : List Block) (judgement : Result Taken Refusal) (image : List ℕ)
+      → blocks ≡ first ++ added → IsStepOf blocks judgement image → GoesFrom first image
   step_goes first blocks added (Ok frame) image same (inl is) = (added, is ∙ ap Some same)
   step_goes first blocks added (Ok frame) image same (inr is) = (added ++ added_by frame, is ∙ ap Some (ap (λ (b : List Block). b ++ added_by frame) same ∙ append_assoc first added (added_by frame)))
   step_goes first blocks added (Err refusal) image same is = (added, is ∙ ap Some same)
 
-  pub goes_from : (old new : D) (node : NodeState) (count : ℕ) (left_old left_new : Option (List ℕ)) (first : List Block) → Progress old new node count left_old left_new first → IsKnown (disk old (now old)) → Keeps now disk old new (GoesFrom first)
-  goes_from old new node count left_old left_new first p is_told = weaker now disk old new (IsPartly next_in_chain first (added_by_all p.taken)) (GoesFrom first) (p.images is_told) (λ image partly. (take partly.0 (added_by_all p.taken), partly.1))
+  pub goes_from : (old new : D) (node : NodeState) (count : ℕ) (left_old left_new : Option (List ℕ)) (first : List Block)
+      → Progress old new node count left_old left_new first → IsKnown (disk old (now old))
+      → Keeps now disk old new (GoesFrom first)
+  goes_from old new node count left_old left_new first p is_told = weaker now disk old new (IsPartly next_in_chain first (added_by_all p.taken)) (GoesFrom first) (p.stored.images is_told) (λ image partly. (take partly.0 (added_by_all p.taken), partly.1))
 
-  pub goes_still : (old mid new : D) (first : List Block) → Keeps now disk old mid (GoesFrom first) → Stays now disk mid new → Keeps now disk old new (GoesFrom first)
-  goes_still old mid new first keeps stays = stay_keeps now disk old mid new (GoesFrom first) keeps stays
+  pub goes_still : (old mid new : D) (first : List Block) → Keeps now disk old mid (GoesFrom first)
+      → Stays now disk mid new → Keeps now disk old new (GoesFrom first)
+  goes_still old mid new first keeps stays =
+      stay_keeps now disk old mid new (GoesFrom first) keeps stays
 
-  pub goes_step : (old mid new : D) (node : NodeState) (count : ℕ) (left_old left_new : Option (List ℕ)) (first : List Block) (bytes : List ℕ) (result : Result (Result NodeState Refusal) RunStop) → Progress old mid node count left_old left_new first
+  pub goes_step : (old mid new : D) (node : NodeState) (count : ℕ) (left_old left_new : Option (List ℕ)) (first : List Block) (bytes : List ℕ) (result : Result (Turn NodeState) RunStop) → Progress old mid node count left_old left_new first
       → ((blocks : List Block) → IsNodeOf node (disk mid (now mid)) blocks → Takes now disk told mid new blocks (judgement_of compiled_in blocks (block_in bytes)) result) → IsKnown (disk old (now old)) → Keeps now disk old new (GoesFrom first)
   goes_step old mid new node count left_old left_new first bytes result p takes is_told =
-      let t = takes p.blocks p.is_node in
+      let t = takes p.blocks p.stored.is_node in
       let j : Result Taken Refusal = judgement_of compiled_in p.blocks (block_in bytes) in
       then_keeps now disk old mid new (GoesFrom first) (goes_from old mid node count left_old left_new first p is_told)
-      (weaker now disk mid new (IsStepOf p.blocks j) (GoesFrom first) (t.images ((p.images is_told).told ∙ is_told)) (λ image step. step_goes first p.blocks (added_by_all p.taken) j image p.blocks_are step))
+      (weaker now disk mid new (IsStepOf p.blocks j) (GoesFrom first) (t.images ((p.stored.images is_told).told ∙ is_told)) (λ image step. step_goes first p.blocks (added_by_all p.taken) j image p.stored.blocks_are step))

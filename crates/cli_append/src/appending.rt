@@ -9,23 +9,46 @@ ghost use Rattle.block_codec.specs.{
 };
 ghost use Rattle.block_log.specs.Log.{next_in_log};
 ghost use Rattle.chain_exec.specs.Compiled.{compiled_in};
-ghost use Rattle.cli_lines.specs.chain_input.Folding.{fold_from};
+ghost use Rattle.chain_input.specs.{Folding.{fold_from}, Taking.{TakesInput}};
 ghost use Rattle.scratch_model.specs.Scratch.{is_known, Retains};
 ghost use Rattle.recovery.specs.Node.{IsNodeOf, IsReady};
 ghost use Rattle.disk_model.specs.Disk.{Keeps, content_of};
 ghost use Rattle.crash_promises.specs.Laws.{GoesOn};
-ghost use Rattle.cli_append.specs.Appending.{AppendsAll, GoesFrom, IsKnown};
+ghost use Rattle.cli_append.specs.{Appending.{AppendsAll, GoesFrom, IsKnown}, Steps.{AppendsFrame}};
 
 use crate::ending::{AppendEnd, RunStop};
-use crate::taking::take_frame;
+use crate::taking::Appender;
 use crate::telling::refuse;
-use block_codec::Frames;
-use cli_lines::{Cause, cause_of};
+use chain_input::{InputEnd, InputStop, take_frames};
 use disk_model::Disk;
 use lc_io::{Source, Wire};
 use recovery::Node;
 use scratch_model::Scratch;
 use std::alloc::Global;
+
+/// Takes the frames of the input one after another, and says how they end. The line of a refused
+/// frame is not printed.
+fn take_all<I: Source, M: Disk + Wire, S: Scratch>(
+    alloc: Global,
+    source: &mut I,
+    machine: &mut M,
+    scratch: &mut S,
+    node: Node,
+) -> Result<InputEnd<Node>, InputStop<RunStop>>
+    requires ready { IsReady node (M.disk machine.old (M.now machine.old)) (S.state scratch.old) }
+    ensures takes { TakesInput (AppendsFrame M.now M.disk M.told M.disk_faults M.wire_faults S.state S.scratch_faults) (record { left = I.left source.old; taker = (machine.old, scratch.old); chain = node }) (I.left source.new) (machine.new, scratch.new) result }
+    ensures goes_on { is_known (S.state scratch.old) ≡ true → (blocks : List Block) → IsNodeOf node (M.disk machine.old (M.now machine.old)) blocks → IsKnown (M.disk machine.old (M.now machine.old)) → Keeps M.now M.disk machine.old machine.new (GoesFrom blocks) }
+    ensures log_goes_on { (content : List ℕ) → content_of (M.disk machine.old (M.now machine.old)) ≡ Some content → Keeps M.now M.disk machine.old machine.new (GoesOn next_in_log content) }
+    ensures retains { Retains (S.state scratch.old) (S.state scratch.new) }
+    ensures unreadable { HasCause (I.source_faults source.old) (I.source_faults source.new) (IsErrOf result InputStop.Fault) }
+    ensures disk_fault { HasCause (M.disk_faults machine.old) (M.disk_faults machine.new) (IsErrOf result (InputStop.Taker RunStop.DiskFault)) }
+    ensures scratch_fault { HasCause (S.scratch_faults scratch.old) (S.scratch_faults scratch.new) (IsErrOf result (InputStop.Taker RunStop.ScratchFault)) }
+    ensures untold { HasCause (M.wire_faults machine.old) (M.wire_faults machine.new) (IsErrOf result (InputStop.Taker RunStop.Untold)) }
+    ensures reads { IsErrOf result (InputStop.Taker RunStop.Unreadable) → ⊥ }
+{
+    let mut appender = Appender { machine, scratch };
+    take_frames(alloc, source, &mut appender, node)
+}
 
 /// Takes the frames of the input one after another, up to the first that is refused: a block that
 /// is the chain's next one is stored, and then its line is printed.
@@ -55,36 +78,14 @@ pub fn append<I: Source, M: Disk + Wire, S: Scratch>(
     ensures scratch_fault { HasCause (S.scratch_faults scratch.old) (S.scratch_faults scratch.new) (IsErrOf result RunStop.ScratchFault) }
     ensures untold { HasCause (M.wire_faults machine.old) (M.wire_faults machine.new) (IsErrOf result RunStop.Untold) }
 {
-    let mut node = node;
-    let mut frames = Frames::new();
-    'turns: loop {
-        let frame = frames.count();
-        match frames.next(alloc, source) {
-            Ok(None) => {
-                node.give_up();
-                return Ok(AppendEnd::Whole);
-            }
-            Ok(Some((bytes, more))) => match take_frame(
-                alloc,
-                machine,
-                scratch,
-                node,
-                bytes.as_bytes(),
-            ) {
-                Ok(Ok(longer)) => {
-                    node = longer;
-                    frames = more;
-                }
-                Ok(Err(refusal)) => return refuse(alloc, machine, frame, Cause::Block(refusal)),
-                Err(stop) => return Err(stop),
-            },
-            Err(error) => {
-                node.give_up();
-                match cause_of(error, RunStop::Unreadable, RunStop::Memory) {
-                    Ok(cause) => return refuse(alloc, machine, frame, cause),
-                    Err(stop) => return Err(stop),
-                }
-            }
+    match take_all(alloc, source, machine, scratch, node) {
+        Ok(InputEnd::Whole(longer)) => {
+            longer.give_up();
+            Ok(AppendEnd::Whole)
         }
+        Ok(InputEnd::Refused { frame, cause }) => refuse(alloc, machine, frame, cause),
+        Err(InputStop::Fault) => Err(RunStop::Unreadable),
+        Err(InputStop::Memory) => Err(RunStop::Memory),
+        Err(InputStop::Taker(stop)) => Err(stop),
     }
 }

@@ -1,6 +1,9 @@
 //! Taking one frame: its line is printed only after the node has taken it.
 
-ghost use Rattle.std.specs.Prelude.{◌≡◌, true, ℕ, List, Some, IsErrOf};
+ghost use Rattle.std.{
+  specs.Prelude.{◌≡◌, true, ℕ, List, Some, IsErrOf, refl},
+  proofs.Common.{◌∙◌},
+};
 ghost use Rattle.lc_base.specs.Faults.{HasCause};
 ghost use Rattle.disk_model.specs.Disk.{Keeps, content_of};
 ghost use Rattle.block_codec.specs.{Reading.{block_in}, declared.block.Block.{Block}};
@@ -10,15 +13,16 @@ ghost use Rattle.recovery.specs.chain_replay.Judging.{judgement_of};
 ghost use Rattle.scratch_model.specs.Scratch.{is_known, Retains};
 ghost use Rattle.recovery.specs.Node.{IsNodeOf, IsReady};
 ghost use Rattle.crash_promises.specs.Laws.{GoesOn};
-ghost use Rattle.cli_append.specs.Steps.{IfLonger, Takes};
+ghost use Rattle.cli_append.specs.Steps.{AppendsFrame, IfLonger, Takes};
 
 use crate::ending::RunStop;
 use crate::lines::appended_line;
 use crate::telling::tell_line;
+use chain_input::{FrameTaker, Turn};
 use disk_model::Disk;
 use lc_base::Memory;
 use lc_io::{Failed, Wire};
-use recovery::{AppendError, Node, Refusal};
+use recovery::{AppendError, Node};
 use scratch_model::Scratch;
 use std::alloc::Global;
 
@@ -36,7 +40,7 @@ pub fn take_frame<M: Disk + Wire, S: Scratch>(
     scratch: &mut S,
     node: Node,
     frame: &[u8],
-) -> Result<Result<Node, Refusal>, RunStop>
+) -> Result<Turn<Node>, RunStop>
     requires ready { IsReady node (M.disk machine.old (M.now machine.old)) (S.state scratch.old) }
     ensures takes { is_known (S.state scratch.old) ≡ true → (blocks : List Block) → IsNodeOf node (M.disk machine.old (M.now machine.old)) blocks
         → Takes M.now M.disk M.told machine.old machine.new blocks (judgement_of compiled_in blocks (block_in frame.now)) result }
@@ -51,7 +55,7 @@ pub fn take_frame<M: Disk + Wire, S: Scratch>(
     match node.append(alloc, machine, scratch, frame) {
         Ok((longer, appended)) => match appended_line(alloc, &appended) {
             Ok(line) => match tell_line(machine, line.as_bytes()) {
-                Ok(()) => Ok(Ok(longer)),
+                Ok(()) => Ok(Turn::Taken(longer)),
                 Err(Failed) => {
                     longer.give_up();
                     Err(RunStop::Untold)
@@ -65,11 +69,46 @@ pub fn take_frame<M: Disk + Wire, S: Scratch>(
         Err((back, error)) => {
             give_up(back);
             match error {
-                AppendError::Refused(refusal) => Ok(Err(refusal)),
+                AppendError::Refused(refusal) => Ok(Turn::Refused(refusal)),
                 AppendError::DiskFault => Err(RunStop::DiskFault),
                 AppendError::ScratchFault => Err(RunStop::ScratchFault),
                 AppendError::Memory => Err(RunStop::Memory),
             }
         }
     }
+}
+
+/// The machine and the scratch device that a node is kept on, lent to take frames.
+#[derive(Drop)]
+pub struct Appender<'a, M: Disk + Wire, S: Scratch> {
+    pub machine: &'a mut M,
+    pub scratch: &'a mut S,
+}
+
+impl<'a, M: Disk + Wire, S: Scratch> FrameTaker for Appender<'a, M, S> {
+    type Chain = Node;
+
+    type Stop = RunStop;
+
+    ghost ready = { λ s node. IsReady node (M.disk s.machine.now (M.now s.machine.now)) (S.state s.scratch.now) };
+
+    // Both fields are still the references that it was made with, so whoever lent them has them
+    // back.
+    ghost same = { λ s t. (t.machine.ghost_name ≡ s.machine.ghost_name) × (t.scratch.ghost_name ≡ s.scratch.ghost_name) };
+
+    ghost turn = { λ s node frame t result. AppendsFrame M.now M.disk M.told M.disk_faults M.wire_faults S.state S.scratch_faults (s.machine.now, s.scratch.now) node frame (t.machine.now, t.scratch.now) result };
+
+    fn take(&mut self, alloc: Global, chain: Node, frame: &[u8]) -> Result<Turn<Node>, RunStop>
+        requires ready { IsReady chain (M.disk self.old.machine.now (M.now self.old.machine.now)) (S.state self.old.scratch.now) }
+        ensures same { (self.new.machine.ghost_name ≡ self.old.machine.ghost_name) × (self.new.scratch.ghost_name ≡ self.old.scratch.ghost_name) }
+        ensures turn { AppendsFrame M.now M.disk M.told M.disk_faults M.wire_faults S.state S.scratch_faults (self.old.machine.now, self.old.scratch.now) chain frame.now (self.new.machine.now, self.new.scratch.now) result }
+    {
+        take_frame(alloc, self.machine, self.scratch, chain, frame)
+    }
+
+    ghost same_refl = { λ s. (refl, refl) };
+
+    ghost same_trans = { λ s t u p q. (q.0 ∙ p.0, q.1 ∙ p.1) };
+
+    ghost turn_ready = { λ s chain frame t longer turn. turn.ready };
 }

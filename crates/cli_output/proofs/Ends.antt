@@ -1,15 +1,22 @@
--- A command that printed an outcome, or has none, ends only with statuses that it may end with.
-use Rattle.std.proofs.Common.{◌≡◌, true, Option, Some, None, Result, Ok, Err, refl, sym, subst}
+-- A command that printed an outcome, or found none, ends only with statuses that it may end with.
+use Rattle.std.proofs.Common.{◌≡◌, true, [], ◌∷◌, Option, Some, None, Result, Ok, Err, refl, sym}
+use Rattle.std.proofs.Common.{subst}
 use Rattle.std.specs.Prelude.{IfOk, IfErr}
 use Rattle.cli_words.specs.declared.words.Command.{Command}
-use Rattle.cli_append.specs.cli_lines.Outcome.{status_of}
+use Rattle.cli_append.specs.cli_lines.Lines.{not_a_log_line, damaged_line}
+use Rattle.cli_append.specs.cli_lines.Outcome.{status_of, outcome_with}
 use Rattle.cli_append.specs.cli_lines.declared.outcome.Outcome.{Outcome}
 use Rattle.cli_append.specs.cli_lines.declared.outcome.Ending.{Ending}
 use Rattle.cli_append.specs.cli_lines.declared.outcome.Ending.TheVariants as endings
-use Rattle.cli_output.specs.Output.{asks_for_block}
+use Rattle.cli_append.specs.recovery.declared.errors.StartError.{StartError}
+use Rattle.cli_append.specs.recovery.declared.errors.StartError.TheVariants as starts
+use Rattle.cli_output.specs.Uses.{reads_input, asks_for_block, uses_disk, uses_scratch}
 use Rattle.cli_output.specs.Running.{MayEnd}
 use Rattle.cli_output.specs.Scanning.{EndsAsked}
-use Rattle.cli_output.specs.Telling.{status_of_result, status_of_stop}
+use Rattle.cli_output.specs.Telling.{status_of_result, status_of_stop, status_of_found}
+use Rattle.cli_output.specs.Telling.{start_outcome}
+use Rattle.cli_output.specs.declared.stop.OutcomeStop.{OutcomeStop}
+use Rattle.cli_output.specs.declared.stop.OutcomeStop.TheVariants as outcomes
 use Rattle.cli_append.specs.declared.ending.RunStop.{RunStop}
 use Rattle.cli_append.specs.declared.ending.RunStop.TheVariants as stops
 
@@ -17,23 +24,61 @@ use Rattle.cli_append.specs.declared.ending.RunStop.TheVariants as stops
 told_ends : (outcome : Outcome) (result : Result Ending RunStop) (command : Option Command)
     → IfOk result (λ ending. ending ≡ outcome.ending) → IfErr result (λ stop. stop ≡ stops.Untold)
     → MayEnd (status_of outcome.ending) command → MayEnd (status_of_result result) command
-told_ends outcome (Ok ending) command same halts ends = subst (λ (e : Ending). MayEnd (status_of e) command) (sym same) ends
-told_ends outcome (Err stop) command same halts ends = subst (λ (s : RunStop). MayEnd (status_of_stop s) command) (sym halts) tt
+told_ends outcome (Ok ending) command same halts ends =
+    subst (λ (e : Ending). MayEnd (status_of e) command) (sym same) ends
+told_ends outcome (Err stop) command same halts ends =
+    subst (λ (s : RunStop). MayEnd (status_of_stop s) command) (sym halts) tt
 
--- the outcome that was made
-pub made_ends : {E : Type 0} (found : Result Outcome E) (outcome : Outcome)
-    (result : Result Ending RunStop) (command : Option Command) → found ≡ Ok outcome → IfOk result
-    (λ ending. ending ≡ outcome.ending) → IfErr result (λ stop. stop ≡ stops.Untold)
-    → IfOk found (λ o. MayEnd (status_of o.ending) command) → MayEnd (status_of_result result) command
-made_ends found outcome result command is same halts ends = told_ends outcome result command same halts (subst (λ r. IfOk r (λ o. MayEnd (status_of o.ending) command)) is ends)
+-- the outcome that was found
+pub found_ends : (found : Result Outcome OutcomeStop) (outcome : Outcome)
+    (result : Result Ending RunStop) (command : Option Command) → found ≡ Ok outcome
+    → IfOk result (λ ending. ending ≡ outcome.ending)
+    → IfErr result (λ stop. stop ≡ stops.Untold) → MayEnd (status_of_found found) command
+    → MayEnd (status_of_result result) command
+found_ends found outcome result command is same halts ends = told_ends outcome result command same
+    halts (subst (λ (f : Result Outcome OutcomeStop). MayEnd (status_of_found f) command) is ends)
 
--- an outcome that is known
-pub known_ends : {E : Type 0} (found : Result Outcome E) (wanted : Outcome)
-    (command : Option Command) → MayEnd (status_of wanted.ending) command → IfOk found
-    (λ outcome. outcome ≡ wanted) → IfOk found
-    (λ outcome. MayEnd (status_of outcome.ending) command)
-known_ends (Ok outcome) wanted command ends is = subst (λ (o : Outcome). MayEnd (status_of o.ending) command) (sym is) ends
-known_ends (Err e) wanted command ends is = tt
+-- ---- what was found
+
+-- a command may end so if it may end as its outcome does, and stops only at what it uses
+pub may_end : (found : Result Outcome OutcomeStop) (command : Option Command)
+    → IfOk found (λ outcome. MayEnd (status_of outcome.ending) command)
+    → (found ≡ Err outcomes.Unreadable → reads_input command ≡ true)
+    → (found ≡ Err outcomes.DiskFault → uses_disk command ≡ true)
+    → (found ≡ Err outcomes.ScratchFault → uses_scratch command ≡ true)
+    → MayEnd (status_of_found found) command
+may_end (Ok outcome) command ends reads disk scratch = ends
+may_end (Err outcomes.Unreadable) command ends reads disk scratch = reads refl
+may_end (Err outcomes.DiskFault) command ends reads disk scratch = disk refl
+may_end (Err outcomes.ScratchFault) command ends reads disk scratch = scratch refl
+may_end (Err outcomes.Memory) command ends reads disk scratch = tt
+
+-- what is found where nothing can be started
+start_ends : (error : StartError) (outcome : Outcome) (command : Option Command)
+    → uses_disk command ≡ true → start_outcome error ≡ Ok outcome
+    → MayEnd (status_of outcome.ending) command
+start_ends starts.NotALog outcome command uses is =
+    let same : outcome_with (not_a_log_line ∷ []) endings.NotALog ≡ outcome = cc is in
+    subst (λ (o : Outcome). MayEnd (status_of o.ending) command) same uses
+start_ends (starts.Damaged at) outcome command uses is =
+    let same : outcome_with (damaged_line at ∷ []) endings.Damaged ≡ outcome = cc is in
+    subst (λ (o : Outcome). MayEnd (status_of o.ending) command) same uses
+start_ends starts.DiskFault outcome command uses is = absurd (cc is)
+start_ends starts.ScratchFault outcome command uses is = absurd (cc is)
+start_ends starts.Memory outcome command uses is = absurd (cc is)
+
+pub no_start_ends : (found : Result Outcome OutcomeStop) (error : StartError)
+    (command : Option Command) → uses_disk command ≡ true
+    → IfOk found (λ outcome. start_outcome error ≡ Ok outcome)
+    → (found ≡ Err outcomes.Unreadable → ⊥)
+    → (found ≡ Err outcomes.ScratchFault → uses_scratch command ≡ true)
+    → MayEnd (status_of_found found) command
+no_start_ends (Ok outcome) error command uses is reads keeps = start_ends error outcome command uses
+    is
+no_start_ends (Err outcomes.Unreadable) error command uses is reads keeps = absurd (reads refl)
+no_start_ends (Err outcomes.DiskFault) error command uses is reads keeps = uses
+no_start_ends (Err outcomes.ScratchFault) error command uses is reads keeps = keeps refl
+no_start_ends (Err outcomes.Memory) error command uses is reads keeps = tt
 
 -- ---- questions about a block
 

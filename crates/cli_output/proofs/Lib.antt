@@ -1,6 +1,7 @@
 pub mod Plain
 pub mod Ends
 pub mod Meets
+pub mod Found
 pub mod Exposed
 pub mod WrongTold
 pub mod LoadTexts

@@ -6,13 +6,10 @@ use Rattle.std.specs.Prelude.{IfOk, is_ok}
 use Rattle.lc_io.specs.Disk.{DiskState, Stays}
 use Rattle.lc_io.specs.Outside.{Tell}
 use Rattle.disk_model.specs.Disk.{IsSettled, Keeps, Rests, content_of}
-use Rattle.disk_model.proofs.Moments.{weaker, stays_on}
+use Rattle.disk_model.proofs.Moments.{weaker}
 use Rattle.block_codec.specs.declared.block.Block.{Block}
-use Rattle.lc_base.specs.declared.host_error.HostError.{HostError}
-use Rattle.lc_base.specs.declared.host_error.HostError.TheVariants as reads
-use Rattle.block_log.specs.Standing.{Standing, Blank, NotALog, Damaged, Holds, NextBlock, blocks_of}
-use Rattle.block_log.specs.Standing.{blocks_in, standing}
-use Rattle.replay_soundness.specs.chain_replay.Chain.{ChainState, StandsFor}
+use Rattle.block_log.specs.Standing.{Standing, Blank, NotALog, Damaged, Holds, blocks_of}
+use Rattle.block_log.specs.Standing.{blocks_in}
 use Rattle.cli_append.specs.recovery.Node.{NodeState, IsNodeStarted, IsChainStored, IsNoStart}
 use Rattle.cli_append.specs.recovery.Node.{next_in_chain}
 use Rattle.cli_append.specs.recovery.declared.errors.StartError.{StartError}
@@ -25,12 +22,10 @@ use Rattle.cli_append.specs.cli_lines.Outcome.{status_of, outcome_with}
 use Rattle.cli_append.specs.cli_lines.declared.outcome.Outcome.{Outcome}
 use Rattle.cli_append.specs.cli_lines.declared.outcome.Ending.{Ending}
 use Rattle.cli_append.specs.cli_lines.declared.outcome.Ending.TheVariants as endings
-use Rattle.cli_append.specs.cli_lines.declared.status.Status.{Status}
 use Rattle.cli_output.specs.Output.{Output, output_of, on_log, IsOnLog}
 use Rattle.cli_output.specs.Running.{came_to_end, leaves, Meets, IsGiven}
-use Rattle.cli_output.specs.Telling.{status_of_stop, status_of_result, stop_of_outcome, Says}
-use Rattle.cli_output.specs.Telling.{StopsSilent, TellsAnswer, TellsResult, TellsStart}
-use Rattle.cli_output.specs.declared.stop.OutcomeStop.{OutcomeStop}
+use Rattle.cli_output.specs.Telling.{status_of_stop, status_of_result, start_outcome, Says}
+use Rattle.cli_output.specs.Telling.{StopsSilent}
 use Rattle.cli_append.specs.declared.ending.RunStop.{RunStop}
 use Rattle.cli_append.specs.declared.ending.RunStop.TheVariants as stops
 
@@ -81,17 +76,6 @@ pub same_may_leave : (content : List ℕ) (what : Change) (c : List ℕ) → wha
 same_may_leave content what c is same = subst (λ (x : Change). MayLeave next_in_chain content x c)
     (sym is) same
 
--- the output of an outcome over the blocks of the log
-abbrev pub asked : (List Block → Outcome) → List ℕ → List Block → Output
-asked over input blocks = output_of (over blocks) input
-
-pub asked_no_change : (over : List Block → Outcome) (input : List ℕ) (stands : Standing)
-    → (on_log (asked over input) input stands).change ≡ NoChange
-asked_no_change over input Blank = refl
-asked_no_change over input NotALog = refl
-asked_no_change over input (Damaged before at_gate) = refl
-asked_no_change over input (Holds stored gate) = refl
-
 -- the output of a command, by the blocks of the log
 pub on_log_blocks : (over : List Block → Output) (input : List ℕ) (stands : Standing)
     (blocks : List Block) → blocks_of stands ≡ Some blocks → on_log over input stands ≡ over blocks
@@ -130,6 +114,7 @@ one_on_log Over one input NotALog a b is_a is_b = is_a ∙ sym is_b
 one_on_log Over one input (Damaged before at) a b is_a is_b = is_a ∙ sym is_b
 one_on_log Over one input (Holds stored gate) a b is_a is_b = one (blocks_in stored) a b is_a is_b
 
+-- an output over the log changes nothing if none over any blocks does
 pub on_log_no_change : (over : List Block → Output)
     → ((blocks : List Block) → (over blocks).change ≡ NoChange)
     → (input : List ℕ) (stands : Standing) → (on_log over input stands).change ≡ NoChange
@@ -138,13 +123,47 @@ on_log_no_change over none input NotALog = refl
 on_log_no_change over none input (Damaged before at) = refl
 on_log_no_change over none input (Holds stored gate) = none (blocks_in stored)
 
+pub is_on_log_no_change : (Over : List Block → Output → Type 0)
+    → ((blocks : List Block) (output : Output) → Over blocks output → output.change ≡ NoChange)
+    → (input : List ℕ) (stands : Standing) (output : Output) → IsOnLog Over input stands output
+    → output.change ≡ NoChange
+is_on_log_no_change Over none input Blank output is = none [] output is
+is_on_log_no_change Over none input NotALog output is = ap (λ (o : Output). o.change) is
+is_on_log_no_change Over none input (Damaged before at) output is = ap (λ (o : Output). o.change) is
+is_on_log_no_change Over none input (Holds stored gate) output is = none (blocks_in stored) output
+    is
+
+-- where there is one output over any blocks, it is that over the log
+pub on_log_is : (over : List Block → Output) (input : List ℕ) (stands : Standing) (output : Output)
+    → IsOnLog (λ blocks o. o ≡ over blocks) input stands output → output ≡ on_log over input stands
+on_log_is over input Blank output is = is
+on_log_is over input NotALog output is = is
+on_log_is over input (Damaged before at) output is = is
+on_log_is over input (Holds stored gate) output is = is
+
+-- where nothing could be started, what is found makes the output over the log
+pub is_on_no_log : (Over : List Block → Output → Type 0) (input : List ℕ) (stands : Standing)
+    (error : StartError) (outcome : Outcome) → IsNoStart stands error
+    → start_outcome error ≡ Ok outcome → IsOnLog Over input stands (output_of outcome input)
+is_on_no_log Over input stands starts.NotALog outcome is found =
+    let same : outcome_with (not_a_log_line ∷ []) endings.NotALog ≡ outcome = cc found in
+    subst (λ (s : Standing). IsOnLog Over input s (output_of outcome input)) (sym is)
+    (ap (λ (o : Outcome). output_of o input) (sym same))
+is_on_no_log Over input stands (starts.Damaged at) outcome (before, is) found =
+    let same : outcome_with (damaged_line at ∷ []) endings.Damaged ≡ outcome = cc found in
+    subst (λ (s : Standing). IsOnLog Over input s (output_of outcome input)) (sym is)
+    (ap (λ (o : Outcome). output_of o input) (sym same))
+is_on_no_log Over input stands starts.DiskFault outcome is found = absurd (cc found)
+is_on_no_log Over input stands starts.ScratchFault outcome is found = absurd (cc found)
+is_on_no_log Over input stands starts.Memory outcome is found = absurd (cc found)
+
 -- an outcome that is right for all blocks with a property is right for these
 pub of_blocks : {E : Type 0} (found : Result Outcome E) (P : List Block → Type 0)
-    (answer : List Block → Outcome)
-    → IfOk found (λ outcome. (blocks : List Block) → P blocks → outcome ≡ answer blocks)
-    → (blocks : List Block) → P blocks → IfOk found (λ outcome. outcome ≡ answer blocks)
-of_blocks (Ok outcome) P answer is blocks p = is blocks p
-of_blocks (Err e) P answer is blocks p = tt
+    (Q : List Block → Outcome → Type 0)
+    → IfOk found (λ o. (blocks : List Block) → P blocks → Q blocks o) → (blocks : List Block)
+    → P blocks → IfOk found (Q blocks)
+of_blocks (Ok outcome) P Q is blocks p = is blocks p
+of_blocks (Err e) P Q is blocks p = tt
 
 -- the chain of a node
 pub chain_of_node : (state : Option DiskState) (node : NodeState) (stands : Standing)
@@ -153,21 +172,6 @@ chain_of_node state node stands started = (started.0, started.1, started.2.kept)
 
 module _ {D : Type 0} (now : D → ℕ) (disk : D → ℕ → Option DiskState)
     (told : D → Option (List Tell)) where
-  -- ---- outcomes that were made, or for which there was no memory
-
-  pub made_ok : {E : Type 0} (next : NextBlock) (old new : D) (found : Result Outcome E)
-      (outcome wanted : Outcome) (result : Result Ending RunStop) → found ≡ Ok outcome
-      → Says next now disk told old new outcome result → IfOk found (λ o. o ≡ wanted)
-      → Says next now disk told old new wanted result
-  made_ok next old new found outcome wanted result is says made = subst
-      (λ (o : Outcome). Says next now disk told old new o result)
-      (subst (λ r. IfOk r (λ o. o ≡ wanted)) is made) says
-
-  pub made_err : (next : NextBlock) (old new : D) (wanted : Outcome) (stop : RunStop)
-      → told new ≡ told old → Says next now disk told old new wanted (Err stop)
-  made_err next old new wanted stop same = record
-      { lines = none_told next now disk told old new (map plain wanted.pieces) same; ending = tt }
-
   -- ---- commands that leave the disk as it is
 
   pub content_stays : (old new : D) (content : List ℕ)
@@ -241,180 +245,3 @@ module _ {D : Type 0} (now : D → ℕ) (disk : D → ℕ → Option DiskState)
         (is_ok result) same says.lines;
     ending = says.ending;
   }
-
-  -- ---- commands that read an input
-
-  pub reading_since : (old mid new : D) (Wanted : Output → Type 0) (some : Output) → Wanted some
-      → some.change ≡ NoChange
-      → (found : Result Outcome HostError) (result : Result Ending RunStop)
-      (left_old left_new : Option (List ℕ)) (input content : List ℕ)
-      → Rests (disk old (now old)) (λ c. c ≡ content) → Stays now disk old new → told mid ≡ told old
-      → left_old ≡ Some input → TellsResult next_in_chain now disk told mid new found result
-      → IfOk found (λ outcome. (rest : List ℕ) × (left_new ≡ Some rest)
-      × Wanted (output_of outcome rest))
-      → (output : Output) × Wanted output
-      × Meets next_in_chain now disk told old new (status_of_result result) left_old left_new
-      content output
-  reading_since old mid new Wanted some wanted none (Ok outcome) result left_old left_new input
-      content rests stays same left_is says (rest, left, is) = (
-        output_of outcome rest,
-        is,
-        said_met old new content outcome result left_old left_new rest rests stays
-            (says_since old mid new outcome result same says)
-            (left ∙ left_read left_old input rest left_is),
-      )
-  reading_since old mid new Wanted some wanted none (Err reads.Fault) result left_old left_new input
-      content rests stays same left_is says is = (
-        some,
-        wanted,
-        silent_met old new content some stops.Unreadable result left_old left_new
-            (quiet_images old new content some.change rests stays
-            (λ c at. same_may_leave content some.change c none at))
-            (record { stop_is = says.stop_is; silent = says.silent ∙ same }),
-      )
-  reading_since old mid new Wanted some wanted none (Err reads.Memory) result left_old left_new
-      input content rests stays same left_is says is = (
-        some,
-        wanted,
-        silent_met old new content some stops.Memory result left_old left_new
-            (quiet_images old new content some.change rests stays
-            (λ c at. same_may_leave content some.change c none at))
-            (record { stop_is = says.stop_is; silent = says.silent ∙ same }),
-      )
-
-  -- the same for one that the scratch device may have stopped
-  pub answer_since : (old mid new : D) (Wanted : Output → Type 0) (some : Output) → Wanted some
-      → some.change ≡ NoChange
-      → (found : Result Outcome OutcomeStop) (result : Result Ending RunStop)
-      (left_old left_new : Option (List ℕ)) (input content : List ℕ)
-      → Rests (disk old (now old)) (λ c. c ≡ content) → Stays now disk old new → told mid ≡ told old
-      → left_old ≡ Some input → TellsAnswer next_in_chain now disk told mid new found result
-      → IfOk found (λ outcome. (rest : List ℕ) × (left_new ≡ Some rest)
-      × Wanted (output_of outcome rest))
-      → (output : Output) × Wanted output
-      × Meets next_in_chain now disk told old new (status_of_result result) left_old left_new
-      content output
-  answer_since old mid new Wanted some wanted none (Ok outcome) result left_old left_new input
-      content rests stays same left_is says (rest, left, is) = (
-        output_of outcome rest,
-        is,
-        said_met old new content outcome result left_old left_new rest rests stays
-            (says_since old mid new outcome result same says)
-            (left ∙ left_read left_old input rest left_is),
-      )
-  answer_since old mid new Wanted some wanted none (Err stop) result left_old left_new input content
-      rests stays same left_is says is = (
-        some,
-        wanted,
-        silent_met old new content some (stop_of_outcome stop) result left_old left_new
-            (quiet_images old new content some.change rests stays
-            (λ c at. same_may_leave content some.change c none at))
-            (record { stop_is = says.stop_is; silent = says.silent ∙ same }),
-      )
-
-  -- ---- disks that hold no chain
-
-  -- nothing was printed before, or it is printed that there is no chain
-  pub start_met : (old mid new : D) (over : List Block → Output) (error : StartError)
-      (result : Result Ending RunStop) (left_old left_new : Option (List ℕ))
-      (input content : List ℕ)
-      → Rests (disk old (now old)) (λ c. c ≡ content) → Stays now disk old new → told mid ≡ told old
-      → left_new ≡ leaves left_old input
-      → ((c : List ℕ) → c ≡ content
-      → MayLeave next_in_chain content
-      (on_log over input (standing next_in_chain content)).change c)
-      → IsNoStart (standing next_in_chain content) error
-      → TellsStart next_in_chain now disk told mid new error result
-      → Meets next_in_chain now disk told old new (status_of_result result) left_old left_new
-      content (on_log over input (standing next_in_chain content))
-  start_met old mid new over starts.NotALog result left_old left_new input content rests stays same
-      left leads is says =
-      subst (λ (stands : Standing). Meets next_in_chain now disk told old new
-      (status_of_result result) left_old left_new content (on_log over input stands)) (sym is)
-      (said_met old new content (outcome_with (not_a_log_line ∷ []) endings.NotALog) result left_old
-      left_new input rests stays
-      (says_since old mid new (outcome_with (not_a_log_line ∷ []) endings.NotALog) result same
-      says) left)
-  start_met old mid new over (starts.Damaged at) result left_old left_new input content rests stays
-      same left leads (before, is) says =
-      subst (λ (stands : Standing). Meets next_in_chain now disk told old new
-      (status_of_result result) left_old left_new content (on_log over input stands)) (sym is)
-      (said_met old new content (outcome_with (damaged_line at ∷ []) endings.Damaged) result
-      left_old left_new input rests stays
-      (says_since old mid new (outcome_with (damaged_line at ∷ []) endings.Damaged) result same
-      says) left)
-  start_met old mid new over starts.DiskFault result left_old left_new input content rests stays
-      same left leads is says =
-      let output = on_log over input (standing next_in_chain content) in
-      silent_met old new content output stops.DiskFault result left_old left_new
-      (quiet_images old new content output.change rests stays leads)
-      (record { stop_is = says.stop_is; silent = says.silent ∙ same })
-  start_met old mid new over starts.ScratchFault result left_old left_new input content rests stays
-      same left leads is says =
-      let output = on_log over input (standing next_in_chain content) in
-      silent_met old new content output stops.ScratchFault result left_old left_new
-      (quiet_images old new content output.change rests stays leads)
-      (record { stop_is = says.stop_is; silent = says.silent ∙ same })
-  start_met old mid new over starts.Memory result left_old left_new input content rests stays same
-      left leads is says =
-      let output = on_log over input (standing next_in_chain content) in
-      silent_met old new content output stops.Memory result left_old left_new
-      (quiet_images old new content output.change rests stays leads)
-      (record { stop_is = says.stop_is; silent = says.silent ∙ same })
-
-  -- ---- questions over the log
-
-  -- an output over the blocks of the log, and a run that does what it says
-  abbrev pub Answered : (List Block → Outcome) → D → D → Status → Option (List ℕ) → List ℕ → List ℕ
-      → Type 0
-  Answered over old new status left input content =
-      (output : Output) × (output ≡ on_log (asked over input) input
-      (standing next_in_chain content))
-      × Meets next_in_chain now disk told old new status left left content output
-
-  pub asked_refused : (old mid new : D) (over : List Block → Outcome) (error : StartError)
-      (result : Result Ending RunStop) (left : Option (List ℕ)) → IsSettled (disk old (now old))
-      → Stays now disk old mid → told mid ≡ told old
-      → ((content : List ℕ) → content_of (disk old (now old)) ≡ Some content
-      → IsNoStart (standing next_in_chain content) error) → Stays now disk mid new
-      → TellsStart next_in_chain now disk told mid new error result
-      → (input content : List ℕ) → IsGiven false left input
-      → IsGiven true (content_of (disk old (now old))) content
-      → Answered over old new (status_of_result result) left input content
-  asked_refused old mid new over error result left settled begins same started stays says input
-      content given_input given = (
-        on_log (asked over input) input (standing next_in_chain content),
-        refl,
-        start_met old mid new (asked over input) error result left left input content
-            (rests_given true (disk old (now old)) content settled given)
-            (stays_on now disk old mid new begins stays) same (left_same left input given_input)
-            (λ c at_c. same_may_leave content _ c
-            (asked_no_change over input (standing next_in_chain content)) at_c)
-            (started content (told_input (content_of (disk old (now old))) content given)) says,
-      )
-
-  pub asked_run : {E : Type 0} (old mid new : D) (over : List Block → Outcome) (chain : ChainState)
-      (found : Result Outcome E) (result : Result Ending RunStop) (left : Option (List ℕ))
-      → IsSettled (disk old (now old)) → Stays now disk old mid → told mid ≡ told old
-      → ((content : List ℕ) → content_of (disk old (now old)) ≡ Some content
-      → IsChainStored (standing next_in_chain content) (Ok chain))
-      → IfOk found (λ outcome. (blocks : List Block) → StandsFor chain blocks
-      → outcome ≡ over blocks)
-      → Stays now disk mid new
-      → ((wanted : Outcome) → IfOk found (λ outcome. outcome ≡ wanted)
-      → Says next_in_chain now disk told mid new wanted result)
-      → (input content : List ℕ) → IsGiven false left input
-      → IsGiven true (content_of (disk old (now old))) content
-      → Answered over old new (status_of_result result) left input content
-  asked_run old mid new over chain found result left settled begins same started answers stays says
-      input content given_input given =
-      let s = started content (told_input (content_of (disk old (now old))) content given) in (
-        asked over input s.0,
-        sym (on_log_blocks (asked over input) input (standing next_in_chain content) s.0 s.1),
-        said_met old new content (over s.0) result left left input
-            (rests_given true (disk old (now old)) content settled given)
-            (stays_on now disk old mid new begins stays)
-            (says_since old mid new (over s.0) result same
-            (says (over s.0) (of_blocks found (StandsFor chain) over answers s.0 s.2)))
-            (left_same left input given_input),
-      )

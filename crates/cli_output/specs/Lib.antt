@@ -3,6 +3,7 @@ pub mod Blocks
 pub mod Proofs
 pub mod LoadLine
 pub mod Output
+pub mod Uses
 pub mod Running
 pub mod Scanning
 pub mod Telling

@@ -1,7 +1,7 @@
 -- What each command must print for an input and the content of the disk, how it ends, what it
 -- leaves of the input, and what it does to the log. There is one such output.
-use Rattle.std.specs.Prelude.{◌≡◌, ℕ, ◌+◌, ◌-◌, ◌<◌, ◌≤◌, ◌==◌, ◌&&◌, ◌||◌, nat_le, nat_lt, Bool}
-use Rattle.std.specs.Prelude.{true, false, if◌then◌else◌, List, [], ◌∷◌, length, drop, map, Option}
+use Rattle.std.specs.Prelude.{◌≡◌, ℕ, ◌+◌, ◌-◌, ◌<◌, ◌≤◌, ◌==◌, ◌&&◌, nat_le, nat_lt, false}
+use Rattle.std.specs.Prelude.{if◌then◌else◌, List, [], ◌∷◌, length, drop, map, Option}
 use Rattle.std.specs.Prelude.{Some, None, Ok, Err, codes}
 use Rattle.std.specs.List.{concat}
 use Rattle.lc_base.specs.History.{scan}
@@ -90,7 +90,8 @@ beyond_outcome head = outcome_with (beyond_line head ∷ []) endings.Beyond
 
 -- The outcome for a block past the last one of these, or for no block.
 abbrev pub beyond_head : List Block → Outcome
-beyond_head blocks = if length blocks == 0 then beyond_outcome None else beyond_outcome (Some (length blocks - 1))
+beyond_head blocks =
+    if length blocks == 0 then beyond_outcome None else beyond_outcome (Some (length blocks - 1))
 
 -- The outcome for a question about a block of a chain: these lines, if the chain has the block.
 abbrev pub outcome_at : ℕ → List Block → List (List ℕ) → Outcome
@@ -100,16 +101,19 @@ outcome_at at blocks lines =
 
 -- The answer over the rows of a chain, if the chain has the block up to which it is asked for.
 abbrev pub answer_outcome : Compiler → Query → List Block → Outcome
-answer_outcome compile query blocks = outcome_at query.at blocks (answer_lines (scan (replay compile blocks).rows query))
+answer_outcome compile query blocks =
+    outcome_at query.at blocks (answer_lines (scan (replay compile blocks).rows query))
 
 -- The outcome of `scan` over blocks, by how the frames end.
 abbrev pub scan_outcome : Compiler → Query → List Block → FoldEnd → Outcome
 scan_outcome compile query blocks Whole = answer_outcome compile query blocks
-scan_outcome compile query blocks (Refused frame cause) = outcome_with (refused_line frame cause ∷ []) endings.Refused
+scan_outcome compile query blocks (Refused frame cause) =
+    outcome_with (refused_line frame cause ∷ []) endings.Refused
 
 -- The output of `scan`: a refused frame decides it, wherever that is in the input.
 abbrev pub scan_output : Compiler → Query → Fold → Output
-scan_output compile query fold = output_of (scan_outcome compile query (added_by_all fold.taken) fold.end) fold.left
+scan_output compile query fold =
+    output_of (scan_outcome compile query (added_by_all fold.taken) fold.end) fold.left
 
 -- ---- inputs that are read whole
 
@@ -149,7 +153,8 @@ FormatsAgain input =
 -- The output of `verify` for an input and a root: the outcome of verifying the proof that the input
 -- is, in hex, or that it is too long.
 pub data IsVerifyOutput (root : List ℕ) (query : Query) (input : List ℕ) : Output → Type 0 where
-  LongProof : MAX_WHOLE_INPUT_BYTES < length input → IsVerifyOutput root query input (long_output input)
+  LongProof : MAX_WHOLE_INPUT_BYTES < length input
+      → IsVerifyOutput root query input (long_output input)
   Verified : FitsInput input → (told : Verification) → IsVerification root query input told →
       IsVerifyOutput root query input (output_of (verification_outcome told) [])
 
@@ -168,7 +173,8 @@ gen_output generation input =
 
 -- The outcome of `load`: the line of the load of these blocks.
 abbrev pub load_outcome : Compiler → Generation → Outcome
-load_outcome compile generation = outcome_with (load_line (load_of compile generation.blocks generation.seed) ∷ []) endings.Done
+load_outcome compile generation =
+    outcome_with (load_line (load_of compile generation.blocks generation.seed) ∷ []) endings.Done
 
 -- The output of `load`, which leaves the input.
 abbrev pub load_output : Compiler → Generation → List ℕ → Output
@@ -232,16 +238,19 @@ ask_output compile kind key at input blocks =
 
 -- The outcome of `root` for a block of a chain: the root at it, if the chain has the block.
 abbrev pub root_outcome : Compiler → ℕ → List Block → Outcome
-root_outcome compile at blocks = outcome_at at blocks (root_line at (root_in compile blocks at) ∷ [])
+root_outcome compile at blocks =
+    outcome_at at blocks (root_line at (root_in compile blocks at) ∷ [])
 
 -- The output of `root` for a block of the log. It leaves the input.
 abbrev pub root_output : Compiler → Option ℕ → List ℕ → List Block → Output
-root_output compile at input blocks = output_of (root_outcome compile (at_or_last at blocks) blocks) input
+root_output compile at input blocks =
+    output_of (root_outcome compile (at_or_last at blocks) blocks) input
 
 -- The proof that is made of the answer to a question over the blocks of a chain, for one who has
 -- the root at a block.
 abbrev pub made_in : Compiler → List Block → Query → ℕ → Proof
-made_in compile blocks query root_at = made_proof (replay compile blocks).rows (map digest_of blocks) root_at query
+made_in compile blocks query root_at =
+    made_proof (replay compile blocks).rows (map digest_of blocks) root_at query
 
 -- The outcome of `prove`: the line of the proof, if the chain has the block of the root and the
 -- question is about no later one.
@@ -253,7 +262,8 @@ prove_outcome compile query root_at blocks =
 
 -- The output of `prove` over the blocks of the log. It leaves the input.
 abbrev pub prove_output : Compiler → Query → ℕ → List ℕ → List Block → Output
-prove_output compile query root_at input blocks = output_of (prove_outcome compile query root_at blocks) input
+prove_output compile query root_at input blocks =
+    output_of (prove_outcome compile query root_at blocks) input
 
 -- The blocks reach the block of the root, and the question is about no later one.
 abbrev pub Reach : List Block → Query → ℕ → Type 0
@@ -265,7 +275,8 @@ Reach blocks query root_at = (root_at < length blocks) × (query.at ≤ root_at)
 -- output is that of `verify`. For a proof that is accepted the first clash is printed, a text of it
 -- and one of the log that differ and have one digest, or that there is none.
 pub data IsExposeOutput (compile : Compiler) (root : List ℕ) (query : Query) (root_at : ℕ) (input : List ℕ) (blocks : List Block) : Output → Type 0 where
-  OutOfReach : (Reach blocks query root_at → ⊥) → IsExposeOutput compile root query root_at input blocks (output_of (beyond_head blocks) input)
+  OutOfReach : (Reach blocks query root_at → ⊥)
+      → IsExposeOutput compile root query root_at input blocks (output_of (beyond_head blocks) input)
   LongExposed : Reach blocks query root_at → MAX_WHOLE_INPUT_BYTES < length input →
       IsExposeOutput compile root query root_at input blocks (long_output input)
   NotAccepted : Reach blocks query root_at → FitsInput input → (told : Verification) → IsVerification root query input told → is_accepted told ≡ false →
@@ -307,63 +318,3 @@ pub record IsOneOutput (Wanted : Output → Type 0) : Type 0 where
   pub output : Output
   pub wanted : Wanted output
   pub only : (other : Output) → Wanted other → other ≡ output
-
--- ---- what a command uses
-
--- Whether a command, or words that are none, takes frames of blocks.
-abbrev pub takes_frames : Option Command → Bool
-takes_frames (Some (Scan query)) = true
-takes_frames (Some Append) = true
-takes_frames other = false
-
--- Whether it reads the input whole, as a text.
-abbrev pub reads_whole : Option Command → Bool
-reads_whole (Some Fmt) = true
-reads_whole (Some Pack) = true
-reads_whole (Some (Verify root query)) = true
-reads_whole (Some (Expose root query root_at)) = true
-reads_whole other = false
-
--- Whether it reads the input: frame by frame, or whole.
-abbrev pub reads_input : Option Command → Bool
-reads_input command = takes_frames command || reads_whole command
-
--- Whether it uses the disk.
-abbrev pub uses_disk : Option Command → Bool
-uses_disk (Some Append) = true
-uses_disk (Some (Root at)) = true
-uses_disk (Some (Ask kind key at)) = true
-uses_disk (Some (Prove query root_at)) = true
-uses_disk (Some (Expose root query root_at)) = true
-uses_disk other = false
-
--- Whether it uses the scratch device: all that use the disk do, except the questions `hist`, `back`
--- and `fwd`, which run the blocks of the log into rows in memory; and so does `load`.
-abbrev pub uses_scratch : Option Command → Bool
-uses_scratch (Some (Load generation)) = true
-uses_scratch (Some (Ask kind key at)) = false
-uses_scratch other = uses_disk other
-
--- Whether it may change the log.
-abbrev pub changes_log : Option Command → Bool
-changes_log (Some Append) = true
-changes_log other = false
-
--- Whether it asks for a block of a chain: of the input, as `scan` does, or of the log, as all that
--- use the disk do, except `append`.
-abbrev pub asks_for_block : Option Command → Bool
-asks_for_block (Some (Scan query)) = true
-asks_for_block (Some Append) = false
-asks_for_block other = uses_disk other
-
--- Whether it checks a proof.
-abbrev pub checks_proof : Option Command → Bool
-checks_proof (Some (Verify root query)) = true
-checks_proof (Some (Expose root query root_at)) = true
-checks_proof other = false
-
--- Whether it prints lines while it makes others.
-abbrev pub tells_as_it_goes : Option Command → Bool
-tells_as_it_goes (Some (Gen generation)) = true
-tells_as_it_goes (Some Append) = true
-tells_as_it_goes other = false

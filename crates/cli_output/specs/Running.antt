@@ -11,8 +11,9 @@ use Rattle.crash_promises.specs.Promises.{Change, NoChange, Appends, Telling, Ma
 use Rattle.cli_words.specs.declared.words.Command.{Command}
 use Rattle.cli_append.specs.cli_lines.declared.status.Status.{Status}
 use Rattle.cli_append.specs.cli_lines.declared.status.Status.TheVariants as statuses
-use Rattle.cli_output.specs.Output.{Output, Wants, next_by, reads_input, uses_disk, uses_scratch}
-use Rattle.cli_output.specs.Output.{takes_frames, asks_for_block, checks_proof, reads_whole}
+use Rattle.cli_output.specs.Output.{Output, Wants, next_by}
+use Rattle.cli_output.specs.Uses.{reads_input, takes_frames, reads_whole, checks_proof}
+use Rattle.cli_output.specs.Uses.{asks_for_block, uses_disk, uses_scratch}
 
 -- Whether a run with this status came to its end: nothing outside failed, and memory did not run
 -- out.
@@ -75,8 +76,10 @@ pub record Meets {D : Type 0} (next : NextBlock) (now : D → ℕ) (disk : D →
   -- number of them, of those that are appended.
   pub images : Keeps now disk old new (MayLeave next content output.change)
   -- If it came to its end and appends no block, it did not touch the disk.
-  pub unwritten : came_to_end status ≡ true → appends_none output.change ≡ true → Stays now disk old new
-  pub ended : came_to_end status ≡ true → HasEnded next (disk new (now new)) status left_old left_new content output
+  pub unwritten : came_to_end status ≡ true → appends_none output.change ≡ true
+      → Stays now disk old new
+  pub ended : came_to_end status ≡ true
+      → HasEnded next (disk new (now new)) status left_old left_new content output
 
 -- The bytes are the known ones; if none are known, they are any bytes, unless they are used.
 abbrev pub IsGiven : Bool → Option (List ℕ) → List ℕ → Type 0

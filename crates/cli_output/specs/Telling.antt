@@ -1,8 +1,7 @@
 -- What was printed for a command, and what its function returned.
 use Rattle.std.specs.Prelude.{◌≡◌, ℕ, List, [], ◌∷◌, map, Option, Result, Ok, Err, IfOk, IsErrOf}
 use Rattle.std.specs.Prelude.{is_ok}
-use Rattle.lc_base.specs.Faults.{HasCause}
-use Rattle.lc_io.specs.Disk.{DiskState, Stays}
+use Rattle.lc_io.specs.Disk.{DiskState}
 use Rattle.lc_io.specs.Outside.{Tell}
 use Rattle.block_log.specs.Standing.{NextBlock}
 use Rattle.lc_base.specs.declared.host_error.HostError.{HostError}
@@ -58,22 +57,20 @@ stop_of_source reads.Memory = outcomes.Memory
 -- Why a command without an outcome stopped.
 abbrev pub stop_of_outcome : OutcomeStop → RunStop
 stop_of_outcome outcomes.Unreadable = stops.Unreadable
+stop_of_outcome outcomes.DiskFault = stops.DiskFault
 stop_of_outcome outcomes.ScratchFault = stops.ScratchFault
 stop_of_outcome outcomes.Memory = stops.Memory
-
--- What a command that reads the log, and prints of it, does to the machine: the disk stays as it
--- is, at each moment; and the disk and the wire are blamed exactly if they failed.
-pub record TellsOfLog {D : Type 0} (now : D → ℕ) (disk : D → ℕ → Option DiskState) (disk_faults wire_faults : D → ℕ)
-    (old new : D) (result : Result Ending RunStop) : Type 0 where
-  pub stays : Stays now disk old new
-  pub disk_fault : HasCause (disk_faults old) (disk_faults new) (IsErrOf result stops.DiskFault)
-  pub untold : HasCause (wire_faults old) (wire_faults new) (IsErrOf result stops.Untold)
 
 -- What only prints is stopped by no source, no disk and no scratch device.
 pub record OnlyTells {T : Type 0} (result : Result T RunStop) : Type 0 where
   pub reads : IsErrOf result stops.Unreadable → ⊥
   pub writes : IsErrOf result stops.DiskFault → ⊥
   pub keeps : IsErrOf result stops.ScratchFault → ⊥
+
+-- What only reads its input is stopped by no disk and no scratch device.
+pub record OnlyReads (found : Result Outcome OutcomeStop) : Type 0 where
+  pub disk : IsErrOf found outcomes.DiskFault → ⊥
+  pub scratch : IsErrOf found outcomes.ScratchFault → ⊥
 
 -- ---- outcomes
 
@@ -88,24 +85,23 @@ pub record StopsSilent {D : Type 0} (told : D → Option (List Tell)) (old new :
   pub stop_is : result ≡ Err stop
   pub silent : told new ≡ told old
 
--- What became of a command that has an outcome, or that stopped before it printed anything.
-abbrev pub TellsResult : {D : Type 0} → NextBlock → (D → ℕ) → (D → ℕ → Option DiskState)
-    → (D → Option (List Tell)) → D → D → Result Outcome HostError → Result Ending RunStop → Type 0
-TellsResult next now disk told old new (Ok outcome) result = Says next now disk told old new outcome result
-TellsResult next now disk told old new (Err reads.Fault) result = StopsSilent told old new stops.Unreadable result
-TellsResult next now disk told old new (Err reads.Memory) result = StopsSilent told old new stops.Memory result
-
--- The same for a command that the scratch device may have stopped too.
-abbrev pub TellsAnswer : {D : Type 0} → NextBlock → (D → ℕ) → (D → ℕ → Option DiskState)
+-- What is printed of what a command found: its outcome, or nothing if it has none.
+abbrev pub Tells : {D : Type 0} → NextBlock → (D → ℕ) → (D → ℕ → Option DiskState)
     → (D → Option (List Tell)) → D → D → Result Outcome OutcomeStop → Result Ending RunStop → Type 0
-TellsAnswer next now disk told old new (Ok outcome) result = Says next now disk told old new outcome result
-TellsAnswer next now disk told old new (Err stop) result = StopsSilent told old new (stop_of_outcome stop) result
+Tells next now disk told old new (Ok outcome) result =
+    Says next now disk told old new outcome result
+Tells next now disk told old new (Err stop) result =
+    StopsSilent told old new (stop_of_outcome stop) result
 
--- What is printed if no node could be started.
-abbrev pub TellsStart : {D : Type 0} → NextBlock → (D → ℕ) → (D → ℕ → Option DiskState)
-    → (D → Option (List Tell)) → D → D → StartError → Result Ending RunStop → Type 0
-TellsStart next now disk told old new starts.NotALog result = Says next now disk told old new (outcome_with (not_a_log_line ∷ []) endings.NotALog) result
-TellsStart next now disk told old new (starts.Damaged at) result = Says next now disk told old new (outcome_with (damaged_line at ∷ []) endings.Damaged) result
-TellsStart next now disk told old new starts.DiskFault result = StopsSilent told old new stops.DiskFault result
-TellsStart next now disk told old new starts.ScratchFault result = StopsSilent told old new stops.ScratchFault result
-TellsStart next now disk told old new starts.Memory result = StopsSilent told old new stops.Memory result
+-- The exit status of what a command found, once that is printed.
+abbrev pub status_of_found : Result Outcome OutcomeStop → Status
+status_of_found (Ok outcome) = status_of outcome.ending
+status_of_found (Err stop) = status_of_stop (stop_of_outcome stop)
+
+-- What is found where nothing can be started.
+abbrev pub start_outcome : StartError → Result Outcome OutcomeStop
+start_outcome starts.NotALog = Ok (outcome_with (not_a_log_line ∷ []) endings.NotALog)
+start_outcome (starts.Damaged at) = Ok (outcome_with (damaged_line at ∷ []) endings.Damaged)
+start_outcome starts.DiskFault = Err outcomes.DiskFault
+start_outcome starts.ScratchFault = Err outcomes.ScratchFault
+start_outcome starts.Memory = Err outcomes.Memory

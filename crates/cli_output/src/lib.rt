@@ -11,6 +11,6 @@ mod telling;
 pub use asking::beyond;
 pub use cli_append::{Ending, Node, Outcome, RunStop, answer_lines, hex_after, read_whole};
 pub use loads::load_line;
-pub use starting::tell_start;
+pub use starting::start_outcome;
 pub use stop::{OutcomeStop, status_of_stop};
-pub use telling::{tell_answer, tell_made, tell_outcome, tell_result, tell_usage};
+pub use telling::{tell, tell_usage};

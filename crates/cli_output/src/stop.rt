@@ -24,6 +24,8 @@ pub fn status_of_stop(stop: RunStop) -> Status
 pub enum OutcomeStop {
     /// Reading the input failed.
     Unreadable,
+    /// A call of the disk failed.
+    DiskFault,
     /// A call of the scratch device failed.
     ScratchFault,
     /// Memory ran out.
@@ -37,6 +39,7 @@ impl OutcomeStop {
     {
         match self {
             OutcomeStop::Unreadable => RunStop::Unreadable,
+            OutcomeStop::DiskFault => RunStop::DiskFault,
             OutcomeStop::ScratchFault => RunStop::ScratchFault,
             OutcomeStop::Memory => RunStop::Memory,
         }

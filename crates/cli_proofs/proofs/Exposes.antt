@@ -2,27 +2,19 @@
 use Rattle.std.proofs.Common.{◌≡◌, ◌∙◌, ℕ, ◌+◌, ◌-◌, ◌<◌, ◌≤◌, Bool, true, false, cond, List, []}
 use Rattle.std.proofs.Common.{◌∷◌, length, map, drop, Option, Some, None, Result, Ok, Err, is_ok}
 use Rattle.std.proofs.Common.{refl, sym, ap, subst, arith}
-use Rattle.std.specs.Prelude.{◌&&◌, nat_lt, nat_le, codes, IfOk, IfErr, IfSome}
+use Rattle.std.specs.Prelude.{◌&&◌, nat_lt, nat_le, codes, IfOk, IfSome}
 use Rattle.std.proofs.lemmas.Bool.{ne_eqb, eq-eqb, and_parts, and_from, lt-ltb, le-leb, ltb-true}
 use Rattle.std.proofs.lemmas.Bool.{leb-true}
 use Rattle.hex.specs.Hex.{decode_of}
 use Rattle.hex.specs.declared.error.FromHexError.{FromHexError}
 use Rattle.lc_base.specs.declared.answer.Query.{Query}
 use Rattle.lc_base.specs.declared.digest.Digest.{Digest}
-use Rattle.lc_io.specs.Disk.{DiskState, Stays}
-use Rattle.lc_io.specs.Outside.{Tell}
-use Rattle.disk_model.specs.Disk.{IsSettled, content_of}
-use Rattle.disk_model.proofs.Moments.{stays_on}
-use Rattle.block_codec.specs.Reading.{block_in}
 use Rattle.block_codec.specs.Placement.{digest_of}
 use Rattle.block_codec.specs.declared.block.Block.{Block}
-use Rattle.block_log.specs.Standing.{standing}
 use Rattle.chain_exec.specs.Compiled.{compiled_in}
 use Rattle.chain_exec.specs.Effect.{History}
 use Rattle.cli_output.specs.chain_replay.Chain.{ChainState, StandsFor}
 use Rattle.answer_proof.specs.merkle_dag.Ledger.{Ledger, IsHead}
-use Rattle.cli_output.specs.recovery.Node.{IsChainStored, IsNoStart, next_in_chain}
-use Rattle.cli_output.specs.recovery.declared.errors.StartError.{StartError}
 use Rattle.proof_codec.specs.declared.proof.Proof.{Proof}
 use Rattle.proof_views.specs.Viewing.{Spells}
 use Rattle.proof_checks.specs.Checks.{verdict}
@@ -50,21 +42,14 @@ use Rattle.cli_output.specs.cli_lines.declared.outcome.Outcome.{Outcome}
 use Rattle.cli_output.specs.cli_lines.declared.outcome.Ending.{Ending}
 use Rattle.cli_output.specs.cli_lines.declared.outcome.Ending.TheVariants as endings
 use Rattle.cli_output.specs.replay_soundness.Soundness.{replayed_texts}
-use Rattle.cli_output.specs.Output.{Output, output_of, beyond_outcome, beyond_head, on_log, Reach}
+use Rattle.cli_output.specs.Output.{output_of, beyond_outcome, beyond_head, Reach}
 use Rattle.cli_output.specs.Output.{IsExposeOutput, OutOfReach, LongExposed, NotAccepted, Exposed}
 use Rattle.cli_output.specs.Proofs.{hex_cause, verification_outcome, IsAcceptedHex, clash_line}
-use Rattle.cli_output.specs.Running.{MayEnd, IsRun, found_no_log}
+use Rattle.cli_output.specs.Running.{MayEnd, found_no_log}
 use Rattle.cli_output.specs.Scanning.{EndsAsked, EndsExposed, IsExposeOutcome}
-use Rattle.cli_output.specs.Telling.{status_of_result, status_of_stop, stop_of_outcome, TellsAnswer}
-use Rattle.cli_output.specs.Telling.{TellsStart}
+use Rattle.cli_output.specs.Telling.{status_of_found}
 use Rattle.cli_output.specs.declared.stop.OutcomeStop.{OutcomeStop}
 use Rattle.cli_output.specs.declared.stop.OutcomeStop.TheVariants as outcomes
-use Rattle.cli_output.specs.cli_append.declared.ending.RunStop.{RunStop}
-use Rattle.cli_output.specs.cli_append.declared.ending.RunStop.TheVariants as stops
-use Rattle.cli_output.proofs.Exposed.{some_expose, expose_no_change}
-use Rattle.cli_output.proofs.Meets.{told_input, rests_given, left_read, same_may_leave}
-use Rattle.cli_output.proofs.Meets.{answer_since, start_met, is_on_log_blocks, some_on_log}
-use Rattle.cli_output.proofs.Meets.{on_log_no_change}
 use Rattle.cli_proofs.specs.Exposing.{ledger_kept, reaches, IsHeld, Refused, Held, found_outcome}
 use Rattle.cli_proofs.specs.Exposing.{texts_kept}
 
@@ -306,16 +291,7 @@ pub outcome_may : {E : Type 0} (root : Digest) (query : Query) (root_at : ℕ)
 outcome_may root query root_at (Ok outcome) ends = end_may root query root_at outcome.ending ends
 outcome_may root query root_at (Err e) ends = tt
 
-pub stop_may : {T : Type 0} (root : Digest) (query : Query) (root_at : ℕ)
-    (found : Result T OutcomeStop)
-    → IfErr found (λ stop. MayEnd (status_of_stop (stop_of_outcome stop))
-    (Some (Expose root query root_at)))
-stop_may root query root_at (Ok outcome) = tt
-stop_may root query root_at (Err outcomes.Unreadable) = refl
-stop_may root query root_at (Err outcomes.ScratchFault) = refl
-stop_may root query root_at (Err outcomes.Memory) = tt
-
--- ---- whole runs
+-- ---- no end says that there is no log
 
 end_has_log : (ending : Ending) → EndsExposed ending → found_no_log (status_of ending) ≡ false
 end_has_log endings.Done ends = refl
@@ -326,96 +302,18 @@ end_has_log endings.Refused ends = absurd ends
 end_has_log endings.NotALog ends = absurd ends
 end_has_log endings.Damaged ends = absurd ends
 
-stop_has_log : (stop : RunStop) → found_no_log (status_of_stop stop) ≡ false
-stop_has_log stops.Unreadable = refl
-stop_has_log stops.Untold = refl
-stop_has_log stops.DiskFault = refl
-stop_has_log stops.ScratchFault = refl
-stop_has_log stops.Memory = refl
+-- what was found is no sign of a missing log
+pub found_has_log : (found : Result Outcome OutcomeStop)
+    → IfOk found (λ outcome. EndsExposed outcome.ending)
+    → found_no_log (status_of_found found) ≡ false
+found_has_log (Ok outcome) ends = end_has_log outcome.ending ends
+found_has_log (Err outcomes.Unreadable) ends = refl
+found_has_log (Err outcomes.DiskFault) ends = refl
+found_has_log (Err outcomes.ScratchFault) ends = refl
+found_has_log (Err outcomes.Memory) ends = refl
 
-of_blocks : {E : Type 0} (found : Result Outcome E) (P : List Block → Type 0)
-    (Q : List Block → Outcome → Type 0)
-    → IfOk found (λ o. (blocks : List Block) → P blocks → Q blocks o) → (blocks : List Block)
-    → P blocks → IfOk found (Q blocks)
-of_blocks (Ok outcome) P Q is blocks p = is blocks p
-of_blocks (Err e) P Q is blocks p = tt
-
-module _ {D : Type 0} (now : D → ℕ) (disk : D → ℕ → Option DiskState)
-    (told : D → Option (List Tell)) where
-  -- a node was found
-  pub has_log : (old new : D) (found : Result Outcome OutcomeStop) (result : Result Ending RunStop)
-      → TellsAnswer next_in_chain now disk told old new found result
-      → IfOk found (λ o. EndsExposed o.ending) → found_no_log (status_of_result result) ≡ false
-  has_log old new found (Err stop) says ends = stop_has_log stop
-  has_log old new (Ok outcome) (Ok ending) says ends = ap
-      (λ (e : Ending). found_no_log (status_of e)) says.ending ∙ end_has_log outcome.ending ends
-  has_log old new (Err halt) (Ok ending) says ends = absurd (cc says.stop_is)
-
-  pub expose_run : (old mid new : D) (root : Digest) (query : Query) (root_at : ℕ)
-      (chain : ChainState) (found : Result Outcome OutcomeStop) (result : Result Ending RunStop)
-      (left_old left_new : Option (List ℕ)) (held : Bool) → IsSettled (disk old (now old))
-      → Stays now disk old mid → told mid ≡ told old
-      → (held ≡ true → (content : List ℕ) → content_of (disk old (now old)) ≡ Some content
-      → IsChainStored (standing next_in_chain content) (Ok chain))
-      → (held ≡ true → IfSome left_old
-      (λ input. IfOk found (λ outcome. (blocks : List Block) → StandsFor chain blocks
-      → IsExposeOutcome root.0 query root_at blocks outcome left_new input)))
-      → Stays now disk mid new → TellsAnswer next_in_chain now disk told mid new found result
-      → IsRun now disk told old new (status_of_result result) left_old left_new held block_in
-      compiled_in (Some (Expose root query root_at))
-  expose_run old mid new root query root_at chain found result left_old left_new held settled begins
-      same started answers stays says heard input content given_input given =
-      let left_is = told_input left_old input given_input in
-      let s = started (heard refl) content
-      (told_input (content_of (disk old (now old))) content given) in
-      let answer = subst (λ (l : Option (List ℕ)). IfSome l
-      (λ i. IfOk found (λ outcome. (blocks : List Block) → StandsFor chain blocks
-      → IsExposeOutcome root.0 query root_at blocks outcome left_new i))) left_is
-      (answers (heard refl)) in
-      let here = of_blocks found (StandsFor chain)
-      (λ blocks outcome. IsExposeOutcome root.0 query root_at blocks outcome left_new input)
-      answer s.0 s.2 in
-      let some = some_expose root.0 query input compiled_in root_at s.0 in
-      let met = answer_since now disk told old mid new
-      (IsExposeOutput compiled_in root.0 query root_at input s.0) some.0 some.1
-      (expose_no_change compiled_in root.0 query root_at input s.0 some.0 some.1) found result
-      left_old left_new input content
-      (rests_given true (disk old (now old)) content settled given)
-      (stays_on now disk old mid new begins stays) same left_is says here in (
-        met.0,
-        is_on_log_blocks (IsExposeOutput compiled_in root.0 query root_at input) input
-            (standing next_in_chain content) s.0 met.0 s.1 met.1,
-        met.2,
-      )
-
-  -- or no node was found
-  pub expose_refused : (old mid new : D) (root : Digest) (query : Query) (root_at : ℕ)
-      (error : StartError) (result : Result Ending RunStop) (left : Option (List ℕ)) (held : Bool)
-      → IsSettled (disk old (now old)) → Stays now disk old mid → told mid ≡ told old
-      → (held ≡ true → (content : List ℕ) → content_of (disk old (now old)) ≡ Some content
-      → IsNoStart (standing next_in_chain content) error) → Stays now disk mid new
-      → TellsStart next_in_chain now disk told mid new error result
-      → IsRun now disk told old new (status_of_result result) left left held block_in compiled_in
-      (Some (Expose root query root_at))
-  expose_refused old mid new root query root_at error result left held settled begins same started
-      stays says heard input content given_input given =
-      let left_is = told_input left input given_input in
-      let over : List Block → Output = λ blocks.
-      (some_expose root.0 query input compiled_in root_at blocks).0 in
-      let none = on_log_no_change over
-      (λ blocks. expose_no_change compiled_in root.0 query root_at input blocks (over blocks)
-      (some_expose root.0 query input compiled_in root_at blocks).1) input
-      (standing next_in_chain content) in (
-        on_log over input (standing next_in_chain content),
-        some_on_log (IsExposeOutput compiled_in root.0 query root_at input) over
-            (λ blocks. (some_expose root.0 query input compiled_in root_at blocks).1) input
-            (standing next_in_chain content),
-        start_met now disk told old mid new over error result left left input content
-            (rests_given true (disk old (now old)) content settled given)
-            (stays_on now disk old mid new begins stays) same
-            (left_is ∙ left_read left input input left_is)
-            (λ c at. same_may_leave content
-            (on_log over input (standing next_in_chain content)).change c none at)
-            (started (heard refl) content
-            (told_input (content_of (disk old (now old))) content given)) says,
-      )
+pub asked_has_log : (found : Result Outcome OutcomeStop)
+    → IfOk found (λ outcome. EndsAsked outcome.ending)
+    → found_no_log (status_of_found found) ≡ false
+asked_has_log (Ok outcome) ends = end_has_log outcome.ending (asked_ends outcome.ending ends)
+asked_has_log (Err stop) ends = found_has_log (Err stop) tt

@@ -1,7 +1,6 @@
 -- The output of `prove` over the blocks of a log, by cases.
 use Rattle.std.proofs.Common.{◌≡◌, ℕ, ◌<◌, ◌≤◌, Bool, true, cond, leb, ltb, ◌&&◌, List, [], ◌∷◌}
-use Rattle.std.proofs.Common.{length, map, Some, Result, Ok, Err, refl, sym, ap, ◌∙◌, subst, arith}
-use Rattle.std.specs.Prelude.{IfErr}
+use Rattle.std.proofs.Common.{length, map, Ok, sym, ap, ◌∙◌, subst, arith}
 use Rattle.std.specs.List.{concat}
 use Rattle.std.proofs.lemmas.Bool.Decides.{nat_tests}
 use Rattle.hex.specs.Hex.{encode_lower}
@@ -23,12 +22,7 @@ use Rattle.cli_output.specs.cli_lines.Lines.{line}
 use Rattle.cli_output.specs.cli_lines.Outcome.{outcome_with}
 use Rattle.cli_output.specs.cli_lines.declared.outcome.Outcome.{Outcome}
 use Rattle.cli_output.specs.cli_lines.declared.outcome.Ending.TheVariants as endings
-use Rattle.cli_words.specs.declared.words.Command.TheVariants.{Prove}
 use Rattle.cli_output.specs.Output.{beyond_head, prove_outcome, made_in}
-use Rattle.cli_output.specs.Running.{MayEnd}
-use Rattle.cli_output.specs.Telling.{status_of_stop, stop_of_outcome}
-use Rattle.cli_output.specs.declared.stop.OutcomeStop.{OutcomeStop}
-use Rattle.cli_output.specs.declared.stop.OutcomeStop.TheVariants as outcomes
 use Rattle.cli_output.specs.Proofs.{proof_line}
 
 -- the outcome, by whether the chain has the block and the question is about no later one
@@ -80,14 +74,3 @@ proved_told ledger kept query root_at proof bytes told outcome same is spelled l
     (λ (l : Ledger). IsProved l query root_at (Ok proof)) same is in
     proved kept blocks query root_at bytes told outcome stands of_kept.0 (spelled ∙ of_kept.1)
     line_is made
-
--- ---- how it ends
-
-pub prove_stops : {T : Type 0} (query : Query) (root_at : ℕ) (found : Result T OutcomeStop)
-    → (found ≡ Err outcomes.Unreadable → ⊥)
-    → IfErr found (λ stop. MayEnd (status_of_stop (stop_of_outcome stop))
-    (Some (Prove query root_at)))
-prove_stops query root_at (Ok told) reads = tt
-prove_stops query root_at (Err outcomes.Unreadable) reads = absurd (reads refl)
-prove_stops query root_at (Err outcomes.ScratchFault) reads = refl
-prove_stops query root_at (Err outcomes.Memory) reads = tt

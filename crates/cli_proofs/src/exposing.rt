@@ -1,29 +1,23 @@
-//! The command `expose`: the first clash of an accepted proof with the blocks of the log. The input
-//! is not read unless the log reaches the block of the root.
+//! The command `expose`: the first clash of an accepted proof with the blocks of a chain. The input
+//! is not read unless the chain reaches the block of the root.
 
 ghost use Rattle.std.specs.Prelude.{◌≡◌, ◌<◌, ◌≤◌, ◌++◌, ℕ, List, Option, true, length, codes, string_bytes, Some, IfOk, IfSome, IsErrOf};
 ghost use Rattle.lc_base.specs.Faults.{HasCause};
-ghost use Rattle.disk_model.specs.Disk.{IsSettled};
 ghost use Rattle.hex.specs.Hex.{encode_lower};
 ghost use Rattle.merkle_tree.specs.Tree.{audit_length};
-ghost use Rattle.block_codec.specs.{Reading.{block_in}, declared.block.Block.{Block as Blocks}};
-ghost use Rattle.chain_exec.specs.Compiled.{compiled_in};
+ghost use Rattle.block_codec.specs.declared.block.Block.{Block as Blocks};
 ghost use Rattle.cli_output.specs.chain_replay.Chain.{ChainState, StandsFor};
 ghost use Rattle.scratch_model.specs.Scratch.{is_known};
 ghost use Rattle.answer_proof.specs.merkle_dag.Lineage.{AgreesWith, ledger_in};
-ghost use Rattle.cli_output.specs.recovery.Node.{lineage_in};
 ghost use Rattle.proof_checks.specs.ProofTexts.{proof_texts};
 ghost use Rattle.answer_exposing.specs.{
   Exposing.{IsFound},
   declared.exposing.Clash.{Clash as Clashes},
 };
 ghost use Rattle.cli_output.specs.cli_lines.declared.whole.TheConstants.{MAX_WHOLE_INPUT_BYTES};
-ghost use Rattle.cli_words.specs.declared.words.Command.TheVariants.{Expose};
 ghost use Rattle.cli_output.specs.{
   Proofs.{clash_line},
-  Running.{IsRun, IsSilent, MayEnd, found_no_log},
   Scanning.{EndsExposed, IsExposeOutcome},
-  Telling.{TellsOfLog, status_of_result},
 };
 ghost use Rattle.cli_proofs.specs.Exposing.{IsHeld, found_outcome, ledger_kept, reaches, texts_kept};
 
@@ -31,16 +25,11 @@ use crate::lines::line_of;
 use crate::verifying::{bad_hex, rejected_outcome};
 use answer_exposing::{Clash, expose as expose_proof};
 use answer_proof::{Lineage, QueryError};
-use cli_output::{
-    Ending, Node, Outcome, OutcomeStop, RunStop, beyond, hex_after, read_whole, tell_answer,
-    tell_start,
-};
-use disk_model::Disk;
+use cli_output::{Ending, Outcome, OutcomeStop, beyond, hex_after, read_whole};
 use lc_base::{Bytes, Digest, Memory, Query};
-use lc_io::{Source, Wire};
+use lc_io::Source;
 use proof_commands::{accept, decode_hex};
 use proof_views::ProofView;
-use resources::Resources;
 use scratch_model::Scratch;
 use std::alloc::{AllocError, Global};
 
@@ -86,13 +75,14 @@ fn accepted_outcome<S: Scratch>(
     proof: &ProofView,
 ) -> Result<Outcome, OutcomeStop>
     requires within { root_at < length lineage.old.digests }
-    requires long { length proof.now.audit ≡ audit_length proof.now.leaf_index proof.now.leaf_count }
+    requires long { length proof.now.leaf_proof.audit ≡ audit_length proof.now.leaf_proof.leaf_index proof.now.leaf_proof.leaf_count }
     requires agrees { AgreesWith lineage.old (S.state scratch.old) }
     // Holds if it is known which bytes the scratch device holds.
     ensures outcome { is_known (S.state scratch.old) ≡ true → IfOk result (λ outcome. (found : Option Clashes) × IsFound (proof_texts proof.now) (texts_kept (ledger_in lineage.old) root_at) found × (outcome ≡ found_outcome found)) }
     // Holds in either case.
     ensures ends { IfOk result (λ outcome. EndsExposed outcome.ending) }
     ensures reads { IsErrOf result OutcomeStop.Unreadable → ⊥ }
+    ensures disk { IsErrOf result OutcomeStop.DiskFault → ⊥ }
     ensures cause { HasCause (S.scratch_faults scratch.old) (S.scratch_faults scratch.new) (IsErrOf result OutcomeStop.ScratchFault) }
 {
     match expose_proof(alloc, lineage, scratch, root_at, proof) {
@@ -118,6 +108,7 @@ fn input_outcome<S: Scratch>(
     ensures outcome { is_known (S.state scratch.old) ≡ true → IfOk result (IsHeld (ledger_in lineage.old) root.now.0 query.now root_at input.now) }
     ensures ends { IfOk result (λ outcome. EndsExposed outcome.ending) }
     ensures reads { IsErrOf result OutcomeStop.Unreadable → ⊥ }
+    ensures disk { IsErrOf result OutcomeStop.DiskFault → ⊥ }
     ensures cause { HasCause (S.scratch_faults scratch.old) (S.scratch_faults scratch.new) (IsErrOf result OutcomeStop.ScratchFault) }
 {
     match decode_hex(alloc, input)? {
@@ -139,9 +130,11 @@ fn reaches(lineage: &Lineage, query: &Query, root_at: u32) -> bool
     }
 }
 
-/// The outcome for the input, against the lineage of a chain. Nothing of the input is read if the
-/// lineage doesn't have the block of the root, or if the question is about a later one.
-fn held_outcome<I: Source, S: Scratch>(
+/// The outcome of `expose` over the lineage of a chain: the first clash of the proof that the input
+/// is, in hex, under this root, with the blocks up to `root_at`; or why the proof is not accepted.
+/// Nothing of the input is read if the lineage doesn't have the block of the root, or if the
+/// question is about a later one.
+pub fn expose<I: Source, S: Scratch>(
     alloc: Global,
     root: &Digest,
     query: &Query,
@@ -154,6 +147,7 @@ fn held_outcome<I: Source, S: Scratch>(
     ensures outcome { is_known (S.state scratch.old) ≡ true → (kept : ChainState) → ledger_in lineage.old ≡ ledger_kept kept
         → IfSome (I.left source.old) (λ input. IfOk result (λ outcome. (blocks : List Blocks) → StandsFor kept blocks → IsExposeOutcome root.now.0 query.now root_at blocks outcome (I.left source.new) input)) }
     ensures ends { IfOk result (λ outcome. EndsExposed outcome.ending) }
+    ensures disk { IsErrOf result OutcomeStop.DiskFault → ⊥ }
     ensures unreadable { HasCause (I.source_faults source.old) (I.source_faults source.new) (IsErrOf result OutcomeStop.Unreadable) }
     ensures scratch_fault { HasCause (S.scratch_faults scratch.old) (S.scratch_faults scratch.new) (IsErrOf result OutcomeStop.ScratchFault) }
 {
@@ -166,57 +160,5 @@ fn held_outcome<I: Source, S: Scratch>(
             let input = bytes.as_bytes();
             input_outcome(alloc, root, query, root_at, lineage, scratch, input)
         }
-    }
-}
-
-/// The same for the blocks of a node, which is discarded.
-fn last_held<I: Source, S: Scratch>(
-    alloc: Global,
-    root: &Digest,
-    query: &Query,
-    root_at: u32,
-    node: Node,
-    source: &mut I,
-    scratch: &mut S,
-) -> Result<Outcome, OutcomeStop>
-    requires agrees { AgreesWith (lineage_in node) (S.state scratch.old) }
-    ensures outcome { is_known (S.state scratch.old) ≡ true → IfSome (I.left source.old) (λ input. IfOk result (λ outcome. (blocks : List Blocks) → StandsFor node.chain blocks → IsExposeOutcome root.now.0 query.now root_at blocks outcome (I.left source.new) input)) }
-    ensures ends { IfOk result (λ outcome. EndsExposed outcome.ending) }
-    ensures unreadable { HasCause (I.source_faults source.old) (I.source_faults source.new) (IsErrOf result OutcomeStop.Unreadable) }
-    ensures scratch_fault { HasCause (S.scratch_faults scratch.old) (S.scratch_faults scratch.new) (IsErrOf result OutcomeStop.ScratchFault) }
-{
-    let mut lineage = node.into_lineage();
-    let outcome = held_outcome(alloc, root, query, root_at, &mut lineage, source, scratch);
-    lineage.give_up();
-    outcome
-}
-
-/// Prints the first clash of the proof that the input is, in hex, under this root, with the blocks
-/// of the log up to `root_at`; or why the proof is not accepted.
-pub fn expose<I: Source, M: Disk + Wire, S: Scratch>(
-    resources: Resources,
-    root: &Digest,
-    query: &Query,
-    root_at: u32,
-    source: &mut I,
-    machine: &mut M,
-    scratch: &mut S,
-) -> Result<Ending, RunStop>
-    requires settled { IsSettled (M.disk machine.old (M.now machine.old)) }
-    ensures run { IsRun M.now M.disk M.told machine.old machine.new (status_of_result result) (I.left source.old) (I.left source.new) (is_known (S.state scratch.old)) block_in compiled_in (Some (Expose root.now query.now root_at)) }
-    ensures ends { MayEnd (status_of_result result) (Some (Expose root.now query.now root_at)) }
-    ensures silent { IsSilent (status_of_result result) (M.told machine.old) (M.told machine.new) }
-    ensures no_log { found_no_log (status_of_result result) ≡ true → source.new ≡ source.old }
-    ensures machine { TellsOfLog M.now M.disk M.disk_faults M.wire_faults machine.old machine.new result }
-    ensures unreadable { HasCause (I.source_faults source.old) (I.source_faults source.new) (IsErrOf result RunStop.Unreadable) }
-    ensures scratch_fault { HasCause (S.scratch_faults scratch.old) (S.scratch_faults scratch.new) (IsErrOf result RunStop.ScratchFault) }
-{
-    let alloc = resources.alloc;
-    match Node::start(resources, machine, scratch) {
-        Ok(node) => {
-            let outcome = last_held(alloc, root, query, root_at, node, source, scratch);
-            tell_answer(machine, outcome)
-        }
-        Err(error) => tell_start(alloc, machine, error),
     }
 }

@@ -1,4 +1,4 @@
-//! The commands about proofs: none of them changes the log.
+//! The commands about proofs: what each of them prints, over the input and the lineage of a chain.
 #![tactic(auto)]
 
 mod exposing;
@@ -6,6 +6,7 @@ mod lines;
 mod proving;
 mod verifying;
 
+pub use answer_proof::Lineage;
 pub use exposing::expose;
 pub use proving::prove;
 pub use verifying::verify;

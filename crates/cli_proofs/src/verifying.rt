@@ -9,10 +9,11 @@ ghost use Rattle.cli_output.specs.{
   Proofs.{hex_cause, verification_outcome},
   Running.{MayEnd},
   Scanning.{IsVerifyOutcome},
+  Telling.{OnlyReads},
 };
 
-use cli_output::{Ending, Outcome, answer_lines, read_whole};
-use lc_base::{Digest, HostError, Memory, Query};
+use cli_output::{Ending, Outcome, OutcomeStop, answer_lines, read_whole};
+use lc_base::{Digest, Memory, Query};
 use lc_io::Source;
 use proof_checks::Reject;
 use proof_commands::{HexFault, Verification, rejected_line, verify_hex};
@@ -59,10 +60,11 @@ pub fn verify<I: Source>(
     root: &Digest,
     query: &Query,
     source: &mut I,
-) -> Result<Outcome, HostError>
+) -> Result<Outcome, OutcomeStop>
     ensures outcome { IfSome (I.left source.old) (λ input. IfOk result (λ outcome. IsVerifyOutcome root.now.0 query.now outcome (I.left source.new) input)) }
     ensures ends { IfOk result (λ outcome. MayEnd (status_of outcome.ending) (Some (Verify root.now query.now))) }
-    ensures cause { HasCause (I.source_faults source.old) (I.source_faults source.new) (IsErrOf result HostError.Fault) }
+    ensures only { OnlyReads result }
+    ensures cause { HasCause (I.source_faults source.old) (I.source_faults source.new) (IsErrOf result OutcomeStop.Unreadable) }
 {
     match read_whole(alloc, source)? {
         None => Ok(Outcome::bad_input(alloc, "long")?),

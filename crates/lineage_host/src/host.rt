@@ -12,19 +12,18 @@ ghost use Rattle.lc_base.specs.{
   History.{latest, scan},
   Parts.{question, version_in, count_in, item_in},
 };
-ghost use Rattle.scratch_model.specs.Scratch.{is_known};
 ghost use Rattle.merkle_dag.specs.{
-  Lineage.{AgreesWith, StaysSame},
+  Lineage.{AgreesWith},
   Staying.{stays_refl, stays_trans},
 };
 ghost use Rattle.lineage_host.specs.{
   Bodiless.{IsButForValue},
-  Telling.{known_rows, stays_known},
+  Telling.{rows_read, stays_known, IsSameReading},
 };
 
 use crate::found::Found;
 use crate::parts::{fwd_at, fwd_count};
-use lc_base::{Dep, Host, HostError, Key, Kind, Memory, Version};
+use lc_base::{Dep, Host, HostError, Key, Kind, Version};
 use merkle_dag::Lineage;
 use row_bodies::{dep_count_of_bytes, dep_of_bytes, value_of_bytes};
 use scratch_model::Scratch;
@@ -38,40 +37,31 @@ pub struct Reading<'a, S: Scratch> {
 }
 
 impl<'a, S: Scratch> Host for Reading<'a, S> {
-    ghost rows = { λ s. known_rows (is_known (S.state s.scratch.now)) s.lineage.now.rows };
+    ghost rows = { rows_read S.state };
 
     ghost host_faults = { λ s. S.scratch_faults s.scratch.now };
 
     ghost ready = { λ s. AgreesWith s.lineage.now (S.state s.scratch.now) };
 
-    // Both fields are still the references that it was made with, so whoever lent them has them
-    // back.
-    ghost same = { λ s t. (t.lineage.ghost_name ≡ s.lineage.ghost_name)
-        × (t.scratch.ghost_name ≡ s.scratch.ghost_name)
-        × StaysSame s.lineage.now (S.state s.scratch.now) t.lineage.now (S.state t.scratch.now) };
+    ghost same = { IsSameReading S.state };
 
     /// If it is not known which bytes the device holds, nothing is promised of the value.
     fn hist(&mut self, alloc: Global, key: &Key, at: u32) -> Result<Option<Version>, HostError>
         requires { AgreesWith self.old.lineage.now (S.state self.old.scratch.now) }
-        ensures same { (self.new.lineage.ghost_name ≡ self.old.lineage.ghost_name)
-            × (self.new.scratch.ghost_name ≡ self.old.scratch.ghost_name)
-            × StaysSame self.old.lineage.now (S.state self.old.scratch.now) self.new.lineage.now
-            (S.state self.new.scratch.now) }
-        ensures answer { IfSome (known_rows (is_known (S.state self.old.scratch.now))
-            self.old.lineage.now.rows) (λ rows. IfOk result
+        ensures same { IsSameReading S.state self.old self.new }
+        ensures answer { IfSome (rows_read S.state self.old) (λ rows. IfOk result
             (λ version. version ≡ version_in (scan rows (question Kind.Hist key.now at)))) }
         ensures always { IfOk result (IsButForValue (version_in
             (scan self.old.lineage.now.rows (question Kind.Hist key.now at)))) }
         ensures cause { HasCause (S.scratch_faults self.old.scratch.now)
             (S.scratch_faults self.new.scratch.now) (IsErrOf result HostError.Fault) }
     {
-        match Found::latest(self.lineage, self.scratch, key, at) {
-            Ok(None) => Ok(None),
-            Ok(Some(Found { block, tx, body })) => match value_of_bytes(alloc, &body) {
-                Ok(value) => Ok(Some(Version { block, tx, value })),
-                Err(Memory) => Err(HostError::Memory),
-            },
-            Err(error) => Err(error),
+        match Found::latest(self.lineage, self.scratch, key, at)? {
+            None => Ok(None),
+            Some(Found { block, tx, body }) => {
+                let value = value_of_bytes(alloc, &body)?;
+                Ok(Some(Version { block, tx, value }))
+            }
         }
     }
 
@@ -79,22 +69,17 @@ impl<'a, S: Scratch> Host for Reading<'a, S> {
     /// count.
     fn back_count(&mut self, key: &Key, at: u32) -> Result<Option<u32>, HostError>
         requires { AgreesWith self.old.lineage.now (S.state self.old.scratch.now) }
-        ensures same { (self.new.lineage.ghost_name ≡ self.old.lineage.ghost_name)
-            × (self.new.scratch.ghost_name ≡ self.old.scratch.ghost_name)
-            × StaysSame self.old.lineage.now (S.state self.old.scratch.now) self.new.lineage.now
-            (S.state self.new.scratch.now) }
-        ensures answer { IfSome (known_rows (is_known (S.state self.old.scratch.now))
-            self.old.lineage.now.rows) (λ rows. IfOk result
+        ensures same { IsSameReading S.state self.old self.new }
+        ensures answer { IfSome (rows_read S.state self.old) (λ rows. IfOk result
             (λ count. count ≡ count_in (scan rows (question Kind.Back key.now at)))) }
         ensures always { IfOk result (λ count. is_some count ≡ is_some (count_in
             (scan self.old.lineage.now.rows (question Kind.Back key.now at)))) }
         ensures cause { HasCause (S.scratch_faults self.old.scratch.now)
             (S.scratch_faults self.new.scratch.now) (IsErrOf result HostError.Fault) }
     {
-        match Found::latest(self.lineage, self.scratch, key, at) {
-            Ok(None) => Ok(None),
-            Ok(Some(found)) => Ok(Some(dep_count_of_bytes(&found.body))),
-            Err(error) => Err(error),
+        match Found::latest(self.lineage, self.scratch, key, at)? {
+            None => Ok(None),
+            Some(found) => Ok(Some(dep_count_of_bytes(&found.body))),
         }
     }
 
@@ -102,33 +87,24 @@ impl<'a, S: Scratch> Host for Reading<'a, S> {
     /// without a version.
     fn back_at(&mut self, key: &Key, at: u32, index: u32) -> Result<Option<Dep>, HostError>
         requires { AgreesWith self.old.lineage.now (S.state self.old.scratch.now) }
-        ensures same { (self.new.lineage.ghost_name ≡ self.old.lineage.ghost_name)
-            × (self.new.scratch.ghost_name ≡ self.old.scratch.ghost_name)
-            × StaysSame self.old.lineage.now (S.state self.old.scratch.now) self.new.lineage.now
-            (S.state self.new.scratch.now) }
-        ensures answer { IfSome (known_rows (is_known (S.state self.old.scratch.now))
-            self.old.lineage.now.rows) (λ rows. IfOk result
+        ensures same { IsSameReading S.state self.old self.new }
+        ensures answer { IfSome (rows_read S.state self.old) (λ rows. IfOk result
             (λ dep. dep ≡ item_in index (scan rows (question Kind.Back key.now at)))) }
         ensures always { latest self.old.lineage.now.rows key.now at ≡ None
             → IfOk result (λ dep. dep ≡ None) }
         ensures cause { HasCause (S.scratch_faults self.old.scratch.now)
             (S.scratch_faults self.new.scratch.now) (IsErrOf result HostError.Fault) }
     {
-        match Found::latest(self.lineage, self.scratch, key, at) {
-            Ok(None) => Ok(None),
-            Ok(Some(found)) => Ok(dep_of_bytes(&found.body, index)),
-            Err(error) => Err(error),
+        match Found::latest(self.lineage, self.scratch, key, at)? {
+            None => Ok(None),
+            Some(found) => Ok(dep_of_bytes(&found.body, index)),
         }
     }
 
     fn fwd_count(&mut self, key: &Key, at: u32) -> Result<Option<u64>, HostError>
         requires { AgreesWith self.old.lineage.now (S.state self.old.scratch.now) }
-        ensures same { (self.new.lineage.ghost_name ≡ self.old.lineage.ghost_name)
-            × (self.new.scratch.ghost_name ≡ self.old.scratch.ghost_name)
-            × StaysSame self.old.lineage.now (S.state self.old.scratch.now) self.new.lineage.now
-            (S.state self.new.scratch.now) }
-        ensures answer { IfSome (known_rows (is_known (S.state self.old.scratch.now))
-            self.old.lineage.now.rows) (λ rows. IfOk result
+        ensures same { IsSameReading S.state self.old self.new }
+        ensures answer { IfSome (rows_read S.state self.old) (λ rows. IfOk result
             (λ count. count ≡ count_in (scan rows (question Kind.Fwd key.now at)))) }
         ensures bound { IfOk result (λ count. IfSome count (λ n. n < 2 ^ 63)) }
         ensures always { result ≡ Ok (count_in
@@ -141,12 +117,8 @@ impl<'a, S: Scratch> Host for Reading<'a, S> {
 
     fn fwd_at(&mut self, key: &Key, at: u32, index: u64) -> Result<Option<Dep>, HostError>
         requires { AgreesWith self.old.lineage.now (S.state self.old.scratch.now) }
-        ensures same { (self.new.lineage.ghost_name ≡ self.old.lineage.ghost_name)
-            × (self.new.scratch.ghost_name ≡ self.old.scratch.ghost_name)
-            × StaysSame self.old.lineage.now (S.state self.old.scratch.now) self.new.lineage.now
-            (S.state self.new.scratch.now) }
-        ensures answer { IfSome (known_rows (is_known (S.state self.old.scratch.now))
-            self.old.lineage.now.rows) (λ rows. IfOk result
+        ensures same { IsSameReading S.state self.old self.new }
+        ensures answer { IfSome (rows_read S.state self.old) (λ rows. IfOk result
             (λ dep. dep ≡ item_in index (scan rows (question Kind.Fwd key.now at)))) }
         ensures always { result ≡ Ok (item_in index
             (scan self.old.lineage.now.rows (question Kind.Fwd key.now at))) }

@@ -60,9 +60,13 @@ newest_of_leaf tree (Some index) = (slice_index_or tree index (sentinel [])).new
 abbrev pub newest_in : List Leaf → List ℕ → Digest
 newest_in tree key = newest_of_leaf tree (index_of tree key)
 
+-- A dependency with the digest of a header.
+abbrev pub dep_with_digest : Dep → Digest → BodyDep
+dep_with_digest dep digest = record { key = dep.key; block = dep.block; digest = digest }
+
 -- A dependency with the digest in the leaf of its key.
 abbrev pub dep_in : List Leaf → Dep → BodyDep
-dep_in tree dep = record { key = dep.key; block = dep.block; digest = newest_in tree dep.key }
+dep_in tree dep = dep_with_digest dep (newest_in tree dep.key)
 
 -- The body of a row, with the digests of its dependencies from the leaves of their keys.
 abbrev pub body_in : List Leaf → Row → Body

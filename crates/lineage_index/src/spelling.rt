@@ -24,12 +24,12 @@ ghost use Rattle.lineage_index.specs.{
   },
   Heads.{AreLists},
   Leaves.{leaf_indexes},
-  NewEntries.{newest_in, dep_in, bytes_in},
+  NewEntries.{dep_with_digest, dep_in, bytes_in},
 };
 
 use crate::heads::index_of;
 use forward_links::OpenLists;
-use lc_base::{Bytes, Dep, Digest, Duplicate, Key, Memory, Row, TextList};
+use lc_base::{Bytes, Dep, Digest, Duplicate, Memory, Row, TextList};
 use prov_entry::{Body, BodyDep, BodyDepList, write_body};
 use state_tree::Tree;
 use std::alloc::Global;
@@ -41,38 +41,19 @@ struct User {
     row: u32,
 }
 
-/// Adds a use to the open list of a key, and returns the digest of the header of its newest row,
-/// which is in the leaf of the key; zeros if the key has no leaf. The index of the leaf is appended
-/// to those that are touched.
-fn add_use(
-    tree: &Tree,
-    lists: &mut OpenLists,
-    touched: &mut Vec<u32>,
-    key: &Key,
-    user: &User,
-) -> Result<Digest, Memory>
-    requires { (keys : List (List ℕ)) × (list : List ℕ → List Use)
-        × AreLists tree.now lists.old keys list }
-    ensures digest { IfOk result (λ digest. digest ≡ newest_in tree.now key.now) }
-    ensures lists { (keys : List (List ℕ)) (list : List ℕ → List Use)
-        → AreLists tree.now lists.old keys list
-        → OnOk result (AreLists tree.now lists.new keys (changed_at list key.now (list key.now ++
-        record { version = user.now.version; row = user.now.row } ∷ []))) }
-    ensures touched { OnOk result (touched.new.items ≡ touched.old.items ++
-        leaf_indexes tree.now (key.now ∷ [])) }
+fn with_digest(dep: &Dep, digest: Digest) -> BodyDep
+    ensures { result ≡ dep_with_digest dep.now digest }
 {
-    match index_of(tree, key) {
-        None => Ok(Digest([0; 32])),
-        Some(index) => {
-            lists.add(index, &user.version, user.row)?;
-            touched.push(index + 1)?;
-            Ok(tree.leaf(index + 1).newest)
-        }
+    BodyDep {
+        key: dep.key,
+        block: dep.block,
+        digest,
     }
 }
 
-/// Adds a use to the list of a dependency, and returns the dependency with the digest of its
-/// header.
+/// Adds a use to the open list of a dependency's key, and returns the dependency with the digest of
+/// the header of the key's newest row, which is in the leaf of the key; zeros if the key has no
+/// leaf. The index of the leaf is appended to those that are touched.
 fn name_dep(
     tree: &Tree,
     lists: &mut OpenLists,
@@ -90,12 +71,14 @@ fn name_dep(
     ensures touched { OnOk result (touched.new.items ≡ touched.old.items ++
         leaf_indexes tree.now (dep.now.key ∷ [])) }
 {
-    let digest = add_use(tree, lists, touched, &dep.key, user)?;
-    Ok(BodyDep {
-        key: dep.key,
-        block: dep.block,
-        digest,
-    })
+    match index_of(tree, &dep.key) {
+        None => Ok(with_digest(dep, Digest([0; 32]))),
+        Some(index) => {
+            lists.add(index, &user.version, user.row)?;
+            touched.push(index + 1)?;
+            Ok(with_digest(dep, tree.leaf(index + 1).newest))
+        }
+    }
 }
 
 /// Adds a use to the list of each dependency, and returns the dependencies with the digests of

@@ -1,10 +1,9 @@
 //! Why a question about a lineage has no answer.
 
 ghost use Rattle.std.specs.Prelude.{◌≡◌};
-ghost use Rattle.merkle_dag.specs.declared.query_error.QueryError.TheVariants as errors;
 ghost use Rattle.merkle_dag.specs.Questions.{query_error};
 
-use lc_base::{HostError, Memory};
+use lc_base::HostError;
 
 /// Why a question about a lineage has no answer.
 #[derive(Clone, Copy, Debug, PartialEq, Eq)]
@@ -19,14 +18,6 @@ pub enum QueryError {
     Fault,
     /// Out of memory.
     Memory,
-}
-
-impl From<Memory> for QueryError {
-    ghost from_gives = { λ _ error. error ≡ errors.Memory };
-
-    fn from(_memory: Memory) -> QueryError {
-        QueryError::Memory
-    }
 }
 
 impl From<HostError> for QueryError {

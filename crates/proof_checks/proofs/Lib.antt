@@ -2,7 +2,9 @@ pub mod Tests
 pub mod Parts
 pub mod Rows
 pub mod Uses
+pub mod Told
 pub mod Rooted
+pub mod LeafTold
 pub mod Covering
 pub mod Onward
 pub mod Walked
@@ -10,6 +12,7 @@ pub mod Answered
 pub mod Beginning
 pub mod Sound
 pub mod MadeWalks
+pub mod MadeLeaf
 pub mod MadeAccepted
 pub mod MadeLawful
 pub mod MadeOnce

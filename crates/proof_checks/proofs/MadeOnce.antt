@@ -1,9 +1,12 @@
 -- Only one proof is made for a query, since only one leaf covers its key.
-use Rattle.std.proofs.Common.{◌≡◌, ◌∙◌, ◌⊎◌, ℕ, zero, suc, ◌<◌, true, false, List, [], ◌∷◌, length, map, slice_get, Option, Some, None, refl, sym, ap, subst, arith, inl, inr}
+use Rattle.std.proofs.Common.{◌≡◌, ◌∙◌, ◌⊎◌, ℕ, zero, suc, ◌<◌, true, false, List, [], ◌∷◌, length}
+use Rattle.std.proofs.Common.{map, slice_get, Option, Some, None, refl, sym, ap, subst, arith, inl}
+use Rattle.std.proofs.Common.{inr}
 use Rattle.std.specs.List.{All, filter_map}
 use Rattle.std.specs.Option.{option_map}
 use Rattle.std.proofs.lemmas.Bool.{cases_Bool, cases_lt, and_parts}
-use Rattle.std.proofs.lemmas.Option.{none-some, same_Some, slice_get-map, slice_get_within, get_or_from_slice_get}
+use Rattle.std.proofs.lemmas.Option.{none-some, same_Some, slice_get-map, slice_get_within}
+use Rattle.std.proofs.lemmas.Option.{get_or_from_slice_get}
 use Rattle.std.proofs.lemmas.List.Elements.{recursion_from_All}
 use Rattle.lc_base.specs.declared.digest.Digest.{Digest}
 use Rattle.lc_base.specs.declared.row.Row.{Row}
@@ -26,11 +29,12 @@ use Rattle.root_laws.proofs.NextKeys.{next_is, order, below_trans, not_itself}
 use Rattle.root_laws.specs.TypedLedger.{IsTypedRow}
 use Rattle.root_laws.proofs.Parts.{lawful_up_to, rows_up_to}
 use Rattle.root_laws.proofs.Spellings.{IsOneOf, leaf_cases, one_lawful, is_among_keys}
+use Rattle.proof_codec.specs.declared.proof.LeafProof.{LeafProof}
 use Rattle.proof_codec.specs.declared.proof.Proof.{Proof}
 use Rattle.proof_codec.specs.entry_views.Reading.{digest_of_bytes}
 use Rattle.proof_checks.specs.Checks.{is_of_key, is_before_next, covers}
 use Rattle.proof_checks.specs.LedgerTexts.{texts_of_leaves}
-use Rattle.proof_checks.specs.Making.{header_in, uses_if, IsMade, MadeProofsAreUnique}
+use Rattle.proof_checks.specs.Making.{header_in, uses_if, IsMadeLeaf, IsMade, MadeProofsAreUnique}
 use Rattle.proof_checks.proofs.Covering.{of_one}
 
 -- ---- the leaf that covers a key
@@ -64,7 +68,8 @@ up_to_key key leaf (inr between) = inr between.0
 none_after : (keys : List (List ℕ)) (key low other : List ℕ) (next : Option (List ℕ)) → IsNext keys low next
     → (low ≡ key) ⊎ ((is_below low key ≡ true) × (is_before_next key next ≡ true))
     → is_below low other ≡ true → is_among keys other ≡ true → IsUpTo key other → ⊥
-none_after keys key low other next is (inl own) below among (inl same) = not_both (is_below low other) below (ap (is_below low) (same ∙ sym own) ∙ not_itself low)
+none_after keys key low other next is (inl own) below among (inl same) =
+    not_both (is_below low other) below (ap (is_below low) (same ∙ sym own) ∙ not_itself low)
 none_after keys key low other next is (inl own) below among (inr less) = not_both (is_below low low) (below_trans low other low below (ap (is_below other) own ∙ less)) (not_itself low)
 none_after keys key low other None is (inr between) below among up =
     not_both (is_below low other) below (of_one (λ (k : List ℕ). is_below low k ≡ false) keys other (recursion_from_All (λ (k : List ℕ). is_below low k ≡ false) keys is) among)
@@ -74,7 +79,8 @@ none_after keys key low other (Some next) is (inr between) below among up =
     go up not_less
   where
     go : IsUpTo key other → is_below other next ≡ false → ⊥
-    go (inl same) f = not_both (is_below other next) (ap (λ (k : List ℕ). is_below k next) same ∙ between.1) f
+    go (inl same) f =
+        not_both (is_below other next) (ap (λ (k : List ℕ). is_below k next) same ∙ between.1) f
     go (inr less) f = not_both (is_below other next) (below_trans other key next less between.1) f
 
 not_below_none : (key : List ℕ) → is_below key [] ≡ true → ⊥
@@ -82,20 +88,27 @@ not_below_none [] e = cc
 not_below_none (byte ∷ key) e = cc
 
 module _ (rows : List Row) (lawful : IsLawful rows) (are : All IsTypedRow rows) where
-  next_of : (leaf : Leaf) → IsOneOf rows lawful are leaf → IsNext (keys_of rows) (key_or_empty leaf.key) leaf.next
+  next_of : (leaf : Leaf) → IsOneOf rows lawful are leaf
+      → IsNext (keys_of rows) (key_or_empty leaf.key) leaf.next
   next_of leaf (inl first) = subst (λ (l : Leaf). IsNext (keys_of rows) (key_or_empty l.key) l.next) (sym first) (next_is (keys_of rows) [])
   next_of leaf (inr of_key) = subst (λ (l : Leaf). IsNext (keys_of rows) (key_or_empty l.key) l.next) (sym of_key.2) (next_is (keys_of rows) of_key.0)
 
   -- A leaf's key that is above another key is among the keys.
-  greater_among : (low : List ℕ) (leaf : Leaf) → IsOneOf rows lawful are leaf → is_below low (key_or_empty leaf.key) ≡ true → is_among (keys_of rows) (key_or_empty leaf.key) ≡ true
+  greater_among : (low : List ℕ) (leaf : Leaf) → IsOneOf rows lawful are leaf
+      → is_below low (key_or_empty leaf.key) ≡ true
+      → is_among (keys_of rows) (key_or_empty leaf.key) ≡ true
   greater_among low leaf (inl first) below = absurd (not_below_none low (ap (λ (l : Leaf). is_below low (key_or_empty l.key)) (sym first) ∙ below))
   greater_among low leaf (inr of_key) below = ap (λ (l : Leaf). is_among (keys_of rows) (key_or_empty l.key)) of_key.2 ∙ is_among_keys rows lawful are of_key.0 of_key.1
 
-  not_greater : (key : List ℕ) (leaf other : Leaf) → IsOneOf rows lawful are leaf → IsOneOf rows lawful are other → CoversBy key leaf → CoversBy key other → is_below (key_or_empty leaf.key) (key_or_empty other.key) ≡ true → ⊥
+  not_greater : (key : List ℕ) (leaf other : Leaf) → IsOneOf rows lawful are leaf
+      → IsOneOf rows lawful are other → CoversBy key leaf → CoversBy key other
+      → is_below (key_or_empty leaf.key) (key_or_empty other.key) ≡ true → ⊥
   not_greater key leaf other one two by by' below =
       none_after (keys_of rows) key (key_or_empty leaf.key) (key_or_empty other.key) leaf.next (next_of leaf one) by below (greater_among (key_or_empty leaf.key) other two below) (up_to_key key other by')
 
-  same_own_key : (key : List ℕ) (leaf other : Leaf) → IsOneOf rows lawful are leaf → IsOneOf rows lawful are other → CoversBy key leaf → CoversBy key other → key_or_empty leaf.key ≡ key_or_empty other.key
+  same_own_key : (key : List ℕ) (leaf other : Leaf) → IsOneOf rows lawful are leaf
+      → IsOneOf rows lawful are other → CoversBy key leaf → CoversBy key other
+      → key_or_empty leaf.key ≡ key_or_empty other.key
   same_own_key key leaf other one two by by' = elim (order (key_or_empty leaf.key) (key_or_empty other.key)) [
     | inl below ↦ absurd (not_greater key leaf other one two by by' below)
     | inr (inl same) ↦ same
@@ -104,20 +117,26 @@ module _ (rows : List Row) (lawful : IsLawful rows) (are : All IsTypedRow rows) 
 
   -- ---- the index of the leaf
 
-  one_at : (index : ℕ) (leaf : Leaf) → slice_get (leaves rows) index ≡ Some leaf → IsOneOf rows lawful are leaf
+  one_at : (index : ℕ) (leaf : Leaf) → slice_get (leaves rows) index ≡ Some leaf
+      → IsOneOf rows lawful are leaf
   one_at index leaf e = leaf_cases rows lawful are leaf (index, slice_get_within (leaves rows) index leaf e, get_or_from_slice_get (leaves rows) index leaf leaf e)
 
-  key_at : (index : ℕ) (leaf : Leaf) → slice_get (leaves rows) (suc index) ≡ Some leaf → slice_get (keys_of rows) index ≡ Some (key_or_empty leaf.key)
+  key_at : (index : ℕ) (leaf : Leaf) → slice_get (leaves rows) (suc index) ≡ Some leaf
+      → slice_get (keys_of rows) index ≡ Some (key_or_empty leaf.key)
   key_at index leaf e = go (slice_get (keys_of rows) index) refl (sym (slice_get-map (leaf_of rows) (keys_of rows) index) ∙ e)
     where
-      go : (o : Option (List ℕ)) → slice_get (keys_of rows) index ≡ o → option_map (leaf_of rows) o ≡ Some leaf → slice_get (keys_of rows) index ≡ Some (key_or_empty leaf.key)
+      go : (o : Option (List ℕ)) → slice_get (keys_of rows) index ≡ o
+          → option_map (leaf_of rows) o ≡ Some leaf
+          → slice_get (keys_of rows) index ≡ Some (key_or_empty leaf.key)
       go None found mapped = absurd (none-some leaf mapped)
       go (Some key) found mapped = found ∙ ap (λ (l : Leaf). Some (key_or_empty l.key)) (same_Some (leaf_of rows key) leaf mapped)
 
-  has_key : (index : ℕ) (leaf : Leaf) → slice_get (leaves rows) (suc index) ≡ Some leaf → 0 < length (key_or_empty leaf.key)
+  has_key : (index : ℕ) (leaf : Leaf) → slice_get (leaves rows) (suc index) ≡ Some leaf
+      → 0 < length (key_or_empty leaf.key)
   has_key index leaf e = go (slice_get (keys_of rows) index) (sym (slice_get-map (leaf_of rows) (keys_of rows) index) ∙ e) (one_lawful rows lawful are leaf (one_at (suc index) leaf e))
     where
-      go : (o : Option (List ℕ)) → option_map (leaf_of rows) o ≡ Some leaf → IsLeaf leaf → 0 < length (key_or_empty leaf.key)
+      go : (o : Option (List ℕ)) → option_map (leaf_of rows) o ≡ Some leaf → IsLeaf leaf
+          → 0 < length (key_or_empty leaf.key)
       go None mapped is = absurd (none-some leaf mapped)
       go (Some key) mapped is =
           let same = same_Some (leaf_of rows key) leaf mapped in
@@ -125,14 +144,18 @@ module _ (rows : List Row) (lawful : IsLawful rows) (are : All IsTypedRow rows) 
           subst (λ (l : Leaf). 0 < length (key_or_empty l.key)) same (omega (arith, own.some))
 
   first_key : (leaf : Leaf) → slice_get (leaves rows) 0 ≡ Some leaf → key_or_empty leaf.key ≡ []
-  first_key leaf e = ap (λ (l : Leaf). key_or_empty l.key) (sym (same_Some (sentinel (keys_of rows)) leaf e))
+  first_key leaf e =
+      ap (λ (l : Leaf). key_or_empty l.key) (sym (same_Some (sentinel (keys_of rows)) leaf e))
 
-  not_twice : (i j : ℕ) (key : List ℕ) → i < j → slice_get (keys_of rows) i ≡ Some key → slice_get (keys_of rows) j ≡ Some key → ⊥
+  not_twice : (i j : ℕ) (key : List ℕ) → i < j → slice_get (keys_of rows) i ≡ Some key
+      → slice_get (keys_of rows) j ≡ Some key → ⊥
   not_twice i j key less first second =
       keys_distinct rows i j [] less (slice_get_within (keys_of rows) j key second)
       (get_or_from_slice_get (keys_of rows) i key [] first ∙ sym (get_or_from_slice_get (keys_of rows) j key [] second))
 
-  same_index : (i j : ℕ) (leaf other : Leaf) → slice_get (leaves rows) i ≡ Some leaf → slice_get (leaves rows) j ≡ Some other → key_or_empty leaf.key ≡ key_or_empty other.key → i ≡ j
+  same_index : (i j : ℕ) (leaf other : Leaf) → slice_get (leaves rows) i ≡ Some leaf
+      → slice_get (leaves rows) j ≡ Some other → key_or_empty leaf.key ≡ key_or_empty other.key
+      → i ≡ j
   same_index zero zero leaf other e f same = refl
   same_index zero (suc j) leaf other e f same =
       let some = has_key j other f in
@@ -153,48 +176,57 @@ module _ (rows : List Row) (lawful : IsLawful rows) (are : All IsTypedRow rows) 
 
 -- ---- the proof
 
-abbrev build : Query → ℕ → Digest → ℕ → ℕ → Leaf → List Digest → List Header → Option Body → Option (List Dep) → Proof
-build query root_at block_digest leaf_count leaf_index leaf audit headers body uses = record {
-  query = query;
-  root_at = root_at;
-  block_digest = block_digest;
-  leaf_count = leaf_count;
-  leaf_index = leaf_index;
-  leaf = leaf;
-  audit = audit;
-  headers = headers;
-  body = body;
-  uses = uses;
-}
+abbrev build_leaf : ℕ → Digest → ℕ → ℕ → Leaf → List Digest → LeafProof
+build_leaf root_at block_digest leaf_count leaf_index leaf audit = record { root_at = root_at; block_digest = block_digest; leaf_count = leaf_count; leaf_index = leaf_index; leaf = leaf; audit = audit }
 
-same_parts : (q q' : Query) (r r' : ℕ) (d d' : Digest) (c c' i i' : ℕ) (l l' : Leaf) (a a' : List Digest) (h h' : List Header) (b b' : Option Body) (u u' : Option (List Dep))
-    → q ≡ q' → r ≡ r' → d ≡ d' → c ≡ c' → i ≡ i' → l ≡ l' → a ≡ a' → h ≡ h' → b ≡ b' → u ≡ u' → build q r d c i l a h b u ≡ build q' r' d' c' i' l' a' h' b' u'
-same_parts q q' r r' d d' c c' i i' l l' a a' h h' b b' u u' q_is r_is d_is c_is i_is l_is a_is h_is b_is u_is = rw (q_is, r_is, d_is, c_is, i_is, l_is, a_is, h_is, b_is, u_is) refl
+same_leaf_parts : (r r' : ℕ) (d d' : Digest) (c c' i i' : ℕ) (l l' : Leaf) (a a' : List Digest)
+    → r ≡ r' → d ≡ d' → c ≡ c' → i ≡ i' → l ≡ l' → a ≡ a'
+    → build_leaf r d c i l a ≡ build_leaf r' d' c' i' l' a'
+same_leaf_parts r r' d d' c c' i i' l l' a a' r_is d_is c_is i_is l_is a_is =
+    rw (r_is, d_is, c_is, i_is, l_is, a_is) refl
+
+abbrev build : Query → LeafProof → List Header → Option Body → Option (List Dep) → Proof
+build query leaf_proof headers body uses = record { query = query; leaf_proof = leaf_proof; headers = headers; body = body; uses = uses }
+
+same_parts : (q q' : Query) (l l' : LeafProof) (h h' : List Header) (b b' : Option Body) (u u' : Option (List Dep))
+    → q ≡ q' → l ≡ l' → h ≡ h' → b ≡ b' → u ≡ u' → build q l h b u ≡ build q' l' h' b' u'
+same_parts q q' l l' h h' b b' u u' q_is l_is h_is b_is u_is =
+    rw (q_is, l_is, h_is, b_is, u_is) refl
 
 digests_back : (digests : List Digest) → map digest_of_bytes (bytes_of digests) ≡ digests
 digests_back [] = refl
 digests_back (digest ∷ digests) = ap (λ (rest : List Digest). digest ∷ rest) (digests_back digests)
 
-same_digests : (digests others : List Digest) → bytes_of digests ≡ bytes_of others → digests ≡ others
-same_digests digests others e = sym (digests_back digests) ∙ ap (map digest_of_bytes) e ∙ digests_back others
+same_digests : (digests others : List Digest) → bytes_of digests ≡ bytes_of others
+    → digests ≡ others
+same_digests digests others e =
+    sym (digests_back digests) ∙ ap (map digest_of_bytes) e ∙ digests_back others
 
-pub made_once : (rows : List Row) (block : ℕ) (digest : List ℕ) (proof other : Proof) → IsLawful rows → All IsTypedRow rows → IsMade rows block digest proof → IsMade rows block digest other → other.query ≡ proof.query → other ≡ proof
-made_once rows block digest proof other lawful are made made' query =
+-- Only one leaf proof is made for a key.
+pub made_leaf_once : (rows : List Row) (block : ℕ) (digest key : List ℕ) (leaf_proof other : LeafProof)
+    → IsLawful rows → All IsTypedRow rows → IsMadeLeaf rows block digest key leaf_proof
+    → IsMadeLeaf rows block digest key other → other ≡ leaf_proof
+made_leaf_once rows block digest key leaf_proof other lawful are made made' =
     let texts : List (List ℕ) = texts_of_leaves (leaves rows) in
-    let covered : covers proof.query.key other.leaf ≡ true = ap (λ (q : Query). covers q.key other.leaf) (sym query) ∙ made'.leaf_covers in
-    let own = same_own_key rows lawful are proof.query.key other.leaf proof.leaf (one_at rows lawful are other.leaf_index other.leaf made'.leaf_is) (one_at rows lawful are proof.leaf_index proof.leaf made.leaf_is)
-    (covers_by proof.query.key other.leaf covered) (covers_by proof.query.key proof.leaf made.leaf_covers) in
-    let index : other.leaf_index ≡ proof.leaf_index = same_index rows lawful are other.leaf_index proof.leaf_index other.leaf proof.leaf made'.leaf_is made.leaf_is own in
-    let leaf : other.leaf ≡ proof.leaf = same_Some other.leaf proof.leaf (sym made'.leaf_is ∙ ap (slice_get (leaves rows)) index ∙ made.leaf_is) in
-    same_parts other.query proof.query other.root_at proof.root_at other.block_digest proof.block_digest other.leaf_count proof.leaf_count other.leaf_index proof.leaf_index other.leaf proof.leaf other.audit proof.audit
-    other.headers proof.headers other.body proof.body other.uses proof.uses
-    query
+    let own = same_own_key rows lawful are key other.leaf leaf_proof.leaf (one_at rows lawful are other.leaf_index other.leaf made'.leaf_is) (one_at rows lawful are leaf_proof.leaf_index leaf_proof.leaf made.leaf_is)
+    (covers_by key other.leaf made'.leaf_covers) (covers_by key leaf_proof.leaf made.leaf_covers) in
+    let index : other.leaf_index ≡ leaf_proof.leaf_index = same_index rows lawful are other.leaf_index leaf_proof.leaf_index other.leaf leaf_proof.leaf made'.leaf_is made.leaf_is own in
+    let leaf : other.leaf ≡ leaf_proof.leaf = same_Some other.leaf leaf_proof.leaf (sym made'.leaf_is ∙ ap (slice_get (leaves rows)) index ∙ made.leaf_is) in
+    same_leaf_parts other.root_at leaf_proof.root_at other.block_digest leaf_proof.block_digest other.leaf_count leaf_proof.leaf_count other.leaf_index leaf_proof.leaf_index other.leaf leaf_proof.leaf other.audit leaf_proof.audit
     (made'.root_at_is ∙ sym made.root_at_is)
     (ap digest_of_bytes (made'.block_digest_is ∙ sym made.block_digest_is))
     (made'.leaf_count_is ∙ sym made.leaf_count_is)
     index
     leaf
-    (same_digests other.audit proof.audit (made'.audit_is ∙ ap (λ (i : ℕ). audit_path i texts) index ∙ sym made.audit_is))
+    (same_digests other.audit leaf_proof.audit (made'.audit_is ∙ ap (λ (i : ℕ). audit_path i texts) index ∙ sym made.audit_is))
+
+pub made_once : (rows : List Row) (block : ℕ) (digest : List ℕ) (proof other : Proof)
+    → IsLawful rows → All IsTypedRow rows → IsMade rows block digest proof
+    → IsMade rows block digest other → other.query ≡ proof.query → other ≡ proof
+made_once rows block digest proof other lawful are made made' query =
+    same_parts other.query proof.query other.leaf_proof proof.leaf_proof other.headers proof.headers other.body proof.body other.uses proof.uses
+    query
+    (made_leaf_once rows block digest proof.query.key proof.leaf_proof other.leaf_proof lawful are made.leaf_proof_is (subst (λ (q : Query). IsMadeLeaf rows block digest q.key other.leaf_proof) query made'.leaf_proof_is))
     (made'.headers_are ∙ ap (λ (q : Query). filter_map (header_in rows q.key) (path rows q.key q.at)) query ∙ sym made.headers_are)
     (made'.body_is ∙ ap (λ (q : Query). option_map (body_of rows) (latest rows q.key q.at)) query ∙ sym made.body_is)
     (made'.uses_are ∙ ap (λ (q : Query). uses_if q.kind (option_map (λ (row : Row). uses rows q.key row.block) (latest rows q.key q.at))) query ∙ sym made.uses_are)

@@ -1,5 +1,7 @@
 -- The walk over the headers of a made proof has no fault and ends at the version that answers.
-use Rattle.std.proofs.Common.{◌≡◌, ◌∙◌, ℕ, zero, suc, ◌<◌, true, false, ◌==◌, nat_lt, nat_le, List, [], ◌∷◌, map, reverse, slice_get, Option, Some, None, refl, sym, ap, subst, arith, inl, inr}
+use Rattle.std.proofs.Common.{◌≡◌, ◌∙◌, ℕ, zero, suc, ◌<◌, true, false, ◌==◌, nat_lt, nat_le, List}
+use Rattle.std.proofs.Common.{[], ◌∷◌, map, reverse, slice_get, Option, Some, None, refl, sym, ap}
+use Rattle.std.proofs.Common.{subst, arith, inl, inr}
 use Rattle.std.specs.List.{find, filter_map, Contains}
 use Rattle.std.specs.Option.{option_map, option_or}
 use Rattle.std.specs.Cmp.Lexicographic.{pointwise}
@@ -28,15 +30,19 @@ use Rattle.proof_checks.proofs.Walked.{walk_fault, Ends, one_before}
 
 -- ---- the header of a row
 
-pub header_found : (rows : List Row) (key : List ℕ) (row : Row) → IsLawful rows → Contains rows row → row.key ≡ key → header_in rows key row.block ≡ Some (header_of rows row)
+pub header_found : (rows : List Row) (key : List ℕ) (row : Row) → IsLawful rows → Contains rows row
+    → row.key ≡ key → header_in rows key row.block ≡ Some (header_of rows row)
 header_found rows key row lawful has k = ap (λ (x : List ℕ). header_in rows x row.block) (sym k) ∙ ap (option_map (header_of rows)) (version_found rows row lawful has)
 
-pub one_header : (rows : List Row) (key : List ℕ) (block : ℕ) (blocks : List ℕ) (header : Header) → header_in rows key block ≡ Some header → filter_map (header_in rows key) (block ∷ blocks) ≡ header ∷ filter_map (header_in rows key) blocks
+pub one_header : (rows : List Row) (key : List ℕ) (block : ℕ) (blocks : List ℕ) (header : Header)
+    → header_in rows key block ≡ Some header
+    → filter_map (header_in rows key) (block ∷ blocks) ≡ header ∷ filter_map (header_in rows key) blocks
 one_header rows key block blocks header e = rw e refl
 
 -- ---- the link to follow
 
-or_mapped : (f : ℕ → Link) (a b : Option ℕ) → option_or (option_map f a) (option_map f b) ≡ option_map f (option_or a b)
+or_mapped : (f : ℕ → Link) (a b : Option ℕ)
+    → option_or (option_map f a) (option_map f b) ≡ option_map f (option_or a b)
 or_mapped f None b = refl
 or_mapped f (Some x) b = refl
 
@@ -47,7 +53,8 @@ next_block at blocks = link_onward (λ (link : ℕ). link) at blocks
 abbrev pub link_in : List Row → Row → ℕ → Link
 link_in rows row block = link_among (named_before rows row.block) row.key block
 
-chosen_is : (rows : List Row) (row : Row) (at : ℕ) (blocks : List ℕ) → next_link at (map (link_in rows row) blocks) ≡ option_map (link_in rows row) (next_block at blocks)
+chosen_is : (rows : List Row) (row : Row) (at : ℕ) (blocks : List ℕ)
+    → next_link at (map (link_in rows row) blocks) ≡ option_map (link_in rows row) (next_block at blocks)
 chosen_is rows row at blocks =
     let f : ℕ → Link = link_in rows row in
     let high : find (λ (link : Link). nat_lt at link.block) (reverse (map f blocks)) ≡ option_map f (find (λ block. nat_lt at block) (reverse blocks)) =
@@ -56,7 +63,8 @@ chosen_is rows row at blocks =
     ∙ ap (λ (o : Option Link). option_or (option_map f (find (λ block. nat_lt at block) (reverse blocks))) o) (slice_get-map f blocks 0)
     ∙ or_mapped f (find (λ block. nat_lt at block) (reverse blocks)) (slice_get blocks 0)
 
-pub expected_is : (rows : List Row) (row : Row) (at : ℕ) → nat_le row.block at ≡ false → expected_after at (header_of rows row) ≡ option_map (link_in rows row) (next_block at (links rows row.key row.block))
+pub expected_is : (rows : List Row) (row : Row) (at : ℕ) → nat_le row.block at ≡ false
+    → expected_after at (header_of rows row) ≡ option_map (link_in rows row) (next_block at (links rows row.key row.block))
 expected_is rows row at late =
     let chosen_among : next_link at (header_of rows row).links ≡ option_map (link_in rows row) (next_block at (links rows row.key row.block)) =
     ap (λ (blocks : List ℕ). next_link at (map (link_in rows row) blocks)) (links_up_to rows row.key row.block) ∙ chosen_is rows row at (links rows row.key row.block) in
@@ -66,20 +74,25 @@ pub no_block : (f : ℕ → Link) (o : Option ℕ) → option_map f o ≡ None �
 no_block f None e = refl
 no_block f (Some block) e = absurd (none-some (f block) (sym e))
 
-pub a_block : (rows : List Row) (row next : Row) (o : Option ℕ) → option_map (link_in rows row) o ≡ Some (begun rows next) → o ≡ Some next.block
+pub a_block : (rows : List Row) (row next : Row) (o : Option ℕ)
+    → option_map (link_in rows row) o ≡ Some (begun rows next) → o ≡ Some next.block
 a_block rows row next None e = absurd (none-some (begun rows next) e)
-a_block rows row next (Some block) e = ap (λ (link : Link). Some link.block) (same_Some (link_in rows row block) (begun rows next) e)
+a_block rows row next (Some block) e =
+    ap (λ (link : Link). Some link.block) (same_Some (link_in rows row block) (begun rows next) e)
 
 -- ---- the path
 
-pub path_end : (more : ℕ) (rows : List Row) (key : List ℕ) (at block : ℕ) → nat_le block at ≡ true → path_from (suc more) (links rows key) at (Some block) ≡ block ∷ []
+pub path_end : (more : ℕ) (rows : List Row) (key : List ℕ) (at block : ℕ) → nat_le block at ≡ true
+    → path_from (suc more) (links rows key) at (Some block) ≡ block ∷ []
 unfolding path_from
-path_end more rows key at block t = rw t (ap (λ (rest : List ℕ). block ∷ rest) (ended more at (links rows key)))
+path_end more rows key at block t =
+    rw t (ap (λ (rest : List ℕ). block ∷ rest) (ended more at (links rows key)))
 
 pub path_on : (more : ℕ) (rows : List Row) (key : List ℕ) (at block : ℕ) (o : Option ℕ) → nat_le block at ≡ false → next_block at (links rows key block) ≡ o
     → path_from (suc more) (links rows key) at (Some block) ≡ block ∷ path_from more (links rows key) at o
 unfolding path_from
-path_on more rows key at block o f e = rw f (ap (λ (next : Option ℕ). block ∷ path_from more (links rows key) at next) e)
+path_on more rows key at block o f e =
+    rw f (ap (λ (next : Option ℕ). block ∷ path_from more (links rows key) at next) e)
 
 -- The path ends at a version that has no link to follow.
 pub path_stops : (more : ℕ) (rows : List Row) (key : List ℕ) (at block : ℕ) → nat_le block at ≡ false → next_block at (links rows key block) ≡ None
@@ -88,20 +101,21 @@ path_stops more rows key at block f e = path_on more rows key at block None f e 
 
 -- ---- the walk
 
-own_fault : (rows : List Row) (key : List ℕ) (step : ℕ) (row : Row) → row.key ≡ key → header_fault key step (begun rows row) (header_of rows row) ≡ None
+own_fault : (rows : List Row) (key : List ℕ) (step : ℕ) (row : Row) → row.key ≡ key
+    → header_fault key step (begun rows row) (header_of rows row) ≡ None
 own_fault rows key step row k =
     let digest = key_is_key (sha256 (text_of_row rows row)) in
     let own : pointwise ◌==◌ row.key key ≡ true = ap (λ (x : List ℕ). pointwise ◌==◌ x key) k ∙ key_is_key key in
     let block = eq-eqb row.block row.block refl in
     rw (digest, own, block) refl
 
-one_walked : (rows : List Row) (key : List ℕ) (at step : ℕ) (row : Row) (headers : List Header) → row.key ≡ key → walk_fault at key (suc step) (expected_after at (header_of rows row)) headers ≡ None
-    → walk_fault at key step (Some (begun rows row)) (header_of rows row ∷ headers) ≡ None
-one_walked rows key at step row headers k rest = ap (λ (fault : Option Reject). option_or fault (walk_fault at key (suc step) (expected_after at (header_of rows row)) headers)) (own_fault rows key step row k) ∙ rest
+one_walked : (rows : List Row) (key : List ℕ) (at step : ℕ) (row : Row) (headers : List Header) → row.key ≡ key → walk_fault (expected_after at) key (suc step) (expected_after at (header_of rows row)) headers ≡ None
+    → walk_fault (expected_after at) key step (Some (begun rows row)) (header_of rows row ∷ headers) ≡ None
+one_walked rows key at step row headers k rest = ap (λ (fault : Option Reject). option_or fault (walk_fault (expected_after at) key (suc step) (expected_after at (header_of rows row)) headers)) (own_fault rows key step row k) ∙ rest
 
 -- The walk has no fault, and ends at the version that answers, or too late if none does.
 abbrev pub IsWalked : List Row → List ℕ → ℕ → ℕ → Claim → Row → List Header → Type 0
-IsWalked rows key at step claim row headers = (walk_fault at key step (Some (begun rows row)) headers ≡ None) × Ends rows key at claim headers
+IsWalked rows key at step claim row headers = (walk_fault (expected_after at) key step (Some (begun rows row)) headers ≡ None) × Ends rows key at claim headers
 
 pub made_walk : (more : ℕ) (rows : List Row) (key : List ℕ) (at step : ℕ) (claim : Claim) (row : Row) → IsLawful rows → StandsAt rows key at claim row → row.block < more
     → IsWalked rows key at step claim row (filter_map (header_in rows key) (path_from more (links rows key) at (Some row.block)))
@@ -116,7 +130,7 @@ made_walk (suc more) rows key at step claim row lawful stands low =
           let answers = stands.answers t in
           let headers : filter_map (header_in rows key) (path_from (suc more) (links rows key) at (Some row.block)) ≡ header ∷ [] = ap (filter_map (header_in rows key)) (path_end more rows key at row.block t) ∙ one_header rows key row.block [] header found in
           subst P (sym headers) (
-            one_walked rows key at step row [] stands.key_is (ap (λ (o : Option Link). walk_fault at key (suc step) o []) none),
+            one_walked rows key at step row [] stands.key_is (ap (λ (o : Option Link). walk_fault (expected_after at) key (suc step) o []) none),
             record { last = header; last_is = refl; how = inr (row, stands.there, answers.0, refl, t, answers.1) },
           )
       | inr f ↦
@@ -128,7 +142,7 @@ made_walk (suc more) rows key at step claim row lawful stands low =
                 let no_key : next_block at (links rows key row.block) ≡ None = subst (λ (k : List ℕ). next_block at (links rows k row.block) ≡ None) stands.key_is no in
                 let headers : filter_map (header_in rows key) (path_from (suc more) (links rows key) at (Some row.block)) ≡ header ∷ [] = ap (filter_map (header_in rows key)) (path_stops more rows key at row.block f no_key) ∙ one_header rows key row.block [] header found in
                 subst P (sym headers) (
-                  one_walked rows key at step row [] stands.key_is (ap (λ (o : Option Link). walk_fault at key (suc step) o []) stop.0),
+                  one_walked rows key at step row [] stands.key_is (ap (λ (o : Option Link). walk_fault (expected_after at) key (suc step) o []) stop.0),
                   record { last = header; last_is = refl; how = inl (stop.1, f) },
                 )
             | inr next ↦
@@ -139,7 +153,7 @@ made_walk (suc more) rows key at step claim row lawful stands low =
                 let headers : filter_map (header_in rows key) (path_from (suc more) (links rows key) at (Some row.block)) ≡ header ∷ others =
                 ap (filter_map (header_in rows key)) (path_on more rows key at row.block (Some next.0.block) f to_key) ∙ one_header rows key row.block (path_from more (links rows key) at (Some next.0.block)) header found in
                 subst P (sym headers) (
-                  one_walked rows key at step row others stands.key_is (ap (λ (o : Option Link). walk_fault at key (suc step) o others) next.1 ∙ rest.0),
+                  one_walked rows key at step row others stands.key_is (ap (λ (o : Option Link). walk_fault (expected_after at) key (suc step) o others) next.1 ∙ rest.0),
                   one_before rows key at claim header others rest.1,
                 )
           ]

@@ -1,6 +1,8 @@
 -- Which proofs are accepted, and what they answer. Each check is of the whole proof; the first
 -- check that fails decides the fault.
-use Rattle.std.specs.Prelude.{ℕ, zero, suc, ◌+◌, ◌==◌, ◌&&◌, ◌||◌, Bool, true, false, nat_lt, nat_le, if◌then◌else◌, List, [], ◌∷◌, ◌++◌, length, map, reverse, slice_get, Option, Some, None, Result, Ok, Err}
+use Rattle.std.specs.Prelude.{ℕ, zero, suc, ◌+◌, ◌==◌, ◌&&◌, ◌||◌, Bool, true, false, nat_lt}
+use Rattle.std.specs.Prelude.{nat_le, if◌then◌else◌, List, [], ◌∷◌, length, map, reverse, slice_get}
+use Rattle.std.specs.Prelude.{Option, Some, None, Result, Ok, Err}
 use Rattle.std.specs.List.{find, range_with_len}
 use Rattle.std.specs.Option.{option_or, option_and_then}
 use Rattle.std.specs.Cmp.Lexicographic.{pointwise}
@@ -19,9 +21,11 @@ use Rattle.prov_entry.specs.declared.entry.Header.{Header}
 use Rattle.prov_entry.specs.declared.entry.BodyDep.{BodyDep}
 use Rattle.prov_entry.specs.declared.entry.Body.{Body}
 use Rattle.prov_entry.specs.declared.entry.Leaf.{Leaf}
-use Rattle.prov_entry.specs.Spelling.{key_or_empty, leaf_bytes, header_text, body_text, text_of_root}
+use Rattle.prov_entry.specs.Spelling.{key_or_empty, leaf_bytes, header_text, body_text}
+use Rattle.prov_entry.specs.Spelling.{text_of_root}
 use Rattle.prov_entry.specs.ForwardLists.{uses_digest}
 use Rattle.root_laws.specs.Root.{is_below}
+use Rattle.proof_codec.specs.declared.proof.LeafProof.{LeafProof}
 use Rattle.proof_codec.specs.declared.proof.Proof.{Proof}
 use Rattle.proof_codec.specs.Spelling.{kind_byte, last_of}
 use Rattle.proof_checks.specs.declared.claim.Claim.{Claim}
@@ -50,17 +54,17 @@ query_fault query proof = unless (is_same_query query proof.query) rejects.Other
 
 -- ---- the root
 
--- Where the climb from the proof's leaf to the root begins.
-abbrev pub climb_of : Proof → Climb
-climb_of proof = record { hash = sha256 (leaf_text (leaf_bytes proof.leaf)); left = bytes_of proof.audit }
+-- Where the climb from the leaf to the root begins.
+abbrev pub climb_of : LeafProof → Climb
+climb_of leaf_proof = record { hash = sha256 (leaf_text (leaf_bytes leaf_proof.leaf)); left = bytes_of leaf_proof.audit }
 
--- The text of the root that the proof leads to.
-abbrev pub root_text_of : Proof → List ℕ
-root_text_of proof = text_of_root proof.root_at proof.block_digest.0 proof.leaf_count (top_of proof.leaf_index proof.leaf_count (climb_of proof))
+-- The text of the root that a leaf proof leads to.
+abbrev pub root_text_of : LeafProof → List ℕ
+root_text_of leaf_proof = text_of_root leaf_proof.root_at leaf_proof.block_digest.0 leaf_proof.leaf_count (top_of leaf_proof.leaf_index leaf_proof.leaf_count (climb_of leaf_proof))
 
--- The proof leads to another root.
-abbrev pub root_fault : List ℕ → Proof → Option Reject
-root_fault root proof = unless (pointwise ◌==◌ (sha256 (root_text_of proof)) root) (rejects.RootDiffers (digest_of (root_text_of proof)))
+-- A leaf proof leads to another root.
+abbrev pub root_fault : List ℕ → LeafProof → Option Reject
+root_fault root leaf_proof = unless (pointwise ◌==◌ (sha256 (root_text_of leaf_proof)) root) (rejects.RootDiffers (digest_of (root_text_of leaf_proof)))
 
 -- ---- the leaf
 
@@ -76,17 +80,19 @@ is_before_next key (Some next) = is_below key next
 
 -- Whether a leaf is the key's own, or the one after which a leaf of the key would be inserted.
 abbrev pub covers : List ℕ → Leaf → Bool
-covers key leaf = is_of_key key leaf.key || (is_below (key_or_empty leaf.key) key && is_before_next key leaf.next)
+covers key leaf =
+    is_of_key key leaf.key || (is_below (key_or_empty leaf.key) key && is_before_next key leaf.next)
 
--- The proof's leaf doesn't cover the key.
-abbrev pub leaf_fault : List ℕ → Proof → Option Reject
-leaf_fault key proof = unless (covers key proof.leaf) rejects.LeafShape
+-- The leaf doesn't cover the key.
+abbrev pub leaf_fault : List ℕ → LeafProof → Option Reject
+leaf_fault key leaf_proof = unless (covers key leaf_proof.leaf) rejects.LeafShape
 
 -- ---- the headers
 
 -- The link to follow: the highest one to a block after `at`, or else the lowest one.
 abbrev pub next_link : ℕ → List Link → Option Link
-next_link at links = option_or (find (λ (link : Link). nat_lt at link.block) (reverse links)) (slice_get links 0)
+next_link at links =
+    option_or (find (λ (link : Link). nat_lt at link.block) (reverse links)) (slice_get links 0)
 
 -- The version whose header must follow this one; `None` if this version answers or has no link.
 abbrev pub expected_after : ℕ → Header → Option Link
@@ -96,10 +102,11 @@ expected_after at header = if nat_le header.block at then None else next_link at
 abbrev pub expected_first : List ℕ → Leaf → Option Link
 expected_first key leaf = if is_of_key key leaf.key then Some (record { block = leaf.newest_block; digest = leaf.newest }) else None
 
--- The version whose header must be at a step.
-abbrev pub expected_at : Query → Leaf → List Header → ℕ → Option Link
-expected_at query leaf headers zero = expected_first query.key leaf
-expected_at query leaf headers (suc step) = option_and_then (expected_after query.at) (slice_get headers step)
+-- The version whose header must be at a step: `first` at step 0, and later the one that `next` finds
+-- from the header before.
+abbrev pub expected_at : (Header → Option Link) → Option Link → List Header → ℕ → Option Link
+expected_at next first headers zero = first
+expected_at next first headers (suc step) = option_and_then next (slice_get headers step)
 
 -- What is wrong with a header at a step where this version's is expected.
 abbrev pub header_fault : List ℕ → ℕ → Link → Header → Option Reject
@@ -115,14 +122,22 @@ fault_of_step key step None (Some header) = Some (rejects.PathShape step)
 fault_of_step key step (Some expected) None = Some (rejects.PathShape step)
 fault_of_step key step (Some expected) (Some header) = header_fault key step expected header
 
--- What is wrong at a step of a proof.
-abbrev pub step_fault : Query → Leaf → List Header → ℕ → Option Reject
-step_fault query leaf headers step = fault_of_step query.key step (expected_at query leaf headers step) (slice_get headers step)
+-- What is wrong at a step of a walk over headers, which begins at `first` and goes on by `next`.
+abbrev pub step_fault : (Header → Option Link) → List ℕ → Option Link → List Header → ℕ
+    → Option Reject
+step_fault next key first headers step =
+    fault_of_step key step (expected_at next first headers step) (slice_get headers step)
 
 -- The first fault of all steps. The last step comes after the headers: no further header must be
 -- expected there.
-abbrev pub path_fault : Query → Proof → Option Reject
-path_fault query proof = first_fault (map (step_fault query proof.leaf proof.headers) (range_with_len 0 (length proof.headers + 1)))
+abbrev pub headers_fault : (Header → Option Link) → List ℕ → Option Link → List Header
+    → Option Reject
+headers_fault next key first headers =
+    first_fault (map (step_fault next key first headers) (range_with_len 0 (length headers + 1)))
+
+-- The first fault of the headers of a proof.
+abbrev pub path_fault : Proof → Option Reject
+path_fault proof = headers_fault (expected_after proof.query.at) proof.query.key (expected_first proof.query.key proof.leaf_proof.leaf) proof.headers
 
 -- ---- the body
 
@@ -151,7 +166,8 @@ claim_of_header header = record { count = header.closed; digest = header.closed_
 abbrev pub claim_before : Claim → List Header → Claim
 claim_before claim [] = claim
 claim_before claim (header ∷ []) = claim
-claim_before claim (header ∷ last ∷ headers) = claim_before (claim_of_header header) (last ∷ headers)
+claim_before claim (header ∷ last ∷ headers) =
+    claim_before (claim_of_header header) (last ∷ headers)
 
 -- What is wrong with uses that have this claim.
 abbrev pub fault_of_uses : Claim → Option (List Dep) → Option Reject
@@ -161,14 +177,15 @@ fault_of_uses claim (Some uses) =
 
 -- The number or the digest of the uses isn't what is recorded of them.
 abbrev pub uses_fault : Proof → Option Reject
-uses_fault proof = fault_of_uses (claim_before (claim_of_leaf proof.leaf) proof.headers) proof.uses
+uses_fault proof =
+    fault_of_uses (claim_before (claim_of_leaf proof.leaf_proof.leaf) proof.headers) proof.uses
 
 -- ---- the verdict
 
--- The first check that fails, or `None` if the proof passes.
-unfoldable pub fault_in : List ℕ → Query → Proof → Option Reject
-fault_in root query proof = first_fault (
-    query_fault query proof ∷ root_fault root proof ∷ leaf_fault query.key proof ∷ path_fault query proof ∷ body_fault proof ∷ uses_fault proof ∷ [])
+-- The first check of a proof by its own query that fails, or `None` if the proof passes.
+unfoldable pub fault_in : List ℕ → Proof → Option Reject
+fault_in root proof = first_fault (
+    root_fault root proof.leaf_proof ∷ leaf_fault proof.query.key proof.leaf_proof ∷ path_fault proof ∷ body_fault proof ∷ uses_fault proof ∷ [])
 
 -- A dependency without its digest.
 abbrev pub dep_of : BodyDep → Dep
@@ -191,11 +208,16 @@ answer_from kind (Some header) (Some body) uses = answer_by kind header body use
 unfoldable pub answer_in : Proof → Answer
 answer_in proof = answer_from proof.query.kind (last_of proof.headers) proof.body proof.uses
 
--- The answer, unless there is a fault.
-abbrev pub verdict_of : Option Reject → Answer → Result Answer Reject
-verdict_of None answer = Ok answer
-verdict_of (Some fault) answer = Err fault
+-- The fault if there is one, else the rest.
+abbrev pub after : {A : Type 0} → Option Reject → Result A Reject → Result A Reject
+after None rest = rest
+after (Some fault) rest = Err fault
 
--- What a proof answers, or the first check that fails.
+-- What a proof answers to its own query, or the first check that fails.
+abbrev pub judgement : List ℕ → Proof → Result Answer Reject
+judgement root proof = after (fault_in root proof) (Ok (answer_in proof))
+
+-- What a proof answers to a query, or the first check that fails: that it is for this query is
+-- checked first.
 abbrev pub verdict : List ℕ → Query → Proof → Result Answer Reject
-verdict root query proof = verdict_of (fault_in root query proof) (answer_in proof)
+verdict root query proof = after (query_fault query proof) (judgement root proof)

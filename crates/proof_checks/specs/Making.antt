@@ -1,6 +1,7 @@
 -- For each query of a key, one proof is made of a ledger at a block: it can be spelled, and the
 -- root accepts it.
-use Rattle.std.specs.Prelude.{◌≡◌, ◌<◌, ◌≤◌, true, ℕ, List, length, map, reverse, slice_get, slice_index_or, Option, Some, None, Ok}
+use Rattle.std.specs.Prelude.{◌≡◌, ◌<◌, ◌≤◌, true, ℕ, List, length, map, reverse, slice_get}
+use Rattle.std.specs.Prelude.{slice_index_or, Option, Some, None, Ok}
 use Rattle.std.specs.List.{find, filter_map, position_or_len}
 use Rattle.std.specs.Option.{option_map}
 use Rattle.lc_names.specs.KeyBytes.{IsKey}
@@ -20,6 +21,7 @@ use Rattle.root_laws.specs.Naming.{header_of, body_of}
 use Rattle.root_laws.specs.Root.{keys_of, sentinel, leaves, digest_at, root_of}
 use Rattle.root_laws.specs.WalkLaws.{is_version_in}
 use Rattle.root_laws.specs.TypedLedger.{IsTypedHistory, IsTypedLedger}
+use Rattle.proof_codec.specs.declared.proof.LeafProof.{LeafProof}
 use Rattle.proof_codec.specs.declared.proof.Proof.{Proof}
 use Rattle.proof_codec.specs.entry_views.Reading.{digest_of_bytes}
 use Rattle.proof_codec.specs.Spelling.{IsProof}
@@ -28,7 +30,8 @@ use Rattle.proof_checks.specs.LedgerTexts.{texts_of_leaves}
 
 -- The header of the key's version in a block.
 abbrev pub header_in : List Row → List ℕ → ℕ → Option Header
-header_in rows key block = option_map (header_of rows) (find (is_version_in key block) (reverse rows))
+header_in rows key block =
+    option_map (header_of rows) (find (is_version_in key block) (reverse rows))
 
 -- The headers of the versions on the path of a lookup.
 abbrev pub path_headers : List Row → List ℕ → ℕ → List Header
@@ -40,16 +43,21 @@ uses_if Hist list = None
 uses_if Back list = None
 uses_if Fwd list = list
 
+-- The leaf proof is made of the rows of a ledger up to a block with this digest: it has the leaf that
+-- covers the key, with its audit path.
+pub record IsMadeLeaf (rows : List Row) (block : ℕ) (digest key : List ℕ) (leaf_proof : LeafProof) : Type 0 where
+  pub root_at_is : leaf_proof.root_at ≡ block
+  pub block_digest_is : leaf_proof.block_digest.0 ≡ digest
+  pub leaf_count_is : leaf_proof.leaf_count ≡ length (leaves rows)
+  pub leaf_is : slice_get (leaves rows) leaf_proof.leaf_index ≡ Some leaf_proof.leaf
+  pub leaf_covers : covers key leaf_proof.leaf ≡ true
+  pub audit_is : bytes_of leaf_proof.audit ≡ audit_path leaf_proof.leaf_index (texts_of_leaves (leaves rows))
+
 -- The proof is made of the rows of a ledger up to a block with this digest. It has the leaf that
 -- covers the key, with its audit path; the header of each version on the path of the lookup; the
 -- body of the version that answers; and its uses, if the query asks for them.
 pub record IsMade (rows : List Row) (block : ℕ) (digest : List ℕ) (proof : Proof) : Type 0 where
-  pub root_at_is : proof.root_at ≡ block
-  pub block_digest_is : proof.block_digest.0 ≡ digest
-  pub leaf_count_is : proof.leaf_count ≡ length (leaves rows)
-  pub leaf_is : slice_get (leaves rows) proof.leaf_index ≡ Some proof.leaf
-  pub leaf_covers : covers proof.query.key proof.leaf ≡ true
-  pub audit_is : bytes_of proof.audit ≡ audit_path proof.leaf_index (texts_of_leaves (leaves rows))
+  pub leaf_proof_is : IsMadeLeaf rows block digest proof.query.key proof.leaf_proof
   pub headers_are : proof.headers ≡ path_headers rows proof.query.key proof.query.at
   pub body_is : proof.body ≡ option_map (body_of rows) (latest rows proof.query.key proof.query.at)
   pub uses_are : proof.uses ≡ uses_if proof.query.kind (option_map (λ (row : Row). uses rows proof.query.key row.block) (latest rows proof.query.key proof.query.at))
@@ -66,18 +74,25 @@ covering_index leaves key = position_or_len (covers key) leaves
 
 -- The first leaf that covers a key, or the leaf without a key if none does.
 abbrev pub covering_leaf : List Row → List ℕ → Leaf
-covering_leaf rows key = slice_index_or (leaves rows) (covering_index (leaves rows) key) (sentinel (keys_of rows))
+covering_leaf rows key =
+    slice_index_or (leaves rows) (covering_index (leaves rows) key) (sentinel (keys_of rows))
+
+-- The leaf proof for a key, made of the rows up to a block with this digest.
+abbrev pub made_leaf : List Row → ℕ → List ℕ → List ℕ → LeafProof
+made_leaf rows block digest key = record {
+  root_at = block;
+  block_digest = digest_of_bytes digest;
+  leaf_count = length (leaves rows);
+  leaf_index = covering_index (leaves rows) key;
+  leaf = covering_leaf rows key;
+  audit = map digest_of_bytes (audit_path (covering_index (leaves rows) key) (texts_of_leaves (leaves rows)));
+}
 
 -- The proof for a query, made of the rows up to a block with this digest.
 abbrev pub made_of : List Row → ℕ → List ℕ → Query → Proof
 made_of rows block digest query = record {
   query = query;
-  root_at = block;
-  block_digest = digest_of_bytes digest;
-  leaf_count = length (leaves rows);
-  leaf_index = covering_index (leaves rows) query.key;
-  leaf = covering_leaf rows query.key;
-  audit = map digest_of_bytes (audit_path (covering_index (leaves rows) query.key) (texts_of_leaves (leaves rows)));
+  leaf_proof = made_leaf rows block digest query.key;
   headers = path_headers rows query.key query.at;
   body = option_map (body_of rows) (latest rows query.key query.at);
   uses = uses_if query.kind (option_map (λ (row : Row). uses rows query.key row.block) (latest rows query.key query.at));
@@ -85,7 +100,8 @@ made_of rows block digest query = record {
 
 -- The proof for a query, made of a ledger at a block: of the rows up to it.
 unfoldable pub made_proof : List Row → List Digest → ℕ → Query → Proof
-made_proof rows digests block query = made_of (up_to rows block) block (digest_at digests block) query
+made_proof rows digests block query =
+    made_of (up_to rows block) block (digest_at digests block) query
 
 -- ---- laws
 

@@ -1,5 +1,5 @@
 -- The texts that a proof shows: what its reader hashes to check it.
-use Rattle.std.specs.Prelude.{ℕ, List, [], ◌∷◌, map, Option, Some, None}
+use Rattle.std.specs.Prelude.{ℕ, List, [], ◌∷◌, ◌++◌, map, Option, Some, None}
 use Rattle.std.specs.List.{flat_map}
 use Rattle.lc_base.specs.declared.row.Dep.{Dep}
 use Rattle.merkle_tree.specs.Tree.{leaf_text, climb_texts_to}
@@ -8,6 +8,7 @@ use Rattle.merkle_tree.specs.declared.limits.TheConstants.{MAX_HEIGHT}
 use Rattle.prov_entry.specs.declared.entry.Body.{Body}
 use Rattle.prov_entry.specs.Spelling.{leaf_bytes, header_text, body_text}
 use Rattle.prov_entry.specs.ForwardLists.{start_text, no_uses, use_text}
+use Rattle.proof_codec.specs.declared.proof.LeafProof.{LeafProof}
 use Rattle.proof_codec.specs.declared.proof.Proof.{Proof}
 use Rattle.proof_checks.specs.Checks.{climb_of, root_text_of}
 
@@ -29,12 +30,20 @@ abbrev pub uses_texts : Option (List Dep) → List (List ℕ)
 uses_texts None = []
 uses_texts (Some uses) = texts_of_uses uses
 
--- The texts of a proof, in parts: the leaf, the nodes from it upward, the root, the headers, the
--- body, the empty forward list, and the uses.
+-- The texts of a leaf proof, in parts: the leaf, the nodes from it upward, and the root.
+abbrev pub leaf_proof_parts : LeafProof → List (List (List ℕ))
+leaf_proof_parts leaf_proof =
+    (leaf_text (leaf_bytes leaf_proof.leaf) ∷ []) ∷ climb_texts_to MAX_HEIGHT leaf_proof.leaf_index leaf_proof.leaf_count (climb_of leaf_proof) ∷ (root_text_of leaf_proof ∷ []) ∷ []
+
+-- The texts of a leaf proof.
+unfoldable pub leaf_proof_texts : LeafProof → List (List ℕ)
+leaf_proof_texts leaf_proof = joined_texts (leaf_proof_parts leaf_proof)
+
+-- The texts of a proof, in parts: those of its leaf proof, the headers, the body, the empty forward
+-- list, and the uses.
 abbrev pub proof_parts : Proof → List (List (List ℕ))
 proof_parts proof =
-    (leaf_text (leaf_bytes proof.leaf) ∷ []) ∷ climb_texts_to MAX_HEIGHT proof.leaf_index proof.leaf_count (climb_of proof)
-    ∷ (root_text_of proof ∷ []) ∷ map header_text proof.headers ∷ body_texts proof.body ∷ (start_text ∷ []) ∷ uses_texts proof.uses ∷ []
+    leaf_proof_parts proof.leaf_proof ++ map header_text proof.headers ∷ body_texts proof.body ∷ (start_text ∷ []) ∷ uses_texts proof.uses ∷ []
 
 -- The texts of a proof.
 unfoldable pub proof_texts : Proof → List (List ℕ)

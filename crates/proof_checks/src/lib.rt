@@ -8,7 +8,9 @@ mod reject;
 
 pub use claim::Claim;
 pub use laws::{
-    accepted_proofs_are_sound, made_proof_is_accepted, made_proof_is_made,
-    made_proofs_are_accepted, made_proofs_are_proofs, made_proofs_are_unique,
+    accepted_proofs_are_sound, accepted_proofs_show_versions, judged_proofs_are_sound,
+    leaf_proofs_show_leaves, made_proof_is_accepted, made_proof_is_made, made_proofs_are_accepted,
+    made_proofs_are_proofs, made_proofs_are_unique, named_bodies_are_of_rows,
+    named_headers_are_of_rows,
 };
 pub use reject::Reject;

@@ -1,6 +1,7 @@
 -- A proof is spelled as a list of fields in a fixed order; which optional parts it has follows from
 -- its other fields.
-use Rattle.std.specs.Prelude.{◌≡◌, ℕ, ◌^◌, ◌<◌, ◌≤◌, ◌==◌, Bool, false, nat_le, is_none, is_some, List, [], ◌∷◌, ◌++◌, length, Option, Some, None}
+use Rattle.std.specs.Prelude.{◌≡◌, ℕ, ◌^◌, ◌<◌, ◌≤◌, ◌==◌, Bool, false, nat_le, is_none, is_some}
+use Rattle.std.specs.Prelude.{List, [], ◌∷◌, ◌++◌, length, Option, Some, None}
 use Rattle.std.specs.List.{flat_map, AllByRecursion}
 use Rattle.std.specs.Int.{w32, to_be_bytes}
 use Rattle.lc_names.specs.KeyBytes.{IsKey}
@@ -12,9 +13,11 @@ use Rattle.lc_base.specs.declared.answer.Query.{Query}
 use Rattle.byte_fields.specs.Spelling.{string_fields}
 use Rattle.prov_entry.specs.merkle_tree.Tree.{audit_length}
 use Rattle.prov_entry.specs.declared.entry.Header.{Header}
-use Rattle.prov_entry.specs.Spelling.{IsHeader, IsBody, IsLeaf, header_fields, body_fields, leaf_fields}
+use Rattle.prov_entry.specs.Spelling.{IsHeader, IsBody, IsLeaf, header_fields, body_fields}
+use Rattle.prov_entry.specs.Spelling.{leaf_fields}
 use Rattle.prov_entry.specs.ForwardLists.{use_fields}
 use Rattle.proof_codec.specs.declared.limits.TheConstants.{MAGIC}
+use Rattle.proof_codec.specs.declared.proof.LeafProof.{LeafProof}
 use Rattle.proof_codec.specs.declared.proof.Proof.{Proof}
 
 -- ---- which parts are present
@@ -37,17 +40,16 @@ asks_uses Hist answered = false
 asks_uses Back answered = false
 asks_uses Fwd answered = answered
 
--- What comes before the leaf.
-pub record Front : Type 0 where
-  pub query : Query
+-- The place of a leaf: the root that it is under, and which leaf it is.
+pub record Place : Type 0 where
   pub root_at : ℕ
   pub block_digest : List ℕ
   pub leaf_count : ℕ
   pub leaf_index : ℕ
 
--- The front of a proof.
-abbrev pub front_in : Proof → Front
-front_in proof = record { query = proof.query; root_at = proof.root_at; block_digest = proof.block_digest.0; leaf_count = proof.leaf_count; leaf_index = proof.leaf_index }
+-- The place of the leaf of a leaf proof.
+abbrev pub place_in : LeafProof → Place
+place_in leaf_proof = record { root_at = leaf_proof.root_at; block_digest = leaf_proof.block_digest.0; leaf_count = leaf_proof.leaf_count; leaf_index = leaf_proof.leaf_index }
 
 -- ---- which proofs can be spelled
 
@@ -70,21 +72,25 @@ IsIfAny Is (Some x) = Is x
 abbrev pub IsDigest : Digest → Type 0
 IsDigest digest = length digest.0 ≡ 32
 
--- The query's block is at most the root's; the leaf is one of the tree's, without a key exactly if
--- it is the first, and comes with its audit path; the number of headers fits in one byte; the body
--- is present exactly if the version of the last header answers; the uses are present exactly if the
+-- The root's block is at least `least`; the leaf is one of the tree's, without a key exactly if it is
+-- the first, and comes with its audit path.
+pub record IsLeafProof (least : ℕ) (leaf_proof : LeafProof) : Type 0 where
+  pub root_at_fits : leaf_proof.root_at < 2 ^ 32
+  pub root_at_within : least ≤ leaf_proof.root_at
+  pub block_digest_fits : IsDigest leaf_proof.block_digest
+  pub leaf_count_fits : leaf_proof.leaf_count < 2 ^ 32
+  pub leaf_within : leaf_proof.leaf_index < leaf_proof.leaf_count
+  pub leaf_is_leaf : IsLeaf leaf_proof.leaf
+  pub first_without_key : is_none leaf_proof.leaf.key ≡ (leaf_proof.leaf_index == 0)
+  pub audit_counted : length leaf_proof.audit ≡ audit_length leaf_proof.leaf_index leaf_proof.leaf_count
+  pub audit_fits : AllByRecursion IsDigest leaf_proof.audit
+
+-- The query's block is at most the root's; the number of headers fits in one byte; the body is
+-- present exactly if the version of the last header answers; the uses are present exactly if the
 -- query asks for them and there is a body.
 pub record IsProof (proof : Proof) : Type 0 where
   pub key_is_key : IsKey proof.query.key
-  pub root_at_fits : proof.root_at < 2 ^ 32
-  pub at_within : proof.query.at ≤ proof.root_at
-  pub block_digest_fits : IsDigest proof.block_digest
-  pub leaf_count_fits : proof.leaf_count < 2 ^ 32
-  pub leaf_within : proof.leaf_index < proof.leaf_count
-  pub leaf_is_leaf : IsLeaf proof.leaf
-  pub first_without_key : is_none proof.leaf.key ≡ (proof.leaf_index == 0)
-  pub audit_counted : length proof.audit ≡ audit_length proof.leaf_index proof.leaf_count
-  pub audit_fits : AllByRecursion IsDigest proof.audit
+  pub leaf_proof_is : IsLeafProof proof.query.at proof.leaf_proof
   pub few_headers : length proof.headers < 2 ^ 8
   pub headers_are_headers : AllByRecursion IsHeader proof.headers
   pub body_if_answered : is_some proof.body ≡ is_answer proof.query.at (last_of proof.headers)
@@ -102,7 +108,8 @@ kind_byte Fwd = 2
 
 -- The kind, the key, and the block.
 abbrev pub query_fields : Query → List (List ℕ)
-query_fields query = (kind_byte query.kind ∷ []) ∷ string_fields query.key ++ to_be_bytes w32 query.at ∷ []
+query_fields query =
+    (kind_byte query.kind ∷ []) ∷ string_fields query.key ++ to_be_bytes w32 query.at ∷ []
 
 -- The number of digests in one byte, then the digests.
 abbrev pub audit_fields : List Digest → List (List ℕ)
@@ -121,14 +128,20 @@ abbrev pub fields_if_any : {A : Type 0} → (A → List (List ℕ)) → Option A
 fields_if_any fields None = []
 fields_if_any fields (Some x) = fields x
 
--- The magic bytes, the query, the root's block and that block's digest, the number of leaves, and
--- the index of the proof's leaf.
-abbrev pub front_fields : Front → List (List ℕ)
-front_fields front =
-    MAGIC ∷ query_fields front.query ++ to_be_bytes w32 front.root_at ∷ front.block_digest ∷ to_be_bytes w32 front.leaf_count ∷ to_be_bytes w32 front.leaf_index ∷ []
+-- The root's block and that block's digest, the number of leaves, and the index of the leaf.
+abbrev pub place_fields : Place → List (List ℕ)
+place_fields place = to_be_bytes w32 place.root_at ∷ place.block_digest ∷ to_be_bytes w32 place.leaf_count ∷ to_be_bytes w32 place.leaf_index ∷ []
 
--- The front, the leaf, its audit path, the headers, the body, and the uses.
+-- The leaf's place, the leaf, and its audit path.
+abbrev pub leaf_proof_fields : LeafProof → List (List ℕ)
+leaf_proof_fields leaf_proof = place_fields (place_in leaf_proof) ++ leaf_fields leaf_proof.leaf ++ audit_fields leaf_proof.audit
+
+-- The magic bytes, and the query.
+abbrev pub front_fields : Query → List (List ℕ)
+front_fields query = MAGIC ∷ query_fields query
+
+-- The front, the leaf proof, the headers, the body, and the uses.
 abbrev pub proof_fields : Proof → List (List ℕ)
 proof_fields proof =
-    front_fields (front_in proof) ++ leaf_fields proof.leaf ++ audit_fields proof.audit ++ headers_fields proof.headers
+    front_fields proof.query ++ leaf_proof_fields proof.leaf_proof ++ headers_fields proof.headers
     ++ fields_if_any body_fields proof.body ++ fields_if_any uses_fields proof.uses

@@ -9,7 +9,7 @@ use lc_base::{Bytes, Digest, Memory};
 use proof_verifier::Reject;
 use std::alloc::{AllocError, Global};
 
-fn link_text(alloc: Global, step: u8, computed: &Digest) -> Result<String, AllocError>
+fn link_text(alloc: Global, step: u32, computed: &Digest) -> Result<String, AllocError>
     ensures { IfOk result (λ text. string_bytes text ≡ reject_text (Reject.LinkDiffers step computed.now)) }
 {
     let word = format!(in alloc; "link {step} ")?;

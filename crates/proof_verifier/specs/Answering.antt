@@ -4,7 +4,7 @@ use Rattle.lc_base.specs.declared.answer.Kind.{Kind}
 use Rattle.lc_base.specs.declared.answer.Query.{Query}
 use Rattle.lc_base.specs.declared.row.Dep.{Dep}
 use Rattle.prov_entry.specs.declared.entry.Body.{Body}
-use Rattle.proof_verifier.specs.Walking.{HeaderClaim, after}
+use Rattle.proof_verifier.specs.Walking.{HeaderClaim}
 use Rattle.lc_base.specs.declared.answer.Answer.{Answer}
 use Rattle.lc_base.specs.declared.answer.Answer.TheVariants as answers
 use Rattle.byte_fields.specs.Reader.{value_seen}
@@ -15,7 +15,8 @@ use Rattle.proof_views.specs.declared.proof_view.ViewError.{ViewError}
 use Rattle.proof_views.specs.declared.proof_view.ViewError.TheVariants as views
 use Rattle.proof_checks.specs.declared.reject.Reject.{Reject}
 use Rattle.proof_checks.specs.declared.reject.Reject.TheVariants.{Malformed}
-use Rattle.proof_checks.specs.Checks.{verdict, dep_of, fault_of_body, fault_of_uses, answer_by}
+use Rattle.proof_checks.specs.Checks.{after, verdict, dep_of, fault_of_body, fault_of_uses}
+use Rattle.proof_checks.specs.Checks.{answer_by}
 use Rattle.proof_verifier.specs.declared.found.Found.{Found}
 use Rattle.proof_verifier.specs.declared.found.Found.TheVariants.{Nothing, Hist, Back, Fwd}
 

@@ -1,7 +1,8 @@
 //! Every header names the versions that may come next, so the headers are checked in one pass.
 
-ghost use Rattle.std.specs.Prelude.{◌≡◌, ◌≤◌, ◌+◌, None, length, Option};
-ghost use Rattle.proof_checks.specs.Checks.{next_link, expected_after, claim_of_header, header_fault};
+ghost use Rattle.std.specs.Prelude.{◌≡◌, ◌<◌, ◌+◌, ◌^◌, None, length, Option};
+ghost use Rattle.prov_entry.specs.declared.entry.{Header.{Header}, Link.{Link as LinkValue}};
+ghost use Rattle.proof_checks.specs.Checks.{next_link, claim_of_header, header_fault};
 ghost use Rattle.proof_verifier.specs.Walking.{higher, walk_end, HeaderClaim};
 
 use crate::hashing::header_digest;
@@ -12,12 +13,22 @@ use proof_views::HeadersView;
 use prov_entry::Link;
 use std::marker::Model;
 
+/// How the version whose header must follow a header is found from it.
+pub trait NextHeader {
+    /// The version whose header must follow; `None` if none must.
+    ghost next: { Self → Header → Option LinkValue };
+
+    /// The version whose header must follow; `None` if none must.
+    fn expected(&self, header: &HeaderView) -> Option<Link>
+        ensures { result ≡ next self.now header.now.value };
+}
+
 /// A header, and what was recorded of its version's uses before it: by the header before, or by the
 /// leaf.
 #[derive(Drop)]
-pub(crate) struct ToldHeader<'p> {
-    pub(crate) header: HeaderView<'p>,
-    pub(crate) claim: Claim,
+pub struct ToldHeader<'p> {
+    pub header: HeaderView<'p>,
+    pub claim: Claim,
 }
 
 impl<'p> Model for ToldHeader<'p> {
@@ -49,14 +60,25 @@ fn next_link(links: &LinkView, at: u32) -> Option<Link>
     best
 }
 
-/// The version whose header must follow this one; `None` if this version answers or has no link.
-fn expected_after(at: u32, header: &HeaderView) -> Option<Link>
-    ensures { result ≡ expected_after at header.now.value }
-{
-    if header.fields().block <= at {
-        return None;
+/// The lookup of the latest version of a key up to a block.
+#[derive(Clone, Copy, Debug)]
+pub(crate) struct Lookup {
+    /// The block.
+    pub at: u32,
+}
+
+impl NextHeader for Lookup {
+    ghost use Rattle.proof_checks.specs.Checks.{expected_after};
+
+    ghost next = { λ lookup. expected_after lookup.at };
+
+    /// `None` if this version answers or has no link.
+    fn expected(&self, header: &HeaderView) -> Option<Link> {
+        if header.fields().block <= self.at {
+            return None;
+        }
+        next_link(&header.fields().links, self.at)
     }
-    next_link(&header.fields().links, at)
 }
 
 fn claim_of_header(header: &HeaderView) -> Claim
@@ -69,7 +91,7 @@ fn claim_of_header(header: &HeaderView) -> Claim
 }
 
 /// What is wrong with a header at a step where this version's is expected.
-fn header_fault(key: &Key, step: u8, expected: &Link, header: &HeaderView) -> Option<Reject>
+fn header_fault(key: &Key, step: u32, expected: &Link, header: &HeaderView) -> Option<Reject>
     ensures { result ≡ header_fault key.now step expected.now header.now.value }
 {
     let computed = header_digest(header);
@@ -85,20 +107,21 @@ fn header_fault(key: &Key, step: u8, expected: &Link, header: &HeaderView) -> Op
     None
 }
 
-/// Checks the headers, the first of which must be `expected`'s. The last header, or the first
-/// fault.
-pub(crate) fn walk<'p>(
+/// Checks the headers, the first of which must be `first`'s, and each later one that which `rule`
+/// finds from the header before it. The last header, or the first fault. `claim` is what the leaf
+/// records of the uses of the first version.
+pub fn walk<'p, R: NextHeader>(
     key: &Key,
-    at: u32,
-    expected: Option<Link>,
+    rule: &R,
+    first: Option<Link>,
     claim: Claim,
     headers: HeadersView<'p>,
 ) -> Result<Option<ToldHeader<'p>>, Reject>
-    requires { length headers ≤ 255 }
-    ensures { result ≡ walk_end at key.now 0 expected claim None headers.entry }
+    requires { length headers < 2 ^ 32 }
+    ensures { result ≡ walk_end (R.next rule.now) key.now 0 first claim None headers.entry }
 {
     let mut headers = headers;
-    let mut expected = expected;
+    let mut expected = first;
     let mut claim = claim;
     let mut last = None;
     let mut step = 0;
@@ -109,7 +132,7 @@ pub(crate) fn walk<'p>(
         if let Some(fault) = header_fault(key, step, &link, &header) {
             return Err(fault);
         }
-        expected = expected_after(at, &header);
+        expected = rule.expected(&header);
         let next_claim = claim_of_header(&header);
         last = Some(ToldHeader { header, claim });
         claim = next_claim;

@@ -1,4 +1,4 @@
-//! A proof leads to a root: its leaf is hashed, the audit path is climbed (RFC 6962, section
+//! A leaf proof leads to a root: its leaf is hashed, the audit path is climbed (RFC 6962, section
 //! 2.1.1), and the text of the root is hashed.
 
 ghost use Rattle.std.specs.Prelude.{◌≡◌, length};
@@ -9,7 +9,7 @@ ghost use Rattle.proof_checks.specs.Checks.{root_text_of};
 use crate::hashing::leaf_digest;
 use lc_base::Digest;
 use merkle_tree::{MAX_HEIGHT, root_from_leaf};
-use proof_views::{AuditView, ProofView};
+use proof_views::{AuditView, LeafProofView};
 use prov_entry::root_digest;
 
 /// The greatest number of hashes that an audit path can have.
@@ -30,17 +30,18 @@ fn top(index: u32, count: u32, leaf: &Digest, audit: AuditView) -> Digest
     root_from_leaf(index, count, leaf, &path[..length])
 }
 
-/// The root that a proof leads to.
-pub(crate) fn root_of(proof: &ProofView) -> Digest
-    requires { length proof.now.audit ≡ audit_length proof.now.leaf_index proof.now.leaf_count }
-    ensures { result.0 ≡ sha256 (root_text_of proof.now) }
+/// The root that a leaf proof leads to.
+pub(crate) fn root_of(leaf_proof: &LeafProofView) -> Digest
+    requires { length leaf_proof.now.audit ≡ audit_length leaf_proof.now.leaf_index leaf_proof.now.leaf_count }
+    ensures { result.0 ≡ sha256 (root_text_of leaf_proof.now) }
 {
-    let leaf = leaf_digest(proof.leaf());
-    let top = top(proof.leaf_index(), proof.leaf_count(), &leaf, proof.audit());
-    root_digest(
-        proof.root_at(),
-        &proof.block_digest(),
-        proof.leaf_count(),
-        &top,
-    )
+    let leaf = leaf_digest(leaf_proof.leaf());
+    let place = leaf_proof.place();
+    let top = top(
+        place.leaf_index,
+        place.leaf_count,
+        &leaf,
+        leaf_proof.audit(),
+    );
+    root_digest(place.root_at, &place.block_digest, place.leaf_count, &top)
 }

@@ -16,7 +16,7 @@ ghost use Rattle.proof_codec.specs.{
 };
 ghost use Rattle.proof_views.specs.Viewing.{Spells};
 ghost use Rattle.proof_checks.specs.{
-  Checks.{is_same_query, verdict},
+  Checks.{is_same_query, judgement, verdict},
   ProofTexts.{proof_texts},
   Soundness.{AnswersOrClashes},
 };
@@ -24,9 +24,8 @@ ghost use Rattle.proof_verifier.specs.Answering.{answer_seen, fault_told, HasVal
 
 use crate::answers::answer;
 use crate::found::Found;
-use crate::leaf::{claim_of_leaf, covers, expected_first};
-use crate::path::walk;
-use crate::root::root_of;
+use crate::leaf::{claim_of_leaf, expected_first, fault_of_leaf};
+use crate::path::{Lookup, walk};
 use lc_base::{Digest, Query};
 use proof_checks::Reject;
 use proof_codec::kind_byte;
@@ -54,24 +53,23 @@ fn fault_of_view(error: ViewError) -> Reject
     }
 }
 
-/// What a proof answers, or the first check that fails.
-fn judge<'p>(root: &Digest, query: &Query, proof: &ProofView<'p>) -> Result<Found<'p>, Reject>
+/// What a proof answers to its own query for one who has the root at its block, or the first check
+/// that fails.
+pub fn judge<'p>(root: &Digest, proof: &ProofView<'p>) -> Result<Found<'p>, Reject>
     requires { IsProof proof.now }
-    ensures { Answers answer_seen fault_told result (verdict root.now.0 query.now proof.now) }
+    // The answer is returned exactly if no check fails; else the first check that fails is reported.
+    ensures { Answers answer_seen fault_told result (judgement root.now.0 proof.now) }
 {
-    if !is_same_query(query, &proof.query()) {
-        return Err(Reject::OtherQuery);
+    let query = proof.query();
+    let leaf_proof = proof.leaf_proof();
+    if let Some(fault) = fault_of_leaf(root, &query.key, leaf_proof) {
+        return Err(fault);
     }
-    let computed = root_of(proof);
-    if computed.0 != root.0 {
-        return Err(Reject::RootDiffers { computed });
-    }
-    if !covers(&query.key, proof.leaf()) {
-        return Err(Reject::LeafShape);
-    }
-    let expected = expected_first(&query.key, proof.leaf());
-    let claim = claim_of_leaf(proof.leaf());
-    match walk(&query.key, query.at, expected, claim, proof.headers()) {
+    let leaf = leaf_proof.leaf();
+    let rule = Lookup { at: query.at };
+    let first = expected_first(&query.key, leaf);
+    let claim = claim_of_leaf(leaf);
+    match walk(&query.key, &rule, first, claim, proof.headers()) {
         Err(fault) => Err(fault),
         Ok(None) => Ok(Found::Nothing),
         Ok(Some(told)) => match proof.body() {
@@ -79,6 +77,17 @@ fn judge<'p>(root: &Digest, query: &Query, proof: &ProofView<'p>) -> Result<Foun
             Some(body) => answer(query.kind, &told, body, proof.uses()),
         },
     }
+}
+
+/// What a proof answers to a query, or the first check that fails.
+fn judge_for<'p>(root: &Digest, query: &Query, proof: &ProofView<'p>) -> Result<Found<'p>, Reject>
+    requires { IsProof proof.now }
+    ensures { Answers answer_seen fault_told result (verdict root.now.0 query.now proof.now) }
+{
+    if !is_same_query(query, &proof.query()) {
+        return Err(Reject::OtherQuery);
+    }
+    judge(root, proof)
 }
 
 /// Checks a proof for one who has the root at a block: returns the answer to the query, or the
@@ -101,7 +110,7 @@ pub fn verify<'p>(root: &Digest, query: &Query, proof: &'p [u8]) -> Result<Found
     ensures exact { Answers answer_seen fault_told result (verdict_on root.now.0 query.now proof.now) }
 {
     match view(proof) {
-        Ok(view) => judge(root, query, &view),
+        Ok(view) => judge_for(root, query, &view),
         Err(error) => Err(fault_of_view(error)),
     }
 }
@@ -115,7 +124,7 @@ pub fn accept<'p>(root: &Digest, query: &Query, proof: &'p [u8]) -> Result<Proof
     ensures fails { IfErr result (λ fault. verdict_on root.now.0 query.now proof.now ≡ Err fault) }
 {
     match view(proof) {
-        Ok(view) => match judge(root, query, &view) {
+        Ok(view) => match judge_for(root, query, &view) {
             Ok(_found) => Ok(view),
             Err(fault) => Err(fault),
         },

@@ -1,4 +1,4 @@
-//! Reads what comes before the leaf: the magic bytes, the query, the root, and the leaf's index.
+//! Reads what comes before the leaf proof: the magic bytes and the query.
 
 ghost use Rattle.std.specs.Prelude.{nat_le};
 ghost use Rattle.byte_fields.specs.{
@@ -8,19 +8,8 @@ ghost use Rattle.byte_fields.specs.{
 ghost use Rattle.proof_codec.specs.Reading.{kind_of, magic_at, query_at, front_at};
 
 use byte_fields::{Fault, Reader};
-use lc_base::{Digest, Kind, Query};
+use lc_base::{Kind, Query};
 use proof_codec::MAGIC;
-use std::marker::Model;
-
-/// The fields before the leaf, without the magic bytes.
-#[derive(Clone, Copy, Debug)]
-pub(crate) struct FrontView {
-    pub query: Query,
-    pub root_at: u32,
-    pub block_digest: Digest,
-    pub leaf_count: u32,
-    pub leaf_index: u32,
-}
 
 fn kind(reader: &mut Reader) -> Result<Kind, Fault>
     ensures { Reads fault_left result (made_at kind_of (ruled_at (λ n. nat_le n 2) byte_at) reader.old) reader.new }
@@ -54,22 +43,11 @@ fn magic<'p>(reader: &mut Reader<'p>) -> Result<&'p [u8], Fault>
     Ok(bytes)
 }
 
-/// Reads everything before the leaf.
+/// Reads the magic bytes, and returns the query after them.
 #[tactic(auto, unfolding(proof_codec::specs::Reading::front_at))]
-pub(crate) fn front(reader: &mut Reader) -> Result<FrontView, Fault>
-    ensures { ReadsAs (λ front. record { query = front.query; root_at = front.root_at; block_digest = front.block_digest.0; leaf_count = front.leaf_count; leaf_index = front.leaf_index }) fault_left result (front_at reader.old) reader.new }
+pub(crate) fn front(reader: &mut Reader) -> Result<Query, Fault>
+    ensures { Reads fault_left result (front_at reader.old) reader.new }
 {
     magic(reader)?;
-    let query = query(reader)?;
-    let root_at = reader.u32_at_least(query.at)?;
-    let block_digest = Digest(reader.digest_bytes()?);
-    let leaf_count = reader.u32_at_least(1)?;
-    let leaf_index = reader.u32_below(leaf_count)?;
-    Ok(FrontView {
-        query,
-        root_at,
-        block_digest,
-        leaf_count,
-        leaf_index,
-    })
+    query(reader)
 }

@@ -13,7 +13,7 @@ use std::marker::Model;
 /// Headers read in place, the newest first.
 #[derive(Drop)]
 pub struct HeadersView<'p> {
-    count: u8,
+    count: u32,
     reader: Reader<'p>,
 }
 
@@ -67,7 +67,7 @@ impl<'p> HeadersView<'p> {
     }
 }
 
-fn skip_headers(reader: &mut Reader, count: u8) -> Result<(), Fault>
+fn skip_headers(reader: &mut Reader, count: u32) -> Result<(), Fault>
     ensures { Skips result (items_at header_at count reader.old) reader.new }
 {
     for _ in 0..count {
@@ -76,16 +76,23 @@ fn skip_headers(reader: &mut Reader, count: u8) -> Result<(), Fault>
     Ok(())
 }
 
-/// Reads the number of headers in one byte, then the headers.
-#[tactic(auto, unfolding(proof_codec::specs::Reading::headers_at))]
-pub fn read_headers<'p>(reader: &mut Reader<'p>) -> Result<HeadersView<'p>, Fault>
-    ensures { Reads fault_left result (headers_at reader.old) reader.new }
+/// Reads `count` headers, whose number the caller has read.
+pub fn read_each_header<'p>(reader: &mut Reader<'p>, count: u32) -> Result<HeadersView<'p>, Fault>
+    ensures { Reads fault_left result (items_at header_at count reader.old) reader.new }
 {
-    let count = reader.byte()?;
     let headers = Reader::new(reader.rest());
     skip_headers(reader, count)?;
     Ok(HeadersView {
         count,
         reader: headers,
     })
+}
+
+/// Reads the number of headers in one byte, then the headers.
+#[tactic(auto, unfolding(proof_codec::specs::Reading::headers_at))]
+pub(crate) fn read_headers<'p>(reader: &mut Reader<'p>) -> Result<HeadersView<'p>, Fault>
+    ensures { Reads fault_left result (headers_at reader.old) reader.new }
+{
+    let count = reader.byte()?;
+    read_each_header(reader, count as u32)
 }

@@ -14,15 +14,13 @@ ghost use Rattle.proof_codec.specs.{
 };
 ghost use Rattle.proof_views.specs.Viewing.{Spells, proof_in, told_at};
 
-use crate::audit_view::{AuditView, read_audit};
-use crate::front::{FrontView, front};
+use crate::front::front;
 use crate::headers_view::{HeadersView, read_headers};
-use crate::leaf::leaf;
+use crate::leaf_proof_view::{LeafProofView, read_leaf_proof};
 use crate::use_view::{UseView, read_uses};
 use byte_fields::{Fault, Reader};
-use entry_views::{BodyView, LeafView};
-use lc_base::{Digest, Kind, Query};
-use merkle_tree::audit_length;
+use entry_views::BodyView;
+use lc_base::{Kind, Query};
 use std::marker::Model;
 
 /// Why bytes aren't a proof.
@@ -35,9 +33,8 @@ pub enum ViewError {
 /// A proof read in place.
 #[derive(Drop)]
 pub struct ProofView<'p> {
-    front: FrontView,
-    leaf: LeafView<'p>,
-    audit: AuditView<'p>,
+    query: Query,
+    leaf_proof: LeafProofView<'p>,
     headers: HeadersView<'p>,
     body: Option<BodyView<'p>>,
     uses: Option<UseView<'p>>,
@@ -50,13 +47,8 @@ impl<'p> Model for ProofView<'p> {
     ghost Value = { ProofValue };
 
     ghost view = { λ proof. record {
-      query = proof.front.query;
-      root_at = proof.front.root_at;
-      block_digest = proof.front.block_digest;
-      leaf_count = proof.front.leaf_count;
-      leaf_index = proof.front.leaf_index;
-      leaf = proof.leaf.value;
-      audit = proof.audit;
+      query = proof.query;
+      leaf_proof = proof.leaf_proof;
       headers = proof.headers;
       body = option_map (λ body. body.value) proof.body;
       uses = proof.uses;
@@ -68,49 +60,14 @@ impl<'p> ProofView<'p> {
     pub fn query(&self) -> Query
         ensures { result ≡ self.now.query }
     {
-        self.front.query
+        self.query
     }
 
-    /// The block of the root.
-    pub fn root_at(&self) -> u32
-        ensures { result ≡ self.now.root_at }
+    /// What shows the leaf that covers the key.
+    pub fn leaf_proof(&self) -> &LeafProofView<'p>
+        ensures { result.now ≡ self.now.leaf_proof }
     {
-        self.front.root_at
-    }
-
-    /// The digest of the root's block.
-    pub fn block_digest(&self) -> Digest
-        ensures { result ≡ self.now.block_digest }
-    {
-        self.front.block_digest
-    }
-
-    /// The number of leaves of the tree.
-    pub fn leaf_count(&self) -> u32
-        ensures { result ≡ self.now.leaf_count }
-    {
-        self.front.leaf_count
-    }
-
-    /// The index of the proof's leaf, from 0.
-    pub fn leaf_index(&self) -> u32
-        ensures { result ≡ self.now.leaf_index }
-    {
-        self.front.leaf_index
-    }
-
-    /// The leaf that covers the key.
-    pub fn leaf(&self) -> &LeafView<'p>
-        ensures { result.now.value ≡ self.now.leaf }
-    {
-        &self.leaf
-    }
-
-    /// The audit path of the leaf.
-    pub fn audit(&self) -> AuditView<'p>
-        ensures { result ≡ self.now.audit }
-    {
-        self.audit.again()
+        &self.leaf_proof
     }
 
     /// The headers, the newest first.
@@ -172,21 +129,16 @@ fn uses_if<'p>(reader: &mut Reader<'p>, there: bool) -> Result<Option<UseView<'p
 fn proof<'p>(reader: &mut Reader<'p>) -> Result<ProofView<'p>, Fault>
     ensures { Reads fault_left result (proof_at reader.old) reader.new }
 {
-    let front = front(reader)?;
-    let leaf = leaf(reader, front.leaf_index)?;
-    let audit = read_audit(
-        reader,
-        audit_length(front.leaf_index, front.leaf_count) as u8,
-    )?;
+    let query = front(reader)?;
+    let leaf_proof = read_leaf_proof(reader, query.at)?;
     let headers = read_headers(reader)?;
-    let answered = is_answered(&headers, front.query.at);
+    let answered = is_answered(&headers, query.at);
     let body = body_if(reader, answered)?;
-    let asked = asks_uses(front.query.kind, body.is_some());
+    let asked = asks_uses(query.kind, body.is_some());
     let uses = uses_if(reader, asked)?;
     Ok(ProofView {
-        front,
-        leaf,
-        audit,
+        query,
+        leaf_proof,
         headers,
         body,
         uses,

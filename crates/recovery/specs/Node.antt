@@ -7,7 +7,7 @@ use Rattle.lc_io.specs.Disk.{DiskState}
 use Rattle.scratch_model.specs.Scratch.{ScratchState, is_known}
 use Rattle.body_store.specs.Bodies.{BodiesState}
 use Rattle.rooted_chain.specs.merkle_dag.Lineage.{LineageState, AgreesWith}
-use Rattle.disk_model.specs.Disk.{Rests}
+use Rattle.disk_model.specs.Disk.{Keeps, Rests, content_of}
 use Rattle.block_codec.specs.Reading.{block_in}
 use Rattle.block_codec.specs.Placement.{last_digest}
 use Rattle.block_codec.specs.declared.block.Block.{Block}
@@ -119,6 +119,14 @@ IsStepOf blocks (Err refusal) image = chain_in image ≡ Some blocks
 abbrev pub IsLogStepOf : List Block → Result Block ℕ → List ℕ → Type 0
 IsLogStepOf blocks (Ok block) image = IsOldOrNew next_in_log blocks block image
 IsLogStepOf blocks (Err offset) image = chain_of next_in_log image ≡ Some blocks
+
+-- While these bytes are taken, a crash at any moment leaves only that. It is said of the log alone,
+-- so it holds whatever the scratch device returns.
+abbrev pub KeepsLog : {D : Type 0} → (D → ℕ) → (D → ℕ → Option DiskState) → D → D → List ℕ → Type 0
+KeepsLog now disk old new bytes = (blocks : List Block) (content : List ℕ)
+    → content_of (disk old (now old)) ≡ Some content
+    → chain_of next_in_log content ≡ Some blocks
+    → Keeps now disk old new (IsLogStepOf blocks (block_in bytes))
 
 -- What is reported of bytes with this judgement that were not refused. A block that is held already
 -- leaves the node as it was; an added one is reported with its rows, its receipts and the root at

@@ -5,10 +5,9 @@ ghost use Rattle.lc_base.specs.Faults.{HasCause};
 ghost use Rattle.scratch_model.specs.Scratch.{is_known, Serves};
 ghost use Rattle.disk_model.specs.{Disk.{Keeps, content_of}, Leaving.{LeavesWire}};
 ghost use Rattle.block_codec.specs.{Reading.{block_in}, declared.block.Block.{Block as Blocks}};
-ghost use Rattle.block_log.specs.{Standing.{chain_of}, Log.{next_in_log}};
 ghost use Rattle.rooted_chain.specs.chain_exec.Compiled.{compiled_in};
 ghost use Rattle.rooted_chain.specs.chain_replay.Judging.{Added, judgement_of, IsNextBlock};
-ghost use Rattle.recovery.specs.Node.{IsNodeOf, IsReady, IsStepOf, IsLogStepOf, IsAppendAnswer, append_error, Blames, HandsBack, IfNode, is_disk_fault, is_scratch_fault, reaches_disk};
+ghost use Rattle.recovery.specs.Node.{IsNodeOf, IsReady, IsStepOf, KeepsLog, IsAppendAnswer, append_error, Blames, HandsBack, IfNode, is_disk_fault, is_scratch_fault, reaches_disk};
 
 use crate::errors::AppendError;
 use crate::node::{Appended, Node};
@@ -57,10 +56,7 @@ impl Node {
             → judgement_of compiled_in blocks (block_in bytes.now) ≡ Ok (Added block.now)
             → Keeps M.now M.disk machine.old machine.new
             (IsStepOf blocks (Ok (Added block.now))) }
-        ensures log_images { (blocks : List Blocks) (content : List ℕ)
-            → content_of (M.disk machine.old (M.now machine.old)) ≡ Some content
-            → chain_of next_in_log content ≡ Some blocks
-            → Keeps M.now M.disk machine.old machine.new (IsLogStepOf blocks (block_in bytes.now)) }
+        ensures log_images { KeepsLog M.now M.disk machine.old machine.new bytes.now }
         ensures ready { IfNode (λ node. IsReady node (M.disk machine.new (M.now machine.new))
             (S.state scratch.new)) result }
         ensures handed { HandsBack result }
@@ -125,10 +121,7 @@ impl Node {
         // leaves the chain from before the call, or that with the block that the bytes spell, if
         // rows are not counted. Nothing else depends on the device than the rows, which can only
         // refuse a block.
-        ensures log_images { (blocks : List Blocks) (content : List ℕ)
-            → content_of (M.disk machine.old (M.now machine.old)) ≡ Some content
-            → chain_of next_in_log content ≡ Some blocks
-            → Keeps M.now M.disk machine.old machine.new (IsLogStepOf blocks (block_in bytes.now)) }
+        ensures log_images { KeepsLog M.now M.disk machine.old machine.new bytes.now }
         // A node that is returned, with or without an error, is ready for the next block; and it is
         // returned with an error exactly if the bytes are refused.
         ensures ready { IfNode (λ node. IsReady node (M.disk machine.new (M.now machine.new))

@@ -10,6 +10,7 @@ ghost use Rattle.block_codec.specs.{
 ghost use Rattle.block_log.specs.Reader.{AreRead};
 ghost use Rattle.rooted_chain.specs.chain_replay.Chain.{IsKnownFor, StandsFor};
 ghost use Rattle.recovery.specs.Restoring.{HasRead, IfMade, IsRestored, IsRun, ReadsLog, RunsOn, start_error};
+ghost use Rattle.recovery.specs.declared.errors.StartError.TheVariants as starts;
 
 use crate::errors::StartError;
 use block_codec::Placement;
@@ -35,9 +36,7 @@ impl From<LogError> for StartError {
 }
 
 impl From<Memory> for StartError {
-    ghost use Rattle.recovery.specs.declared.errors.StartError.TheVariants.{Memory};
-
-    ghost from_gives = { λ _ error. error ≡ Memory };
+    ghost from_gives = { λ _ error. error ≡ starts.Memory };
 
     fn from(_memory: Memory) -> StartError {
         StartError::Memory

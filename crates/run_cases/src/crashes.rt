@@ -39,8 +39,7 @@ fn print_moments<W: Write>(alloc: Global, out: &mut W, machine: &MemMachine) -> 
         write!(out, "at {moment} ")?;
         print_piece(alloc, out, bytes)?;
     }
-    let moment = machine.moment();
-    writeln!(out, "moment {moment}")?;
+    writeln!(out, "moment {}", machine.moment())?;
     Ok(())
 }
 

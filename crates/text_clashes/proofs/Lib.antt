@@ -5,3 +5,4 @@ pub mod OneFirst
 pub mod Searched
 pub mod Ways
 pub mod Parts
+pub mod PartClash

@@ -3,3 +3,4 @@ pub mod Places
 pub mod Search
 pub mod Searching
 pub mod Ways
+pub mod PartClash

@@ -4,6 +4,7 @@
 
 mod finding;
 mod found;
+mod laws;
 mod lists;
 mod proof;
 mod search;
@@ -12,7 +13,9 @@ mod text;
 mod way;
 
 pub use finding::first_clash;
-pub use proof::proof_texts;
+pub use laws::clash_of_a_part;
+pub use lists::push_headers;
+pub use proof::{proof_texts, push_leaf_proof};
 pub use proof_views::ProofView;
 pub use search::ClashSearch;
 pub use text::{node_text, root_text, tagged_text, use_text};

@@ -17,8 +17,8 @@ fn push_header(texts: &mut TextList, header: &HeaderView) -> Result<(), Memory>
     push_tagged(texts, HEADER, header.bytes())
 }
 
-/// Appends the texts of headers.
-pub(crate) fn push_headers(texts: &mut TextList, headers: HeadersView) -> Result<(), Memory>
+/// Appends the texts of headers. `Memory` if the allocator has no room.
+pub fn push_headers(texts: &mut TextList, headers: HeadersView) -> Result<(), Memory>
     ensures { OnOk result (texts.new ≡ texts.old ++ map header_text headers.entry) }
 {
     let mut headers = headers;

@@ -6,7 +6,7 @@ ghost use Rattle.merkle_tree.specs.{
   declared.limits.TheConstants.{MAX_HEIGHT},
 };
 ghost use Rattle.prov_entry.specs.{Spelling.{leaf_bytes}, ForwardLists.{start_text}};
-ghost use Rattle.proof_checks.specs.{Checks.{climb_of, root_text_of}, ProofTexts.{proof_texts}};
+ghost use Rattle.proof_checks.specs.{Checks.{climb_of, root_text_of}, ProofTexts.{leaf_proof_texts, proof_texts}};
 
 use crate::lists::{push_body, push_headers, push_uses};
 use crate::text::{push_root, push_tagged};
@@ -14,7 +14,7 @@ use crate::way::push_way;
 use entry_views::LeafView;
 use lc_base::{Memory, TextList};
 use merkle_tree::{LEAF, leaf_hash};
-use proof_views::ProofView;
+use proof_views::{LeafProofView, ProofView};
 use prov_entry::FORWARD_START;
 use std::alloc::Global;
 
@@ -25,25 +25,47 @@ fn push_leaf(texts: &mut TextList, leaf: &LeafView) -> Result<(), Memory>
 }
 
 /// Appends the texts of the nodes from the leaf upward, then that of the root.
-fn push_upward(texts: &mut TextList, proof: &ProofView) -> Result<(), Memory>
-    requires { length proof.now.audit ≡ audit_length proof.now.leaf_index proof.now.leaf_count }
-    ensures { OnOk result (texts.new ≡ texts.old ++ (climb_texts_to MAX_HEIGHT proof.now.leaf_index proof.now.leaf_count (climb_of proof.now) ++ root_text_of proof.now ∷ [])) }
+fn push_upward(texts: &mut TextList, leaf_proof: &LeafProofView) -> Result<(), Memory>
+    requires { length leaf_proof.now.audit ≡ audit_length leaf_proof.now.leaf_index leaf_proof.now.leaf_count }
+    ensures { OnOk result (texts.new ≡ texts.old ++ (climb_texts_to MAX_HEIGHT leaf_proof.now.leaf_index leaf_proof.now.leaf_count (climb_of leaf_proof.now) ++ root_text_of leaf_proof.now ∷ [])) }
 {
-    let leaf = leaf_hash(proof.leaf().bytes());
-    let count = proof.leaf_count();
-    let top = push_way(texts, proof.leaf_index(), count, leaf, proof.audit())?;
-    push_root(texts, proof.root_at(), &proof.block_digest(), count, &top)
+    let leaf = leaf_hash(leaf_proof.leaf().bytes());
+    let place = leaf_proof.place();
+    let top = push_way(
+        texts,
+        place.leaf_index,
+        place.leaf_count,
+        leaf,
+        leaf_proof.audit(),
+    )?;
+    push_root(
+        texts,
+        place.root_at,
+        &place.block_digest,
+        place.leaf_count,
+        &top,
+    )
 }
 
-/// The texts of a proof: its leaf, the nodes from there upward, the root, the headers, the body,
-/// the empty forward list, and the uses. `Memory` if the allocator has no room.
+/// Appends the texts of a leaf proof: the leaf, the nodes from there upward, and the root. `Memory`
+/// if the allocator has no room.
+pub fn push_leaf_proof(texts: &mut TextList, leaf_proof: &LeafProofView) -> Result<(), Memory>
+    requires { length leaf_proof.now.audit ≡ audit_length leaf_proof.now.leaf_index leaf_proof.now.leaf_count }
+    ensures { OnOk result (texts.new ≡ texts.old ++ leaf_proof_texts leaf_proof.now) }
+{
+    push_leaf(texts, leaf_proof.leaf())?;
+    push_upward(texts, leaf_proof)?;
+    Ok(())
+}
+
+/// The texts of a proof: those of its leaf proof, the headers, the body, the empty forward list, and
+/// the uses. `Memory` if the allocator has no room.
 pub fn proof_texts(alloc: Global, proof: &ProofView) -> Result<TextList, Memory>
-    requires { length proof.now.audit ≡ audit_length proof.now.leaf_index proof.now.leaf_count }
+    requires { length proof.now.leaf_proof.audit ≡ audit_length proof.now.leaf_proof.leaf_index proof.now.leaf_proof.leaf_count }
     ensures { IfOk result (λ texts. texts ≡ proof_texts proof.now) }
 {
     let mut texts = TextList::new(alloc);
-    push_leaf(&mut texts, proof.leaf())?;
-    push_upward(&mut texts, proof)?;
+    push_leaf_proof(&mut texts, proof.leaf_proof())?;
     push_headers(&mut texts, proof.headers())?;
     push_body(&mut texts, proof.body())?;
     push_tagged(&mut texts, FORWARD_START, &[])?;

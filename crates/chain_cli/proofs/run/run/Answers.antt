@@ -5,7 +5,7 @@ use Rattle.scratch_model.specs.Scratch.{is_known}
 use Rattle.block_codec.proofs.WholeBlocks.{decided}
 use Rattle.cli_proofs.specs.chain_exec.Compiled.{compiled_in}
 use Rattle.cli_append.specs.recovery.Node.{next_in_chain}
-use Rattle.cli_output.specs.Output.{changes_log}
+use Rattle.cli_output.specs.Uses.{changes_log}
 use Rattle.chain_cli.proofs.Runs.{with_status}
 use Rattle.chain_cli.proofs.Moments.{any_command}
 use Rattle.chain_cli.proofs.OneOutput.{compiled_by}

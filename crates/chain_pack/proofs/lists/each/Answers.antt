@@ -12,7 +12,7 @@ returns-in_err-value-clause-reads g c =
 
 pub loop-item-preserved : goal.loop-item-preserved
 loop-item-preserved g c =
-    rw c.in_ok-push.ensures.ok (made_more view g.T.FromJson.made g.T.FromJson.lawful c.args.items.now c.loop-item.item-index c.loop-item.list c.item-item.result c.in_ok-value.value c.loop-item-test.true c.item-item.is c.in_ok-value.ensures.read c.in_ok-value.ensures.lawful c.loop-item.invariant)
+    rw c.in-Ok.ensures.ok (made_more view g.T.FromJson.made g.T.FromJson.lawful c.args.items.now c.loop-item.item-index c.loop-item.list c.item-item.result c.in_ok-value.value c.loop-item-test.true c.item-item.is c.in_ok-value.ensures.read c.in_ok-value.ensures.lawful c.loop-item.invariant)
 
 pub returns-clause-reads : goal.returns-clause-reads
 returns-clause-reads g c = record { read = ap result_ok (made_all view g.T.FromJson.made g.T.FromJson.lawful c.args.items.now c.loop-item.item-index c.loop-item.list c.loop-item-test.false c.loop-item.invariant); lawful = c.loop-item.invariant.lawful }

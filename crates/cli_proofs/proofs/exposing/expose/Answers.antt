@@ -1,24 +1,22 @@
-use Rattle.std.proofs.Common.{◌∙◌}
-use Rattle.scratch_model.specs.Scratch.{is_known}
-use Rattle.block_log.specs.Standing.{standing}
-use Rattle.cli_output.specs.recovery.Node.{next_in_chain}
-use Rattle.cli_output.proofs.Meets.{chain_of_node}
-use Rattle.cli_proofs.proofs.Exposes.{expose_run, expose_refused, has_log}
+use Rattle.std.proofs.Common.{List, ℕ, subst}
+use Rattle.std.specs.Prelude.{IfOk}
+use Rattle.answer_proof.specs.merkle_dag.Lineage.{ledger_in}
+use Rattle.cli_proofs.specs.Exposing.{IsHeld}
+use Rattle.cli_proofs.proofs.Exposes.{past_told, long_told, whole_result}
 use Rattle.cli_proofs.proofs.exposing.expose.Goals as goal
 
-pub returns-in-Ok-clause-run : goal.returns-in-Ok-clause-run
-returns-in-Ok-clause-run g c =
-    expose_run g.M.Clock.now g.M.Clock.disk g.M.Clock.told c.args.machine.now c.start.new.machine c.tell_answer.new.machine c.args.root.now c.args.query.now c.args.root_at c.in-Ok.node.chain c.last_held-outcome.result c.tell_answer.result
-    (g.I.Source.left c.args.source.now) (g.I.Source.left c.last_held-outcome.new.source) (is_known (g.S.Scratch.state c.args.scratch.now)) c.requires.settled c.start.ensures.machine.stays c.start.ensures.machine.wire.told
-    (λ heard content told. chain_of_node (g.M.Clock.disk c.start.new.machine (g.M.Clock.now c.start.new.machine)) c.in-Ok.node (standing next_in_chain content) (c.in-Ok.ensures.answer heard content told))
-    (λ heard. c.last_held-outcome.ensures.outcome (c.start.ensures.scratch.retains.known ∙ heard)) c.tell_answer.ensures.disk.stays (c.tell_answer.ensures.tells next_in_chain)
+pub returns-then-not-reaches-clause-outcome : goal.returns-then-not-reaches-clause-outcome
+returns-then-not-reaches-clause-outcome g c told kept same =
+    past_told (ledger_in c.args.lineage.now) kept same c.args.root.now.0 c.args.query.now c.args.root_at c.head.result (g.I.Source.left c.args.source.now) c.in_ok-beyond.field-0 (cc c.if-not-reaches.ensures)
+    c.head.ensures c.in_ok-beyond.ensures.outcome
 
-pub returns-in-Ok-clause-no_log : goal.returns-in-Ok-clause-no_log
-returns-in-Ok-clause-no_log g c none =
-    let found = has_log g.M.Clock.now g.M.Clock.disk g.M.Clock.told c.start.new.machine c.tell_answer.new.machine c.last_held-outcome.result c.tell_answer.result (c.tell_answer.ensures.tells next_in_chain) c.last_held-outcome.ensures.ends in
-    absurd (cc (none, found))
+pub returns-in_ok-bad_input-in-None-clause-outcome : goal.returns-in_ok-bad_input-in-None-clause-outcome
+returns-in_ok-bad_input-in-None-clause-outcome g c told kept same =
+    long_told (ledger_in c.args.lineage.now) kept same c.args.root.now.0 c.args.query.now c.args.root_at (g.I.Source.left c.args.source.now) (g.I.Source.left c.read_whole.new.source) c.in_ok-read_whole.field-0 c.in_ok-bad_input-in-None.field-0 (cc c.if-not-reaches.ensures)
+    c.in-None.is c.in_ok-read_whole.ensures.whole c.in_ok-bad_input-in-None.ensures
 
-pub returns-in-Err-clause-run : goal.returns-in-Err-clause-run
-returns-in-Err-clause-run g c =
-    expose_refused g.M.Clock.now g.M.Clock.disk g.M.Clock.told c.args.machine.now c.start.new.machine c.tell_start.new.machine c.args.root.now c.args.query.now c.args.root_at c.in-Err.error c.tell_start.result (g.I.Source.left c.args.source.now) (is_known (g.S.Scratch.state c.args.scratch.now))
-    c.requires.settled c.start.ensures.machine.stays c.start.ensures.machine.wire.told c.in-Err.ensures.answer c.tell_start.ensures.disk.stays (c.tell_start.ensures.says next_in_chain)
+pub returns-in-Some-clause-outcome : goal.returns-in-Some-clause-outcome
+returns-in-Some-clause-outcome g c told kept same =
+    whole_result (ledger_in c.args.lineage.now) kept same c.args.root.now.0 c.args.query.now c.args.root_at (g.I.Source.left c.args.source.now) (g.I.Source.left c.read_whole.new.source) c.in_ok-read_whole.field-0 c.in-Some.bytes c.input_outcome.result (cc c.if-not-reaches.ensures)
+    c.in-Some.is c.in_ok-read_whole.ensures.whole
+    (subst (λ (b : List ℕ). IfOk c.input_outcome.result (IsHeld (ledger_in c.args.lineage.now) c.args.root.now.0 c.args.query.now c.args.root_at b)) c.as_bytes-input.ensures (c.input_outcome.ensures.outcome told))

@@ -1,0 +1,157 @@
+//! What is found for a command that prints at its end. All that such a command works over is opened
+//! here, and discarded.
+
+ghost use Rattle.std.specs.Prelude.{◌≡◌, ℕ, Bool, true, false, List, Option, Some, IsErrOf};
+ghost use Rattle.lc_base.specs.Faults.{HasCause};
+ghost use Rattle.disk_model.specs.Disk.{IsSettled};
+ghost use Rattle.chain_replay.specs.Chain.{ChainState};
+ghost use Rattle.scratch_model.specs.Scratch.{is_known};
+ghost use Rattle.cli_append.specs.recovery.Restoring.{ReadsLog};
+ghost use Rattle.cli_proofs.specs.{
+  Exposing.{ledger_kept},
+  merkle_dag.Lineage.{AgreesWith, ledger_in},
+};
+ghost use Rattle.cli_words.specs.{Words.{CanBeGiven}, declared.words.Command.TheVariants.{Ask}};
+ghost use Rattle.cli_output.specs.{
+  Running.{MayEnd, found_no_log},
+  Scanning.{IsFoundFor, IsFoundOver},
+  Telling.{status_of_found},
+  Uses.{asks_lineage, reads_input, uses_disk, uses_scratch, tells_as_it_goes},
+};
+
+use crate::fmt::fmt;
+use crate::loading::load_outcome;
+use crate::over_log::{ask_outcome, root_outcome};
+use crate::packing::pack;
+use crate::scan::scan;
+use cli_append::{Node, Outcome, stored_chain};
+use cli_output::{OutcomeStop, start_outcome};
+use cli_proofs::{Lineage, expose, prove, verify};
+use cli_words::Command;
+use disk_model::Disk;
+use lc_base::{Key, Kind};
+use lc_io::Source;
+use resources::Resources;
+use scratch_model::Scratch;
+use std::alloc::Global;
+
+/// What is found over the rows of the log's blocks.
+fn ask_rows<M: Disk>(
+    resources: Resources,
+    kind: Kind,
+    key: Key,
+    at: Option<u32>,
+    machine: &mut M,
+) -> Result<Outcome, OutcomeStop>
+    requires settled { IsSettled (M.disk machine.old (M.now machine.old)) }
+    ensures found { (left : Option (List ℕ)) (held : Bool) → IsFoundFor (M.disk machine.old (M.now machine.old)) left left held (Some (Ask kind key at)) result }
+    ensures ends { MayEnd (status_of_found result) (Some (Ask kind key at)) }
+    ensures reads { IsErrOf result OutcomeStop.Unreadable → ⊥ }
+    ensures keeps { IsErrOf result OutcomeStop.ScratchFault → ⊥ }
+    ensures machine { ReadsLog M.now M.disk M.disk_faults M.told M.wire_faults machine.old machine.new (IsErrOf result OutcomeStop.DiskFault) }
+{
+    let alloc = resources.alloc;
+    match stored_chain(resources, machine) {
+        Ok(chain) => Ok(ask_outcome(alloc, kind, key, at, chain)?),
+        Err(error) => start_outcome(alloc, error),
+    }
+}
+
+/// What is found over the lineage of a chain.
+fn lineage_outcome<I: Source, S: Scratch>(
+    alloc: Global,
+    command: &Command,
+    lineage: &mut Lineage,
+    source: &mut I,
+    scratch: &mut S,
+) -> Result<Outcome, OutcomeStop>
+    requires asks { asks_lineage (Some command.now) ≡ true }
+    requires agrees { AgreesWith lineage.old (S.state scratch.old) }
+    // Holds if it is known which bytes the scratch device holds.
+    ensures found { is_known (S.state scratch.old) ≡ true → (kept : ChainState) → ledger_in lineage.old ≡ ledger_kept kept
+        → IsFoundOver kept (I.left source.old) (I.left source.new) command.now result }
+    // Hold in either case.
+    ensures ends { MayEnd (status_of_found result) (Some command.now) }
+    ensures has_log { found_no_log (status_of_found result) ≡ false }
+    ensures disk { IsErrOf result OutcomeStop.DiskFault → ⊥ }
+    ensures unread { reads_input (Some command.now) ≡ false → source.new ≡ source.old }
+    ensures unreadable { HasCause (I.source_faults source.old) (I.source_faults source.new) (IsErrOf result OutcomeStop.Unreadable) }
+    ensures scratch_fault { HasCause (S.scratch_faults scratch.old) (S.scratch_faults scratch.new) (IsErrOf result OutcomeStop.ScratchFault) }
+{
+    match command {
+        Command::Root(at) => Ok(root_outcome(alloc, *at, lineage)?),
+        Command::Prove { query, root_at } => prove(alloc, query, *root_at, lineage, scratch),
+        Command::Expose {
+            root,
+            query,
+            root_at,
+        } => expose(alloc, root, query, *root_at, lineage, source, scratch),
+        _ => unreachable!(),
+    }
+}
+
+/// What is found over the lineage of the log's blocks, which is discarded.
+fn ask_lineage<I: Source, M: Disk, S: Scratch>(
+    resources: Resources,
+    command: &Command,
+    source: &mut I,
+    machine: &mut M,
+    scratch: &mut S,
+) -> Result<Outcome, OutcomeStop>
+    requires settled { IsSettled (M.disk machine.old (M.now machine.old)) }
+    requires asks { asks_lineage (Some command.now) ≡ true }
+    ensures found { IsFoundFor (M.disk machine.old (M.now machine.old)) (I.left source.old) (I.left source.new) (is_known (S.state scratch.old)) (Some command.now) result }
+    ensures ends { MayEnd (status_of_found result) (Some command.now) }
+    ensures no_log { found_no_log (status_of_found result) ≡ true → source.new ≡ source.old }
+    ensures unread { reads_input (Some command.now) ≡ false → source.new ≡ source.old }
+    ensures machine { ReadsLog M.now M.disk M.disk_faults M.told M.wire_faults machine.old machine.new (IsErrOf result OutcomeStop.DiskFault) }
+    ensures unreadable { HasCause (I.source_faults source.old) (I.source_faults source.new) (IsErrOf result OutcomeStop.Unreadable) }
+    ensures scratch_fault { HasCause (S.scratch_faults scratch.old) (S.scratch_faults scratch.new) (IsErrOf result OutcomeStop.ScratchFault) }
+{
+    let alloc = resources.alloc;
+    match Node::start(resources, machine, scratch) {
+        Ok(node) => {
+            let mut lineage = node.into_lineage();
+            let found = lineage_outcome(alloc, command, &mut lineage, source, scratch);
+            lineage.give_up();
+            found
+        }
+        Err(error) => start_outcome(alloc, error),
+    }
+}
+
+/// What is found for a command that prints at its end: its outcome, or why it stops without one.
+pub fn find<I: Source, M: Disk, S: Scratch>(
+    resources: Resources,
+    command: &Command,
+    source: &mut I,
+    machine: &mut M,
+    scratch: &mut S,
+) -> Result<Outcome, OutcomeStop>
+    requires given { CanBeGiven command.now }
+    requires settled { IsSettled (M.disk machine.old (M.now machine.old)) }
+    requires at_end { tells_as_it_goes (Some command.now) ≡ false }
+    ensures found { IsFoundFor (M.disk machine.old (M.now machine.old)) (I.left source.old) (I.left source.new) (is_known (S.state scratch.old)) (Some command.now) result }
+    ensures ends { MayEnd (status_of_found result) (Some command.now) }
+    ensures no_log { found_no_log (status_of_found result) ≡ true → source.new ≡ source.old }
+    ensures unread { reads_input (Some command.now) ≡ false → source.new ≡ source.old }
+    ensures unused { uses_disk (Some command.now) ≡ false → M.disk_faults machine.new ≡ M.disk_faults machine.old }
+    ensures unused_scratch { uses_scratch (Some command.now) ≡ false → scratch.new ≡ scratch.old }
+    ensures machine { ReadsLog M.now M.disk M.disk_faults M.told M.wire_faults machine.old machine.new (IsErrOf result OutcomeStop.DiskFault) }
+    ensures unreadable { HasCause (I.source_faults source.old) (I.source_faults source.new) (IsErrOf result OutcomeStop.Unreadable) }
+    ensures scratch_fault { HasCause (S.scratch_faults scratch.old) (S.scratch_faults scratch.new) (IsErrOf result OutcomeStop.ScratchFault) }
+{
+    let alloc = resources.alloc;
+    match command {
+        Command::Scan(query) => scan(resources, query, source),
+        Command::Fmt => fmt(alloc, source),
+        Command::Pack => pack(alloc, source),
+        Command::Load(generation) => load_outcome(resources, scratch, generation),
+        Command::Ask { kind, key, at } => ask_rows(resources, *kind, *key, *at, machine),
+        Command::Verify { root, query } => verify(alloc, root, query, source),
+        Command::Root(_) | Command::Prove { .. } | Command::Expose { .. } => {
+            ask_lineage(resources, command, source, machine, scratch)
+        }
+        Command::Gen(_) | Command::Append => unreachable!(),
+    }
+}

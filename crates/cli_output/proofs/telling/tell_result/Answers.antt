@@ -1,6 +1,0 @@
-use Rattle.cli_append.specs.recovery.Node.{next_in_chain}
-use Rattle.cli_output.proofs.Ends.{made_ends}
-use Rattle.cli_output.proofs.telling.tell_result.Goals as goal
-
-pub returns-in-Ok-clause-ends : goal.returns-in-Ok-clause-ends
-returns-in-Ok-clause-ends g c command reads ends = made_ends c.args.outcome c.in-Ok.outcome c.tell_outcome.result command c.in-Ok.is (c.tell_outcome.ensures.says next_in_chain).ending c.tell_outcome.ensures.stop ends
