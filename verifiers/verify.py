@@ -27,7 +27,7 @@ DIGEST_BYTES = 32
 MAGIC = b"LCP1"
 KINDS = ["hist", "back", "fwd"]
 HIST, BACK, FWD = range(3)
-INT, TEXT = range(2)
+INT, TEXT, GONE = range(3)
 # The first byte of what is hashed.
 LEAF, NODE, HEADER, BODY, NO_USES, USE, ROOT = (bytes([tag]) for tag in range(7))
 
@@ -176,9 +176,12 @@ class Fields:
 
     def value(self):
         """A value as it is printed."""
-        if self.number(1, INT, TEXT) == TEXT:
+        tag = self.number(1, INT, GONE)
+        if tag == INT:
+            return f"int {int.from_bytes(self.take(8), 'big', signed=True)}"
+        if tag == TEXT:
             return "text " + self.string(0, MAX_TEXT_BYTES, PRINTABLE).decode("ascii")
-        return f"int {int.from_bytes(self.take(8), 'big', signed=True)}"
+        return "gone"
 
     def place(self):
         """The key and the block of a use."""

@@ -9,7 +9,7 @@ taken, so it isn't in the sum.
 import dataclasses
 
 from cases.block_files import (
-    BAD_ARGS, BAD_BLOCK, BAD_INDEX, BAD_KEY, BAD_SOURCE, CONFLICT, DIV_ZERO, FAILED, FOREIGN,
+    BAD_ARGS, BAD_BLOCK, BAD_INDEX, BAD_KEY, BAD_SOURCE, CONFLICT, DIV_ZERO, FAILED, FOREIGN, GONE,
     NO_CONTRACT, NO_FUNCTION, NO_KEY, NOT_READ, OK, OUT_OF_STEPS, OVERFLOW, TAKEN, TEXT_TOO_LONG,
     TOO_MANY, WRONG_KIND, Block, Chain, block_file, calls, deploys, sets,
 )
@@ -764,10 +764,15 @@ def one_call_with(count):
     return block_file([[calls("c", "f", list(range(count)), 100, NO_CONTRACT, 0)]])
 
 
+SET_GONE = block_file([[sets("raw/a", GONE)]])
+CALL_GONE = block_file([[calls("c", "f", [GONE], 100, NO_CONTRACT, 0)]])
+
+
 # In a block the kind of the first transaction is at 39, and its sender takes 3 bytes. The fields of
 # the call before its budget take 1 + 3 + 3 + 3 + 1 bytes, those of the Deploy before its source
-# 1 + 3 + 3, and those of the Set before the length of its text 1 + 3 + 7 + 1. A number takes 9 bytes.
-REFUSED = [
+# 1 + 3 + 3, and those of the Set before the tag of its value 1 + 3 + 7. The length of a text follows
+# its tag, and a number takes 9 bytes with its tag.
+PLACED = [
     ("hist raw/a 0", "refused frame 0 budget 11000000", eleven_calls(1_000_000)),
     ("hist raw/a 0", "refused frame 0 budget 10000001", eleven_calls(1)),
     ("hist raw/a 0", "none", eleven_calls(0)),
@@ -781,4 +786,6 @@ REFUSED = [
     ("hist raw/a 0", "block 0 tx 0 int 1", one_set(64)),
     ("hist raw/a 0", "refused frame 0 malformed 49", one_call_with(9)),
     ("hist raw/a 0", "none", one_call_with(8)),
+    ("hist raw/a 0", "refused frame 0 malformed 50", SET_GONE),
+    ("hist raw/a 0", "refused frame 0 malformed 50", CALL_GONE),
 ]

@@ -1,6 +1,7 @@
 """Blocks as bytes, by docs/formats.md, and what is expected of their transactions."""
 import dataclasses
 import hashlib
+import itertools
 
 # How a transaction ends, by its number in docs/language.md.
 OK = 0
@@ -24,6 +25,13 @@ TOO_MANY = 17
 NOT_READ = 18
 FAILED = 19
 
+# The value of a version that is gone: bodies have it, and no block may.
+GONE = None
+
+# The versions of blocks, each the first byte of those that have it.
+FIRST_VERSION = 1
+SECOND_VERSION = 2
+
 
 @dataclasses.dataclass
 class Tx:
@@ -36,10 +44,11 @@ class Tx:
 
 @dataclasses.dataclass
 class Block:
-    """The transactions of a block, and how many rows they write together."""
+    """The transactions of a block, how many rows they write together, and its version."""
 
     rows: int
     txs: list
+    version: int = FIRST_VERSION
 
 
 @dataclasses.dataclass
@@ -51,7 +60,8 @@ class Chain:
     questions: dict = dataclasses.field(default_factory=dict)
 
     def file(self):
-        return block_file(block.txs for block in self.blocks)
+        txs, versions = zip(*((block.txs, block.version) for block in self.blocks))
+        return block_file(txs, versions)
 
 
 def number(of, width):
@@ -64,6 +74,8 @@ def string(text):
 
 
 def value(of):
+    if of is GONE:
+        return b"\2"
     if isinstance(of, int):
         return b"\0" + of.to_bytes(8, "big", signed=True)
     return b"\1" + string(of)
@@ -88,12 +100,18 @@ def block_digest(block):
     return hashlib.sha256(b"\7" + block).digest()
 
 
-def block_file(blocks):
-    """The frames of blocks from the number 0 on, each with the digest of the one before."""
+def block_frame(version, at, parent, txs):
+    """The frame of a block of any version, number and parent."""
+    block = number(version, 1) + number(at, 4) + parent + number(len(txs), 2)
+    block += b"".join(tx.bytes for tx in txs)
+    return number(len(block), 4) + block
+
+
+def block_file(blocks, versions=itertools.repeat(FIRST_VERSION)):
+    """The frames of blocks from the number 0 on, each with the digest of the one before; all are of the
+    first version where no versions are given."""
     frames, parent = [], bytes(32)
-    for block_number, txs in enumerate(map(list, blocks)):
-        block = b"\1" + number(block_number, 4) + parent + number(len(txs), 2)
-        block += b"".join(tx.bytes for tx in txs)
-        parent = block_digest(block)
-        frames.append(number(len(block), 4) + block)
+    for at, (version, txs) in enumerate(zip(versions, map(list, blocks))):
+        frames.append(block_frame(version, at, parent, txs))
+        parent = block_digest(frames[-1][4:])
     return b"".join(frames)

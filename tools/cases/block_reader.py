@@ -2,7 +2,7 @@
 import re
 from typing import NamedTuple
 
-from cases.block_files import block_digest
+from cases.block_files import FIRST_VERSION, SECOND_VERSION, block_digest
 from cases.log_cases import CLOSED, CLOSED_HEAD, FIRST_GATE, HEAD, OPEN
 from lineage.draft_faults import MAX_ARGS, MAX_BUDGET, MAX_BUDGETS, MAX_DEPS, MAX_SOURCE_BYTES, MAX_TXS
 
@@ -11,7 +11,6 @@ MAX_TEXT_BYTES = 1_024
 MAX_KEY_BYTES = 64
 MAX_NAME_BYTES = 16
 MAX_NUMBER = 2**32 - 1
-VERSION = 1
 SET, DEPLOY, CALL = 1, 2, 3
 NO_PARENT = bytes(32)
 
@@ -109,14 +108,14 @@ class Fields:
         return Call(contract, function, args, self.number(4, 0, MAX_BUDGET))
 
     def whole_block(self):
-        """The number, the parent and the transactions of a block."""
-        self.number(1, VERSION, VERSION)
+        """The version, the number, the parent and the transactions of a block."""
+        version = self.number(1, FIRST_VERSION, SECOND_VERSION)
         number = self.number(4, 0, MAX_NUMBER)
         parent = self.take(32)
         txs = [self.tx() for _ in range(self.number(2, 0, MAX_TXS))]
         if self.offset < len(self.block):
             raise Invalid(self.offset)
-        return number, parent, txs
+        return version, number, parent, txs
 
 
 def decoded(field):
@@ -136,15 +135,21 @@ def frame_at(file, start):
 
 
 class Chain:
-    """Blocks that were taken one after another: their bytes, and the transactions of each."""
+    """Blocks that were taken one after another: their bytes, and the transactions of each. Those of a log are of
+    the first version; of others that of the last one says which may follow."""
 
-    def __init__(self):
+    def __init__(self, is_of_log=False):
         self.frames, self.digests, self.blocks = [], [], []
+        self.is_of_log, self.last_version = is_of_log, FIRST_VERSION
+
+    def wanted_version(self, version):
+        """The version that the next block must have, where it has this one."""
+        return FIRST_VERSION if self.is_of_log else max(self.last_version, version)
 
     def take_in(self, frame):
         """Takes the block of a frame after those that are held, and answers true, unless it is one of them."""
         try:
-            number, parent, txs = Fields(frame).whole_block()
+            version, number, parent, txs = Fields(frame).whole_block()
         except Invalid as fault:
             raise Refused(f"malformed {fault.offset}") from fault
         held = len(self.digests)
@@ -157,12 +162,15 @@ class Chain:
         wanted = self.digests[-1] if self.digests else NO_PARENT
         if parent != wanted:
             raise Refused(f"parent {wanted.hex()}")
+        if version != self.wanted_version(version):
+            raise Refused(f"version {self.wanted_version(version)}")
         budgets = sum(tx.budget() for tx in txs)
         if budgets > MAX_BUDGETS:
             raise Refused(f"budget {budgets}")
         self.frames.append(frame)
         self.digests.append(block_digest(frame))
         self.blocks.append(txs)
+        self.last_version = version
         return True
 
     def fold(self, file):
@@ -188,7 +196,7 @@ class Chain:
 def stands_for(image):
     """The chain that the bytes of a log stand for, none where the file isn't there, or the line that tells
     what they are else."""
-    chain = Chain()
+    chain = Chain(is_of_log=True)
     closed_head = len(image or b"") > FIRST_GATE and image[1:FIRST_GATE] == CLOSED_HEAD[1:]
     if image is None or len(image) <= 1 or image[:1] == CLOSED:
         return chain, None

@@ -7,7 +7,7 @@ tools/cases/block_reader.py.
 import itertools
 from typing import NamedTuple
 
-from cases.block_files import OK, OUT_OF_STEPS, block_file, calls, deploys, number, sets
+from cases.block_files import GONE, OK, OUT_OF_STEPS, block_file, calls, deploys, number, sets
 from cases.block_reader import stands_for
 from cases.changed_files import CHANGES, written
 from cases.log_cases import (
@@ -168,6 +168,29 @@ def other_paths():
     yield NEWEST_PROVED.case(NEWEST_PROVED.proof[: -len(newest_body)] + older_body, "rejected body")
 
 
+# ---- a proof of a version that is gone
+
+
+# Only a contract makes one, so it stands here in blocks that are empty: a proof has no more of a block than its digest.
+GONE_ROWS = [Row("raw/a", 0, 0, 1, []), Row("raw/a", 1, 0, GONE, [("raw/a", 0)])]
+GONE_FILE = block_file([[], []])
+
+
+def gone_proofs():
+    """It is accepted with that answer; and a tag past that of a value that is gone is invalid."""
+    told = [
+        ("hist", 0, "block 0 tx 0 int 1"), ("hist", 1, "block 1 tx 0 gone"),
+        ("back", 1, "block 1 deps 1"), ("fwd", 0, "block 0 uses 1"), ("fwd", 1, "block 1 uses 0"),
+    ]
+    for kind, at, begin in told:
+        asked = proved(GONE_FILE, GONE_ROWS, kind, "raw/a", at, 1)
+        yield asked.case(asked.proof, begin)
+    # The body is the tag, the count of dependencies, and one of a key in 7 bytes, a block in 4 and a digest in 32.
+    asked = proved(GONE_FILE, GONE_ROWS, "hist", "raw/a", 1, 1)
+    tag_at = len(asked.proof) - 1 - 1 - 7 - 4 - 32
+    yield asked.case(put(asked.proof, tag_at, 3), f"rejected malformed {tag_at}")
+
+
 # ---- changed logs
 
 
@@ -185,6 +208,8 @@ TWO_LINES = [
 LOG_CHANGES = [
     (SET_LOG[:9] + bytes.fromhex("ff00003c") + SET_LOG[13:], "damaged at 8\n", DAMAGED),
     (put(SET_LOG, 13, 0), "damaged at 8\n", DAMAGED),
+    # A block of the second version, which is never the next one of a log.
+    (put(SET_LOG, 13, 2), "damaged at 8\n", DAMAGED),
     # No later block speaks against this one.
     (put(SET_LOG, 71, 6), "block 0 tx 0 int 6\n", DONE),
     (put(TWO_LOG, 71, 6), "damaged at 73\n", DAMAGED),
@@ -265,6 +290,7 @@ def hostile_cases():
     yield spent_budgets()
     yield from dict.fromkeys(changed_proofs())
     yield from other_paths()
+    yield from gone_proofs()
     exposed = (asked.exposed(SET_LOG, 0, changed, begin) for asked, changed, begin in named_changes())
     for case in itertools.chain(made_proofs(), exposed, commands_over_wrong_logs(), changed_logs()):
         yield case.case()

@@ -6,7 +6,9 @@ tools/cases/root_cases.py works out from the rows that are written here.
 import dataclasses
 
 from cases import block_files
-from cases.block_files import CONFLICT, OK, calls, deploys, number, sets
+from cases.block_files import (
+    CONFLICT, FIRST_VERSION, OK, SECOND_VERSION, block_frame, calls, deploys, number, sets,
+)
 from cases.root_cases import Row, roots
 
 OPEN = b"\xa5"
@@ -90,11 +92,9 @@ def log_of(file):
     return HEAD + b"".join(OPEN + frame for frame in frames_of(file)) + CLOSED
 
 
-def block(at, parent, txs):
+def block(at, parent, txs, version=FIRST_VERSION):
     """The frame of a block of any number and parent."""
-    spelled = b"\1" + number(at, 4) + parent + number(len(txs), 2)
-    spelled += b"".join(tx.bytes for tx in txs)
-    return number(len(spelled), 4) + spelled
+    return block_frame(version, at, parent, txs)
 
 
 def digest(frame):
@@ -238,16 +238,25 @@ def refusals():
     after = block(1, parent, [sets("raw/b", 1)])
     late = block(2, bytes(32), [])
     orphan = block(1, bytes(32), [])
-    eleven = block(0, bytes(32), [calls("c", "f", [], 1_000_000, OK, 0)] * 11)
+    eleven_calls = [calls("c", "f", [], 1_000_000, OK, 0)] * 11
+    eleven = block(0, bytes(32), eleven_calls)
     # One call, whose budget is its last field.
     costly = block(0, bytes(32), [calls("c", "f", [], 1_000_001, OK, 0)])
     budget_at = len(costly) - 4 - 4
-    broken = SET_FILE[:4] + b"\2" + SET_FILE[5:]
+    broken = SET_FILE[:4] + b"\3" + SET_FILE[5:]
+    # The same block of the second version, which is another block.
+    second = SET_FILE[:4] + b"\2" + SET_FILE[5:]
     on_set = [
         (other, f"fork {digest(SET_FILE)}"),
         (late, "number 1"),
         (orphan, f"parent {digest(SET_FILE)}"),
         (broken, "malformed 0"),
+        (second, f"fork {digest(SET_FILE)}"),
+        # A log takes no block of the second version. Its number and its parent come before that, and its budgets after.
+        (block(1, parent, [sets("raw/b", 1)], SECOND_VERSION), "version 1"),
+        (block(2, parent, [], SECOND_VERSION), "number 1"),
+        (block(1, bytes(32), [], SECOND_VERSION), f"parent {digest(SET_FILE)}"),
+        (block(1, parent, eleven_calls, SECOND_VERSION), "version 1"),
         (SET_FILE[:-1], "truncated"),
         (b"\0\0\0", "truncated"),
     ]
@@ -267,6 +276,8 @@ def refusals():
     for frame, cause in [
         (late, "number 0"),
         (block(0, bytes(31) + b"\1", []), f"parent {bytes(32).hex()}"),
+        (second, "version 1"),
+        (broken, "malformed 0"),
         (eleven, "budget 11000000"),
         (costly, f"malformed {budget_at}"),
         (no_length, "length 0"),
@@ -303,15 +314,17 @@ def wrong_images():
             changed = bytearray(SET_LOG)
             changed[at] ^= 1 << bit
             yield bytes(changed), "not a log\n", NOT_A_LOG
-    # Behind an open gate stand a block that isn't next, one that spells none, and lengths that no
-    # block has.
+    # Behind an open gate stand a block that isn't next, as one of the second version, bytes that spell none, and
+    # lengths that no block has.
     for record in [
         SET_FILE + OPEN + SET_FILE + CLOSED,
         SET_FILE + OPEN + block(1, bytes(32), []) + CLOSED,
+        SET_FILE + OPEN + block(1, bytes.fromhex(digest(SET_FILE)), [], SECOND_VERSION) + CLOSED,
     ]:
         yield HEAD + OPEN + record, f"damaged at {second}\n", DAMAGED
     for record in [
         SET_FILE[:4] + b"\2" + SET_FILE[5:] + CLOSED,
+        SET_FILE[:4] + b"\3" + SET_FILE[5:] + CLOSED,
         bytes(4) + CLOSED,
         number(1_048_577, 4) + CLOSED,
         block(1, bytes(32), []) + CLOSED,

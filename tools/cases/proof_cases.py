@@ -4,7 +4,9 @@ The check makes proofs of small chains, and has verifiers/verify.py say what the
 them once a byte of one is changed; and it has it say of the proofs of crates/run_cases what the program
 must tell of them. tools/cases/check-proofs makes it.
 """
-from cases.block_files import number, string
+import dataclasses
+
+from cases.block_files import GONE, number, string
 from cases.generated_chain import Generated
 from cases.log_cases import frames_of
 from cases.root_cases import History, block_digests
@@ -58,6 +60,13 @@ def proof_of(history, block_digest, kind, key, at, root_at):
     return proof
 
 
+def value_told(value):
+    """A value as it is printed."""
+    if value is GONE:
+        return "gone"
+    return f"int {value}" if isinstance(value, int) else f"text {value}"
+
+
 def answer_of(rows, kind, key, at, root_at):
     """The answer to a question by going over the rows up to a block."""
     rows = [row for row in rows if row.block <= root_at]
@@ -66,8 +75,7 @@ def answer_of(rows, kind, key, at, root_at):
         return ["none"]
     version = versions[-1]
     if kind == "hist":
-        word = "int" if isinstance(version.value, int) else "text"
-        return [f"block {version.block} tx {version.tx} {word} {version.value}"]
+        return [f"block {version.block} tx {version.tx} {value_told(version.value)}"]
     if kind == "back":
         word, places = "deps", version.deps
     else:
@@ -80,12 +88,12 @@ def answer_of(rows, kind, key, at, root_at):
 
 
 class Checked:
-    """A chain, and what the verifier says of proofs over it."""
+    """The rows of a chain and the digests of its blocks, and what the verifier says of proofs over them."""
 
-    def __init__(self, chain):
-        self.rows = chain.rows
-        self.history = History(chain.rows)
-        self.digests = block_digests(frames_of(chain.file))
+    def __init__(self, rows, digests):
+        self.rows = rows
+        self.history = History(rows)
+        self.digests = digests
         self.count, self.wrong = 0, []
 
     def answer(self, proof, root, question):
@@ -138,14 +146,19 @@ def check_recorded(checked):
 
 def check():
     """Whether the verifier says what it must; prints where it doesn't."""
-    checked = Checked(Generated(40, 7))
-    keys = [*checked.history.keys(39)[::9], "raw/none", "a", "zz"]
-    for kind in KINDS:
-        for key in keys:
-            for at, root_at in [(0, 0), (5, 39), (20, 20), (38, 39), (39, 39)]:
-                checked.check(kind, key, at, root_at)
-    check_recorded(checked)
-    for line in checked.wrong:
+    chain = Generated(40, 7)
+    digests = block_digests(frames_of(chain.file))
+    some_gone = [dataclasses.replace(row, value=GONE) if row.block % 2 else row for row in chain.rows]
+    all_checked = [Checked(rows, digests) for rows in (chain.rows, some_gone)]
+    for checked in all_checked:
+        keys = [*checked.history.keys(39)[::9], "raw/none", "a", "zz"]
+        for kind in KINDS:
+            for key in keys:
+                for at, root_at in [(0, 0), (5, 39), (20, 20), (38, 39), (39, 39)]:
+                    checked.check(kind, key, at, root_at)
+    check_recorded(all_checked[0])
+    wrong = [line for checked in all_checked for line in checked.wrong]
+    for line in wrong:
         print(f"proof_cases: {line}")
-    print(f"proof_cases: {checked.count} checks, {len(checked.wrong)} wrong")
-    return not checked.wrong
+    print(f"proof_cases: {sum(checked.count for checked in all_checked)} checks, {len(wrong)} wrong")
+    return not wrong

@@ -61,7 +61,7 @@ def is_answer(kind, told, at):
     if told == "none\n":
         return True
     if kind == "hist":
-        found = re.fullmatch(r"block (\d+) tx \d+ (?:int -?\d+|text [ -~]{0,1024})\n", told)
+        found = re.fullmatch(r"block (\d+) tx \d+ (?:int -?\d+|text [ -~]{0,1024}|gone)\n", told)
         return bool(found) and int(found[1]) <= at
     word = {"back": "deps", "fwd": "uses"}[kind]
     found = re.fullmatch(rf"block (\d+) {word} (\d+)\n((?:{ITEM})*)", told)

@@ -7,7 +7,7 @@ import dataclasses
 import random
 import re
 
-from cases.block_files import block_digest, number
+from cases.block_files import SECOND_VERSION, block_digest, number
 from cases.block_reader import MAX_TXS, Fields, Invalid
 from cases.generated_chain import Generated
 from cases.log_cases import CLOSED, HEAD, OPEN, frames_of, log_of
@@ -30,7 +30,7 @@ SHARES = {"verify": 26, "expose": 10, "log": 22, "scan": 12, "append": 10, "fmt"
 LIMITS = [bytes([byte]) * width for width in (1, 2, 4, 8) for byte in (0x00, 0x7F, 0x80, 0xFF)]
 LIMITS += [OPEN, number(64, 2), number(65, 2), number(1_024, 2), number(1_048_576, 4), number(1_000_001, 4)]
 CONTRACT_PIECES = [
-    *b"fn let if else while put from fail return int text ( ) { } , ; : = == != <= >= ++ && || ! - \" # \\".split(),
+    *b"fn let if else while put drop from fail return int text ( ) { } , ; : = == != <= >= ++ && || ! - \" # \\".split(),
     *b"0 00 9223372036854775807 9223372036854775808 aaaaaaaaaaaaaaaaa \"\\\"\" get_int( hist_block( fwd_key(".split(),
     b"{" * 33, b"(" * 129, b"-" * 65, b"f(" * 100, b"1+" * 65, b" ", b"\n",
 ]
@@ -236,12 +236,14 @@ def changed_txs(frame, txs, rng):
 
 def linked(frames, rng):
     """Frames whose lengths are right, whose numbers rise from 0, and each of which names the one before, as far
-    as they are long enough. Now and then one is as it was."""
+    as they are long enough. Now and then one is as it was, or those from one on are of the second version."""
     parent, given = bytes(32), []
+    second = len(frames) if rng.randrange(4) else rng.randrange(len(frames) + 1)
     for at, frame in enumerate(frames):
         block = frame[4:]
         if rng.randrange(40):
-            block = block[:1] + number(at, 4) + parent + block[TXS_AT:]
+            version = block[:1] if at < second else number(SECOND_VERSION, 1)
+            block = version + number(at, 4) + parent + block[TXS_AT:]
         parent = block_digest(block)
         given.append(number(len(block), 4) + block)
     return given
@@ -357,4 +359,5 @@ def mutant(place, seeds):
             words = [*words[:3], near(words[3], rng)]
         return Mutant(kind, list(words), file, log)
     given, pieces = (seeds.contracts, CONTRACT_PIECES) if kind == "fmt" else (seeds.drafts, DRAFT_PIECES)
-    return Mutant(kind, [kind], changed_text(rng.choice(given), rng.choices(given, k=4), pieces, rng))
+    words = rng.choice([["fmt"], ["fmt", "2"]]) if kind == "fmt" else [kind]
+    return Mutant(kind, words, changed_text(rng.choice(given), rng.choices(given, k=4), pieces, rng))

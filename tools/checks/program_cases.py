@@ -7,6 +7,7 @@ from cases.block_files import block_file
 from cases.generated_loads import load_line
 from cases.log_cases import SET_LINE, SET_LOG, frames_of, log_of
 from cases.root_cases import Row, roots
+from cases.version_cases import DROPS, EDITIONS, SECOND_SET, of_versions
 from checks.log_runs import NO_ROOT
 from checks.program_runs import TOP, Case
 
@@ -70,6 +71,22 @@ raw/lot/l1 1
 raw/lot/l3 2
 """
 
+# A contract of the second edition, and the canonical text of another.
+DROPPING = b'fn g() { drop "c/a"; }'
+DROPPED_FROM = """\
+fn g() {
+  drop "c/" ++ "a" from "c/b", "c/a";
+}
+"""
+
+# A chain of the second version, of which a contract drops a key; and one of two blocks of the first version, with what
+# `append` tells of these, and then some of the second.
+DROPPED, BOTH = DROPS[0].file(), EDITIONS.file()
+BOTH_FIRST = b"".join(frames_of(BOTH)[:2])
+BOTH_ROOTS = roots(frames_of(BOTH_FIRST), [Row("d/a", 1, 0, 1, [])])
+BOTH_LINES = f"block 0 rows 0 status 16,0,16 root {BOTH_ROOTS[0]}\nblock 1 rows 1 status 0,4 root {BOTH_ROOTS[1]}\n"
+SECOND_THEN_FIRST = b"".join(of_versions(2, 1))
+
 CASES = [
     # 0: done. The program's words are those after its own name, from the first to the last.
     Case(SCAN, ONE_SET, "block 0 tx 0 int 5\n", 0),
@@ -78,7 +95,16 @@ CASES = [
     Case(b"scan hist raw/b 0", ONE_SET, "none\n", 0),
     Case(b"scan hist bank/n 3", BANK, "block 2 tx 0 int 8\n", 0),
     Case(b"scan fwd bank/n 1", BANK, "block 1 uses 2\nbank/n 2\nbank/log 2\n", 0),
+    Case(SCAN, SECOND_SET, SET_ANSWER, 0),
+    Case(b"scan hist c/a 1", DROPPED, "block 1 tx 0 int 1\n", 0),
+    Case(b"scan hist c/a 3", DROPPED, "block 2 tx 0 gone\n", 0),
+    Case(b"scan back c/a 3", DROPPED, "block 2 deps 1\nc/a 1\n", 0),
+    Case(b"scan fwd c/a 1", DROPPED, "block 1 uses 1\nc/a 2\n", 0),
+    Case(b"scan hist c/a 4", BOTH, "block 4 tx 0 gone\n", 0),
     Case(b"fmt", b"fn f ( a :int ){}# and no more", "fn f(a: int) {\n}\n", 0),
+    Case(b"fmt", b"fn f() { let drop = 1; }", "fn f() {\n  let drop = 1;\n}\n", 0),
+    Case(b"fmt 2", DROPPING, 'fn g() {\n  drop "c/a";\n}\n', 0),
+    Case(b"fmt 2", b'fn g(){drop"c/"++"a"from"c/b","c/a";}', DROPPED_FROM, 0),
     Case(b"pack", b"[]", "", 0),
     Case(b"pack", ONE_DRAFT, ONE_FRAME, 0),
     Case(b"gen 1 0", b"", GENERATED, 0),
@@ -133,6 +159,9 @@ CASES = [
     Case(b"scan hist raw/a 0 0", ONE_SET, "usage\n", 1),
     Case(b"x scan hist raw/a 0", ONE_SET, "usage\n", 1),
     Case(b"fmt fmt", b"fn f(){}", "usage\n", 1),
+    Case(b"fmt 1", b"fn f(){}", "usage\n", 1),
+    Case(b"fmt 02", b"fn f(){}", "usage\n", 1),
+    Case(b"fmt 2 2", b"fn f(){}", "usage\n", 1),
     Case(b"gen 0 0", b"", "usage\n", 1),
     Case(b"load 0 0", b"", "usage\n", 1),
     # A word that is no text isn't passed over.
@@ -188,6 +217,10 @@ CASES = [
     # 8: a frame is refused.
     Case(b"append", SHORT_FRAME, "refused frame 0 malformed 37\n", 8),
     Case(b"append", CUT_FRAME, "refused frame 0 truncated\n", 8, log=SET_LOG),
+    Case(b"append", SECOND_SET, "refused frame 0 version 1\n", 8),
+    Case(b"append", ONE_FRAME[:4] + b"\3" + ONE_FRAME[5:], "refused frame 0 malformed 0\n", 8),
+    Case(b"append", BOTH, f"{BOTH_LINES}refused frame 2 version 1\n", 8, after=log_of(BOTH_FIRST)),
+    Case(SCAN, SECOND_THEN_FIRST, "refused frame 1 version 2\n", 8),
     Case(SCAN, CUT_FRAME, "refused frame 0 truncated\n", 8),
     Case(SCAN, SHORT_FRAME, "refused frame 0 malformed 37\n", 8),
     # 9: there is no such block.
@@ -222,6 +255,9 @@ CASES = [
     ),
     # 11: the input is no contract, no draft or no hex, or too long.
     Case(b"fmt", b"fn f()", "badinput syntax 6 end\n", 11),
+    Case(b"fmt", DROPPING, "badinput syntax 14 expected\n", 11),
+    Case(b"fmt 2", b"fn g() { let drop = 1; }", "badinput syntax 13 expected\n", 11),
+    Case(b"fmt 2", b"fn g() { drop 1; }", "badinput check 14 kind\n", 11),
     Case(b"fmt", b"fn f() { a = 1; }", "badinput check 9 unknown\n", 11),
     Case(b"fmt", MAX_SOURCE_BYTES, "badinput syntax 0 byte\n", 11),
     Case(b"fmt", MAX_SOURCE_BYTES + 1, "badinput long\n", 11),

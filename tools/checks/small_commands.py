@@ -71,6 +71,7 @@ OTHERS = [
     Command(fault_cases.EXPOSE, fault_cases.PROOF.encode("ascii"), fault_cases.LOG),
     Command(EXPOSE.decode().replace("raw/a", "raw/b"), RAW_A_PROOF, SET_LOG, status=REJECTED),
     Command("fmt", read(f"{TOP}/examples/shop.contract")),
+    Command("fmt 2", read(f"{TOP}/examples/lot.contract")),
     Command("fmt", b"fn f() { a = 1; }", status=BAD_INPUT),
     Command("pack", read(DRAFT)),
     Command("pack", b'[[{"set":{}}]]', status=BAD_INPUT),

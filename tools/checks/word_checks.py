@@ -64,7 +64,7 @@ lineage: block 1 tx 0: NoContract (4): no contract `nobody` was deployed in an e
 lineage: block 1 tx 1: NoFunction (5): the contract `bank` has no function `nothing`
 lineage: block 1 tx 2: BadArgs (6): the function `add` takes other arguments, by number or kind
 lineage: block 1 tx 3: OutOfSteps (7): its budget of 5 steps is too small
-lineage: block 1 tx 4: NoKey (2): a key that it reads or asks about has no version there
+lineage: block 1 tx 4: NoKey (2): a key that it reads or asks about has no version there, or one that is gone
 lineage: block 1 tx 5: Foreign (3): the contract `other` puts keys under other/ alone
 lineage: block 2 tx 1: Conflict (1): an earlier transaction of the block wrote `raw/a`, or one of the keys that it \
 is derived from

@@ -12,6 +12,9 @@ import shutil
 import subprocess
 import tempfile
 
+from cases.block_files import (
+    FIRST_VERSION, NO_CONTRACT, SECOND_VERSION, block_digest, block_file, block_frame, calls, sets,
+)
 from cases.log_cases import CLOSED, CLOSED_HEAD, NOT_A_LOG, REFUSED, SET_FILE, SET_LINE, SET_LOG
 from checks import build_checks, disk_calls, page_runs, word_checks
 from checks.log_runs import LOG
@@ -27,6 +30,14 @@ COPIED = ["lineage", "crates.txt", "HANDLES", "tools", "examples", "verifiers"]
 # A log whose first byte was zeroed, and a file that begins so and is none.
 ZEROED_LOG = CLOSED + SET_LOG[1:]
 ZEROED_FILE = bytes(29)
+# Blocks of the second version: one as that of SET_FILE, and two after this, of which one may cost too much; and one of
+# the first version after that of the second.
+SECOND_FILE = block_file([[sets("raw/a", 5)]], [SECOND_VERSION])
+SET_DIGEST, SECOND_DIGEST = (block_digest(file[4:]) for file in (SET_FILE, SECOND_FILE))
+AFTER_SET = block_frame(SECOND_VERSION, 1, SET_DIGEST, [])
+COSTLY = [calls("c", "f", [], 1_000_000, NO_CONTRACT, 0)] * 11
+COSTLY_AFTER_SET = block_frame(SECOND_VERSION, 1, SET_DIGEST, COSTLY)
+FIRST_AFTER_SECOND = block_frame(FIRST_VERSION, 1, SECOND_DIGEST, [])
 # Words, input, log before, and a part of what is said.
 SAID = [
     ("", b"", None, "the commands are"),
@@ -37,6 +48,7 @@ SAID = [
     ("root 00", b"", None, "word 2, `00`, is not BLOCK"),
     ("gen 100001 1", b"", None, "word 2, `100001`, is not N: a number from 1 to 100000"),
     ("gen 1 4294967296", b"", None, "word 3, `4294967296`, is not SEED"),
+    ("fmt 1", b"", None, "word 2, `1`, is not `2`"),
     ("root", b"", None, f"has no {LOG}"),
     ("root", b"", SET_LOG[:8] + CLOSED, f"{LOG} has no block yet"),
     ("root 1", b"", SET_LOG, "the chain ends before it"),
@@ -46,11 +58,20 @@ SAID = [
     ("append", RECALL_FILE[:-1], None, "the input ends within this frame"),
     ("append", RECALL_FILE[113:], None, "takes block 0 next"),
     ("append", RECALL_FILE[113:], SET_LOG, "its parent is not the last block"),
-    ("append", SET_FILE[:4] + b"\2" + SET_FILE[5:], None, "its first invalid field is at offset 0"),
+    ("append", SET_FILE[:4] + b"\3" + SET_FILE[5:], None, "its first invalid field is at offset 0"),
+    ("append", SECOND_FILE, None, "takes a block of version 1 next"),
+    ("append", SECOND_FILE + RECALL_FILE, None, "takes a block of version 1 next"),
+    ("append", AFTER_SET, SET_LOG, "takes a block of version 1 next"),
+    ("append", COSTLY_AFTER_SET, SET_LOG, "takes a block of version 1 next"),
+    ("append", SECOND_FILE, SET_LOG, "has another block of this number"),
+    ("append", AFTER_SET, None, "takes block 0 next"),
+    ("scan hist raw/a 0", SET_FILE + COSTLY_AFTER_SET, None, "come to 11000000"),
+    ("scan hist raw/a 0", SECOND_FILE + FIRST_AFTER_SECOND, None, "takes a block of version 2 next"),
     ("append", bytes(4), SET_LOG, "its length is 0"),
     ("scan hist raw/a 0", SET_FILE + bytes(4), None, "its length is 0"),
     ("fmt", b"fn f() {\n  a = 1;\n}", None, "line 2, column 3 of the input: no such name"),
     ("fmt", b"fn f()", None, "line 1, column 7 of the input: the contract ends too early"),
+    ("fmt 2", b"fn f() {\n  drop 1;\n}", None, "line 2, column 8 of the input: this is an int"),
     ("pack", b"[", None, "the input is no JSON text: line 1, column 2"),
     ("pack", b"{}", None, "no array of blocks"),
     ("pack", b"[[], 1]", None, "block 1 of the draft, from 0, is no array"),

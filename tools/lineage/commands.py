@@ -86,7 +86,10 @@ NO_BLOCK = ("beyond empty, beyond head H", "there is no block, or BLOCK is past 
 NO_LOG = ("not a log, damaged at P", "what the bytes of chain.log are, at the offset P")
 ANSWERS = [
     ("none", "there is no version of KEY up to BLOCK"),
-    ("block B tx T int V, block B tx T text V", "hist: the version's block, its transaction, and its value"),
+    (
+        "block B tx T int V, block B tx T text V, block B tx T gone",
+        "hist: the version's block, its transaction, and its value, or that it is gone",
+    ),
     ("block B deps N", "back: the version's block, and N lines KEY BLOCK, what it was derived from"),
     ("block B uses N", "fwd: the version's block, and N lines KEY BLOCK, what was derived from it"),
 ]
@@ -163,8 +166,8 @@ COMMANDS = [
         uses_scratch=True,
     ),
     Command(
-        "fmt",
-        "the canonical text of a contract, or its first fault",
+        "fmt [2]",
+        "the canonical text of a contract, with 2 of the second edition, or its first fault",
         [
             ("badinput syntax P K", "the input is no contract; its first fault, of the sort K, is at offset P"),
             ("badinput check P K", "the same of the contract's names and kinds"),
@@ -286,5 +289,6 @@ def what_is_wrong(words):
         return f"{count}, and the command is {forms}"
     for number, (name, word) in enumerate(zip(form_of(command, words), words), 1):
         if not may_be(name, word):
-            return f"word {number}, `{word}`, is not {name}: {WORDS[name][0]}"
+            wanted = f"{name}: {WORDS[name][0]}" if name in WORDS else f"`{name}`"
+            return f"word {number}, `{word}`, is not {wanted}"
     return None

@@ -7,7 +7,7 @@ MAX_BLOCK_BYTES = 1_048_576
 MAGIC_OF_LOG = b"LCLOG1\n"
 MAGIC_OF_PROOF = b"LCP1"
 # The versions of blocks, which stand in the first byte of each.
-VERSIONS = range(1, 8)
+FIRST_VERSION, SECOND_VERSION = VERSIONS = 1, 2
 LOG, DRAFT, PROOF, BYTES_OF_PROOF, BLOCK_FILE, CONTRACT = range(6)
 # What each is, and what to do with it.
 WHAT_TO_DO = {

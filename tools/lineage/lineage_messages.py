@@ -64,9 +64,12 @@ CAUSES = {
     "full": ("", "the chain takes no more blocks"),
     "number": ("N", "the chain takes block {} next, and not this one"),
     "parent": ("H", "its parent is not the last block of the chain, whose digest is {}"),
+    "version": ("W", "the chain takes a block of version {} next, and this one has another"),
     "budget": ("S", "the budgets of its calls come to {}; those of a block may come to 10,000,000"),
 }
 REFUSED = "a frame is refused; frames count from 0"
+# The line of a block of the second version, which no log takes, whatever its number in the input.
+NO_SECOND_VERSION = b"refused frame 0 version 1\n"
 # Which check of a proof fails: what is printed after `rejected`, and what that means.
 REJECTED = {
     "malformed": "these are not the bytes of a proof: the first invalid field is at offset {}",
@@ -285,7 +288,7 @@ def kind_advice(words, start):
 
 def refused_line(program, words, start):
     """The line of a frame that is refused, by `scan`, which only reads: over the input, or over the
-    blocks of the log and the frame."""
+    blocks of the log and the frame, whose number in the input isn't told then."""
     again = os.fstat(0).st_size - start if words[0] == "scan" else log_frames_end()
     if again > MAX_AGAIN_BYTES:
         return b""
@@ -293,7 +296,16 @@ def refused_line(program, words, start):
         return printed_again(program, words, start)
     at = refused_offset(start, os.lseek(0, 0, os.SEEK_CUR))
     frame = os.pread(0, LENGTH_BYTES + MAX_BLOCK_BYTES, at)
-    return printed_over(program, ["scan", "hist", "a", "0"], [*log_frames(), frame])
+    frame = frame[: LENGTH_BYTES + int.from_bytes(frame[:LENGTH_BYTES], "big")]
+    printed = printed_over(program, ["scan", "hist", "a", "0"], [*log_frames(), frame])
+    return NO_SECOND_VERSION if is_of_wrong_version(frame, printed) else printed
+
+
+def is_of_wrong_version(frame, printed):
+    """Whether `append` refuses a frame for its version, by what `scan` prints over the blocks of the log and the
+    frame: that takes a block of the second version after one of the first, and tests its budgets then."""
+    is_second = frame[LENGTH_BYTES : LENGTH_BYTES + 1] == bytes([kinds.SECOND_VERSION])
+    return is_second and re.match(rb"refused frame \d+ (?!budget )", printed) is None
 
 
 def refused_offset(start, end):
@@ -395,7 +407,7 @@ def input_sentence(program, words, start):
     with open("/proc/self/fd/0", "rb") as file:
         file.seek(start)
         source = file.read()
-    if words == ["fmt"]:
+    if words[0] == "fmt":
         return contract_sentence(source, printed)
     return draft_faults.sentence(source, printed.decode("ascii", "replace").split())
 

@@ -45,7 +45,7 @@ STATUSES = {
             CALL: "it reads or puts a key that an earlier transaction of the block wrote",
         },
     ),
-    2: ("NoKey", "a key that it reads or asks about has no version there"),
+    2: ("NoKey", "a key that it reads or asks about has no version there, or one that is gone"),
     3: (
         "Foreign",
         {
@@ -59,7 +59,11 @@ STATUSES = {
     7: ("OutOfSteps", {CALL: "its budget of {budget} steps is too small"}),
     8: ("Overflow", "a result is no number of 64 bits"),
     9: ("DivZero", "it divides by 0"),
-    10: ("WrongKind", "a value that it reads or asks for is an int where a text must be, or the other way round"),
+    10: (
+        "WrongKind",
+        "a value that it reads or asks for is an int where a text must be, or the other way round, or one is gone"
+        " that it asks for",
+    ),
     11: ("BadBlock", "it asks about a negative block, its own or a later one"),
     12: ("BadIndex", "it asks with an index that is negative or not below the count"),
     13: ("TextTooLong", "a text would have more than 1,024 bytes"),

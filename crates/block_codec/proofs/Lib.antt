@@ -6,3 +6,4 @@ pub mod WholeBlocks
 pub mod Decoders
 pub mod FrameBytes
 pub mod Placements
+pub mod Versions

@@ -8,13 +8,13 @@ use Rattle.lc_names.specs.KeyBytes.{IsKey}
 use Rattle.lc_names.specs.NameBytes.{IsName}
 use Rattle.lc_base.specs.declared.value.Value.{Value}
 use Rattle.lc_base.specs.declared.value.Value.TheVariants.{Text}
-use Rattle.byte_fields.specs.Spelling.{string_fields, value_fields, IsValue}
-use Rattle.byte_fields.specs.Reading.{ruled_at, number_at}
+use Rattle.byte_fields.specs.Spelling.{string_fields, value_fields, IsBlockValue}
+use Rattle.byte_fields.specs.Reading.{ruled_at, number_at, value_at}
 use Rattle.byte_fields.proofs.Laws.{IsField, renamed, bind_field, then_field, made_field}
 use Rattle.byte_fields.proofs.Items.{counted_field}
 use Rattle.byte_fields.proofs.Pieces.{piece_field, ruled_piece, number_piece, byte_piece, wide32}
 use Rattle.byte_fields.proofs.Fields.{key_field, name_field, any_bytes_field, value_field}
-use Rattle.lc_base.specs.declared.limits.TheConstants.{MAX_DEPS}
+use Rattle.lc_base.specs.declared.limits.TheConstants.{MAX_DEPS, MAX_TEXT_BYTES}
 use Rattle.block_codec.specs.declared.limits.TheConstants.{MAX_ARGS, MAX_CALL_BUDGET, MAX_SOURCE_BYTES}
 use Rattle.block_codec.specs.declared.block.TheConstants.{SET, DEPLOY, CALL}
 use Rattle.block_codec.specs.declared.block.Tx.{Tx}
@@ -38,6 +38,9 @@ after_kind (Call sender contract function args budget) = call_fields sender cont
 -- a transaction of this kind
 abbrev HasKind : ℕ → Tx → Type 0
 HasKind kind tx = (kind_of tx ≡ kind) × IsTx tx
+
+block_value_field : IsField (value_at MAX_TEXT_BYTES) value_fields (IsBlockValue MAX_TEXT_BYTES)
+block_value_field = value_field MAX_TEXT_BYTES (omega arith)
 
 -- ---- a Set
 
@@ -65,7 +68,8 @@ set_parts (Deploy sender name source) = ([], ([], (Text [], [])))
 set_parts (Call sender contract function args budget) = ([], ([], (Text [], [])))
 
 abbrev AreSetParts : SetParts → Type 0
-AreSetParts parts = IsKey parts.0 × (IsKey parts.1.0 × (IsValue parts.1.1.0 × AreDeps parts.1.1.1))
+AreSetParts parts =
+    IsKey parts.0 × (IsKey parts.1.0 × (IsBlockValue MAX_TEXT_BYTES parts.1.1.0 × AreDeps parts.1.1.1))
 
 is_set : (tx : Tx) → AreSetParts (set_parts tx) × (tx ≡ set_of (set_parts tx)) → HasKind SET tx
 unfolding AreDeps
@@ -87,7 +91,9 @@ same_set (Call sender contract function args budget) is = absurd cc
 
 set_field : IsField set_at after_kind (HasKind SET)
 unfolding set_at
-set_field = renamed (made_field set_of set_parts (then_field key_field (then_field key_field (then_field value_field deps_field))) (λ parts is. refl)) is_set set_is (λ tx is. same_set tx is.1)
+set_field =
+    let parts = then_field key_field (then_field key_field (then_field block_value_field deps_field)) in
+    renamed (made_field set_of set_parts parts (λ parts is. refl)) is_set set_is (λ tx is. same_set tx is.1)
 
 -- ---- a Deploy
 
@@ -126,7 +132,7 @@ deploy_field = renamed (made_field deploy_of deploy_parts (then_field key_field 
 
 -- at most MAX_ARGS values
 AreArgs : List Value → Type 0
-AreArgs args = (length args ≤ MAX_ARGS) × AllByRecursion IsValue args
+AreArgs args = (length args ≤ MAX_ARGS) × AllByRecursion (IsBlockValue MAX_TEXT_BYTES) args
 
 arg_fields : List Value → List (List ℕ)
 arg_fields args = (length args ∷ []) ∷ flat_map value_fields args
@@ -135,7 +141,7 @@ args_field : IsField args_at arg_fields AreArgs
 unfolding args_at arg_fields AreArgs
 args_field =
     let count = piece_field (ruled_piece byte_piece (λ n. nat_le n MAX_ARGS) (record { value = 0; is = (omega arith, refl) })) in
-    renamed (counted_field count value_field)
+    renamed (counted_field count block_value_field)
     (λ args is. (leb-true _ _ is.0.1, is.1)) (λ args is. ((omega (arith, is.0), le-leb _ _ is.0), is.1)) (λ args is. refl)
 
 budget_field : IsField (ruled_at (λ n. nat_le n MAX_CALL_BUDGET) (number_at w32)) (λ n. to_be_bytes w32 n ∷ []) (λ n. n ≤ MAX_CALL_BUDGET)

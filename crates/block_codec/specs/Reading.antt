@@ -3,12 +3,13 @@ use Rattle.std.specs.Prelude.{ℕ, ◌-◌, min, Bool, ◌==◌, ◌||◌, nat_l
 use Rattle.std.specs.Int.{w16, w32}
 use Rattle.lc_base.specs.declared.value.Value.{Value}
 use Rattle.byte_fields.specs.Reading.{Field, all_read, bind_at, then_at, made_at, ruled_at, items_at, number_at, byte_at, bytes_at, key_at, name_at, any_bytes_at, value_at}
-use Rattle.lc_base.specs.declared.limits.TheConstants.{MAX_DEPS}
+use Rattle.lc_base.specs.declared.limits.TheConstants.{MAX_DEPS, MAX_TEXT_BYTES}
 use Rattle.block_codec.specs.declared.limits.TheConstants.{MAX_ARGS, MAX_BLOCK_BYTES, MAX_CALL_BUDGET, MAX_SOURCE_BYTES, MAX_TXS}
-use Rattle.block_codec.specs.declared.block.TheConstants.{SET, DEPLOY, CALL, VERSION}
+use Rattle.block_codec.specs.declared.block.TheConstants.{SET, DEPLOY, CALL}
 use Rattle.block_codec.specs.declared.block.Tx.{Tx}
 use Rattle.block_codec.specs.declared.block.Tx.TheVariants.{Set, Deploy, Call}
 use Rattle.block_codec.specs.declared.block.Block.{Block}
+use Rattle.block_codec.specs.Spelling.{is_version}
 
 -- At most `MAX_DEPS` keys, after their count.
 unfoldable pub dep_keys_at : List ℕ → Field (List (List ℕ))
@@ -20,7 +21,8 @@ set_of parts = Set parts.0 parts.1.0 parts.1.1.0 parts.1.1.1
 
 -- What follows the kind of a Set.
 unfoldable pub set_at : List ℕ → Field Tx
-set_at = made_at set_of (then_at key_at (then_at key_at (then_at value_at dep_keys_at)))
+set_at =
+    made_at set_of (then_at key_at (then_at key_at (then_at (value_at MAX_TEXT_BYTES) dep_keys_at)))
 
 -- A Deploy from its parts.
 abbrev pub deploy_of : List ℕ × (List ℕ × List ℕ) → Tx
@@ -32,7 +34,7 @@ deploy_at = made_at deploy_of (then_at key_at (then_at name_at (any_bytes_at MAX
 
 -- At most `MAX_ARGS` values, after their count.
 unfoldable pub args_at : List ℕ → Field (List Value)
-args_at = bind_at (ruled_at (λ n. nat_le n MAX_ARGS) byte_at) (items_at value_at)
+args_at = bind_at (ruled_at (λ n. nat_le n MAX_ARGS) byte_at) (items_at (value_at MAX_TEXT_BYTES))
 
 -- A Call from its parts.
 abbrev pub call_of : List ℕ × (List ℕ × (List ℕ × (List Value × ℕ))) → Tx
@@ -58,13 +60,19 @@ tx_at = bind_at (ruled_at is_kind byte_at) kind_at
 unfoldable pub txs_at : List ℕ → Field (List Tx)
 txs_at = bind_at (ruled_at (λ n. nat_le n MAX_TXS) (number_at w16)) (items_at tx_at)
 
--- A block from its parts.
-abbrev pub block_of : ℕ × (List ℕ × List Tx) → Block
-block_of parts = record { number = parts.0; parent = record { 0 = parts.1.0 }; txs = parts.1.1 }
+-- A block of this version from its other parts.
+abbrev pub block_of : ℕ → ℕ × (List ℕ × List Tx) → Block
+block_of version parts =
+    record { version = version; number = parts.0; parent = record { 0 = parts.1.0 }; txs = parts.1.1 }
+
+-- What follows the version of a block.
+abbrev pub versioned_at : ℕ → List ℕ → Field Block
+versioned_at version =
+    made_at (block_of version) (then_at (number_at w32) (then_at (bytes_at 32) txs_at))
 
 -- A block: its version, then what follows the version.
 unfoldable pub block_at : List ℕ → Field Block
-block_at = bind_at (ruled_at (λ version. version == VERSION) byte_at) (λ version. made_at block_of (then_at (number_at w32) (then_at (bytes_at 32) txs_at)))
+block_at = bind_at (ruled_at is_version byte_at) versioned_at
 
 -- A block without trailing bytes, or how many bytes are left from the invalid field on.
 unfoldable pub whole_block : List ℕ → Result Block ℕ

@@ -1,15 +1,15 @@
 -- Blocks and the one spelling of each.
-use Rattle.std.specs.Prelude.{◌≡◌, ℕ, ◌^◌, ◌<◌, ◌≤◌, List, [], ◌∷◌, ◌++◌, length, min, Result, Ok, Err}
+use Rattle.std.specs.Prelude.{◌≡◌, ℕ, ◌^◌, ◌<◌, ◌≤◌, ◌==◌, ◌||◌, Bool, true, List, [], ◌∷◌, ◌++◌, length, min, Result, Ok, Err}
 use Rattle.std.specs.List.{concat, flat_map, AllByRecursion}
 use Rattle.std.specs.Int.{w16, w32, to_be_bytes}
 use Rattle.lc_names.specs.KeyBytes.{IsKey}
 use Rattle.lc_names.specs.NameBytes.{IsName}
 use Rattle.lc_base.specs.declared.value.Value.{Value}
 use Rattle.byte_fields.specs.Prefixes.{IsLongestPrefix}
-use Rattle.byte_fields.specs.Spelling.{IsBytes, string_fields, value_fields, IsValue}
-use Rattle.lc_base.specs.declared.limits.TheConstants.{MAX_DEPS}
+use Rattle.byte_fields.specs.Spelling.{IsBytes, string_fields, value_fields, IsBlockValue}
+use Rattle.lc_base.specs.declared.limits.TheConstants.{MAX_DEPS, MAX_TEXT_BYTES}
 use Rattle.block_codec.specs.declared.limits.TheConstants.{MAX_ARGS, MAX_BLOCK_BYTES, MAX_CALL_BUDGET, MAX_SOURCE_BYTES, MAX_TXS}
-use Rattle.block_codec.specs.declared.block.TheConstants.{SET, DEPLOY, CALL, VERSION}
+use Rattle.block_codec.specs.declared.block.TheConstants.{SET, DEPLOY, CALL, FIRST_VERSION, SECOND_VERSION}
 use Rattle.block_codec.specs.declared.block.Tx.{Tx}
 use Rattle.block_codec.specs.declared.block.Tx.TheVariants.{Set, Deploy, Call}
 use Rattle.block_codec.specs.declared.block.Block.{Block}
@@ -20,7 +20,7 @@ use Rattle.block_codec.specs.declared.block.Block.{Block}
 pub record IsSet (sender key : List ℕ) (value : Value) (deps : List (List ℕ)) : Type 0 where
   pub sender_is_key : IsKey sender
   pub key_is_key : IsKey key
-  pub value_is_value : IsValue value
+  pub value_is_value : IsBlockValue MAX_TEXT_BYTES value
   pub few_deps : length deps ≤ MAX_DEPS
   pub deps_are_keys : AllByRecursion IsKey deps
 
@@ -37,7 +37,7 @@ pub record IsCall (sender contract function : List ℕ) (args : List Value) (bud
   pub contract_is_name : IsName contract
   pub function_is_name : IsName function
   pub few_args : length args ≤ MAX_ARGS
-  pub args_are_values : AllByRecursion IsValue args
+  pub args_are_values : AllByRecursion (IsBlockValue MAX_TEXT_BYTES) args
   pub low_budget : budget ≤ MAX_CALL_BUDGET
 
 -- What a transaction may be.
@@ -46,8 +46,13 @@ IsTx (Set sender key value deps) = IsSet sender key value deps
 IsTx (Deploy sender name source) = IsDeploy sender name source
 IsTx (Call sender contract function args budget) = IsCall sender contract function args budget
 
--- A number of 32 bits, a digest of 32 bytes, and at most `MAX_TXS` transactions.
+-- Whether blocks have this version.
+abbrev pub is_version : ℕ → Bool
+is_version version = version == FIRST_VERSION || version == SECOND_VERSION
+
+-- A version, a number of 32 bits, a digest of 32 bytes, and at most `MAX_TXS` transactions.
 pub record IsBlock (block : Block) : Type 0 where
+  pub version_is : is_version block.version ≡ true
   pub number_fits : block.number < 2 ^ 32
   pub parent_fits : length block.parent.0 ≡ 32
   pub few_txs : length block.txs ≤ MAX_TXS
@@ -80,7 +85,7 @@ tx_fields (Call sender contract function args budget) = (CALL ∷ []) ∷ call_f
 
 -- The version, the number, the parent, the number of transactions, and the transactions.
 abbrev pub block_fields : Block → List (List ℕ)
-block_fields block = (VERSION ∷ []) ∷ to_be_bytes w32 block.number ∷ block.parent.0 ∷ to_be_bytes w16 (length block.txs) ∷ flat_map tx_fields block.txs
+block_fields block = (block.version ∷ []) ∷ to_be_bytes w32 block.number ∷ block.parent.0 ∷ to_be_bytes w16 (length block.txs) ∷ flat_map tx_fields block.txs
 
 -- The bytes spell the block: they are its fields, one after another, and at most `MAX_BLOCK_BYTES`.
 pub record Spells (bytes : List ℕ) (block : Block) : Type 0 where

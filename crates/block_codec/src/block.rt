@@ -2,8 +2,12 @@
 
 use lc_base::{Bytes, Digest, Key, KeyList, Name, Seq, Value};
 
-/// The first byte of a block: the version of the format.
-pub const VERSION: u8 = 1;
+/// The first byte of a block of the first version of the format.
+pub const FIRST_VERSION: u8 = 1;
+
+/// The first byte of a block of the second version, whose contracts are of the second edition of
+/// their language.
+pub const SECOND_VERSION: u8 = 2;
 
 /// The first byte of a transaction that writes a value.
 pub const SET: u8 = 1;
@@ -50,6 +54,8 @@ pub type TxList = Seq<Tx>;
 /// A block.
 #[derive(Debug, Drop)]
 pub struct Block {
+    /// `FIRST_VERSION` or `SECOND_VERSION`.
+    pub version: u8,
     pub number: u32,
     /// The digest of the previous block.
     pub parent: Digest,

@@ -4,15 +4,15 @@ ghost use Rattle.std.specs.Prelude.{◌≡◌, Ok, IfOk, IfErr, IfSome, length};
 ghost use Rattle.lc_base.specs.Answers.{Answers};
 ghost use Rattle.byte_fields.specs.{Reading.{items_at}, Reader.{error_left, Reads}};
 ghost use Rattle.block_codec.specs.{
-  Spelling.{Spells, IsFaultOffset, IsDecoder},
-  Reading.{dep_keys_at, args_at, tx_at, txs_at, block_at, whole_block, block_in},
+  Spelling.{Spells, IsFaultOffset, IsDecoder, is_version},
+  Reading.{dep_keys_at, args_at, tx_at, txs_at, versioned_at, block_at, whole_block, block_in},
   Decoding.{fault_offset},
 };
 
-use crate::block::{Block, CALL, DEPLOY, SET, Tx, TxList, VERSION};
+use crate::block::{Block, CALL, DEPLOY, FIRST_VERSION, SECOND_VERSION, SET, Tx, TxList};
 use crate::limits::{MAX_ARGS, MAX_BLOCK_BYTES, MAX_CALL_BUDGET, MAX_SOURCE_BYTES, MAX_TXS};
 use byte_fields::{Fault, ReadError, Reader};
-use lc_base::{Digest, KeyList, MAX_DEPS, Seq, Value};
+use lc_base::{Digest, KeyList, MAX_DEPS, MAX_TEXT_BYTES, Seq, Value};
 use std::alloc::Global;
 
 /// Why bytes were not read as a block.
@@ -41,7 +41,7 @@ fn args(alloc: Global, reader: &mut Reader) -> Result<Seq<Value>, ReadError>
     ensures { Reads error_left result (args_at reader.old) reader.new }
 {
     let count = reader.byte_at_most(MAX_ARGS as u8)?;
-    reader.values(alloc, count)
+    reader.values(alloc, count, MAX_TEXT_BYTES as u16)
 }
 
 #[tactic(auto, unfolding(crate::specs::Reading::tx_at, crate::specs::Reading::set_at, crate::specs::Reading::deploy_at, crate::specs::Reading::call_at))]
@@ -53,7 +53,7 @@ fn tx(alloc: Global, reader: &mut Reader) -> Result<Tx, ReadError>
         SET => Ok(Tx::Set {
             sender: reader.key()?,
             key: reader.key()?,
-            value: reader.value(alloc)?,
+            value: reader.value(alloc, MAX_TEXT_BYTES as u16)?,
             deps: dep_keys(alloc, reader)?,
         }),
         DEPLOY => Ok(Tx::Deploy {
@@ -91,19 +91,38 @@ fn txs(alloc: Global, reader: &mut Reader) -> Result<TxList, ReadError>
     counted_txs(alloc, reader, count)
 }
 
-#[tactic(auto, unfolding(crate::specs::Reading::block_at))]
-fn block(alloc: Global, reader: &mut Reader) -> Result<Block, ReadError>
-    ensures { Reads error_left result (block_at reader.old) reader.new }
+/// Whether blocks have this version.
+pub(crate) fn is_version(version: u8) -> bool
+    ensures { result ≡ is_version version }
 {
-    reader.byte_that_is(VERSION)?;
+    version == FIRST_VERSION || version == SECOND_VERSION
+}
+
+/// Reads what follows the version of a block.
+fn versioned(alloc: Global, reader: &mut Reader, version: u8) -> Result<Block, ReadError>
+    ensures { Reads error_left result (versioned_at version reader.old) reader.new }
+{
     let number = reader.u32()?;
     let parent = Digest(reader.digest_bytes()?);
     let txs = txs(alloc, reader)?;
     Ok(Block {
+        version,
         number,
         parent,
         txs,
     })
+}
+
+#[tactic(auto, unfolding(crate::specs::Reading::block_at))]
+fn block(alloc: Global, reader: &mut Reader) -> Result<Block, ReadError>
+    ensures { Reads error_left result (block_at reader.old) reader.new }
+{
+    let left = reader.remaining();
+    let version = reader.byte()?;
+    if !is_version(version) {
+        return Err(ReadError::Fault(Fault { left }));
+    }
+    versioned(alloc, reader, version)
 }
 
 #[tactic(auto, unfolding(crate::specs::Reading::whole_block))]

@@ -9,14 +9,15 @@ ghost use Rattle.block_codec.specs.{
   Encoding.{Encodes},
   Spelling.{IsSet, IsDeploy, IsCall, IsTx, IsBlock, Spells, set_fields, deploy_fields, call_fields, tx_fields, block_fields},
 };
-ghost use Rattle.byte_fields.specs.Spelling.{string_fields, value_fields, IsValue};
+ghost use Rattle.lc_base.specs.declared.limits.TheConstants.{MAX_TEXT_BYTES};
+ghost use Rattle.byte_fields.specs.Spelling.{string_fields, value_fields, IsBlockValue};
 
-use crate::block::{Block, CALL, DEPLOY, SET, Tx, VERSION};
+use crate::block::{Block, CALL, DEPLOY, SET, Tx};
+use crate::decoding::is_version;
 use crate::error::EncodeError;
 use crate::limits::{MAX_ARGS, MAX_BLOCK_BYTES, MAX_CALL_BUDGET, MAX_SOURCE_BYTES, MAX_TXS};
 use byte_fields::{
     put_any_bytes, put_digest, put_key, put_keys, put_name, put_u8, put_u16, put_u32, put_value,
-    put_values,
 };
 use lc_base::{Bytes, Key, KeyList, MAX_DEPS, Name, Seq, Value};
 use std::alloc::Global;
@@ -29,6 +30,26 @@ fn within_limits(is_within: bool) -> Result<(), EncodeError>
     } else {
         Err(EncodeError::Limit)
     }
+}
+
+fn put_block_value(out: &mut Vec<u8>, value: &Value) -> Result<(), EncodeError>
+    ensures { Encodes (value_fields value.now) (IsBlockValue MAX_TEXT_BYTES value.now)
+        out.old.items out.new.items result }
+{
+    match value {
+        Value::Int(_) | Value::Text(_) => Ok(put_value(out, value)?),
+        Value::Gone => Err(EncodeError::Limit),
+    }
+}
+
+fn put_args(out: &mut Vec<u8>, args: &[Value]) -> Result<(), EncodeError>
+    ensures { Encodes (flat_map value_fields args.now)
+        (AllByRecursion (IsBlockValue MAX_TEXT_BYTES) args.now) out.old.items out.new.items result }
+{
+    for value in args {
+        put_block_value(out, value)?;
+    }
+    Ok(())
 }
 
 fn put_set(
@@ -44,7 +65,7 @@ fn put_set(
     within_limits(deps.len() <= MAX_DEPS)?;
     put_key(out, sender)?;
     put_key(out, key)?;
-    put_value(out, value)?;
+    put_block_value(out, value)?;
     put_u8(out, deps.len() as u8)?;
     put_keys(out, deps.as_slice())?;
     Ok(())
@@ -83,7 +104,7 @@ fn put_call(
     put_name(out, contract)?;
     put_name(out, function)?;
     put_u8(out, args.len() as u8)?;
-    put_values(out, args.as_slice())?;
+    put_args(out, args.as_slice())?;
     put_u32(out, budget)?;
     Ok(())
 }
@@ -136,8 +157,9 @@ fn put_block(out: &mut Vec<u8>, block: &Block) -> Result<(), EncodeError>
     ensures { Encodes (block_fields block.now)
         (IsBlock block.now) out.old.items out.new.items result }
 {
+    within_limits(is_version(block.version))?;
     within_limits(block.txs.len() <= MAX_TXS as usize)?;
-    put_u8(out, VERSION)?;
+    put_u8(out, block.version)?;
     put_u32(out, block.number)?;
     put_digest(out, &block.parent)?;
     put_u16(out, block.txs.len() as u16)?;

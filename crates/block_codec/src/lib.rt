@@ -9,7 +9,7 @@ mod frames;
 mod limits;
 mod placement;
 
-pub use block::{Block, CALL, DEPLOY, SET, Tx, TxList, VERSION};
+pub use block::{Block, CALL, DEPLOY, FIRST_VERSION, SECOND_VERSION, SET, Tx, TxList};
 pub use decoding::{DecodeError, decode};
 pub use encoding::encode;
 pub use error::{EncodeError, FrameError};

@@ -3,10 +3,10 @@
 ghost use Rattle.std.specs.Prelude.{◌≡◌, ◌<◌, ◌≤◌, ◌↔◌, IsSome};
 ghost use Rattle.block_codec.specs.{
   Spelling.{IsBlock},
-  Placement.{bytes_digest, block_budget, tx_budget, held_placement, new_placement, placement},
+  Placement.{bytes_digest, block_budget, tx_budget, held_placement, wanted_version, new_placement, placement},
 };
 
-use crate::block::{Block, Tx};
+use crate::block::{Block, FIRST_VERSION, SECOND_VERSION, Tx};
 use crate::limits::{MAX_BLOCK_BUDGET, MAX_BLOCKS, MAX_ROWS_BEFORE_BLOCK};
 use digest_kit::TagHasher;
 use lc_base::Digest;
@@ -39,6 +39,8 @@ pub enum Misplaced {
     Number { want: u32 },
     /// The next block has the parent `want`.
     Parent { want: Digest },
+    /// The next block has the version `want`.
+    Version { want: u8 },
     /// The calls' budgets sum up to `sum` steps, more than `MAX_BLOCK_BUDGET`.
     Budget { sum: u64 },
 }
@@ -80,9 +82,20 @@ pub fn block_budget(block: &Block) -> u64
     txs.iter().map(|tx| u64::from(tx_budget(tx))).sum()
 }
 
-fn new_placement(held: u32, rows: u64, parent: Digest, block: &Block) -> Placement
+/// The version of the next block of a chain that is marked, or isn't.
+fn wanted_version(marked: bool) -> u8
+    ensures { result ≡ wanted_version marked }
+{
+    if marked {
+        SECOND_VERSION
+    } else {
+        FIRST_VERSION
+    }
+}
+
+fn new_placement(held: u32, rows: u64, parent: Digest, block: &Block, marked: bool) -> Placement
     requires { IsBlock block.now }
-    ensures { result ≡ new_placement held rows parent block.now }
+    ensures { result ≡ new_placement marked held rows parent block.now }
 {
     if held == MAX_BLOCKS || rows > MAX_ROWS_BEFORE_BLOCK {
         return Placement::Not(Misplaced::Full);
@@ -93,6 +106,10 @@ fn new_placement(held: u32, rows: u64, parent: Digest, block: &Block) -> Placeme
     if block.parent != parent {
         return Placement::Not(Misplaced::Parent { want: parent });
     }
+    let want = wanted_version(marked);
+    if block.version != want {
+        return Placement::Not(Misplaced::Version { want });
+    }
     let sum = block_budget(block);
     if sum > MAX_BLOCK_BUDGET {
         return Placement::Not(Misplaced::Budget { sum });
@@ -102,7 +119,8 @@ fn new_placement(held: u32, rows: u64, parent: Digest, block: &Block) -> Placeme
 
 /// The place of a block with this digest relative to a chain of `held` blocks and `rows` rows.
 /// `have` is the digest of the held block with its number, `parent` that of the last block, or
-/// `NO_PARENT` if there is none. The reasons of `Misplaced` are tested in their order.
+/// `NO_PARENT` if there is none. In a chain that is `marked` the next block has the second version,
+/// in another the first. The reasons of `Misplaced` are tested in their order.
 pub fn place(
     held: u32,
     rows: u64,
@@ -110,13 +128,14 @@ pub fn place(
     parent: Digest,
     block: &Block,
     digest: Digest,
+    marked: bool,
 ) -> Placement
     requires held { IsSome have ↔ (block.now.number < held) }
     requires lawful { IsBlock block.now }
-    ensures { result ≡ placement held rows have parent block.now digest }
+    ensures { result ≡ placement marked held rows have parent block.now digest }
 {
     match have {
         Some(have) => held_placement(have, digest),
-        None => new_placement(held, rows, parent, block),
+        None => new_placement(held, rows, parent, block, marked),
     }
 }

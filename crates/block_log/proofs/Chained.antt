@@ -1,5 +1,5 @@
 -- Blocks that are read one after another are a chain.
-use Rattle.std.proofs.Common.{◌≡◌, ◌≢◌, inl, inr, ℕ, zero, suc, ◌+◌, ◌-◌, ◌≤◌, ◌<◌, List, [], ◌∷◌, ◌++◌, length, length-append, take, drop, map, refl, sym, ◌∙◌, ap, subst, arith}
+use Rattle.std.proofs.Common.{◌≡◌, ◌≢◌, inl, inr, false, ℕ, zero, suc, ◌+◌, ◌-◌, ◌≤◌, ◌<◌, List, [], ◌∷◌, ◌++◌, length, length-append, take, drop, map, refl, sym, ◌∙◌, ap, subst, arith}
 use Rattle.std.specs.Prelude.{Option, Some, None, Result, Ok, Err, slice_get}
 use Rattle.std.specs.Option.{option_map}
 use Rattle.std.proofs.lemmas.List.{length-map, map-append, take-append-le, take_at}
@@ -104,23 +104,23 @@ module _ (count : ℕ) (last : Digest) (stored : List Stored) (count_is : count 
       long : count ≡ length (blocks_in stored)
       long = count_is ∙ sym (length-map stored (λ s. s.block))
 
-      decoded : (read : Result Block ℕ) → next_decoded (λ blocks block. new_placement count 0 last block) [] read ≡ next_decoded log_placement (blocks_in stored) read
+      decoded : (read : Result Block ℕ) → next_decoded (λ blocks block. new_placement false count 0 last block) [] read ≡ next_decoded log_placement (blocks_in stored) read
       decoded (Err offset) = refl
       decoded (Ok block) =
-          both_next block (new_placement count 0 last block) (log_placement (blocks_in stored) block) (placed_next (blocks_in stored) count last block long last_is)
+          both_next block (new_placement false count 0 last block) (log_placement (blocks_in stored) block) (placed_next (blocks_in stored) count last block long last_is)
           (λ is.
-          ap (λ n. new_placement n 0 last block) long ∙ ap (λ d. new_placement (length (blocks_in stored)) 0 d block) last_is
-          ∙ (next_is_new (length (blocks_in stored)) 0 _ (last_digest (map digest_of (blocks_in stored)))
+          ap (λ n. new_placement false n 0 last block) long ∙ ap (λ d. new_placement false (length (blocks_in stored)) 0 d block) last_is
+          ∙ (next_is_new false (length (blocks_in stored)) 0 _ (last_digest (map digest_of (blocks_in stored)))
           block (digest_of block) is).1)
 
 -- A log with the greatest number of blocks has no next one.
 pub has_room : (count : ℕ) (last : Digest) (bytes : List ℕ) (block : Block) → next_of count last bytes ≡ Some block → count ≢ MAX_BLOCKS
 has_room count last bytes block is = decoded (block_in bytes) is
   where
-    decoded : (read : Result Block ℕ) → next_decoded (λ blocks block. new_placement count 0 last block) [] read ≡ Some block → count ≢ MAX_BLOCKS
+    decoded : (read : Result Block ℕ) → next_decoded (λ blocks block. new_placement false count 0 last block) [] read ≡ Some block → count ≢ MAX_BLOCKS
     decoded (Ok read) is =
-        (next_is_placed count 0 last read
-        (placed read block (new_placement count 0 last read) is).0).room
+        (next_is_placed false count 0 last read
+        (placed read block (new_placement false count 0 last read) is).0).room
     decoded (Err offset) is = absurd (cc is)
 
 -- One more block was read.

@@ -7,3 +7,4 @@ pub mod NextRecord
 mod Turns
 mod Heads
 pub mod Chained
+pub mod FirstVersions

@@ -32,16 +32,16 @@ use Rattle.block_log.proofs.TornRecords.{within, staged_within, torn_after, torn
 some_room : (blocks : List Block) (block : Block) → log_placement blocks block ≡ Next → length blocks ≢ MAX_BLOCKS
 some_room blocks block is =
     let digests = map digest_of blocks in
-    (next_has_passed (length blocks) 0 (slice_get digests block.number) (last_digest digests) block
+    (next_has_passed false (length blocks) 0 (slice_get digests block.number) (last_digest digests) block
     (digest_of block) is).room
 
 -- the next block by what a log keeps is the next one after the blocks themselves
-pub placed_next : (blocks : List Block) (count : ℕ) (last : Digest) (block : Block) → count ≡ length blocks → last ≡ last_digest (map digest_of blocks) → new_placement count 0 last block ≡ Next → log_placement blocks block ≡ Next
+pub placed_next : (blocks : List Block) (count : ℕ) (last : Digest) (block : Block) → count ≡ length blocks → last ≡ last_digest (map digest_of blocks) → new_placement false count 0 last block ≡ Next → log_placement blocks block ≡ Next
 placed_next blocks count last block count_is last_is is =
-    let number = (next_is_placed count 0 last block is).number in
+    let number = (next_is_placed false count 0 last block is).number in
     let past : slice_get (map digest_of blocks) block.number ≡ None = slice_get_past (map digest_of blocks) block.number (omega (arith, number, count_is, length-map blocks digest_of)) in
-    ap (λ (have : Option Digest). placement (length blocks) 0 have (last_digest (map digest_of blocks)) block (digest_of block)) past
-    ∙ ap (λ n. new_placement n 0 (last_digest (map digest_of blocks)) block) (sym count_is) ∙ ap (λ d. new_placement count 0 d block) (sym last_is) ∙ is
+    ap (λ (have : Option Digest). placement false (length blocks) 0 have (last_digest (map digest_of blocks)) block (digest_of block)) past
+    ∙ ap (λ n. new_placement false n 0 (last_digest (map digest_of blocks)) block) (sym count_is) ∙ ap (λ d. new_placement false count 0 d block) (sym last_is) ∙ is
 
 pub last_of : (digests : List Digest) (d : Digest) → last_digest (digests ++ d ∷ []) ≡ d
 last_of digests d =
@@ -104,7 +104,7 @@ module _ (log seen : LogState) (bytes : List ℕ) (same : log ≡ seen) (seen_ne
   -- the bounds of the log with the block
   pub kept : IsKeptLog log → IsKeptLog (log_with_block log bytes)
   kept is =
-      let room = (next_is_placed log.count 0 log.last is_next.block is_next.placed).room in
+      let room = (next_is_placed false log.count 0 log.last is_next.block is_next.placed).room in
       record { few = omega (arith, below log.count MAX_BLOCKS is.few room); near = omega (arith, is.near, short); no_block = λ headless. absurd (cc headless) }
 
   -- the log's own view

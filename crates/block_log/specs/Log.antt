@@ -14,9 +14,9 @@ use Rattle.block_log.specs.declared.layout.Stored.{Stored}
 -- ---- which block a log takes
 
 -- The place of a block after others, as the log itself judges it: it runs no block, so it counts no
--- row.
+-- row; and it takes blocks of the first version alone.
 abbrev pub log_placement : Placer
-log_placement = placement_after 0
+log_placement = placement_after false 0
 
 -- The next block, as the log itself judges it.
 abbrev pub next_in_log : NextBlock
@@ -97,7 +97,7 @@ log_with_block log bytes = record { gate = log.gate + 5 + length bytes; count = 
 pub record IsNextOf (log : LogState) (bytes : List ℕ) : Type 0 where
   pub block : Block
   pub decoded : block_in bytes ≡ Ok block
-  pub placed : new_placement log.count 0 log.last block ≡ Next
+  pub placed : new_placement false log.count 0 log.last block ≡ Next
 
 -- These bytes are the next block of the content's chain, by a placement that is stricter than the
 -- log's own.

@@ -95,7 +95,7 @@ stored_at gate block = record { place = gate; digest = digest_of block; block = 
 -- The block that bytes spell, if it is the next one after `count` blocks, the last of which has the
 -- digest `last`.
 abbrev pub next_of : ℕ → Digest → List ℕ → Option Block
-next_of count last bytes = next_block block_in (λ blocks block. new_placement count 0 last block) [] bytes
+next_of count last bytes = next_block block_in (λ blocks block. new_placement false count 0 last block) [] bytes
 
 -- What is found at the gate at this offset, after these `count` blocks.
 abbrev pub IsFound : Option (List ℕ) → ℕ → ℕ → List Stored → Found → Type 0

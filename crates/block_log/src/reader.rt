@@ -1,7 +1,7 @@
 //! Reading the blocks of a log, one after another.
 
 ghost use Rattle.std.specs.{
-  Prelude.{◌≡◌, ℕ, ◌+◌, ◌*◌, ◌≤◌, ◌<◌, List, length, Some, IfOk, IfSome, IsErrOf},
+  Prelude.{◌≡◌, ℕ, ◌+◌, ◌*◌, ◌≤◌, ◌<◌, false, List, length, Some, IfOk, IfSome, IsErrOf},
   Option.{is_some, option_map},
 };
 ghost use Rattle.lc_base.specs.Faults.{HasCause};
@@ -41,12 +41,17 @@ pub(crate) enum Found {
 }
 
 /// Whether a block with this digest is the next one after `count` blocks, the last of which has the
-/// digest `last`. A block with the number of a held one is not, whichever block is held.
+/// digest `last`. A block with the number of a held one is not, whichever block is held, nor is one
+/// of another version than the first.
 fn is_next(count: u32, last: Digest, block: &Block, digest: Digest) -> bool
     requires lawful { IsBlock block.now }
-    ensures { result ≡ is_some (if_next block.now (new_placement count 0 last block.now)) }
+    ensures { result ≡ is_some (if_next block.now (new_placement false count 0 last block.now)) }
 {
-    block.number == count && matches!(place(count, 0, None, last, block, digest), Placement::Next)
+    block.number == count
+        && matches!(
+            place(count, 0, None, last, block, digest, false),
+            Placement::Next
+        )
 }
 
 /// The block that the bytes after the gate at this offset spell, if it is the next one after

@@ -1,7 +1,7 @@
 -- What a reader returns, in terms of what reading its bytes gives.
 use Rattle.std.specs.Prelude.{List, ℕ, Option, Some, None, Result}
 use Rattle.lc_base.specs.declared.value.Value.{Value}
-use Rattle.lc_base.specs.declared.value.Value.TheVariants.{Int, Text}
+use Rattle.lc_base.specs.declared.value.Value.TheVariants.{Int, Text, Gone}
 use Rattle.lc_base.specs.Answers.{Answers}
 use Rattle.byte_fields.specs.Reading.{Field}
 use Rattle.byte_fields.specs.declared.fault.Fault.{Fault}
@@ -28,7 +28,8 @@ Reads left_of result read rest = Answers (λ value. (value, rest)) left_of resul
 abbrev pub ReadsAs : {A B E : Type 0} → (A → B) → (E → Option ℕ) → Result A E → Field B → List ℕ → Type 0
 ReadsAs view left_of result read rest = Answers (λ value. (view value, rest)) left_of result read
 
--- The value that a view shows: an int, or the text of the borrowed bytes.
+-- The value that a view shows: an int, the text of the borrowed bytes, or gone.
 abbrev pub value_seen : ValueView → Value
 value_seen (views.Int number) = Int number
 value_seen (views.Text text) = Text text.now
+value_seen views.Gone = Gone

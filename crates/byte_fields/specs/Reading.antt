@@ -7,7 +7,7 @@ use Rattle.lc_base.specs.TextBytes.{bad_text_byte}
 use Rattle.lc_base.specs.lc_names.declared.limits.TheConstants.{MAX_KEY_BYTES, MAX_NAME_BYTES}
 use Rattle.lc_base.specs.declared.limits.TheConstants.{MAX_TEXT_BYTES}
 use Rattle.lc_base.specs.declared.value.Value.{Value}
-use Rattle.lc_base.specs.declared.value.Value.TheVariants.{Int, Text}
+use Rattle.lc_base.specs.declared.value.Value.TheVariants.{Int, Text, Gone}
 
 -- What is read at the start of some bytes: a value and the bytes after it, or how many bytes are
 -- left from the invalid field on.
@@ -99,19 +99,28 @@ name_at = string_at 1 MAX_NAME_BYTES bad_name_byte
 unfoldable pub any_bytes_at : ℕ → List ℕ → Field (List ℕ)
 any_bytes_at greatest = bind_at (ruled_at (λ n. nat_le n greatest) (number_at w16)) bytes_at
 
--- A text.
-unfoldable pub text_at : List ℕ → Field (List ℕ)
-text_at = string_at 0 MAX_TEXT_BYTES bad_text_byte
+-- A text of at most `most` bytes.
+unfoldable pub text_at : ℕ → List ℕ → Field (List ℕ)
+text_at most = string_at 0 most bad_text_byte
 
 -- An int in two's complement.
 unfoldable pub int_at : List ℕ → Field ℤ
 int_at = made_at (cast_signed w64) (number_at w64)
 
--- The field that follows a value's tag.
-abbrev pub tagged_at : ℕ → List ℕ → Field Value
-tagged_at zero = made_at Int int_at
-tagged_at (suc tag) = made_at Text text_at
+-- The field that follows a value's tag; a text has at most `most` bytes. Nothing follows the tag 2.
+abbrev pub tagged_at : ℕ → ℕ → List ℕ → Field Value
+tagged_at most zero = made_at Int int_at
+tagged_at most (suc zero) = made_at Text (text_at most)
+tagged_at most (suc (suc tag)) = ret_at Gone
 
--- A value: its tag, then the field that the tag selects.
-unfoldable pub value_at : List ℕ → Field Value
-value_at = bind_at (ruled_at (λ tag. nat_lt tag 2) byte_at) tagged_at
+-- A value: its tag, one of the first `tags`, then the field that the tag selects.
+abbrev pub value_below_at : ℕ → ℕ → List ℕ → Field Value
+value_below_at tags most = bind_at (ruled_at (λ tag. nat_lt tag tags) byte_at) (tagged_at most)
+
+-- A value in a block: an int, or a text of at most `most` bytes.
+unfoldable pub value_at : ℕ → List ℕ → Field Value
+value_at most = value_below_at 2 most
+
+-- A value in a body: an int, a text, or gone.
+unfoldable pub body_value_at : List ℕ → Field Value
+body_value_at = value_below_at 3 MAX_TEXT_BYTES

@@ -11,5 +11,5 @@ pub use reader::Reader;
 pub use value_view::ValueView;
 pub use writing::{
     put_any_bytes, put_digest, put_key, put_keys, put_name, put_text, put_u8, put_u16, put_u32,
-    put_u64, put_value, put_values,
+    put_u64, put_value,
 };

@@ -14,7 +14,7 @@ ghost use Rattle.lc_base.specs.{
   declared.limits.TheConstants.{MAX_TEXT_BYTES},
 };
 ghost use Rattle.byte_fields.specs.{
-  Reading.{ruled_at, items_at, number_at, byte_at, bytes_at, key_at, name_at, any_bytes_at, text_at, key_or_empty_at, int_at, value_at},
+  Reading.{ruled_at, items_at, number_at, byte_at, bytes_at, key_at, name_at, any_bytes_at, text_at, key_or_empty_at, int_at, value_at, body_value_at},
   Reader.{fault_left, error_left, Reads, ReadsAs, value_seen},
 };
 
@@ -291,12 +291,13 @@ impl<'a> Reader<'a> {
         }
     }
 
-    /// A text: its length in two bytes, then its bytes.
+    /// A text of at most `most` bytes: its length in two bytes, then its bytes.
     #[tactic(auto, unfolding(crate::specs::Reading::text_at, crate::specs::Reading::string_at))]
-    pub fn text(&mut self, alloc: Global) -> Result<Text, ReadError>
-        ensures { Reads error_left result (text_at self.old) self.new }
+    fn text(&mut self, alloc: Global, most: u16) -> Result<Text, ReadError>
+        requires { most ≤ MAX_TEXT_BYTES }
+        ensures { Reads error_left result (text_at most self.old) self.new }
     {
-        let length = self.length_between(0, MAX_TEXT_BYTES as u16)?;
+        let length = self.length_between(0, most)?;
         self.text_of(alloc, length)
     }
 
@@ -314,7 +315,7 @@ impl<'a> Reader<'a> {
     /// The bytes of a text, borrowed: its length in two bytes, then its bytes.
     #[tactic(auto, unfolding(crate::specs::Reading::text_at, crate::specs::Reading::string_at))]
     pub fn text_bytes(&mut self) -> Result<&'a [u8], Fault>
-        ensures { ReadsAs (λ bytes. bytes.now) fault_left result (text_at self.old) self.new }
+        ensures { ReadsAs (λ bytes. bytes.now) fault_left result (text_at MAX_TEXT_BYTES self.old) self.new }
     {
         let length = self.length_between(0, MAX_TEXT_BYTES as u16)?;
         self.text_bytes_of(length)
@@ -329,28 +330,31 @@ impl<'a> Reader<'a> {
         Ok(bits.cast_signed())
     }
 
-    /// A value: the byte 0 and an int, or the byte 1 and a text.
+    /// A value in a block: the byte 0 and an int, or the byte 1 and a text of at most `most` bytes.
     #[tactic(auto, unfolding(crate::specs::Reading::value_at))]
-    pub fn value(&mut self, alloc: Global) -> Result<Value, ReadError>
-        ensures { Reads error_left result (value_at self.old) self.new }
+    pub fn value(&mut self, alloc: Global, most: u16) -> Result<Value, ReadError>
+        requires { most ≤ MAX_TEXT_BYTES }
+        ensures { Reads error_left result (value_at most self.old) self.new }
     {
         let fault = self.fault();
         match self.byte()? {
             0 => Ok(Value::Int(self.int()?)),
-            1 => Ok(Value::Text(self.text(alloc)?)),
+            1 => Ok(Value::Text(self.text(alloc, most)?)),
             _ => Err(ReadError::Fault(fault)),
         }
     }
 
-    /// A value whose text is borrowed: the byte 0 and an int, or the byte 1 and a text.
-    #[tactic(auto, unfolding(crate::specs::Reading::value_at))]
+    /// A value in a body, whose text is borrowed: the byte 0 and an int, the byte 1 and a text, or
+    /// the byte 2 alone.
+    #[tactic(auto, unfolding(crate::specs::Reading::body_value_at))]
     pub fn value_view(&mut self) -> Result<ValueView<'a>, Fault>
-        ensures { ReadsAs value_seen fault_left result (value_at self.old) self.new }
+        ensures { ReadsAs value_seen fault_left result (body_value_at self.old) self.new }
     {
         let fault = self.fault();
         match self.byte()? {
             0 => Ok(ValueView::Int(self.int()?)),
             1 => Ok(ValueView::Text(self.text_bytes()?)),
+            2 => Ok(ValueView::Gone),
             _ => Err(fault),
         }
     }
@@ -367,13 +371,14 @@ impl<'a> Reader<'a> {
         Ok(keys)
     }
 
-    /// `count` values, one after another.
-    pub fn values(&mut self, alloc: Global, count: u8) -> Result<Seq<Value>, ReadError>
-        ensures { Reads error_left result (items_at value_at count self.old) self.new }
+    /// `count` values in a block, one after another, each text of at most `most` bytes.
+    pub fn values(&mut self, alloc: Global, count: u8, most: u16) -> Result<Seq<Value>, ReadError>
+        requires { most ≤ MAX_TEXT_BYTES }
+        ensures { Reads error_left result (items_at (value_at most) count self.old) self.new }
     {
         let mut values = Seq::new(alloc);
         for _ in 0..count {
-            let value = self.value(alloc)?;
+            let value = self.value(alloc, most)?;
             values.push(value)?;
         }
         Ok(values)

@@ -5,4 +5,5 @@
 pub enum ValueView<'a> {
     Int(i64),
     Text(&'a [u8]),
+    Gone,
 }

@@ -91,7 +91,7 @@ pub fn put_text(out: &mut Vec<u8>, text: &Text) -> Result<(), Memory>
     put_string(out, text.as_bytes())
 }
 
-/// A value: the byte 0 and an int, or the byte 1 and a text.
+/// A value: the byte 0 and an int, the byte 1 and a text, or the byte 2 alone, which means gone.
 pub fn put_value(out: &mut Vec<u8>, value: &Value) -> Result<(), Memory>
     ensures { Puts (value_fields value.now) (IsValue value.now) out.old.items out.new.items result }
 {
@@ -105,6 +105,10 @@ pub fn put_value(out: &mut Vec<u8>, value: &Value) -> Result<(), Memory>
             out.push(1)?;
             put_text(out, text)
         }
+        Value::Gone => {
+            out.push(2)?;
+            Ok(())
+        }
     }
 }
 
@@ -114,16 +118,6 @@ pub fn put_keys(out: &mut Vec<u8>, keys: &[Key]) -> Result<(), Memory>
 {
     for key in keys {
         put_key(out, key)?;
-    }
-    Ok(())
-}
-
-/// Values, one after another.
-pub fn put_values(out: &mut Vec<u8>, values: &[Value]) -> Result<(), Memory>
-    ensures { PutsAll value_fields IsValue values.now out.old.items out.new.items result }
-{
-    for value in values {
-        put_value(out, value)?;
     }
     Ok(())
 }

@@ -15,6 +15,7 @@ use Rattle.cli_append.specs.declared.ending.RunStop.{RunStop}
 use Rattle.cli_words.specs.Words.{CanBeGiven, IsCount}
 use Rattle.cli_words.specs.declared.words.Generation.{Generation}
 use Rattle.cli_words.specs.declared.words.Command.{Command}
+use Rattle.cli_words.specs.declared.words.Edition.{Edition}
 use Rattle.cli_words.specs.declared.words.Command.TheVariants.{Scan, Fmt, Pack, Gen, Load, Append}
 use Rattle.cli_words.specs.declared.words.Command.TheVariants.{Root, Ask, Prove, Verify, Expose}
 use Rattle.cli_append.specs.cli_lines.Outcome.{status_of}
@@ -24,8 +25,8 @@ use Rattle.cli_append.specs.cli_lines.declared.outcome.Ending.TheVariants as end
 use Rattle.cli_append.specs.cli_lines.declared.status.Status.{Status}
 use Rattle.cli_append.specs.cli_lines.declared.status.Status.TheVariants as statuses
 use Rattle.cli_output.specs.Blocks.{draft_outcome}
-use Rattle.cli_output.specs.Output.{Output, output_of, fmt_outcome, source_outcome, IsFmtOutput}
-use Rattle.cli_output.specs.Output.{Long, Source}
+use Rattle.cli_output.specs.Output.{Output, output_of, edition_number, fmt_outcome}
+use Rattle.cli_output.specs.Output.{source_outcome, IsFmtOutput, Long, Source}
 use Rattle.cli_output.specs.Uses.{reads_input, uses_disk, changes_log}
 use Rattle.cli_output.specs.Running.{MayEnd, found_no_log}
 use Rattle.cli_output.specs.Telling.{status_of_result, status_of_stop, status_of_found}
@@ -38,24 +39,26 @@ use Rattle.cli_append.specs.declared.ending.RunStop.TheVariants as stops
 
 -- ---- inputs that are read whole
 
-functions_end : (functions : List FunctionTree) (fault : Option Fault)
-    → MayEnd (status_of (fmt_outcome functions fault).ending) (Some Fmt)
-functions_end functions None = refl
-functions_end functions (Some fault) = refl
+functions_end : (edition : Edition) (functions : List FunctionTree) (fault : Option Fault)
+    → MayEnd (status_of (fmt_outcome functions fault).ending) (Some (Fmt edition))
+functions_end edition functions None = refl
+functions_end edition functions (Some fault) = refl
 
-source_ends : (outcome : SourceOutcome)
-    → MayEnd (status_of (source_outcome outcome).ending) (Some Fmt)
-source_ends (Ok functions) = functions_end functions (check_fault functions)
-source_ends (Err fault) = refl
+source_ends : (edition : Edition) (outcome : SourceOutcome)
+    → MayEnd (status_of (source_outcome outcome).ending) (Some (Fmt edition))
+source_ends edition (Ok functions) = functions_end edition functions (check_fault functions)
+source_ends edition (Err fault) = refl
 
-output_ends : (input : List ℕ) (output : Output) → IsFmtOutput input output
-    → MayEnd output.status (Some Fmt)
-output_ends input _ (Long long) = refl
-output_ends input _ (Source fits outcome is) = source_ends outcome
+output_ends : (edition : Edition) (input : List ℕ) (output : Output)
+    → IsFmtOutput (edition_number edition) input output
+    → MayEnd output.status (Some (Fmt edition))
+output_ends edition input _ (Long long) = refl
+output_ends edition input _ (Source fits outcome is) = source_ends edition outcome
 
-pub fmt_ends : (source : List ℕ) (outcome : Outcome) → IsFmtOutput source (output_of outcome [])
-    → MayEnd (status_of outcome.ending) (Some Fmt)
-fmt_ends source outcome is = output_ends source (output_of outcome []) is
+pub fmt_ends : (edition : Edition) (source : List ℕ) (outcome : Outcome)
+    → IsFmtOutput (edition_number edition) source (output_of outcome [])
+    → MayEnd (status_of outcome.ending) (Some (Fmt edition))
+fmt_ends edition source outcome is = output_ends edition source (output_of outcome []) is
 
 draft_ends : (found : Result (List (List ℕ)) PackError)
     → MayEnd (status_of (draft_outcome found).ending) (Some Pack)
@@ -147,7 +150,7 @@ no_log_found now disk told old new (Err stop) result says none = subst
 pub others_keep : (command : Command) → (command ≡ Append → ⊥)
     → changes_log (Some command) ≡ false
 others_keep (Scan query) other = refl
-others_keep Fmt other = refl
+others_keep (Fmt edition) other = refl
 others_keep Pack other = refl
 others_keep (Gen generation) other = refl
 others_keep (Load generation) other = refl

@@ -45,33 +45,33 @@ plain_texts (line ∷ lines) = ap (λ (others : List (List ℕ)). line ∷ other
 
 -- ---- the text of functions that are well kinded
 
-told_again : (input : List ℕ) (functions : List FunctionTree) → ReadsAs input functions
+told_again : (edition : ℕ) (input : List ℕ) (functions : List FunctionTree) → ReadsAs edition input functions
     → check_fault functions ≡ None → FitsInput (contract_text functions)
-    → IsFmtOutput (contract_text functions) (output_of (outcome_with (lines_of (contract_text functions)) endings.Done) [])
-told_again input functions reads good fits =
+    → IsFmtOutput edition (contract_text functions) (output_of (outcome_with (lines_of (contract_text functions)) endings.Done) [])
+told_again edition input functions reads good fits =
     let again = reads_again input functions reads in
     let none : check_fault again.0 ≡ None = no_check_fault again.0 ((kinded_anywhere functions again.0 again.2).0 (well_kinded functions good)) in
     let text : contract_text again.0 ≡ contract_text functions = one_text functions again.0 again.2 in
     let told : fmt_outcome again.0 (check_fault again.0) ≡ outcome_with (lines_of (contract_text functions)) endings.Done =
     ap (fmt_outcome again.0) none ∙ ap (λ (t : List ℕ). outcome_with (lines_of t) endings.Done) text in
-    subst (λ o. IsFmtOutput (contract_text functions) (output_of o [])) told (Source fits (Ok again.0) again.1)
+    subst (λ o. IsFmtOutput edition (contract_text functions) (output_of o [])) told (Source fits (Ok again.0) again.1)
 
-by_fault : (input : List ℕ) (functions : List FunctionTree) (fault : Option Fault)
-    → ReadsAs input functions → check_fault functions ≡ fault
+by_fault : (edition : ℕ) (input : List ℕ) (functions : List FunctionTree) (fault : Option Fault)
+    → ReadsAs edition input functions → check_fault functions ≡ fault
     → (output_of (fmt_outcome functions fault) []).status ≡ statuses.Done
-    → FitsInput (told_bytes (output_of (fmt_outcome functions fault) [])) → IsFmtOutput (told_bytes (output_of (fmt_outcome functions fault) [])) (output_of (fmt_outcome functions fault) [])
-by_fault input functions (Some fault) reads e done fits = absurd cc
-by_fault input functions None reads e done fits =
+    → FitsInput (told_bytes (output_of (fmt_outcome functions fault) [])) → IsFmtOutput edition (told_bytes (output_of (fmt_outcome functions fault) [])) (output_of (fmt_outcome functions fault) [])
+by_fault edition input functions (Some fault) reads e done fits = absurd cc
+by_fault edition input functions None reads e done fits =
     let lines : List (List ℕ) = lines_of (contract_text functions) in
     let text : told_bytes (output_of (outcome_with lines endings.Done) []) ≡ contract_text functions = ap concat (plain_texts lines) ∙ text_joined (contract_text functions) in
-    subst (λ (t : List ℕ). IsFmtOutput t (output_of (outcome_with (lines_of (contract_text functions)) endings.Done) [])) (sym text) (told_again input functions reads e (subst FitsInput text fits))
+    subst (λ (t : List ℕ). IsFmtOutput edition t (output_of (outcome_with (lines_of (contract_text functions)) endings.Done) [])) (sym text) (told_again edition input functions reads e (subst FitsInput text fits))
 
-by_outcome : (input : List ℕ) (outcome : SourceOutcome) → IsOutcome input outcome
+by_outcome : (edition : ℕ) (input : List ℕ) (outcome : SourceOutcome) → IsOutcome edition input outcome
     → (output_of (source_outcome outcome) []).status ≡ statuses.Done
-    → FitsInput (told_bytes (output_of (source_outcome outcome) [])) → IsFmtOutput (told_bytes (output_of (source_outcome outcome) [])) (output_of (source_outcome outcome) [])
-by_outcome input (Ok functions) reads done fits = by_fault input functions (check_fault functions) reads refl done fits
-by_outcome input (Err fault) is done fits = absurd cc
+    → FitsInput (told_bytes (output_of (source_outcome outcome) [])) → IsFmtOutput edition (told_bytes (output_of (source_outcome outcome) [])) (output_of (source_outcome outcome) [])
+by_outcome edition input (Ok functions) reads done fits = by_fault edition input functions (check_fault functions) reads refl done fits
+by_outcome edition input (Err fault) is done fits = absurd cc
 
-pub formats_again : (input : List ℕ) → FormatsAgain input
-formats_again input _ (Long long) done fits = absurd cc
-formats_again input _ (Source short outcome is) done fits = by_outcome input outcome is done fits
+pub formats_again : (edition : ℕ) (input : List ℕ) → FormatsAgain edition input
+formats_again edition input _ (Long long) done fits = absurd cc
+formats_again edition input _ (Source short outcome is) done fits = by_outcome edition input outcome is done fits

@@ -38,7 +38,8 @@ use Rattle.chain_input.specs.Folding.{fold_input}
 use Rattle.cli_output.specs.Output.{Output, output_of, scan_output, usage_output, long_output}
 use Rattle.cli_output.specs.Output.{pack_output, gen_output, load_output, append_output}
 use Rattle.cli_output.specs.Output.{root_output, ask_output, prove_output, on_log, next_by}
-use Rattle.cli_output.specs.Output.{source_outcome, IsFmtOutput, Long, Source, IsVerifyOutput}
+use Rattle.cli_output.specs.Output.{stored_by}
+use Rattle.cli_output.specs.Output.{edition_number, source_outcome, IsFmtOutput, Long, Source, IsVerifyOutput}
 use Rattle.cli_output.specs.Output.{LongProof, Verified, IsExposeOutput, IsOnLog, Wants, IsWanted}
 use Rattle.cli_output.specs.Output.{IsOneOutput}
 use Rattle.cli_output.specs.Proofs.{verification_outcome}
@@ -57,23 +58,23 @@ next_same : (f g : List Block → List ℕ → Fold)
 next_same f g same taken blocks rest fits (Ok frame) = ap (taken_before (frame ∷ [])) (same (blocks ++ added_by frame) rest fits)
 next_same f g same taken blocks rest fits (Err refusal) = refl
 
-module _ (compile : Compiler) (a b : Decoder) (is_a : IsDecoder a) (is_b : IsDecoder b) where
+module _ (place : Placer) (a b : Decoder) (is_a : IsDecoder a) (is_b : IsDecoder b) where
   step_same : (f g : List Block → List ℕ → Fold) → ((blocks : List Block) (input : List ℕ) → IsBytes input → f blocks input ≡ g blocks input) → (taken : ℕ) (blocks : List Block) (input : List ℕ) → IsBytes input
-      → (step : FrameStep) → frame_step taken input ≡ step → fold_step a compile f taken blocks input step ≡ fold_step b compile g taken blocks input step
+      → (step : FrameStep) → frame_step taken input ≡ step → fold_step a place f taken blocks input step ≡ fold_step b place g taken blocks input step
   step_same f g same taken blocks input fits End e = refl
   step_same f g same taken blocks input fits Truncated e = refl
   step_same f g same taken blocks input fits (Length count) e = refl
   step_same f g same taken blocks input fits Many e = refl
   step_same f g same taken blocks input fits (Frame frame rest) e =
       let bytes = frame_bytes taken input frame rest fits e in
-      ap (λ (r : Result Block ℕ). fold_after_frame f taken blocks rest (judgement_of compile blocks r)) (decoders_agree a b is_a is_b frame bytes.0)
-      ∙ next_same f g same taken blocks rest bytes.1 (judgement_of compile blocks (b frame))
+      ap (λ (r : Result Block ℕ). fold_after_frame f taken blocks rest (judgement_of place blocks r)) (decoders_agree a b is_a is_b frame bytes.0)
+      ∙ next_same f g same taken blocks rest bytes.1 (judgement_of place blocks (b frame))
 
-  fold_same : (more : ℕ) (blocks : List Block) (input : List ℕ) → IsBytes input → fold_from a compile more blocks input ≡ fold_from b compile more blocks input
+  fold_same : (more : ℕ) (blocks : List Block) (input : List ℕ) → IsBytes input → fold_from a place more blocks input ≡ fold_from b place more blocks input
   unfolding fold_from
   fold_same zero blocks input fits = refl
   fold_same (suc more) blocks input fits =
-      step_same (fold_from a compile more) (fold_from b compile more) (fold_same more) (MAX_FRAMES - more) blocks input fits (frame_step (MAX_FRAMES - more) input) refl
+      step_same (fold_from a place more) (fold_from b place more) (fold_same more) (MAX_FRAMES - more) blocks input fits (frame_step (MAX_FRAMES - more) input) refl
 
 -- ---- the records of a log, by two decoders that are right
 
@@ -113,11 +114,11 @@ module _ (place : Placer) (a b : Decoder) (is_a : IsDecoder a) (is_b : IsDecoder
 
 -- ---- there is an output
 
-some_fmt : (input : List ℕ) → (output : Output) × IsFmtOutput input output
-some_fmt input =
+some_fmt : (edition : ℕ) (input : List ℕ) → (output : Output) × IsFmtOutput edition input output
+some_fmt edition input =
     elim (cases_lt MAX_WHOLE_INPUT_BYTES (length input)) [
       | inl long ↦ (long_output input, Long long)
-      | inr fits ↦ let found = some_outcome input in (output_of (source_outcome found.0) [], Source fits found.0 found.1)
+      | inr fits ↦ let found = some_outcome edition input in (output_of (source_outcome found.0) [], Source fits found.0 found.1)
     ]
 
 some_verify : (root : List ℕ) (query : Query) (input : List ℕ)
@@ -132,12 +133,12 @@ some_verify root query input =
 pub some_output : (command : Option Command) (input content : List ℕ)
     → (output : Output) × Wants block_in compiled_in command input content output
 some_output None input content = (usage_output input, refl)
-some_output (Some (Scan query)) input content = (scan_output compiled_in query (fold_input block_in compiled_in input), refl)
-some_output (Some Fmt) input content = some_fmt input
+some_output (Some (Scan query)) input content = (scan_output compiled_in query (fold_input block_in (placement_in compiled_in) input), refl)
+some_output (Some (Fmt edition)) input content = some_fmt (edition_number edition) input
 some_output (Some Pack) input content = (pack_output input, refl)
 some_output (Some (Gen generation)) input content = (gen_output generation input, refl)
 some_output (Some (Load generation)) input content = (load_output compiled_in generation input, refl)
-some_output (Some Append) input content = (on_log (λ blocks. append_output compiled_in blocks (fold_from block_in compiled_in (MAX_FRAMES + 1) blocks input)) input (standing (next_by block_in compiled_in) content), refl)
+some_output (Some Append) input content = (on_log (λ blocks. append_output compiled_in blocks (fold_from block_in (stored_by compiled_in) (MAX_FRAMES + 1) blocks input)) input (standing (next_by block_in compiled_in) content), refl)
 some_output (Some (Root at)) input content = (on_log (root_output compiled_in at input) input (standing (next_by block_in compiled_in) content), refl)
 some_output (Some (Ask kind key at)) input content = (on_log (ask_output compiled_in kind key at input) input (standing (next_by block_in compiled_in) content), refl)
 some_output (Some (Prove query root_at)) input content = (on_log (prove_output compiled_in query root_at input) input (standing (next_by block_in compiled_in) content), refl)
@@ -157,24 +158,24 @@ on_log_same over other input same NotALog = refl
 on_log_same over other input same (Damaged before at) = refl
 on_log_same over other input same (Holds stored gate) = same (blocks_in stored)
 
-only_long : (input : List ℕ) → MAX_WHOLE_INPUT_BYTES < length input → (other : Output)
-    → IsFmtOutput input other → other ≡ long_output input
-only_long input long _ (Long _) = refl
-only_long input long _ (Source fits outcome is) = absurd (omega (arith, long, fits))
+only_long : (edition : ℕ) (input : List ℕ) → MAX_WHOLE_INPUT_BYTES < length input → (other : Output)
+    → IsFmtOutput edition input other → other ≡ long_output input
+only_long edition input long _ (Long _) = refl
+only_long edition input long _ (Source fits outcome is) = absurd (omega (arith, long, fits))
 
-only_source : (input : List ℕ) (outcome : SourceOutcome) → length input ≤ MAX_WHOLE_INPUT_BYTES
-    → IsOutcome input outcome → (other : Output) → IsFmtOutput input other → other ≡ output_of
+only_source : (edition : ℕ) (input : List ℕ) (outcome : SourceOutcome) → length input ≤ MAX_WHOLE_INPUT_BYTES
+    → IsOutcome edition input outcome → (other : Output) → IsFmtOutput edition input other → other ≡ output_of
     (source_outcome outcome) []
-only_source input outcome fits is _ (Long long) = absurd (omega (arith, long, fits))
-only_source input outcome fits is _ (Source _ found i) = ap (λ (o : SourceOutcome). output_of (source_outcome o) []) (one_outcome input found outcome i is)
+only_source edition input outcome fits is _ (Long long) = absurd (omega (arith, long, fits))
+only_source edition input outcome fits is _ (Source _ found i) = ap (λ (o : SourceOutcome). output_of (source_outcome o) []) (one_outcome edition input found outcome i is)
 
-only_fmt : (input : List ℕ) (other : Output) → IsFmtOutput input other → other ≡ (some_fmt input).0
-only_fmt input other is =
+only_fmt : (edition : ℕ) (input : List ℕ) (other : Output) → IsFmtOutput edition input other → other ≡ (some_fmt edition input).0
+only_fmt edition input other is =
     elim (cases_lt MAX_WHOLE_INPUT_BYTES (length input)) [
-      | inl long ↦ only_long input long other is ∙ sym (only_long input long (some_fmt input).0 (some_fmt input).1)
+      | inl long ↦ only_long edition input long other is ∙ sym (only_long edition input long (some_fmt edition input).0 (some_fmt edition input).1)
       | inr fits ↦
-          let found = some_outcome input in
-          only_source input found.0 fits found.1 other is ∙ sym (only_source input found.0 fits found.1 (some_fmt input).0 (some_fmt input).1)
+          let found = some_outcome edition input in
+          only_source edition input found.0 fits found.1 other is ∙ sym (only_source edition input found.0 fits found.1 (some_fmt edition input).0 (some_fmt edition input).1)
     ]
 
 only_verify : (root : List ℕ) (query : Query) (input : List ℕ) (a b : Output)
@@ -191,33 +192,34 @@ same_output : (read : Decoder) (compile : Compiler) → IsDecoder read → compi
 unfolding some_output
 same_output read compile is_read compile_is None input content fits whole other is = is
 same_output read compile is_read compile_is (Some (Scan query)) input content fits whole other is =
-    is ∙ ap (λ (c : Compiler). scan_output c query (fold_input read c input)) compile_is
-    ∙ ap (scan_output compiled_in query) (fold_same compiled_in read block_in is_read decided (MAX_FRAMES + 1) [] input fits)
-same_output read compile is_read compile_is (Some Fmt) input content fits whole other is = only_fmt input other is
+    is
+    ∙ ap (λ (c : Compiler). scan_output c query (fold_input read (placement_in c) input)) compile_is
+    ∙ ap (scan_output compiled_in query) (fold_same (placement_in compiled_in) read block_in is_read decided (MAX_FRAMES + 1) [] input fits)
+same_output read compile is_read compile_is (Some (Fmt edition)) input content fits whole other is = only_fmt (edition_number edition) input other is
 same_output read compile is_read compile_is (Some Pack) input content fits whole other is = is
 same_output read compile is_read compile_is (Some (Gen generation)) input content fits whole other is = is
 same_output read compile is_read compile_is (Some (Load generation)) input content fits whole other is = is ∙ ap (λ (c : Compiler). load_output c generation input) compile_is
 same_output read compile is_read compile_is (Some Append) input content fits whole other is =
-    is ∙ ap (λ (c : Compiler). on_log (λ blocks. append_output c blocks (fold_from read c (MAX_FRAMES + 1) blocks input)) input (standing (next_by read c) content)) compile_is
-    ∙ ap (on_log (λ blocks. append_output compiled_in blocks (fold_from read compiled_in (MAX_FRAMES + 1) blocks input)) input) (standing_same (placement_in compiled_in) read block_in is_read decided content whole)
-    ∙ on_log_same (λ blocks. append_output compiled_in blocks (fold_from read compiled_in (MAX_FRAMES + 1) blocks input)) (λ blocks. append_output compiled_in blocks (fold_from block_in compiled_in (MAX_FRAMES + 1) blocks input)) input
-    (λ blocks. ap (append_output compiled_in blocks) (fold_same compiled_in read block_in is_read decided (MAX_FRAMES + 1) blocks input fits)) (standing (next_by block_in compiled_in) content)
+    is ∙ ap (λ (c : Compiler). on_log (λ blocks. append_output c blocks (fold_from read (stored_by c) (MAX_FRAMES + 1) blocks input)) input (standing (next_by read c) content)) compile_is
+    ∙ ap (on_log (λ blocks. append_output compiled_in blocks (fold_from read (stored_by compiled_in) (MAX_FRAMES + 1) blocks input)) input) (standing_same (stored_by compiled_in) read block_in is_read decided content whole)
+    ∙ on_log_same (λ blocks. append_output compiled_in blocks (fold_from read (stored_by compiled_in) (MAX_FRAMES + 1) blocks input)) (λ blocks. append_output compiled_in blocks (fold_from block_in (stored_by compiled_in) (MAX_FRAMES + 1) blocks input)) input
+    (λ blocks. ap (append_output compiled_in blocks) (fold_same (stored_by compiled_in) read block_in is_read decided (MAX_FRAMES + 1) blocks input fits)) (standing (next_by block_in compiled_in) content)
 same_output read compile is_read compile_is (Some (Root at)) input content fits whole other is =
     is ∙ ap (λ (c : Compiler). on_log (root_output c at input) input (standing (next_by read c) content)) compile_is
-    ∙ ap (on_log (root_output compiled_in at input) input) (standing_same (placement_in compiled_in) read block_in is_read decided content whole)
+    ∙ ap (on_log (root_output compiled_in at input) input) (standing_same (stored_by compiled_in) read block_in is_read decided content whole)
 same_output read compile is_read compile_is (Some (Ask kind key at)) input content fits whole other is =
     is ∙ ap (λ (c : Compiler). on_log (ask_output c kind key at input) input (standing (next_by read c) content)) compile_is
-    ∙ ap (on_log (ask_output compiled_in kind key at input) input) (standing_same (placement_in compiled_in) read block_in is_read decided content whole)
+    ∙ ap (on_log (ask_output compiled_in kind key at input) input) (standing_same (stored_by compiled_in) read block_in is_read decided content whole)
 same_output read compile is_read compile_is (Some (Prove query root_at)) input content fits whole other is =
     is ∙ ap (λ (c : Compiler). on_log (prove_output c query root_at input) input (standing (next_by read c) content)) compile_is
-    ∙ ap (on_log (prove_output compiled_in query root_at input) input) (standing_same (placement_in compiled_in) read block_in is_read decided content whole)
+    ∙ ap (on_log (prove_output compiled_in query root_at input) input) (standing_same (stored_by compiled_in) read block_in is_read decided content whole)
 same_output read compile is_read compile_is (Some (Verify root query)) input content fits whole other is = only_verify root.0 query input other (some_verify root.0 query input).0 is (some_verify root.0 query input).1
 same_output read compile is_read compile_is (Some (Expose root query root_at)) input content fits whole other is =
     let some = some_output (Some (Expose root query root_at)) input content in
     let compiled : IsOnLog (IsExposeOutput compiled_in root.0 query root_at input) input (standing (next_by read compiled_in) content) other =
     subst (λ (c : Compiler). IsOnLog (IsExposeOutput c root.0 query root_at input) input (standing (next_by read c) content) other) compile_is is in
     let here : IsOnLog (IsExposeOutput compiled_in root.0 query root_at input) input (standing (next_by block_in compiled_in) content) other =
-    subst (λ (stands : Standing). IsOnLog (IsExposeOutput compiled_in root.0 query root_at input) input stands other) (standing_same (placement_in compiled_in) read block_in is_read decided content whole) compiled in
+    subst (λ (stands : Standing). IsOnLog (IsExposeOutput compiled_in root.0 query root_at input) input stands other) (standing_same (stored_by compiled_in) read block_in is_read decided content whole) compiled in
     one_on_log (IsExposeOutput compiled_in root.0 query root_at input) (one_expose root.0 query input compiled_in root_at) input (standing (next_by block_in compiled_in) content) other some.0 here some.1
 
 -- the program's compiler is the right one, and the only one

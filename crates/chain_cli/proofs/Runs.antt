@@ -17,7 +17,7 @@ use Rattle.block_codec.specs.declared.limits.TheConstants.{MAX_FRAMES}
 use Rattle.block_log.specs.Standing.{Standing, Blank, NotALog, Damaged, Holds, blocks_of, blocks_in}
 use Rattle.block_log.specs.Standing.{chain_of, standing}
 use Rattle.cli_proofs.specs.chain_exec.Compiled.{compiled_in}
-use Rattle.chain_replay.specs.Chain.{ChainState, StandsFor}
+use Rattle.chain_replay.specs.Chain.{ChainState, StandsFor, placement_in}
 use Rattle.chain_replay.specs.Judging.{added_by_all}
 use Rattle.chain_input.specs.Folding.{Fold, FoldEnd, fold_from, fold_input}
 use Rattle.cli_append.specs.recovery.Node.{NodeState, IsNodeOf, IsNodeStarted, IsNoStart}
@@ -33,6 +33,7 @@ use Rattle.cli_append.specs.declared.ending.RunStop.{RunStop}
 use Rattle.chain_gen.specs.Generator.{blocks_of_seed}
 use Rattle.cli_words.specs.declared.words.Generation.{Generation}
 use Rattle.cli_words.specs.declared.words.Command.{Command}
+use Rattle.cli_words.specs.declared.words.Edition.{Edition}
 use Rattle.cli_words.specs.declared.words.Command.TheVariants.{Scan, Fmt, Pack, Gen, Load, Append}
 use Rattle.cli_words.specs.declared.words.Command.TheVariants.{Root, Ask, Prove, Verify, Expose}
 use Rattle.cli_append.specs.cli_lines.Lines.{usage_line}
@@ -45,7 +46,9 @@ use Rattle.cli_output.specs.Blocks.{frame}
 use Rattle.cli_output.specs.Output.{Output, output_of, usage_output, scan_output, pack_output}
 use Rattle.cli_output.specs.Output.{gen_output, load_outcome, append_output, on_log, fold_ending}
 use Rattle.cli_output.specs.Output.{answer_outcome, root_outcome, prove_outcome, at_or_last}
-use Rattle.cli_output.specs.Output.{IsFmtOutput, Long, Source, IsVerifyOutput, LongProof, Verified}
+use Rattle.cli_output.specs.Output.{stored_by}
+use Rattle.cli_output.specs.Output.{edition_number, IsFmtOutput, Long, Source, IsVerifyOutput}
+use Rattle.cli_output.specs.Output.{LongProof, Verified}
 use Rattle.cli_output.specs.Output.{root_output, ask_output, prove_output, IsExposeOutput, Wants}
 use Rattle.cli_output.specs.Uses.{changes_log, uses_disk}
 use Rattle.cli_output.specs.Running.{came_to_end, leaves, appends_none, Meets, IsGiven, IsRun}
@@ -81,25 +84,25 @@ log_may_leave content blocks added c is same =
 -- the output of `append` over the blocks of the log
 abbrev appended : List ℕ → List Block → Output
 appended input blocks = append_output compiled_in blocks
-    (fold_from block_in compiled_in (MAX_FRAMES + 1) blocks input)
+    (fold_from block_in (stored_by compiled_in) (MAX_FRAMES + 1) blocks input)
 
 append_may_leave : (content input : List ℕ) (stands : Standing)
     → standing next_in_chain content ≡ stands → (c : List ℕ) → c ≡ content
     → MayLeave next_in_chain content (on_log (appended input) input stands).change c
 append_may_leave content input Blank is c same = log_may_leave content []
-    (added_by_all (fold_from block_in compiled_in (MAX_FRAMES + 1) [] input).taken) c
+    (added_by_all (fold_from block_in (stored_by compiled_in) (MAX_FRAMES + 1) [] input).taken) c
     (ap blocks_of is) same
 append_may_leave content input NotALog is c same = same
 append_may_leave content input (Damaged before at) is c same = same
 append_may_leave content input (Holds stored gate) is c same = log_may_leave content
     (blocks_in stored) (added_by_all
-    (fold_from block_in compiled_in (MAX_FRAMES + 1) (blocks_in stored) input).taken) c
+    (fold_from block_in (stored_by compiled_in) (MAX_FRAMES + 1) (blocks_in stored) input).taken) c
     (ap blocks_of is) same
 
-fmt_no_change : (input : List ℕ) (output : Output) → IsFmtOutput input output
+fmt_no_change : (edition : ℕ) (input : List ℕ) (output : Output) → IsFmtOutput edition input output
     → output.change ≡ NoChange
-fmt_no_change input _ (Long long) = refl
-fmt_no_change input _ (Source fits outcome is) = refl
+fmt_no_change edition input _ (Long long) = refl
+fmt_no_change edition input _ (Source fits outcome is) = refl
 
 verify_no_change : (root : List ℕ) (query : Query) (input : List ℕ) (output : Output)
     → IsVerifyOutput root query input output → output.change ≡ NoChange
@@ -117,7 +120,8 @@ no_change : (command : Option Command) (input content : List ℕ) (output : Outp
     → output.change ≡ NoChange
 no_change None input content output quiet is = ap (λ (o : Output). o.change) is
 no_change (Some (Scan query)) input content output quiet is = ap (λ (o : Output). o.change) is
-no_change (Some Fmt) input content output quiet is = fmt_no_change input output is
+no_change (Some (Fmt edition)) input content output quiet is = fmt_no_change
+    (edition_number edition) input output is
 no_change (Some Pack) input content output quiet is = ap (λ (o : Output). o.change) is
     ∙ pack_no_change _ _ _ refl refl
 no_change (Some (Gen generation)) input content output quiet is = ap (λ (o : Output). o.change) is
@@ -166,11 +170,11 @@ module _ (state : Option DiskState) (found : Result Outcome OutcomeStop)
   pub scan_found : (query : Query)
       → IfSome left_old (λ input. IfOk found
       (λ outcome. GivesOutput outcome left_new
-      (scan_output compiled_in query (fold_input block_in compiled_in input))))
+      (scan_output compiled_in query (fold_input block_in (placement_in compiled_in) input))))
       → IsFoundFor state left_old left_new held (Some (Scan query)) found
   scan_found query is heard input content given_input given =
       let wanted : List ℕ → Output = λ input.
-      scan_output compiled_in query (fold_input block_in compiled_in input) in
+      scan_output compiled_in query (fold_input block_in (placement_in compiled_in) input) in
       read_found (λ input output. output ≡ wanted input) found left_old left_new
       (gives_here wanted found left_old left_new is) input given_input
 
@@ -181,11 +185,11 @@ module _ (state : Option DiskState) (found : Result Outcome OutcomeStop)
       read_found (λ input output. output ≡ pack_output input) found left_old left_new
       (gives_here pack_output found left_old left_new is) input given_input
 
-  pub fmt_found : IfSome left_old (λ input. IfOk found
-      (λ outcome. IsFmtOutcome outcome left_new input))
-      → IsFoundFor state left_old left_new held (Some Fmt) found
-  fmt_found is heard input content given_input given =
-      read_found IsFmtOutput found left_old left_new is input given_input
+  pub fmt_found : (edition : Edition) → IfSome left_old (λ input. IfOk found
+      (λ outcome. IsFmtOutcome (edition_number edition) outcome left_new input))
+      → IsFoundFor state left_old left_new held (Some (Fmt edition)) found
+  fmt_found edition is heard input content given_input given =
+      read_found (IsFmtOutput (edition_number edition)) found left_old left_new is input given_input
 
   pub verify_found : (root : Digest) (query : Query) → IfSome left_old (λ input. IfOk found
       (λ outcome. IsVerifyOutcome root.0 query outcome left_new input))
@@ -420,7 +424,7 @@ module _ {D : Type 0} (now : D → ℕ) (disk : D → ℕ → Option DiskState)
       → (held ≡ true → (blocks : List Block) (input : List ℕ)
       → IsNodeOf node (disk mid (now mid)) blocks → left_old ≡ Some input
       → AppendsAll now disk told mid new left_new blocks
-      (fold_from block_in compiled_in (MAX_FRAMES + 1) blocks input) answer)
+      (fold_from block_in (stored_by compiled_in) (MAX_FRAMES + 1) blocks input) answer)
       → IsRun now disk told old new (status_of_result (append_answer answer)) left_old left_new held
       block_in compiled_in (Some Append)
   append_run old mid new node answer left_old left_new held settled begins same started all heard
@@ -429,7 +433,7 @@ module _ {D : Type 0} (now : D → ℕ) (disk : D → ℕ → Option DiskState)
       let s = started (heard refl) content
       (told_input (content_of (disk old (now old))) content given) in
       let blocks : List Block = s.0 in
-      let fold : Fold = fold_from block_in compiled_in (MAX_FRAMES + 1) blocks input in
+      let fold : Fold = fold_from block_in (stored_by compiled_in) (MAX_FRAMES + 1) blocks input in
       let appends = all (heard refl) blocks input s.2 left_is in
       let here : IsKnown (disk mid (now mid)) = ap is_some begins.last
       ∙ told_disk (disk old (now old)) content given in
@@ -460,7 +464,7 @@ module _ {D : Type 0} (now : D → ℕ) (disk : D → ℕ → Option DiskState)
       → (held ≡ true → (blocks : List Block) (input : List ℕ)
       → IsNodeOf node (disk mid (now mid)) blocks → left_old ≡ Some input
       → AppendsAll now disk told mid new left_new blocks
-      (fold_from block_in compiled_in (MAX_FRAMES + 1) blocks input) answer)
+      (fold_from block_in (stored_by compiled_in) (MAX_FRAMES + 1) blocks input) answer)
       → IsRun now disk told old new (status_of_result result) left_old left_new held block_in
       compiled_in (Some Append)
   append_run_is old mid new node answer result left_old left_new held is settled begins same started

@@ -144,7 +144,7 @@ pub fn find<I: Source, M: Disk, S: Scratch>(
     let alloc = resources.alloc;
     match command {
         Command::Scan(query) => scan(resources, query, source),
-        Command::Fmt => fmt(alloc, source),
+        Command::Fmt(edition) => fmt(alloc, *edition, source),
         Command::Pack => pack(alloc, source),
         Command::Load(generation) => load_outcome(resources, scratch, generation),
         Command::Ask { kind, key, at } => ask_rows(resources, *kind, *key, *at, machine),

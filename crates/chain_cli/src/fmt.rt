@@ -1,4 +1,4 @@
-//! The command `fmt`: the canonical text of a contract, or its first fault.
+//! The commands `fmt` and `fmt 2`: the canonical text of a contract, or its first fault.
 
 ghost use Rattle.lc_base.specs.Faults.{HasCause};
 ghost use Rattle.std.specs.Prelude.{◌≡◌, ◌≤◌, ℕ, List, [], ◌∷◌, ◌++◌, length, string_bytes, Some, IfOk, IfSome, OnOk, IsErrOf};
@@ -11,7 +11,7 @@ ghost use Rattle.cli_append.specs.cli_lines.{
 };
 ghost use Rattle.cli_words.specs.declared.words.Command.TheVariants.{Fmt};
 ghost use Rattle.cli_output.specs.{
-  Output.{fmt_outcome, IsFmtOutput, output_of},
+  Output.{edition_number, fmt_outcome, IsFmtOutput, output_of},
   Running.{MayEnd},
   Scanning.{IsFmtOutcome},
   Telling.{OnlyReads},
@@ -20,8 +20,9 @@ ghost use Rattle.cli_output.specs.{
 
 use cli_append::{Ending, Outcome, read_whole};
 use cli_output::OutcomeStop;
+use cli_words::Edition;
 use contract_check::{CheckError, CheckKind, check};
-use contract_parse::{Contract, SyntaxError, SyntaxKind, parse};
+use contract_parse::{Contract, FIRST_EDITION, SECOND_EDITION, SyntaxError, SyntaxKind, parse};
 use contract_print::print;
 use lc_base::{Bytes, Memory, Seq};
 use lc_io::Source;
@@ -128,12 +129,21 @@ fn contract_outcome(alloc: Global, contract: Contract) -> Result<Outcome, Memory
     }
 }
 
-/// The outcome for a source that was read whole.
-fn source_outcome(alloc: Global, source: &[u8]) -> Result<Outcome, Memory>
-    requires { length source.now ≤ MAX_WHOLE_INPUT_BYTES }
-    ensures { IfOk result (λ outcome. IsFmtOutput source.now (output_of outcome [])) }
+fn edition_number(edition: Edition) -> u8
+    ensures { result ≡ edition_number edition }
 {
-    match parse(alloc, source) {
+    match edition {
+        Edition::First => FIRST_EDITION,
+        Edition::Second => SECOND_EDITION,
+    }
+}
+
+/// The outcome for a source of an edition that was read whole.
+fn source_outcome(alloc: Global, edition: Edition, source: &[u8]) -> Result<Outcome, Memory>
+    requires { length source.now ≤ MAX_WHOLE_INPUT_BYTES }
+    ensures { IfOk result (λ outcome. IsFmtOutput (edition_number edition) source.now (output_of outcome [])) }
+{
+    match parse(alloc, source, edition_number(edition)) {
         Ok(contract) => {
             let outcome = contract_outcome(alloc, contract)?;
             Ok(outcome)
@@ -147,15 +157,20 @@ fn source_outcome(alloc: Global, source: &[u8]) -> Result<Outcome, Memory>
     }
 }
 
-/// The outcome of `fmt`: the canonical text of the contract that the input is, or its first fault.
-pub fn fmt<I: Source>(alloc: Global, source: &mut I) -> Result<Outcome, OutcomeStop>
-    ensures outcome { IfSome (I.left source.old) (λ input. IfOk result (λ outcome. IsFmtOutcome outcome (I.left source.new) input)) }
-    ensures ends { IfOk result (λ outcome. MayEnd (status_of outcome.ending) (Some Fmt)) }
+/// The outcome of `fmt` or `fmt 2`: the canonical text of the contract that the input is in the
+/// edition, or its first fault.
+pub fn fmt<I: Source>(
+    alloc: Global,
+    edition: Edition,
+    source: &mut I,
+) -> Result<Outcome, OutcomeStop>
+    ensures outcome { IfSome (I.left source.old) (λ input. IfOk result (λ outcome. IsFmtOutcome (edition_number edition) outcome (I.left source.new) input)) }
+    ensures ends { IfOk result (λ outcome. MayEnd (status_of outcome.ending) (Some (Fmt edition))) }
     ensures only { OnlyReads result }
     ensures cause { HasCause (I.source_faults source.old) (I.source_faults source.new) (IsErrOf result OutcomeStop.Unreadable) }
 {
     match read_whole(alloc, source)? {
         None => Ok(Outcome::bad_input(alloc, "long")?),
-        Some(bytes) => Ok(source_outcome(alloc, bytes.as_bytes())?),
+        Some(bytes) => Ok(source_outcome(alloc, edition, bytes.as_bytes())?),
     }
 }

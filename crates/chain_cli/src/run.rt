@@ -133,8 +133,8 @@ pub fn run<I: Source, M: Disk + Wire, S: Scratch>(
     // For a command, an input of bytes and a disk of bytes there is exactly one output.
     ensures one { (command : Option Commands) (input content : List ℕ) → IsBytes input → IsBytes content
         → IsOneOutput (IsWanted command input content) }
-    // The canonical text that `fmt` prints, it prints again for that text.
-    ensures formats_again { (input : List ℕ) → FormatsAgain input }
+    // The canonical text that `fmt` prints in an edition, it prints again for that text.
+    ensures formats_again { (edition : ℕ) (input : List ℕ) → FormatsAgain edition input }
     // The answer that `verify` prints is that of replaying any chain with the root, up to the block
     // at which the chain has it; or a text of the proof and one of that chain's ledger differ and
     // have one digest.
@@ -148,7 +148,8 @@ pub fn run<I: Source, M: Disk + Wire, S: Scratch>(
         × (is_known (S.state scratch.old) ≡ true → (content : List ℕ) → content_of (M.disk machine.old (M.now machine.old)) ≡ Some content
         → Keeps M.now M.disk machine.old machine.new (MayLeaveAny (next_by read compile) content))) }
     // The same whatever the scratch device returns, with rows not counted: the blocks from before
-    // stay, and only blocks follow them, each placed by its digest, its number and its budget.
+    // stay, and only blocks follow them, each placed by its digest, its number, its version and its
+    // budget.
     ensures log_goes_on { (read : Decoder) × IsDecoder read
         × ((content : List ℕ) → content_of (M.disk machine.old (M.now machine.old)) ≡ Some content
         → Keeps M.now M.disk machine.old machine.new (MayLeaveAny (log_next_by read) content)) }

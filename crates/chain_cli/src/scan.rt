@@ -3,7 +3,7 @@
 ghost use Rattle.lc_base.specs.Faults.{HasCause};
 ghost use Rattle.std.specs.Prelude.{◌≡◌, [], ◌∷◌, IfOk, IfSome, List, Some, IsErrOf};
 ghost use Rattle.block_codec.specs.{Reading.{block_in}, declared.block.Block.{Block as Blocks}};
-ghost use Rattle.chain_replay.specs.Chain.{StandsFor};
+ghost use Rattle.chain_replay.specs.Chain.{StandsFor, placement_in};
 ghost use Rattle.cli_append.specs.cli_lines.{Outcome.{status_of, outcome_with}, Lines.{refused_line}};
 ghost use Rattle.cli_words.specs.declared.words.Command.TheVariants.{Scan};
 ghost use Rattle.cli_output.specs.{
@@ -67,7 +67,7 @@ pub fn scan<I: Source>(
     query: &Query,
     source: &mut I,
 ) -> Result<Outcome, OutcomeStop>
-    ensures outcome { IfSome (I.left source.old) (λ input. IfOk result (λ outcome. GivesOutput outcome (I.left source.new) (scan_output compiled_in query.now (fold_input block_in compiled_in input)))) }
+    ensures outcome { IfSome (I.left source.old) (λ input. IfOk result (λ outcome. GivesOutput outcome (I.left source.new) (scan_output compiled_in query.now (fold_input block_in (placement_in compiled_in) input)))) }
     ensures ends { IfOk result (λ outcome. MayEnd (status_of outcome.ending) (Some (Scan query.now))) }
     ensures only { OnlyReads result }
     ensures cause { HasCause (I.source_faults source.old) (I.source_faults source.new) (IsErrOf result OutcomeStop.Unreadable) }

@@ -98,15 +98,15 @@ more_receipts txs receipts after at tx receipt within is all new after_is =
 -- ---- effects
 
 -- what one more transaction adds to what is done
-more_effects : (rows : List Row) (start old new : Known Contract) (before after : BlockRun) (run : TxRun) (number at : ℕ) (tx : Tx) → StandsForRows start rows → old.newest ≡ start.newest → old.codes ≡ start.codes
-    → old.staged ≡ map entry_of before.rows → HasEffect old new run (effect_in rows old number at tx) → after.rows ≡ before.rows ++ run.rows → after.receipts ≡ before.receipts ++ run.receipt ∷ []
-    → staged_in new after ≡ with_effect (staged_in old before) (effect_of compiled_in (history_in rows start) before.rows (codes_seen old.staged_codes) number at tx)
-more_effects rows start old new before after run number at tx stands newest codes staged has rows_are receipts_are =
+more_effects : (rows : List Row) (start old new : Known Contract) (before after : BlockRun) (run : TxRun) (edition number at : ℕ) (tx : Tx) → StandsForRows start rows → old.newest ≡ start.newest → old.codes ≡ start.codes
+    → old.staged ≡ map entry_of before.rows → HasEffect old new run (effect_in rows old edition number at tx) → after.rows ≡ before.rows ++ run.rows → after.receipts ≡ before.receipts ++ run.receipt ∷ []
+    → staged_in new after ≡ with_effect (staged_in old before) (effect_of (compiled_in edition) (history_in rows start) before.rows (codes_seen old.staged_codes) number at tx)
+more_effects rows start old new before after run edition number at tx stands newest codes staged has rows_are receipts_are =
     let stands_old : StandsForRows old rows = λ key. ap (λ (entries : List (List ℕ × Held)). lookup (pointwise ◌==◌ key) entries) newest ∙ stands key in
     let same_codes : history_in rows old ≡ history_in rows start = ap (λ cs. record { rows = rows; codes = codes_seen cs }) codes in
-    let effect : Effect = effect_in rows old number at tx in
-    let is : effect ≡ effect_of compiled_in (history_in rows start) before.rows (codes_seen old.staged_codes) number at tx =
-    effect_is old rows before.rows stands_old staged number at tx ∙ ap (λ h. effect_of compiled_in h before.rows (codes_seen old.staged_codes) number at tx) same_codes
+    let effect : Effect = effect_in rows old edition number at tx in
+    let is : effect ≡ effect_of (compiled_in edition) (history_in rows start) before.rows (codes_seen old.staged_codes) number at tx =
+    effect_is old rows before.rows stands_old staged edition number at tx ∙ ap (λ h. effect_of (compiled_in edition) h before.rows (codes_seen old.staged_codes) number at tx) same_codes
     in
     let all_rows : after.rows ≡ before.rows ++ effect.rows = rows_are ∙ ap (λ (r : TxRun). before.rows ++ r.rows) has.handed in
     let all_receipts : after.receipts ≡ before.receipts ++ effect.receipt ∷ [] = receipts_are ∙ ap (λ (r : TxRun). before.receipts ++ r.receipt ∷ []) has.handed in
@@ -114,19 +114,19 @@ more_effects rows start old new before after run number at tx stands newest code
     now ∙ ap (with_effect (staged_in old before)) is
 
 -- what is done so far, and then what is left to do, over a host of these rows
-abbrev so_far : List Row → Known Contract → ℕ → ℕ → Staged → List Tx → Staged
-so_far rows start number at done txs = effects_after compiled_in (history_in rows start) number at done txs
+abbrev so_far : List Row → Known Contract → ℕ → ℕ → ℕ → Staged → List Tx → Staged
+so_far rows start edition number at done txs = effects_after (compiled_in edition) (history_in rows start) number at done txs
 
-pub more_told : (told now : Option (List Row)) (start old new : Known Contract) (before after : BlockRun) (run : TxRun) (number at : ℕ) (txs : List Tx) (tx : Tx) → now ≡ told → at < length txs → tx ≡ get_or txs at tx
+pub more_told : (told now : Option (List Row)) (start old new : Known Contract) (before after : BlockRun) (run : TxRun) (edition number at : ℕ) (txs : List Tx) (tx : Tx) → now ≡ told → at < length txs → tx ≡ get_or txs at tx
     → old.newest ≡ start.newest → old.codes ≡ start.codes → old.staged ≡ map entry_of before.rows → after.rows ≡ before.rows ++ run.rows → after.receipts ≡ before.receipts ++ run.receipt ∷ []
-    → IfSome told (StandsForRows start) → IfSome now (λ rows. HasEffect old new run (effect_in rows old number at tx))
-    → IfSome told (λ rows. so_far rows start number at (staged_in old before) (drop at txs) ≡ so_far rows start number 0 nothing_staged txs)
-    → IfSome told (λ rows. so_far rows start number (at + 1) (staged_in new after) (drop (at + 1) txs) ≡ so_far rows start number 0 nothing_staged txs)
-more_told None now start old new before after run number at txs tx same within is newest codes staged rows_are receipts_are stands has done = tt
-more_told (Some rows) now start old new before after run number at txs tx same within is newest codes staged rows_are receipts_are stands has done =
-    let has_now = subst (λ (o : Option (List Row)). IfSome o (λ rows. HasEffect old new run (effect_in rows old number at tx))) same has in
+    → IfSome told (StandsForRows start) → IfSome now (λ rows. HasEffect old new run (effect_in rows old edition number at tx))
+    → IfSome told (λ rows. so_far rows start edition number at (staged_in old before) (drop at txs) ≡ so_far rows start edition number 0 nothing_staged txs)
+    → IfSome told (λ rows. so_far rows start edition number (at + 1) (staged_in new after) (drop (at + 1) txs) ≡ so_far rows start edition number 0 nothing_staged txs)
+more_told None now start old new before after run edition number at txs tx same within is newest codes staged rows_are receipts_are stands has done = tt
+more_told (Some rows) now start old new before after run edition number at txs tx same within is newest codes staged rows_are receipts_are stands has done =
+    let has_now = subst (λ (o : Option (List Row)). IfSome o (λ rows. HasEffect old new run (effect_in rows old edition number at tx))) same has in
     let left : List Tx = drop (at + 1) txs in
-    let go : List Tx → Staged = λ ts. so_far rows start number at (staged_in old before) ts in
+    let go : List Tx → Staged = λ ts. so_far rows start edition number at (staged_in old before) ts in
     let next : go (drop at txs) ≡ go (tx ∷ left) = at_drop_more go txs at tx within ∙ ap (λ (t : Tx). go (t ∷ left)) (sym is) in
-    ap (λ s. so_far rows start number (at + 1) s left) (more_effects rows start old new before after run number at tx stands newest codes staged has_now rows_are receipts_are)
+    ap (λ s. so_far rows start edition number (at + 1) s left) (more_effects rows start old new before after run edition number at tx stands newest codes staged has_now rows_are receipts_are)
     ∙ sym next ∙ done

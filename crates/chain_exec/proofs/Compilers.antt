@@ -5,10 +5,12 @@ use Rattle.chain_exec.specs.Compiled.{Compiler, IsCompiler, functions_of, compil
 
 pub compiled_is : IsCompiler compiled_in
 unfolding compiled_in
-compiled_is source outcome is =
-    let some = some_outcome source in
-    ap functions_of (one_outcome source some.0 outcome some.1 is)
+compiled_is edition source outcome is =
+    let some = some_outcome edition source in
+    ap functions_of (one_outcome edition source some.0 outcome some.1 is)
 
 pub one_compiler : (compile : Compiler) → IsCompiler compile → compile ≡ compiled_in
 one_compiler compile is =
-    λ i source. (let some = some_outcome source in is source some.0 some.1 ∙ sym (compiled_is source some.0 some.1)) i
+    λ i edition source.
+    (let some = some_outcome edition source in
+    is edition source some.0 some.1 ∙ sym (compiled_is edition source some.0 some.1)) i

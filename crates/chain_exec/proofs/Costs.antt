@@ -22,7 +22,7 @@ use Rattle.block_codec.specs.Placement.{tx_budget}
 use Rattle.block_codec.specs.Placement.{digest_of, last_digest}
 use Rattle.block_codec.proofs.Placements.{next_has_passed}
 use Rattle.chain_exec.specs.BlockRows.{IsWithinBudget, AreWithinBudgets}
-use Rattle.chain_exec.specs.Compiled.{Compiler}
+use Rattle.chain_exec.specs.Compiled.{EditionCompiler}
 use Rattle.chain_exec.specs.Effect.{Codes, History, is_written, meets_conflict, deps_on, code_in}
 use Rattle.chain_exec.specs.Effect.{is_taken_in, deploy_effect, call_effect, effect_of}
 use Rattle.chain_exec.specs.Fold.{Staged, nothing_staged, with_effect, effects_after}
@@ -72,7 +72,7 @@ module _ (s : Scene) (args : List Value) where
 
 -- ---- the transactions of a block
 
-module _ (compile : Compiler) (history : History) (number : ℕ) where
+module _ (compile : EditionCompiler) (history : History) (number : ℕ) where
   cost_within : (rows : List Row) (staged : Codes) (at : ℕ) (tx : Tx)
       → IsWithinBudget tx (effect_of compile history rows staged number at tx).receipt
   cost_within rows staged at (Set sender key value deps) =
@@ -126,18 +126,18 @@ module _ (compile : Compiler) (history : History) (number : ℕ) where
 
 pub costs_are_within_budgets : CostsAreWithinBudgets
 costs_are_within_budgets compile history block =
-    each_within compile history block.number [] 0 nothing_staged block.txs tt
+    each_within (compile block.version) history block.number [] 0 nothing_staged block.txs tt
 
 -- ---- a block that is next
 
 pub next_blocks_are_within_budget : NextBlocksAreWithinBudget
-next_blocks_are_within_budget compile history rows blocks block is =
+next_blocks_are_within_budget compile history marked rows blocks block is =
     let digests = map digest_of blocks in
     let have = slice_get digests block.number in
     let parent = last_digest digests in
-    let placed = next_has_passed (length blocks) rows have parent block (digest_of block) is in
+    let placed = next_has_passed marked (length blocks) rows have parent block (digest_of block) is in
     omega (
       arith,
-      sum_within compile history block.number 0 nothing_staged block.txs,
+      sum_within (compile block.version) history block.number 0 nothing_staged block.txs,
       placed.cheap,
     )

@@ -88,13 +88,13 @@ taken_is w name =
 
 -- ---- effects
 
-module _ (w : Known Contract) (rows staged : List Row) (stands : StandsForRows w rows) (are : w.staged ≡ map entry_of staged) (number at : ℕ) where
-  pub effect_is : (tx : Tx) → effect_in rows w number at tx ≡ effect_of compiled_in (history_in rows w) staged (codes_seen w.staged_codes) number at tx
+module _ (w : Known Contract) (rows staged : List Row) (stands : StandsForRows w rows) (are : w.staged ≡ map entry_of staged) (edition number at : ℕ) where
+  pub effect_is : (tx : Tx) → effect_in rows w edition number at tx ≡ effect_of (compiled_in edition) (history_in rows w) staged (codes_seen w.staged_codes) number at tx
   effect_is (Set sender key value deps) =
       let row : List Dep → Row = λ ds. record { key = key; block = number; tx = at; value = value; deps = ds } in
       ap (λ written. set_effect (meets_conflict written key deps) (row (deps_in w deps))) (written_is w staged are)
       ∙ ap (λ ds. set_effect (meets_conflict (is_written staged) key deps) (row ds)) (deps_are w rows stands deps)
-  effect_is (Deploy sender name source) = ap (λ taken. deploy_effect taken name (compiled_in source)) (sym (taken_is w name))
+  effect_is (Deploy sender name source) = ap (λ taken. deploy_effect taken name (compiled_in edition source)) (sym (taken_is w name))
   effect_is (Call sender contract function args budget) =
       let site : CallSite = record { contract = contract; function = function; sender = sender; number = number; budget = budget } in
       ap (λ code. call_effect code (scene_of rows (world.is_written w) site) args at) (sym (code_is w.codes contract))

@@ -6,9 +6,14 @@ use Rattle.contract_parse.proofs.Outcomes.{some_outcome}
 use Rattle.contract_check.specs.declared.fault.Fault.{Fault}
 use Rattle.contract_check.specs.Faults.{check_fault}
 
--- A compiler maps a source to the functions of its contract, or to None if it is refused.
+-- A compiler of one edition of the language maps a source to the functions of its contract, or to
+-- None if it is refused.
+abbrev pub EditionCompiler : Type 0
+EditionCompiler = List ℕ → Option (List FunctionTree)
+
+-- A compiler has one for each edition. The edition of a block's sources is the block's version.
 abbrev pub Compiler : Type 0
-Compiler = List ℕ → Option (List FunctionTree)
+Compiler = ℕ → EditionCompiler
 
 -- The functions, or None if they have a fault.
 abbrev pub faultless : List FunctionTree → Option Fault → Option (List FunctionTree)
@@ -21,14 +26,15 @@ abbrev pub functions_of : Outcome → Option (List FunctionTree)
 functions_of (Ok functions) = faultless functions (check_fault functions)
 functions_of (Err fault) = None
 
--- A compiler is right if it maps each source to the functions that its outcome says. Each source
--- has one outcome, so there is only one such compiler.
+-- A compiler is right if it maps each source to the functions that its outcome in the edition says.
+-- Each source has one outcome in an edition, so there is only one such compiler.
 abbrev pub IsCompiler : Compiler → Type 0
 IsCompiler compile =
-    (source : List ℕ) (outcome : Outcome) → IsOutcome source outcome
-    → compile source ≡ functions_of outcome
+    (edition : ℕ) (source : List ℕ) (outcome : Outcome) → IsOutcome edition source outcome
+    → compile edition source ≡ functions_of outcome
 
--- The right compiler: what the outcome of the source says. `some_outcome` is the lemma that each
--- source has an outcome; a source has no other, so nothing depends on how the lemma finds it.
+-- The right compiler: what the outcome of the source in the edition says. `some_outcome` is the lemma
+-- that each source has an outcome; a source has no other, so nothing depends on how the lemma finds
+-- it.
 unfoldable pub compiled_in : Compiler
-compiled_in source = functions_of (some_outcome source).0
+compiled_in edition source = functions_of (some_outcome edition source).0

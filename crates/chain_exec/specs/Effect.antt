@@ -18,7 +18,7 @@ use Rattle.world_state.specs.World.{is_raw}
 use Rattle.block_codec.specs.declared.block.Tx.{Tx}
 use Rattle.block_codec.specs.declared.block.Tx.TheVariants.{Set, Deploy, Call}
 use Rattle.chain_exec.specs.declared.receipt.Receipt.{Receipt}
-use Rattle.chain_exec.specs.Compiled.{Compiler}
+use Rattle.chain_exec.specs.Compiled.{EditionCompiler}
 
 -- The codes of contracts by name, in the order of deployment.
 abbrev pub Codes : Type 0
@@ -115,8 +115,9 @@ call_effect (Some functions) s args at =
 -- ---- together
 
 -- The effect of the transaction at the index `at` of the block `number`: on the history of the
--- blocks before, after the block's earlier transactions have staged these rows and codes.
-abbrev pub effect_of : Compiler → History → List Row → Codes → ℕ → ℕ → Tx → Effect
+-- blocks before, after the block's earlier transactions have staged these rows and codes. `compile`
+-- is the compiler of the block's edition.
+abbrev pub effect_of : EditionCompiler → History → List Row → Codes → ℕ → ℕ → Tx → Effect
 effect_of compile history staged_rows staged_codes number at (Set sender key value deps) =
     set_effect (meets_conflict (is_written staged_rows) key deps)
     (record { key = key; block = number; tx = at; value = value; deps = deps_on history.rows deps })

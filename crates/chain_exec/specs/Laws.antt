@@ -1,5 +1,5 @@
 -- Laws of what transactions and blocks do, for every compiler and history.
-use Rattle.std.specs.Prelude.{◌≡◌, ◌≢◌, ℕ, ◌+◌, ◌<◌, ◌≤◌, List, [], ◌∷◌, ◌++◌, length, Option}
+use Rattle.std.specs.Prelude.{◌≡◌, ◌≢◌, ℕ, ◌+◌, ◌<◌, ◌≤◌, Bool, List, [], ◌∷◌, ◌++◌, length, Option}
 use Rattle.std.specs.List.{All, sum_by}
 use Rattle.lc_base.specs.History.{IsLawful}
 use Rattle.lc_base.specs.declared.row.Row.{Row}
@@ -14,7 +14,7 @@ use Rattle.block_codec.specs.declared.block.Block.{Block}
 use Rattle.block_codec.specs.declared.placement.Placement.TheVariants.{Next}
 use Rattle.chain_exec.specs.declared.receipt.Receipt.{Receipt}
 use Rattle.chain_exec.specs.BlockRows.{AreBlockRows, AreWithinBudgets}
-use Rattle.chain_exec.specs.Compiled.{Compiler, IsCompiler, compiled_in}
+use Rattle.chain_exec.specs.Compiled.{Compiler, EditionCompiler, IsCompiler, compiled_in}
 use Rattle.chain_exec.specs.Effect.{Codes, History, effect_of}
 use Rattle.chain_exec.specs.Fold.{block_effects}
 use Rattle.chain_exec.specs.Replay.{history_after, replay, receipts_of}
@@ -27,7 +27,7 @@ pub record OneCompiler : Type 0 where
 -- How a transaction ends and what it costs does not depend on its index in the block.
 abbrev pub ReceiptsIgnoreIndexes : Type 0
 ReceiptsIgnoreIndexes =
-    (compile : Compiler) (history : History) (rows : List Row) (codes : Codes) (number at other : ℕ)
+    (compile : EditionCompiler) (history : History) (rows : List Row) (codes : Codes) (number at other : ℕ)
     (tx : Tx)
     → (effect_of compile history rows codes number at tx).receipt
     ≡ (effect_of compile history rows codes number other tx).receipt
@@ -35,7 +35,7 @@ ReceiptsIgnoreIndexes =
 -- A transaction that fails leaves no row and no code.
 abbrev pub FailuresLeaveNothing : Type 0
 FailuresLeaveNothing =
-    (compile : Compiler) (history : History) (rows : List Row) (codes : Codes) (number at : ℕ)
+    (compile : EditionCompiler) (history : History) (rows : List Row) (codes : Codes) (number at : ℕ)
     (tx : Tx)
     → (effect_of compile history rows codes number at tx).receipt.status ≢ statuses.Ok
     → ((effect_of compile history rows codes number at tx).rows ≡ [])
@@ -55,8 +55,8 @@ cost_of receipts = sum_by (λ (receipt : Receipt). receipt.cost) receipts
 -- history.
 abbrev pub NextBlocksAreWithinBudget : Type 0
 NextBlocksAreWithinBudget =
-    (compile : Compiler) (history : History) (rows : ℕ) (blocks : List Block) (block : Block)
-    → placement_after rows blocks block ≡ Next
+    (compile : Compiler) (history : History) (marked : Bool) (rows : ℕ) (blocks : List Block)
+    (block : Block) → placement_after marked rows blocks block ≡ Next
     → cost_of (block_effects compile history block).receipts ≤ MAX_BLOCK_BUDGET
 
 -- Another block adds to a replay what it does on the history of the blocks before it, and changes

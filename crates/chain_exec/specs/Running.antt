@@ -59,9 +59,10 @@ abbrev pub set_in : Known Contract → ℕ → ℕ → List ℕ → Value → Li
 set_in world number at key value deps =
     set_effect (meets_conflict (is_written world) key deps) (row_in world number at key value deps)
 
--- What a Deploy does in a world.
-abbrev pub deploy_in : Known Contract → List ℕ → List ℕ → Effect
-deploy_in world name source = deploy_effect (is_taken world name) name (compiled_in source)
+-- What a Deploy of a source of this edition does in a world.
+abbrev pub deploy_in : Known Contract → ℕ → List ℕ → List ℕ → Effect
+deploy_in world edition name source =
+    deploy_effect (is_taken world name) name (compiled_in edition source)
 
 -- The scene of a call in a world, if the host holds these rows.
 abbrev pub scene_at : List Row → Known Contract → CallSite → Scene
@@ -72,11 +73,13 @@ abbrev pub call_in : List Row → Known Contract → CallSite → List Value →
 call_in rows world site args at =
     call_effect (option_map contract_of (code_of world site.contract)) (scene_at rows world site) args at
 
--- What a transaction does in a world, if the host holds these rows.
-abbrev pub effect_in : List Row → Known Contract → ℕ → ℕ → Tx → Effect
-effect_in rows world number at (Set sender key value deps) = set_in world number at key value deps
-effect_in rows world number at (Deploy sender name source) = deploy_in world name source
-effect_in rows world number at (Call sender contract function args budget) =
+-- What a transaction of a block of this edition does in a world, if the host holds these rows.
+abbrev pub effect_in : List Row → Known Contract → ℕ → ℕ → ℕ → Tx → Effect
+effect_in rows world edition number at (Set sender key value deps) =
+    set_in world number at key value deps
+effect_in rows world edition number at (Deploy sender name source) =
+    deploy_in world edition name source
+effect_in rows world edition number at (Call sender contract function args budget) =
     call_in rows world
     (record { contract = contract; function = function; sender = sender; number = number; budget = budget })
     args at

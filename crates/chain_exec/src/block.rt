@@ -52,11 +52,12 @@ impl BlockRun {
     }
 }
 
-/// Runs the transactions of a block, one after another, from the one at index 0.
+/// Runs the transactions of a block of this edition, one after another, from the one at index 0.
 fn run_txs<H: Host>(
     alloc: Global,
     host: &mut H,
     world: &mut World<Checked>,
+    edition: u8,
     number: u32,
     txs: &[Tx],
 ) -> Result<BlockRun, HostError>
@@ -68,7 +69,7 @@ fn run_txs<H: Host>(
     requires no_codes { world.old.staged_codes ≡ [] }
     ensures same { H.same host.old host.new }
     ensures effects { IfSome (H.rows host.old) (λ rows. IfOk result (λ run.
-        staged_in world.new run ≡ effects_after compiled_in (history_in rows world.old) number 0 nothing_staged txs.now)) }
+        staged_in world.new run ≡ effects_after (compiled_in edition) (history_in rows world.old) number 0 nothing_staged txs.now)) }
     ensures newest { OnOk result (world.new.newest ≡ world.old.newest) }
     ensures codes { OnOk result (world.new.codes ≡ world.old.codes) }
     ensures staged { IfOk result (λ run. world.new.staged ≡ map entry_of run.rows) }
@@ -81,7 +82,7 @@ fn run_txs<H: Host>(
         receipts: ReceiptList::new(alloc),
     };
     for (at, tx) in txs.iter().enumerate() {
-        let done = run_transaction(alloc, host, world, number, at as u16, tx)?;
+        let done = run_transaction(alloc, host, world, edition, number, at as u16, tx)?;
         run.add(done)?;
     }
     Ok(run)
@@ -89,7 +90,7 @@ fn run_txs<H: Host>(
 
 /// Runs a block on the state before it: `world` is that state, with nothing staged, and `host`
 /// answers what contracts ask of its history. Each transaction sees the rows and codes of earlier
-/// blocks only. What the block writes and deploys is staged in the world, for `commit`.
+/// blocks only. The edition of the sources that it deploys is the block's version. What the block writes and deploys is staged in the world, for `commit`.
 ///
 /// # Errors
 ///
@@ -116,5 +117,7 @@ pub fn run_block<H: Host>(
     ensures costs { IfOk result (λ run. AreWithinBudgets block.now.txs run.receipts) }
     ensures cause { HasCause (H.host_faults host.old) (H.host_faults host.new) (IsErrOf result HostError.Fault) }
 {
-    run_txs(alloc, host, world, block.number, block.txs.as_slice())
+    let edition = block.version;
+    let txs = block.txs.as_slice();
+    run_txs(alloc, host, world, edition, block.number, txs)
 }

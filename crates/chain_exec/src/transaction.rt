@@ -21,12 +21,13 @@ use lc_base::{Host, HostError};
 use std::alloc::Global;
 use world_state::World;
 
-/// Runs the transaction at the index `at` of a block, and stages in the world what it writes or
-/// deploys. An error is `Fault` only if the host failed; the world may then be changed in part.
+/// Runs the transaction at the index `at` of a block of this edition, and stages in the world what it
+/// writes or deploys. An error is `Fault` only if the host failed; the world may then be changed in part.
 pub(crate) fn run_transaction<H: Host>(
     alloc: Global,
     host: &mut H,
     world: &mut World<Checked>,
+    edition: u8,
     number: u32,
     at: u16,
     tx: &Tx,
@@ -37,7 +38,7 @@ pub(crate) fn run_transaction<H: Host>(
     ensures same { H.same host.old host.new }
     ensures stages { IfOk result (λ run. StagesRows world.old world.new run.rows) }
     ensures effect { IfSome (H.rows host.old) (λ rows. IfOk result (λ run.
-        HasEffect world.old world.new run (effect_in rows world.old number at tx.now))) }
+        HasEffect world.old world.new run (effect_in rows world.old edition number at tx.now))) }
     ensures lawful { IfOk result (λ run. AreTxRows (place_in world.old) number at run.rows) }
     ensures cost { IfOk result (λ run. IsWithinBudget tx.now run.receipt) }
     ensures cause { HasCause (H.host_faults host.old) (H.host_faults host.new) (IsErrOf result HostError.Fault) }
@@ -50,7 +51,7 @@ pub(crate) fn run_transaction<H: Host>(
             ..
         } => or_memory(run_set(alloc, world, number, at, key, value, deps.as_slice())),
         Tx::Deploy { name, source, .. } => {
-            or_memory(run_deploy(alloc, world, name, source.as_bytes()))
+            or_memory(run_deploy(alloc, world, edition, name, source.as_bytes()))
         }
         Tx::Call {
             sender,

@@ -1,14 +1,29 @@
--- A generator that has returned the first blocks of a seed returns the next one of them.
-use Rattle.std.proofs.Common.{◌≡◌, ℕ, ◌+◌, ◌∷◌, ◌++◌, [], List, Some, refl, sym, ap, subst, ◌∙◌}
+-- A generator that has returned the first blocks of a seed returns the next one of them; all of them
+-- have the first version.
+use Rattle.std.proofs.Common.{◌≡◌, ℕ, zero, suc, false, ◌+◌, ◌∷◌, ◌++◌, [], List, Some, refl, sym, ap, subst, ◌∙◌}
 use Rattle.std.proofs.lemmas.List.{map-append}
 use native.Mathlib.Numerals.{unary_clauses}
 use Rattle.lc_base.specs.declared.digest.Digest.{Digest}
-use Rattle.block_codec.specs.Placement.{bytes_digest, no_parent}
+use Rattle.block_codec.specs.Placement.{bytes_digest, no_parent, FitsVersions}
+use Rattle.block_codec.specs.declared.block.TheConstants.{FIRST_VERSION}
+use Rattle.block_codec.proofs.Versions.{last_version_of}
 use Rattle.chain_gen.specs.Generator.{Progress, GoesOn, none_made, one_more_made, first_blocks, blocks_of_seed, spelling, block_drawn, given_block, progress}
 
 pub made_more : (seed count : ℕ) → first_blocks seed (count + 1) ≡ one_more_made count (first_blocks seed count)
 unfolding first_blocks
 made_more seed count = simp unary_clauses refl
+
+-- all of them have the first version, as the blocks of a chain that is not marked
+version_is : (number state : ℕ) (parent : Digest) → (block_drawn number parent state).0.version ≡ FIRST_VERSION
+unfolding block_drawn
+version_is number state parent = refl
+
+pub made_fit : (seed count : ℕ) → FitsVersions false (first_blocks seed count).blocks
+unfolding first_blocks
+made_fit seed zero unmarked = refl
+made_fit seed (suc count) unmarked =
+    let before = first_blocks seed count in
+    last_version_of before.blocks (block_drawn count before.parent before.state).0 ∙ version_is count before.state before.parent
 
 digest_is : (seed : ℕ) (gen : Progress) (parent : Digest) (bytes : List ℕ) → bytes ≡ spelling (block_drawn gen.given parent gen.state).0 → gen.state ≡ (first_blocks seed gen.given).state → parent ≡ (first_blocks seed gen.given).parent → bytes_digest bytes ≡ (first_blocks seed (gen.given + 1)).parent
 unfolding spelling

@@ -157,7 +157,7 @@ drawn_is_spelled number state parent fits digest =
     let small = drawn_are_small number state in
     let few = small.few in
     record {
-      lawful = record { number_fits = fits; parent_fits = digest; few_txs = omega (arith, few); txs_are_txs = small_are_lawful txs small.small };
+      lawful = record { version_is = refl; number_fits = fits; parent_fits = digest; few_txs = omega (arith, few); txs_are_txs = small_are_lawful txs small.small };
       spelled = refl;
       short = omega (arith, few, small_are_short txs small.small, digest, length-append parent.0 (to_be_bytes w16 (length txs) ++ concat (flat_map tx_fields txs)));
     }
@@ -166,22 +166,24 @@ drawn_is_spelled number state parent fits digest =
 same_digest : (digest : Digest) → is_same_digest digest digest ≡ true
 same_digest digest = (bytes_decides digest.0 digest.0).1 refl
 
-is_next : (number state : ℕ) (parent : Digest) → number < MAX_BLOCKS → (rows : ℕ) → rows ≤ MAX_ROWS_BEFORE_BLOCK → new_placement number rows parent (block_drawn number parent state).0 ≡ Next
+is_next : (number state : ℕ) (parent : Digest) → number < MAX_BLOCKS → (rows : ℕ) → rows ≤ MAX_ROWS_BEFORE_BLOCK → new_placement false number rows parent (block_drawn number parent state).0 ≡ Next
 unfolding block_drawn
 is_next number state parent room rows few_rows =
     let block = (block_drawn number parent state).0 in
     let small = drawn_are_small number state in
     let few = small.few in
-    placed_is_next number rows parent block (record {
+    placed_is_next false number rows parent block (record {
       room = omega (arith, room);
       few_rows = few_rows;
       number = refl;
       parent_is = same_digest parent;
+      version_is = refl;
       cheap = omega (arith, few, small_are_cheap block.txs small.small);
     })
 
 pub drawn_is_placed : (number state : ℕ) (parent : Digest) → IsPlaced number parent (block_drawn number parent state).0
-drawn_is_placed number state parent = record { next = is_next number state parent }
+unfolding block_drawn
+drawn_is_placed number state parent = record { version_is = refl; next = is_next number state parent }
 
 -- it has few transactions
 pub drawn_are_few : (number state : ℕ) (parent : Digest) → length (block_drawn number parent state).0.txs ≤ MAX_TXS_MADE

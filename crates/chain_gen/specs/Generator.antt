@@ -1,21 +1,22 @@
 -- The blocks that are made from a seed, and the generator that makes them.
-use Rattle.std.specs.Prelude.{◌≡◌, ℕ, zero, suc, ◌+◌, ◌<◌, ◌≤◌, ◌==◌, if◌then◌else◌, List, [], ◌∷◌, ◌++◌, map, Option, Some, None}
+use Rattle.std.specs.Prelude.{◌≡◌, ℕ, zero, suc, ◌+◌, ◌<◌, ◌≤◌, ◌==◌, false, if◌then◌else◌, List, [], ◌∷◌, ◌++◌, map, Option, Some, None}
 use Rattle.std.specs.List.{concat}
 use Rattle.lc_base.specs.declared.digest.Digest.{Digest}
 use Rattle.block_codec.specs.Spelling.{block_fields}
 use Rattle.block_codec.specs.Placement.{bytes_digest, digest_of, no_parent, placement}
 use Rattle.block_codec.specs.declared.limits.TheConstants.{MAX_BLOCKS, MAX_ROWS_BEFORE_BLOCK}
 use Rattle.block_codec.specs.declared.placement.Placement.TheVariants.{Next}
+use Rattle.block_codec.specs.declared.block.TheConstants.{FIRST_VERSION}
 use Rattle.block_codec.specs.declared.block.Block.{Block}
 use Rattle.chain_gen.specs.Transactions.{txs_drawn}
 
 -- ---- one block after another
 
--- The block with this number and parent, and the state after its draws.
+-- The block of the first version with this number and parent, and the state after its draws.
 unfoldable pub block_drawn : ℕ → Digest → ℕ → Block × ℕ
 block_drawn number parent state =
     let txs = txs_drawn number state in
-    (record { number = number; parent = parent; txs = txs.0 }, txs.1)
+    (record { version = FIRST_VERSION; number = number; parent = parent; txs = txs.0 }, txs.1)
 
 -- What was made so far: the blocks, the parent of the next one, and the state of drawing.
 pub record MadeSoFar : Type 0 where
@@ -81,7 +82,9 @@ GoesOn seed gen (Some next) =
     × (bytes_digest next.0 ≡ (first_blocks seed (gen.given + 1)).parent)
     × (next.1 ≡ progress seed gen.count (gen.given + 1))
 
--- A block is the next one of every chain that has `number` blocks, ends in `parent`, and has room.
+-- A block of the first version is the next one of every chain that is not marked, has `number`
+-- blocks, ends in `parent`, and has room.
 pub record IsPlaced (number : ℕ) (parent : Digest) (block : Block) : Type 0 where
+  pub version_is : block.version ≡ FIRST_VERSION
   pub next : number < MAX_BLOCKS → (rows : ℕ) → rows ≤ MAX_ROWS_BEFORE_BLOCK
-      → placement number rows None parent block (digest_of block) ≡ Next
+      → placement false number rows None parent block (digest_of block) ≡ Next

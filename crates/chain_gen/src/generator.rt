@@ -1,4 +1,4 @@
-//! Making the blocks of a chain, one after another.
+//! Making the blocks of a chain, one after another. All have the first version.
 
 ghost use Rattle.std.specs.Prelude.{◌≡◌, ℕ, ◌<◌, ◌≤◌, length, IfOk, IfSome};
 ghost use Rattle.block_codec.specs.Spelling.{Spells};
@@ -10,7 +10,7 @@ ghost use Rattle.chain_gen.specs.{
 
 use crate::draws::Draws;
 use crate::txs::txs_drawn;
-use block_codec::{Block, EncodeError, NO_PARENT, block_digest, encode};
+use block_codec::{Block, EncodeError, FIRST_VERSION, NO_PARENT, block_digest, encode};
 use lc_base::{Bytes, Digest, Key, Memory, TextList};
 use std::alloc::Global;
 use std::marker::Model;
@@ -58,7 +58,7 @@ fn with_known_length(digest: Digest) -> Digest
     digest
 }
 
-/// The bytes of a block whose contents are drawn.
+/// The bytes of a block of the first version whose contents are drawn.
 #[tactic(auto, unfolding(crate::specs::Generator::block_drawn))]
 fn block_drawn(
     alloc: Global,
@@ -72,6 +72,7 @@ fn block_drawn(
 {
     let txs = txs_drawn(alloc, draws, number)?;
     let block = Block {
+        version: FIRST_VERSION,
         number,
         parent: with_known_length(parent),
         txs,

@@ -4,8 +4,7 @@ use Rattle.block_codec.specs.Frames.{FrameStep, End, Truncated, Length, Many, Fr
 use Rattle.block_codec.specs.Spelling.{Decoder}
 use Rattle.block_codec.specs.declared.limits.TheConstants.{MAX_FRAMES}
 use Rattle.block_codec.specs.declared.block.Block.{Block}
-use Rattle.chain_replay.specs.chain_exec.Compiled.{Compiler}
-use Rattle.chain_replay.specs.Judging.{Taken, judgement_of, added_by}
+use Rattle.chain_replay.specs.Judging.{Placer, Taken, judgement_of, added_by}
 use Rattle.chain_replay.specs.declared.refusal.Refusal.{Refusal}
 use Rattle.chain_input.specs.declared.cause.Cause.{Cause}
 use Rattle.chain_input.specs.declared.cause.Cause.TheVariants as causes
@@ -38,23 +37,23 @@ fold_after_frame next count blocks rest (Ok frame) = taken_before (frame ∷ [])
 fold_after_frame next count blocks rest (Err refusal) = ends_at (Refused count (causes.Block refusal)) rest
 
 -- One step of the fold, by what is at the start of the input after `count` frames were taken;
--- `read` says what the bytes of a frame spell, `compile` what the sources of contracts compile to.
-abbrev pub fold_step : Decoder → Compiler → (List Block → List ℕ → Fold) → ℕ → List Block → List ℕ → FrameStep → Fold
-fold_step read compile next count blocks input End = ends_at Whole []
-fold_step read compile next count blocks input Truncated = ends_at (Refused count causes.Truncated) []
-fold_step read compile next count blocks input (Length size) = ends_at (Refused count (causes.Length size)) (drop 4 input)
-fold_step read compile next count blocks input Many = ends_at (Refused count causes.Many) (drop 4 input)
-fold_step read compile next count blocks input (Frame frame rest) =
-    fold_after_frame next count blocks rest (judgement_of compile blocks (read frame))
+-- `read` says what the bytes of a frame spell, `place` where a block stands after others.
+abbrev pub fold_step : Decoder → Placer → (List Block → List ℕ → Fold) → ℕ → List Block → List ℕ → FrameStep → Fold
+fold_step read place next count blocks input End = ends_at Whole []
+fold_step read place next count blocks input Truncated = ends_at (Refused count causes.Truncated) []
+fold_step read place next count blocks input (Length size) = ends_at (Refused count (causes.Length size)) (drop 4 input)
+fold_step read place next count blocks input Many = ends_at (Refused count causes.Many) (drop 4 input)
+fold_step read place next count blocks input (Frame frame rest) =
+    fold_after_frame next count blocks rest (judgement_of place blocks (read frame))
 
 -- The fold of the frames of an input after these blocks. `more` bounds how often the start of the
 -- input is looked at: an input has at most MAX_FRAMES frames, so MAX_FRAMES + 1 looks reach its
 -- end.
-unfoldable pub fold_from : Decoder → Compiler → ℕ → List Block → List ℕ → Fold
-fold_from read compile zero blocks input = ends_at Whole []
-fold_from read compile (suc more) blocks input =
-    fold_step read compile (fold_from read compile more) (MAX_FRAMES - more) blocks input (frame_step (MAX_FRAMES - more) input)
+unfoldable pub fold_from : Decoder → Placer → ℕ → List Block → List ℕ → Fold
+fold_from read place zero blocks input = ends_at Whole []
+fold_from read place (suc more) blocks input =
+    fold_step read place (fold_from read place more) (MAX_FRAMES - more) blocks input (frame_step (MAX_FRAMES - more) input)
 
 -- The fold of the frames of an input, from no block.
-abbrev pub fold_input : Decoder → Compiler → List ℕ → Fold
-fold_input read compile input = fold_from read compile (MAX_FRAMES + 1) [] input
+abbrev pub fold_input : Decoder → Placer → List ℕ → Fold
+fold_input read place input = fold_from read place (MAX_FRAMES + 1) [] input

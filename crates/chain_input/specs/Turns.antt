@@ -5,7 +5,8 @@ use Rattle.block_codec.specs.declared.block.Block.{Block}
 use Rattle.block_codec.specs.declared.error.FrameError.{FrameError}
 use Rattle.block_codec.specs.declared.error.FrameError.TheVariants as frames
 use Rattle.chain_replay.specs.chain_exec.Compiled.{compiled_in}
-use Rattle.chain_replay.specs.Chain.{ChainState, StandsFor}
+use Rattle.block_codec.specs.Placement.{last_version}
+use Rattle.chain_replay.specs.Chain.{ChainState, StandsFor, placement_in}
 use Rattle.chain_replay.specs.Judging.{Taken, judgement_of, added_by, added_by_all}
 use Rattle.chain_replay.specs.declared.refusal.Refusal.{Refusal}
 use Rattle.chain_input.specs.Folding.{Fold, Whole, Refused}
@@ -22,15 +23,21 @@ abbrev pub IsFoldResult : Folded → Option (List ℕ) → Fold → Type 0
 IsFoldResult (found.Whole chain) left fold = (fold.end ≡ Whole) × StandsFor chain (added_by_all fold.taken) × (left ≡ Some fold.left)
 IsFoldResult (found.Refused frame cause) left fold = (fold.end ≡ Refused frame cause) × (left ≡ Some fold.left)
 
--- A frame was taken into a chain of blocks as judged: the chain stands for these blocks and those
--- that the frame adds, or the frame is refused.
-abbrev pub IsTakenIn : List Block → Turn ChainState → Result Taken Refusal → Type 0
-IsTakenIn blocks (turns.Taken kept) judgement = (frame : Taken) × (judgement ≡ Ok frame) × StandsFor kept (blocks ++ added_by frame)
-IsTakenIn blocks (turns.Refused refusal) judgement = judgement ≡ Err refusal
+-- The chain stands for these blocks, and the last of them has the version `last`.
+pub record StandsWithLast (chain : ChainState) (last : ℕ) (blocks : List Block) : Type 0 where
+  pub kept : StandsFor chain blocks
+  pub last_is : last ≡ last_version blocks
 
--- A frame's turn in a fold, whatever blocks the chain stands for.
-abbrev pub IsTurnIn : ChainState → List ℕ → Turn ChainState → Type 0
-IsTurnIn chain frame turn = (blocks : List Block) → StandsFor chain blocks → IsTakenIn blocks turn (judgement_of compiled_in blocks (block_in frame))
+-- A frame was taken into a chain of blocks as judged: the chain stands for these blocks and those
+-- that the frame adds, the last of which has the version `last`; or the frame is refused.
+abbrev pub IsTakenIn : List Block → ℕ → Turn ChainState → Result Taken Refusal → Type 0
+IsTakenIn blocks last (turns.Taken kept) judgement = (frame : Taken) × (judgement ≡ Ok frame) × StandsWithLast kept last (blocks ++ added_by frame)
+IsTakenIn blocks last (turns.Refused refusal) judgement = judgement ≡ Err refusal
+
+-- A frame's turn in a fold, whatever blocks the chain stands for: before it the last of them has the
+-- version `last`, and after it `new_last`.
+abbrev pub IsTurnIn : ℕ → ChainState → List ℕ → ℕ → Turn ChainState → Type 0
+IsTurnIn last chain frame new_last turn = (blocks : List Block) → StandsWithLast chain last blocks → IsTakenIn blocks new_last turn (judgement_of (placement_in compiled_in) blocks (block_in frame))
 
 -- What an error of the frames says: a cause in the input, or that reading failed or memory ran out,
 -- each by the error that was passed for it.

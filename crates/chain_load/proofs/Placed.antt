@@ -1,15 +1,17 @@
 -- The next block of a seed is placed as the next one of the chain of those before it.
-use Rattle.std.proofs.Common.{◌≡◌, ◌∙◌, Bool, true, ℕ, zero, suc, ◌+◌, ◌-◌, ◌*◌, ◌<◌, ◌≤◌, List, []}
-use Rattle.std.proofs.Common.{◌∷◌, ◌++◌, length, map, Option, Some, None, refl, sym, ap, subst}
-use Rattle.std.proofs.Common.{arith}
+use Rattle.std.proofs.Common.{◌≡◌, ◌∙◌, Bool, true, false, ℕ, zero, suc, ◌+◌, ◌-◌, ◌*◌, ◌<◌, ◌≤◌}
+use Rattle.std.proofs.Common.{List, [], ◌∷◌, ◌++◌, length, map, Option, Some, None, refl, sym, ap}
+use Rattle.std.proofs.Common.{subst, arith}
 use Rattle.std.specs.Prelude.{slice_get, unwrap_or}
 use Rattle.std.proofs.lemmas.List.{length-map, map_push, length-append}
 use Rattle.std.proofs.lemmas.Option.{slice_get_past}
 use Rattle.lc_base.specs.declared.digest.Digest.{Digest}
 use Rattle.block_codec.specs.Placement.{digest_of, last_digest, no_parent, placement}
+use Rattle.block_codec.specs.Placement.{placement_after}
 use Rattle.block_codec.specs.declared.block.Block.{Block}
 use Rattle.block_codec.specs.declared.limits.TheConstants.{MAX_BLOCKS, MAX_ROWS_BEFORE_BLOCK}
 use Rattle.block_codec.specs.declared.placement.Placement.TheVariants.{Next}
+use Rattle.block_codec.proofs.Versions.{next_by_versions}
 use Rattle.dep_capture.specs.declared.limits.TheConstants.{MAX_KEYS_PUT}
 use Rattle.rooted_chain.specs.chain_exec.Compiled.{compiled_in}
 use Rattle.rooted_chain.specs.chain_exec.Effect.{History}
@@ -18,7 +20,7 @@ use Rattle.rooted_chain.specs.chain_replay.Chain.{ChainState, HasRoom, StandsFor
 use Rattle.chain_gen.specs.declared.limits.TheConstants.{MAX_TXS_MADE}
 use Rattle.chain_gen.specs.Generator.{Progress, block_drawn, first_blocks, progress}
 use Rattle.chain_gen.specs.Generator.{IsPlaced}
-use Rattle.chain_gen.proofs.Generating.{made_more}
+use Rattle.chain_gen.proofs.Generating.{made_more, made_fit}
 use Rattle.chain_load.specs.Building.{HasAdded}
 
 -- ---- the first blocks of a seed
@@ -74,13 +76,15 @@ placed_next seed count block is room few placed =
     let long = made_count seed count in
     let past : slice_get digests block.number ≡ None = slice_get_past digests block.number
     (omega (arith, number, long, length-map before digest_of)) in
-    ap (λ (n : ℕ). placement n rows (slice_get digests block.number) (last_digest digests) block
-    (digest_of block)) long
-    ∙ ap (λ (have : Option Digest). placement count rows have (last_digest digests) block
+    let unmarked : placement_after false rows before block ≡ Next =
+    ap (λ (n : ℕ). placement false n rows (slice_get digests block.number) (last_digest digests)
+    block (digest_of block)) long
+    ∙ ap (λ (have : Option Digest). placement false count rows have (last_digest digests) block
     (digest_of block)) past
-    ∙ ap (λ (parent : Digest). placement count rows None parent block (digest_of block))
+    ∙ ap (λ (parent : Digest). placement false count rows None parent block (digest_of block))
     (made_parent seed count)
-    ∙ placed.next room rows few
+    ∙ placed.next room rows few in
+    next_by_versions false rows before block (made_fit seed count) unmarked
 
 pub rows_are : (chain : ChainState) (blocks : List Block) → StandsFor chain blocks
     → chain.rows ≡ (replay compiled_in blocks).rows

@@ -41,10 +41,11 @@ lookups_drawn blocks count state = (draw_list (lookup_drawn blocks) count state)
 abbrev pub looked_at : List Row → Lookup → ℕ
 looked_at rows lookup = length (path rows lookup.key lookup.at)
 
--- How many bytes a value has; a number has eight.
+-- How many bytes a value has; a number has eight, and a value that is gone has none.
 abbrev pub bytes_of_value : Value → ℕ
 bytes_of_value (values.Int number) = 8
 bytes_of_value (values.Text text) = length text
+bytes_of_value values.Gone = 0
 
 -- How many bytes the value has that an answer gives, or 0 if it gives no value.
 abbrev pub bytes_of_answer : Answer → ℕ

@@ -63,7 +63,7 @@ impl LookupCounts {
     }
 }
 
-/// How many bytes a value has; a number has eight.
+/// How many bytes a value has; a number has eight, and a value that is gone has none.
 fn bytes_of_value(value: &Value) -> u64
     ensures bytes { result ≡ bytes_of_value value.now }
     ensures few { result ≤ MAX_TEXT_BYTES }
@@ -71,6 +71,7 @@ fn bytes_of_value(value: &Value) -> u64
     match value {
         Value::Int(_) => 8,
         Value::Text(text) => text.as_bytes().len() as u64,
+        Value::Gone => 0,
     }
 }
 

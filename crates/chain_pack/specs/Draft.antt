@@ -7,6 +7,7 @@ use Rattle.block_codec.specs.Spelling.{Spells, block_fields}
 use Rattle.block_codec.specs.Placement.{bytes_digest, block_budget, no_parent}
 use Rattle.block_codec.specs.declared.limits.TheConstants.{MAX_BLOCK_BUDGET, MAX_BLOCK_BYTES, MAX_TXS}
 use Rattle.block_codec.specs.declared.block.Tx.{Tx}
+use Rattle.block_codec.specs.declared.block.TheConstants.{FIRST_VERSION}
 use Rattle.block_codec.specs.declared.block.Block.{Block}
 use Rattle.chain_pack.specs.Json.{json_in, items_in}
 use Rattle.chain_pack.specs.Transactions.{each, with_first, tx_in}
@@ -43,12 +44,12 @@ text_of block =
     else (if nat_lt MAX_BLOCK_BYTES (length (concat (block_fields block))) then Err (BlockLimit block.number)
     else Ok (concat (block_fields block)))
 
--- The text of the block with this number, parent and transactions.
+-- The text of the block of the first version with this number, parent and transactions.
 abbrev pub text_with : ℕ → Digest → Result (List Tx) PackError → Result (List ℕ) PackError
-text_with number parent (Ok txs) = text_of (record { number = number; parent = parent; txs = txs })
+text_with number parent (Ok txs) = text_of (record { version = FIRST_VERSION; number = number; parent = parent; txs = txs })
 text_with number parent (Err fault) = Err fault
 
--- The text of the block with this number and parent.
+-- The text of the block of the first version with this number and parent.
 abbrev pub text_in : ℕ → Digest → Data → Result (List ℕ) PackError
 text_in number parent json = text_with number parent (txs_in number json)
 

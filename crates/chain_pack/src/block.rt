@@ -1,4 +1,4 @@
-//! Reading blocks from JSON and spelling them.
+//! Reading blocks from JSON and spelling them. All have the first version.
 
 ghost use Rattle.std.specs.{Prelude.{◌≡◌, ◌≤◌, map, length, IfOk}, List.{AllByRecursion}};
 ghost use Rattle.serde_json.specs.View.{view};
@@ -14,7 +14,9 @@ use crate::error::PackError;
 use crate::fields::items_in;
 use crate::read_error::ReadError;
 use crate::transaction::tx_in;
-use block_codec::{Block, EncodeError, MAX_BLOCK_BUDGET, MAX_TXS, TxList, block_budget, encode};
+use block_codec::{
+    Block, EncodeError, FIRST_VERSION, MAX_BLOCK_BUDGET, MAX_TXS, TxList, block_budget, encode,
+};
 use lc_base::{Bytes, Digest, Memory};
 use serde_json::Value as Json;
 use std::alloc::Global;
@@ -79,7 +81,7 @@ fn text_of(alloc: Global, block: &Block) -> Result<Bytes, PackError>
     }
 }
 
-/// The text of the block with this number and parent.
+/// The text of the block of the first version with this number and parent.
 pub fn text_in(alloc: Global, number: u32, parent: Digest, json: &Json) -> Result<Bytes, PackError>
     ensures text { Answers (λ text. text) pack_fault result (text_in number parent (view json.now)) }
     ensures spelled { IfOk result IsBlockText }
@@ -88,6 +90,7 @@ pub fn text_in(alloc: Global, number: u32, parent: Digest, json: &Json) -> Resul
     text_of(
         alloc,
         &Block {
+            version: FIRST_VERSION,
             number,
             parent,
             txs,

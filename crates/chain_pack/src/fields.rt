@@ -3,7 +3,8 @@
 ghost use Rattle.std.specs.{Prelude.{◌≡◌, ◌≤◌, map, length, IfOk}, Option.{option_map}};
 ghost use Rattle.serde_json.specs.View.{view};
 ghost use Rattle.lc_names.specs.{KeyBytes.{IsKey}, NameBytes.{IsName}};
-ghost use Rattle.byte_fields.specs.Spelling.{IsValue};
+ghost use Rattle.lc_base.specs.declared.limits.TheConstants.{MAX_TEXT_BYTES};
+ghost use Rattle.byte_fields.specs.Spelling.{IsBlockValue};
 ghost use Rattle.block_codec.specs.declared.limits.TheConstants.{MAX_CALL_BUDGET, MAX_SOURCE_BYTES};
 ghost use Rattle.chain_pack.specs.{
   Json.{items_in, member_count},
@@ -73,7 +74,7 @@ pub fn source_in(alloc: Global, json: &Json) -> Result<Bytes, ReadError>
 
 /// A value, from an integer of 64 bits or a string that is a text.
 pub fn value_in(alloc: Global, json: &Json) -> Result<Value, ReadError>
-    ensures { ReadsLawful IsValue result (value_in (view json.now)) }
+    ensures { ReadsLawful (IsBlockValue MAX_TEXT_BYTES) result (value_in (view json.now)) }
 {
     if let Some(number) = json.as_i64() {
         return Ok(Value::Int(number));

@@ -7,7 +7,8 @@ ghost use Rattle.std.specs.{
 };
 ghost use Rattle.serde_json.specs.{Data.{Data}, View.{view}};
 ghost use Rattle.lc_names.specs.KeyBytes.{IsKey};
-ghost use Rattle.byte_fields.specs.Spelling.{IsValue};
+ghost use Rattle.lc_base.specs.declared.limits.TheConstants.{MAX_TEXT_BYTES};
+ghost use Rattle.byte_fields.specs.Spelling.{IsBlockValue};
 ghost use Rattle.chain_pack.specs.{
   Transactions.{each, all_in, key_in, value_in},
   Reading.{ReadsLawful},
@@ -44,7 +45,7 @@ impl FromJson for Key {
 impl FromJson for Value {
     ghost made = { value_in };
 
-    ghost lawful = { IsValue };
+    ghost lawful = { IsBlockValue MAX_TEXT_BYTES };
 
     fn from_json(alloc: Global, json: &Json) -> Result<Value, ReadError> {
         value_in(alloc, json)

@@ -1,5 +1,5 @@
 -- A chain and its next block are a chain, and what is kept after that block stands for it.
-use Rattle.std.proofs.Common.{◌≡◌, ℕ, List, [], ◌∷◌, ◌++◌, length, get_or, take, map, sym, ap, ◌∙◌, arith, inl, inr}
+use Rattle.std.proofs.Common.{◌≡◌, ℕ, Bool, List, [], ◌∷◌, ◌++◌, length, get_or, take, map, sym, ap, ◌∙◌, arith, inl, inr}
 use Rattle.std.specs.Prelude.{slice_get}
 use Rattle.std.proofs.lemmas.Bool.{cases_lt}
 use Rattle.std.proofs.lemmas.List.{length-map, map_push, map-append, length-append, take-append-le, take_at, get_or_append_left, get_or_push}
@@ -17,16 +17,16 @@ use Rattle.chain_exec.specs.Fold.{Staged, block_effects}
 use Rattle.chain_exec.specs.Replay.{with_staged, history_after}
 use Rattle.chain_exec.specs.Running.{code_seen, codes_seen, history_in, staged_in}
 use Rattle.chain_exec.proofs.TheLaws.{replay_grows}
-use Rattle.chain_replay.specs.Chain.{ChainState, IsAfter, StandsFor, placement_in, placement_kept, IsChain}
+use Rattle.chain_replay.specs.Chain.{ChainState, IsAfter, StandsFor, placement_by_mark, placement_in, placement_kept, IsChain}
 
 -- what is kept determines the placement of a block
-pub placed_as_kept : (kept : ChainState) (blocks : List Block) (block : Block) (digest : Digest) → StandsFor kept blocks → digest ≡ digest_of block
-    → placement_kept kept block digest ≡ placement_in compiled_in blocks block
-placed_as_kept kept blocks block digest stands is =
-    ap (placement_kept kept block) is
-    ∙ ap (λ (ds : List Digest). placement (length ds) (length kept.rows) (slice_get ds block.number) (last_digest ds) block (digest_of block)) stands.digests_are
-    ∙ ap (λ (n : ℕ). placement n (length kept.rows) (slice_get (map digest_of blocks) block.number) (last_digest (map digest_of blocks)) block (digest_of block)) (length-map blocks digest_of)
-    ∙ ap (λ (h : History). placement (length blocks) (length h.rows) (slice_get (map digest_of blocks) block.number) (last_digest (map digest_of blocks)) block (digest_of block)) stands.history_is
+pub placed_as_kept : (marked : Bool) (kept : ChainState) (blocks : List Block) (block : Block) (digest : Digest) → StandsFor kept blocks → digest ≡ digest_of block
+    → placement_kept marked kept block digest ≡ placement_by_mark compiled_in marked blocks block
+placed_as_kept marked kept blocks block digest stands is =
+    ap (placement_kept marked kept block) is
+    ∙ ap (λ (ds : List Digest). placement marked (length ds) (length kept.rows) (slice_get ds block.number) (last_digest ds) block (digest_of block)) stands.digests_are
+    ∙ ap (λ (n : ℕ). placement marked n (length kept.rows) (slice_get (map digest_of blocks) block.number) (last_digest (map digest_of blocks)) block (digest_of block)) (length-map blocks digest_of)
+    ∙ ap (λ (h : History). placement marked (length blocks) (length h.rows) (slice_get (map digest_of blocks) block.number) (last_digest (map digest_of blocks)) block (digest_of block)) stands.history_is
 
 -- a chain and its next block are a chain
 pub chain_more : (blocks : List Block) (block : Block) → IsChain compiled_in blocks → placement_in compiled_in blocks block ≡ Next → IsChain compiled_in (blocks ++ block ∷ [])

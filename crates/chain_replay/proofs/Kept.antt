@@ -1,6 +1,6 @@
 -- What is kept stays well-formed with the next block: there is room for it, and its rows are
 -- lawful.
-use Rattle.std.proofs.Common.{◌≡◌, ℕ, ◌+◌, ◌<◌, ◌≤◌, List, [], ◌∷◌, ◌++◌, length, Option}
+use Rattle.std.proofs.Common.{◌≡◌, ℕ, ◌+◌, ◌<◌, ◌≤◌, Bool, List, [], ◌∷◌, ◌++◌, length, Option}
 use Rattle.std.proofs.Common.{sym, ap, subst, ◌∙◌, arith, inl, inr}
 use Rattle.std.specs.List.{All}
 use Rattle.std.proofs.lemmas.Bool.{cases_lt}
@@ -23,9 +23,9 @@ use Rattle.chain_replay.specs.Chain.{IsKeptChain}
 
 -- ---- a block that is next has room
 
-pub next_room : (held rows : ℕ) (have : Option Digest) (parent : Digest) (block : Block) (digest : Digest) → Next ≡ placement held rows have parent block digest → held ≤ MAX_BLOCKS → held < MAX_BLOCKS
-next_room held rows have parent block digest next few =
-    let placed = next_has_passed held rows have parent block digest (sym next) in
+pub next_room : (marked : Bool) (held rows : ℕ) (have : Option Digest) (parent : Digest) (block : Block) (digest : Digest) → Next ≡ placement marked held rows have parent block digest → held ≤ MAX_BLOCKS → held < MAX_BLOCKS
+next_room marked held rows have parent block digest next few =
+    let placed = next_has_passed marked held rows have parent block digest (sym next) in
     elim (cases_lt held MAX_BLOCKS) [
       | inl room ↦ room
       | inr past ↦ absurd (placed.room (omega (arith, past, few)))

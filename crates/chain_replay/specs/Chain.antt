@@ -5,7 +5,8 @@ use Rattle.std.specs.List.{All}
 use Rattle.lc_base.specs.History.{IsLawful}
 use Rattle.lc_base.specs.declared.digest.Digest.{Digest}
 use Rattle.lc_base.specs.declared.row.Row.{Row}
-use Rattle.block_codec.specs.Placement.{digest_of, last_digest, placement, placement_after}
+use Rattle.block_codec.specs.Placement.{digest_of, last_digest, is_marked_by, last_version}
+use Rattle.block_codec.specs.Placement.{placement, placement_after}
 use Rattle.block_codec.specs.declared.limits.TheConstants.{MAX_BLOCKS, MAX_ROWS_BEFORE_BLOCK}
 use Rattle.block_codec.specs.declared.block.Block.{Block}
 use Rattle.block_codec.specs.declared.placement.Placement.{Placement}
@@ -21,11 +22,20 @@ use Rattle.chain_exec.specs.Fold.{block_effects}
 use Rattle.chain_exec.specs.Running.{codes_seen}
 use Rattle.chain_exec.specs.Replay.{history_after, replay}
 
--- The placement of a block after a chain of blocks.
-abbrev pub placement_in : Compiler → List Block → Block → Placement
-placement_in compile blocks block = placement_after (length (replay compile blocks).rows) blocks block
+-- The placement of a block after a chain of blocks that is `marked` or isn't: after a log's, whose
+-- mark says which version is next.
+abbrev pub placement_by_mark : Compiler → Bool → List Block → Block → Placement
+placement_by_mark compile marked blocks block =
+    placement_after marked (length (replay compile blocks).rows) blocks block
 
--- A chain: each of its blocks is placed as the next one after those before it.
+-- The placement of a block after a chain of blocks that no log keeps: their versions say which
+-- version is next.
+abbrev pub placement_in : Compiler → List Block → Block → Placement
+placement_in compile blocks block =
+    placement_by_mark compile (is_marked_by (last_version blocks) block) blocks block
+
+-- A chain: each of its blocks is placed as the next one after those before it. So its first blocks
+-- have the first version, and those from one of the second version on all have that.
 abbrev pub IsChain : Compiler → List Block → Type 0
 IsChain compile blocks = (i : ℕ) (block : Block) → i < length blocks → placement_in compile (take i blocks) (slice_index_or blocks i block) ≡ placements.Next
 
@@ -46,10 +56,10 @@ history_kept kept = record { rows = kept.rows; codes = codes_seen kept.codes }
 abbrev pub nothing_kept : ChainState
 nothing_kept = record { digests = []; rows = []; codes = [] }
 
--- The placement of a block with this digest, by what is kept.
-abbrev pub placement_kept : ChainState → Block → Digest → Placement
-placement_kept kept block digest =
-    placement (length kept.digests) (length kept.rows) (slice_get kept.digests block.number) (last_digest kept.digests) block digest
+-- The placement of a block with this digest, by what is kept of a chain that is `marked` or isn't.
+abbrev pub placement_kept : Bool → ChainState → Block → Digest → Placement
+placement_kept marked kept block digest =
+    placement marked (length kept.digests) (length kept.rows) (slice_get kept.digests block.number) (last_digest kept.digests) block digest
 
 -- The block has the number of the next one, and there is room for it and its rows.
 pub record HasRoom (kept : ChainState) (block : Block) : Type 0 where

@@ -1,15 +1,17 @@
 -- Judging bytes: a decoded block is judged by its placement, and other bytes are refused.
-use Rattle.std.specs.Prelude.{◌≡◌, ℕ, List, [], ◌∷◌, Result, Ok, Err}
+use Rattle.std.specs.Prelude.{◌≡◌, ℕ, Bool, List, [], ◌∷◌, Result, Ok, Err}
 use Rattle.std.specs.List.{flat_map}
 use Rattle.lc_base.specs.declared.digest.Digest.{Digest}
 use Rattle.block_codec.specs.Reading.{block_in}
 use Rattle.block_codec.specs.Spelling.{IsBlock}
-use Rattle.block_codec.specs.Placement.{digest_of}
+use Rattle.block_codec.specs.Placement.{digest_of, is_marked_by}
 use Rattle.block_codec.specs.declared.block.Block.{Block}
 use Rattle.block_codec.specs.declared.placement.Placement.{Placement}
 use Rattle.block_codec.specs.declared.placement.Placement.TheVariants as placements
 use Rattle.chain_exec.specs.Compiled.{Compiler}
-use Rattle.chain_replay.specs.Chain.{ChainState, HasRoom, placement_in, placement_kept}
+use Rattle.chain_replay.specs.Chain.{ChainState, HasRoom, placement_by_mark, placement_kept}
+use Rattle.chain_replay.specs.declared.marking.Marking.{Marking}
+use Rattle.chain_replay.specs.declared.marking.Marking.TheVariants as markings
 use Rattle.chain_replay.specs.declared.refusal.Refusal.{Refusal}
 use Rattle.chain_replay.specs.declared.refusal.Refusal.TheVariants as refusals
 use Rattle.chain_replay.specs.declared.judging.Judged.{Judged}
@@ -26,10 +28,27 @@ judged_by_placement block placements.Known = Ok (Known block)
 judged_by_placement block placements.Next = Ok (Added block)
 judged_by_placement block (placements.Not why) = Err (refusals.Placed why)
 
+-- The place of a block after others.
+abbrev pub Placer : Type 0
+Placer = List Block → Block → Placement
+
 -- The judgement of bytes, by what they spell: a block, or the offset from which they are invalid.
-abbrev pub judgement_of : Compiler → List Block → Result Block ℕ → Result Taken Refusal
-judgement_of compile blocks (Ok block) = judged_by_placement block (placement_in compile blocks block)
-judgement_of compile blocks (Err offset) = Err (refusals.Malformed offset)
+-- `place` says where the block stands after others.
+abbrev pub judgement_of : Placer → List Block → Result Block ℕ → Result Taken Refusal
+judgement_of place blocks (Ok block) = judged_by_placement block (place blocks block)
+judgement_of place blocks (Err offset) = Err (refusals.Malformed offset)
+
+-- ---- which version is next
+
+-- Whether a block is placed as in a marked chain.
+abbrev pub is_marked_for : Marking → Block → Bool
+is_marked_for (markings.OfLog marked) block = marked
+is_marked_for (markings.OfVersions last) block = is_marked_by last block
+
+-- The place of a block after others, by what says which version is next.
+abbrev pub placement_for : Compiler → Marking → Placer
+placement_for compile marking blocks block =
+    placement_by_mark compile (is_marked_for marking block) blocks block
 
 -- The blocks that taken bytes add to the chain: their own if it is the next one, else none.
 abbrev pub added_by : Taken → List Block
@@ -61,9 +80,9 @@ pub record IsPlacedBlock (block : Block) (digest : Digest) (placement : Placemen
   pub is_next : placement ≡ placements.Next
 
 -- The bytes spell this block, which has this digest and is the next one of what is kept.
-pub record IsNextBlock (kept : ChainState) (bytes : List ℕ) (block : Block) (digest : Digest) : Type 0 where
+pub record IsNextBlock (marking : Marking) (kept : ChainState) (bytes : List ℕ) (block : Block) (digest : Digest) : Type 0 where
   pub decoded : block_in bytes ≡ Ok block
   pub lawful : IsBlock block
   pub digest_is : digest ≡ digest_of block
   pub room : HasRoom kept block
-  pub placed : placement_kept kept block digest ≡ placements.Next
+  pub placed : placement_kept (is_marked_for marking block) kept block digest ≡ placements.Next

@@ -155,10 +155,18 @@ impl Replay for Chain {
         Ok(Chain::new(resources))
     }
 
-    fn place(&self, block: &Block, digest: Digest) -> Placement {
+    fn place(&self, block: &Block, digest: Digest, marked: bool) -> Placement {
         let have = self.digests.get(block.number as usize).copied();
         let rows = self.rows.len() as u64;
-        place(self.len(), rows, have, self.last_digest(), block, digest)
+        place(
+            self.len(),
+            rows,
+            have,
+            self.last_digest(),
+            block,
+            digest,
+            marked,
+        )
     }
 
     #[tactic(auto, using(scratch_model::proofs::Retaining::retains_refl))]

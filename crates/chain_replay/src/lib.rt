@@ -3,11 +3,13 @@
 
 mod chain;
 mod judging;
+mod marking;
 mod refusal;
 mod replaying;
 
 pub use chain::Chain;
 pub use chain_exec::{BlockRun, ReceiptList, run_block};
 pub use judging::Judged;
+pub use marking::Marking;
 pub use refusal::Refusal;
 pub use replaying::Replay;

@@ -14,12 +14,13 @@ ghost use Rattle.block_codec.specs.{
 };
 ghost use Rattle.chain_exec.specs.Compiled.{compiled_in};
 ghost use Rattle.chain_replay.specs.{
-  Chain.{ChainState, nothing_kept, placement_in, placement_kept, HasRoom, IsKnownFor, StandsFor},
-  Judging.{judgement_of, IsJudged, IfNext, IsNextBlock},
+  Chain.{ChainState, nothing_kept, placement_by_mark, placement_in, placement_kept, HasRoom, IsKnownFor, StandsFor},
+  Judging.{judgement_of, placement_for, IsJudged, IfNext, IsNextBlock},
 };
 ghost use Rattle.scratch_model.specs.Scratch.{ScratchState, Retains};
 
 use crate::judging::{Judged, judge_block};
+use crate::marking::Marking;
 use crate::refusal::Refusal;
 use block_codec::{Block, DecodeError, Placement, block_digest, decode};
 use lc_base::{Digest, HostError, Memory};
@@ -44,11 +45,11 @@ pub trait Replay: Drop {
         ensures kept { IfOk result (λ chain. kept chain ≡ nothing_kept) }
         ensures agrees { IfOk result (λ chain. (scratch : ScratchState) → agrees chain scratch) };
 
-    /// The placement of a block with this digest in the chain.
-    fn place(&self, block: &Block, digest: Digest) -> Placement
+    /// The placement of a block with this digest in the chain, which is `marked` or isn't.
+    fn place(&self, block: &Block, digest: Digest, marked: bool) -> Placement
         requires { IsBlock block.now }
-        ensures placement { result ≡ placement_kept (kept self.now) block.now digest }
-        ensures stands { (blocks : List Blocks) → StandsFor (kept self.now) blocks → digest ≡ digest_of block.now → result ≡ placement_in compiled_in blocks block.now }
+        ensures placement { result ≡ placement_kept marked (kept self.now) block.now digest }
+        ensures stands { (blocks : List Blocks) → StandsFor (kept self.now) blocks → digest ≡ digest_of block.now → result ≡ placement_by_mark compiled_in marked blocks block.now }
         ensures room { result ≡ Placement.Next → HasRoom (kept self.now) block.now };
 
     /// Runs the next block and returns the chain with it after the others. On an error the chain is
@@ -76,15 +77,17 @@ pub trait Replay: Drop {
     /// call, instead of at the end of its scope, is checked in much less time.
     fn give_up(self);
 
-    /// Judges bytes: decodes them and places the block that they spell.
-    final fn judge(&self, alloc: Global, bytes: &[u8]) -> Result<Judged, Memory>
-        ensures judged { IfOk result (λ answer. (blocks : List Blocks) → StandsFor (kept self.now) blocks → IsJudged answer (judgement_of compiled_in blocks (block_in bytes.now))) }
-        ensures next { IfOk result (λ answer. IfNext answer (IsNextBlock (kept self.now) bytes.now)) }
+    /// Judges bytes: decodes them and places the block that they spell; `marking` says which version
+    /// is next.
+    final fn judge(&self, alloc: Global, bytes: &[u8], marking: Marking) -> Result<Judged, Memory>
+        ensures judged { IfOk result (λ answer. (blocks : List Blocks) → StandsFor (kept self.now) blocks → IsJudged answer (judgement_of (placement_for compiled_in marking) blocks (block_in bytes.now))) }
+        ensures next { IfOk result (λ answer. IfNext answer (IsNextBlock marking (kept self.now) bytes.now)) }
     {
         match decode(alloc, bytes) {
             Ok(block) => {
                 let digest = block_digest(bytes);
-                let placement = self.place(&block, digest);
+                let marked = marking.is_marked_for(&block);
+                let placement = self.place(&block, digest, marked);
                 Ok(judge_block(block, digest, placement))
             }
             Err(DecodeError::Malformed { at }) => Ok(Judged::Refused(Refusal::Malformed(at))),

@@ -13,7 +13,7 @@ use Rattle.chain_exec.specs.Compiled.{compiled_in}
 use Rattle.recovery.specs.chain_replay.Judging.{Taken, Known, Added, judgement_of, added_by}
 use Rattle.recovery.specs.chain_replay.declared.refusal.Refusal.{Refusal}
 use Rattle.recovery.specs.Node.{NodeState, HoldsChain, IsNodeOf, IsStepOf, IsAppended, was_added}
-use Rattle.recovery.specs.Node.{blocks_after, next_in_chain, chain_in}
+use Rattle.recovery.specs.Node.{blocks_after, next_in_chain, chain_in, stored_placement}
 use Rattle.recovery.specs.declared.node.Appended.{Appended}
 use Rattle.recovery.specs.declared.node.Appended.TheVariants as appendeds
 use Rattle.crash_promises.specs.Promises.{Promise, IsKeptAt, Telling}
@@ -74,17 +74,17 @@ module _ {D : Type 0} (now : D → ℕ) (disk : D → ℕ → Option DiskState) 
 
   -- a frame was stored, and its line printed, or its first bytes
   pub stored : (old mid new : D) (blocks : List Block) (spelled : Result Block ℕ) (start node : NodeState) (appended : Appended) (bytes : List ℕ) (all : Bool)
-      → IsAppended start blocks (judgement_of compiled_in blocks spelled) node appended → bytes ≡ appended_text appended
-      → (IsKnown (disk old (now old)) → Keeps now disk old mid (IsStepOf blocks (judgement_of compiled_in blocks spelled))) → told mid ≡ told old
-      → IsNodeOf node (disk mid (now mid)) (blocks_after blocks (judgement_of compiled_in blocks spelled))
+      → IsAppended start blocks (judgement_of stored_placement blocks spelled) node appended → bytes ≡ appended_text appended
+      → (IsKnown (disk old (now old)) → Keeps now disk old mid (IsStepOf blocks (judgement_of stored_placement blocks spelled))) → told mid ≡ told old
+      → IsNodeOf node (disk mid (now mid)) (blocks_after blocks (judgement_of stored_placement blocks spelled))
       → ((promise : Promise) → IsKeptAt next_in_chain now disk mid promise → Telling next_in_chain now disk told mid new (record { text = bytes; promise = promise } ∷ []) all) → Stays now disk mid new
-      → (frame : Taken) × (judgement_of compiled_in blocks spelled ≡ Ok frame) × IsNodeOf node (disk new (now new)) (blocks ++ added_by frame)
+      → (frame : Taken) × (judgement_of stored_placement blocks spelled ≡ Ok frame) × IsNodeOf node (disk new (now new)) (blocks ++ added_by frame)
       × (IsKnown (disk old (now old)) → Keeps now disk old new (IsStepOf blocks (Ok frame)))
       × (IsKnown (disk old (now old)) → Telling next_in_chain now disk told old new (line_of compiled_in blocks frame ∷ []) all)
   stored old mid new blocks spelled start node appended bytes all is text images same is_node tell stays =
-      let t = took start node appended blocks (judgement_of compiled_in blocks spelled) is in
+      let t = took start node appended blocks (judgement_of stored_placement blocks spelled) is in
       let frame : Taken = t.0 in
-      let e : judgement_of compiled_in blocks spelled ≡ Ok frame = t.1 in
+      let e : judgement_of stored_placement blocks spelled ≡ Ok frame = t.1 in
       let node_is = subst (λ (j : Result Taken Refusal). IsNodeOf node (disk mid (now mid)) (blocks_after blocks j)) e is_node in
       let step = subst (λ (j : Result Taken Refusal). IsKnown (disk old (now old)) → Keeps now disk old mid (IsStepOf blocks j)) e images in
       let rests = stands_at node.log (blocks ++ added_by frame) (disk mid (now mid)) node_is.log in
@@ -100,26 +100,26 @@ module _ {D : Type 0} (now : D → ℕ) (disk : D → ℕ → Option DiskState) 
       )
 
   pub takes_whole : (old mid new : D) (blocks : List Block) (spelled : Result Block ℕ) (start node : NodeState) (appended : Appended) (bytes : List ℕ)
-      → IsAppended start blocks (judgement_of compiled_in blocks spelled) node appended → bytes ≡ appended_text appended
-      → (IsKnown (disk old (now old)) → Keeps now disk old mid (IsStepOf blocks (judgement_of compiled_in blocks spelled))) → told mid ≡ told old
-      → IsNodeOf node (disk mid (now mid)) (blocks_after blocks (judgement_of compiled_in blocks spelled))
+      → IsAppended start blocks (judgement_of stored_placement blocks spelled) node appended → bytes ≡ appended_text appended
+      → (IsKnown (disk old (now old)) → Keeps now disk old mid (IsStepOf blocks (judgement_of stored_placement blocks spelled))) → told mid ≡ told old
+      → IsNodeOf node (disk mid (now mid)) (blocks_after blocks (judgement_of stored_placement blocks spelled))
       → ((promise : Promise) → IsKeptAt next_in_chain now disk mid promise → Telling next_in_chain now disk told mid new (record { text = bytes; promise = promise } ∷ []) true) → Stays now disk mid new → (was_added appended ≡ false → mid ≡ old)
-      → Takes now disk told old new blocks (judgement_of compiled_in blocks spelled) (Ok (turns.Taken node))
+      → Takes now disk told old new blocks (judgement_of stored_placement blocks spelled) (Ok (turns.Taken node))
   takes_whole old mid new blocks spelled start node appended bytes is text images same is_node tell stays untouched =
       let s = stored old mid new blocks spelled start node appended bytes true is text images same is_node tell stays in
       subst (λ (j : Result Taken Refusal). Takes now disk told old new blocks j (Ok (turns.Taken node))) (sym s.1) (record {
         images = s.3;
         lines = s.4;
-        unwritten = λ ok none. subst (λ (m : D). Stays now disk m new) (untouched (not_added start node appended blocks (judgement_of compiled_in blocks spelled) is (ap added_for s.1 ∙ none))) stays;
+        unwritten = λ ok none. subst (λ (m : D). Stays now disk m new) (untouched (not_added start node appended blocks (judgement_of stored_placement blocks spelled) is (ap added_for s.1 ∙ none))) stays;
         answer = (s.0, refl, s.2);
       })
 
   pub takes_part : (old mid new : D) (blocks : List Block) (spelled : Result Block ℕ) (start node : NodeState) (appended : Appended) (bytes : List ℕ) (stop : RunStop)
-      → IsAppended start blocks (judgement_of compiled_in blocks spelled) node appended → bytes ≡ appended_text appended
-      → (IsKnown (disk old (now old)) → Keeps now disk old mid (IsStepOf blocks (judgement_of compiled_in blocks spelled))) → told mid ≡ told old
-      → IsNodeOf node (disk mid (now mid)) (blocks_after blocks (judgement_of compiled_in blocks spelled))
+      → IsAppended start blocks (judgement_of stored_placement blocks spelled) node appended → bytes ≡ appended_text appended
+      → (IsKnown (disk old (now old)) → Keeps now disk old mid (IsStepOf blocks (judgement_of stored_placement blocks spelled))) → told mid ≡ told old
+      → IsNodeOf node (disk mid (now mid)) (blocks_after blocks (judgement_of stored_placement blocks spelled))
       → ((promise : Promise) → IsKeptAt next_in_chain now disk mid promise → Telling next_in_chain now disk told mid new (record { text = bytes; promise = promise } ∷ []) false) → Stays now disk mid new
-      → Takes now disk told old new blocks (judgement_of compiled_in blocks spelled) (Err stop)
+      → Takes now disk told old new blocks (judgement_of stored_placement blocks spelled) (Err stop)
   takes_part old mid new blocks spelled start node appended bytes stop is text images same is_node tell stays =
       let s = stored old mid new blocks spelled start node appended bytes false is text images same is_node tell stays in
       subst (λ (j : Result Taken Refusal). Takes now disk told old new blocks j (Err stop)) (sym s.1) (record { images = s.3; lines = s.4; unwritten = λ ok none. absurd (cc ok); answer = tt })

@@ -22,6 +22,7 @@ use Rattle.cli_lines.specs.chain_input.Folding.{fold_from}
 use Rattle.cli_lines.specs.chain_input.declared.cause.Cause.{Cause}
 use Rattle.cli_lines.specs.chain_input.declared.cause.Cause.TheVariants as causes
 use Rattle.recovery.specs.Node.{NodeState, IsNodeOf, IsStepOf, next_in_chain, chain_in}
+use Rattle.recovery.specs.Node.{stored_placement}
 use Rattle.crash_promises.specs.Promises.{Line, plain, IsPartly, Telling}
 use Rattle.crash_promises.proofs.Tellings.{join, longer, still}
 use Rattle.crash_promises.proofs.Sure.{all_sure_kept, partly_more, partly_held}
@@ -42,14 +43,14 @@ use Rattle.cli_append.proofs.Frames.{rests_each, stands_at, still_known}
 
 -- the fold of all frames of an input, from these blocks on
 abbrev fold_all : List Block → List ℕ → Fold
-fold_all blocks input = fold_from block_in compiled_in (MAX_FRAMES + 1) blocks input
+fold_all blocks input = fold_from block_in stored_placement (MAX_FRAMES + 1) blocks input
 
 -- ---- the fold of what is left, after the frames that were taken, is the fold of the whole input
 
 pub record Leads (input : List ℕ) (left : Option (List ℕ)) (count : ℕ) (first blocks : List Block) (taken : List Taken) : Type 0 where
   pub rest : List ℕ
   pub left_is : left ≡ Some rest
-  pub same : fold_all first input ≡ taken_before taken (fold_from block_in compiled_in (MAX_FRAMES + 1 - count) blocks rest)
+  pub same : fold_all first input ≡ taken_before taken (fold_from block_in stored_placement (MAX_FRAMES + 1 - count) blocks rest)
 
 -- what follows a frame that was judged: its line and block, and then others
 judged_lines : (next : List Block → List ℕ → Fold) (count : ℕ) (blocks : List Block) (rest : List ℕ) (judgement : Result Taken Refusal)
@@ -98,10 +99,10 @@ module _ {D : Type 0} (now : D → ℕ) (disk : D → ℕ → Option DiskState) 
   -- one more frame
   pub goes_on : (old mid new : D) (node longer_node : NodeState) (count more : ℕ) (left_old left_mid left_new : Option (List ℕ)) (first : List Block) (bytes : List ℕ)
       → Progress old mid node count left_old left_mid first → count ≤ MAX_FRAMES → more ≡ count + 1 → IfSome left_mid (λ input. IsFrameAnswer count input (Ok (Some (bytes, more))) left_new)
-      → ((blocks : List Block) → IsNodeOf node (disk mid (now mid)) blocks → Takes now disk told mid new blocks (judgement_of compiled_in blocks (block_in bytes)) (Ok (turns.Taken longer_node)))
+      → ((blocks : List Block) → IsNodeOf node (disk mid (now mid)) blocks → Takes now disk told mid new blocks (judgement_of stored_placement blocks (block_in bytes)) (Ok (turns.Taken longer_node)))
       → Progress old new longer_node more left_old left_new first
   goes_on old mid new node longer_node count more left_old left_mid left_new first bytes p bound one_more answer takes =
-      let j : Result Taken Refusal = judgement_of compiled_in p.blocks (block_in bytes) in
+      let j : Result Taken Refusal = judgement_of stored_placement p.blocks (block_in bytes) in
       let t = takes p.blocks p.stored.is_node in
       let frame : Taken = t.answer.0 in
       let e : j ≡ Ok frame = t.answer.1 in
@@ -119,15 +120,15 @@ module _ {D : Type 0} (now : D → ℕ) (disk : D → ℕ → Option DiskState) 
         leads = λ input is.
             let l = p.leads input is in
             let a = subst (λ (o : Option (List ℕ)). IfSome o (λ rest. IsFrameAnswer count rest (Ok (Some (bytes, more))) left_new)) l.left_is answer in
-            let next : List Block → List ℕ → Fold = fold_from block_in compiled_in (MAX_FRAMES - count) in
+            let next : List Block → List ℕ → Fold = fold_from block_in stored_placement (MAX_FRAMES - count) in
             let fewer : MAX_FRAMES - count ≡ MAX_FRAMES + 1 - more = omega (arith, one_more) in
             record {
               rest = a.0;
               left_is = a.2;
               same = l.same
-                  ∙ ap (taken_before p.taken) (folded_turn count p.blocks l.rest bound ∙ ap (fold_step block_in compiled_in next count p.blocks l.rest) a.1 ∙ ap (fold_after_frame next count p.blocks a.0) e)
+                  ∙ ap (taken_before p.taken) (folded_turn stored_placement count p.blocks l.rest bound ∙ ap (fold_step block_in stored_placement next count p.blocks l.rest) a.1 ∙ ap (fold_after_frame next count p.blocks a.0) e)
                   ∙ sym (taken_taken p.taken (frame ∷ []) (next (p.blocks ++ added_by frame) a.0))
-                  ∙ ap (λ (n : ℕ). taken_before all (fold_from block_in compiled_in n (p.blocks ++ added_by frame) a.0)) fewer;
+                  ∙ ap (λ (n : ℕ). taken_before all (fold_from block_in stored_placement n (p.blocks ++ added_by frame) a.0)) fewer;
             };
       }
 
@@ -135,8 +136,8 @@ module _ {D : Type 0} (now : D → ℕ) (disk : D → ℕ → Option DiskState) 
 
   -- the fold ends here
   ends_same : (old new : D) (node : NodeState) (count : ℕ) (left_old left_mid left : Option (List ℕ)) (first : List Block) (end : FoldEnd) (input : List ℕ) → (p : Progress old new node count left_old left_mid first) → count ≤ MAX_FRAMES
-      → (l : Leads input left_mid count first p.blocks p.taken) → (s : FoldEnds count p.blocks l.rest left end) → taken_before p.taken (ends_at end s.after_it) ≡ fold_all first input
-  ends_same old new node count left_old left_mid left first end input p bound l s = sym (l.same ∙ ap (taken_before p.taken) (folded_turn count p.blocks l.rest bound ∙ s.is_end (fold_from block_in compiled_in (MAX_FRAMES - count))))
+      → (l : Leads input left_mid count first p.blocks p.taken) → (s : FoldEnds stored_placement count p.blocks l.rest left end) → taken_before p.taken (ends_at end s.after_it) ≡ fold_all first input
+  ends_same old new node count left_old left_mid left first end input p bound l s = sym (l.same ∙ ap (taken_before p.taken) (folded_turn stored_placement count p.blocks l.rest bound ∙ s.is_end (fold_from block_in stored_placement (MAX_FRAMES - count))))
 
   -- what was printed and left up to the end of the fold
   all_of : (old new : D) (left : Option (List ℕ)) (first blocks : List Block) (taken : List Taken) (end : FoldEnd) (rest : List ℕ) (result : Result AppendEnd RunStop)
@@ -165,7 +166,7 @@ module _ {D : Type 0} (now : D → ℕ) (disk : D → ℕ → Option DiskState) 
       → IfSome left_mid (λ input. IsFrameAnswer count input (Ok None) left) → AppendsAll now disk told old new left first (fold_all first input) (Ok ends.Whole)
   whole_input old new node count left_old left_mid left first input p bound is answer =
       let l = p.leads input is in
-      let s = whole_ends count p.blocks left_mid left l.rest l.left_is answer in
+      let s = whole_ends stored_placement count p.blocks left_mid left l.rest l.left_is answer in
       subst (λ (f : Fold). AppendsAll now disk told old new left first f (Ok ends.Whole)) (ends_same old new node count left_old left_mid left first Whole input p bound l s)
       (all_of old new left first p.blocks p.taken Whole s.after_it (Ok ends.Whole) p.stored.images p.stored.blocks_are
       (λ is_told. subst (λ (ls : List Line). Telling next_in_chain now disk told old new ls true) (sym (append-nil (lines_of compiled_in first p.taken))) (p.stored.telling is_told)) refl s.left_is
@@ -180,7 +181,7 @@ module _ {D : Type 0} (now : D → ℕ) (disk : D → ℕ → Option DiskState) 
 
   -- a frame is refused, and its line is printed
   refused_at : (old mid new : D) (node : NodeState) (count frame : ℕ) (left_old left_mid left : Option (List ℕ)) (first : List Block) (input : List ℕ) (cause : Cause) (result : Result AppendEnd RunStop) → (p : Progress old mid node count left_old left_mid first)
-      → count ≤ MAX_FRAMES → frame ≡ count → (l : Leads input left_mid count first p.blocks p.taken) → FoldEnds count p.blocks l.rest left (Refused count cause)
+      → count ≤ MAX_FRAMES → frame ≡ count → (l : Leads input left_mid count first p.blocks p.taken) → FoldEnds stored_placement count p.blocks l.rest left (Refused count cause)
       → (IsKnown (disk mid (now mid)) → Keeps now disk mid new (λ image. chain_in image ≡ Some p.blocks)) → (IsKnown (disk mid (now mid)) → Telling next_in_chain now disk told mid new (plain (refused_line frame cause) ∷ []) (is_ok result))
       → IfOk result (λ answer. answer ≡ ends.Refused frame cause) → Rests (disk new (now new)) (λ image. chain_in image ≡ Some p.blocks) → (is_ok result ≡ true → Stays now disk mid new)
       → AppendsAll now disk told old new left first (fold_all first input) result
@@ -207,7 +208,7 @@ module _ {D : Type 0} (now : D → ℕ) (disk : D → ℕ → Option DiskState) 
   -- the form of the frame is refused
   pub refused_form : (old mid new : D) (node : NodeState) (count frame : ℕ) (left_old left_mid left : Option (List ℕ)) (first : List Block) (input : List ℕ) (cause : Cause) (result : Result AppendEnd RunStop)
       → (p : Progress old mid node count left_old left_mid first) → count ≤ MAX_FRAMES
-      → frame ≡ count → left_old ≡ Some input → ((rest : List ℕ) → left_mid ≡ Some rest → FoldEnds count p.blocks rest left (Refused count cause)) → Stays now disk mid new
+      → frame ≡ count → left_old ≡ Some input → ((rest : List ℕ) → left_mid ≡ Some rest → FoldEnds stored_placement count p.blocks rest left (Refused count cause)) → Stays now disk mid new
       → Telling next_in_chain now disk told mid new (plain (refused_line frame cause) ∷ []) (is_ok result) → IfOk result (λ answer. answer ≡ ends.Refused frame cause) → AppendsAll now disk told old new left first (fold_all first input) result
   refused_form old mid new node count frame left_old left_mid left first input cause result p bound number is ends_here stays line end =
       let l = p.leads input is in
@@ -219,8 +220,8 @@ module _ {D : Type 0} (now : D → ℕ) (disk : D → ℕ → Option DiskState) 
   -- the block of the frame is refused
   pub refused_block : (old mid next new : D) (node : NodeState) (count frame : ℕ) (left_old left_mid left : Option (List ℕ)) (first : List Block) (input bytes : List ℕ) (refusal : Refusal) (result : Result AppendEnd RunStop)
       → (p : Progress old mid node count left_old left_mid first) → count ≤ MAX_FRAMES
-      → frame ≡ count → left_old ≡ Some input → ((rest : List ℕ) → left_mid ≡ Some rest → FoldEnds count p.blocks rest left (Refused count (causes.Block refusal)))
-      → ((blocks : List Block) → IsNodeOf node (disk mid (now mid)) blocks → Takes now disk told mid next blocks (judgement_of compiled_in blocks (block_in bytes)) (Ok (turns.Refused refusal))) → Stays now disk next new
+      → frame ≡ count → left_old ≡ Some input → ((rest : List ℕ) → left_mid ≡ Some rest → FoldEnds stored_placement count p.blocks rest left (Refused count (causes.Block refusal)))
+      → ((blocks : List Block) → IsNodeOf node (disk mid (now mid)) blocks → Takes now disk told mid next blocks (judgement_of stored_placement blocks (block_in bytes)) (Ok (turns.Refused refusal))) → Stays now disk next new
       → Telling next_in_chain now disk told next new (plain (refused_line frame (causes.Block refusal)) ∷ []) (is_ok result) → IfOk result (λ answer. answer ≡ ends.Refused frame (causes.Block refusal))
       → AppendsAll now disk told old new left first (fold_all first input) result
   refused_block old mid next new node count frame left_old left_mid left first input bytes refusal result p bound number is ends_here takes stays line end =
@@ -253,7 +254,7 @@ module _ {D : Type 0} (now : D → ℕ) (disk : D → ℕ → Option DiskState) 
       → AppendsAll now disk told old new left first (fold_all first input) (Err stop)
   stopped_before old new node count left_old left_mid left first input stop p is =
       let l = p.leads input is in
-      let f : Fold = fold_from block_in compiled_in (MAX_FRAMES + 1 - count) p.blocks l.rest in
+      let f : Fold = fold_from block_in stored_placement (MAX_FRAMES + 1 - count) p.blocks l.rest in
       subst (λ (x : Fold). AppendsAll now disk told old new left first x (Err stop)) (sym l.same)
       (stopped old new left first (taken_before p.taken f) (lines_of compiled_in first p.taken) (fold_lines compiled_in (first ++ added_by_all p.taken) f) (added_by_all p.taken) (added_by_all f.taken) true stop p.stored.images p.stored.telling
       (lines_before first p.taken f) (added_append p.taken f.taken))
@@ -261,16 +262,17 @@ module _ {D : Type 0} (now : D → ℕ) (disk : D → ℕ → Option DiskState) 
   -- taking a frame was stopped
   pub stopped_at : (old mid new : D) (node : NodeState) (count more : ℕ) (left_old left_mid left : Option (List ℕ)) (first : List Block) (input bytes : List ℕ) (stop : RunStop) → Progress old mid node count left_old left_mid first → count ≤ MAX_FRAMES
       → left_old ≡ Some input → IfSome left_mid (λ input. IsFrameAnswer count input (Ok (Some (bytes, more))) left)
-      → ((blocks : List Block) → IsNodeOf node (disk mid (now mid)) blocks → Takes now disk told mid new blocks (judgement_of compiled_in blocks (block_in bytes)) (Err stop))
+      → ((blocks : List Block) → IsNodeOf node (disk mid (now mid)) blocks → Takes now disk told mid new blocks (judgement_of stored_placement blocks (block_in bytes)) (Err stop))
       → AppendsAll now disk told old new left first (fold_all first input) (Err stop)
   stopped_at old mid new node count more left_old left_mid left first input bytes stop p bound is answer takes =
       let l = p.leads input is in
       let t = takes p.blocks p.stored.is_node in
-      let j : Result Taken Refusal = judgement_of compiled_in p.blocks (block_in bytes) in
+      let j : Result Taken Refusal = judgement_of stored_placement p.blocks (block_in bytes) in
       let a = subst (λ (o : Option (List ℕ)). IfSome o (λ rest. IsFrameAnswer count rest (Ok (Some (bytes, more))) left)) l.left_is answer in
-      let next : List Block → List ℕ → Fold = fold_from block_in compiled_in (MAX_FRAMES - count) in
+      let next : List Block → List ℕ → Fold =
+      fold_from block_in stored_placement (MAX_FRAMES - count) in
       let f : Fold = fold_after_frame next count p.blocks a.0 j in
-      let same : fold_all first input ≡ taken_before p.taken f = l.same ∙ ap (taken_before p.taken) (folded_turn count p.blocks l.rest bound ∙ ap (fold_step block_in compiled_in next count p.blocks l.rest) a.1) in
+      let same : fold_all first input ≡ taken_before p.taken f = l.same ∙ ap (taken_before p.taken) (folded_turn stored_placement count p.blocks l.rest bound ∙ ap (fold_step block_in stored_placement next count p.blocks l.rest) a.1) in
       let lines : List Line = lines_of compiled_in first p.taken in
       let added : List Block = added_by_all p.taken in
       let line = judged_lines next count p.blocks a.0 j in
@@ -300,9 +302,9 @@ module _ {D : Type 0} (now : D → ℕ) (disk : D → ℕ → Option DiskState) 
       stay_keeps now disk old mid new (GoesFrom first) keeps stays
 
   pub goes_step : (old mid new : D) (node : NodeState) (count : ℕ) (left_old left_new : Option (List ℕ)) (first : List Block) (bytes : List ℕ) (result : Result (Turn NodeState) RunStop) → Progress old mid node count left_old left_new first
-      → ((blocks : List Block) → IsNodeOf node (disk mid (now mid)) blocks → Takes now disk told mid new blocks (judgement_of compiled_in blocks (block_in bytes)) result) → IsKnown (disk old (now old)) → Keeps now disk old new (GoesFrom first)
+      → ((blocks : List Block) → IsNodeOf node (disk mid (now mid)) blocks → Takes now disk told mid new blocks (judgement_of stored_placement blocks (block_in bytes)) result) → IsKnown (disk old (now old)) → Keeps now disk old new (GoesFrom first)
   goes_step old mid new node count left_old left_new first bytes result p takes is_told =
       let t = takes p.blocks p.stored.is_node in
-      let j : Result Taken Refusal = judgement_of compiled_in p.blocks (block_in bytes) in
+      let j : Result Taken Refusal = judgement_of stored_placement p.blocks (block_in bytes) in
       then_keeps now disk old mid new (GoesFrom first) (goes_from old mid node count left_old left_new first p is_told)
       (weaker now disk mid new (IsStepOf p.blocks j) (GoesFrom first) (t.images ((p.stored.images is_told).told ∙ is_told)) (λ image step. step_goes first p.blocks (added_by_all p.taken) j image p.stored.blocks_are step))

@@ -1,6 +1,6 @@
 -- What the lines of frames promise: the chain after a frame has the block of its line.
-use Rattle.std.proofs.Common.{◌≡◌, ℕ, ◌<◌, List, [], ◌∷◌, ◌++◌, length, map, get_or, refl, sym}
-use Rattle.std.proofs.Common.{◌∙◌, ap, subst, arith, append-nil, append_assoc}
+use Rattle.std.proofs.Common.{◌≡◌, ℕ, ◌<◌, false, List, [], ◌∷◌, ◌++◌, length, map, get_or, refl}
+use Rattle.std.proofs.Common.{sym, ◌∙◌, ap, subst, arith, append-nil, append_assoc}
 use Rattle.std.specs.Prelude.{Some, Result, Ok, Err, slice_get}
 use Rattle.std.proofs.lemmas.Grind.{flat_map-append}
 use Rattle.std.proofs.lemmas.List.{length-map, length-append, get_or_push}
@@ -12,7 +12,7 @@ use Rattle.block_codec.specs.declared.placement.Placement.TheVariants as placeme
 use Rattle.block_codec.proofs.Placements.{known_is_held, next_has_passed}
 use Rattle.chain_exec.specs.Compiled.{compiled_in}
 use Rattle.chain_exec.specs.Replay.{replay}
-use Rattle.recovery.specs.chain_replay.Chain.{placement_in}
+use Rattle.recovery.specs.Node.{stored_placement}
 use Rattle.recovery.specs.chain_replay.Judging.{Taken, Known, Added, judgement_of, judged_by_placement, added_by, added_by_all}
 use Rattle.crash_promises.specs.Promises.{Line}
 use Rattle.crash_promises.proofs.Sure.{IsSure}
@@ -20,11 +20,11 @@ use Rattle.cli_append.specs.Appending.{line_of, lines_of}
 
 -- ---- the line of a frame
 
-sure_at : (blocks : List Block) (block : Block) (at : Placement) (frame : Taken) → placement_in compiled_in blocks block ≡ at → judged_by_placement block at ≡ Ok frame → IsSure (blocks ++ added_by frame) (line_of compiled_in blocks frame).promise
+sure_at : (blocks : List Block) (block : Block) (at : Placement) (frame : Taken) → stored_placement blocks block ≡ at → judged_by_placement block at ≡ Ok frame → IsSure (blocks ++ added_by frame) (line_of compiled_in blocks frame).promise
 sure_at blocks block placements.Known (Known b) is e =
     let same : block ≡ b = cc e in
     let digests = map digest_of blocks in
-    let have = known_is_held (length blocks) (length (replay compiled_in blocks).rows)
+    let have = known_is_held false (length blocks) (length (replay compiled_in blocks).rows)
     (slice_get digests block.number) (last_digest digests) block (digest_of block) is in
     let within : block.number < length blocks = subst (λ (n : ℕ). block.number < n) (length-map blocks digest_of) (slice_get_within (map digest_of blocks) block.number have.0 have.1) in
     let there : slice_get blocks block.number ≡ Some (get_or blocks block.number block) = slice_get-get_or blocks block.number block within in
@@ -35,15 +35,15 @@ sure_at blocks block placements.Next (Added b) is e =
     let same : block ≡ b = cc e in
     let digests = map digest_of blocks in
     let number : block.number ≡ length blocks =
-    (next_has_passed (length blocks) (length (replay compiled_in blocks).rows)
+    (next_has_passed false (length blocks) (length (replay compiled_in blocks).rows)
     (slice_get digests block.number) (last_digest digests) block (digest_of block) is).number in
     let there : get_or (blocks ++ block ∷ []) block.number block ≡ block = get_or_push blocks block block block.number (sym number) in
     subst (λ (x : Block). slice_get (blocks ++ x ∷ []) x.number ≡ Some x) same (slice_get-get_or (blocks ++ block ∷ []) block.number block (omega (arith, number, length-append blocks (block ∷ []))) ∙ ap Some there)
 sure_at blocks block (placements.Not why) frame is e = absurd (cc e)
 
 -- the chain after a frame has what the frame's line promises
-pub line_sure : (blocks : List Block) (spelled : Result Block ℕ) (frame : Taken) → judgement_of compiled_in blocks spelled ≡ Ok frame → IsSure (blocks ++ added_by frame) (line_of compiled_in blocks frame).promise
-line_sure blocks (Ok block) frame is = sure_at blocks block (placement_in compiled_in blocks block) frame refl is
+pub line_sure : (blocks : List Block) (spelled : Result Block ℕ) (frame : Taken) → judgement_of stored_placement blocks spelled ≡ Ok frame → IsSure (blocks ++ added_by frame) (line_of compiled_in blocks frame).promise
+line_sure blocks (Ok block) frame is = sure_at blocks block (stored_placement blocks block) frame refl is
 line_sure blocks (Err offset) frame is = absurd (cc is)
 
 -- ---- the lines of several frames

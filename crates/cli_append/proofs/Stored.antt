@@ -12,6 +12,7 @@ use Rattle.chain_exec.specs.Compiled.{compiled_in}
 use Rattle.recovery.specs.chain_replay.Judging.{Taken, judgement_of, added_by}
 use Rattle.recovery.specs.chain_replay.declared.refusal.Refusal.{Refusal}
 use Rattle.recovery.specs.Node.{NodeState, IsNodeOf, IsStepOf, next_in_chain, chain_in}
+use Rattle.recovery.specs.Node.{stored_placement}
 use Rattle.crash_promises.specs.Promises.{Line, KeepsLines, IsPartly, Telling}
 use Rattle.crash_promises.proofs.Tellings.{none_to_tell, join}
 use Rattle.crash_promises.proofs.Sure.{AreSure, all_sure_more, sure_push, all_sure_kept}
@@ -79,11 +80,11 @@ module _ {D : Type 0} (now : D → ℕ) (disk : D → ℕ → Option DiskState) 
 
   -- and then a frame was taken
   pub then_frame : (old mid new : D) (node longer_node : NodeState) (first blocks added : List Block) (lines : List Line) (spelled : Result Block ℕ) → Stored old mid node first blocks added lines
-      → (t : Takes now disk told mid new blocks (judgement_of compiled_in blocks spelled) (Ok (turns.Taken longer_node)))
+      → (t : Takes now disk told mid new blocks (judgement_of stored_placement blocks spelled) (Ok (turns.Taken longer_node)))
       → Stored old new longer_node first (blocks ++ added_by t.answer.0) (added ++ added_by t.answer.0) (lines ++ line_of compiled_in blocks t.answer.0 ∷ [])
   then_frame old mid new node longer_node first blocks added lines spelled p t =
       let frame : Taken = t.answer.0 in
-      let e : judgement_of compiled_in blocks spelled ≡ Ok frame = t.answer.1 in
+      let e : judgement_of stored_placement blocks spelled ≡ Ok frame = t.answer.1 in
       let keeps = subst (λ (r : Result Taken Refusal). IsKnown (disk mid (now mid)) → Keeps now disk mid new (IsStepOf blocks r)) e t.images in
       let line = subst (λ (r : Result Taken Refusal). IsKnown (disk mid (now mid)) → Telling next_in_chain now disk told mid new (lines_for blocks r) true) e t.lines in
       let still_is = λ (is_told : IsKnown (disk old (now old))). still_known now disk told old mid (IsPartly next_in_chain first added) (p.images is_told) is_told in

@@ -11,7 +11,6 @@ use Rattle.block_codec.specs.Reading.{block_in}
 use Rattle.block_codec.specs.declared.limits.TheConstants.{MAX_FRAMES}
 use Rattle.block_codec.specs.declared.block.Block.{Block}
 use Rattle.block_log.specs.Log.{next_in_log}
-use Rattle.chain_exec.specs.Compiled.{compiled_in}
 use Rattle.chain_input.specs.Folding.{Fold, fold_from}
 use Rattle.chain_input.specs.Taking.{TurnRule, At, HasTurn, TakesInput, EndsAfter}
 use Rattle.chain_input.specs.declared.cause.Cause.{Cause}
@@ -23,7 +22,7 @@ use Rattle.chain_input.specs.declared.taking.InputStop.{InputStop}
 use Rattle.chain_input.specs.declared.taking.InputStop.TheVariants as stopped
 use Rattle.chain_input.proofs.Taken.{carried, at_end, blames}
 use Rattle.chain_input.proofs.Folds.{refused_ends}
-use Rattle.recovery.specs.Node.{NodeState, IsNodeOf, IsReady, next_in_chain}
+use Rattle.recovery.specs.Node.{NodeState, IsNodeOf, IsReady, next_in_chain, stored_placement}
 use Rattle.crash_promises.specs.Promises.{plain, Telling}
 use Rattle.crash_promises.specs.Laws.{GoesOn}
 use Rattle.cli_lines.specs.Lines.{refused_line}
@@ -40,7 +39,7 @@ use Rattle.cli_append.proofs.ByLog.{log_begun, log_more}
 
 -- the fold of all frames of an input, from these blocks on
 abbrev fold_all : List Block → List ℕ → Fold
-fold_all blocks input = fold_from block_in compiled_in (MAX_FRAMES + 1) blocks input
+fold_all blocks input = fold_from block_in stored_placement (MAX_FRAMES + 1) blocks input
 
 -- what was taken with a machine and a device was taken with the same two, by other names
 pub same_input : {D S C E : Type 0} (rule : TurnRule (D × S) C E) (first : At (D × S) C) (left : Option (List ℕ)) (result : Result (InputEnd C) (InputStop E)) (old new : D) (before after : S)
@@ -173,7 +172,7 @@ module _ {D S : Type 0} (now : D → ℕ) (disk : D → ℕ → Option DiskState
             let s = stands (Ok (inputs.Refused frame cause)) takes in
             let p = s.taken known blocks is in
             refused_form now disk told first.taker.0 takes.last.taker.0 new takes.last.chain takes.count frame first.left takes.last.left left blocks input cause result p takes.bound takes.end.0 left_is
-            (λ rest rest_is. refused_ends rule takes.count p.blocks takes.last left taker cause rest rest_is (λ bytes refusal has. (has.takes (s.retains.known ∙ known) p.blocks p.stored.is_node).answer.0) takes.end.1)
+            (λ rest rest_is. refused_ends stored_placement rule takes.count p.blocks takes.last left taker cause rest rest_is (λ bytes refusal has. (has.takes (s.retains.known ∙ known) p.blocks p.stored.is_node).answer.0) takes.end.1)
             (subst (λ (t : D × S). Stays now disk t.0 new) same stays)
             (subst (λ (t : D × S). Telling next_in_chain now disk told t.0 new (plain (refused_line frame cause) ∷ []) (is_ok result)) same line) end
 
@@ -186,5 +185,5 @@ module _ {D S : Type 0} (now : D → ℕ) (disk : D → ℕ → Option DiskState
             let s = stands (Ok (inputs.Refused frame (causes.Block refusal))) takes in
             let p = s.taken known blocks is in
             refused_block now disk told first.taker.0 takes.last.taker.0 taker.0 new takes.last.chain takes.count frame first.left takes.last.left left blocks input takes.end.1.frame refusal result p takes.bound takes.end.0 left_is
-            (λ rest rest_is. refused_ends rule takes.count p.blocks takes.last left taker (causes.Block refusal) rest rest_is (λ bytes why has. (has.takes (s.retains.known ∙ known) p.blocks p.stored.is_node).answer.0) takes.end.1)
+            (λ rest rest_is. refused_ends stored_placement rule takes.count p.blocks takes.last left taker (causes.Block refusal) rest rest_is (λ bytes why has. (has.takes (s.retains.known ∙ known) p.blocks p.stored.is_node).answer.0) takes.end.1)
             (takes.end.1.turn_is.takes (s.retains.known ∙ known)) stays line end

@@ -14,6 +14,7 @@ use Rattle.chain_exec.specs.Compiled.{compiled_in}
 use Rattle.recovery.specs.chain_replay.Judging.{Taken, judgement_of, added_by}
 use Rattle.recovery.specs.chain_replay.declared.refusal.Refusal.{Refusal}
 use Rattle.recovery.specs.Node.{NodeState, IsNodeOf, IsReady, IsStepOf, next_in_chain, chain_in}
+use Rattle.recovery.specs.Node.{stored_placement}
 use Rattle.recovery.specs.declared.node.Appended.{Appended}
 use Rattle.recovery.specs.declared.node.Appended.TheVariants as appendeds
 use Rattle.crash_promises.specs.Promises.{Line, Telling}
@@ -65,7 +66,7 @@ pub record Takes {D : Type 0} (now : D → ℕ) (disk : D → ℕ → Option Dis
 pub record AppendsFrame {D S : Type 0} (now : D → ℕ) (disk : D → ℕ → Option DiskState) (told : D → Option (List Tell)) (disk_faults wire_faults : D → ℕ) (scratch : S → ScratchState) (scratch_faults : S → ℕ) (old : D × S) (node : NodeState) (frame : List ℕ) (new : D × S) (result : Result (Turn NodeState) RunStop) : Type 0 where
   -- If it is known which bytes the scratch device holds, the frame is taken as it is judged.
   pub takes : is_known (scratch old.1) ≡ true → (blocks : List Block) → IsNodeOf node (disk old.0 (now old.0)) blocks
-      → Takes now disk told old.0 new.0 blocks (judgement_of compiled_in blocks (block_in frame)) result
+      → Takes now disk told old.0 new.0 blocks (judgement_of stored_placement blocks (block_in frame)) result
   -- Whatever the scratch device returns, a crash leaves the chain from before, and any blocks after
   -- it, with rows not counted.
   pub log_goes_on : (content : List ℕ) → content_of (disk old.0 (now old.0)) ≡ Some content → Keeps now disk old.0 new.0 (GoesOn next_in_log content)

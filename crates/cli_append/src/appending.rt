@@ -8,10 +8,9 @@ ghost use Rattle.block_codec.specs.{
   declared.limits.TheConstants.{MAX_FRAMES},
 };
 ghost use Rattle.block_log.specs.Log.{next_in_log};
-ghost use Rattle.chain_exec.specs.Compiled.{compiled_in};
 ghost use Rattle.chain_input.specs.{Folding.{fold_from}, Taking.{TakesInput}};
 ghost use Rattle.scratch_model.specs.Scratch.{is_known, Retains};
-ghost use Rattle.recovery.specs.Node.{IsNodeOf, IsReady};
+ghost use Rattle.recovery.specs.Node.{IsNodeOf, IsReady, stored_placement};
 ghost use Rattle.disk_model.specs.Disk.{Keeps, content_of};
 ghost use Rattle.crash_promises.specs.Laws.{GoesOn};
 ghost use Rattle.cli_append.specs.{Appending.{AppendsAll, GoesFrom, IsKnown}, Steps.{AppendsFrame}};
@@ -63,7 +62,7 @@ pub fn append<I: Source, M: Disk + Wire, S: Scratch>(
     // If it is known what the source has left, and which bytes the scratch device holds, the frames
     // are taken, and their lines printed, as the fold of the input says.
     ensures appends { is_known (S.state scratch.old) ≡ true → (blocks : List Block) (input : List ℕ) → IsNodeOf node (M.disk machine.old (M.now machine.old)) blocks → I.left source.old ≡ Some input
-        → AppendsAll M.now M.disk M.told machine.old machine.new (I.left source.new) blocks (fold_from block_in compiled_in (MAX_FRAMES + 1) blocks input) result }
+        → AppendsAll M.now M.disk M.told machine.old machine.new (I.left source.new) blocks (fold_from block_in stored_placement (MAX_FRAMES + 1) blocks input) result }
     // Whether or not it is known what the source has left, if it is known which bytes the scratch
     // device holds: a crash at any moment leaves the chain from before, and any blocks after it.
     ensures goes_on { is_known (S.state scratch.old) ≡ true → (blocks : List Block) → IsNodeOf node (M.disk machine.old (M.now machine.old)) blocks → IsKnown (M.disk machine.old (M.now machine.old)) → Keeps M.now M.disk machine.old machine.new (GoesFrom blocks) }

@@ -8,10 +8,9 @@ ghost use Rattle.lc_base.specs.Faults.{HasCause};
 ghost use Rattle.disk_model.specs.Disk.{Keeps, content_of};
 ghost use Rattle.block_codec.specs.{Reading.{block_in}, declared.block.Block.{Block}};
 ghost use Rattle.block_log.specs.Log.{next_in_log};
-ghost use Rattle.chain_exec.specs.Compiled.{compiled_in};
 ghost use Rattle.recovery.specs.chain_replay.Judging.{judgement_of};
 ghost use Rattle.scratch_model.specs.Scratch.{is_known, Retains};
-ghost use Rattle.recovery.specs.Node.{IsNodeOf, IsReady};
+ghost use Rattle.recovery.specs.Node.{IsNodeOf, IsReady, stored_placement};
 ghost use Rattle.crash_promises.specs.Laws.{GoesOn};
 ghost use Rattle.cli_append.specs.Steps.{AppendsFrame, IfLonger, Takes};
 
@@ -43,7 +42,7 @@ pub fn take_frame<M: Disk + Wire, S: Scratch>(
 ) -> Result<Turn<Node>, RunStop>
     requires ready { IsReady node (M.disk machine.old (M.now machine.old)) (S.state scratch.old) }
     ensures takes { is_known (S.state scratch.old) ≡ true → (blocks : List Block) → IsNodeOf node (M.disk machine.old (M.now machine.old)) blocks
-        → Takes M.now M.disk M.told machine.old machine.new blocks (judgement_of compiled_in blocks (block_in frame.now)) result }
+        → Takes M.now M.disk M.told machine.old machine.new blocks (judgement_of stored_placement blocks (block_in frame.now)) result }
     ensures log_goes_on { (content : List ℕ) → content_of (M.disk machine.old (M.now machine.old)) ≡ Some content → Keeps M.now M.disk machine.old machine.new (GoesOn next_in_log content) }
     ensures ready { IfLonger (λ longer. IsReady longer (M.disk machine.new (M.now machine.new)) (S.state scratch.new)) result }
     ensures retains { Retains (S.state scratch.old) (S.state scratch.new) }

@@ -2,7 +2,7 @@
 use Rattle.std.specs.Prelude.{ℕ, List, [], ◌∷◌, ◌++◌, length, map, codes, decimal, Option, Some, None}
 use Rattle.std.specs.Fmt.{signed_decimal}
 use Rattle.lc_base.specs.declared.value.Value.{Value}
-use Rattle.lc_base.specs.declared.value.Value.TheVariants.{Int, Text}
+use Rattle.lc_base.specs.declared.value.Value.TheVariants.{Int, Text, Gone}
 use Rattle.lc_base.specs.declared.answer.Answer.{Answer}
 use Rattle.lc_base.specs.declared.answer.Answer.TheVariants.{Nothing, Hist, Back, Fwd}
 use Rattle.lc_base.specs.declared.row.Dep.{Dep}
@@ -23,10 +23,11 @@ use Rattle.chain_input.specs.declared.cause.Cause.TheVariants as causes
 abbrev pub line : List ℕ → List ℕ
 line text = text ++ 10 ∷ []
 
--- A value, after the word for its kind.
+-- A value, after the word for its kind; one that is gone is that word alone.
 abbrev pub value_text : Value → List ℕ
 value_text (Int number) = codes "int " ++ signed_decimal number
 value_text (Text text) = codes "text " ++ text
+value_text Gone = codes "gone"
 
 -- A version, as others depend on it: its key and its block.
 abbrev pub dep_line : Dep → List ℕ
@@ -58,6 +59,7 @@ misplaced_text (misplaced.Fork have) = codes "fork " ++ encode_lower have.0
 misplaced_text misplaced.Full = codes "full"
 misplaced_text (misplaced.Number want) = codes "number " ++ decimal want
 misplaced_text (misplaced.Parent want) = codes "parent " ++ encode_lower want.0
+misplaced_text (misplaced.Version want) = codes "version " ++ decimal want
 misplaced_text (misplaced.Budget sum) = codes "budget " ++ decimal sum
 
 -- Why a chain refuses bytes, in words.

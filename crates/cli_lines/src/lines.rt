@@ -69,6 +69,7 @@ fn misplaced_text(alloc: Global, why: &Misplaced) -> Result<String, AllocError>
         Misplaced::Full => String::from_str(alloc, "full"),
         Misplaced::Number { want } => format!(in alloc; "number {want}"),
         Misplaced::Parent { want } => digest_text(alloc, "parent ", want),
+        Misplaced::Version { want } => format!(in alloc; "version {want}"),
         Misplaced::Budget { sum } => format!(in alloc; "budget {sum}"),
     }
 }
@@ -149,6 +150,13 @@ fn text_line(alloc: Global, block: u32, tx: u16, text: &[u8]) -> Result<Bytes, M
     Ok(Bytes::from_vec(bytes))
 }
 
+fn gone_line(alloc: Global, block: u32, tx: u16) -> Result<Bytes, Memory>
+    ensures { IfOk result (λ bytes. bytes ≡ line (codes "block " ++ decimal block ++ codes " tx " ++ decimal tx ++ codes " gone")) }
+{
+    let text = format!(in alloc; "block {block} tx {tx} gone")?;
+    line(alloc, text.as_str())
+}
+
 fn dep_line(alloc: Global, dep: &Dep) -> Result<Bytes, Memory>
     ensures { IfOk result (λ bytes. bytes ≡ dep_line dep.now) }
 {
@@ -225,5 +233,6 @@ fn hist_line(alloc: Global, block: u32, tx: u16, value: &Value) -> Result<Bytes,
     match value {
         Value::Int(number) => int_line(alloc, block, tx, *number),
         Value::Text(text) => text_line(alloc, block, tx, text.as_bytes()),
+        Value::Gone => gone_line(alloc, block, tx),
     }
 }

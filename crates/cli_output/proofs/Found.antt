@@ -133,7 +133,7 @@ log_wanted (Prove query root_at) asks input content output is = on_log_is
     (prove_output compiled_in query root_at input) input (standing next_in_chain content) output is
 log_wanted (Expose root query root_at) asks input content output is = is
 log_wanted (Scan query) asks input content output is = absurd (cc asks)
-log_wanted Fmt asks input content output is = absurd (cc asks)
+log_wanted (Fmt edition) asks input content output is = absurd (cc asks)
 log_wanted Pack asks input content output is = absurd (cc asks)
 log_wanted (Gen generation) asks input content output is = absurd (cc asks)
 log_wanted (Load generation) asks input content output is = absurd (cc asks)

@@ -16,13 +16,14 @@ use Rattle.block_log.specs.Standing.{next_block, blocks_in, standing}
 use Rattle.block_log.specs.Log.{log_placement}
 use Rattle.contract_tree.specs.Tree.{FunctionTree}
 use Rattle.contract_print.specs.contract_parse.Syntax.{Outcome as SourceOutcome, IsOutcome}
+use Rattle.contract_print.specs.contract_parse.contract_tokens.declared.edition.TheConstants.{FIRST_EDITION, SECOND_EDITION}
 use Rattle.contract_check.specs.Faults.{check_fault}
 use Rattle.contract_check.specs.declared.fault.Fault.{Fault}
 use Rattle.contract_print.specs.Canonical.{contract_text}
 use Rattle.cli_append.specs.chain_exec.Compiled.{Compiler, IsCompiler}
 use Rattle.cli_append.specs.chain_exec.Replay.{replay}
-use Rattle.replay_soundness.specs.chain_replay.Chain.{placement_in}
-use Rattle.replay_soundness.specs.chain_replay.Judging.{added_by_all}
+use Rattle.replay_soundness.specs.chain_replay.Chain.{placement_by_mark, placement_in}
+use Rattle.replay_soundness.specs.chain_replay.Judging.{Placer, added_by_all}
 use Rattle.replay_soundness.specs.rooted_chain.Roots.{root_in}
 use Rattle.replay_soundness.specs.chain_input.Folding.{Fold, FoldEnd, Whole, Refused, fold_from}
 use Rattle.replay_soundness.specs.chain_input.Folding.{fold_input}
@@ -38,6 +39,8 @@ use Rattle.replay_soundness.specs.Soundness.{replayed_texts}
 use Rattle.text_clashes.specs.FirstClash.{IsFirstClash}
 use Rattle.proof_commands.specs.Verifying.{IsVerification}
 use Rattle.proof_commands.specs.declared.verification.Verification.{Verification}
+use Rattle.cli_words.specs.declared.words.Edition.{Edition}
+use Rattle.cli_words.specs.declared.words.Edition.TheVariants as editions
 use Rattle.cli_words.specs.declared.words.Generation.{Generation}
 use Rattle.cli_words.specs.declared.words.Command.{Command}
 use Rattle.cli_words.specs.declared.words.Command.TheVariants.{Scan, Fmt, Pack, Gen, Load, Append}
@@ -125,6 +128,11 @@ FitsInput input = length input ≤ MAX_WHOLE_INPUT_BYTES
 abbrev pub long_output : List ℕ → Output
 long_output input = output_of (bad_input (codes "long")) (drop (MAX_WHOLE_INPUT_BYTES + 1) input)
 
+-- The number of an edition of the contract language.
+abbrev pub edition_number : Edition → ℕ
+edition_number editions.First = FIRST_EDITION
+edition_number editions.Second = SECOND_EDITION
+
 -- The outcome of `fmt` for functions: their canonical text, line by line, unless one of their names
 -- or kinds is invalid.
 abbrev pub fmt_outcome : List FunctionTree → Option Fault → Outcome
@@ -137,18 +145,19 @@ abbrev pub source_outcome : SourceOutcome → Outcome
 source_outcome (Ok functions) = fmt_outcome functions (check_fault functions)
 source_outcome (Err fault) = bad_input (syntax_cause fault.0 fault.1)
 
--- The output of `fmt` for an input: the outcome for the source that it is, or that it is too long.
-pub data IsFmtOutput (input : List ℕ) : Output → Type 0 where
-  Long : MAX_WHOLE_INPUT_BYTES < length input → IsFmtOutput input (long_output input)
-  Source : FitsInput input → (outcome : SourceOutcome) → IsOutcome input outcome →
-      IsFmtOutput input (output_of (source_outcome outcome) [])
+-- The output of `fmt` for an input in an edition: the outcome for the source that it is, or that it
+-- is too long.
+pub data IsFmtOutput (edition : ℕ) (input : List ℕ) : Output → Type 0 where
+  Long : MAX_WHOLE_INPUT_BYTES < length input → IsFmtOutput edition input (long_output input)
+  Source : FitsInput input → (outcome : SourceOutcome) → IsOutcome edition input outcome →
+      IsFmtOutput edition input (output_of (source_outcome outcome) [])
 
--- What `fmt` prints for an input without a fault, it prints again for what it printed, if that is
--- short enough to be read whole.
-abbrev pub FormatsAgain : List ℕ → Type 0
-FormatsAgain input =
-    (output : Output) → IsFmtOutput input output → output.status ≡ statuses.Done → FitsInput (told_bytes output) →
-    IsFmtOutput (told_bytes output) output
+-- What `fmt` prints in an edition for an input without a fault, it prints again, in that edition,
+-- for what it printed, if that is short enough to be read whole.
+abbrev pub FormatsAgain : ℕ → List ℕ → Type 0
+FormatsAgain edition input =
+    (output : Output) → IsFmtOutput edition input output → output.status ≡ statuses.Done → FitsInput (told_bytes output) →
+    IsFmtOutput edition (told_bytes output) output
 
 -- The output of `verify` for an input and a root: the outcome of verifying the proof that the input
 -- is, in hex, or that it is too long.
@@ -182,9 +191,14 @@ load_output compile generation input = output_of (load_outcome compile generatio
 
 -- ---- the log
 
--- The next block of a chain, by a decoder and a compiler.
+-- The place of a block after those of a log. A log has no mark, so the first version is next.
+abbrev pub stored_by : Compiler → Placer
+stored_by compile = placement_by_mark compile false
+
+-- The next block of a log, with the rows of the blocks before it counted, by a decoder and a
+-- compiler.
 abbrev pub next_by : Decoder → Compiler → NextBlock
-next_by read compile = next_block read (placement_in compile)
+next_by read compile = next_block read (stored_by compile)
 
 -- The next block of a log by itself, by a decoder: no block runs, so no row is counted.
 abbrev pub log_next_by : Decoder → NextBlock
@@ -291,13 +305,13 @@ pub data IsExposeOutput (compile : Compiler) (root : List ℕ) (query : Query) (
 -- disk, by a decoder and a compiler.
 abbrev pub Wants : Decoder → Compiler → Option Command → List ℕ → List ℕ → Output → Type 0
 Wants read compile None input content output = output ≡ usage_output input
-Wants read compile (Some (Scan query)) input content output = output ≡ scan_output compile query (fold_input read compile input)
-Wants read compile (Some Fmt) input content output = IsFmtOutput input output
+Wants read compile (Some (Scan query)) input content output = output ≡ scan_output compile query (fold_input read (placement_in compile) input)
+Wants read compile (Some (Fmt edition)) input content output = IsFmtOutput (edition_number edition) input output
 Wants read compile (Some Pack) input content output = output ≡ pack_output input
 Wants read compile (Some (Gen generation)) input content output = output ≡ gen_output generation input
 Wants read compile (Some (Load generation)) input content output = output ≡ load_output compile generation input
 Wants read compile (Some Append) input content output =
-    output ≡ on_log (λ blocks. append_output compile blocks (fold_from read compile (MAX_FRAMES + 1) blocks input)) input (standing (next_by read compile) content)
+    output ≡ on_log (λ blocks. append_output compile blocks (fold_from read (stored_by compile) (MAX_FRAMES + 1) blocks input)) input (standing (next_by read compile) content)
 Wants read compile (Some (Root at)) input content output =
     output ≡ on_log (root_output compile at input) input (standing (next_by read compile) content)
 Wants read compile (Some (Ask kind key at)) input content output =

@@ -28,9 +28,9 @@ abbrev pub GivesAny : (Output → Type 0) → Outcome → Option (List ℕ) → 
 GivesAny Wanted outcome left =
     (rest : List ℕ) × (left ≡ Some rest) × Wanted (output_of outcome rest)
 
--- The outcome and what is left of the input are those of `fmt`.
-abbrev pub IsFmtOutcome : Outcome → Option (List ℕ) → List ℕ → Type 0
-IsFmtOutcome outcome left input = GivesAny (IsFmtOutput input) outcome left
+-- The outcome and what is left of the input are those of `fmt` in an edition.
+abbrev pub IsFmtOutcome : ℕ → Outcome → Option (List ℕ) → List ℕ → Type 0
+IsFmtOutcome edition outcome left input = GivesAny (IsFmtOutput edition input) outcome left
 
 -- The outcome and what is left of the input are those of `verify`.
 abbrev pub IsVerifyOutcome : List ℕ → Query → Outcome → Option (List ℕ) → List ℕ → Type 0

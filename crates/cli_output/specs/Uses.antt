@@ -39,7 +39,7 @@ pub record Use : Type 0 where
 abbrev pub use_of : Option Command → Use
 use_of None = record { input = Unread; chain = NoChain; print = AtEnd }
 use_of (Some (Scan query)) = record { input = Frames; chain = InputRows; print = AtEnd }
-use_of (Some Fmt) = record { input = Text; chain = NoChain; print = AtEnd }
+use_of (Some (Fmt edition)) = record { input = Text; chain = NoChain; print = AtEnd }
 use_of (Some Pack) = record { input = Text; chain = NoChain; print = AtEnd }
 use_of (Some (Gen generation)) = record { input = Unread; chain = NoChain; print = AsMade }
 use_of (Some (Load generation)) = record { input = Unread; chain = MadeLineage; print = AtEnd }

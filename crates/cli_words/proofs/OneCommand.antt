@@ -8,17 +8,24 @@ use Rattle.lc_base.specs.declared.answer.Kind.{Kind}
 use Rattle.lc_base.specs.declared.answer.Kind.TheVariants.{Hist, Back, Fwd}
 use Rattle.lc_base.specs.declared.answer.Query.{Query}
 use Rattle.lc_base.specs.declared.digest.Digest.{Digest}
+use Rattle.cli_words.specs.declared.words.Edition.{Edition}
+use Rattle.cli_words.specs.declared.words.Edition.TheVariants.{First, Second}
 use Rattle.cli_words.specs.declared.words.Generation.{Generation}
 use Rattle.cli_words.specs.declared.words.Command.{Command}
 use Rattle.cli_words.specs.declared.words.Command.TheVariants.{Scan, Fmt, Pack, Gen, Load, Append, Root, Ask, Prove, Verify, Expose}
-use Rattle.cli_words.specs.Words.{kind_word, query_words, scan_words, generation_words, ask_words, root_words, prove_words, verify_words, expose_words, command_words, IsQuery, IsGeneration, IsRootGiven, Fits, CanBeGiven, IsCommand, IsOneCommand}
+use Rattle.cli_words.specs.Words.{kind_word, query_words, scan_words, fmt_words, generation_words, ask_words, root_words, prove_words, verify_words, expose_words, command_words, IsQuery, IsGeneration, IsRootGiven, Fits, CanBeGiven, IsCommand, IsOneCommand}
 
 one_number : (m n : ℕ) → m < 2 ^ 32 → n < 2 ^ 32 → decimal m ≡ decimal n → m ≡ n
-one_number m n small fits same = decimal_injective m n (omega (arith, small)) (omega (arith, fits)) same
+one_number m n small fits same =
+    decimal_injective m n (omega (arith, small)) (omega (arith, fits)) same
 
 abbrev first_byte : List ℕ → ℕ
 first_byte [] = 0
 first_byte (byte ∷ bytes) = byte
+
+abbrev second_byte : List ℕ → ℕ
+second_byte [] = 0
+second_byte (byte ∷ bytes) = first_byte bytes
 
 one_kind : (a b : Kind) → kind_word a ≡ kind_word b → a ≡ b
 one_kind Hist Hist same = refl
@@ -42,7 +49,8 @@ one_query a b is_a is_b same =
     ∙ ap (λ (k : List ℕ). record { kind = b.kind; key = k; at = a.at }) keys
     ∙ ap (λ (n : ℕ). record { kind = b.kind; key = b.key; at = n }) at_is
 
-one_generation : (word : List ℕ) (a b : Generation) → IsGeneration a → IsGeneration b → generation_words word a ≡ generation_words word b → a ≡ b
+one_generation : (word : List ℕ) (a b : Generation) → IsGeneration a → IsGeneration b
+    → generation_words word a ≡ generation_words word b → a ≡ b
 one_generation word a b is_a is_b same =
     let counts : decimal a.blocks ≡ decimal b.blocks = cc in
     let seeds : decimal a.seed ≡ decimal b.seed = cc in
@@ -51,7 +59,8 @@ one_generation word a b is_a is_b same =
     ap (λ (n : ℕ). record { blocks = n; seed = a.seed }) blocks_are ∙ ap (λ (n : ℕ). record { blocks = b.blocks; seed = n }) seed_is
 
 -- the words of no other command are those of a question over the log
-no_made : (kind : Kind) (key : List ℕ) (at : Option ℕ) (word : List ℕ) (generation : Generation) → ask_words kind key at ≡ generation_words word generation → kind_word kind ≡ word
+no_made : (kind : Kind) (key : List ℕ) (at : Option ℕ) (word : List ℕ) (generation : Generation)
+    → ask_words kind key at ≡ generation_words word generation → kind_word kind ≡ word
 no_made kind key None word generation same = absurd cc
 no_made kind key (Some at) word generation same = cc
 
@@ -65,18 +74,22 @@ no_load Hist same = let first : 104 ≡ 108 = ap first_byte same in absurd (omeg
 no_load Back same = let first : 98 ≡ 108 = ap first_byte same in absurd (omega (arith, first))
 no_load Fwd same = let first : 102 ≡ 108 = ap first_byte same in absurd (omega (arith, first))
 
-gen_load : (a b : Generation) → generation_words (codes "gen") a ≡ generation_words (codes "load") b → ⊥
+gen_load : (a b : Generation) → generation_words (codes "gen") a ≡ generation_words (codes "load") b
+    → ⊥
 gen_load a b same = let words : codes "gen" ≡ codes "load" = cc in let first : 103 ≡ 108 = ap first_byte words in absurd (omega (arith, first))
 
-no_scan : (kind : Kind) (key : List ℕ) (at : Option ℕ) (query : Query) → ask_words kind key at ≡ scan_words query → ⊥
+no_scan : (kind : Kind) (key : List ℕ) (at : Option ℕ) (query : Query)
+    → ask_words kind key at ≡ scan_words query → ⊥
 no_scan kind key None query same = absurd cc
 no_scan kind key (Some at) query same = absurd cc
 
-no_word : (kind : Kind) (key : List ℕ) (at : Option ℕ) (word : List ℕ) → ask_words kind key at ≡ word ∷ [] → ⊥
+no_word : (kind : Kind) (key : List ℕ) (at : Option ℕ) (word : List ℕ)
+    → ask_words kind key at ≡ word ∷ [] → ⊥
 no_word kind key None word same = absurd cc
 no_word kind key (Some at) word same = absurd cc
 
-no_root : (kind : Kind) (key : List ℕ) (at other : Option ℕ) → ask_words kind key at ≡ root_words other → ⊥
+no_root : (kind : Kind) (key : List ℕ) (at other : Option ℕ)
+    → ask_words kind key at ≡ root_words other → ⊥
 no_root kind key None None same = absurd cc
 no_root Hist key None (Some n) same = let words : codes "hist" ≡ codes "root" = cc in let first : 104 ≡ 114 = ap first_byte words in absurd (omega (arith, first))
 no_root Back key None (Some n) same = let words : codes "back" ≡ codes "root" = cc in let first : 98 ≡ 114 = ap first_byte words in absurd (omega (arith, first))
@@ -89,7 +102,8 @@ root_scan : (at : Option ℕ) (query : Query) → root_words at ≡ scan_words q
 root_scan None query same = absurd cc
 root_scan (Some n) query same = absurd cc
 
-root_made : (at : Option ℕ) (word : List ℕ) (generation : Generation) → root_words at ≡ generation_words word generation → ⊥
+root_made : (at : Option ℕ) (word : List ℕ) (generation : Generation)
+    → root_words at ≡ generation_words word generation → ⊥
 root_made None word generation same = absurd cc
 root_made (Some n) word generation same = absurd cc
 
@@ -101,9 +115,51 @@ one_root : (a b : Option ℕ) → Fits a → Fits b → root_words a ≡ root_wo
 one_root None None is_a is_b same = refl
 one_root None (Some n) is_a is_b same = absurd cc
 one_root (Some m) None is_a is_b same = absurd cc
-one_root (Some m) (Some n) is_a is_b same = let numbers : decimal m ≡ decimal n = cc in ap Some (one_number m n is_a is_b numbers)
+one_root (Some m) (Some n) is_a is_b same =
+    let numbers : decimal m ≡ decimal n = cc in ap Some (one_number m n is_a is_b numbers)
 
-one_at : (a b : Option ℕ) → Fits a → Fits b → (k l : Kind) (x y : List ℕ) → ask_words k x a ≡ ask_words l y b → (k ≡ l) × (x ≡ y) × (a ≡ b)
+-- the words of `fmt` are those of no other command
+fmt_scan : (edition : Edition) (query : Query) → fmt_words edition ≡ scan_words query → ⊥
+fmt_scan First query same = absurd cc
+fmt_scan Second query same = absurd cc
+
+fmt_made : (edition : Edition) (word : List ℕ) (generation : Generation)
+    → fmt_words edition ≡ generation_words word generation → ⊥
+fmt_made First word generation same = absurd cc
+fmt_made Second word generation same = absurd cc
+
+fmt_alone : (edition : Edition) (word : List ℕ) → fmt_words edition ≡ word ∷ []
+    → 102 ≡ first_byte word
+fmt_alone First word same = let words : codes "fmt" ≡ word = cc in ap first_byte words
+fmt_alone Second word same = absurd cc
+
+fmt_root : (edition : Edition) (at : Option ℕ) → fmt_words edition ≡ root_words at → ⊥
+fmt_root First None same = let words : codes "fmt" ≡ codes "root" = cc in let first : 102 ≡ 114 = ap first_byte words in absurd (omega (arith, first))
+fmt_root First (Some n) same = absurd cc
+fmt_root Second None same = absurd cc
+fmt_root Second (Some n) same = let words : codes "fmt" ≡ codes "root" = cc in let first : 102 ≡ 114 = ap first_byte words in absurd (omega (arith, first))
+
+no_fmt : (kind : Kind) → kind_word kind ≡ codes "fmt" → ⊥
+no_fmt Hist same = let first : 104 ≡ 102 = ap first_byte same in absurd (omega (arith, first))
+no_fmt Back same = let first : 98 ≡ 102 = ap first_byte same in absurd (omega (arith, first))
+no_fmt Fwd same = let second : 119 ≡ 109 = ap second_byte same in absurd (omega (arith, second))
+
+fmt_ask : (edition : Edition) (kind : Kind) (key : List ℕ) (at : Option ℕ)
+    → fmt_words edition ≡ ask_words kind key at → ⊥
+fmt_ask First kind key None same = absurd cc
+fmt_ask First kind key (Some at) same = absurd cc
+fmt_ask Second kind key None same =
+    let words : codes "fmt" ≡ kind_word kind = cc in no_fmt kind (sym words)
+fmt_ask Second kind key (Some at) same = absurd cc
+
+one_edition : (a b : Edition) → fmt_words a ≡ fmt_words b → a ≡ b
+one_edition First First same = refl
+one_edition First Second same = absurd cc
+one_edition Second First same = absurd cc
+one_edition Second Second same = refl
+
+one_at : (a b : Option ℕ) → Fits a → Fits b → (k l : Kind) (x y : List ℕ)
+    → ask_words k x a ≡ ask_words l y b → (k ≡ l) × (x ≡ y) × (a ≡ b)
 one_at None None is_a is_b k l x y same = (one_kind k l cc, cc, refl)
 one_at None (Some n) is_a is_b k l x y same = absurd cc
 one_at (Some m) None is_a is_b k l x y same = absurd cc
@@ -111,7 +167,8 @@ one_at (Some m) (Some n) is_a is_b k l x y same =
     let numbers : decimal m ≡ decimal n = cc in
     (one_kind k l cc, cc, ap Some (one_number m n is_a is_b numbers))
 
-one_ask : (k l : Kind) (x y : List ℕ) (a b : Option ℕ) → Fits a → Fits b → ask_words k x a ≡ ask_words l y b → Ask k x a ≡ Ask l y b
+one_ask : (k l : Kind) (x y : List ℕ) (a b : Option ℕ) → Fits a → Fits b
+    → ask_words k x a ≡ ask_words l y b → Ask k x a ≡ Ask l y b
 one_ask k l x y a b is_a is_b same =
     let all = one_at a b is_a is_b k l x y same in
     ap (λ (kind : Kind). Ask kind x a) all.0 ∙ ap (λ (key : List ℕ). Ask l key a) all.1 ∙ ap (λ (at : Option ℕ). Ask l y at) all.2
@@ -122,6 +179,10 @@ few_root : (at : Option ℕ) → length (root_words at) ≤ 4
 few_root None = omega arith
 few_root (Some at) = omega arith
 
+few_fmt : (edition : Edition) → length (fmt_words edition) ≤ 4
+few_fmt First = omega arith
+few_fmt Second = omega arith
+
 few_asked : (kind : Kind) (key : List ℕ) (at : Option ℕ) → length (ask_words kind key at) ≤ 4
 few_asked kind key None = omega arith
 few_asked kind key (Some at) = omega arith
@@ -129,10 +190,12 @@ few_asked kind key (Some at) = omega arith
 too_few : (few many : List (List ℕ)) → length few ≤ 4 → 4 < length many → few ≡ many → ⊥
 too_few few many short long same = let count : length few ≡ length many = ap (length {A = List ℕ}) same in omega (arith, short, long, count)
 
-no_verify : (query : Query) (root_at : ℕ) (root : Digest) (other : Query) → prove_words query root_at ≡ verify_words root other → ⊥
+no_verify : (query : Query) (root_at : ℕ) (root : Digest) (other : Query)
+    → prove_words query root_at ≡ verify_words root other → ⊥
 no_verify query root_at root other same = let words : codes "prove" ≡ codes "verify" = cc in let first : 112 ≡ 118 = ap first_byte words in absurd (omega (arith, first))
 
-one_prove : (a b : Query) (m n : ℕ) → IsQuery a × (m < 2 ^ 32) → IsQuery b × (n < 2 ^ 32) → prove_words a m ≡ prove_words b n → Prove a m ≡ Prove b n
+one_prove : (a b : Query) (m n : ℕ) → IsQuery a × (m < 2 ^ 32) → IsQuery b × (n < 2 ^ 32)
+    → prove_words a m ≡ prove_words b n → Prove a m ≡ Prove b n
 one_prove a b m n is_a is_b same =
     let kinds : kind_word a.kind ≡ kind_word b.kind = cc in
     let keys : a.key ≡ b.key = cc in
@@ -140,18 +203,22 @@ one_prove a b m n is_a is_b same =
     let roots : decimal m ≡ decimal n = cc in
     ap (λ (q : Query). Prove q m) (one_query a b is_a.0 is_b.0 cc) ∙ ap (Prove b) (one_number m n is_a.1 is_b.1 roots)
 
-one_digest : (a b : Digest) → IsRootGiven a → IsRootGiven b → encode_lower a.0 ≡ encode_lower b.0 → a ≡ b
+one_digest : (a b : Digest) → IsRootGiven a → IsRootGiven b → encode_lower a.0 ≡ encode_lower b.0
+    → a ≡ b
 one_digest a b is_a is_b same =
     let read = sym (decode_of-encode_lower a.0 is_a.bytes) ∙ ap decode_of same ∙ decode_of-encode_lower b.0 is_b.bytes in
     let bytes : a.0 ≡ b.0 = cc in
     ap (λ (bytes : List ℕ). record { 0 = bytes }) bytes
 
-one_verify : (m n : Digest) (a b : Query) → IsRootGiven m × IsQuery a → IsRootGiven n × IsQuery b → verify_words m a ≡ verify_words n b → Verify m a ≡ Verify n b
+one_verify : (m n : Digest) (a b : Query) → IsRootGiven m × IsQuery a → IsRootGiven n × IsQuery b
+    → verify_words m a ≡ verify_words n b → Verify m a ≡ Verify n b
 one_verify m n a b is_a is_b same =
     let roots : encode_lower m.0 ≡ encode_lower n.0 = cc in
     ap (λ (root : Digest). Verify root a) (one_digest m n is_a.0 is_b.0 roots) ∙ ap (Verify n) (one_query a b is_a.1 is_b.1 cc)
 
-one_expose : (m n : Digest) (a b : Query) (i j : ℕ) → IsRootGiven m × IsQuery a × (i < 2 ^ 32) → IsRootGiven n × IsQuery b × (j < 2 ^ 32) → expose_words m a i ≡ expose_words n b j → Expose m a i ≡ Expose n b j
+one_expose : (m n : Digest) (a b : Query) (i j : ℕ) → IsRootGiven m × IsQuery a × (i < 2 ^ 32)
+    → IsRootGiven n × IsQuery b × (j < 2 ^ 32) → expose_words m a i ≡ expose_words n b j
+    → Expose m a i ≡ Expose n b j
 one_expose m n a b i j is_a is_b same =
     let roots : encode_lower m.0 ≡ encode_lower n.0 = cc in
     let kinds : kind_word a.kind ≡ kind_word b.kind = cc in
@@ -162,9 +229,10 @@ one_expose m n a b i j is_a is_b same =
     ∙ ap (λ (q : Query). Expose n q i) (one_query a b is_a.1 is_b.1 cc)
     ∙ ap (Expose n b) (one_number i j is_a.2 is_b.2 blocks)
 
-one_given : (a b : Command) → CanBeGiven a → CanBeGiven b → command_words a ≡ command_words b → a ≡ b
+one_given : (a b : Command) → CanBeGiven a → CanBeGiven b → command_words a ≡ command_words b
+    → a ≡ b
 one_given (Scan a) (Scan b) is_a is_b same = ap Scan (one_query a b is_a is_b cc)
-one_given (Scan a) Fmt is_a is_b same = absurd cc
+one_given (Scan a) (Fmt b) is_a is_b same = absurd (fmt_scan b a (sym same))
 one_given (Scan a) Pack is_a is_b same = absurd cc
 one_given (Scan a) (Gen b) is_a is_b same = absurd cc
 one_given (Scan a) (Load b) is_a is_b same = absurd cc
@@ -174,126 +242,156 @@ one_given (Scan a) (Ask bk by bt) is_a is_b same = absurd (no_scan bk by bt a (s
 one_given (Scan a) (Prove b br) is_a is_b same = absurd cc
 one_given (Scan a) (Verify br b) is_a is_b same = absurd cc
 one_given (Scan a) (Expose br b bn) is_a is_b same = absurd cc
-one_given Fmt (Scan b) is_a is_b same = absurd cc
-one_given Fmt Fmt is_a is_b same = refl
-one_given Fmt Pack is_a is_b same = absurd cc
-one_given Fmt (Gen b) is_a is_b same = absurd cc
-one_given Fmt (Load b) is_a is_b same = absurd cc
-one_given Fmt Append is_a is_b same = absurd cc
-one_given Fmt (Root b) is_a is_b same = let first : 114 ≡ 102 = root_alone b (codes "fmt") (sym same) in absurd (omega (arith, first))
-one_given Fmt (Ask bk by bt) is_a is_b same = absurd (no_word bk by bt _ (sym same))
-one_given Fmt (Prove b br) is_a is_b same = absurd cc
-one_given Fmt (Verify br b) is_a is_b same = absurd cc
-one_given Fmt (Expose br b bn) is_a is_b same = absurd cc
+one_given (Fmt a) (Scan b) is_a is_b same = absurd (fmt_scan a b same)
+one_given (Fmt a) (Fmt b) is_a is_b same = ap Fmt (one_edition a b same)
+one_given (Fmt a) Pack is_a is_b same =
+    let first : 102 ≡ 112 = fmt_alone a (codes "pack") same in absurd (omega (arith, first))
+one_given (Fmt a) (Gen b) is_a is_b same = absurd (fmt_made a _ b same)
+one_given (Fmt a) (Load b) is_a is_b same = absurd (fmt_made a _ b same)
+one_given (Fmt a) Append is_a is_b same =
+    let first : 102 ≡ 97 = fmt_alone a (codes "append") same in absurd (omega (arith, first))
+one_given (Fmt a) (Root b) is_a is_b same = absurd (fmt_root a b same)
+one_given (Fmt a) (Ask bk by bt) is_a is_b same = absurd (fmt_ask a bk by bt same)
+one_given (Fmt a) (Prove b br) is_a is_b same =
+    absurd (too_few (fmt_words a) (prove_words b br) (few_fmt a) (omega arith) same)
+one_given (Fmt a) (Verify br b) is_a is_b same =
+    absurd (too_few (fmt_words a) (verify_words br b) (few_fmt a) (omega arith) same)
+one_given (Fmt a) (Expose br b bn) is_a is_b same =
+    absurd (too_few (fmt_words a) (expose_words br b bn) (few_fmt a) (omega arith) same)
 one_given Pack (Scan b) is_a is_b same = absurd cc
-one_given Pack Fmt is_a is_b same = absurd cc
+one_given Pack (Fmt b) is_a is_b same =
+    let first : 102 ≡ 112 = fmt_alone b (codes "pack") (sym same) in absurd (omega (arith, first))
 one_given Pack Pack is_a is_b same = refl
 one_given Pack (Gen b) is_a is_b same = absurd cc
 one_given Pack (Load b) is_a is_b same = absurd cc
 one_given Pack Append is_a is_b same = absurd cc
-one_given Pack (Root b) is_a is_b same = let first : 114 ≡ 112 = root_alone b (codes "pack") (sym same) in absurd (omega (arith, first))
+one_given Pack (Root b) is_a is_b same =
+    let first : 114 ≡ 112 = root_alone b (codes "pack") (sym same) in absurd (omega (arith, first))
 one_given Pack (Ask bk by bt) is_a is_b same = absurd (no_word bk by bt _ (sym same))
 one_given Pack (Prove b br) is_a is_b same = absurd cc
 one_given Pack (Verify br b) is_a is_b same = absurd cc
 one_given Pack (Expose br b bn) is_a is_b same = absurd cc
 one_given (Gen a) (Scan b) is_a is_b same = absurd cc
-one_given (Gen a) Fmt is_a is_b same = absurd cc
+one_given (Gen a) (Fmt b) is_a is_b same = absurd (fmt_made b _ a (sym same))
 one_given (Gen a) Pack is_a is_b same = absurd cc
 one_given (Gen a) (Gen b) is_a is_b same = ap Gen (one_generation _ a b is_a is_b same)
 one_given (Gen a) (Load b) is_a is_b same = absurd (gen_load a b same)
 one_given (Gen a) Append is_a is_b same = absurd cc
 one_given (Gen a) (Root b) is_a is_b same = absurd (root_made b _ a (sym same))
-one_given (Gen a) (Ask bk by bt) is_a is_b same = absurd (no_gen bk (no_made bk by bt _ a (sym same)))
+one_given (Gen a) (Ask bk by bt) is_a is_b same =
+    absurd (no_gen bk (no_made bk by bt _ a (sym same)))
 one_given (Gen a) (Prove b br) is_a is_b same = absurd cc
 one_given (Gen a) (Verify br b) is_a is_b same = absurd cc
 one_given (Gen a) (Expose br b bn) is_a is_b same = absurd cc
 one_given (Load a) (Scan b) is_a is_b same = absurd cc
-one_given (Load a) Fmt is_a is_b same = absurd cc
+one_given (Load a) (Fmt b) is_a is_b same = absurd (fmt_made b _ a (sym same))
 one_given (Load a) Pack is_a is_b same = absurd cc
 one_given (Load a) (Gen b) is_a is_b same = absurd (gen_load b a (sym same))
 one_given (Load a) (Load b) is_a is_b same = ap Load (one_generation _ a b is_a is_b same)
 one_given (Load a) Append is_a is_b same = absurd cc
 one_given (Load a) (Root b) is_a is_b same = absurd (root_made b _ a (sym same))
-one_given (Load a) (Ask bk by bt) is_a is_b same = absurd (no_load bk (no_made bk by bt _ a (sym same)))
+one_given (Load a) (Ask bk by bt) is_a is_b same =
+    absurd (no_load bk (no_made bk by bt _ a (sym same)))
 one_given (Load a) (Prove b br) is_a is_b same = absurd cc
 one_given (Load a) (Verify br b) is_a is_b same = absurd cc
 one_given (Load a) (Expose br b bn) is_a is_b same = absurd cc
 one_given Append (Scan b) is_a is_b same = absurd cc
-one_given Append Fmt is_a is_b same = absurd cc
+one_given Append (Fmt b) is_a is_b same =
+    let first : 102 ≡ 97 = fmt_alone b (codes "append") (sym same) in absurd (omega (arith, first))
 one_given Append Pack is_a is_b same = absurd cc
 one_given Append (Gen b) is_a is_b same = absurd cc
 one_given Append (Load b) is_a is_b same = absurd cc
 one_given Append Append is_a is_b same = refl
-one_given Append (Root b) is_a is_b same = let first : 114 ≡ 97 = root_alone b (codes "append") (sym same) in absurd (omega (arith, first))
+one_given Append (Root b) is_a is_b same =
+    let first : 114 ≡ 97 = root_alone b (codes "append") (sym same) in absurd (omega (arith, first))
 one_given Append (Ask bk by bt) is_a is_b same = absurd (no_word bk by bt _ (sym same))
 one_given Append (Prove b br) is_a is_b same = absurd cc
 one_given Append (Verify br b) is_a is_b same = absurd cc
 one_given Append (Expose br b bn) is_a is_b same = absurd cc
 one_given (Root a) (Scan b) is_a is_b same = absurd (root_scan a b same)
-one_given (Root a) Fmt is_a is_b same = let first : 114 ≡ 102 = root_alone a (codes "fmt") same in absurd (omega (arith, first))
-one_given (Root a) Pack is_a is_b same = let first : 114 ≡ 112 = root_alone a (codes "pack") same in absurd (omega (arith, first))
+one_given (Root a) (Fmt b) is_a is_b same = absurd (fmt_root b a (sym same))
+one_given (Root a) Pack is_a is_b same =
+    let first : 114 ≡ 112 = root_alone a (codes "pack") same in absurd (omega (arith, first))
 one_given (Root a) (Gen b) is_a is_b same = absurd (root_made a _ b same)
 one_given (Root a) (Load b) is_a is_b same = absurd (root_made a _ b same)
-one_given (Root a) Append is_a is_b same = let first : 114 ≡ 97 = root_alone a (codes "append") same in absurd (omega (arith, first))
+one_given (Root a) Append is_a is_b same =
+    let first : 114 ≡ 97 = root_alone a (codes "append") same in absurd (omega (arith, first))
 one_given (Root a) (Root b) is_a is_b same = ap Root (one_root a b is_a is_b same)
 one_given (Root a) (Ask bk by bt) is_a is_b same = absurd (no_root bk by bt a (sym same))
-one_given (Root a) (Prove b br) is_a is_b same = absurd (too_few (root_words a) (prove_words b br) (few_root a) (omega arith) same)
-one_given (Root a) (Verify br b) is_a is_b same = absurd (too_few (root_words a) (verify_words br b) (few_root a) (omega arith) same)
-one_given (Root a) (Expose br b bn) is_a is_b same = absurd (too_few (root_words a) (expose_words br b bn) (few_root a) (omega arith) same)
+one_given (Root a) (Prove b br) is_a is_b same =
+    absurd (too_few (root_words a) (prove_words b br) (few_root a) (omega arith) same)
+one_given (Root a) (Verify br b) is_a is_b same =
+    absurd (too_few (root_words a) (verify_words br b) (few_root a) (omega arith) same)
+one_given (Root a) (Expose br b bn) is_a is_b same =
+    absurd (too_few (root_words a) (expose_words br b bn) (few_root a) (omega arith) same)
 one_given (Ask ak ay at) (Scan b) is_a is_b same = absurd (no_scan ak ay at b same)
-one_given (Ask ak ay at) Fmt is_a is_b same = absurd (no_word ak ay at _ same)
+one_given (Ask ak ay at) (Fmt b) is_a is_b same = absurd (fmt_ask b ak ay at (sym same))
 one_given (Ask ak ay at) Pack is_a is_b same = absurd (no_word ak ay at _ same)
 one_given (Ask ak ay at) (Gen b) is_a is_b same = absurd (no_gen ak (no_made ak ay at _ b same))
 one_given (Ask ak ay at) (Load b) is_a is_b same = absurd (no_load ak (no_made ak ay at _ b same))
 one_given (Ask ak ay at) Append is_a is_b same = absurd (no_word ak ay at _ same)
 one_given (Ask ak ay at) (Root b) is_a is_b same = absurd (no_root ak ay at b same)
-one_given (Ask ak ay at) (Ask bk by bt) is_a is_b same = one_ask ak bk ay by at bt is_a.1 is_b.1 same
-one_given (Ask ak ay at) (Prove b br) is_a is_b same = absurd (too_few (ask_words ak ay at) (prove_words b br) (few_asked ak ay at) (omega arith) same)
+one_given (Ask ak ay at) (Ask bk by bt) is_a is_b same =
+    one_ask ak bk ay by at bt is_a.1 is_b.1 same
+one_given (Ask ak ay at) (Prove b br) is_a is_b same =
+    absurd (too_few (ask_words ak ay at) (prove_words b br) (few_asked ak ay at) (omega arith) same)
 one_given (Ask ak ay at) (Verify br b) is_a is_b same = absurd (too_few (ask_words ak ay at) (verify_words br b) (few_asked ak ay at) (omega arith) same)
 one_given (Ask ak ay at) (Expose br b bn) is_a is_b same = absurd (too_few (ask_words ak ay at) (expose_words br b bn) (few_asked ak ay at) (omega arith) same)
 one_given (Prove a ar) (Scan b) is_a is_b same = absurd cc
-one_given (Prove a ar) Fmt is_a is_b same = absurd cc
+one_given (Prove a ar) (Fmt b) is_a is_b same =
+    absurd (too_few (fmt_words b) (prove_words a ar) (few_fmt b) (omega arith) (sym same))
 one_given (Prove a ar) Pack is_a is_b same = absurd cc
 one_given (Prove a ar) (Gen b) is_a is_b same = absurd cc
 one_given (Prove a ar) (Load b) is_a is_b same = absurd cc
 one_given (Prove a ar) Append is_a is_b same = absurd cc
-one_given (Prove a ar) (Root b) is_a is_b same = absurd (too_few (root_words b) (prove_words a ar) (few_root b) (omega arith) (sym same))
+one_given (Prove a ar) (Root b) is_a is_b same =
+    absurd (too_few (root_words b) (prove_words a ar) (few_root b) (omega arith) (sym same))
 one_given (Prove a ar) (Ask bk by bt) is_a is_b same = absurd (too_few (ask_words bk by bt) (prove_words a ar) (few_asked bk by bt) (omega arith) (sym same))
 one_given (Prove a ar) (Prove b br) is_a is_b same = one_prove a b ar br is_a is_b same
 one_given (Prove a ar) (Verify br b) is_a is_b same = absurd (no_verify a ar br b same)
 one_given (Prove a ar) (Expose br b bn) is_a is_b same = absurd cc
 one_given (Verify ar a) (Scan b) is_a is_b same = absurd cc
-one_given (Verify ar a) Fmt is_a is_b same = absurd cc
+one_given (Verify ar a) (Fmt b) is_a is_b same =
+    absurd (too_few (fmt_words b) (verify_words ar a) (few_fmt b) (omega arith) (sym same))
 one_given (Verify ar a) Pack is_a is_b same = absurd cc
 one_given (Verify ar a) (Gen b) is_a is_b same = absurd cc
 one_given (Verify ar a) (Load b) is_a is_b same = absurd cc
 one_given (Verify ar a) Append is_a is_b same = absurd cc
-one_given (Verify ar a) (Root b) is_a is_b same = absurd (too_few (root_words b) (verify_words ar a) (few_root b) (omega arith) (sym same))
+one_given (Verify ar a) (Root b) is_a is_b same =
+    absurd (too_few (root_words b) (verify_words ar a) (few_root b) (omega arith) (sym same))
 one_given (Verify ar a) (Ask bk by bt) is_a is_b same = absurd (too_few (ask_words bk by bt) (verify_words ar a) (few_asked bk by bt) (omega arith) (sym same))
 one_given (Verify ar a) (Prove b br) is_a is_b same = absurd (no_verify b br ar a (sym same))
 one_given (Verify ar a) (Verify br b) is_a is_b same = one_verify ar br a b is_a is_b same
 one_given (Verify ar a) (Expose br b bn) is_a is_b same = absurd cc
 one_given (Expose ar a an) (Scan b) is_a is_b same = absurd cc
-one_given (Expose ar a an) Fmt is_a is_b same = absurd cc
+one_given (Expose ar a an) (Fmt b) is_a is_b same =
+    absurd (too_few (fmt_words b) (expose_words ar a an) (few_fmt b) (omega arith) (sym same))
 one_given (Expose ar a an) Pack is_a is_b same = absurd cc
 one_given (Expose ar a an) (Gen b) is_a is_b same = absurd cc
 one_given (Expose ar a an) (Load b) is_a is_b same = absurd cc
 one_given (Expose ar a an) Append is_a is_b same = absurd cc
-one_given (Expose ar a an) (Root b) is_a is_b same = absurd (too_few (root_words b) (expose_words ar a an) (few_root b) (omega arith) (sym same))
+one_given (Expose ar a an) (Root b) is_a is_b same =
+    absurd (too_few (root_words b) (expose_words ar a an) (few_root b) (omega arith) (sym same))
 one_given (Expose ar a an) (Ask bk by bt) is_a is_b same = absurd (too_few (ask_words bk by bt) (expose_words ar a an) (few_asked bk by bt) (omega arith) (sym same))
 one_given (Expose ar a an) (Prove b br) is_a is_b same = absurd cc
 one_given (Expose ar a an) (Verify br b) is_a is_b same = absurd cc
-one_given (Expose ar a an) (Expose br b bn) is_a is_b same = one_expose ar br a b an bn is_a is_b same
+one_given (Expose ar a an) (Expose br b bn) is_a is_b same =
+    one_expose ar br a b an bn is_a is_b same
 
-only_one : (words : List (List ℕ)) (command other : Option Command) → IsCommand words command → IsCommand words other → other ≡ command
+only_one : (words : List (List ℕ)) (command other : Option Command) → IsCommand words command
+    → IsCommand words other → other ≡ command
 only_one words None None is_a is_b = refl
 only_one words None (Some b) is_a (can, is) = absurd (is_a b can is)
 only_one words (Some a) None (can, is) is_b = absurd (is_b a can is)
-only_one words (Some a) (Some b) (can_a, is_a) (can_b, is_b) = ap Some (one_given b a can_b can_a (sym is_b ∙ is_a))
+only_one words (Some a) (Some b) (can_a, is_a) (can_b, is_b) =
+    ap Some (one_given b a can_b can_a (sym is_b ∙ is_a))
 
-pub one_command : (words : List (List ℕ)) (command : Option Command) → IsCommand words command → IsOneCommand words command
-one_command words command is = record { is_command = is; only = λ other is_other. only_one words command other is is_other }
+pub one_command : (words : List (List ℕ)) (command : Option Command) → IsCommand words command
+    → IsOneCommand words command
+one_command words command is =
+    record { is_command = is; only = λ other is_other. only_one words command other is is_other }
 
-pub is_given : (words : List (List ℕ)) (command : Option Command) → IsCommand words command → IfSome command CanBeGiven
+pub is_given : (words : List (List ℕ)) (command : Option Command) → IsCommand words command
+    → IfSome command CanBeGiven
 is_given words None is = tt
 is_given words (Some command) is = is.0

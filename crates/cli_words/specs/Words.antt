@@ -7,6 +7,8 @@ use Rattle.lc_base.specs.declared.answer.Kind.TheVariants.{Hist, Back, Fwd}
 use Rattle.lc_base.specs.declared.answer.Query.{Query}
 use Rattle.lc_base.specs.declared.digest.Digest.{Digest}
 use Rattle.cli_words.specs.declared.words.TheConstants.{MAX_GENERATED_BLOCKS}
+use Rattle.cli_words.specs.declared.words.Edition.{Edition}
+use Rattle.cli_words.specs.declared.words.Edition.TheVariants as editions
 use Rattle.cli_words.specs.declared.words.Generation.{Generation}
 use Rattle.cli_words.specs.declared.words.Command.{Command}
 use Rattle.cli_words.specs.declared.words.Command.TheVariants.{Scan, Fmt, Pack, Gen, Load, Append, Root, Ask, Prove, Verify, Expose}
@@ -29,6 +31,12 @@ scan_words query = codes "scan" ∷ query_words query
 pub record IsQuery (query : Query) : Type 0 where
   pub key_is_key : IsKey query.key
   pub at_fits : query.at < 2 ^ 32
+
+-- The words of the command that prints a contract's canonical text: fmt for a contract of the first
+-- edition, fmt 2 for one of the second.
+abbrev pub fmt_words : Edition → List (List ℕ)
+fmt_words editions.First = codes "fmt" ∷ []
+fmt_words editions.Second = codes "fmt" ∷ codes "2" ∷ []
 
 -- The words of a generation: WORD N SEED, both numbers in decimal digits without a leading zero.
 abbrev pub generation_words : List ℕ → Generation → List (List ℕ)
@@ -58,7 +66,8 @@ root_words (Some at) = codes "root" ∷ decimal at ∷ []
 -- The words of the command for a proof: prove KIND KEY BLOCK ROOTBLOCK, both numbers in decimal
 -- digits without a leading zero.
 abbrev pub prove_words : Query → ℕ → List (List ℕ)
-prove_words query root_at = codes "prove" ∷ kind_word query.kind ∷ query.key ∷ decimal query.at ∷ decimal root_at ∷ []
+prove_words query root_at =
+    codes "prove" ∷ kind_word query.kind ∷ query.key ∷ decimal query.at ∷ decimal root_at ∷ []
 
 -- The words of the command that verifies a proof: verify ROOT KIND KEY BLOCK, ROOT in lower-case
 -- hex, BLOCK in decimal digits without a leading zero.
@@ -83,7 +92,7 @@ Fits (Some at) = at < 2 ^ 32
 -- The words of a command.
 abbrev pub command_words : Command → List (List ℕ)
 command_words (Scan query) = scan_words query
-command_words Fmt = codes "fmt" ∷ []
+command_words (Fmt edition) = fmt_words edition
 command_words Pack = codes "pack" ∷ []
 command_words (Gen generation) = generation_words (codes "gen") generation
 command_words (Load generation) = generation_words (codes "load") generation
@@ -98,7 +107,7 @@ command_words (Expose root query root_at) = expose_words root query root_at
 -- bytes, and a generation makes a number of blocks that may be made at once.
 abbrev pub CanBeGiven : Command → Type 0
 CanBeGiven (Scan query) = IsQuery query
-CanBeGiven Fmt = Unit {0}
+CanBeGiven (Fmt edition) = Unit {0}
 CanBeGiven Pack = Unit {0}
 CanBeGiven (Gen generation) = IsGeneration generation
 CanBeGiven (Load generation) = IsGeneration generation
@@ -131,9 +140,15 @@ abbrev pub IsScan : List (List ℕ) → Option Query → Type 0
 IsScan words (Some query) = IsQuery query × (words ≡ scan_words query)
 IsScan words None = (query : Query) → IsQuery query → words ≡ scan_words query → ⊥
 
+-- The edition of `fmt`; None if the words are not those of `fmt`.
+abbrev pub IsFmt : List (List ℕ) → Option Edition → Type 0
+IsFmt words (Some edition) = words ≡ fmt_words edition
+IsFmt words None = (edition : Edition) → words ≡ fmt_words edition → ⊥
+
 -- The blocks of a generation; None if the words are not those of one that begin with this word.
 abbrev pub IsGenerationOf : List ℕ → List (List ℕ) → Option Generation → Type 0
-IsGenerationOf word words (Some generation) = IsGeneration generation × (words ≡ generation_words word generation)
+IsGenerationOf word words (Some generation) =
+    IsGeneration generation × (words ≡ generation_words word generation)
 IsGenerationOf word words None = (generation : Generation) → IsGeneration generation → words ≡ generation_words word generation → ⊥
 
 -- The command of a question over the log; None if the words are not those of one.
@@ -171,7 +186,8 @@ IsAlone word words false = words ≡ word ∷ [] → ⊥
 -- Whether a text is `0`, or begins with a digit from 1 to 9.
 abbrev pub starts_as_number : List ℕ → Bool
 starts_as_number [] = false
-starts_as_number (first ∷ others) = first == 48 && length others == 0 || nat_le 49 first && nat_le first 57
+starts_as_number (first ∷ others) =
+    first == 48 && length others == 0 || nat_le 49 first && nat_le first 57
 
 -- The number that a text spells; None if it spells no number of 32 bits.
 abbrev pub IsNumberOf : List ℕ → Option ℕ → Type 0

@@ -3,6 +3,7 @@
 ghost use Rattle.std.specs.Prelude.{map, string_bytes, IfSome};
 ghost use Rattle.cli_words.specs.Words.{CanBeGiven, IsCommand, IsOneCommand, IsGenerationOf, IsAlone};
 
+use crate::formatting::fmt_of;
 use crate::proving::{expose_of, prove_of, verify_of};
 use crate::questions::{ask_of, root_of, scan_of};
 use crate::single::{count_of, is_text, number_of};
@@ -20,13 +21,23 @@ pub struct Generation {
     pub seed: u32,
 }
 
+/// An edition of the contract language, of which `fmt` reads contracts.
+#[derive(Clone, Copy, Debug, PartialEq, Eq)]
+pub enum Edition {
+    /// The first: that of the contracts that blocks deploy.
+    First,
+    /// The second: it has the statement `drop`.
+    Second,
+}
+
 /// What the program is asked to do.
 #[derive(Clone, Copy, Debug, PartialEq, Eq)]
 pub enum Command {
     /// `scan KIND KEY BLOCK`: answer a question over the blocks of the input.
     Scan(Query),
-    /// `fmt`: print the canonical text of the contract that the input is.
-    Fmt,
+    /// `fmt` or `fmt 2`: print the canonical text of the contract that the input is in the first or
+    /// the second edition of the language.
+    Fmt(Edition),
     /// `pack`: print the block file of the draft that the input is.
     Pack,
     /// `gen N SEED`: print a block file of N blocks.
@@ -111,8 +122,8 @@ pub fn command_of(words: &[String]) -> Option<Command>
 fn parse_command(words: &[String]) -> Option<Command>
     ensures { IsCommand (map string_bytes words.now) result }
 {
-    if is_alone(words, "fmt") {
-        return Some(Command::Fmt);
+    if let Some(edition) = fmt_of(words) {
+        return Some(Command::Fmt(edition));
     }
     if is_alone(words, "pack") {
         return Some(Command::Pack);

@@ -155,7 +155,7 @@ text_expressions names none = Ok names
 text_expressions names (more x xs) =
     and_then (expression_of_kind Text names x) (λ _. text_expressions names xs)
 
--- The same names, if the keys that a value is said to be derived from are texts.
+-- The same names, if the keys that a version is said to be derived from are texts.
 abbrev pub source_expressions : Names → Option Trees → Result Names Fault
 source_expressions names None = Ok names
 source_expressions names (Some parts) = text_expressions names parts
@@ -165,6 +165,11 @@ abbrev pub names_after_put : Names → Tree → Tree → Option Trees → Result
 names_after_put names key value parts =
     and_then (expression_of_kind Text names key)
     (λ _. and_then (expression_kind names value) (λ _. source_expressions names parts))
+
+-- The same names after a `drop` of a key, and the keys that its version is said to be derived from.
+abbrev pub names_after_remove : Names → Tree → Option Trees → Result Names Fault
+names_after_remove names key parts =
+    and_then (expression_of_kind Text names key) (λ _. source_expressions names parts)
 
 -- ---- statements
 
@@ -208,6 +213,7 @@ abbrev mutual
       and_then (expression_of_kind Int names test)
       (λ _. names_after_block names (names_after_statements names body))
   names_after_statement names (tree.Put at key value parts) = names_after_put names key value parts
+  names_after_statement names (tree.Remove at key parts) = names_after_remove names key parts
   names_after_statement names (tree.Fail at) = Ok names
   names_after_statement names (tree.Return at) = Ok names
 

@@ -68,7 +68,7 @@ pub data AreTexts (names : Names) : Trees → Type 0 where
       (x : Tree) (xs : Trees) → IsKinded names x Text → AreTexts names xs
       → AreTexts names (more x xs)
 
--- The keys that a value is said to be derived from, if any, are texts.
+-- The keys that a version is said to be derived from, if any, are texts.
 abbrev pub AreSources : Names → Option Trees → Type 0
 AreSources names None = Unit {0}
 AreSources names (Some parts) = AreTexts names parts
@@ -106,6 +106,9 @@ mutual
         (names : Names) (at : ℕ) (key value : Tree) (parts : Option Trees) (kind : ValueKind)
         → IsKinded names key Text → IsKinded names value kind → AreSources names parts
         → IsGood names (tree.Put at key value parts) names
+    Remove :
+        (names : Names) (at : ℕ) (key : Tree) (parts : Option Trees) → IsKinded names key Text
+        → AreSources names parts → IsGood names (tree.Remove at key parts) names
     Fail : (names : Names) (at : ℕ) → IsGood names (tree.Fail at) names
     Return : (names : Names) (at : ℕ) → IsGood names (tree.Return at) names
 

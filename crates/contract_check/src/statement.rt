@@ -4,7 +4,7 @@ ghost use Rattle.std.specs.Prelude.{◌≡◌, ℕ, Ok, map};
 ghost use Rattle.lc_base.specs.Answers.{Answers};
 ghost use Rattle.contract_tree.specs.Tree.{tree_of, trees, parts_of, statement_of, statement_list};
 ghost use Rattle.contract_check.specs.{
-  Faults.{fault_of, expression_of_kind, text_expressions, names_after_put, names_after_declaration, names_after_assignment, names_after_block, names_after_statement, names_after_statements},
+  Faults.{fault_of, expression_of_kind, text_expressions, source_expressions, names_after_put, names_after_remove, names_after_declaration, names_after_assignment, names_after_block, names_after_statement, names_after_statements},
   Names.{kind_in},
 };
 
@@ -47,7 +47,7 @@ fn assign(scope: &Scope, at: u32, name: &Name, value: KindAt) -> Result<(), Chec
     Ok(())
 }
 
-fn sources(scope: &Scope, parts: &[Expr]) -> Result<(), CheckError>
+fn texts(scope: &Scope, parts: &[Expr]) -> Result<(), CheckError>
     ensures { Answers (λ _. scope.now) fault_of result (text_expressions scope.now (trees (map tree_of parts.now))) }
 {
     for part in parts {
@@ -56,15 +56,28 @@ fn sources(scope: &Scope, parts: &[Expr]) -> Result<(), CheckError>
     Ok(())
 }
 
+fn sources(scope: &Scope, from: &Option<ExprList>) -> Result<(), CheckError>
+    ensures { Answers (λ _. scope.now) fault_of result (source_expressions scope.now (parts_of from.now)) }
+{
+    match from {
+        Some(parts) => texts(scope, parts),
+        None => Ok(()),
+    }
+}
+
 fn put(scope: &Scope, key: &Expr, value: &Expr, from: &Option<ExprList>) -> Result<(), CheckError>
     ensures { Answers (λ _. scope.now) fault_of result (names_after_put scope.now (tree_of key.now) (tree_of value.now) (parts_of from.now)) }
 {
     expression_of_kind(ValueKind::Text, scope, key)?;
     expression_kind(scope, value)?;
-    match from {
-        Some(parts) => sources(scope, parts),
-        None => Ok(()),
-    }
+    sources(scope, from)
+}
+
+fn remove(scope: &Scope, dropped: &Expr, from: &Option<ExprList>) -> Result<(), CheckError>
+    ensures { Answers (λ _. scope.now) fault_of result (names_after_remove scope.now (tree_of dropped.now) (parts_of from.now)) }
+{
+    expression_of_kind(ValueKind::Text, scope, dropped)?;
+    sources(scope, from)
 }
 
 #[cycle(statement)]
@@ -101,6 +114,7 @@ fn statement(scope: &mut Scope, x: &Statement) -> Result<(), CheckError>
             block(scope, body)
         }
         Form::Put { key, value, from } => put(scope, key, value, from),
+        Form::Remove { key, from } => remove(scope, key, from),
         Form::Fail | Form::Return => Ok(()),
     }
 }

@@ -31,12 +31,10 @@ use world_state::World;
 fn is_of_kind(kind: ValueKind, value: &Value) -> bool
     ensures { result ≡ is_of_kind kind value.now }
 {
-    match (kind, value) {
-        (ValueKind::Int, Value::Int(_)) => true,
-        (ValueKind::Int, Value::Text(_)) => false,
-        (ValueKind::Text, Value::Int(_)) => false,
-        (ValueKind::Text, Value::Text(_)) => true,
-    }
+    matches!(
+        (kind, value),
+        (ValueKind::Int, Value::Int(_)) | (ValueKind::Text, Value::Text(_))
+    )
 }
 
 fn are_of_kinds(params: &[Param], args: &[Value]) -> bool

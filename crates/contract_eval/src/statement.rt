@@ -11,7 +11,7 @@ use contract_semantics::EvalStop;
 use contract_tree::{Expr, Form, Statement};
 use eval_simple::{
     Binding, Flow, Run, bind_statement, condition_step, fail_statement, put_statement,
-    return_statement,
+    remove_statement, return_statement,
 };
 use eval_variables::Variables;
 use lc_base::{Host, TxStatus};
@@ -40,6 +40,7 @@ fn statement<C, H: Host>(
         }
         Form::While { test, body } => { turns(run, variables, body, test) }
         Form::Put { key, value, from } => put_statement(run, variables, key, value, from),
+        Form::Remove { key, from } => remove_statement(run, variables, key, from),
         Form::Fail => fail_statement(&mut run.left),
         Form::Return => return_statement(&mut run.left),
     }

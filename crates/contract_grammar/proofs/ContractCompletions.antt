@@ -14,13 +14,13 @@ use Rattle.contract_grammar.specs.declared.Obstacle.{Obstacle}
 use Rattle.contract_grammar.specs.declared.Obstacle.TheVariants.{Nesting, Surplus}
 use Rattle.contract_grammar.specs.Grammar.{Limits, Within, no_limits, IsExpression, IsStatement, IsFrom, IsBlock, Block, Closes, IsParam, IsParams, IsFunction, IsContract}
 use Rattle.contract_grammar.specs.Marks.{the, is, is_not, is_no_end, has, name_of, declared_of, kind_of}
-use Rattle.contract_grammar.specs.Reading.{expression, value_of, let_statement, assign_statement, else_part, if_statement, while_statement, from_part, put_statement, short_statement, statement, block, a_param, param, params, a_function, function, contract}
+use Rattle.contract_grammar.specs.Reading.{expression, value_of, let_statement, assign_statement, else_part, if_statement, while_statement, from_part, put_statement, remove_statement, short_statement, statement, block, a_param, param, params, a_function, function, contract}
 use Rattle.contract_grammar.specs.Rules.{Rule, one, refuse, seq, either_by}
 use Rattle.contract_grammar.proofs.Laws.{IsOne, One, Begins}
 use Rattle.contract_grammar.proofs.Sequence.{IsSeq}
 use Rattle.contract_grammar.proofs.Parts.{IsFair, token, the_token, the_is}
 use Rattle.contract_grammar.proofs.Operands.{IsAllowed}
-use Rattle.contract_grammar.proofs.Statements.{IsValue, IsLet, IsAssign, IsElse, IsIf, IsWhile, IsPut, IsShort, from_to, statement_to}
+use Rattle.contract_grammar.proofs.Statements.{IsValue, IsLet, IsAssign, IsElse, IsIf, IsWhile, IsPut, IsRemove, IsShort, from_to, statement_to}
 use Rattle.contract_grammar.proofs.StatementRules.{declared_is, is_other, expression_rule}
 use Rattle.contract_grammar.proofs.ContractRules.{brace_token, brace_is, brace_written, block_to, param_to, params_to, function_to, contract_to}
 use Rattle.contract_grammar.proofs.Completions.{ends_in, Taken, Completes, IsFull, completes_as, with_room, full_completes, ret_completes, one_completes, mark_completes, closed_completes, seq_completes, seq_full, one_then_completes, preceded_completes, preceded_full, terminated_full, either_first, either_second, each_full, none, IsSeen, with_high}
@@ -47,13 +47,16 @@ block_some d may =
 
 module _ {l : Limits} {test : Token → Bool} {Free : Type 0} {E : Obstacle → Type 0} {U : Type 0} (about : IsAbout l test) (unlimited : IsUnlimited l Free) (ex : IsFull test Free expression (IsExpression l)) (free : IsFair no_limits E U) (u : U) where
   -- a block may follow an expression whose last token passes
-  after_expression : (used : List Token) → Taken expression used → ends_in test used ≡ true → (d : ℕ) → Within l.nesting d
+  after_expression : (used : List Token) → Taken expression used → ends_in test used ≡ true
+      → (d : ℕ) → Within l.nesting d
   after_expression used taken ends d =
       let k = last_passes test (is_not m.BraceOpen) used (taken_braceless {k = WHOLE} (expression_rule free) u used taken) ends in
       about.after_no_brace k.0 (no_brace k.0 k.1) k.2 d
 
-  after_keyword : (a : Mark) → ((t : Token) → is a t ≡ true → is m.BraceOpen t ≡ false) → (t : Token) (at : ℕ) → the a t ≡ Some at → test t ≡ true → (d : ℕ) → Within l.nesting d
-  after_keyword a other t at e passes d = about.after_no_brace t (other t (the_is a t at e)) passes d
+  after_keyword : (a : Mark) → ((t : Token) → is a t ≡ true → is m.BraceOpen t ≡ false)
+      → (t : Token) (at : ℕ) → the a t ≡ Some at → test t ≡ true → (d : ℕ) → Within l.nesting d
+  after_keyword a other t at e passes d =
+      about.after_no_brace t (other t (the_is a t at e)) passes d
 
   declared_full : IsFull test Free (one declared_of) (IsOne declared_of)
   declared_full = one_completes declared_of (token (w.Name (codes "x"))) (0, codes "x") declared_is name_writable
@@ -67,7 +70,8 @@ module _ {l : Limits} {test : Token → Bool} {Free : Type 0} {E : Obstacle → 
   assign_full : IsFull test Free assign_statement (IsAssign l)
   assign_full = seq_full (one_completes name_of (token (w.Name (codes "x"))) (0, codes "x") refl name_writable) (λ n. value_full (tree.Assign n.0 n.1))
 
-  short_full : (mark : Mark) (f : ℕ → StatementTree) → IsFull test Free (short_statement mark f) (IsShort l mark f)
+  short_full : (mark : Mark) (f : ℕ → StatementTree)
+      → IsFull test Free (short_statement mark f) (IsShort l mark f)
   short_full mark f = seq_full (mark_completes mark) (λ at. terminated_full m.Semicolon (f at))
 
   from_full : IsFull test Free from_part (IsFrom l)
@@ -78,8 +82,12 @@ module _ {l : Limits} {test : Token → Bool} {Free : Type 0} {E : Obstacle → 
   put_full : IsFull test Free put_statement (IsPut l)
   put_full = seq_full (mark_completes m.Put) (λ at. seq_full ex (λ key. preceded_full m.Assign (seq_full ex (λ value. seq_full from_full (λ parts. ret_completes (tree.Put at key value parts))))))
 
+  remove_full : IsFull test Free remove_statement (IsRemove l)
+  remove_full = seq_full (mark_completes m.Drop) (λ at. seq_full ex (λ key. seq_full from_full (λ parts. ret_completes (tree.Remove at key parts))))
+
   module _ (d : ℕ) {inner : Rule StatementTrees} (hb : Completes test Free (Within l.nesting (suc d)) inner (IsBlock l (suc d))) where
-    else_full : (at : ℕ) (x : Tree) (first : StatementTrees) → IsFull test Free (else_part inner at x first) (IsElse l d at x first)
+    else_full : (at : ℕ) (x : Tree) (first : StatementTrees)
+        → IsFull test Free (else_part inner at x first) (IsElse l d at x first)
     else_full at x first =
         let second = seq_full hb (λ second. ret_completes (tree.IfElse at x first second)) in
         either_second (preceded_completes m.Else second (λ t p e passes. after_keyword m.Else (is_other m.BraceOpen m.Else refl) t p e passes (suc d)) (λ none. unlimited.nesting none (suc d))) (ret_completes (tree.If at x first)) (is m.Else)
@@ -101,12 +109,14 @@ module _ {l : Limits} {test : Token → Bool} {Free : Type 0} {E : Obstacle → 
     statement_full =
         let returns = either_first (short_full m.Return tree.Return) assign_full (is m.Return) in
         let fails = either_first (short_full m.Fail tree.Fail) returns (is m.Fail) in
-        let puts = either_first put_full fails (is m.Put) in
+        let removes = either_first remove_full fails (is m.Drop) in
+        let puts = either_first put_full removes (is m.Put) in
         let whiles = either_second while_completes puts (is m.While) in
         let ifs = either_second if_completes whiles (is m.If) in
         completes_as (either_first let_full ifs (is m.Let)) (statement_to d)
 
-  block_completes : (n d : ℕ) → n + d ≡ suc MAX_NESTING → Completes test Free (Within l.nesting d) (block n) (IsBlock l d)
+  block_completes : (n d : ℕ) → n + d ≡ suc MAX_NESTING
+      → Completes test Free (Within l.nesting d) (block n) (IsBlock l d)
   unfolding block
   block_completes zero d e = closed_completes Nesting (is m.BraceOpen) refl (block_some d)
   block_completes (suc n) d e =
@@ -122,7 +132,8 @@ module _ {l : Limits} {test : Token → Bool} {Free : Type 0} {E : Obstacle → 
       let t = token (w.Name (codes "x")) in
       closed_completes Surplus (has declared_of) refl (λ may. (t ∷ [], (0, codes "x"), one_word t name_writable, (may, One t (0, codes "x") declared_is)))
 
-  param_completes : (n : ℕ) → Completes test Free (Within l.parameters (suc n)) (param n) (IsParam l n)
+  param_completes : (n : ℕ)
+      → Completes test Free (Within l.parameters (suc n)) (param n) (IsParam l n)
   param_completes n =
       let kinds = one_completes kind_of (token (w.Mark m.Int)) k.Int refl (mark_writable m.Int) in
       completes_as (seq_full (name_completes n (ltb n MAX_PARAMETERS) refl) (λ name. preceded_full m.Colon (seq_full kinds (λ kind. ret_completes (a_param name kind))))) (param_to n)
@@ -144,7 +155,8 @@ module _ {l : Limits} {test : Token → Bool} {Free : Type 0} {E : Obstacle → 
   unfolding contract
   whole_contract = completes_as (seq_full function_full (λ f. each_full is_no_end (λ n. function_full) (f ∷ []))) contract_to
 
-pub contract_full : {l : Limits} {test : Token → Bool} {E : Obstacle → Type 0} {U : Type 0} → IsAbout l test → IsFair no_limits E U → U → IsFull test ⊥ contract (IsContract l)
+pub contract_full : {l : Limits} {test : Token → Bool} {E : Obstacle → Type 0} {U : Type 0}
+    → IsAbout l test → IsFair no_limits E U → U → IsFull test ⊥ contract (IsContract l)
 contract_full about free u = whole_contract about (record { nesting = λ none n. absurd none; parameters = λ none n. absurd none }) (expression_full about) free u
 
 about_none : IsAbout no_limits none
@@ -159,7 +171,8 @@ about_none = record {
 }
 
 -- if an expression is too high, it is the last tokens that were taken
-pub contract_high : {E F : Obstacle → Type 0} {U V : Type 0} → IsFair no_limits E U → U → IsFair heights_only F V → IsHigh contract (IsContract no_limits)
+pub contract_high : {E F : Obstacle → Type 0} {U V : Type 0} → IsFair no_limits E U → U
+    → IsFair heights_only F V → IsHigh contract (IsContract no_limits)
 unfolding expression
 contract_high free u tall =
     let ex : IsSeen expression (IsExpression no_limits) = with_high (expression_full about_none) (λ room. (expression_seen free u tall).high tt) in

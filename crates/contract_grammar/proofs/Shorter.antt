@@ -18,11 +18,13 @@ use Rattle.contract_grammar.proofs.Choice.{IsStrict, turns_are}
 
 -- the reader takes at least one token
 abbrev pub TakesOne : {A : Type 0} → Rule A → Type 0
-TakesOne {A} read = (ts rest : List Token) (a : A) → read ts ≡ (Ok a, rest) → length rest < length ts
+TakesOne {A} read =
+    (ts rest : List Token) (a : A) → read ts ≡ (Ok a, rest) → length rest < length ts
 
 -- the reader leaves no more tokens than there were
 abbrev pub AddsNone : {A : Type 0} → Rule A → Type 0
-AddsNone {A} read = (ts rest : List Token) (a : A) → read ts ≡ (Ok a, rest) → length rest ≤ length ts
+AddsNone {A} read =
+    (ts rest : List Token) (a : A) → read ts ≡ (Ok a, rest) → length rest ≤ length ts
 
 adds_none : {A : Type 0} {p : Rule A} → TakesOne p → AddsNone p
 adds_none h ts rest a e = let k = h ts rest a e in omega (arith, k)
@@ -37,7 +39,8 @@ guard_adds : {A : Type 0} (may : Bool) (why : Obstacle) (a : A) → AddsNone (gu
 guard_adds true why a ts rest b e = as_long (ok_is e).1
 guard_adds false why a ts rest b e = absurd (no_ok e)
 
-one_by_takes : {A : Type 0} (o : Option A) (t : Token) (ts rest : List Token) (a : A) → one_by o t ts ≡ (Ok a, rest) → length rest < suc (length ts)
+one_by_takes : {A : Type 0} (o : Option A) (t : Token) (ts rest : List Token) (a : A)
+    → one_by o t ts ≡ (Ok a, rest) → length rest < suc (length ts)
 one_by_takes None t ts rest a e = absurd (no_ok e)
 one_by_takes (Some b) t ts rest a e = let k = as_long (ok_is e).1 in omega (arith, k)
 
@@ -45,19 +48,24 @@ one_takes : {A : Type 0} (f : Token → Option A) → TakesOne (one f)
 one_takes f [] rest a e = absurd (no_ok e)
 one_takes f (t ∷ ts) rest a e = one_by_takes (f t) t ts rest a e
 
-closed_takes : {A : Type 0} (why : Obstacle) (test : Token → Bool) → TakesOne {A = A} (refuse why test)
+closed_takes : {A : Type 0} (why : Obstacle) (test : Token → Bool)
+    → TakesOne {A = A} (refuse why test)
 closed_takes why test ts rest a e = absurd (no_ok e)
 
 module _ {A B : Type 0} {p : Rule A} {q : A → Rule B} (hq : (a : A) → AddsNone (q a)) where
-  seq_takes_by : (ts rest : List Token) (b : B) (r : Read A) → TakesOne p → p ts ≡ r → next q r ≡ (Ok b, rest) → length rest < length ts
-  seq_takes_by ts rest b (Ok a, mid) hp e h = let k = hp ts mid a e in let l = hq a mid rest b h in omega (arith, k, l)
+  seq_takes_by : (ts rest : List Token) (b : B) (r : Read A) → TakesOne p → p ts ≡ r
+      → next q r ≡ (Ok b, rest) → length rest < length ts
+  seq_takes_by ts rest b (Ok a, mid) hp e h =
+      let k = hp ts mid a e in let l = hq a mid rest b h in omega (arith, k, l)
   seq_takes_by ts rest b (Err why, mid) hp e h = absurd (no_ok h)
 
   seq_takes : TakesOne p → TakesOne (seq p q)
   seq_takes hp ts rest b e = seq_takes_by ts rest b (p ts) hp refl e
 
-  seq_adds_by : (ts rest : List Token) (b : B) (r : Read A) → AddsNone p → p ts ≡ r → next q r ≡ (Ok b, rest) → length rest ≤ length ts
-  seq_adds_by ts rest b (Ok a, mid) hp e h = let k = hp ts mid a e in let l = hq a mid rest b h in omega (arith, k, l)
+  seq_adds_by : (ts rest : List Token) (b : B) (r : Read A) → AddsNone p → p ts ≡ r
+      → next q r ≡ (Ok b, rest) → length rest ≤ length ts
+  seq_adds_by ts rest b (Ok a, mid) hp e h =
+      let k = hp ts mid a e in let l = hq a mid rest b h in omega (arith, k, l)
   seq_adds_by ts rest b (Err why, mid) hp e h = absurd (no_ok h)
 
   seq_adds : AddsNone p → AddsNone (seq p q)
@@ -84,7 +92,8 @@ module _ {A : Type 0} (test : Token → Bool) (step : A → Rule A) (hs : (a : A
   below_adds (suc n) a = either_adds test (seq_adds (below_adds n) (hs a)) (ret_adds a)
 
   turns_adds : (a : A) → AddsNone (turns test step a)
-  turns_adds a ts rest b e = below_adds (suc (length ts)) a ts rest b (sym (turns_are test step a ts) ∙ e)
+  turns_adds a ts rest b e =
+      below_adds (suc (length ts)) a ts rest b (sym (turns_are test step a ts) ∙ e)
 
 preceded_takes : {A : Type 0} {p : Rule A} (mark : Mark) → AddsNone p → TakesOne (after_mark mark p)
 preceded_takes mark h = seq_takes (λ at. h) (one_takes (the mark))
@@ -95,30 +104,38 @@ terminated_takes mark a = seq_takes (λ at. ret_adds a) (one_takes (the mark))
 put_takes : {A : Type 0} (item : ℕ → Rule A) → ((n : ℕ) → TakesOne (item n)) → IsStrict (put item)
 put_takes item h all = seq_takes (λ a. ret_adds (all ++ a ∷ [])) (h (length all))
 
-each_adds : {A : Type 0} (test : Token → Bool) (item : ℕ → Rule A) (had : List A) → ((n : ℕ) → TakesOne (item n)) → AddsNone (each test item had)
+each_adds : {A : Type 0} (test : Token → Bool) (item : ℕ → Rule A) (had : List A)
+    → ((n : ℕ) → TakesOne (item n)) → AddsNone (each test item had)
 each_adds test item had h = turns_adds test (put item) (λ all. adds_none (put_takes item h all)) had
 
 -- ---- expressions
 
-more_takes : {expression : Rule Tree} (mark : Mark) (x : Tree) → TakesOne expression → AddsNone (more_of expression mark x)
+more_takes : {expression : Rule Tree} (mark : Mark) (x : Tree) → TakesOne expression
+    → AddsNone (more_of expression mark x)
 more_takes {expression} mark x h = seq_adds (λ all. adds_none (terminated_takes mark all)) (each_adds (is m.Comma) (comma_then expression) (x ∷ []) (λ n. preceded_takes m.Comma (adds_none h)))
 
 args_adds : {expression : Rule Tree} → TakesOne expression → AddsNone (args expression)
 args_adds h = either_adds (is m.ParenClose) (adds_none (terminated_takes m.ParenClose [])) (seq_adds (λ x. more_takes m.ParenClose x h) (adds_none h))
 
-binary_takes : {tighter : Rule Tree} (level : ℕ) → AddsNone tighter → IsStrict (binary level tighter)
-binary_takes level h x = seq_takes (λ s. seq_adds (λ w. guard_adds _ _ _) h) (one_takes (sign_of level))
+binary_takes : {tighter : Rule Tree} (level : ℕ) → AddsNone tighter
+    → IsStrict (binary level tighter)
+binary_takes level h x =
+    seq_takes (λ s. seq_adds (λ w. guard_adds _ _ _) h) (one_takes (sign_of level))
 
-rest_adds : {tighter : Rule Tree} (chained : Bool) (level : ℕ) (x : Tree) → AddsNone tighter → AddsNone (rest_of_level chained level tighter x)
+rest_adds : {tighter : Rule Tree} (chained : Bool) (level : ℕ) (x : Tree) → AddsNone tighter
+    → AddsNone (rest_of_level chained level tighter x)
 rest_adds {tighter} true level x h = turns_adds (has (sign_of level)) (binary level tighter) (λ y. adds_none (binary_takes level h y)) x
-rest_adds false level x h = either_adds (has (sign_of level)) (adds_none (binary_takes level h x)) (ret_adds x)
+rest_adds false level x h =
+    either_adds (has (sign_of level)) (adds_none (binary_takes level h x)) (ret_adds x)
 
 level_takes : {operand : Rule Tree} (k : ℕ) → TakesOne operand → TakesOne (level_of operand k)
 unfolding level_of
 level_takes zero h = h
 level_takes (suc k) h = seq_takes (λ x. rest_adds (is_chained (suc k)) (suc k) x (adds_none (level_takes k h))) (level_takes k h)
 
-operand_of_takes : {arguments : Rule (List Tree)} {prefixed grouped : Rule Tree} → AddsNone arguments → TakesOne prefixed → TakesOne grouped → TakesOne (operand_of arguments prefixed grouped)
+operand_of_takes : {arguments : Rule (List Tree)} {prefixed grouped : Rule Tree}
+    → AddsNone arguments → TakesOne prefixed → TakesOne grouped
+    → TakesOne (operand_of arguments prefixed grouped)
 operand_of_takes ha hp hg =
     let called = λ (n : ℕ × List ℕ). seq_adds (λ xs. guard_adds _ _ _) ha in
     let names = seq_takes (λ n. either_adds (is m.ParenOpen) (called n) (ret_adds _)) (one_takes name_of) in
@@ -165,9 +182,10 @@ module _ {block : Rule StatementTrees} (h : AddsNone block) where
       let whiles = seq_takes (λ at. seq_adds (λ x. seq_adds (λ body. ret_adds _) h) (adds_none expression_takes)) (one_takes (the m.While)) in
       let values = λ (at : ℕ) (key : Tree). preceded_takes m.Assign (seq_adds (λ value. seq_adds (λ parts. ret_adds _) from_adds) (adds_none expression_takes)) in
       let puts = seq_takes (λ at. seq_adds (λ key. adds_none (values at key)) (adds_none expression_takes)) (one_takes (the m.Put)) in
+      let removes = seq_takes (λ at. seq_adds (λ key. seq_adds (λ parts. ret_adds _) from_adds) (adds_none expression_takes)) (one_takes (the m.Drop)) in
       let short = λ (mark : Mark) (f : ℕ → StatementTree). seq_takes (λ at. adds_none (terminated_takes m.Semicolon (f at))) (one_takes (the mark)) in
       let assigns = seq_takes (λ n. value_adds _) (one_takes name_of) in
-      either_takes (is m.Let) lets (either_takes (is m.If) ifs (either_takes (is m.While) whiles (either_takes (is m.Put) puts (either_takes (is m.Fail) (short m.Fail tree.Fail) (either_takes (is m.Return) (short m.Return tree.Return) assigns)))))
+      either_takes (is m.Let) lets (either_takes (is m.If) ifs (either_takes (is m.While) whiles (either_takes (is m.Put) puts (either_takes (is m.Drop) removes (either_takes (is m.Fail) (short m.Fail tree.Fail) (either_takes (is m.Return) (short m.Return tree.Return) assigns))))))
 
 block_takes : (n : ℕ) → TakesOne (block n)
 unfolding block
@@ -176,7 +194,8 @@ block_takes (suc n) = preceded_takes m.BraceOpen (seq_adds (λ ss. adds_none (te
 
 -- one more statement
 pub statements_strict : (n : ℕ) → IsStrict (put (λ i. statement (block n)))
-statements_strict n = put_takes (λ i. statement (block n)) (λ i. statement_takes (adds_none (block_takes n)))
+statements_strict n =
+    put_takes (λ i. statement (block n)) (λ i. statement_takes (adds_none (block_takes n)))
 
 -- ---- functions
 

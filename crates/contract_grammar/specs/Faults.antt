@@ -11,9 +11,10 @@ use Rattle.contract_grammar.specs.Grammar.{Limits, limits_of, no_limits, IsExpr,
 use Rattle.contract_grammar.specs.Marks.{is, has, is_end, name_of, opens}
 use Rattle.contract_grammar.specs.declared.limits.TheConstants.{MAX_HEIGHT}
 
--- The word can be written: some bytes spell it.
+-- The word can be written: some bytes spell it in some edition. Which tokens a contract may have
+-- next doesn't depend on the edition: where one continues with a `drop`, one continues with `fail`.
 abbrev pub IsWritable : Word → Type 0
-IsWritable word = (bytes : List ℕ) × IsSpelled bytes word
+IsWritable word = (edition : ℕ) × (bytes : List ℕ) × IsSpelled edition bytes word
 
 -- Each of the tokens can be written, so they may be those of a source.
 abbrev pub AreWritable : List Token → Type 0

@@ -154,6 +154,10 @@ mutual
         → the m.Put t ≡ Some at → IsExpression l y key → the m.Assign a ≡ Some p
         → IsExpression l z value → IsFrom l f parts
         → IsStatement l d (t ∷ (y ++ a ∷ (z ++ f))) (tree.Put at key value parts)
+    Removes :
+        (d : ℕ) (t : Token) (at : ℕ) (y : List Token) (key : Tree) (f : List Token)
+        (parts : Option Trees) → the m.Drop t ≡ Some at → IsExpression l y key → IsFrom l f parts
+        → IsStatement l d (t ∷ (y ++ f)) (tree.Remove at key parts)
     Fails :
         (d : ℕ) (t : Token) (at : ℕ) (c : Token) (end : ℕ) → the m.Fail t ≡ Some at
         → the m.Semicolon c ≡ Some end → IsStatement l d (t ∷ c ∷ []) (tree.Fail at)
@@ -161,7 +165,7 @@ mutual
         (d : ℕ) (t : Token) (at : ℕ) (c : Token) (end : ℕ) → the m.Return t ≡ Some at
         → the m.Semicolon c ≡ Some end → IsStatement l d (t ∷ c ∷ []) (tree.Return at)
 
-  -- The tokens are the end of a `put`, including the semicolon.
+  -- The tokens are the end of a `put` or of a `drop`, including the semicolon.
   pub data IsFrom (l : Limits) : List Token → Option Trees → Type 0 where
     NoFrom : (c : Token) (end : ℕ) → the m.Semicolon c ≡ Some end → IsFrom l (c ∷ []) None
     FromThese :

@@ -176,7 +176,7 @@ from_parts =
     after_mark m.From
     (seq expression (λ x. seq (more_of expression m.Semicolon x) (λ xs. ret (Some (trees xs)))))
 
--- The end of a `put`: an optional `from`, then the semicolon.
+-- The end of a `put` or of a `drop`: an optional `from`, then the semicolon.
 abbrev pub from_part : Rule (Option Trees)
 from_part = either (is m.Semicolon) (before_mark m.Semicolon None) from_parts
 
@@ -187,6 +187,12 @@ put_statement =
     (λ at. seq expression
     (λ key. after_mark m.Assign
     (seq expression (λ value. seq from_part (λ parts. ret (tree.Put at key value parts))))))
+
+-- A `drop`.
+abbrev pub remove_statement : Rule StatementTree
+remove_statement =
+    seq (one (the m.Drop))
+    (λ at. seq expression (λ key. seq from_part (λ parts. ret (tree.Remove at key parts))))
 
 -- A statement that is one keyword.
 abbrev pub short_statement : Mark → (ℕ → StatementTree) → Rule StatementTree
@@ -199,8 +205,9 @@ statement block =
     (either (is m.If) (if_statement block)
     (either (is m.While) (while_statement block)
     (either (is m.Put) put_statement
+    (either (is m.Drop) remove_statement
     (either (is m.Fail) (short_statement m.Fail tree.Fail)
-    (either (is m.Return) (short_statement m.Return tree.Return) assign_statement)))))
+    (either (is m.Return) (short_statement m.Return tree.Return) assign_statement))))))
 
 -- A block, given the reader of the blocks in it.
 abbrev pub block_of : Rule StatementTrees → Rule StatementTrees

@@ -32,13 +32,15 @@ use Rattle.contract_semantics.specs.Expressions.{value_found}
 use Rattle.contract_semantics.specs.Puts.{key_in, keys_in, named_keys, put_recorded}
 use Rattle.contract_laws.proofs.Tame.{IsBad}
 
-pub so_fails : {A B : Type 0} (r : Result A TxStatus) (next : A → Result B TxStatus) → IsBad r → ((x : A) → IsBad (next x)) → IsBad (and_so r next)
+pub so_fails : {A B : Type 0} (r : Result A TxStatus) (next : A → Result B TxStatus) → IsBad r
+    → ((x : A) → IsBad (next x)) → IsBad (and_so r next)
 so_fails (Ok x) next h k = k x
 so_fails (Err status) next h k = h
 
 -- ---- operators
 
-either_fails : {A : Type 0} (b : Bool) (r q : Result A TxStatus) → IsBad r → IsBad q → IsBad (if b then r else q)
+either_fails : {A : Type 0} (b : Bool) (r q : Result A TxStatus) → IsBad r → IsBad q
+    → IsBad (if b then r else q)
 either_fails true r q h k = h
 either_fails false r q h k = k
 
@@ -98,6 +100,9 @@ combined_fails sign (values.Int a) (values.Int b) = ints_fails sign a b
 combined_fails sign (values.Text a) (values.Text b) = texts_fails sign a b
 combined_fails sign (values.Int a) (values.Text b) = refl
 combined_fails sign (values.Text a) (values.Int b) = refl
+combined_fails sign (values.Int a) values.Gone = refl
+combined_fails sign (values.Text a) values.Gone = refl
+combined_fails sign values.Gone b = refl
 
 pub prefixed_fails : (sign : Sign) (value : Value) → IsBad (prefix_result sign value)
 prefixed_fails signs.Or value = refl
@@ -110,13 +115,16 @@ prefixed_fails signs.Greater value = refl
 prefixed_fails signs.GreaterEqual value = refl
 prefixed_fails signs.Concat value = refl
 prefixed_fails signs.Plus value = refl
-prefixed_fails signs.Minus (values.Int a) = as_int_fails (in_range (neg_ℤ a)) (range_fails (neg_ℤ a))
+prefixed_fails signs.Minus (values.Int a) =
+    as_int_fails (in_range (neg_ℤ a)) (range_fails (neg_ℤ a))
 prefixed_fails signs.Minus (values.Text a) = refl
+prefixed_fails signs.Minus values.Gone = refl
 prefixed_fails signs.Star value = refl
 prefixed_fails signs.Slash value = refl
 prefixed_fails signs.Percent value = refl
 prefixed_fails signs.Not (values.Int a) = tt
 prefixed_fails signs.Not (values.Text a) = refl
+prefixed_fails signs.Not values.Gone = refl
 
 pub found_fails : (o : Option Variable) → IsBad (value_found o)
 found_fails None = refl
@@ -134,16 +142,20 @@ key_fails text = good_fails (key_of text)
 pub int_fails : (value : Value) → IsBad (int_in value)
 int_fails (values.Int z) = tt
 int_fails (values.Text text) = refl
+int_fails values.Gone = refl
 
 pub text_fails : (value : Value) → IsBad (text_in value)
 text_fails (values.Int z) = refl
 text_fails (values.Text text) = tt
+text_fails values.Gone = refl
 
 block_before_fails : (number : ℕ) (at : ℤ) → IsBad (block_before number at)
-block_before_fails number (pos n) = either_fails (nat_lt n number) (Ok n) (Err statuses.BadBlock) tt refl
+block_before_fails number (pos n) =
+    either_fails (nat_lt n number) (Ok n) (Err statuses.BadBlock) tt refl
 block_before_fails number (negsuc n) = refl
 
-asked_fails : (rows : List Row) (number : ℕ) (kind : Kind) (text : List ℕ) (at : ℤ) → IsBad (answer_up_to rows number kind text at)
+asked_fails : (rows : List Row) (number : ℕ) (kind : Kind) (text : List ℕ) (at : ℤ)
+    → IsBad (answer_up_to rows number kind text at)
 asked_fails rows number kind text at = so_fails (key_of_text text) (λ key. and_so (block_before number at) (λ block. Ok (scan rows (question kind key block)))) (key_fails text)
     (λ key. so_fails (block_before number at) (λ block. Ok (scan rows (question kind key block))) (block_before_fails number at) (λ block. tt))
 
@@ -151,7 +163,8 @@ list_told_fails : (o : Option (List Dep)) → IsBad (list_told o)
 list_told_fails None = refl
 list_told_fails (Some deps) = tt
 
-list_asked_fails : (rows : List Row) (number : ℕ) (kind : Kind) (text : List ℕ) (at : ℤ) → IsBad (list_asked rows number kind text at)
+list_asked_fails : (rows : List Row) (number : ℕ) (kind : Kind) (text : List ℕ) (at : ℤ)
+    → IsBad (list_asked rows number kind text at)
 list_asked_fails rows number kind text at = so_fails (answer_up_to rows number kind text at) (λ answer. list_told (list_in answer)) (asked_fails rows number kind text at) (λ answer. list_told_fails (list_in answer))
 
 pub value_fails : (o : Option Version) → IsBad (value_told o)
@@ -174,22 +187,29 @@ item_of_fails : (deps : List Dep) (index : ℤ) → IsBad (item_of deps index)
 item_of_fails deps (pos n) = item_told_fails (slice_get deps n)
 item_of_fails deps (negsuc n) = refl
 
-pub args_fails : {A : Type 0} (o : Option A) (next : A → Result Value TxStatus) → ((x : A) → IsBad (next x)) → IsBad (with_args o next)
+pub args_fails : {A : Type 0} (o : Option A) (next : A → Result Value TxStatus)
+    → ((x : A) → IsBad (next x)) → IsBad (with_args o next)
 args_fails None next h = refl
 args_fails (Some x) next h = h x
 
-pub version_part_fails : (rows : List Row) (number : ℕ) (builtin : Builtin) → ((version : Option Version) → IsBad (version_value builtin version)) → (args : List Value) → IsBad (version_part rows number builtin args)
+pub version_part_fails : (rows : List Row) (number : ℕ) (builtin : Builtin)
+    → ((version : Option Version) → IsBad (version_value builtin version)) → (args : List Value)
+    → IsBad (version_part rows number builtin args)
 version_part_fails rows number builtin bad args = args_fails (text_and_int args) _ (λ arg. so_fails (version_asked rows number arg.0 arg.1) (version_value builtin)
     (so_fails (answer_up_to rows number Hist arg.0 arg.1) (λ answer. Ok (version_in answer)) (asked_fails rows number Hist arg.0 arg.1) (λ answer. tt)) bad)
 
-pub count_part_fails : (rows : List Row) (number : ℕ) (kind : Kind) (args : List Value) → IsBad (count_part rows number kind args)
+pub count_part_fails : (rows : List Row) (number : ℕ) (kind : Kind) (args : List Value)
+    → IsBad (count_part rows number kind args)
 count_part_fails rows number kind args = args_fails (text_and_int args) _ (λ arg. so_fails (list_asked rows number kind arg.0 arg.1) count_told (list_asked_fails rows number kind arg.0 arg.1) (λ deps. tt))
 
-item_asked_fails : (rows : List Row) (number : ℕ) (kind : Kind) (text : List ℕ) (at index : ℤ) → IsBad (item_asked rows number kind text at index)
+item_asked_fails : (rows : List Row) (number : ℕ) (kind : Kind) (text : List ℕ) (at index : ℤ)
+    → IsBad (item_asked rows number kind text at index)
 item_asked_fails rows number kind text at index = so_fails (answer_up_to rows number kind text at) (λ answer. item_part_of answer index) (asked_fails rows number kind text at)
     (λ answer. so_fails (list_told (list_in answer)) (λ deps. item_of deps index) (list_told_fails (list_in answer)) (λ deps. item_of_fails deps index))
 
-pub item_part_fails : (rows : List Row) (number : ℕ) (kind : Kind) (builtin : Builtin) → ((dep : Dep) → IsBad (item_value builtin dep)) → (args : List Value) → IsBad (item_part rows number kind builtin args)
+pub item_part_fails : (rows : List Row) (number : ℕ) (kind : Kind) (builtin : Builtin)
+    → ((dep : Dep) → IsBad (item_value builtin dep)) → (args : List Value)
+    → IsBad (item_part rows number kind builtin args)
 item_part_fails rows number kind builtin bad args = args_fails (text_and_ints args) _ (λ arg. so_fails (item_asked rows number kind arg.0 arg.1.0 arg.1.1) (item_value builtin) (item_asked_fails rows number kind arg.0 arg.1.0 arg.1.1) bad)
 
 -- ---- puts
@@ -197,6 +217,7 @@ item_part_fails rows number kind builtin bad args = args_fails (text_and_ints ar
 pub key_in_fails : (value : Value) → IsBad (key_in value)
 key_in_fails (values.Int z) = refl
 key_in_fails (values.Text text) = key_fails text
+key_in_fails values.Gone = refl
 
 keys_in_fails : (done : List (List ℕ)) (list : List Value) → IsBad (keys_in done list)
 keys_in_fails done [] = tt
@@ -204,7 +225,8 @@ keys_in_fails done (value ∷ list) = so_fails (key_in value) (λ key. keys_in (
 
 pub named_fails : (o : Option (List Value)) → IsBad (named_keys o)
 named_fails None = tt
-named_fails (Some list) = so_fails (keys_in [] list) (λ keys. Ok (Some keys)) (keys_in_fails [] list) (λ keys. tt)
+named_fails (Some list) =
+    so_fails (keys_in [] list) (λ keys. Ok (Some keys)) (keys_in_fails [] list) (λ keys. tt)
 
 pub recorded_fails : (r : Result Captured CaptureError) → IsBad (put_recorded r)
 recorded_fails (Ok c) = tt

@@ -1,7 +1,7 @@
 -- A read keeps the laws: it records the version that its key had, so scenes that agree on it read
 -- alike.
 use Rattle.std.proofs.Common.{◌≡◌, ℕ, Bool, true, false, List, [], ◌∷◌, ◌++◌, length, Contains, Option, Some, None, Result, Ok, Err, refl, ap, ap₂, subst, ◌∙◌, le_refl, ◌≤◌, if◌then◌else◌, ◌||◌, ⊎_elim, not-suc-le-zero}
-use Rattle.std.specs.Prelude.{nat_le, is_some}
+use Rattle.std.specs.Prelude.{nat_le}
 use Rattle.std.specs.List.{All}
 use Rattle.std.specs.Cmp.Lexicographic.{nat_list_eq_equiv}
 use Rattle.std.proofs.lemmas.Bool.{or_left, or_right}
@@ -21,7 +21,7 @@ use Rattle.world_state.specs.declared.held.Held.{Held}
 use Rattle.contract_semantics.specs.Numbers.{truth}
 use Rattle.contract_semantics.specs.Scenes.{Scene}
 use Rattle.contract_semantics.specs.Steps.{Machine, after}
-use Rattle.contract_semantics.specs.Reading.{BuiltinResult, and_read, key_of_text, block_of, value_of_version, read_result, value_got, is_held, of_kind, get_result, has_result}
+use Rattle.contract_semantics.specs.Reading.{BuiltinResult, and_read, key_of_text, block_of, unless_gone, value_of_version, has_value, read_result, value_got, is_held, of_kind, get_result, has_result}
 use Rattle.contract_semantics.specs.Builtins.{reading_args, taken_step}
 use Rattle.contract_laws.specs.Lookups.{Lookups, no_lookups, one_met, unput_lookup, key_lookup, read_lookup}
 use Rattle.contract_laws.proofs.Failures.{key_fails}
@@ -37,28 +37,34 @@ TakenClear s lookups (Ok value, c) = AreClear s lookups c
 TakenClear s lookups (Err status, c) = Unit {0}
 
 pub record TameTaken (f : Scene → Captured → BuiltinResult) (look : Scene → Captured → Lookups) : Type 0 where
-  pub told : (s : Scene) (c : Captured) → ToldTaken s c (λ t. f t c) (λ t. look t c) (f s c) (look s c)
+  pub told : (s : Scene) (c : Captured)
+      → ToldTaken s c (λ t. f t c) (λ t. look t c) (f s c) (look s c)
   pub clear : (s : Scene) (c : Captured) → TakenClear s (look s c) (f s c)
   pub fails : (s : Scene) (c : Captured) → IsBad (f s c).0
   pub asks : (s : Scene) (c : Captured) → AsksBefore s (look s c)
 
-pub clear_by : (s : Scene) (lookups : Lookups) (c : Captured) (r : Result Value TxStatus) → AreClear s lookups c → TakenClear s lookups (r, c)
+pub clear_by : (s : Scene) (lookups : Lookups) (c : Captured) (r : Result Value TxStatus)
+    → AreClear s lookups c → TakenClear s lookups (r, c)
 clear_by s lookups c (Ok value) h = h
 clear_by s lookups c (Err status) h = tt
 
 step_told : (s : Scene) (m : Machine) (again : Scene → BuiltinResult) (look : Scene → Lookups) (taken : BuiltinResult) (lookups : Lookups) → ToldTaken s m.capture again look taken lookups → Told s m (λ t. taken_step (again t) m) look (taken_step taken m) lookups
-step_told s m again look (Ok value, c) lookups h = (h.0, λ t a. let k = h.1 t a in (ap (λ r. taken_step r m) k.0, k.1))
-step_told s m again look (Err status, c) lookups h = (h.0, λ t a. let k = h.1 t a in (ap (λ r. taken_step r m) k.0, k.1))
+step_told s m again look (Ok value, c) lookups h =
+    (h.0, λ t a. let k = h.1 t a in (ap (λ r. taken_step r m) k.0, k.1))
+step_told s m again look (Err status, c) lookups h =
+    (h.0, λ t a. let k = h.1 t a in (ap (λ r. taken_step r m) k.0, k.1))
 
 step_lowers : (taken : BuiltinResult) (m : Machine) → (after (taken_step taken m)).left ≤ m.left
 step_lowers (Ok value, c) m = le_refl m.left
 step_lowers (Err status, c) m = le_refl m.left
 
-step_scales : (k : ℕ) (taken : BuiltinResult) (m : Machine) → taken_step taken (richer k m) ≡ raised k (taken_step taken m)
+step_scales : (k : ℕ) (taken : BuiltinResult) (m : Machine)
+    → taken_step taken (richer k m) ≡ raised k (taken_step taken m)
 step_scales k (Ok value, c) m = refl
 step_scales k (Err status, c) m = refl
 
-step_clear : (s : Scene) (lookups : Lookups) (taken : BuiltinResult) (m : Machine) → TakenClear s lookups taken → EndsClear s lookups (taken_step taken m)
+step_clear : (s : Scene) (lookups : Lookups) (taken : BuiltinResult) (m : Machine)
+    → TakenClear s lookups taken → EndsClear s lookups (taken_step taken m)
 step_clear s lookups (Ok value, c) m h = h
 step_clear s lookups (Err status, c) m h = tt
 
@@ -66,7 +72,8 @@ step_fails : (taken : BuiltinResult) (m : Machine) → IsBad taken.0 → FailsBa
 step_fails (Ok value, c) m h = tt
 step_fails (Err status, c) m h = h
 
-pub tame_taken : {f : Scene → Captured → BuiltinResult} {look : Scene → Captured → Lookups} → TameTaken f look → Tame (λ s m. taken_step (f s m.capture) m) (λ s m. look s m.capture)
+pub tame_taken : {f : Scene → Captured → BuiltinResult} {look : Scene → Captured → Lookups}
+    → TameTaken f look → Tame (λ s m. taken_step (f s m.capture) m) (λ s m. look s m.capture)
 tame_taken {f} {look} h = record {
   told = λ s m. step_told s m (λ t. f t m.capture) (λ t. look t m.capture) (f s m.capture) (look s m.capture) (h.told s m.capture);
   lowers = λ s m. step_lowers (f s m.capture) m;
@@ -77,7 +84,8 @@ tame_taken {f} {look} h = record {
 }
 
 -- A result that looks nothing up and is the same in every scene.
-pub taken_fixed : (r : Result Value TxStatus) → IsBad r → TameTaken (λ s c. (r, c)) (λ s c. no_lookups)
+pub taken_fixed : (r : Result Value TxStatus) → IsBad r
+    → TameTaken (λ s c. (r, c)) (λ s c. no_lookups)
 taken_fixed r bad = record { told = λ s c. (moves_same s c, λ t a. (refl, refl)); clear = λ s c. clear_by s no_lookups c r (no_keys s c); fails = λ s c. bad; asks = λ s c. no_questions s }
 
 -- ---- one key met
@@ -85,7 +93,8 @@ taken_fixed r bad = record { told = λ s c. (moves_same s c, λ t a. (refl, refl
 pub contains_one : {A : Type 0} (x : A) → Contains (x ∷ []) x
 contains_one x = Contains-push [] x
 
-pub clear_one : (s : Scene) (key : List ℕ) (c : Captured) → s.place.written key ≡ false → (was_read c.reads key || was_put c.puts key) ≡ true → AreClear s (one_met key) c
+pub clear_one : (s : Scene) (key : List ℕ) (c : Captured) → s.place.written key ≡ false
+    → (was_read c.reads key || was_put c.puts key) ≡ true → AreClear s (one_met key) c
 clear_one s key c w r k there = ⊎_elim
     (λ (n, lt, e). absurd (not-suc-le-zero lt))
     (λ e. subst (λ k. (s.place.written k ≡ false) × ((was_read c.reads k || was_put c.puts k) ≡ true)) e (w, r))
@@ -94,12 +103,16 @@ clear_one s key c w r k there = ⊎_elim
 -- ---- one more read, with the version that its key had
 
 abbrev pub with_read : Captured → List ℕ → Option Held → Captured
-with_read c key held = record c { reads = c.reads ++ record { key = key; version = block_of held } ∷ [] }
+with_read c key held =
+    record c { reads = c.reads ++ record { key = key; version = block_of held } ∷ [] }
 
-last_read : (reads : List Read) (key : List ℕ) (version : Option ℕ) → was_read (reads ++ record { key = key; version = version } ∷ []) key ≡ true
-last_read reads key version = list_any-append _ reads _ ∙ or_right _ _ (or_left _ _ (nat_list_eq_equiv.refl key))
+last_read : (reads : List Read) (key : List ℕ) (version : Option ℕ)
+    → was_read (reads ++ record { key = key; version = version } ∷ []) key ≡ true
+last_read reads key version =
+    list_any-append _ reads _ ∙ or_right _ _ (or_left _ _ (nat_list_eq_equiv.refl key))
 
-moves_read : (s : Scene) (c : Captured) (key : List ℕ) → Moves s c (with_read c key (s.place.newest key))
+moves_read : (s : Scene) (c : Captured) (key : List ℕ)
+    → Moves s c (with_read c key (s.place.newest key))
 moves_read s c key =
     let read : Read = record { key = key; version = block_of (s.place.newest key) } in
     record {
@@ -130,7 +143,8 @@ read_told s c key gives false false false w k = (
 read_clear : (s : Scene) (c : Captured) (key : List ℕ) (gives : Option Held → Result Value TxStatus) (written known full : Bool) (held : Option Held) → s.place.written key ≡ written → was_read c.reads key ≡ known
     → TakenClear s (one_met key) (read_by written known full held key gives c)
 read_clear s c key gives true known full held w k = tt
-read_clear s c key gives false true full held w k = clear_by s (one_met key) c (gives held) (clear_one s key c w (or_left _ _ k))
+read_clear s c key gives false true full held w k =
+    clear_by s (one_met key) c (gives held) (clear_one s key c w (or_left _ _ k))
 read_clear s c key gives false false true held w k = tt
 read_clear s c key gives false false false held w k = clear_by s (one_met key) (with_read c key held) (gives held) (clear_one s key (with_read c key held) w (or_left _ _ (last_read c.reads key (block_of held))))
 
@@ -150,50 +164,64 @@ taken_read key gives bad = record {
 
 -- ---- the builtins that read
 
+gone_fails : (value : Value) → IsBad (unless_gone value)
+gone_fails (values.Int z) = tt
+gone_fails (values.Text text) = tt
+gone_fails values.Gone = refl
+
 version_fails : (held : Option Held) → IsBad (value_of_version held)
 version_fails None = refl
-version_fails (Some held) = tt
+version_fails (Some held) = gone_fails held.value
 
 got_told : (key : List ℕ) (s : Scene) (c : Captured) (o : Option Value) → ToldTaken s c (λ t. value_got t.place key o c) (λ t. unput_lookup key o) (value_got s.place key o c) (unput_lookup key o)
 got_told key s c None = (taken_read key value_of_version version_fails).told s c
 got_told key s c (Some value) = (moves_same s c, λ t a. (refl, refl))
 
-got_clear : (key : List ℕ) (s : Scene) (c : Captured) (o : Option Value) → TakenClear s (unput_lookup key o) (value_got s.place key o c)
+got_clear : (key : List ℕ) (s : Scene) (c : Captured) (o : Option Value)
+    → TakenClear s (unput_lookup key o) (value_got s.place key o c)
 got_clear key s c None = (taken_read key value_of_version version_fails).clear s c
-got_clear key s c (Some value) = no_keys s c
+got_clear key s c (Some value) = clear_by s no_lookups c (unless_gone value) (no_keys s c)
 
-got_fails : (key : List ℕ) (s : Scene) (c : Captured) (o : Option Value) → IsBad (value_got s.place key o c).0
+got_fails : (key : List ℕ) (s : Scene) (c : Captured) (o : Option Value)
+    → IsBad (value_got s.place key o c).0
 got_fails key s c None = (taken_read key value_of_version version_fails).fails s c
-got_fails key s c (Some value) = tt
+got_fails key s c (Some value) = gone_fails value
 
-abbrev is_there : Option Held → Result Value TxStatus
-is_there held = Ok (values.Int (truth (is_some held)))
+abbrev told_there : Option Held → Result Value TxStatus
+told_there held = Ok (values.Int (truth (has_value held)))
 
 held_told : (key : List ℕ) (s : Scene) (c : Captured) (o : Option Value) → ToldTaken s c (λ t. is_held t.place key o c) (λ t. unput_lookup key o) (is_held s.place key o c) (unput_lookup key o)
-held_told key s c None = (taken_read key is_there (λ held. tt)).told s c
+held_told key s c None = (taken_read key told_there (λ held. tt)).told s c
 held_told key s c (Some value) = (moves_same s c, λ t a. (refl, refl))
 
-held_clear : (key : List ℕ) (s : Scene) (c : Captured) (o : Option Value) → TakenClear s (unput_lookup key o) (is_held s.place key o c)
-held_clear key s c None = (taken_read key is_there (λ held. tt)).clear s c
+held_clear : (key : List ℕ) (s : Scene) (c : Captured) (o : Option Value)
+    → TakenClear s (unput_lookup key o) (is_held s.place key o c)
+held_clear key s c None = (taken_read key told_there (λ held. tt)).clear s c
 held_clear key s c (Some value) = no_keys s c
 
-held_fails : (key : List ℕ) (s : Scene) (c : Captured) (o : Option Value) → IsBad (is_held s.place key o c).0
-held_fails key s c None = (taken_read key is_there (λ held. tt)).fails s c
+held_fails : (key : List ℕ) (s : Scene) (c : Captured) (o : Option Value)
+    → IsBad (is_held s.place key o c).0
+held_fails key s c None = (taken_read key told_there (λ held. tt)).fails s c
 held_fails key s c (Some value) = tt
 
 unput_asks : (s : Scene) (key : List ℕ) (o : Option Value) → AsksBefore s (unput_lookup key o)
 unput_asks s key None = no_questions s
 unput_asks s key (Some value) = no_questions s
 
-taken_key : (r : Result (List ℕ) TxStatus) → IsBad r → (f : List ℕ → Scene → Captured → BuiltinResult) → ((key : List ℕ) → TameTaken (f key) (λ s c. unput_lookup key (pending c.puts key))) → TameTaken (λ s c. and_read r c (λ key. f key s c)) (λ s c. key_lookup r c)
+taken_key : (r : Result (List ℕ) TxStatus) → IsBad r
+    → (f : List ℕ → Scene → Captured → BuiltinResult)
+    → ((key : List ℕ) → TameTaken (f key) (λ s c. unput_lookup key (pending c.puts key)))
+    → TameTaken (λ s c. and_read r c (λ key. f key s c)) (λ s c. key_lookup r c)
 taken_key (Ok key) bad f h = h key
 taken_key (Err status) bad f h = taken_fixed (Err status) bad
 
-taken_getting : (text : List ℕ) → TameTaken (λ s c. get_result s.place text c) (λ s c. key_lookup (key_of_text text) c)
+taken_getting : (text : List ℕ)
+    → TameTaken (λ s c. get_result s.place text c) (λ s c. key_lookup (key_of_text text) c)
 taken_getting text = taken_key (key_of_text text) (key_fails text) (λ key s c. value_got s.place key (pending c.puts key) c)
     (λ key. record { told = λ s c. got_told key s c (pending c.puts key); clear = λ s c. got_clear key s c (pending c.puts key); fails = λ s c. got_fails key s c (pending c.puts key); asks = λ s c. unput_asks s key (pending c.puts key) })
 
-pub taken_having : (text : List ℕ) → TameTaken (λ s c. has_result s.place text c) (λ s c. key_lookup (key_of_text text) c)
+pub taken_having : (text : List ℕ)
+    → TameTaken (λ s c. has_result s.place text c) (λ s c. key_lookup (key_of_text text) c)
 taken_having text = taken_key (key_of_text text) (key_fails text) (λ key s c. is_held s.place key (pending c.puts key) c)
     (λ key. record { told = λ s c. held_told key s c (pending c.puts key); clear = λ s c. held_clear key s c (pending c.puts key); fails = λ s c. held_fails key s c (pending c.puts key); asks = λ s c. unput_asks s key (pending c.puts key) })
 
@@ -201,7 +229,8 @@ kind_clear : (s : Scene) (lookups : Lookups) (kind : Value → Result Value TxSt
 kind_clear s lookups kind (Ok value, c) h = clear_by s lookups c (kind value) h
 kind_clear s lookups kind (Err status, c) h = tt
 
-kind_fails : (kind : Value → Result Value TxStatus) → ((value : Value) → IsBad (kind value)) → (taken : BuiltinResult) → IsBad taken.0 → IsBad (of_kind kind taken).0
+kind_fails : (kind : Value → Result Value TxStatus) → ((value : Value) → IsBad (kind value))
+    → (taken : BuiltinResult) → IsBad taken.0 → IsBad (of_kind kind taken).0
 kind_fails kind bad (Ok value, c) h = bad value
 kind_fails kind bad (Err status, c) h = h
 
@@ -215,6 +244,8 @@ taken_of_kind kind bad text =
       asks = h.asks;
     }
 
-pub taken_args : (o : Option (List ℕ)) (f : List ℕ → Scene → Captured → BuiltinResult) → ((text : List ℕ) → TameTaken (f text) (λ s c. key_lookup (key_of_text text) c)) → TameTaken (λ s c. reading_args o c (λ text. f text s c)) (λ s c. read_lookup o c)
+pub taken_args : (o : Option (List ℕ)) (f : List ℕ → Scene → Captured → BuiltinResult)
+    → ((text : List ℕ) → TameTaken (f text) (λ s c. key_lookup (key_of_text text) c))
+    → TameTaken (λ s c. reading_args o c (λ text. f text s c)) (λ s c. read_lookup o c)
 taken_args None f h = taken_fixed (Err WrongKind) refl
 taken_args (Some text) f h = h text

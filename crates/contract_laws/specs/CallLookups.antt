@@ -65,6 +65,14 @@ put_lookups s key value parts variables m =
     (λ value m. then_lookups (parts_lookups s variables parts m) (parts_values s variables parts m)
     (λ parts m. charged_lookups CHARGE_PUT m (λ m. put_lookup s.site.contract (key_in key))))))
 
+-- The lookups of a drop: those of its key and the keys in its `from`, then its own key.
+abbrev pub remove_lookups : Scene → Tree → Option Trees → List Variable → Machine → Lookups
+remove_lookups s key parts variables m =
+    charged_lookups CHARGE_NODE m
+    (λ m. then_lookups (value_lookups s variables key m) (value_of s variables key m)
+    (λ key m. then_lookups (parts_lookups s variables parts m) (parts_values s variables parts m)
+    (λ parts m. charged_lookups CHARGE_PUT m (λ m. put_lookup s.site.contract (key_in key)))))
+
 abbrev mutual
   -- The lookups of a statement.
   pub statement_lookups : Scene → StatementTree → List Variable → Machine → Lookups
@@ -84,6 +92,8 @@ abbrev mutual
       (turn_lookups s test (statements_lookups s body)) variables m
   statement_lookups s (tree.Put at key value parts) variables m =
       put_lookups s key value parts variables m
+  statement_lookups s (tree.Remove at key parts) variables m =
+      remove_lookups s key parts variables m
   statement_lookups s (tree.Fail at) variables m = no_lookups
   statement_lookups s (tree.Return at) variables m = no_lookups
 

@@ -1,4 +1,4 @@
--- What a source means, or its first fault.
+-- What a source means in an edition, or its first fault.
 use Rattle.std.specs.Prelude.{◌≡◌, ℕ, Bool, true, false, List, [], ◌∷◌, ◌++◌, Option, Some, None, Result, Ok, Err}
 use Rattle.contract_tokens.specs.declared.token.Token.{Token}
 use Rattle.contract_tokens.specs.declared.token.TokenKind.{TokenKind}
@@ -19,12 +19,12 @@ use Rattle.contract_parse.specs.declared.source.SyntaxKind.TheVariants.{Byte, Li
 use Rattle.contract_parse.specs.declared.source.SyntaxError.{SyntaxError}
 use Rattle.contract_parse.specs.declared.source.SyntaxError.TheVariants.{Refused, Memory}
 
--- The source reads as these functions: its tokens, without the end, are a contract within the
--- limits.
-pub record ReadsAs (source : List ℕ) (all : List FunctionTree) : Type 0 where
+-- In this edition the source reads as these functions: its tokens, without the end, are a contract
+-- within the limits.
+pub record ReadsAs (edition : ℕ) (source : List ℕ) (all : List FunctionTree) : Type 0 where
   pub before : List Token
   pub end : Token
-  pub tokens : IsTokens 0 source (before ++ end ∷ [])
+  pub tokens : IsTokens edition 0 source (before ++ end ∷ [])
   pub ends : is_end end ≡ true
   pub is_contract : IsContract limits before all
 
@@ -47,41 +47,45 @@ obstacle_fault Nesting t = (t.at, Deep)
 obstacle_fault (Height at) t = (at, Deep)
 
 -- The reader is stopped at this token, the first at which it can be, for what is wrong there.
-pub record IsStoppedAt (source : List ℕ) (why : Obstacle) (t : Token) : Type 0 where
+pub record IsStoppedAt (edition : ℕ) (source : List ℕ) (why : Obstacle) (t : Token) : Type 0 where
   pub before : List Token
   pub after : List Token
-  pub tokens : IsTokens 0 source (before ++ t ∷ after)
+  pub tokens : IsTokens edition 0 source (before ++ t ∷ after)
   pub first : contract (before ++ t ∷ after) ≡ (Err why, t ∷ after)
   pub fault : IsFault why before t
 
--- The first fault of the source: of its tokens or, if these have none, of its grammar and limits.
-pub data SyntaxFault (source : List ℕ) : ℕ → SyntaxKind → Type 0 where
+-- The first fault of the source in this edition: of its tokens or, if these have none, of its
+-- grammar and limits.
+pub data SyntaxFault (edition : ℕ) (source : List ℕ) : ℕ → SyntaxKind → Type 0 where
   OfTokens :
-      (at : ℕ) (kind : TokenKind) → IsTokenFault 0 source at kind
-      → SyntaxFault source at (token_kind kind)
+      (at : ℕ) (kind : TokenKind) → IsTokenFault edition 0 source at kind
+      → SyntaxFault edition source at (token_kind kind)
   OfGrammar :
-      (why : Obstacle) (t : Token) → IsStoppedAt source why t
-      → SyntaxFault source (obstacle_fault why t).0 (obstacle_fault why t).1
+      (why : Obstacle) (t : Token) → IsStoppedAt edition source why t
+      → SyntaxFault edition source (obstacle_fault why t).0 (obstacle_fault why t).1
 
 -- What a source is: the functions of a contract, or the offset and the kind of its first fault.
 abbrev pub Outcome : Type 0
 Outcome = Result (List FunctionTree) (ℕ × SyntaxKind)
 
--- The source has this outcome: it reads as these functions, or this is its first fault.
-abbrev pub IsOutcome : List ℕ → Outcome → Type 0
-IsOutcome source (Ok functions) = ReadsAs source functions
-IsOutcome source (Err fault) = SyntaxFault source fault.0 fault.1
+-- The source has this outcome in this edition: it reads as these functions, or this is its first
+-- fault.
+abbrev pub IsOutcome : ℕ → List ℕ → Outcome → Type 0
+IsOutcome edition source (Ok functions) = ReadsAs edition source functions
+IsOutcome edition source (Err fault) = SyntaxFault edition source fault.0 fault.1
 
--- The source has at most one outcome: it doesn't read as two contracts, it doesn't have two first
--- faults, and it doesn't both read as a contract and have a fault.
-abbrev pub HasOneOutcome : List ℕ → Type 0
-HasOneOutcome source =
-    (one other : Outcome) → IsOutcome source one → IsOutcome source other → one ≡ other
+-- The source has at most one outcome in this edition: it doesn't read as two contracts, it doesn't
+-- have two first faults, and it doesn't both read as a contract and have a fault.
+abbrev pub HasOneOutcome : ℕ → List ℕ → Type 0
+HasOneOutcome edition source =
+    (one other : Outcome) → IsOutcome edition source one → IsOutcome edition source other
+    → one ≡ other
 
 -- At most one thing is wrong in the tokens of the source, if heights are ignored, so the grammar
 -- alone determines the offset of such a fault.
-abbrev pub HasOneObstacle : List ℕ → Type 0
-HasOneObstacle source = (list : List Token) → IsTokens 0 source list → HasOneFault list
+abbrev pub HasOneObstacle : ℕ → List ℕ → Type 0
+HasOneObstacle edition source =
+    (list : List Token) → IsTokens edition 0 source list → HasOneFault list
 
 -- The fault that an error reports, or `None` if it is out of memory.
 abbrev pub fault_of : SyntaxError → Option (ℕ × SyntaxKind)

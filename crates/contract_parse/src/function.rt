@@ -1,6 +1,6 @@
 //! Reading functions and contracts, up to the end of the source.
 
-ghost use Rattle.std.specs.Prelude.{◌≡◌, ◌<◌, ◌-◌, List, [], ◌∷◌, map};
+ghost use Rattle.std.specs.Prelude.{◌≡◌, ◌<◌, ◌-◌, List, [], ◌∷◌, map, IfOk};
 ghost use Rattle.contract_tree.specs.Tree.{statement_of, statement_list, function_of, contract_of};
 ghost use Rattle.contract_tokens.specs.declared.token.Mark.TheVariants as m;
 ghost use Rattle.contract_grammar.specs.{
@@ -112,13 +112,14 @@ fn functions(cursor: &mut Cursor<'_>, earlier: FunctionList) -> Result<FunctionL
     Ok(all)
 }
 
-/// A contract, up to the end of the source.
+/// A contract of this edition, up to the end of the source.
 #[tactic(auto, unfolding(contract_grammar::specs::Reading::contract))]
-pub fn contract(cursor: &mut Cursor<'_>) -> Result<Contract, ParseStop>
-    ensures { Gives contract_of result (contract cursor.old) cursor.new }
+pub fn contract(cursor: &mut Cursor<'_>, edition: u8) -> Result<Contract, ParseStop>
+    ensures read { Gives contract_of result (contract cursor.old) cursor.new }
+    ensures edition { IfOk result (λ contract. contract.edition ≡ edition) }
 {
     let mut first = Vec::new(cursor.alloc());
     first.push(function(cursor)?)?;
     let functions = functions(cursor, first)?;
-    Ok(Contract { functions })
+    Ok(Contract { edition, functions })
 }

@@ -1,6 +1,6 @@
 //! Reading a whole source: its tokens first, then the contract that they are.
 
-ghost use Rattle.std.specs.Prelude.{◌≡◌, ◌<◌, ◌^◌, length};
+ghost use Rattle.std.specs.Prelude.{◌≡◌, ◌<◌, ◌^◌, length, IfOk};
 ghost use Rattle.lc_base.specs.Answers.{Answers};
 ghost use Rattle.contract_tree.specs.Tree.{contract_of};
 ghost use Rattle.contract_grammar.specs.{Marks.{is_end}, Reading.{contract}};
@@ -93,13 +93,14 @@ fn refusal(error: TokenError) -> SyntaxError
     }
 }
 
-fn read(tokens: Tokens<'_>) -> Result<Contract, SyntaxError>
-    ensures { Answers contract_of fault_of result (reading_outcome (contract tokens.entry)) }
+fn read(tokens: Tokens<'_>, edition: u8) -> Result<Contract, SyntaxError>
+    ensures outcome { Answers contract_of fault_of result (reading_outcome (contract tokens.entry)) }
+    ensures edition { IfOk result (λ contract. contract.edition ≡ edition) }
 {
     let Ok(mut cursor) = Cursor::new(tokens) else {
         return Err(SyntaxError::Memory);
     };
-    match contract(&mut cursor) {
+    match contract(&mut cursor, edition) {
         Ok(contract) => Ok(contract),
         Err(ParseStop::Memory) => Err(SyntaxError::Memory),
         Err(ParseStop::At(why)) => {
@@ -109,20 +110,21 @@ fn read(tokens: Tokens<'_>) -> Result<Contract, SyntaxError>
     }
 }
 
-/// The contract that a source is. Each source has one outcome: it reads as a contract, or it has a
-/// first fault.
+/// The contract that a source is in an edition, `FIRST_EDITION` or `SECOND_EDITION`. Each source has
+/// one outcome in an edition: it reads as a contract, or it has a first fault.
 ///
 /// # Errors
 ///
 /// The first fault of the source, or `Memory`.
-pub fn parse(alloc: Global, source: &[u8]) -> Result<Contract, SyntaxError>
+pub fn parse(alloc: Global, source: &[u8], edition: u8) -> Result<Contract, SyntaxError>
     requires { length source.now < 2 ^ 32 }
-    ensures outcome { (outcome : Outcome) × IsOutcome source.now outcome × Answers contract_of fault_of result outcome }
-    ensures once { HasOneOutcome source.now }
-    ensures one_fault { HasOneObstacle source.now }
+    ensures outcome { (outcome : Outcome) × IsOutcome edition source.now outcome × Answers contract_of fault_of result outcome }
+    ensures edition { IfOk result (λ contract. contract.edition ≡ edition) }
+    ensures once { HasOneOutcome edition source.now }
+    ensures one_fault { HasOneObstacle edition source.now }
 {
-    match Tokens::new(alloc, source) {
-        Ok(tokens) => read(tokens),
+    match Tokens::new(alloc, source, edition) {
+        Ok(tokens) => read(tokens, edition),
         Err(error) => Err(refusal(error)),
     }
 }

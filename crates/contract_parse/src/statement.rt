@@ -7,7 +7,7 @@ ghost use Rattle.contract_grammar.specs.{
   Marks.{is, is_not},
   declared.Obstacle.TheVariants.{Nesting},
   Rules.{each, put, seq, refuse},
-  Reading.{expression, before_mark, let_statement, assign_statement, else_part, if_statement, while_statement, from_part, put_statement, short_statement, statement, block_of, block},
+  Reading.{expression, before_mark, let_statement, assign_statement, else_part, if_statement, while_statement, from_part, put_statement, remove_statement, short_statement, statement, block_of, block},
   Reads.{Gives},
 };
 ghost use Rattle.contract_parse.specs.Blocks.{if_of};
@@ -73,6 +73,16 @@ fn put_statement(cursor: &mut Cursor<'_>) -> Result<Statement, ParseStop>
     let value = expression(cursor)?;
     let from = from_part(cursor)?;
     let form = Form::Put { key, value, from };
+    Ok(Statement { at, form })
+}
+
+fn remove_statement(cursor: &mut Cursor<'_>) -> Result<Statement, ParseStop>
+    ensures { Gives statement_of result (remove_statement cursor.old) cursor.new }
+{
+    let at = cursor.take(Mark::Drop)?;
+    let key = expression(cursor)?;
+    let from = from_part(cursor)?;
+    let form = Form::Remove { key, from };
     Ok(Statement { at, form })
 }
 
@@ -149,6 +159,9 @@ fn statement(cursor: &mut Cursor<'_>, nesting: u32) -> Result<Statement, ParseSt
     }
     if cursor.next_is(Mark::Put) {
         return put_statement(cursor);
+    }
+    if cursor.next_is(Mark::Drop) {
+        return remove_statement(cursor);
     }
     if cursor.next_is(Mark::Fail) {
         return short_statement(cursor, Mark::Fail, Form::Fail);

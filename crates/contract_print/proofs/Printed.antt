@@ -13,10 +13,12 @@ use Rattle.contract_tokens.proofs.Marks.{first_is}
 use Rattle.contract_print.proofs.Respelled.{word_text, goes_on, sign_goes_on, mark_goes_on, IsWord, take_word, skip_blanks}
 
 -- Wherever the text is followed by what ends it, it is split into tokens of which P holds.
-pub record IsPrinted (P : List Token → Type 0) (stop : List ℕ → Type 0) (text : List ℕ) : Type 0 where
+pub record IsPrinted (edition : ℕ) (P : List Token → Type 0) (stop : List ℕ → Type 0) (text : List ℕ) : Type 0 where
   pub tokens : ℕ → List Token
   pub is : (at : ℕ) → P (tokens at)
-  pub tokenized : (at : ℕ) (rest : List ℕ) (more : List Token) → stop rest → IsTokens (at + length text) rest more → IsTokens at (text ++ rest) (tokens at ++ more)
+  pub tokenized : (at : ℕ) (rest : List ℕ) (more : List Token) → stop rest
+      → IsTokens edition (at + length text) rest more
+      → IsTokens edition at (text ++ rest) (tokens at ++ more)
 
 -- anything may follow
 abbrev pub Any : List ℕ → Type 0
@@ -28,50 +30,61 @@ pub data IsWordOf (word : Word) : List Token → Type 0 where
 pub data Both (P Q : List Token → Type 0) : List Token → Type 0 where
   Pair : (us vs : List Token) → P us → Q vs → Both P Q (us ++ vs)
 
-pub word_printed : (word : Word) → IsWord word → IsPrinted (IsWordOf word) (Stops (goes_on word)) (word_text word)
-word_printed word i = record { tokens = λ at. record { at = at; word = word } ∷ []; is = λ at. Said at; tokenized = λ at rest more stop h. take_word word rest at more i stop h }
+module _ {edition : ℕ} where
+  pub word_printed : (word : Word) → IsWord edition word
+      → IsPrinted edition (IsWordOf word) (Stops (goes_on word)) (word_text word)
+  word_printed word i = record { tokens = λ at. record { at = at; word = word } ∷ []; is = λ at. Said at; tokenized = λ at rest more stop h. take_word word rest at more i stop h }
 
-pub both : {P Q : List Token → Type 0} {S T : List ℕ → Type 0} {a b : List ℕ} → IsPrinted P S a → IsPrinted Q T b → ((rest : List ℕ) → T rest → S (b ++ rest)) → IsPrinted (Both P Q) T (a ++ b)
-both {a = a} {b = b} p q starts = record {
-  tokens = λ at. p.tokens at ++ q.tokens (at + length a);
-  is = λ at. Pair (p.tokens at) (q.tokens (at + length a)) (p.is at) (q.is (at + length a));
-  tokenized = λ at rest more stop h.
-      let far : at + length (a ++ b) ≡ (at + length a) + length b = omega (arith, length-append a b) in
-      let inner = q.tokenized (at + length a) rest more stop (subst (λ n. IsTokens n rest more) far h) in
-      let outer = p.tokenized at (b ++ rest) (q.tokens (at + length a) ++ more) (starts rest stop) inner in
-      subst (λ l. IsTokens at l ((p.tokens at ++ q.tokens (at + length a)) ++ more)) (sym (append_assoc a b rest)) (subst (λ l. IsTokens at (a ++ (b ++ rest)) l) (sym (append_assoc (p.tokens at) (q.tokens (at + length a)) more)) outer);
-}
+  pub both : {P Q : List Token → Type 0} {S T : List ℕ → Type 0} {a b : List ℕ}
+      → IsPrinted edition P S a → IsPrinted edition Q T b
+      → ((rest : List ℕ) → T rest → S (b ++ rest)) → IsPrinted edition (Both P Q) T (a ++ b)
+  both {a = a} {b = b} p q starts = record {
+    tokens = λ at. p.tokens at ++ q.tokens (at + length a);
+    is = λ at. Pair (p.tokens at) (q.tokens (at + length a)) (p.is at) (q.is (at + length a));
+    tokenized = λ at rest more stop h.
+        let far : at + length (a ++ b) ≡ (at + length a) + length b = omega (arith, length-append a b) in
+        let inner = q.tokenized (at + length a) rest more stop (subst (λ n. IsTokens edition n rest more) far h) in
+        let outer = p.tokenized at (b ++ rest) (q.tokens (at + length a) ++ more) (starts rest stop) inner in
+        subst (λ l. IsTokens edition at l ((p.tokens at ++ q.tokens (at + length a)) ++ more)) (sym (append_assoc a b rest)) (subst (λ l. IsTokens edition at (a ++ (b ++ rest)) l) (sym (append_assoc (p.tokens at) (q.tokens (at + length a)) more)) outer);
+  }
 
--- blanks after
-pub gap_after : {P : List Token → Type 0} {S : List ℕ → Type 0} {a : List ℕ} (gap : List ℕ) → list_all is_blank gap ≡ true → IsPrinted P S a → ((rest : List ℕ) → S (gap ++ rest)) → IsPrinted P Any (a ++ gap)
-gap_after {a = a} gap blank p starts = record {
-  tokens = p.tokens;
-  is = p.is;
-  tokenized = λ at rest more stop h.
-      let far : at + length (a ++ gap) ≡ (at + length a) + length gap = omega (arith, length-append a gap) in
-      let inner = skip_blanks gap rest (at + length a) more blank (subst (λ n. IsTokens n rest more) far h) in
-      subst (λ l. IsTokens at l (p.tokens at ++ more)) (sym (append_assoc a gap rest)) (p.tokenized at (gap ++ rest) more (starts rest) inner);
-}
+  -- blanks after
+  pub gap_after : {P : List Token → Type 0} {S : List ℕ → Type 0} {a : List ℕ} (gap : List ℕ)
+      → list_all is_blank gap ≡ true → IsPrinted edition P S a → ((rest : List ℕ) → S (gap ++ rest))
+      → IsPrinted edition P Any (a ++ gap)
+  gap_after {a = a} gap blank p starts = record {
+    tokens = p.tokens;
+    is = p.is;
+    tokenized = λ at rest more stop h.
+        let far : at + length (a ++ gap) ≡ (at + length a) + length gap = omega (arith, length-append a gap) in
+        let inner = skip_blanks gap rest (at + length a) more blank (subst (λ n. IsTokens edition n rest more) far h) in
+        subst (λ l. IsTokens edition at l (p.tokens at ++ more)) (sym (append_assoc a gap rest)) (p.tokenized at (gap ++ rest) more (starts rest) inner);
+  }
 
--- blanks before
-pub gap_before : {P : List Token → Type 0} {S : List ℕ → Type 0} {a : List ℕ} (gap : List ℕ) → list_all is_blank gap ≡ true → IsPrinted P S a → IsPrinted P S (gap ++ a)
-gap_before {a = a} gap blank p = record {
-  tokens = λ at. p.tokens (at + length gap);
-  is = λ at. p.is (at + length gap);
-  tokenized = λ at rest more stop h.
-      let far : at + length (gap ++ a) ≡ (at + length gap) + length a = omega (arith, length-append gap a) in
-      let inner = p.tokenized (at + length gap) rest more stop (subst (λ n. IsTokens n rest more) far h) in
-      subst (λ l. IsTokens at l (p.tokens (at + length gap) ++ more)) (sym (append_assoc gap a rest)) (skip_blanks gap (a ++ rest) at (p.tokens (at + length gap) ++ more) blank inner);
-}
+  -- blanks before
+  pub gap_before : {P : List Token → Type 0} {S : List ℕ → Type 0} {a : List ℕ} (gap : List ℕ)
+      → list_all is_blank gap ≡ true → IsPrinted edition P S a → IsPrinted edition P S (gap ++ a)
+  gap_before {a = a} gap blank p = record {
+    tokens = λ at. p.tokens (at + length gap);
+    is = λ at. p.is (at + length gap);
+    tokenized = λ at rest more stop h.
+        let far : at + length (gap ++ a) ≡ (at + length gap) + length a = omega (arith, length-append gap a) in
+        let inner = p.tokenized (at + length gap) rest more stop (subst (λ n. IsTokens edition n rest more) far h) in
+        subst (λ l. IsTokens edition at l (p.tokens (at + length gap) ++ more)) (sym (append_assoc gap a rest)) (skip_blanks gap (a ++ rest) at (p.tokens (at + length gap) ++ more) blank inner);
+  }
 
-pub mapped : {P Q : List Token → Type 0} {S : List ℕ → Type 0} {a : List ℕ} → ((ts : List Token) → P ts → Q ts) → IsPrinted P S a → IsPrinted Q S a
-mapped f p = record { tokens = p.tokens; is = λ at. f (p.tokens at) (p.is at); tokenized = p.tokenized }
+  pub mapped : {P Q : List Token → Type 0} {S : List ℕ → Type 0} {a : List ℕ}
+      → ((ts : List Token) → P ts → Q ts) → IsPrinted edition P S a → IsPrinted edition Q S a
+  mapped f p =
+      record { tokens = p.tokens; is = λ at. f (p.tokens at) (p.is at); tokenized = p.tokenized }
 
-pub stopped : {P : List Token → Type 0} {S T : List ℕ → Type 0} {a : List ℕ} → ((rest : List ℕ) → T rest → S rest) → IsPrinted P S a → IsPrinted P T a
-stopped f p = record { tokens = p.tokens; is = p.is; tokenized = λ at rest more stop h. p.tokenized at rest more (f rest stop) h }
+  pub stopped : {P : List Token → Type 0} {S T : List ℕ → Type 0} {a : List ℕ}
+      → ((rest : List ℕ) → T rest → S rest) → IsPrinted edition P S a → IsPrinted edition P T a
+  stopped f p = record { tokens = p.tokens; is = p.is; tokenized = λ at rest more stop h. p.tokenized at rest more (f rest stop) h }
 
-pub spelled_as : {P : List Token → Type 0} {S : List ℕ → Type 0} {a b : List ℕ} → a ≡ b → IsPrinted P S a → IsPrinted P S b
-spelled_as {P} {S} e p = subst (IsPrinted P S) e p
+  pub spelled_as : {P : List Token → Type 0} {S : List ℕ → Type 0} {a b : List ℕ} → a ≡ b
+      → IsPrinted edition P S a → IsPrinted edition P S b
+  spelled_as {P} {S} e p = subst (IsPrinted edition P S) e p
 
 -- ---- what ends each word
 

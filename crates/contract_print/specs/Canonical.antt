@@ -84,7 +84,7 @@ abbrev mutual
   more_args_text none = []
   more_args_text (more x xs) = codes ", " ++ expression_text x ++ more_args_text xs
 
--- The keys that a value is said to be derived from, if there are any.
+-- The keys that a version is said to be derived from, if there are any.
 abbrev pub from_text : Option Trees → List ℕ
 from_text None = []
 from_text (Some parts) = codes " from " ++ args_text parts
@@ -98,6 +98,10 @@ abbrev pub put_text : Tree → Tree → Option Trees → List ℕ
 put_text key value parts =
     codes "put " ++ expression_text key ++ codes " = " ++ expression_text value ++ from_text parts
     ++ codes ";\n"
+
+-- A `drop` with its key, and the keys that its version is said to be derived from.
+abbrev pub remove_text : Tree → Option Trees → List ℕ
+remove_text key parts = codes "drop " ++ expression_text key ++ from_text parts ++ codes ";\n"
 
 -- The margin of a block inside a block with this margin: two blanks more.
 abbrev pub deeper : List ℕ → List ℕ
@@ -127,6 +131,7 @@ abbrev mutual
       margin ++ test_text (codes "while ") test ++ statements_text (deeper margin) body
       ++ (margin ++ codes "}\n")
   statement_text margin (tree.Put at key value parts) = margin ++ put_text key value parts
+  statement_text margin (tree.Remove at key parts) = margin ++ remove_text key parts
   statement_text margin (tree.Fail at) = margin ++ codes "fail;\n"
   statement_text margin (tree.Return at) = margin ++ codes "return;\n"
 
@@ -163,10 +168,12 @@ abbrev pub contract_text : List FunctionTree → List ℕ
 contract_text [] = []
 contract_text (f ∷ fs) = function_text f ++ more_functions_text fs
 
--- The text is a source that reads as functions that differ from these in their offsets only.
-abbrev pub ReadsAgain : List ℕ → List FunctionTree → Type 0
-ReadsAgain text all =
-    (other : List FunctionTree) × ReadsAs text other × (erase_contract other ≡ erase_contract all)
+-- In this edition the text is a source that reads as functions that differ from these in their
+-- offsets only.
+abbrev pub ReadsAgain : ℕ → List ℕ → List FunctionTree → Type 0
+ReadsAgain edition text all =
+    (other : List FunctionTree) × ReadsAs edition text other
+    × (erase_contract other ≡ erase_contract all)
 
 -- Functions that differ from these in their offsets only have the same canonical text.
 abbrev pub HasOneText : List FunctionTree → Type 0
@@ -174,6 +181,7 @@ HasOneText all =
     (other : List FunctionTree) → erase_contract other ≡ erase_contract all
     → contract_text other ≡ contract_text all
 
--- The text is the canonical text of whatever it reads as.
-abbrev pub IsFixed : List ℕ → Type 0
-IsFixed text = (other : List FunctionTree) → ReadsAs text other → contract_text other ≡ text
+-- The text is the canonical text of whatever it reads as in this edition.
+abbrev pub IsFixed : ℕ → List ℕ → Type 0
+IsFixed edition text =
+    (other : List FunctionTree) → ReadsAs edition text other → contract_text other ≡ text

@@ -117,8 +117,8 @@ fn text_of(alloc: Global, contract: &Contract) -> Result<Vec<u8>, Memory>
 }
 
 /// The canonical text of a contract. Contracts that differ in their offsets only have the same
-/// text. A contract that was read from a source is read again from its text, apart from offsets,
-/// and the text of what its text reads as is that text.
+/// text. A contract that was read from a source of its edition is read again from its text in that
+/// edition, apart from offsets, and the text of what its text reads as is that text.
 ///
 /// # Errors
 ///
@@ -126,8 +126,8 @@ fn text_of(alloc: Global, contract: &Contract) -> Result<Vec<u8>, Memory>
 pub fn print(alloc: Global, contract: &Contract) -> Result<Bytes, Memory>
     ensures text { IfOk result (λ text. text ≡ contract_text (contract_of contract.now)) }
     ensures one_text { HasOneText (contract_of contract.now) }
-    ensures again { (source : List ℕ) → ReadsAs source (contract_of contract.now) → IfOk result (λ text. ReadsAgain text (contract_of contract.now)) }
-    ensures fixed { (source : List ℕ) → ReadsAs source (contract_of contract.now) → IfOk result IsFixed }
+    ensures again { (source : List ℕ) → ReadsAs contract.now.edition source (contract_of contract.now) → IfOk result (λ text. ReadsAgain contract.now.edition text (contract_of contract.now)) }
+    ensures fixed { (source : List ℕ) → ReadsAs contract.now.edition source (contract_of contract.now) → IfOk result (IsFixed contract.now.edition) }
 {
     let text = text_of(alloc, contract)?;
     Ok(Seq::from_vec(text))

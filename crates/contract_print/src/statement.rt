@@ -2,7 +2,7 @@
 
 ghost use Rattle.std.specs.Prelude.{◌≡◌, ◌++◌, OnOk, map, codes};
 ghost use Rattle.contract_tree.specs.Tree.{tree_of, parts_of, statement_of, statement_list};
-ghost use Rattle.contract_print.specs.Canonical.{expression_text, assigned_text, put_text, from_text, statement_text, statements_text, deeper, let_text, test_text};
+ghost use Rattle.contract_print.specs.Canonical.{expression_text, assigned_text, put_text, remove_text, from_text, statement_text, statements_text, deeper, let_text, test_text};
 
 use crate::expression::{put_args, put_expression};
 use crate::writer::put;
@@ -35,6 +35,20 @@ fn put_put(
     put_expression(alloc, out, key)?;
     put(out, b" = ")?;
     put_expression(alloc, out, value)?;
+    put_from(alloc, out, from)?;
+    put(out, b";\n")
+}
+
+fn put_remove(
+    alloc: Global,
+    out: &mut Vec<u8>,
+    key: &Expr,
+    from: &Option<ExprList>,
+) -> Result<(), Memory>
+    ensures { OnOk result (out.new.items ≡ out.old.items ++ remove_text (tree_of key.now) (parts_of from.now)) }
+{
+    put(out, b"drop ")?;
+    put_expression(alloc, out, key)?;
     put_from(alloc, out, from)?;
     put(out, b";\n")
 }
@@ -127,6 +141,7 @@ pub fn put_statement(
             put_closing(out, margin, b"}\n")
         }
         Form::Put { key, value, from } => put_put(alloc, out, key, value, from),
+        Form::Remove { key, from } => put_remove(alloc, out, key, from),
         Form::Fail => put(out, b"fail;\n"),
         Form::Return => put(out, b"return;\n"),
     }

@@ -21,9 +21,8 @@ use Rattle.contract_semantics.specs.Statements.{Ending, statements_run}
 -- Whether a value is of a kind.
 abbrev pub is_of_kind : ValueKind → Value → Bool
 is_of_kind Int (values.Int z) = true
-is_of_kind Int (values.Text text) = false
-is_of_kind Text (values.Int z) = false
 is_of_kind Text (values.Text text) = true
+is_of_kind kind value = false
 
 -- Whether an argument is of the kind of its parameter.
 abbrev pub is_of_its_kind : Param × Value → Bool
@@ -41,7 +40,8 @@ are_arguments (param ∷ params) (arg ∷ args) =
 abbrev pub first_variables : List Param → List Value → List Variable
 first_variables [] args = []
 first_variables (param ∷ params) [] = []
-first_variables (param ∷ params) (arg ∷ args) = record { name = param.name; value = arg } ∷ first_variables params args
+first_variables (param ∷ params) (arg ∷ args) =
+    record { name = param.name; value = arg } ∷ first_variables params args
 
 -- The function with this name.
 abbrev pub function_of_name : List FunctionTree → List ℕ → Option FunctionTree

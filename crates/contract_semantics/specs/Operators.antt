@@ -55,8 +55,7 @@ on_texts _ a b = Err WrongKind
 abbrev pub binary_result : Sign → Value → Value → Result Value TxStatus
 binary_result sign (values.Int a) (values.Int b) = on_ints sign a b
 binary_result sign (values.Text a) (values.Text b) = on_texts sign a b
-binary_result sign (values.Int a) (values.Text b) = Err WrongKind
-binary_result sign (values.Text a) (values.Int b) = Err WrongKind
+binary_result sign a b = Err WrongKind
 
 -- A prefix on a value.
 abbrev pub prefix_result : Sign → Value → Result Value TxStatus
@@ -73,4 +72,4 @@ left_decision _ value = None
 -- A condition holds if its value is a number other than 0.
 abbrev pub holds : Value → Bool
 holds (values.Int z) = not (is_zero z)
-holds (values.Text text) = false
+holds value = false

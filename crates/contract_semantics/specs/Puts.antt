@@ -23,8 +23,8 @@ is_own contract key =
 
 -- The key that a value spells.
 abbrev pub key_in : Value → Result (List ℕ) TxStatus
-key_in (values.Int z) = Err statuses.WrongKind
 key_in (values.Text text) = key_of_text text
+key_in value = Err statuses.WrongKind
 
 -- The keys that values spell, one after another, after those that are done.
 abbrev pub keys_in : List (List ℕ) → List Value → Result (List (List ℕ)) TxStatus

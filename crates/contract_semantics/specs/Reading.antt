@@ -1,6 +1,6 @@
 -- A contract reads what the transaction has put, or else the version that the key had before the
 -- block, which is recorded.
-use Rattle.std.specs.Prelude.{ℕ, pos, if◌then◌else◌, List, Option, Some, None, is_some, Result, Ok, Err}
+use Rattle.std.specs.Prelude.{ℕ, Bool, true, false, not, if◌then◌else◌, List, Option, Some, None, Result, Ok, Err}
 use Rattle.std.specs.Option.{option_map}
 use Rattle.lc_base.specs.lc_names.Key.{key_of}
 use Rattle.lc_base.specs.lc_names.declared.key.KeyError.{KeyError}
@@ -38,10 +38,25 @@ key_of_text text = good_key (key_of text)
 abbrev pub block_of : Option Held → Option ℕ
 block_of version = option_map (λ (held : Held). held.block) version
 
--- The value of a version; NoKey if there is none.
+-- Whether a value is gone.
+abbrev pub is_gone : Value → Bool
+is_gone values.Gone = true
+is_gone value = false
+
+-- The value; NoKey if it is gone.
+abbrev pub unless_gone : Value → Result Value TxStatus
+unless_gone values.Gone = Err NoKey
+unless_gone value = Ok value
+
+-- The value of a version; NoKey if there is no version or its value is gone.
 abbrev pub value_of_version : Option Held → Result Value TxStatus
 value_of_version None = Err NoKey
-value_of_version (Some held) = Ok held.value
+value_of_version (Some held) = unless_gone held.value
+
+-- Whether there is a version whose value isn't gone.
+abbrev pub has_value : Option Held → Bool
+has_value None = false
+has_value (Some held) = not (is_gone held.value)
 
 -- The capture after a read; TooMany if the read is refused.
 abbrev pub read_result : Result Captured CaptureError → Result Captured TxStatus
@@ -56,28 +71,28 @@ captured_by_read place key c =
     else read_result (captured_after_read c key (block_of (place.newest key)))
 
 -- What the key holds: the value that the transaction has put, which isn't a read, or else the value
--- that is read.
+-- that is read. A value that is gone is NoKey.
 abbrev pub value_got : Place → List ℕ → Option Value → Captured → BuiltinResult
-value_got place key (Some value) c = (Ok value, c)
+value_got place key (Some value) c = (unless_gone value, c)
 value_got place key None c =
     and_read (captured_by_read place key c) c (λ c. (value_of_version (place.newest key), c))
 
--- Whether the key holds a value.
+-- Whether the key holds a value that isn't gone.
 abbrev pub is_held : Place → List ℕ → Option Value → Captured → BuiltinResult
-is_held place key (Some value) c = (Ok (values.Int (pos 1)), c)
+is_held place key (Some value) c = (Ok (values.Int (truth (not (is_gone value)))), c)
 is_held place key None c =
     and_read (captured_by_read place key c) c
-    (λ c. (Ok (values.Int (truth (is_some (place.newest key)))), c))
+    (λ c. (Ok (values.Int (truth (has_value (place.newest key)))), c))
 
 -- The value if it is a number, else WrongKind.
 abbrev pub int_in : Value → Result Value TxStatus
 int_in (values.Int z) = Ok (values.Int z)
-int_in (values.Text text) = Err WrongKind
+int_in value = Err WrongKind
 
 -- The value if it is a text, else WrongKind.
 abbrev pub text_in : Value → Result Value TxStatus
-text_in (values.Int z) = Err WrongKind
 text_in (values.Text text) = Ok (values.Text text)
+text_in value = Err WrongKind
 
 -- The builtin's result, with its value checked for its kind.
 abbrev pub of_kind : (Value → Result Value TxStatus) → BuiltinResult → BuiltinResult
@@ -88,7 +103,7 @@ abbrev pub get_result : Place → List ℕ → Captured → BuiltinResult
 get_result place text c =
     and_read (key_of_text text) c (λ key. value_got place key (pending c.puts key) c)
 
--- Whether there is a value at the key that a text spells.
+-- Whether there is a value at the key that a text spells, and it isn't gone.
 abbrev pub has_result : Place → List ℕ → Captured → BuiltinResult
 has_result place text c =
     and_read (key_of_text text) c (λ key. is_held place key (pending c.puts key) c)

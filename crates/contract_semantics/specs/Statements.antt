@@ -3,6 +3,7 @@
 use Rattle.std.specs.Prelude.{ℕ, zero, suc, ◌==◌, Bool, if◌then◌else◌, List, [], ◌∷◌, ◌++◌, length, take, position, slice_set, Option, Some, None, Result, Ok, Err}
 use Rattle.std.specs.Cmp.Lexicographic.{pointwise}
 use Rattle.lc_base.specs.declared.value.Value.{Value}
+use Rattle.lc_base.specs.declared.value.Value.TheVariants as values
 use Rattle.lc_base.specs.declared.tx_status.TxStatus.{TxStatus}
 use Rattle.lc_base.specs.declared.tx_status.TxStatus.TheVariants as statuses
 use Rattle.contract_tree.specs.Tree.{Tree, Trees, StatementTree, StatementTrees, no_statement, statements}
@@ -90,7 +91,7 @@ unfoldable pub turns : ℕ → (List Variable → Machine → Step Turn) → Lis
 turns zero turn variables m = Failed statuses.OutOfSteps m
 turns (suc more) turn variables m = and_then (turn variables m) (after_turn (turns more turn))
 
--- ---- put
+-- ---- put and drop
 
 -- The values of the keys in a `from`, if there is one.
 abbrev pub parts_values : Scene → List Variable → Option Trees → Machine → Step (Option (List Value))
@@ -98,7 +99,7 @@ parts_values s variables None m = Done None m
 parts_values s variables (Some parts) m =
     and_then (values_of s variables [] parts m) (λ values m. Done (Some values) m)
 
--- The end of a put.
+-- The end of a put or of a drop.
 abbrev pub put_done : List Variable → Result Captured TxStatus → Machine → Step Ending
 put_done variables (Ok c) m = Done (Goes variables) (record m { capture = c })
 put_done variables (Err status) m = Failed status m
@@ -112,6 +113,32 @@ put_run s key value parts variables m =
     (λ value m. and_then (parts_values s variables parts m)
     (λ parts m. after_charge CHARGE_PUT m
     (λ m. put_done variables (captured_by_put s.site.contract s.place key value parts m.capture) m)))))
+
+-- The end of a put, once its parts have been evaluated: its further charge, and what it does.
+abbrev pub put_end : List ℕ → Place → Value → Value → Option (List Value) → List Variable → Machine → Step Ending
+put_end contract place key value parts variables m =
+    after_charge CHARGE_PUT m
+    (λ m. put_done variables (captured_by_put contract place key value parts m.capture) m)
+
+-- A put, once its key and its value have been evaluated.
+abbrev pub put_of_values : Scene → Value → Value → Option Trees → List Variable → Machine → Step Ending
+put_of_values s key value parts variables m =
+    and_then (parts_values s variables parts m)
+    (λ parts m. put_end s.site.contract s.place key value parts variables m)
+
+-- A put, once its key has been evaluated.
+abbrev pub put_of_key : Scene → Value → Tree → Option Trees → List Variable → Machine → Step Ending
+put_of_key s key value parts variables m =
+    and_then (value_of s variables value m)
+    (λ value m. put_of_values s key value parts variables m)
+
+-- A drop: its key and the keys in its `from` are evaluated, then it is charged, and puts the value
+-- that is gone.
+abbrev pub remove_run : Scene → Tree → Option Trees → List Variable → Machine → Step Ending
+remove_run s key parts variables m =
+    after_charge CHARGE_NODE m
+    (λ m. and_then (value_of s variables key m)
+    (λ key m. put_of_values s key values.Gone parts variables m))
 
 -- ---- statements
 
@@ -145,6 +172,7 @@ abbrev mutual
   statement_run s (tree.While at test body) variables m =
       turns m.left (loop_turn s test (statements_run s body)) variables m
   statement_run s (tree.Put at key value parts) variables m = put_run s key value parts variables m
+  statement_run s (tree.Remove at key parts) variables m = remove_run s key parts variables m
   statement_run s (tree.Fail at) variables m =
       after_charge CHARGE_NODE m (λ m. Failed statuses.Failed m)
   statement_run s (tree.Return at) variables m = after_charge CHARGE_NODE m (λ m. Done Returns m)
@@ -171,21 +199,3 @@ branch_run s _ chosen variables m = Done (Goes variables) m
 abbrev pub loop_run : Scene → Tree → StatementTrees → ℕ → List Variable → Machine → Step Ending
 loop_run s test body clock variables m =
     turns clock (loop_turn s test (statements_run s body)) variables m
-
--- The end of a put, once its parts have been evaluated: its further charge, and what it does.
-abbrev pub put_end : List ℕ → Place → Value → Value → Option (List Value) → List Variable → Machine → Step Ending
-put_end contract place key value parts variables m =
-    after_charge CHARGE_PUT m
-    (λ m. put_done variables (captured_by_put contract place key value parts m.capture) m)
-
--- A put, once its key and its value have been evaluated.
-abbrev pub put_of_values : Scene → Value → Value → Option Trees → List Variable → Machine → Step Ending
-put_of_values s key value parts variables m =
-    and_then (parts_values s variables parts m)
-    (λ parts m. put_end s.site.contract s.place key value parts variables m)
-
--- A put, once its key has been evaluated.
-abbrev pub put_of_key : Scene → Value → Tree → Option Trees → List Variable → Machine → Step Ending
-put_of_key s key value parts variables m =
-    and_then (value_of s variables value m)
-    (λ value m. put_of_values s key value parts variables m)

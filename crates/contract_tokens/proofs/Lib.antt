@@ -7,3 +7,4 @@ pub mod Pieces
 pub mod Once
 pub mod Outcomes
 pub mod Listings
+pub mod Examples

@@ -9,7 +9,7 @@ use Rattle.contract_tokens.specs.declared.token.Word.{Word}
 use Rattle.contract_tokens.specs.declared.token.Word.TheVariants as words
 use Rattle.contract_tokens.specs.declared.token.TokenKind.{TokenKind}
 use Rattle.contract_tokens.specs.declared.token.TokenKind.TheVariants as kinds
-use Rattle.contract_tokens.specs.Spelling.{spelling}
+use Rattle.contract_tokens.specs.Spelling.{spelling, is_of}
 
 -- ---- bytes
 
@@ -83,16 +83,18 @@ escape false byte = byte ∷ []
 abbrev pub literal_body : List ℕ → List ℕ
 literal_body text = flat_map (λ byte. escape (is_escaped byte) byte) text
 
--- The bytes spell this word.
-pub data IsSpelled : List ℕ → Word → Type 0 where
-  MarkSpelled : (mark : Mark) → IsSpelled (spelling mark) (words.Mark mark)
+-- The bytes spell this word in an edition.
+pub data IsSpelled (edition : ℕ) : List ℕ → Word → Type 0 where
+  MarkSpelled :
+      (mark : Mark) → is_of edition mark ≡ true → IsSpelled edition (spelling mark) (words.Mark mark)
   NameSpelled :
-      (name : List ℕ) → IsName name → ((mark : Mark) → spelling mark ≢ name)
-      → IsSpelled name (words.Name name)
-  IntSpelled : (n : ℕ) → n < 2 ^ 63 → IsSpelled (decimal n) (words.Int (pos n))
+      (name : List ℕ) → IsName name
+      → ((mark : Mark) → is_of edition mark ≡ true → spelling mark ≢ name)
+      → IsSpelled edition name (words.Name name)
+  IntSpelled : (n : ℕ) → n < 2 ^ 63 → IsSpelled edition (decimal n) (words.Int (pos n))
   TextSpelled :
       (body text : List ℕ) → IsLiteralBody body text → length text ≤ MAX_LITERAL_BYTES
-      → IsSpelled (in_quotes body) (words.Text text)
+      → IsSpelled edition (in_quotes body) (words.Text text)
 
 -- The bytes have the shape of a token, which says nothing about sizes and leading zeros.
 pub data IsLexeme : List ℕ → Type 0 where
@@ -114,19 +116,20 @@ pub record IsLongest (prefix rest : List ℕ) : Type 0 where
 abbrev pub HasNoLexeme : List ℕ → Type 0
 HasNoLexeme bytes = (prefix rest : List ℕ) → bytes ≡ prefix ++ rest → IsLexeme prefix → ⊥
 
--- The bytes begin with no token, for this reason.
-pub data IsRefused : List ℕ → TokenKind → Type 0 where
+-- The bytes begin with no token of an edition, for this reason.
+pub data IsRefused (edition : ℕ) : List ℕ → TokenKind → Type 0 where
   -- the longest lexeme spells no word: the name is too long, the number is too large or has a
   -- leading 0, or the text is too long
   Breaks :
-      (prefix rest : List ℕ) → IsLongest prefix rest → ((word : Word) → IsSpelled prefix word → ⊥)
-      → IsRefused (prefix ++ rest) kinds.Literal
+      (prefix rest : List ℕ) → IsLongest prefix rest
+      → ((word : Word) → IsSpelled edition prefix word → ⊥)
+      → IsRefused edition (prefix ++ rest) kinds.Literal
   -- a quote begins no text literal
   NoText :
       (rest : List ℕ)
       → ((prefix after : List ℕ) (word : Word)
-      → quote ∷ rest ≡ prefix ++ after → IsSpelled prefix word → ⊥)
-      → IsRefused (quote ∷ rest) kinds.Literal
+      → quote ∷ rest ≡ prefix ++ after → IsSpelled edition prefix word → ⊥)
+      → IsRefused edition (quote ∷ rest) kinds.Literal
   NoToken :
       (byte : ℕ) (rest : List ℕ) → is_blank byte ≡ false → byte ≢ hash → byte ≢ quote
-      → HasNoLexeme (byte ∷ rest) → IsRefused (byte ∷ rest) kinds.Byte
+      → HasNoLexeme (byte ∷ rest) → IsRefused edition (byte ∷ rest) kinds.Byte

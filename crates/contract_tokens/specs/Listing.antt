@@ -16,19 +16,19 @@ tokens_by_piece (pieces.Take n word) at bytes others =
 tokens_by_piece (pieces.Bad kind) at bytes others = []
 
 -- The tokens of at most `turns` pieces.
-unfoldable pub tokens_within : ℕ → ℕ → List ℕ → List Token
-tokens_within zero at bytes = []
-tokens_within (suc turns) at bytes =
-    tokens_by_piece (next_piece bytes) at bytes (tokens_within turns)
+unfoldable pub tokens_within : ℕ → ℕ → ℕ → List ℕ → List Token
+tokens_within edition zero at bytes = []
+tokens_within edition (suc turns) at bytes =
+    tokens_by_piece (next_piece edition bytes) at bytes (tokens_within edition turns)
 
 -- The tokens of a source from an offset on, up to its end or its first fault.
-unfoldable pub tokens_from : ℕ → List ℕ → List Token
-tokens_from at bytes = tokens_within (suc (length bytes)) at bytes
+unfoldable pub tokens_from : ℕ → ℕ → List ℕ → List Token
+tokens_from edition at bytes = tokens_within edition (suc (length bytes)) at bytes
 
 -- The tokens from an optional offset on; there are none without an offset.
-abbrev pub tokens_left : List ℕ → Option ℕ → List Token
-tokens_left source None = []
-tokens_left source (Some at) = tokens_from at (drop at source)
+abbrev pub tokens_left : ℕ → List ℕ → Option ℕ → List Token
+tokens_left edition source None = []
+tokens_left edition source (Some at) = tokens_from edition at (drop at source)
 
 -- The offset, if there is one, is within the source.
 abbrev pub IsOffsetIn : List ℕ → Option ℕ → Type 0
@@ -42,10 +42,10 @@ next_and_rest (Some token) rest = token ∷ rest
 
 -- The list begins with this token and continues at the offset after it, or it is empty if there is
 -- no token.
-abbrev pub IsFirst : List ℕ → List Token → Option (Token × Option ℕ) → Type 0
-IsFirst source list None = list ≡ []
-IsFirst source list (Some (token, next)) =
-    (list ≡ token ∷ tokens_left source next) × IsOffsetIn source next
+abbrev pub IsFirst : ℕ → List ℕ → List Token → Option (Token × Option ℕ) → Type 0
+IsFirst edition source list None = list ≡ []
+IsFirst edition source list (Some (token, next)) =
+    (list ≡ token ∷ tokens_left edition source next) × IsOffsetIn source next
 
 -- The offset after the piece at this offset, `None` at the end, or the fault there.
 abbrev pub offset_after : ℕ → Piece → Result (Option ℕ) (ℕ × TokenKind)

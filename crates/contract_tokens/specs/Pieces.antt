@@ -15,20 +15,24 @@ use Rattle.contract_tokens.specs.declared.piece.Piece.{Piece}
 use Rattle.contract_tokens.specs.declared.piece.Piece.TheVariants as pieces
 use Rattle.contract_tokens.specs.declared.literal.LiteralByte.{LiteralByte}
 use Rattle.contract_tokens.specs.declared.literal.LiteralByte.TheVariants as meanings
-use Rattle.contract_tokens.specs.Spelling.{spelling}
+use Rattle.contract_tokens.specs.Spelling.{spelling, is_of}
 use Rattle.contract_tokens.specs.Lexemes.{is_blank, is_digit, newline, hash, quote, backslash, is_escaped}
 
 -- ---- keywords and signs
 
--- The keywords.
+-- The keywords of all editions.
 abbrev pub keywords : List Mark
 keywords =
-    marks.Fn ∷ marks.Let ∷ marks.If ∷ marks.Else ∷ marks.While ∷ marks.Put ∷ marks.From ∷ marks.Fail
-    ∷ marks.Return ∷ marks.Int ∷ marks.Text ∷ []
+    marks.Fn ∷ marks.Let ∷ marks.If ∷ marks.Else ∷ marks.While ∷ marks.Put ∷ marks.Drop ∷ marks.From
+    ∷ marks.Fail ∷ marks.Return ∷ marks.Int ∷ marks.Text ∷ []
 
--- The keyword that these bytes are.
-unfoldable pub keyword_of : List ℕ → Option Mark
-keyword_of bytes = find (λ mark. pointwise ◌==◌ bytes (spelling mark)) keywords
+-- Whether these bytes are this keyword in an edition.
+abbrev pub is_keyword : ℕ → List ℕ → Mark → Bool
+is_keyword edition bytes mark = pointwise ◌==◌ bytes (spelling mark) && is_of edition mark
+
+-- The keyword of an edition that these bytes are.
+unfoldable pub keyword_of : ℕ → List ℕ → Option Mark
+keyword_of edition bytes = find (is_keyword edition bytes) keywords
 
 -- The sign of one byte.
 unfoldable pub short_sign : ℕ → Option Mark
@@ -89,8 +93,8 @@ word_piece run (Some mark) = pieces.Take (length run) (words.Mark mark)
 word_piece run None = checked_name_piece run (name_of run)
 
 -- The piece of the longest run of bytes that a name may have.
-unfoldable pub name_piece : List ℕ → Piece
-name_piece run = word_piece run (keyword_of run)
+unfoldable pub name_piece : ℕ → List ℕ → Piece
+name_piece edition run = word_piece run (keyword_of edition run)
 
 -- The value of a number with these digits appended, or `None` if it is too large for an i64.
 unfoldable pub value_from : ℕ → List ℕ → Option ℕ
@@ -144,17 +148,17 @@ literal_piece escaped text count (byte ∷ rest) =
 -- ---- all pieces
 
 -- The piece at the start of a source that begins with this byte.
-abbrev pub nonempty_piece : ℕ → List ℕ → Piece
-nonempty_piece first rest =
+abbrev pub nonempty_piece : ℕ → ℕ → List ℕ → Piece
+nonempty_piece edition first rest =
     if is_blank first then pieces.Skip 1 else
     if first == hash then
     pieces.Skip (prefix_len (λ byte. not (byte == newline)) (first ∷ rest)) else
-    if is_letter first then name_piece (take_while is_name_byte (first ∷ rest)) else
+    if is_letter first then name_piece edition (take_while is_name_byte (first ∷ rest)) else
     if is_digit first then number_piece (take_while is_digit (first ∷ rest)) else
     if first == quote then literal_piece false [] 0 rest else
     sign_piece first rest
 
 -- The piece at the start of a source.
-unfoldable pub next_piece : List ℕ → Piece
-next_piece [] = pieces.End
-next_piece (first ∷ rest) = nonempty_piece first rest
+unfoldable pub next_piece : ℕ → List ℕ → Piece
+next_piece edition [] = pieces.End
+next_piece edition (first ∷ rest) = nonempty_piece edition first rest

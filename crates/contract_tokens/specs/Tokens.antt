@@ -18,27 +18,29 @@ abbrev pub prepend_token : Token → Outcome → Outcome
 prepend_token token (Ok list) = Ok (token ∷ list)
 prepend_token token (Err fault) = Err fault
 
--- The source from an offset on has this outcome.
-pub data IsTokenized : ℕ → List ℕ → Outcome → Type 0 where
-  Ends : (at : ℕ) → IsTokenized at [] (Ok (record { at = at; word = words.End } ∷ []))
+-- The source from an offset on has this outcome in an edition.
+pub data IsTokenized (edition : ℕ) : ℕ → List ℕ → Outcome → Type 0 where
+  Ends : (at : ℕ) → IsTokenized edition at [] (Ok (record { at = at; word = words.End } ∷ []))
   Skips :
       (at : ℕ) (gap rest : List ℕ) (outcome : Outcome) → IsGap gap rest
-      → IsTokenized (at + length gap) rest outcome → IsTokenized at (gap ++ rest) outcome
+      → IsTokenized edition (at + length gap) rest outcome
+      → IsTokenized edition at (gap ++ rest) outcome
   Takes :
       (at : ℕ) (prefix rest : List ℕ) (word : Word) (outcome : Outcome) → IsLongest prefix rest
-      → IsSpelled prefix word → IsTokenized (at + length prefix) rest outcome
-      → IsTokenized at (prefix ++ rest) (prepend_token (record { at = at; word = word }) outcome)
+      → IsSpelled edition prefix word → IsTokenized edition (at + length prefix) rest outcome
+      → IsTokenized edition at (prefix ++ rest)
+      (prepend_token (record { at = at; word = word }) outcome)
   Refuses :
-      (at : ℕ) (bytes : List ℕ) (kind : TokenKind) → IsRefused bytes kind
-      → IsTokenized at bytes (Err (at, kind))
+      (at : ℕ) (bytes : List ℕ) (kind : TokenKind) → IsRefused edition bytes kind
+      → IsTokenized edition at bytes (Err (at, kind))
 
 -- These are the tokens of the source from an offset on.
-abbrev pub IsTokens : ℕ → List ℕ → List Token → Type 0
-IsTokens at bytes list = IsTokenized at bytes (Ok list)
+abbrev pub IsTokens : ℕ → ℕ → List ℕ → List Token → Type 0
+IsTokens edition at bytes list = IsTokenized edition at bytes (Ok list)
 
 -- The first fault of the source from an offset on is of this kind, at the second offset.
-abbrev pub IsTokenFault : ℕ → List ℕ → ℕ → TokenKind → Type 0
-IsTokenFault at bytes offset kind = IsTokenized at bytes (Err (offset, kind))
+abbrev pub IsTokenFault : ℕ → ℕ → List ℕ → ℕ → TokenKind → Type 0
+IsTokenFault edition at bytes offset kind = IsTokenized edition at bytes (Err (offset, kind))
 
 -- The fault that an error reports, or `None` if it is out of memory.
 abbrev pub fault_of : TokenError → Option (ℕ × TokenKind)

@@ -2,6 +2,7 @@
 //! parsed.
 #![tactic(auto)]
 
+mod edition;
 mod limits;
 mod literal;
 mod name;
@@ -11,6 +12,7 @@ mod sign;
 mod token;
 mod tokens;
 
+pub use edition::{FIRST_EDITION, SECOND_EDITION};
 pub use limits::MAX_LITERAL_BYTES;
 pub use token::{Mark, Token, TokenError, TokenKind, Word};
 pub use tokens::Tokens;

@@ -3,13 +3,14 @@
 ghost use Rattle.std.specs.Prelude.{◌≡◌};
 ghost use Rattle.contract_tokens.specs.Pieces.{keyword_of, name_piece};
 
+use crate::edition::SECOND_EDITION;
 use crate::piece::Piece;
 use crate::token::{Mark, TokenKind, Word};
 use lc_base::Name;
 
 #[tactic(auto, unfolding(crate::specs::Pieces::keyword_of))]
-fn keyword_of(run: &[u8]) -> Option<Mark>
-    ensures { result ≡ keyword_of run.now }
+fn keyword_of(edition: u8, run: &[u8]) -> Option<Mark>
+    ensures { result ≡ keyword_of edition run.now }
 {
     match run {
         b"fn" => Some(Mark::Fn),
@@ -18,6 +19,13 @@ fn keyword_of(run: &[u8]) -> Option<Mark>
         b"else" => Some(Mark::Else),
         b"while" => Some(Mark::While),
         b"put" => Some(Mark::Put),
+        b"drop" => {
+            if edition == SECOND_EDITION {
+                Some(Mark::Drop)
+            } else {
+                None
+            }
+        }
         b"from" => Some(Mark::From),
         b"fail" => Some(Mark::Fail),
         b"return" => Some(Mark::Return),
@@ -29,10 +37,10 @@ fn keyword_of(run: &[u8]) -> Option<Mark>
 
 /// The piece of the keyword or the name that the bytes are.
 #[tactic(auto, unfolding(crate::specs::Pieces::name_piece))]
-pub fn name_piece(run: &[u8]) -> Piece
-    ensures { result ≡ name_piece run.now }
+pub fn name_piece(edition: u8, run: &[u8]) -> Piece
+    ensures { result ≡ name_piece edition run.now }
 {
-    if let Some(mark) = keyword_of(run) {
+    if let Some(mark) = keyword_of(edition, run) {
         return Piece::Take(run.len(), Word::Mark(mark));
     }
     match Name::new(run) {

@@ -67,9 +67,9 @@ fn digit_count(bytes: &[u8]) -> usize
     bytes.iter().take_while(|byte| is_digit(**byte)).count()
 }
 
-fn nonempty_piece(alloc: Global, first: u8, bytes: &[u8]) -> Result<Piece, Memory>
+fn nonempty_piece(alloc: Global, edition: u8, first: u8, bytes: &[u8]) -> Result<Piece, Memory>
     requires { bytes.now ≡ first ∷ drop 1 bytes.now }
-    ensures { IfOk result (λ piece. piece ≡ nonempty_piece first (drop 1 bytes.now)) }
+    ensures { IfOk result (λ piece. piece ≡ nonempty_piece edition first (drop 1 bytes.now)) }
 {
     if is_blank(first) {
         return Ok(Piece::Skip(1));
@@ -78,7 +78,7 @@ fn nonempty_piece(alloc: Global, first: u8, bytes: &[u8]) -> Result<Piece, Memor
         return Ok(Piece::Skip(line_length(bytes)));
     }
     if is_letter(first) {
-        return Ok(name_piece(&bytes[..name_length(bytes)]));
+        return Ok(name_piece(edition, &bytes[..name_length(bytes)]));
     }
     if is_digit(first) {
         return Ok(number_piece(&bytes[..digit_count(bytes)]));
@@ -91,11 +91,11 @@ fn nonempty_piece(alloc: Global, first: u8, bytes: &[u8]) -> Result<Piece, Memor
 
 /// The piece at the start of the bytes.
 #[tactic(auto, unfolding(crate::specs::Pieces::next_piece))]
-pub fn next_piece(alloc: Global, bytes: &[u8]) -> Result<Piece, Memory>
-    ensures { IfOk result (λ piece. piece ≡ next_piece bytes.now) }
+pub fn next_piece(alloc: Global, edition: u8, bytes: &[u8]) -> Result<Piece, Memory>
+    ensures { IfOk result (λ piece. piece ≡ next_piece edition bytes.now) }
 {
     match bytes {
         [] => Ok(Piece::End),
-        [first, ..] => nonempty_piece(alloc, *first, bytes),
+        [first, ..] => nonempty_piece(alloc, edition, *first, bytes),
     }
 }

@@ -44,6 +44,8 @@ pub enum Mark {
     While,
     /// The keyword `put`.
     Put,
+    /// The keyword `drop`, of the second edition.
+    Drop,
     /// The keyword `from`.
     From,
     /// The keyword `fail`.

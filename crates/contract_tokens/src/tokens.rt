@@ -15,20 +15,25 @@ use lc_base::Memory;
 use std::alloc::Global;
 use std::marker::Model;
 
-fn piece_at(alloc: Global, source: &[u8], at: usize) -> Result<Piece, Memory>
+fn piece_at(alloc: Global, edition: u8, source: &[u8], at: usize) -> Result<Piece, Memory>
     requires { at ≤ length source.now }
-    ensures { IfOk result (λ piece. piece ≡ next_piece (drop at source.now)) }
+    ensures { IfOk result (λ piece. piece ≡ next_piece edition (drop at source.now)) }
 {
-    next_piece(alloc, &source[at..])
+    next_piece(alloc, edition, &source[at..])
 }
 
 /// The offset after the token or the gap at this offset, or `None` at the end.
-fn offset_after(alloc: Global, source: &[u8], at: usize) -> Result<Option<usize>, TokenError>
+fn offset_after(
+    alloc: Global,
+    edition: u8,
+    source: &[u8],
+    at: usize,
+) -> Result<Option<usize>, TokenError>
     requires at { at ≤ length source.now }
     requires source { length source.now < 2 ^ 32 }
-    ensures { Answers (λ next. next) fault_of result (offset_after at (next_piece (drop at source.now))) }
+    ensures { Answers (λ next. next) fault_of result (offset_after at (next_piece edition (drop at source.now))) }
 {
-    match piece_at(alloc, source, at)? {
+    match piece_at(alloc, edition, source, at)? {
         Piece::End => Ok(None),
         Piece::Skip(count) => Ok(Some(at + count)),
         Piece::Take(count, _) => Ok(Some(at + count)),
@@ -43,16 +48,17 @@ fn offset_after(alloc: Global, source: &[u8], at: usize) -> Result<Option<usize>
 /// the end.
 fn first_token(
     alloc: Global,
+    edition: u8,
     source: &[u8],
     from: usize,
 ) -> Result<Option<(Token, Option<usize>)>, Memory>
     requires from { from ≤ length source.now }
     requires source { length source.now < 2 ^ 32 }
-    ensures { IfOk result (IsFirst source.now (tokens_from from (drop from source.now))) }
+    ensures { IfOk result (IsFirst edition source.now (tokens_from edition from (drop from source.now))) }
 {
     let mut at = from;
     loop {
-        match piece_at(alloc, source, at)? {
+        match piece_at(alloc, edition, source, at)? {
             Piece::End => {
                 let token = Token {
                     at: at as u32,
@@ -79,6 +85,7 @@ fn first_token(
 #[derive(Drop)]
 pub struct Tokens<'a> {
     alloc: Global,
+    edition: u8,
     source: &'a [u8],
     at: Option<usize>,
 }
@@ -90,29 +97,31 @@ impl<'a> Model for Tokens<'a> {
 
     ghost Value = { List Token };
 
-    ghost view = { λ tokens. tokens_left tokens.source.now tokens.at };
+    ghost view = { λ tokens. tokens_left tokens.edition tokens.source.now tokens.at };
 
     ghost invariant = { λ tokens. IsOffsetIn tokens.source.now tokens.at × (length tokens.source.now < 2 ^ 32) };
 }
 
 impl<'a> Tokens<'a> {
-    /// All tokens of a source. The source is scanned here, so that its first fault is known before
-    /// its first token is. Each source has one outcome: its tokens, or its first fault.
+    /// All tokens of a source in an edition. The source is scanned here, so that its first fault is
+    /// known before its first token is. Each source has one outcome in an edition: its tokens, or
+    /// its first fault.
     ///
     /// # Errors
     ///
     /// The first offset at which there is no token, or `Memory`.
-    pub fn new(alloc: Global, source: &'a [u8]) -> Result<Self, TokenError>
+    pub fn new(alloc: Global, source: &'a [u8], edition: u8) -> Result<Self, TokenError>
         requires { length source.now < 2 ^ 32 }
-        ensures outcome { (outcome : Outcome) × IsTokenized 0 source.now outcome × Answers (λ list. list) fault_of result outcome }
-        ensures once { (one other : Outcome) → IsTokenized 0 source.now one → IsTokenized 0 source.now other → one ≡ other }
+        ensures outcome { (outcome : Outcome) × IsTokenized edition 0 source.now outcome × Answers (λ list. list) fault_of result outcome }
+        ensures once { (one other : Outcome) → IsTokenized edition 0 source.now one → IsTokenized edition 0 source.now other → one ≡ other }
     {
         let mut at = 0;
-        while let Some(next) = offset_after(alloc, source, at)? {
+        while let Some(next) = offset_after(alloc, edition, source, at)? {
             at = next;
         }
         Ok(Tokens {
             alloc,
+            edition,
             source,
             at: Some(0),
         })
@@ -136,7 +145,7 @@ impl<'a> Tokens<'a> {
         let Some(from) = self.at else {
             return Ok(None);
         };
-        let Some((token, next)) = first_token(self.alloc, self.source, from)? else {
+        let Some((token, next)) = first_token(self.alloc, self.edition, self.source, from)? else {
             return Ok(None);
         };
         self.at = next;

@@ -63,6 +63,7 @@ mutual
     IfElse : ℕ → Tree → StatementTrees → StatementTrees → StatementTree
     While : ℕ → Tree → StatementTrees → StatementTree
     Put : ℕ → Tree → Tree → Option Trees → StatementTree
+    Remove : ℕ → Tree → Option Trees → StatementTree
     Fail : ℕ → StatementTree
     Return : ℕ → StatementTree
 
@@ -90,6 +91,7 @@ form_tree (p.If test first (Some second)) at =
     IfElse at (tree_of test) (statement_list first.items) (statement_list second.items)
 form_tree (p.While test body) at = While at (tree_of test) (statement_list body.items)
 form_tree (p.Put key value parts) at = Put at (tree_of key) (tree_of value) (parts_of parts)
+form_tree (p.Remove key parts) at = Remove at (tree_of key) (parts_of parts)
 form_tree p.Fail at = Fail at
 form_tree p.Return at = Return at
 
@@ -165,6 +167,7 @@ abbrev mutual
       IfElse 0 (erase test) (erase_statements first) (erase_statements second)
   erase_statement (While at test body) = While 0 (erase test) (erase_statements body)
   erase_statement (Put at key value parts) = Put 0 (erase key) (erase value) (erase_from parts)
+  erase_statement (Remove at key parts) = Remove 0 (erase key) (erase_from parts)
   erase_statement (Fail at) = Fail 0
   erase_statement (Return at) = Return 0
 

@@ -12,6 +12,8 @@ pub type ExprList = Vec<Expr>;
 /// A contract.
 #[derive(Debug, Drop)]
 pub struct Contract {
+    /// The edition of the language that it is written in.
+    pub edition: u8,
     /// The functions, at least one if the contract was read from a source.
     pub functions: FunctionList,
 }
@@ -102,6 +104,13 @@ pub enum Form {
         /// The new value.
         value: Expr,
         /// The keys that the value is said to be derived from, if the source has a `from`.
+        from: Option<ExprList>,
+    },
+    /// `drop key from from;`
+    Remove {
+        /// The key, which has no value afterwards.
+        key: Expr,
+        /// The keys that its version is said to be derived from, if the source has a `from`.
         from: Option<ExprList>,
     },
     /// `fail;`

@@ -2,7 +2,7 @@
 use Rattle.std.proofs.Common.{ℕ, List, refl, arith}
 use Rattle.byte_fields.proofs.Laws.{IsField, renamed, then_field, made_field}
 use Rattle.byte_fields.proofs.Pieces.{piece_field, number_piece, bytes_piece, wide32}
-use Rattle.byte_fields.proofs.Fields.{key_field, value_field}
+use Rattle.byte_fields.proofs.Fields.{key_field, body_value_field}
 use Rattle.lc_base.specs.declared.limits.TheConstants.{MAX_DEPS}
 use Rattle.lc_base.specs.declared.value.Value.{Value}
 use Rattle.prov_entry.specs.declared.entry.BodyDep.{BodyDep}
@@ -29,7 +29,7 @@ body_parts body = (body.value, body.deps)
 pub body_field : IsField body_at body_fields IsBody
 unfolding body_at
 body_field =
-    renamed (made_field body_of body_parts (then_field value_field (short_list_field MAX_DEPS (omega arith) body_dep_field)) (λ parts is. refl))
+    renamed (made_field body_of body_parts (then_field body_value_field (short_list_field MAX_DEPS (omega arith) body_dep_field)) (λ parts is. refl))
     (λ body is. record { value_is_value = is.0.0; few_deps = is.0.1.0; deps_are_deps = is.0.1.1 })
     (λ body is. ((is.value_is_value, (is.few_deps, is.deps_are_deps)), refl))
     (λ body is. refl)

@@ -5,7 +5,7 @@ use Rattle.lc_base.specs.declared.limits.TheConstants.{MAX_DEPS}
 use Rattle.lc_base.specs.declared.digest.Digest.{Digest}
 use Rattle.lc_base.specs.declared.row.Dep.{Dep}
 use Rattle.lc_base.specs.declared.value.Value.{Value}
-use Rattle.byte_fields.specs.Reading.{Field, ret_at, bind_at, then_at, made_at, ruled_at, items_at, number_at, byte_at, bytes_at, key_at, key_or_empty_at, value_at}
+use Rattle.byte_fields.specs.Reading.{Field, ret_at, bind_at, then_at, made_at, ruled_at, items_at, number_at, byte_at, bytes_at, key_at, key_or_empty_at, body_value_at}
 use Rattle.prov_entry.specs.declared.limits.TheConstants.{MAX_LINKS}
 use Rattle.prov_entry.specs.declared.entry.Link.{Link}
 use Rattle.prov_entry.specs.declared.entry.Header.{Header}
@@ -85,7 +85,7 @@ body_of parts = record { value = parts.0; deps = parts.1 }
 
 -- A body.
 unfoldable pub body_at : List ℕ → Field Body
-body_at = made_at body_of (then_at value_at body_deps_at)
+body_at = made_at body_of (then_at body_value_at body_deps_at)
 
 -- ---- leaves
 

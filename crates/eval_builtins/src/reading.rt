@@ -5,7 +5,7 @@ ghost use Rattle.std.specs.Prelude.{◌≡◌, Ok};
 ghost use Rattle.dep_capture.specs.Capture.{pending};
 ghost use Rattle.world_state.specs.World.{newest_of};
 ghost use Rattle.contract_semantics.specs.{
-  Reading.{block_of, value_of_version, captured_by_read, value_got, is_held, of_kind, get_result, has_result},
+  Reading.{block_of, is_gone, unless_gone, value_of_version, has_value, captured_by_read, value_got, is_held, of_kind, get_result, has_result},
   Answers.{place_in, IsResultOf, IsNoFault, Takes, ReadsOrRefuses, IsFaithful},
 };
 ghost use Rattle.eval_builtins.specs.Kinds.{in_kind};
@@ -63,13 +63,39 @@ fn read<C>(world: &World<C>, capture: &mut Capture, key: &Key) -> Result<(), Eva
     }
 }
 
+fn is_gone(value: &Value) -> bool
+    ensures { result ≡ is_gone value.now }
+{
+    matches!(value, Value::Gone)
+}
+
+/// A copy of the value; `NoKey` if it is gone.
+fn unless_gone(alloc: Global, value: &Value) -> Result<Value, EvalStop>
+    ensures value { IsResultOf (λ value. value) (unless_gone value.now) result }
+    ensures no_fault { IsNoFault result }
+{
+    match value {
+        Value::Gone => Err(EvalStop::Status(TxStatus::NoKey)),
+        Value::Int(_) | Value::Text(_) => copy_of(alloc, value),
+    }
+}
+
+fn has_value<C>(world: &World<C>, key: &Key) -> bool
+    ensures { result ≡ has_value (newest_of world.now key.now) }
+{
+    match world.value(key) {
+        None => false,
+        Some((_, value)) => !is_gone(value),
+    }
+}
+
 fn value_of_version<C>(alloc: Global, world: &World<C>, key: &Key) -> Result<Value, EvalStop>
     ensures value { IsResultOf (λ value. value) (value_of_version (newest_of world.now key.now)) result }
     ensures no_fault { IsNoFault result }
 {
     match world.value(key) {
         None => Err(EvalStop::Status(TxStatus::NoKey)),
-        Some((_, value)) => copy_of(alloc, value),
+        Some((_, value)) => unless_gone(alloc, value),
     }
 }
 
@@ -84,7 +110,7 @@ fn value_got<C>(
     ensures no_fault { IsNoFault result }
 {
     match capture.pending(key) {
-        Some(value) => copy_of(alloc, value),
+        Some(value) => unless_gone(alloc, value),
         None => {
             read(world, capture, key)?;
             value_of_version(alloc, world, key)
@@ -98,15 +124,15 @@ fn is_held<C>(world: &World<C>, capture: &mut Capture, key: &Key) -> Result<Valu
     ensures no_fault { IsNoFault result }
 {
     match capture.pending(key) {
-        Some(_) => Ok(Value::Int(1)),
+        Some(value) => Ok(Value::Int(truth(!is_gone(value)))),
         None => {
             read(world, capture, key)?;
-            Ok(Value::Int(truth(world.value(key).is_some())))
+            Ok(Value::Int(truth(has_value(world, key))))
         }
     }
 }
 
-/// The value of this kind at the key that a text spells.
+/// The value of this kind at the key that a text spells; `NoKey` if there is none, or it is gone.
 pub(crate) fn get<C>(
     alloc: Global,
     world: &World<C>,
@@ -123,7 +149,7 @@ pub(crate) fn get<C>(
     Ok(in_kind(kind, value)?)
 }
 
-/// Whether there is a value at the key that a text spells: 1 or 0.
+/// Whether there is a value at the key that a text spells, and it isn't gone: 1 or 0.
 pub(crate) fn has<C>(
     world: &World<C>,
     capture: &mut Capture,

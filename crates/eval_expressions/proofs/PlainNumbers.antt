@@ -17,6 +17,7 @@ use Rattle.eval_expressions.specs.PlainNumbers.{number_in, number_found, plain_n
 of_value : (value : Value) (z : ℤ) (m : Machine) → number_in value ≡ Some z → Done value m ≡ Done (values.Int z) m
 of_value (values.Int w) z m e = let same : w ≡ z = cc in ap (λ (z : ℤ). Done (values.Int z) m) same
 of_value (values.Text text) z m e = absurd cc
+of_value values.Gone z m e = absurd cc
 
 of_name : (found : Option Variable) (z : ℤ) (m : Machine) → number_found (option_map (λ (variable : Variable). variable.value) found) ≡ Some z → step_of_result (value_found found) m ≡ Done (values.Int z) m
 of_name None z m e = absurd cc

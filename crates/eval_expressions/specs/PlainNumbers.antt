@@ -10,7 +10,7 @@ use Rattle.eval_variables.specs.Named.{value_in}
 -- The number, if the value is one.
 abbrev pub number_in : Value → Option ℤ
 number_in (values.Int z) = Some z
-number_in (values.Text text) = None
+number_in value = None
 
 -- The number that a name stands for, if it stands for one.
 abbrev pub number_found : Option Value → Option ℤ

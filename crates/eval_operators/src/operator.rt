@@ -102,6 +102,6 @@ pub fn holds(value: &Value) -> bool
 {
     match value {
         Value::Int(number) => *number != 0,
-        Value::Text(_) => false,
+        Value::Text(_) | Value::Gone => false,
     }
 }

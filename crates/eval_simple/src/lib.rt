@@ -1,5 +1,5 @@
-//! Statements without a block (declarations, assignments, puts, `fail`, and `return`), and the
-//! conditions of those with one.
+//! Statements without a block (declarations, assignments, puts, drops, `fail`, and `return`), and
+//! the conditions of those with one.
 #![tactic(auto)]
 
 mod binding;
@@ -11,5 +11,5 @@ mod simple;
 pub use binding::Binding;
 pub use eval_expressions::Run;
 pub use flow::Flow;
-pub use put::put_statement;
+pub use put::{put_statement, remove_statement};
 pub use simple::{bind_statement, condition_step, fail_statement, return_statement};

@@ -1,10 +1,10 @@
-//! A `put` is charged twice: when it begins, and once its parts have been evaluated.
+//! A `put` or a `drop` is charged twice: when it begins, and once its parts have been evaluated.
 
 ghost use Rattle.std.specs.{Prelude.{List}, Option.{option_map}};
 ghost use Rattle.contract_tree.specs.Tree.{tree_of, parts_of};
 ghost use Rattle.contract_semantics.specs.{
   declared.variable.Variable.{Variable},
-  Statements.{parts_values, put_run, put_of_key, put_of_values, put_end},
+  Statements.{parts_values, put_run, put_of_key, put_of_values, put_end, remove_run},
   Answers.{Gives},
 };
 ghost use Rattle.eval_expressions.specs.eval_builtins.Runs.{KeepsRun, Tells};
@@ -108,4 +108,20 @@ pub fn put_statement<C, H: Host>(
     charge(&mut run.left, CHARGE_NODE)?;
     let key = value(run, variables, key)?;
     put_of_key(run, variables, key, x, parts)
+}
+
+/// Runs `drop key from parts;`, a put of the value that is gone.
+pub fn remove_statement<C, H: Host>(
+    run: &mut Run<C, H>,
+    variables: &Variables,
+    key: &Expr,
+    parts: &Option<ExprList>,
+) -> Result<Flow, EvalStop>
+    requires { H.ready run.old.host.now }
+    ensures step { Tells H.Host run.old run.new (λ s m k. Flows (remove_run s (tree_of key.now) (parts_of parts.now) variables.now m) result variables.now k) }
+    ensures keeps { KeepsRun H.Host run.old run.new result }
+{
+    charge(&mut run.left, CHARGE_NODE)?;
+    let key = value(run, variables, key)?;
+    put_of_values(run, variables, key, Value::Gone, parts)
 }

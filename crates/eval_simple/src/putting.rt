@@ -29,7 +29,7 @@ fn key_in(value: &Value) -> Result<Key, TxStatus>
     ensures { result ≡ key_in value.now }
 {
     match value {
-        Value::Int(_) => Err(TxStatus::WrongKind),
+        Value::Int(_) | Value::Gone => Err(TxStatus::WrongKind),
         Value::Text(text) => key_of_text(text),
     }
 }

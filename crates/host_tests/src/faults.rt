@@ -4,7 +4,7 @@ ghost use Rattle.std.specs.Prelude.{◌≡◌, refl, [], None, IfSome, IsErrOf};
 ghost use Rattle.lc_base.specs.Faults.{HasCause};
 ghost use Rattle.block_codec.specs.Spelling.{IsBlock};
 
-use block_codec::{Block, NO_PARENT, Tx, TxList, decode, encode};
+use block_codec::{Block, FIRST_VERSION, NO_PARENT, Tx, TxList, decode, encode};
 use chain_exec::run_block;
 use contract_check::Checked;
 use lc_base::{Bytes, Dep, Host, HostError, Key, Name, TxStatus, Value, ValueList, Version};
@@ -26,11 +26,11 @@ const QUESTIONS: u64 = 10;
 /// The budget of the call, in steps, which is more than it costs.
 const BUDGET: u32 = 10_000;
 /// The failing call of a host that never fails.
-const NEVER: u64 = u64::MAX;
+pub(crate) const NEVER: u64 = u64::MAX;
 
 /// A host that returns one answer to each kind of question, and fails at one call.
 #[derive(Drop)]
-struct FailingHost {
+pub(crate) struct FailingHost {
     /// The number of the call that fails, from 0.
     failing: u64,
     /// The number of calls so far.
@@ -40,7 +40,7 @@ struct FailingHost {
 }
 
 impl FailingHost {
-    fn new(failing: u64) -> FailingHost {
+    pub(crate) fn new(failing: u64) -> FailingHost {
         FailingHost {
             failing,
             calls: 0,
@@ -125,6 +125,7 @@ fn block_of(alloc: Global, number: u32, tx: Tx) -> Option<Block>
     let mut txs = TxList::new(alloc);
     txs.push(tx).ok()?;
     let block = Block {
+        version: FIRST_VERSION,
         number,
         parent: NO_PARENT,
         txs,

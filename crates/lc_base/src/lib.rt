@@ -19,7 +19,7 @@ pub use digest::{Digest, check_digest};
 pub use host::Host;
 pub use host_error::HostError;
 pub use lc_names::{Key, KeyError, MAX_KEY_BYTES, MAX_NAME_BYTES, Name, is_name_byte};
-pub use limits::{MAX_DEPS, MAX_ROWS, MAX_TEXT_BYTES};
+pub use limits::{MAX_DEPS, MAX_JOINED_BYTES, MAX_ROWS, MAX_TEXT_BYTES};
 pub use list::{Bytes, DepList, DigestList, Duplicate, KeyList, RowList, Seq, TextList, ValueList};
 pub use memory::{Memory, zeros};
 pub use row::{Dep, Row, Version};

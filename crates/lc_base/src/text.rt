@@ -7,7 +7,7 @@ ghost use Rattle.lc_base.specs.{
   declared.text.TextError.TheVariants.{Memory},
 };
 
-use crate::limits::MAX_TEXT_BYTES;
+use crate::limits::{MAX_JOINED_BYTES, MAX_TEXT_BYTES};
 use crate::list::Duplicate;
 use lc_names::Key;
 use std::alloc::{AllocError, Global};
@@ -107,13 +107,13 @@ impl Text {
         Ok(Text { bytes })
     }
 
-    /// This text followed by another, or `None` if that is too long for one text.
+    /// This text followed by another, or `None` if that has more than `MAX_JOINED_BYTES`.
     pub fn join(&self, alloc: Global, other: &Text) -> Result<Option<Text>, crate::Memory>
         ensures { IfOk result (λ text. text ≡ joined_text self.now other.now) }
     {
         let first = self.as_bytes();
         let second = other.as_bytes();
-        if first.len() + second.len() > MAX_TEXT_BYTES {
+        if first.len() + second.len() > MAX_JOINED_BYTES {
             return Ok(None);
         }
         let bytes = join_bytes(alloc, first, second)?;

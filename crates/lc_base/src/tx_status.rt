@@ -32,7 +32,7 @@ pub enum TxStatus {
     BadBlock = 11,
     /// An index is not less than the count.
     BadIndex = 12,
-    /// A text is longer than `MAX_TEXT_BYTES`.
+    /// A joined text is longer than `MAX_JOINED_BYTES`.
     TextTooLong = 13,
     /// A text is not a key.
     BadKey = 14,

@@ -3,11 +3,13 @@ use crate::memory::Memory;
 use crate::text::Text;
 use std::alloc::Global;
 
-/// What a key can hold.
+/// What a version of a key holds.
 #[derive(Debug, Drop)]
 pub enum Value {
     Int(i64),
     Text(Text),
+    /// No value: the version says that the key was dropped.
+    Gone,
 }
 
 impl Duplicate for Value {
@@ -15,6 +17,7 @@ impl Duplicate for Value {
         match self {
             Value::Int(number) => Ok(Value::Int(*number)),
             Value::Text(text) => Ok(Value::Text(text.copy(alloc)?)),
+            Value::Gone => Ok(Value::Gone),
         }
     }
 }

@@ -24,6 +24,7 @@ fn is_same_value(one: &Value, other: &Value) -> bool {
     match (one, other) {
         (Value::Int(one), Value::Int(other)) => *one == *other,
         (Value::Text(one), Value::Text(other)) => one.as_bytes() == other.as_bytes(),
+        (Value::Gone, Value::Gone) => true,
         _ => false,
     }
 }

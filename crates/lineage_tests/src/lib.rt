@@ -9,6 +9,8 @@ mod asked;
 #[cfg(test)]
 mod devices;
 #[cfg(test)]
+mod gone;
+#[cfg(test)]
 mod lineages;
 #[cfg(test)]
 mod lists;

@@ -4,9 +4,9 @@ ghost use Rattle.std.specs.Prelude.{IfSome};
 ghost use Rattle.scratch_model.specs.MemScratch.{state_over};
 ghost use Rattle.merkle_dag.specs.Lineage.{AgreesWith};
 
-use block_codec::{Block, NO_PARENT, Tx, TxList, block_digest, encode};
+use block_codec::{Block, FIRST_VERSION, NO_PARENT, Tx, TxList, block_digest, encode};
 use chain_pack::pack;
-use chain_replay::{Judged, Replay};
+use chain_replay::{Judged, Marking, Replay};
 use lc_base::{Answer, Key, KeyList, Kind, Query, TextList, Value};
 use lc_io::Room;
 use lineage_host::ask;
@@ -33,14 +33,25 @@ pub(crate) fn set(alloc: Global, key: Key, number: i64) -> Option<Tx> {
     })
 }
 
-/// Adds the bytes of the next block, which has these transactions.
+/// Adds the bytes of the next block, of the first version, which has these transactions.
 pub(crate) fn add_block(alloc: Global, blocks: &mut TextList, txs: TxList) -> Option<()> {
+    add_block_of(alloc, blocks, FIRST_VERSION, txs)
+}
+
+/// Adds the bytes of the next block, which has this version and these transactions.
+pub(crate) fn add_block_of(
+    alloc: Global,
+    blocks: &mut TextList,
+    version: u8,
+    txs: TxList,
+) -> Option<()> {
     let number = u32::try_from(blocks.len()).ok()?;
     let parent = match blocks.as_slice().last() {
         Some(last) => block_digest(last.as_bytes()),
         None => NO_PARENT,
     };
     let block = Block {
+        version,
         number,
         parent,
         txs,
@@ -60,7 +71,11 @@ fn longer<C: Replay, S: Scratch>(
     requires agrees { C.agrees chain (S.state scratch.old) }
     ensures agrees { IfSome result (λ longer. C.agrees longer (S.state scratch.new)) }
 {
-    match chain.judge(alloc, bytes) {
+    // Blocks of either version are taken, whichever was the last.
+    let marking = Marking::OfVersions {
+        last: FIRST_VERSION,
+    };
+    match chain.judge(alloc, bytes, marking) {
         Ok(Judged::Next { block, digest }) => chain.replay(alloc, scratch, &block, digest).ok(),
         _ => {
             chain.give_up();

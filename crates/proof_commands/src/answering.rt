@@ -33,6 +33,7 @@ fn value_of(alloc: Global, value: ValueView) -> Result<Value, Memory>
     match value {
         ValueView::Int(number) => Ok(Value::Int(number)),
         ValueView::Text(bytes) => Ok(Value::Text(text_of(alloc, bytes)?)),
+        ValueView::Gone => Ok(Value::Gone),
     }
 }
 

@@ -45,7 +45,7 @@ next_by_log log state content bytes blocks block ready rests told stands next de
           (held.count_is ∙ sym (length-map held.stored (λ s. s.block))
           ∙ ap (length {A = Block}) same)
           (held.last_is ∙ ap (λ (all : List Block). last_digest (map digest_of all)) same)
-          (ap (λ (b : Block). new_placement log.count 0 log.last b) (sym one) ∙ next.placed);
+          (ap (λ (b : Block). new_placement false log.count 0 log.last b) (sym one) ∙ next.placed);
     }
 
 -- a log without a head holds no block

@@ -1,6 +1,6 @@
 -- A node with one more block, and a node whose disk is not touched.
-use Rattle.std.proofs.Common.{◌≡◌, inl, ℕ, ◌+◌, ◌-◌, List, [], ◌∷◌, ◌++◌, length, Option, Some}
-use Rattle.std.proofs.Common.{None, Result, Ok, Err, refl, sym, ap, subst, ◌∙◌, arith}
+use Rattle.std.proofs.Common.{◌≡◌, inl, ℕ, ◌+◌, ◌-◌, false, List, [], ◌∷◌, ◌++◌, length, Option}
+use Rattle.std.proofs.Common.{Some, None, Result, Ok, Err, refl, sym, ap, subst, ◌∙◌, arith}
 use Rattle.std.specs.Prelude.{slice_get, unwrap_or}
 use Rattle.std.proofs.lemmas.List.{length-append, get_or_push}
 use Rattle.std.proofs.lemmas.Option.{unwrap_or-slice_get}
@@ -13,29 +13,30 @@ use Rattle.lc_io.specs.Disk.{DiskState}
 use Rattle.disk_model.specs.Disk.{Keeps, Rests, content_of}
 use Rattle.block_codec.specs.Reading.{block_in}
 use Rattle.block_codec.specs.declared.block.Block.{Block}
+use Rattle.block_codec.specs.declared.placement.Placement.TheVariants.{Next}
 use Rattle.block_log.specs.Log.{LogState, Agrees, IsNextAfter}
 use Rattle.block_log.proofs.Resting.{rests_at, rests_keeps}
-use Rattle.rooted_chain.specs.chain_exec.Compiled.{compiled_in}
-use Rattle.rooted_chain.specs.chain_replay.Chain.{ChainState, StandsFor, placement_in}
+use Rattle.rooted_chain.specs.chain_replay.Chain.{ChainState, StandsFor}
 use Rattle.rooted_chain.specs.chain_replay.Judging.{Taken, Added, judgement_of, judged_by_placement, IsNextBlock}
+use Rattle.rooted_chain.specs.chain_replay.declared.marking.Marking.TheVariants.{OfLog}
 use Rattle.rooted_chain.specs.chain_replay.declared.refusal.Refusal.{Refusal}
 use Rattle.rooted_chain.proofs.chain_replay.Chains.{placed_as_kept}
 use Rattle.rooted_chain.proofs.chain_replay.Judgements.{added_is_next}
 use Rattle.recovery.specs.Node.{NodeState, AreOfBlocks, AreOfOneChain, HoldsChain, IsNodeOf}
-use Rattle.recovery.specs.Node.{IsStepOf, chain_in}
-use Rattle.recovery.proofs.Placing.{stricter}
+use Rattle.recovery.specs.Node.{IsStepOf, chain_in, stored_placement}
+use Rattle.recovery.proofs.Placing.{stricter, first_with_next}
 
 -- bytes that are judged to add a block are the next block after those that the content stands for
 pub next_after : (node : NodeState) (state : Option DiskState) (blocks : List Block)
     (content bytes : List ℕ) (block : Block) → IsNodeOf node state blocks
     → content_of state ≡ Some content → block_in bytes ≡ Ok block
-    → judgement_of compiled_in blocks (block_in bytes) ≡ Ok (Added block)
-    → IsNextAfter (placement_in compiled_in) content bytes blocks block
+    → judgement_of stored_placement blocks (block_in bytes) ≡ Ok (Added block)
+    → IsNextAfter stored_placement content bytes blocks block
 next_after node state blocks content bytes block is told decoded judgement = record {
-  stricter = stricter compiled_in;
+  stricter = stricter;
   stands = (rests_at (HoldsChain node.log blocks) state content is.log told).1.stands;
   decoded = decoded;
-  placed = added_is_next compiled_in blocks (block_in bytes) block block decoded judgement;
+  placed = added_is_next stored_placement blocks (block_in bytes) block block decoded judgement;
 }
 
 held_step : (blocks : List Block) (judgement : Result Taken Refusal) (image : List ℕ)
@@ -65,23 +66,28 @@ still_only {D} now disk old new log same rests content told =
 
 -- bytes that spell the next block of what is kept are judged to add it
 pub is_added : (chain : ChainState) (bytes : List ℕ) (blocks : List Block) (block : Block)
-    (digest : Digest) → IsNextBlock chain bytes block digest → StandsFor chain blocks
-    → judgement_of compiled_in blocks (block_in bytes) ≡ Ok (Added block)
+    (digest : Digest) → IsNextBlock (OfLog false) chain bytes block digest
+    → StandsFor chain blocks
+    → judgement_of stored_placement blocks (block_in bytes) ≡ Ok (Added block)
 is_added chain bytes blocks block digest next stands =
-    ap (judgement_of compiled_in blocks) next.decoded
+    ap (judgement_of stored_placement blocks) next.decoded
     ∙ ap (judged_by_placement block)
-    (sym (placed_as_kept chain blocks block digest stands next.digest_is) ∙ next.placed)
+    (sym (placed_as_kept false chain blocks block digest stands next.digest_is) ∙ next.placed)
 
 -- a node after its next block was stored
 pub longer_node : (node : NodeState) (state new : Option DiskState) (blocks : List Block)
     (block : Block) (chain : ChainState) (log : LogState) → IsNodeOf node state blocks
-    → StandsFor chain (blocks ++ block ∷ [])
+    → stored_placement blocks block ≡ Next → StandsFor chain (blocks ++ block ∷ [])
     → is_some new ≡ is_some state → Rests new (Agrees log)
     → ((content : List ℕ) → content_of state ≡ Some content
     → Rests new (λ image. chain_in image ≡ Some (blocks ++ block ∷ [])))
     → AreOfBlocks chain log new (blocks ++ block ∷ [])
-longer_node node state new blocks block chain log is stands still agrees added = record
-    { kept = stands; log = both state new still agrees added }
+longer_node node state new blocks block chain log is placed stands still agrees added =
+    record {
+      kept = stands;
+      first = first_with_next blocks block placed;
+      log = both state new still agrees added;
+    }
   where
     both : (state new : Option DiskState) → is_some new ≡ is_some state → Rests new (Agrees log)
         → ((content : List ℕ) → content_of state ≡ Some content
@@ -105,14 +111,16 @@ last_of digests digest =
 
 -- the digest of the next block is that of its bytes
 pub hashed : (chain : ChainState) (bytes : List ℕ) (block : Block) (digest : Digest)
-    → IsBytes bytes → IsNextBlock chain bytes block digest → digest ≡ bytes_digest bytes
+    → IsBytes bytes → IsNextBlock (OfLog false) chain bytes block digest
+    → digest ≡ bytes_digest bytes
 hashed chain bytes block digest fits next = next.digest_is
     ∙ sym (ap bytes_digest (decided.found bytes block fits next.decoded).spelled)
 
 pub one_more : (chain longer : ChainState) (log new : LogState) (bytes : List ℕ) (block : Block)
     (digest : Digest) → IsBytes bytes → AreOfOneChain chain log
-    → IsNextBlock chain bytes block digest → longer.digests ≡ chain.digests ++ digest ∷ []
-    → new.count ≡ log.count + 1 → new.last ≡ bytes_digest bytes → AreOfOneChain longer new
+    → IsNextBlock (OfLog false) chain bytes block digest
+    → longer.digests ≡ chain.digests ++ digest ∷ [] → new.count ≡ log.count + 1
+    → new.last ≡ bytes_digest bytes → AreOfOneChain longer new
 one_more chain longer log new bytes block digest fits one next added count last = record {
   count_is = omega (
     arith,

@@ -11,10 +11,9 @@ use Rattle.block_log.specs.Log.{next_in_log}
 use Rattle.block_log.specs.Stricter.{standing_after}
 use Rattle.block_log.proofs.Stricter.{damaged_at, restood_none, restood_next}
 use Rattle.block_log.specs.declared.layout.Stored.{Stored}
-use Rattle.rooted_chain.specs.chain_exec.Compiled.{compiled_in}
 use Rattle.rooted_chain.specs.chain_exec.Replay.{replay}
-use Rattle.rooted_chain.specs.chain_replay.Chain.{ChainState, StandsFor, nothing_kept, placement_in}
-use Rattle.recovery.specs.Node.{next_in_chain}
+use Rattle.rooted_chain.specs.chain_replay.Chain.{ChainState, StandsFor, nothing_kept}
+use Rattle.recovery.specs.Node.{next_in_chain, stored_placement}
 use Rattle.recovery.proofs.Placing.{stricter}
 
 -- These blocks have run, one after another; a placement that counts rows agrees with the log's up
@@ -22,8 +21,8 @@ use Rattle.recovery.proofs.Placing.{stricter}
 pub record AreRun (stored : List Stored) (chain : ChainState) : Type 0 where
   pub stands : StandsFor chain (blocks_in stored)
   pub same : (more : List Stored) (end : List Stored → Standing)
-      → standing_after (placement_in compiled_in) [] (stored ++ more) end ≡ standing_after
-      (placement_in compiled_in) stored more end
+      → standing_after stored_placement [] (stored ++ more) end ≡ standing_after
+      stored_placement stored more end
 
 no_blocks : StandsFor nothing_kept []
 unfolding replay
@@ -45,32 +44,32 @@ not_next block (Not why) other = refl
 module _ (stored : List Stored) (chain : ChainState) (run : AreRun stored chain) where
   -- one more block, which is the next one
   pub one_run : (next : Stored) (longer : ChainState)
-      → placement_in compiled_in (blocks_in stored) next.block ≡ Next
+      → stored_placement (blocks_in stored) next.block ≡ Next
       → StandsFor longer (blocks_in stored ++ next.block ∷ []) → AreRun (stored ++ next ∷ []) longer
   one_run next longer here extended = record {
     stands = subst (StandsFor longer) (sym (map_push (λ (s : Stored). s.block) stored next))
         extended;
     same = λ more end.
-        ap (λ (all : List Stored). standing_after (placement_in compiled_in) [] all end)
+        ap (λ (all : List Stored). standing_after stored_placement [] all end)
         (append_assoc stored (next ∷ []) more) ∙ run.same (next ∷ more) end
-        ∙ restood_next (placement_in compiled_in) stored next more end
+        ∙ restood_next stored_placement stored next more end
         (ap (λ (p : Placement). is_some (if_next next.block p)) here);
   }
 
   -- one more block, which is not the next one
   pub not_run : (next : Stored) (image : List ℕ) (count gate : ℕ) (bytes : List ℕ)
-      → (placement_in compiled_in (blocks_in stored) next.block ≡ Next → ⊥)
+      → (stored_placement (blocks_in stored) next.block ≡ Next → ⊥)
       → standing next_in_log image ≡ records_at next_in_log count gate (stored ++ next ∷ []) bytes
       → standing next_in_chain image ≡ Damaged stored next.place
   not_run next image count gate bytes other stands =
-      damaged_at (placement_in compiled_in) (stricter compiled_in) image count gate stored next
+      damaged_at stored_placement stricter image count gate stored next
       bytes stands run.same (not_next next.block
-      (placement_in compiled_in (blocks_in stored) next.block) other)
+      (stored_placement (blocks_in stored) next.block) other)
 
   -- all blocks have run
   pub all_run : (end : List Stored → Standing)
-      → standing_after (placement_in compiled_in) [] stored end ≡ end stored
+      → standing_after stored_placement [] stored end ≡ end stored
   all_run end =
-      ap (λ (all : List Stored). standing_after (placement_in compiled_in) [] all end)
+      ap (λ (all : List Stored). standing_after stored_placement [] all end)
       (sym (append-nil stored)) ∙ run.same [] end
-      ∙ restood_none (placement_in compiled_in) stored end
+      ∙ restood_none stored_placement stored end

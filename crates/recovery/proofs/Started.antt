@@ -17,10 +17,11 @@ use Rattle.block_log.specs.declared.error.LogError.{LogError}
 use Rattle.block_log.specs.declared.error.LogError.TheVariants as logs
 use Rattle.block_log.specs.Stricter.{restanding}
 use Rattle.block_log.proofs.Stricter.{stands_stricter}
+use Rattle.block_log.proofs.FirstVersions.{last_stored_version}
 use Rattle.block_log.specs.declared.layout.Stored.{Stored}
-use Rattle.rooted_chain.specs.chain_exec.Compiled.{compiled_in}
-use Rattle.rooted_chain.specs.chain_replay.Chain.{ChainState, nothing_kept, placement_in}
+use Rattle.rooted_chain.specs.chain_replay.Chain.{ChainState, nothing_kept}
 use Rattle.recovery.specs.Node.{AreOfBlocks, AreOfOneChain, IsStarted, chain_in, next_in_chain}
+use Rattle.recovery.specs.Node.{stored_placement}
 use Rattle.recovery.specs.Restoring.{HasRead, HasRun, IsRestored, start_error}
 use Rattle.recovery.specs.declared.errors.StartError.{StartError}
 use Rattle.recovery.specs.declared.errors.StartError.TheVariants as starts
@@ -29,19 +30,19 @@ use Rattle.recovery.proofs.Replaying.{AreRun, none_run, all_run}
 
 -- what bytes stand for if rows are counted
 counted : (image : List ℕ)
-    → standing next_in_chain image ≡ restanding (placement_in compiled_in)
+    → standing next_in_chain image ≡ restanding stored_placement
     (standing next_in_log image)
-counted image = stands_stricter (placement_in compiled_in) (stricter compiled_in) image
+counted image = stands_stricter stored_placement stricter image
 
 pub not_a_log : (image : List ℕ) → standing next_in_log image ≡ NotALog
     → standing next_in_chain image ≡ NotALog
-not_a_log image is = counted image ∙ ap (restanding (placement_in compiled_in)) is
+not_a_log image is = counted image ∙ ap (restanding stored_placement) is
 
 module _ (stored : List Stored) (chain : ChainState) (run : AreRun stored chain) where
   -- the log is damaged after these blocks
   pub damaged_after : (image : List ℕ) (at : ℕ) → standing next_in_log image ≡ Damaged stored at
       → standing next_in_chain image ≡ Damaged stored at
-  damaged_after image at is = counted image ∙ ap (restanding (placement_in compiled_in)) is
+  damaged_after image at is = counted image ∙ ap (restanding stored_placement) is
       ∙ all_run stored chain run (λ held. Damaged held at)
 
   -- these are all blocks, of bytes with a head or without one
@@ -51,7 +52,7 @@ module _ (stored : List Stored) (chain : ChainState) (run : AreRun stored chain)
     | inl ready ↦
         let holds = subst (λ (b : Bool). MatchBool b
         (standing next_in_log image ≡ Holds stored log.gate) (stored ≡ [])) ready started.1 in
-        ap blocks_of (counted image ∙ ap (restanding (placement_in compiled_in)) holds
+        ap blocks_of (counted image ∙ ap (restanding stored_placement) holds
         ∙ all_run stored chain run (λ held. Holds held log.gate))
     | inr headless ↦
         let blank = (subst (λ (b : Bool). MatchBool b (AgreesWithBlocks log image)
@@ -59,7 +60,7 @@ module _ (stored : List Stored) (chain : ChainState) (run : AreRun stored chain)
         let none = subst (λ (b : Bool). MatchBool b
         (standing next_in_log image ≡ Holds stored log.gate) (stored ≡ [])) headless started.1
         in
-        ap blocks_of (counted image ∙ ap (restanding (placement_in compiled_in)) blank)
+        ap blocks_of (counted image ∙ ap (restanding stored_placement) blank)
         ∙ ap (λ (all : List Stored). Some (blocks_in all)) (sym none)
   ]
 
@@ -105,9 +106,14 @@ log_rests chain log (Some s) rests read = (rests, (read.all.started s.content re
 node_of : (chain : ChainState) (log : LogState) (state : Option DiskState) → IsSettled state
     → (run : HasRun chain log (content_of state))
     → AreOfBlocks chain log state (blocks_in run.stored)
-node_of chain log None rests run = record { kept = run.stands; log = tt }
+node_of chain log None rests run = record {
+  kept = run.stands;
+  first = last_stored_version run.stored run.all.are_stored;
+  log = tt;
+}
 node_of chain log (Some s) rests run = record {
   kept = run.stands;
+  first = last_stored_version run.stored run.all.are_stored;
   log = (
     rests,
     record {

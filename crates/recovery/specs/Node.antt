@@ -9,16 +9,17 @@ use Rattle.body_store.specs.Bodies.{BodiesState}
 use Rattle.rooted_chain.specs.merkle_dag.Lineage.{LineageState, AgreesWith}
 use Rattle.disk_model.specs.Disk.{Keeps, Rests, content_of}
 use Rattle.block_codec.specs.Reading.{block_in}
-use Rattle.block_codec.specs.Placement.{last_digest}
+use Rattle.block_codec.specs.Placement.{last_digest, last_version}
+use Rattle.block_codec.specs.declared.block.TheConstants.{FIRST_VERSION}
 use Rattle.block_codec.specs.declared.block.Block.{Block}
-use Rattle.block_log.specs.Standing.{Standing, NotALog, Damaged, NextBlock, next_block, blocks_of}
-use Rattle.block_log.specs.Standing.{chain_of}
+use Rattle.block_log.specs.Standing.{Standing, NotALog, Damaged, Placer, NextBlock, next_block}
+use Rattle.block_log.specs.Standing.{blocks_of, chain_of}
 use Rattle.block_log.specs.Log.{LogState, Agrees, IsOldOrNew, next_in_log}
 use Rattle.block_log.specs.declared.layout.Stored.{Stored}
 use Rattle.rooted_chain.specs.chain_exec.Compiled.{compiled_in}
 use Rattle.rooted_chain.specs.chain_exec.Fold.{block_effects}
 use Rattle.rooted_chain.specs.chain_exec.Replay.{replay}
-use Rattle.rooted_chain.specs.chain_replay.Chain.{ChainState, StandsFor, placement_in}
+use Rattle.rooted_chain.specs.chain_replay.Chain.{ChainState, StandsFor, placement_by_mark}
 use Rattle.rooted_chain.specs.chain_replay.Judging.{Taken, Known, Added, added_by}
 use Rattle.rooted_chain.specs.chain_replay.declared.refusal.Refusal.{Refusal}
 use Rattle.lc_base.specs.declared.host_error.HostError.{HostError}
@@ -47,9 +48,14 @@ pub record AreOfOneChain (chain : ChainState) (log : LogState) : Type 0 where
   pub count_is : log.count ≡ length chain.digests
   pub last_is : log.last ≡ last_digest chain.digests
 
+-- The place of a block after those of a log, with the rows of these counted. A log has blocks of
+-- the first version alone.
+abbrev pub stored_placement : Placer
+stored_placement = placement_by_mark compiled_in false
+
 -- The next block of a chain, with the rows of the blocks before it counted.
 abbrev pub next_in_chain : NextBlock
-next_in_chain = next_block block_in (placement_in compiled_in)
+next_in_chain = next_block block_in stored_placement
 
 -- The chain that the bytes of a log stand for, with rows counted.
 abbrev pub chain_in : List ℕ → Option (List Block)
@@ -60,11 +66,12 @@ pub record HoldsChain (log : LogState) (blocks : List Block) (image : List ℕ) 
   pub agrees : Agrees log image
   pub stands : chain_in image ≡ Some blocks
 
--- A chain and a log of these blocks: the chain stands for them, and if the disk is known, nothing
--- is pending and its content stands for them.
+-- A chain and a log of these blocks: the chain stands for them, they have the first version, and if
+-- the disk is known, nothing is pending and its content stands for them.
 pub record AreOfBlocks (chain : ChainState) (held : LogState) (state : Option DiskState)
     (blocks : List Block) : Type 0 where
   pub kept : StandsFor chain blocks
+  pub first : last_version blocks ≡ FIRST_VERSION
   pub log : Rests state (HoldsChain held blocks)
 
 -- A node of these blocks.

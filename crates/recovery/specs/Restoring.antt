@@ -14,9 +14,8 @@ use Rattle.block_log.specs.Reader.{AreAll}
 use Rattle.block_log.specs.declared.layout.Stored.{Stored}
 use Rattle.block_log.specs.declared.error.LogError.{LogError}
 use Rattle.block_log.specs.declared.error.LogError.TheVariants as errors
-use Rattle.rooted_chain.specs.chain_exec.Compiled.{compiled_in}
-use Rattle.rooted_chain.specs.chain_replay.Chain.{ChainState, StandsFor, placement_in}
-use Rattle.recovery.specs.Node.{chain_in, next_in_chain}
+use Rattle.rooted_chain.specs.chain_replay.Chain.{ChainState, StandsFor}
+use Rattle.recovery.specs.Node.{chain_in, next_in_chain, stored_placement}
 use Rattle.recovery.specs.declared.errors.StartError.{StartError}
 use Rattle.recovery.specs.declared.errors.StartError.TheVariants as starts
 
@@ -46,9 +45,9 @@ pub record RunsOn {S : Type 0} (calls : Bool) (state : S → ScratchState) (faul
 -- The block is the next one after these, and the chain is that with it; or it isn't, and this is
 -- the offset of its gate. `kept` is what is kept of a chain.
 abbrev pub IsRun : {C : Type 0} → (C → ChainState) → List Block → Stored → Result C ℕ → Type 0
-IsRun kept blocks next (Ok chain) = (placement_in compiled_in blocks next.block ≡ Next)
+IsRun kept blocks next (Ok chain) = (stored_placement blocks next.block ≡ Next)
     × StandsFor (kept chain) (blocks ++ next.block ∷ [])
-IsRun kept blocks next (Err at) = (placement_in compiled_in blocks next.block ≡ Next → ⊥)
+IsRun kept blocks next (Err at) = (stored_placement blocks next.block ≡ Next → ⊥)
     × (at ≡ next.place)
 
 -- This holds of what was made, if anything was.

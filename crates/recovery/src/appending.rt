@@ -5,9 +5,8 @@ ghost use Rattle.lc_base.specs.Faults.{HasCause};
 ghost use Rattle.scratch_model.specs.Scratch.{is_known, Serves};
 ghost use Rattle.disk_model.specs.{Disk.{Keeps, content_of}, Leaving.{LeavesWire}};
 ghost use Rattle.block_codec.specs.{Reading.{block_in}, declared.block.Block.{Block as Blocks}};
-ghost use Rattle.rooted_chain.specs.chain_exec.Compiled.{compiled_in};
 ghost use Rattle.rooted_chain.specs.chain_replay.Judging.{Added, judgement_of, IsNextBlock};
-ghost use Rattle.recovery.specs.Node.{IsNodeOf, IsReady, IsStepOf, KeepsLog, IsAppendAnswer, append_error, Blames, HandsBack, IfNode, is_disk_fault, is_scratch_fault, reaches_disk};
+ghost use Rattle.recovery.specs.Node.{IsNodeOf, IsReady, IsStepOf, KeepsLog, IsAppendAnswer, append_error, Blames, HandsBack, IfNode, is_disk_fault, is_scratch_fault, reaches_disk, stored_placement};
 
 use crate::errors::AppendError;
 use crate::node::{Appended, Node};
@@ -16,7 +15,7 @@ use block_codec::Block;
 use block_log::DiskFault;
 use disk_model::Disk;
 use lc_base::{Digest, HostError, Memory};
-use rooted_chain::{Judged, Replay};
+use rooted_chain::{Judged, Marking, Replay};
 use scratch_model::Scratch;
 use std::alloc::Global;
 
@@ -43,17 +42,17 @@ impl Node {
         bytes: &[u8],
     ) -> Result<(Node, Appended), (Option<Node>, AppendError)>
         requires ready { IsReady self (M.disk machine.old (M.now machine.old)) (S.state scratch.old) }
-        requires next { IsNextBlock self.chain bytes.now block.now digest }
+        requires next { IsNextBlock (Marking.OfLog false) self.chain bytes.now block.now digest }
         ensures answer { is_known (S.state scratch.old) ≡ true → (blocks : List Blocks)
             → IsNodeOf self (M.disk machine.old (M.now machine.old)) blocks
-            → judgement_of compiled_in blocks (block_in bytes.now) ≡ Ok (Added block.now)
+            → judgement_of stored_placement blocks (block_in bytes.now) ≡ Ok (Added block.now)
             → IsAppendAnswer self (M.disk machine.new (M.now machine.new)) blocks
             (Ok (Added block.now)) result }
         ensures images { is_known (S.state scratch.old) ≡ true
             → (blocks : List Blocks) (content : List ℕ)
             → IsNodeOf self (M.disk machine.old (M.now machine.old)) blocks
             → content_of (M.disk machine.old (M.now machine.old)) ≡ Some content
-            → judgement_of compiled_in blocks (block_in bytes.now) ≡ Ok (Added block.now)
+            → judgement_of stored_placement blocks (block_in bytes.now) ≡ Ok (Added block.now)
             → Keeps M.now M.disk machine.old machine.new
             (IsStepOf blocks (Ok (Added block.now))) }
         ensures log_images { KeepsLog M.now M.disk machine.old machine.new bytes.now }
@@ -109,14 +108,14 @@ impl Node {
         ensures answer { is_known (S.state scratch.old) ≡ true → (blocks : List Blocks)
             → IsNodeOf self (M.disk machine.old (M.now machine.old)) blocks
             → IsAppendAnswer self (M.disk machine.new (M.now machine.new)) blocks
-            (judgement_of compiled_in blocks (block_in bytes.now)) result }
+            (judgement_of stored_placement blocks (block_in bytes.now)) result }
         // A crash at any moment leaves the chain from before the call, or that with the next block.
         ensures images { is_known (S.state scratch.old) ≡ true
             → (blocks : List Blocks) (content : List ℕ)
             → IsNodeOf self (M.disk machine.old (M.now machine.old)) blocks
             → content_of (M.disk machine.old (M.now machine.old)) ≡ Some content
             → Keeps M.now M.disk machine.old machine.new
-            (IsStepOf blocks (judgement_of compiled_in blocks (block_in bytes.now))) }
+            (IsStepOf blocks (judgement_of stored_placement blocks (block_in bytes.now))) }
         // Whether or not that is known, and so whatever the device returns: a crash at any moment
         // leaves the chain from before the call, or that with the block that the bytes spell, if
         // rows are not counted. Nothing else depends on the device than the rows, which can only
@@ -139,7 +138,10 @@ impl Node {
         ensures scratch { Serves S.state S.scratch_faults scratch.old scratch.new
             (Blames is_scratch_fault result) }
     {
-        match self.chain.judge(alloc, bytes) {
+        match self
+            .chain
+            .judge(alloc, bytes, Marking::OfLog { marked: false })
+        {
             Ok(Judged::Known { number }) => Ok((self, Appended::Known { number })),
             Ok(Judged::Next { block, digest }) => {
                 self.add(alloc, machine, scratch, &block, digest, bytes)

@@ -4,8 +4,9 @@ ghost use Rattle.std.specs.Prelude.{◌≡◌, [], ◌∷◌, ◌++◌, List, If
 ghost use Rattle.disk_model.specs.Disk.{content_of};
 ghost use Rattle.block_codec.specs.{
   Spelling.{IsBlock},
-  Placement.{digest_of},
+  Placement.{digest_of, last_version},
   declared.block.Block.{Block as Blocks},
+  declared.block.TheConstants.{FIRST_VERSION},
 };
 ghost use Rattle.block_log.specs.Reader.{AreRead};
 ghost use Rattle.rooted_chain.specs.chain_replay.Chain.{IsKnownFor, StandsFor};
@@ -44,7 +45,8 @@ impl From<Memory> for StartError {
 }
 
 /// Runs a block of a log and returns the chain with it. The offset of its gate is returned instead
-/// if it is not the next block, as those before it wrote too many rows.
+/// if it is not the next block, as those before it wrote too many rows. The blocks of a log have
+/// the first version.
 fn run_stored<C: Replay, S: Scratch>(
     alloc: Global,
     chain: C,
@@ -54,7 +56,8 @@ fn run_stored<C: Replay, S: Scratch>(
     requires is_block { IsBlock next.now.block }
     requires agrees { C.agrees chain (S.state scratch.old) }
     ensures run { IsKnownFor C.calls_scratch (S.state scratch.old) → (blocks : List Blocks)
-        → StandsFor (C.kept chain) blocks → next.now.digest ≡ digest_of next.now.block
+        → StandsFor (C.kept chain) blocks → last_version blocks ≡ FIRST_VERSION
+        → next.now.digest ≡ digest_of next.now.block
         → IfOk result (IsRun C.kept blocks next.now) }
     ensures digests { IfOk result
         (IfMade (λ longer. (C.kept longer).digests ≡ (C.kept chain).digests ++ next.now.digest ∷
@@ -63,7 +66,7 @@ fn run_stored<C: Replay, S: Scratch>(
     ensures scratch { RunsOn C.calls_scratch S.state S.scratch_faults scratch.old scratch.new
         (IsErrOf result HostError.Fault) }
 {
-    match chain.place(&next.block, next.digest) {
+    match chain.place(&next.block, next.digest, false) {
         Placement::Next => {
             let longer = chain.replay(alloc, scratch, &next.block, next.digest)?;
             Ok(Ok(longer))

@@ -1,5 +1,5 @@
 -- Blocks by which the false laws are refuted.
-use Rattle.std.proofs.Common.{◌≡◌, ℕ, zero, suc, ℤ, pos, ◌<◌, ◌^◌, List, [], ◌∷◌, length, get_or, take, None, Some, subst, refl, arith, inl, inr, codes}
+use Rattle.std.proofs.Common.{◌≡◌, ℕ, zero, suc, ℤ, pos, ◌<◌, ◌^◌, false, List, [], ◌∷◌, length, get_or, take, None, Some, subst, refl, arith, inl, inr, codes}
 use Rattle.std.specs.Int.{w64}
 use Rattle.std.specs.Int.RustNames.{FitsSigned}
 use Rattle.std.specs.List.{All, AllPairs}
@@ -16,6 +16,7 @@ use Rattle.contract_semantics.specs.Builtins.{call_by_name}
 use Rattle.contract_semantics.specs.Calls.{call_result}
 use Rattle.block_codec.specs.Placement.{digest_of, no_parent, placement}
 use Rattle.block_codec.specs.Spelling.{IsBlock}
+use Rattle.block_codec.specs.declared.block.TheConstants.{FIRST_VERSION}
 use Rattle.block_codec.specs.declared.block.Tx.{Tx}
 use Rattle.block_codec.specs.declared.block.Tx.TheVariants.{Set, Deploy, Call}
 use Rattle.block_codec.specs.declared.block.Block.{Block}
@@ -30,7 +31,7 @@ use Rattle.replay_soundness.specs.FalseLaws.{PlacesDoNotMatter, LimitsDoNotMatte
 
 -- the first block, with one transaction
 abbrev first : Tx → Block
-first tx = record { number = 0; parent = no_parent; txs = tx ∷ [] }
+first tx = record { version = FIRST_VERSION; number = 0; parent = no_parent; txs = tx ∷ [] }
 
 -- a Set of `raw/a`, and its row
 abbrev set : ℤ → Tx
@@ -49,6 +50,7 @@ twice = first (set (pos 1)) ∷ first (set (pos 1)) ∷ []
 
 is_first : IsBlock (first (set (pos 1)))
 is_first = record {
+  version_is = refl;
   number_fits = omega arith;
   parent_fits = refl;
   few_txs = omega arith;
@@ -112,13 +114,13 @@ abbrev puts_large : List FunctionTree
 puts_large = record { at = 0; name = codes "f"; params = []; body = statements (tree.Put 0 (tree.Text 0 (codes "c/k")) (tree.Int 0 (pos (2 ^ 64))) None) no_statement } ∷ []
 
 abbrev compiles_large : Compiler
-compiles_large source = Some puts_large
+compiles_large edition source = Some puts_large
 
 abbrev deploying : Block
 deploying = first (Deploy (codes "s") (codes "c") [])
 
 abbrev calling : Digest → Block
-calling parent = record { number = 1; parent = parent; txs = Call (codes "s") (codes "c") (codes "f") [] 100 ∷ [] }
+calling parent = record { version = FIRST_VERSION; number = 1; parent = parent; txs = Call (codes "s") (codes "c") (codes "f") [] 100 ∷ [] }
 
 abbrev called : List Block
 called = deploying ∷ calling (digest_of deploying) ∷ []
@@ -132,6 +134,7 @@ rows_of_called parent = refl
 
 is_deploying : IsBlock deploying
 is_deploying = record {
+  version_is = refl;
   number_fits = omega arith;
   parent_fits = refl;
   few_txs = omega arith;
@@ -147,6 +150,7 @@ is_deploying = record {
 
 is_calling : (parent : Digest) → length parent.0 ≡ 32 → IsBlock (calling parent)
 is_calling parent long = record {
+  version_is = refl;
   number_fits = omega arith;
   parent_fits = long;
   few_txs = omega arith;
@@ -167,7 +171,8 @@ deploying_next : placement_in compiles_large [] deploying ≡ Next
 unfolding replay
 deploying_next = refl
 
-parent_next : (parent digest : Digest) → placement 1 0 None parent (calling parent) digest ≡ Next
+parent_next : (parent digest : Digest)
+    → placement false 1 0 None parent (calling parent) digest ≡ Next
 parent_next parent digest = rw ((bytes_decides parent.0 parent.0).1 refl) refl
 
 calling_next : placement_in compiles_large (deploying ∷ []) (calling (digest_of deploying)) ≡ Next

@@ -50,6 +50,7 @@ key_typed text = key_by text (length text == 0) (nat_lt MAX_KEY_BYTES (length te
 key_in_typed : (value : Value) → IfOk (key_in value) IsKey
 key_in_typed (values.Int z) = tt
 key_in_typed (values.Text text) = key_typed text
+key_in_typed values.Gone = tt
 
 -- ---- a put
 

@@ -43,7 +43,7 @@ use Rattle.contract_semantics.specs.Charges.{charge_of}
 use Rattle.contract_semantics.specs.Numbers.{truth}
 use Rattle.contract_semantics.specs.Scenes.{Scene}
 use Rattle.contract_semantics.specs.Steps.{Machine, and_so}
-use Rattle.contract_semantics.specs.Reading.{BuiltinResult, and_read, key_of_text, block_of, value_of_version, read_result, value_got, is_held, int_in, text_in, of_kind, get_result, has_result}
+use Rattle.contract_semantics.specs.Reading.{BuiltinResult, and_read, key_of_text, block_of, is_gone, unless_gone, value_of_version, has_value, read_result, value_got, is_held, int_in, text_in, of_kind, get_result, has_result}
 use Rattle.contract_semantics.specs.Asking.{block_before, answer_up_to, version_asked, list_asked, item_asked, item_part_of, list_told, value_told, block_told, tx_told, count_told, item_told, item_of}
 use Rattle.contract_semantics.specs.Builtins.{one_text, one_int, text_and_int, text_and_ints, with_args, reading_args, version_value, item_value, version_part, count_part, item_part, plain_value, builtin_result, taken_step, builtin_call, call_by_name}
 use Rattle.root_laws.specs.TypedLedger.{IsTypedRow, IsTypedHistory}
@@ -72,10 +72,12 @@ so_typed P Q (Err status) next h k = tt
 int_in_typed : (value : Value) → IsValue value → IfOk (int_in value) IsValue
 int_in_typed (values.Int z) h = h
 int_in_typed (values.Text text) h = tt
+int_in_typed values.Gone h = tt
 
 text_in_typed : (value : Value) → IsValue value → IfOk (text_in value) IsValue
 text_in_typed (values.Int z) h = tt
 text_in_typed (values.Text text) h = h
+text_in_typed values.Gone h = tt
 
 -- ---- rows that are found
 
@@ -226,12 +228,14 @@ one_text_typed [] h = tt
 one_text_typed (values.Int z ∷ args) h = tt
 one_text_typed (values.Text text ∷ []) h = All-head IsValue (values.Text text) [] h
 one_text_typed (values.Text text ∷ (value ∷ args)) h = tt
+one_text_typed (values.Gone ∷ args) h = tt
 
 one_int_typed : (args : List Value) → All IsValue args → IfSome (one_int args) (FitsSigned w64)
 one_int_typed [] h = tt
 one_int_typed (values.Text text ∷ args) h = tt
 one_int_typed (values.Int z ∷ []) h = All-head IsValue (values.Int z) [] h
 one_int_typed (values.Int z ∷ (value ∷ args)) h = tt
+one_int_typed (values.Gone ∷ args) h = tt
 
 -- ---- builtins that read nothing of the present
 
@@ -277,17 +281,22 @@ read_typed false false true held key gives c e f h k = tt
 read_typed false false false held key gives c e f h k = taken_of (gives held) (with_read c key held) k
     (record { lawful = read_keeps c.reads c.puts (record { key = key; version = block_of held }) h.lawful e (grind (arith, nat_tests)); puts = h.puts })
 
+gone_typed : (value : Value) → IsValue value → IfOk (unless_gone value) IsValue
+gone_typed (values.Int z) h = h
+gone_typed (values.Text text) h = h
+gone_typed values.Gone h = tt
+
 version_value_typed : (o : Option Held) → IfSome o (λ held. IsValue held.value) → IfOk (value_of_version o) IsValue
 version_value_typed None h = tt
-version_value_typed (Some held) h = h
+version_value_typed (Some held) h = gone_typed held.value h
 
 got_value_typed : (s : Scene) → IsTypedScene s → (key : List ℕ) (o : Option Value) (c : Captured) → IsTyped c → IfSome o IsValue → TypedTaken (value_got s.place key o c)
-got_value_typed s h key (Some value) c t k = (k, t)
+got_value_typed s h key (Some value) c t k = taken_of (unless_gone value) c (gone_typed value k) t
 got_value_typed s h key None c t k = read_typed (s.place.written key) (was_read c.reads key) (nat_le MAX_KEYS_READ (length c.reads)) (s.place.newest key) key value_of_version c refl refl t (version_value_typed (s.place.newest key) (h.newest key))
 
 held_typed : (s : Scene) (key : List ℕ) (o : Option Value) (c : Captured) → IsTyped c → TypedTaken (is_held s.place key o c)
-held_typed s key (Some value) c t = (small_fits 1 (omega arith), t)
-held_typed s key None c t = read_typed (s.place.written key) (was_read c.reads key) (nat_le MAX_KEYS_READ (length c.reads)) (s.place.newest key) key (λ held. Ok (values.Int (truth (is_some held)))) c refl refl t (truth_fits (is_some (s.place.newest key)))
+held_typed s key (Some value) c t = (truth_fits (not (is_gone value)), t)
+held_typed s key None c t = read_typed (s.place.written key) (was_read c.reads key) (nat_le MAX_KEYS_READ (length c.reads)) (s.place.newest key) key (λ held. Ok (values.Int (truth (has_value held)))) c refl refl t (truth_fits (has_value (s.place.newest key)))
 
 pending_by : (o : Option Put) (p : Put → Bool) → IfSome o (λ put. IsTypedPut put × (p put ≡ true)) → IfSome (option_map (λ (put : Put). put.value) o) IsValue
 pending_by None p h = tt

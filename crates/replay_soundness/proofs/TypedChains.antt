@@ -9,7 +9,7 @@ use Rattle.sha2.proofs.Facts256.{length-sha256}
 use Rattle.lc_base.specs.declared.digest.Digest.{Digest}
 use Rattle.lc_base.specs.declared.row.Row.{Row}
 use Rattle.block_codec.specs.Spelling.{IsBlock}
-use Rattle.block_codec.specs.Placement.{digest_of, last_digest}
+use Rattle.block_codec.specs.Placement.{digest_of, last_digest, last_version, is_marked_by}
 use Rattle.block_codec.specs.declared.limits.TheConstants.{MAX_BLOCKS}
 use Rattle.block_codec.specs.declared.block.Block.{Block}
 use Rattle.block_codec.specs.declared.placement.Placement.TheVariants.{Next}
@@ -33,8 +33,9 @@ module _ (compile : Compiler) (good : CompilesValues compile) where
   one_more blocks block typed is next =
       let digests : List Digest = map digest_of blocks in
       let rows : List Row = (replay compile blocks).rows in
-      let has = next_has_passed (length blocks) (length rows) (slice_get digests block.number)
-      (last_digest digests) block (digest_of block) next in
+      let has = next_has_passed (is_marked_by (last_version blocks) block) (length blocks)
+      (length rows) (slice_get digests block.number) (last_digest digests) block (digest_of block)
+      next in
       let after : IsTypedBefore (block.number + 1) (history_after compile (replay compile blocks) block) =
       after_typed compile good (replay compile blocks) block (subst (λ n. IsTypedBefore n (replay compile blocks)) (sym has.number) typed.history) is has.few_rows in
       let longer : length (blocks ++ block ∷ []) ≡ block.number + 1 = length-append blocks (block ∷ []) ∙ ap (λ n. n + 1) (sym has.number) in

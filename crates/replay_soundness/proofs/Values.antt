@@ -7,7 +7,7 @@ use Rattle.std.proofs.lemmas.Bool.Decides.{nat_tests}
 use Rattle.std.proofs.lemmas.Int.{rem_below, fits_signed_from_abs}
 use Rattle.lc_base.specs.TextBytes.{IsText}
 use Rattle.lc_base.proofs.TextBytes.{joined_is_text}
-use Rattle.lc_base.specs.declared.limits.TheConstants.{MAX_TEXT_BYTES}
+use Rattle.lc_base.specs.declared.limits.TheConstants.{MAX_JOINED_BYTES}
 use Rattle.lc_base.specs.declared.value.Value.{Value}
 use Rattle.lc_base.specs.declared.value.Value.TheVariants as values
 use Rattle.lc_base.specs.declared.tx_status.TxStatus.{TxStatus}
@@ -65,7 +65,7 @@ int_typed (Err status) h = tt
 
 -- ---- texts
 
-joined_by : (b : Bool) (x y : List ℕ) → nat_lt MAX_TEXT_BYTES (length x + length y) ≡ b → IsText x → IsText y → IfOk (as_text (if b then None else Some (x ++ y))) IsValue
+joined_by : (b : Bool) (x y : List ℕ) → nat_lt MAX_JOINED_BYTES (length x + length y) ≡ b → IsText x → IsText y → IfOk (as_text (if b then None else Some (x ++ y))) IsValue
 joined_by true x y e h k = tt
 joined_by false x y e h k = joined_is_text x y h k (grind (arith, nat_tests))
 
@@ -97,7 +97,7 @@ texts_typed signs.Less a b h k = tt
 texts_typed signs.LessEqual a b h k = tt
 texts_typed signs.Greater a b h k = tt
 texts_typed signs.GreaterEqual a b h k = tt
-texts_typed signs.Concat a b h k = joined_by (nat_lt MAX_TEXT_BYTES (length a + length b)) a b refl h k
+texts_typed signs.Concat a b h k = joined_by (nat_lt MAX_JOINED_BYTES (length a + length b)) a b refl h k
 texts_typed signs.Plus a b h k = tt
 texts_typed signs.Minus a b h k = tt
 texts_typed signs.Star a b h k = tt
@@ -110,6 +110,9 @@ combined_typed sign (values.Int a) (values.Int b) h k = ints_typed sign a b k
 combined_typed sign (values.Text a) (values.Text b) h k = texts_typed sign a b h k
 combined_typed sign (values.Int a) (values.Text b) h k = tt
 combined_typed sign (values.Text a) (values.Int b) h k = tt
+combined_typed sign (values.Int a) values.Gone h k = tt
+combined_typed sign (values.Text a) values.Gone h k = tt
+combined_typed sign values.Gone b h k = tt
 
 pub prefixed_typed : (sign : Sign) (value : Value) → IfOk (prefix_result sign value) IsValue
 prefixed_typed signs.Or value = tt
@@ -124,11 +127,13 @@ prefixed_typed signs.Concat value = tt
 prefixed_typed signs.Plus value = tt
 prefixed_typed signs.Minus (values.Int a) = int_typed (in_range (neg_ℤ a)) (range_typed (neg_ℤ a))
 prefixed_typed signs.Minus (values.Text a) = tt
+prefixed_typed signs.Minus values.Gone = tt
 prefixed_typed signs.Star value = tt
 prefixed_typed signs.Slash value = tt
 prefixed_typed signs.Percent value = tt
 prefixed_typed signs.Not (values.Int a) = truth_fits (is_zero a)
 prefixed_typed signs.Not (values.Text a) = tt
+prefixed_typed signs.Not values.Gone = tt
 
 decides_and : (b : Bool) → IfSome (if b then Some (pos 0) else None) (FitsSigned w64)
 decides_and true = small_fits 0 (omega arith)
@@ -141,8 +146,10 @@ decides_or false = small_fits 1 (omega arith)
 pub decided_typed : (sign : Sign) (value : Value) → IfSome (left_decision sign value) (FitsSigned w64)
 decided_typed signs.Or (values.Int a) = decides_or (is_zero a)
 decided_typed signs.Or (values.Text a) = tt
+decided_typed signs.Or values.Gone = tt
 decided_typed signs.And (values.Int a) = decides_and (is_zero a)
 decided_typed signs.And (values.Text a) = tt
+decided_typed signs.And values.Gone = tt
 decided_typed signs.Equal value = tt
 decided_typed signs.NotEqual value = tt
 decided_typed signs.Less value = tt

@@ -1,30 +1,43 @@
 -- Where chains of blocks are found: in logs, and in inputs of frames.
-use Rattle.std.specs.Prelude.{◌≡◌, ℕ, List, ◌++◌, Some}
+use Rattle.std.specs.Prelude.{◌≡◌, ℕ, Bool, List, ◌++◌, Some}
 use Rattle.byte_fields.specs.Spelling.{IsBytes}
+use Rattle.block_codec.specs.Placement.{FitsVersions}
 use Rattle.block_codec.specs.Spelling.{Decoder, IsDecoder}
 use Rattle.block_codec.specs.declared.block.Block.{Block}
 use Rattle.block_log.specs.Standing.{next_block, chain_of}
 use Rattle.replay_soundness.specs.chain_exec.Compiled.{Compiler}
-use Rattle.replay_soundness.specs.chain_replay.Chain.{placement_in}
+use Rattle.replay_soundness.specs.chain_replay.Chain.{placement_by_mark, placement_in}
 use Rattle.replay_soundness.specs.chain_replay.Judging.{added_by_all}
 use Rattle.chain_input.specs.Folding.{fold_from, fold_input}
 use Rattle.replay_soundness.specs.TypedChains.{IsLawfulChain}
 
--- The blocks that the bytes of a log stand for are a chain.
+-- The blocks that the bytes of a log stand for are a chain, where each is placed as in a chain that
+-- is `marked` or isn't: so all have the second version, or all the first.
 abbrev pub LogsHoldChains : Type 0
 LogsHoldChains =
-    (read : Decoder) (compile : Compiler) (image : List ℕ) (blocks : List Block) → IsDecoder read → IsBytes image
-    → chain_of (next_block read (placement_in compile)) image ≡ Some blocks → IsLawfulChain compile blocks
+    (read : Decoder) (compile : Compiler) (marked : Bool) (image : List ℕ) (blocks : List Block) → IsDecoder read → IsBytes image
+    → chain_of (next_block read (placement_by_mark compile marked)) image ≡ Some blocks → IsLawfulChain compile blocks
 
 -- A chain with the blocks that the frames of an input add to it is a chain, wherever the frames
--- end.
+-- end: where the versions of its blocks say which version is next;
 abbrev pub InputsAddToChains : Type 0
 InputsAddToChains =
     (read : Decoder) (compile : Compiler) (frames : ℕ) (blocks : List Block) (input : List ℕ) → IsDecoder read → IsBytes input
-    → IsLawfulChain compile blocks → IsLawfulChain compile (blocks ++ added_by_all (fold_from read compile frames blocks input).taken)
+    → IsLawfulChain compile blocks
+    → IsLawfulChain compile
+    (blocks ++ added_by_all (fold_from read (placement_in compile) frames blocks input).taken)
+
+-- and where a mark says so that fits the chain, as in a log.
+abbrev pub InputsAddToLogs : Type 0
+InputsAddToLogs =
+    (read : Decoder) (compile : Compiler) (marked : Bool) (frames : ℕ) (blocks : List Block)
+    (input : List ℕ) → IsDecoder read → IsBytes input → FitsVersions marked blocks
+    → IsLawfulChain compile blocks
+    → IsLawfulChain compile (blocks
+    ++ added_by_all (fold_from read (placement_by_mark compile marked) frames blocks input).taken)
 
 -- The blocks that the frames of an input add to no block are a chain.
 abbrev pub InputsHoldChains : Type 0
 InputsHoldChains =
     (read : Decoder) (compile : Compiler) (input : List ℕ) → IsDecoder read → IsBytes input
-    → IsLawfulChain compile (added_by_all (fold_input read compile input).taken)
+    → IsLawfulChain compile (added_by_all (fold_input read (placement_in compile) input).taken)

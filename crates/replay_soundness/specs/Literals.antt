@@ -38,6 +38,7 @@ abbrev mutual
   RunsValues (tree.IfElse at test first second) = HasValues test × RunValues first × RunValues second
   RunsValues (tree.While at test body) = HasValues test × RunValues body
   RunsValues (tree.Put at key value parts) = HasValues key × HasValues value × PartsHaveValues parts
+  RunsValues (tree.Remove at key parts) = HasValues key × PartsHaveValues parts
   RunsValues (tree.Fail at) = Unit {0}
   RunsValues (tree.Return at) = Unit {0}
 

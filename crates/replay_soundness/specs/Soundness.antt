@@ -1,5 +1,6 @@
 -- What accepted proofs say of replays: the answer is that of the replay, or texts clash.
-use Rattle.std.specs.Prelude.{◌≡◌, ◌≢◌, ◌⊎◌, ◌<◌, ℕ, List, length, map, Option, Some, IsSomeAnd, Ok}
+use Rattle.std.specs.Prelude.{◌≡◌, ◌≢◌, ◌⊎◌, ◌<◌, ℕ, Bool, List, length, map, Option, Some, Ok}
+use Rattle.std.specs.Prelude.{IsSomeAnd}
 use Rattle.byte_fields.specs.Spelling.{IsBytes}
 use Rattle.lc_base.specs.declared.answer.Query.{Query}
 use Rattle.lc_base.specs.declared.answer.Answer.{Answer}
@@ -12,7 +13,7 @@ use Rattle.block_codec.specs.declared.block.Block.{Block}
 use Rattle.block_log.specs.Standing.{next_block, chain_of}
 use Rattle.replay_soundness.specs.chain_exec.Compiled.{Compiler, IsCompiler}
 use Rattle.replay_soundness.specs.chain_exec.Replay.{replay}
-use Rattle.replay_soundness.specs.chain_replay.Chain.{placement_in}
+use Rattle.replay_soundness.specs.chain_replay.Chain.{placement_by_mark}
 use Rattle.rooted_chain.specs.Roots.{root_in}
 use Rattle.proof_checks.specs.proof_codec.declared.proof.Proof.{Proof}
 use Rattle.proof_checks.specs.proof_codec.Spelling.{IsProof}
@@ -71,12 +72,13 @@ AcceptedProofsAnswerAsReplays =
     (root : List ℕ) (query : Query) (proof : Proof) (answer : Answer) → IsAccepted root query proof answer
     → AnswersAsReplays root query proof answer
 
--- A proof that is accepted under the root at a block of the chain that a log stands for has the
--- answer of that chain, or there is a clash.
+-- A proof that is accepted under the root at a block of the chain that a log stands for, where each
+-- block is placed as in a chain that is `marked` or isn't, has the answer of that chain, or there
+-- is a clash.
 abbrev pub AcceptedProofsAnswerAsLogs : Type 0
 AcceptedProofsAnswerAsLogs =
-    (read : Decoder) (compile : Compiler) (image : List ℕ) (blocks : List Block) (block : ℕ) (query : Query) (proof : Proof) (answer : Answer)
-    → IsDecoder read → IsCompiler compile → IsBytes image → chain_of (next_block read (placement_in compile)) image ≡ Some blocks
+    (read : Decoder) (compile : Compiler) (marked : Bool) (image : List ℕ) (blocks : List Block) (block : ℕ) (query : Query) (proof : Proof) (answer : Answer)
+    → IsDecoder read → IsCompiler compile → IsBytes image → chain_of (next_block read (placement_by_mark compile marked)) image ≡ Some blocks
     → block < length blocks → IsAccepted (root_in compile blocks block) query proof answer
     → AnswersAsReplay compile blocks block query proof answer
 

@@ -39,9 +39,10 @@ CallsWriteTypedRows =
 
 -- ---- compilers
 
--- The literals of each contract that a compiler makes are values.
+-- The literals of each contract that a compiler makes are values, in every edition.
 abbrev pub CompilesValues : Compiler → Type 0
-CompilesValues compile = (source : List ℕ) → IfSome (compile source) AreFunctionsOfValues
+CompilesValues compile =
+    (edition : ℕ) (source : List ℕ) → IfSome (compile edition source) AreFunctionsOfValues
 
 -- The literals of each contract that a right compiler makes are values.
 abbrev pub CompilersGiveValues : Type 0

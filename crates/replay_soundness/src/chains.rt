@@ -1,15 +1,23 @@
 //! Laws of where chains are found, each the contract of an empty function.
 
-ghost use Rattle.replay_soundness.specs.Chains.{LogsHoldChains, InputsAddToChains, InputsHoldChains};
+ghost use Rattle.replay_soundness.specs.Chains.{LogsHoldChains, InputsAddToChains, InputsAddToLogs, InputsHoldChains};
 
-/// The blocks that the bytes of a log stand for are a chain.
+/// The blocks that the bytes of a log stand for are a chain: all of the first version, or all of
+/// the second.
 pub fn logs_hold_chains()
     ensures { LogsHoldChains }
 {}
 
-/// A chain with the blocks that the frames of an input add to it is a chain.
+/// A chain with the blocks that the frames of an input add to it is a chain, where the versions of
+/// its blocks say which version is next.
 pub fn inputs_add_to_chains()
     ensures { InputsAddToChains }
+{}
+
+/// A chain with the blocks that the frames of an input add to it is a chain, where a mark that fits
+/// it says which version is next.
+pub fn inputs_add_to_logs()
+    ensures { InputsAddToLogs }
 {}
 
 /// The blocks that the frames of an input add to no block are a chain.

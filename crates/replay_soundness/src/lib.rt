@@ -7,7 +7,7 @@ mod refuted;
 mod soundness;
 mod typed_laws;
 
-pub use chains::{inputs_add_to_chains, inputs_hold_chains, logs_hold_chains};
+pub use chains::{inputs_add_to_chains, inputs_add_to_logs, inputs_hold_chains, logs_hold_chains};
 pub use refuted::{compilers_matter, limits_matter, places_matter};
 pub use soundness::{
     accepted_answers_agree, accepted_proofs_answer_as_logs, accepted_proofs_answer_as_replays,

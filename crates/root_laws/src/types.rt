@@ -24,6 +24,7 @@ fn check_value(value: &Value)
         Value::Text(text) => {
             let _bytes = text.as_bytes();
         }
+        Value::Gone => {}
     }
 }
 

@@ -127,7 +127,7 @@ impl Replay for LineageChain {
     }
 
     #[tactic(auto, using(chain_replay::proofs::Kept::next_room, chain_replay::proofs::Chains::placed_as_kept))]
-    fn place(&self, block: &Block, digest: Digest) -> Placement {
+    fn place(&self, block: &Block, digest: Digest, marked: bool) -> Placement {
         let have = self.lineage.digest(block.number);
         let rows = self.lineage.row_count() as u64;
         place(
@@ -137,6 +137,7 @@ impl Replay for LineageChain {
             last_digest(&self.lineage),
             block,
             digest,
+            marked,
         )
     }
 

@@ -6,5 +6,5 @@ mod extending;
 mod running;
 
 pub use chain::LineageChain;
-pub use chain_replay::{Chain, Judged, ReceiptList, Refusal, Replay};
+pub use chain_replay::{Chain, Judged, Marking, ReceiptList, Refusal, Replay};
 pub use lineage_host::Lineage;

@@ -32,6 +32,7 @@ fn owned_value(alloc: Global, view: &ValueView) -> Result<Value, Memory>
             Err(TextError::Memory) => Err(Memory),
             Err(_) => unreachable!(),
         },
+        ValueView::Gone => Ok(Value::Gone),
     }
 }
 

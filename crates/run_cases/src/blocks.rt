@@ -8,9 +8,9 @@ ghost use Rattle.chain_replay.specs.Chain.{IsAfter};
 use crate::scanning::scan;
 use crate::streams::{PausingSource, source_of};
 use anyhow::{Result, bail};
-use block_codec::{Block, Frames, MAX_FRAMES, Placement, block_digest, decode};
+use block_codec::{Block, FIRST_VERSION, Frames, MAX_FRAMES, Placement, block_digest, decode};
 use chain_exec::BlockRun;
-use chain_replay::{Chain, Replay};
+use chain_replay::{Chain, Marking, Replay};
 use cli_lines::answer_lines;
 use lc_base::{Answer, Bytes, Digest, Kind, Memory, Query, Row, RowList, Seq};
 use resources::Resources;
@@ -28,12 +28,19 @@ fn print_run<W: Write>(out: &mut W, number: u32, run: &BlockRun) -> Result<()> {
     Ok(())
 }
 
-/// Runs the next block of a chain.
-fn run_next(alloc: Global, chain: Chain, block: &Block, digest: Digest) -> Result<(Chain, BlockRun)>
+/// Runs the next block of a chain whose last block has the version `last`.
+fn run_next(
+    alloc: Global,
+    chain: Chain,
+    last: u8,
+    block: &Block,
+    digest: Digest,
+) -> Result<(Chain, BlockRun)>
     requires { IsBlock block.now }
     ensures { IfOk result (λ done. IsAfter chain block.now digest done.0 done.1) }
 {
-    match chain.place(block, digest) {
+    let marked = Marking::OfVersions { last }.is_marked_for(block);
+    match chain.place(block, digest, marked) {
         Placement::Next => match chain.with_block(alloc, block, digest) {
             Ok(done) => Ok(done),
             Err(Memory) => bail!("no memory for what a block did"),
@@ -54,22 +61,23 @@ fn keep_run<W: Write>(out: &mut W, number: u32, run: BlockRun, rows: &mut RowLis
     }
 }
 
-/// Runs the block of a frame after the blocks so far, prints what it did, and appends its rows to
-/// theirs.
+/// Runs the block of a frame after the blocks so far, the last of which has the version `last`,
+/// prints what it did, and appends its rows to theirs. Returns the chain, and the block's version.
 fn run_frame<W: Write>(
     alloc: Global,
     out: &mut W,
     chain: Chain,
+    last: u8,
     rows: &mut RowList,
     frame: &[u8],
-) -> Result<Chain> {
+) -> Result<(Chain, u8)> {
     let Ok(block) = decode(alloc, frame) else {
         chain.give_up();
         bail!("a frame that is no block");
     };
-    let (chain, run) = run_next(alloc, chain, &block, block_digest(frame))?;
+    let (chain, run) = run_next(alloc, chain, last, &block, block_digest(frame))?;
     match keep_run(out, block.number, run, rows) {
-        Ok(()) => Ok(chain),
+        Ok(()) => Ok((chain, block.version)),
         Err(error) => {
             chain.give_up();
             Err(error)
@@ -141,13 +149,23 @@ fn run_frames<W: Write>(
 ) -> Result<()> {
     let alloc = resources.alloc;
     let mut chain = Chain::new(resources);
+    let mut last = FIRST_VERSION;
     let mut rows = RowList::new(alloc);
     let mut frames = Frames::new();
     for _ in 0..=MAX_FRAMES {
         match frames.next(alloc, source) {
             Ok(None) => break,
             Ok(Some((frame, more))) => {
-                chain = run_frame(alloc, out, chain, &mut rows, frame.as_bytes())?;
+                let (longer, version) = run_frame(
+                    alloc,
+                    out,
+                    chain,
+                    last,
+                    &mut rows,
+                    frame.as_bytes(),
+                )?;
+                chain = longer;
+                last = version;
                 frames = more;
             }
             Err(_) => {

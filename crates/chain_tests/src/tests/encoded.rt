@@ -2,8 +2,8 @@
 //! these to `encode`, since it is refused before.
 
 use block_codec::{
-    Block, EncodeError, MAX_ARGS, MAX_BLOCK_BYTES, MAX_CALL_BUDGET, MAX_SOURCE_BYTES, MAX_TXS,
-    NO_PARENT, Tx, TxList, encode,
+    Block, EncodeError, FIRST_VERSION, MAX_ARGS, MAX_BLOCK_BYTES, MAX_CALL_BUDGET,
+    MAX_SOURCE_BYTES, MAX_TXS, NO_PARENT, SECOND_VERSION, Tx, TxList, encode,
 };
 use lc_base::{Bytes, Key, KeyList, MAX_DEPS, Name, Seq, Value};
 use std::alloc::Global;
@@ -59,7 +59,7 @@ fn deploy(alloc: Global, count: usize) -> Option<Tx> {
 }
 
 /// A Call with `count` arguments and this budget.
-fn call(alloc: Global, count: usize, budget: u32) -> Option<Tx> {
+pub(crate) fn call(alloc: Global, count: usize, budget: u32) -> Option<Tx> {
     let mut args = Seq::new(alloc);
     for _ in 0..count {
         args.push(Value::Int(1)).ok()?;
@@ -73,9 +73,10 @@ fn call(alloc: Global, count: usize, budget: u32) -> Option<Tx> {
     })
 }
 
-/// How many bytes spell the block of these transactions; `Limit` if no bytes do.
-fn length_of(alloc: Global, txs: TxList) -> Result<usize, EncodeError> {
+/// How many bytes spell the block of this version and these transactions; `Limit` if no bytes do.
+fn length_of(alloc: Global, version: u8, txs: TxList) -> Result<usize, EncodeError> {
     let block = Block {
+        version,
         number: 0,
         parent: NO_PARENT,
         txs,
@@ -91,7 +92,7 @@ fn has_length(alloc: Global, tx: Option<Tx>, wanted: usize) -> bool {
     };
     let mut txs = TxList::new(alloc);
     match txs.push(tx) {
-        Ok(()) => is_length(length_of(alloc, txs), wanted),
+        Ok(()) => is_length(length_of(alloc, FIRST_VERSION, txs), wanted),
         Err(_) => false,
     }
 }
@@ -126,7 +127,7 @@ fn deploys(alloc: Global, last: usize) -> Option<TxList> {
 
 fn have_length(alloc: Global, txs: Option<TxList>, wanted: usize) -> bool {
     match txs {
-        Some(txs) => is_length(length_of(alloc, txs), wanted),
+        Some(txs) => is_length(length_of(alloc, FIRST_VERSION, txs), wanted),
         None => false,
     }
 }
@@ -164,4 +165,19 @@ fn limits_of_blocks(rt: HostRuntime) {
     let last = MAX_BLOCK_BYTES - FRONT - 64 * DEPLOY - 63 * MAX_SOURCE_BYTES;
     assert!(rt; have_length(alloc, deploys(alloc, last), MAX_BLOCK_BYTES));
     assert!(rt; have_length(alloc, deploys(alloc, last + 1), 0));
+}
+
+/// Whether `wanted` bytes spell the block of this version without transactions, or, if `wanted` is
+/// 0, no bytes do.
+fn has_version(alloc: Global, version: u8, wanted: usize) -> bool {
+    is_length(length_of(alloc, version, TxList::new(alloc)), wanted)
+}
+
+#[test]
+fn limits_of_versions(rt: HostRuntime) {
+    let alloc = rt.alloc();
+    assert!(rt; has_version(alloc, FIRST_VERSION, FRONT));
+    assert!(rt; has_version(alloc, SECOND_VERSION, FRONT));
+    assert!(rt; has_version(alloc, FIRST_VERSION - 1, 0));
+    assert!(rt; has_version(alloc, SECOND_VERSION + 1, 0));
 }

@@ -1,11 +1,16 @@
 //! The placement of a block in a chain that is full, by its blocks or by its rows, and in one that
-//! is not yet: no chain of so many rows can be made here.
+//! is not yet: no chain of so many rows can be made here. And the placement of a block of either
+//! version in a chain that is marked, and in one that isn't: no command has a chain that is marked.
 
-ghost use Rattle.std.specs.Prelude.{◌≤◌};
+ghost use Rattle.std.specs.Prelude.{◌≡◌, ◌≤◌, true, IfSome};
+ghost use Rattle.block_codec.specs.Spelling.{IsBlock, is_version};
 
+use crate::tests::encoded::call;
 use block_codec::{
-    Block, MAX_BLOCKS, MAX_ROWS_BEFORE_BLOCK, Misplaced, NO_PARENT, Placement, TxList, place,
+    Block, FIRST_VERSION, MAX_BLOCK_BUDGET, MAX_BLOCKS, MAX_CALL_BUDGET, MAX_ROWS_BEFORE_BLOCK,
+    Misplaced, NO_PARENT, Placement, SECOND_VERSION, TxList, decode, encode, place,
 };
+use lc_base::Digest;
 use std::alloc::Global;
 
 /// The placement of a block with this number, without transactions, after `held` blocks with `rows`
@@ -14,11 +19,12 @@ fn place_of(alloc: Global, number: u32, held: u32, rows: u64) -> Placement
     requires { held ≤ number }
 {
     let block = Block {
+        version: FIRST_VERSION,
         number,
         parent: NO_PARENT,
         txs: TxList::new(alloc),
     };
-    place(held, rows, None, NO_PARENT, &block, NO_PARENT)
+    place(held, rows, None, NO_PARENT, &block, NO_PARENT, false)
 }
 
 #[test]
@@ -31,4 +37,75 @@ fn places_in_full_chains(rt: HostRuntime) {
     assert!(rt; place_of(alloc, 7, 7, MAX_ROWS_BEFORE_BLOCK + 1) == full);
     // That a chain is full is tested before the number of the block.
     assert!(rt; place_of(alloc, MAX_BLOCKS + 1, MAX_BLOCKS, 0) == full);
+}
+
+/// The placement of a block of this version and with this parent, without transactions, in a chain
+/// that has no block yet.
+fn place_version(alloc: Global, version: u8, parent: Digest, marked: bool) -> Placement
+    requires { is_version version ≡ true }
+{
+    let block = Block {
+        version,
+        number: 0,
+        parent,
+        txs: TxList::new(alloc),
+    };
+    place(0, 0, None, NO_PARENT, &block, NO_PARENT, marked)
+}
+
+#[test]
+fn places_by_versions(rt: HostRuntime) {
+    let alloc = rt.alloc();
+    let first = Placement::Not(Misplaced::Version {
+        want: FIRST_VERSION,
+    });
+    let second = Placement::Not(Misplaced::Version {
+        want: SECOND_VERSION,
+    });
+    assert!(rt; place_version(alloc, FIRST_VERSION, NO_PARENT, false) == Placement::Next);
+    assert!(rt; place_version(alloc, FIRST_VERSION, NO_PARENT, true) == second);
+    assert!(rt; place_version(alloc, SECOND_VERSION, NO_PARENT, false) == first);
+    assert!(rt; place_version(alloc, SECOND_VERSION, NO_PARENT, true) == Placement::Next);
+    // The parent of a block is tested before its version.
+    let parent = Placement::Not(Misplaced::Parent { want: NO_PARENT });
+    assert!(rt; place_version(alloc, FIRST_VERSION, Digest([1; 32]), true) == parent);
+    assert!(rt; place_version(alloc, SECOND_VERSION, Digest([1; 32]), false) == parent);
+}
+
+/// A block of this version with calls of the greatest budget, one more than a block may have, as it
+/// is decoded from its encoding.
+fn costly_block(alloc: Global, version: u8) -> Option<Block>
+    ensures { IfSome result IsBlock }
+{
+    let mut txs = TxList::new(alloc);
+    for _ in 0..=MAX_BLOCK_BUDGET / u64::from(MAX_CALL_BUDGET) {
+        txs.push(call(alloc, 0, MAX_CALL_BUDGET)?).ok()?;
+    }
+    let block = Block {
+        version,
+        number: 0,
+        parent: NO_PARENT,
+        txs,
+    };
+    let bytes = encode(alloc, &block).ok()?;
+    decode(alloc, bytes.as_bytes()).ok()
+}
+
+/// The placement of such a block in a chain that has no block yet and isn't marked.
+fn place_costly(alloc: Global, version: u8) -> Option<Placement> {
+    let block = costly_block(alloc, version)?;
+    Some(place(0, 0, None, NO_PARENT, &block, NO_PARENT, false))
+}
+
+#[test]
+fn places_a_costly_block(rt: HostRuntime) {
+    let alloc = rt.alloc();
+    let first = Placement::Not(Misplaced::Version {
+        want: FIRST_VERSION,
+    });
+    // The version of a block is tested before its budget.
+    assert!(rt; place_costly(alloc, SECOND_VERSION) == Some(first));
+    let sum = MAX_BLOCK_BUDGET + u64::from(MAX_CALL_BUDGET);
+    let budget = Placement::Not(Misplaced::Budget { sum });
+    assert!(rt; place_costly(alloc, FIRST_VERSION) == Some(budget));
 }

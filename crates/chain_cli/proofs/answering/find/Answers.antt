@@ -21,15 +21,15 @@ returns-in-Scan-clause-no_log g c none = absurd (found_log (status_of_found c.sc
 
 pub returns-in-Fmt-clause-found : goal.returns-in-Fmt-clause-found
 returns-in-Fmt-clause-found g c =
-    of_found (g.M.Clock.disk c.args.machine.now (g.M.Clock.now c.args.machine.now)) c.fmt.result (g.I.Source.left c.args.source.now) (g.I.Source.left c.fmt.new.source) (is_known (g.S.Scratch.state c.args.scratch.now)) c.args.command.now Fmt c.in-Fmt.is
-    (fmt_found (g.M.Clock.disk c.args.machine.now (g.M.Clock.now c.args.machine.now)) c.fmt.result (g.I.Source.left c.args.source.now) (g.I.Source.left c.fmt.new.source) (is_known (g.S.Scratch.state c.args.scratch.now)) c.fmt.ensures.outcome)
+    of_found (g.M.Clock.disk c.args.machine.now (g.M.Clock.now c.args.machine.now)) c.fmt.result (g.I.Source.left c.args.source.now) (g.I.Source.left c.fmt.new.source) (is_known (g.S.Scratch.state c.args.scratch.now)) c.args.command.now (Fmt c.in-Fmt.edition) c.in-Fmt.is
+    (fmt_found (g.M.Clock.disk c.args.machine.now (g.M.Clock.now c.args.machine.now)) c.fmt.result (g.I.Source.left c.args.source.now) (g.I.Source.left c.fmt.new.source) (is_known (g.S.Scratch.state c.args.scratch.now)) c.in-Fmt.edition c.fmt.ensures.outcome)
 
 pub returns-in-Fmt-clause-ends : goal.returns-in-Fmt-clause-ends
-returns-in-Fmt-clause-ends g c = of_given (status_of_found c.fmt.result) c.args.command.now Fmt c.in-Fmt.is
-    (read_ends c.fmt.result (Some Fmt) refl c.fmt.ensures.ends c.fmt.ensures.only)
+returns-in-Fmt-clause-ends g c = of_given (status_of_found c.fmt.result) c.args.command.now (Fmt c.in-Fmt.edition) c.in-Fmt.is
+    (read_ends c.fmt.result (Some (Fmt c.in-Fmt.edition)) refl c.fmt.ensures.ends c.fmt.ensures.only)
 
 pub returns-in-Fmt-clause-no_log : goal.returns-in-Fmt-clause-no_log
-returns-in-Fmt-clause-no_log g c none = absurd (found_log (status_of_found c.fmt.result) Fmt refl (read_ends c.fmt.result (Some Fmt) refl c.fmt.ensures.ends c.fmt.ensures.only) none)
+returns-in-Fmt-clause-no_log g c none = absurd (found_log (status_of_found c.fmt.result) (Fmt c.in-Fmt.edition) refl (read_ends c.fmt.result (Some (Fmt c.in-Fmt.edition)) refl c.fmt.ensures.ends c.fmt.ensures.only) none)
 
 pub returns-in-Pack-clause-found : goal.returns-in-Pack-clause-found
 returns-in-Pack-clause-found g c =

@@ -1,4 +1,4 @@
-use Rattle.std.proofs.Common.{◌++◌, ◌+◌, map, sym, ap, ◌∙◌, subst, arith}
+use Rattle.std.proofs.Common.{◌++◌, ◌+◌, map, sym, ap, ◌∙◌, subst}
 use Rattle.std.proofs.lemmas.List.{map-append}
 use Rattle.world_state.specs.Rows.{entry_of}
 use Rattle.world_state.specs.World.{newest_of}
@@ -24,6 +24,6 @@ loop-at-preserved g c =
       staged = done.stages.staged ∙ ap (λ entries. entries ++ map entry_of run.rows) so_far.staged ∙ sym (map-append entry_of before.rows run.rows) ∙ ap (map entry_of) (sym added.rows);
       lawful = subst (AreBlockRows (newest_of start) c.args.number (c.loop-at.at + 1)) (sym added.rows) (more_rows start old c.args.number c.loop-at.at before.rows run.rows so_far.newest so_far.staged so_far.lawful done.lawful);
       costs = more_receipts c.args.txs.now before.receipts c.add.new.self.receipts c.loop-at.at c.index-txs-at.result run.receipt c.loop-at-test.true c.index-txs-at.is so_far.costs done.cost added.receipts;
-      effects = more_told (g.H.Host.rows c.args.host.now) (g.H.Host.rows c.loop-at.host) start old c.run_transaction.new.world before c.add.new.self run c.args.number c.loop-at.at c.args.txs.now c.index-txs-at.result
+      effects = more_told (g.H.Host.rows c.args.host.now) (g.H.Host.rows c.loop-at.host) start old c.run_transaction.new.world before c.add.new.self run c.args.edition c.args.number c.loop-at.at c.args.txs.now c.index-txs-at.result
           (g.met.H.Host.same_rows _ _ so_far.same) c.loop-at-test.true c.index-txs-at.is so_far.newest so_far.codes so_far.staged added.rows added.receipts c.requires.stands done.effect so_far.effects;
     }

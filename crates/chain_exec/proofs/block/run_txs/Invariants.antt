@@ -1,4 +1,4 @@
-use Rattle.std.proofs.Common.{◌≡◌, ◌≤◌, map, take, drop}
+use Rattle.std.proofs.Common.{◌≡◌, map, take, drop}
 use Rattle.std.specs.Prelude.{IfSome}
 use Rattle.world_state.specs.Rows.{entry_of}
 use Rattle.world_state.specs.World.{newest_of}
@@ -18,6 +18,6 @@ invariant-loop-at g l =
       staged : l.world.staged ≡ map entry_of l.run.rows;
       lawful : AreBlockRows (newest_of l.initial.world) l.number l.at l.run.rows;
       costs : AreWithinBudgets (take l.at l.txs) l.run.receipts;
-      effects : IfSome (g.H.Host.rows l.initial.host) (λ rows. effects_after compiled_in (history_in rows l.initial.world) l.number l.at (staged_in l.world l.run) (drop l.at l.txs)
-          ≡ effects_after compiled_in (history_in rows l.initial.world) l.number 0 nothing_staged l.txs);
+      effects : IfSome (g.H.Host.rows l.initial.host) (λ rows. effects_after (compiled_in l.edition) (history_in rows l.initial.world) l.number l.at (staged_in l.world l.run) (drop l.at l.txs)
+          ≡ effects_after (compiled_in l.edition) (history_in rows l.initial.world) l.number 0 nothing_staged l.txs);
     }

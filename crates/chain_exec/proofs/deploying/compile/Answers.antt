@@ -10,11 +10,11 @@ use Rattle.chain_exec.proofs.deploying.compile.Goals as goal
 pub returns-in-Ok : goal.returns-in-Ok
 returns-in-Ok c =
     let found = c.in-Ok.ensures.outcome in
-    let is = compiled_is c.args.source.now found.0 found.1 ∙ ap functions_of found.2 in
+    let is = compiled_is c.args.edition c.args.source.now found.0 found.1 ∙ ap functions_of found.2 in
     subst (λ wanted. IfOk c.faultless.result (λ code. option_map contract_of code ≡ wanted)) (sym is) c.faultless.ensures
 
 pub returns-in-Err-Refused : goal.returns-in-Err-Refused
 returns-in-Err-Refused c =
     let found = c.in-Err-Refused.ensures.outcome in
     let told = subst (λ error. IfSome (fault_of error) (λ fault. found.0 ≡ Err fault)) c.in-Err-Refused.field-0-is found.2 in
-    sym (compiled_is c.args.source.now found.0 found.1 ∙ ap functions_of told)
+    sym (compiled_is c.args.edition c.args.source.now found.0 found.1 ∙ ap functions_of told)

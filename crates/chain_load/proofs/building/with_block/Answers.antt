@@ -1,4 +1,4 @@
-use Rattle.std.proofs.Common.{◌≡◌, ◌∙◌, ◌+◌, ◌*◌, ◌≤◌, ◌++◌, ◌∷◌, [], ℕ, List, Ok, length, sym, ap, subst}
+use Rattle.std.proofs.Common.{◌≡◌, ◌∙◌, ◌+◌, ◌*◌, ◌≤◌, ◌++◌, ◌∷◌, [], length, sym, ap, subst}
 use Rattle.block_codec.specs.Placement.{bytes_digest}
 use Rattle.block_codec.specs.Spelling.{Spells}
 use Rattle.block_codec.specs.declared.block.Block.{Block}

@@ -1,8 +1,7 @@
 use Rattle.std.proofs.Common.{◌∙◌, refl}
 use Rattle.block_codec.specs.Reading.{block_in}
-use Rattle.chain_exec.specs.Compiled.{compiled_in}
 use Rattle.recovery.specs.chain_replay.Judging.{judgement_of}
-use Rattle.recovery.specs.Node.{next_in_chain}
+use Rattle.recovery.specs.Node.{next_in_chain, stored_placement}
 use Rattle.cli_append.proofs.Causes.{carried, kept}
 use Rattle.cli_append.proofs.Frames.{takes_whole, takes_part, takes_none, takes_refusal}
 use Rattle.cli_append.proofs.Frames.{images_told}
@@ -12,7 +11,7 @@ use Rattle.cli_append.proofs.taking.take_frame.Goals as goal
 pub returns-in-Ok-tell_line-clause-takes : goal.returns-in-Ok-tell_line-clause-takes
 returns-in-Ok-tell_line-clause-takes g c heard blocks is =
     let answer = c.in-Ok.ensures.answer heard blocks is in
-    let judgement = judgement_of compiled_in blocks (block_in c.args.frame.now) in
+    let judgement = judgement_of stored_placement blocks (block_in c.args.frame.now) in
     takes_whole g.M.Clock.now g.M.Clock.disk g.M.Clock.told c.args.machine.now c.append.new.machine
     c.tell_line.new.machine blocks (block_in c.args.frame.now) c.args.node c.in-Ok.longer
     c.in-Ok.appended c.as_bytes.result.now
@@ -26,7 +25,7 @@ returns-in-Ok-tell_line-clause-takes g c heard blocks is =
 pub returns-in-Ok-appended_line-clause-takes : goal.returns-in-Ok-appended_line-clause-takes
 returns-in-Ok-appended_line-clause-takes g c heard blocks is =
     let answer = c.in-Ok.ensures.answer heard blocks is in
-    let judgement = judgement_of compiled_in blocks (block_in c.args.frame.now) in
+    let judgement = judgement_of stored_placement blocks (block_in c.args.frame.now) in
     takes_part g.M.Clock.now g.M.Clock.disk g.M.Clock.told c.args.machine.now c.append.new.machine
     c.tell_line.new.machine blocks (block_in c.args.frame.now) c.args.node c.in-Ok.longer
     c.in-Ok.appended c.as_bytes.result.now _
@@ -39,7 +38,7 @@ returns-in-Ok-appended_line-clause-takes g c heard blocks is =
 
 pub returns-in-Ok-clause-takes : goal.returns-in-Ok-clause-takes
 returns-in-Ok-clause-takes g c heard blocks is =
-    let judgement = judgement_of compiled_in blocks (block_in c.args.frame.now) in
+    let judgement = judgement_of stored_placement blocks (block_in c.args.frame.now) in
     takes_none g.M.Clock.now g.M.Clock.disk g.M.Clock.told c.args.machine.now c.append.new.machine
     blocks judgement _
     (images_told g.M.Clock.now g.M.Clock.disk g.M.Clock.told c.args.machine.now c.append.new.machine
@@ -48,7 +47,7 @@ returns-in-Ok-clause-takes g c heard blocks is =
 
 pub returns-in-Refused-clause-takes : goal.returns-in-Refused-clause-takes
 returns-in-Refused-clause-takes g c heard blocks is =
-    let judgement = judgement_of compiled_in blocks (block_in c.args.frame.now) in
+    let judgement = judgement_of stored_placement blocks (block_in c.args.frame.now) in
     let handed = rw c.in-Refused.is at (c.in-Err.ensures.answer heard blocks is) in
     let untouched = (rw c.in-Refused.is at c.in-Err.ensures.untouched) refl in
     takes_refusal g.M.Clock.now g.M.Clock.disk g.M.Clock.told c.args.machine.now
@@ -59,7 +58,7 @@ returns-in-Refused-clause-takes g c heard blocks is =
 
 pub returns-in-DiskFault-clause-takes : goal.returns-in-DiskFault-clause-takes
 returns-in-DiskFault-clause-takes g c heard blocks is =
-    let judgement = judgement_of compiled_in blocks (block_in c.args.frame.now) in
+    let judgement = judgement_of stored_placement blocks (block_in c.args.frame.now) in
     takes_none g.M.Clock.now g.M.Clock.disk g.M.Clock.told c.args.machine.now c.append.new.machine
     blocks judgement _
     (images_told g.M.Clock.now g.M.Clock.disk g.M.Clock.told c.args.machine.now c.append.new.machine
@@ -68,7 +67,7 @@ returns-in-DiskFault-clause-takes g c heard blocks is =
 
 pub returns-in-ScratchFault-clause-takes : goal.returns-in-ScratchFault-clause-takes
 returns-in-ScratchFault-clause-takes g c heard blocks is =
-    let judgement = judgement_of compiled_in blocks (block_in c.args.frame.now) in
+    let judgement = judgement_of stored_placement blocks (block_in c.args.frame.now) in
     takes_none g.M.Clock.now g.M.Clock.disk g.M.Clock.told c.args.machine.now c.append.new.machine
     blocks judgement _
     (images_told g.M.Clock.now g.M.Clock.disk g.M.Clock.told c.args.machine.now c.append.new.machine
@@ -77,7 +76,7 @@ returns-in-ScratchFault-clause-takes g c heard blocks is =
 
 pub returns-clause-takes : goal.returns-clause-takes
 returns-clause-takes g c heard blocks is =
-    let judgement = judgement_of compiled_in blocks (block_in c.args.frame.now) in
+    let judgement = judgement_of stored_placement blocks (block_in c.args.frame.now) in
     takes_none g.M.Clock.now g.M.Clock.disk g.M.Clock.told c.args.machine.now c.append.new.machine
     blocks judgement _
     (images_told g.M.Clock.now g.M.Clock.disk g.M.Clock.told c.args.machine.now c.append.new.machine

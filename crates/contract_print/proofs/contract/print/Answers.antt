@@ -12,7 +12,7 @@ pub returns-clause-one_text : goal.returns-clause-one_text
 returns-clause-one_text c = one_text (contract_of c.args.contract.now)
 
 pub returns-clause-again : goal.returns-clause-again
-returns-clause-again c source i = subst (λ l. ReadsAgain l (contract_of c.args.contract.now)) (sym (c.from_vec.ensures ∙ c.in_ok-text.ensures)) (reads_again source (contract_of c.args.contract.now) i)
+returns-clause-again c source i = subst (λ l. ReadsAgain c.args.contract.now.edition l (contract_of c.args.contract.now)) (sym (c.from_vec.ensures ∙ c.in_ok-text.ensures)) (reads_again source (contract_of c.args.contract.now) i)
 
 pub returns-clause-fixed : goal.returns-clause-fixed
-returns-clause-fixed c source i = subst IsFixed (sym (c.from_vec.ensures ∙ c.in_ok-text.ensures)) (same_text source (contract_of c.args.contract.now) i)
+returns-clause-fixed c source i = subst (IsFixed c.args.contract.now.edition) (sym (c.from_vec.ensures ∙ c.in_ok-text.ensures)) (same_text source (contract_of c.args.contract.now) i)

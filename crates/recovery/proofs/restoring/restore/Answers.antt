@@ -8,6 +8,7 @@ use Rattle.disk_model.specs.Disk.{content_of}
 use Rattle.disk_model.proofs.Moments.{stays_on, stays_here}
 use Rattle.block_log.specs.Standing.{Damaged, blocks_in}
 use Rattle.block_log.specs.declared.layout.Stored.{Stored}
+use Rattle.block_log.proofs.FirstVersions.{last_stored_version}
 use Rattle.rooted_chain.specs.chain_replay.Chain.{ChainState}
 use Rattle.recovery.proofs.Replaying.{AreRun, none_run, one_run, not_run}
 use Rattle.recovery.proofs.Started.{has_run, failed_turn}
@@ -41,7 +42,8 @@ loop-log-preserved g c =
       run = λ known.
           let is = rw c.in-Ok-Ok.field-0-is at
           (c.in-Ok-Ok.ensures.run (λ calls. so_far.retains.known ∙ known calls)
-          (blocks_in so_far.stored) (so_far.run known).stands block.digest_is) in
+          (blocks_in so_far.stored) (so_far.run known).stands
+          (last_stored_version so_far.stored so_far.read.are_stored) block.digest_is) in
           one_run so_far.stored (g.C.Replay.kept c.loop-log.chain) (so_far.run known)
           c.in-Block.next (g.C.Replay.kept c.in-Ok-Ok.longer) is.0 is.1;
       digests = digests ∙ ap (λ (ds : List Digest). ds ++ c.in-Block.next.digest ∷ [])
@@ -98,7 +100,8 @@ returns-in-Ok-Err-clause-restored g c known image told =
     let block = rw c.in-Block.is at c.in_ok-log.ensures.block in
     let run = rw c.in-Ok-Err.field-0-is at
     (c.in-Ok-Err.ensures.run (λ calls. so_far.retains.known ∙ known calls)
-    (blocks_in so_far.stored) (so_far.run known).stands block.digest_is) in
+    (blocks_in so_far.stored) (so_far.run known).stands
+    (last_stored_version so_far.stored so_far.read.are_stored) block.digest_is) in
     let damaged = not_run so_far.stored (g.C.Replay.kept c.loop-log.chain) (so_far.run known)
     c.in-Block.next image _ _ _ run.0 (turn.stands image told) in
     (so_far.stored, damaged ∙ ap (Damaged so_far.stored) (sym run.1))

@@ -6,11 +6,21 @@ use Rattle.byte_fields.proofs.reader.Reader.values.Goals as goal
 
 pub returns-in_err-value : goal.returns-in_err-value
 returns-in_err-value c =
+    let read = value_at c.args.most in
     let p = err_from_is_err_and c.from_residual.result c.from_residual.ensures.1 in
-    rw (p.1, p.2) (ends_kept value_at c.loop.values c.args.count c.loop.counter c.loop.self c.in_err-value.field-0.0 c.value.new.self (items_at value_at c.args.count c.args.self.now) c.loop-test.true c.in_err-value.ensures c.loop.invariant)
+    rw (p.1, p.2) (ends_kept read c.loop.values c.args.count c.loop.counter c.loop.self
+    c.in_err-value.field-0.0 c.value.new.self (items_at read c.args.count c.args.self.now)
+    c.loop-test.true c.in_err-value.ensures c.loop.invariant)
 
 pub loop-preserved : goal.loop-preserved
-loop-preserved c = rw c.in_ok-push.ensures.ok (goes_on value_at c.loop.values c.args.count c.loop.counter c.loop.self c.in_ok-value.value c.value.new.self (items_at value_at c.args.count c.args.self.now) c.loop-test.true c.in_ok-value.ensures c.loop.invariant)
+loop-preserved c =
+    let read = value_at c.args.most in
+    rw c.in_ok-push.ensures.ok (goes_on read c.loop.values c.args.count c.loop.counter c.loop.self
+    c.in_ok-value.value c.value.new.self (items_at read c.args.count c.args.self.now)
+    c.loop-test.true c.in_ok-value.ensures c.loop.invariant)
 
 pub returns : goal.returns
-returns c = is_done value_at c.loop.values c.args.count c.loop.counter c.loop.self (items_at value_at c.args.count c.args.self.now) c.loop-test.false c.loop.invariant
+returns c =
+    let read = value_at c.args.most in
+    is_done read c.loop.values c.args.count c.loop.counter c.loop.self
+    (items_at read c.args.count c.args.self.now) c.loop-test.false c.loop.invariant

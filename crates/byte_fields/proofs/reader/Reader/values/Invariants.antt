@@ -4,4 +4,6 @@ use Rattle.byte_fields.proofs.Loops.{with_prefix}
 use Rattle.byte_fields.proofs.reader.Reader.values.Given as goal
 
 abbrev pub invariant-loop : goal.invariant-loop
-invariant-loop l = with_prefix l.values (items_at value_at (l.count - l.counter) l.self) ≡ items_at value_at l.count l.initial.self
+invariant-loop l =
+    with_prefix l.values (items_at (value_at l.most) (l.count - l.counter) l.self)
+    ≡ items_at (value_at l.most) l.count l.initial.self

@@ -9,14 +9,14 @@ use Rattle.block_codec.specs.declared.block.Block.{Block}
 use Rattle.rooted_chain.specs.chain_exec.Compiled.{compiled_in}
 use Rattle.rooted_chain.specs.chain_exec.Effect.{History}
 use Rattle.rooted_chain.specs.chain_exec.Fold.{block_effects}
-use Rattle.rooted_chain.specs.chain_replay.Chain.{placement_in}
 use Rattle.rooted_chain.specs.chain_replay.Judging.{Added, judgement_of, IsNextBlock}
+use Rattle.rooted_chain.specs.chain_replay.declared.marking.Marking.TheVariants.{OfLog}
 use Rattle.rooted_chain.proofs.chain_replay.Judgements.{added_is_next}
 use Rattle.rooted_chain.specs.Roots.{kept_in}
 use Rattle.rooted_chain.proofs.merkle_dag.Causes.{unblamed}
-use Rattle.recovery.specs.Node.{NodeState, AreOfBlocks, IsNodeOf}
+use Rattle.recovery.specs.Node.{NodeState, AreOfBlocks, IsNodeOf, stored_placement}
 use Rattle.recovery.specs.contracts.node.Node.{the_view}
-use Rattle.recovery.proofs.Placing.{next_of_log}
+use Rattle.recovery.proofs.Placing.{next_of_log, next_stored}
 use Rattle.recovery.proofs.ByLog.{still_log, spelled_log}
 use Rattle.recovery.proofs.Nodes.{is_added, still, next_after, longer_node, hashed, one_more}
 use Rattle.recovery.proofs.node.Node.add.Given.{Over}
@@ -30,9 +30,9 @@ returns-in-Err-clause-images g c told blocks content is shown judgement = still 
 
 pub store-requires-clause-next : goal.store-requires-clause-next
 store-requires-clause-next g c =
-    let next : IsNextBlock (kept_in c.self.inside.chain) c.args.bytes.now c.args.block.now
-    c.args.digest = subst (λ (n : NodeState). IsNextBlock n.chain c.args.bytes.now
-    c.args.block.now c.args.digest) (sym c.self.view_is) c.requires.next in
+    let next : IsNextBlock (OfLog false) (kept_in c.self.inside.chain) c.args.bytes.now
+    c.args.block.now c.args.digest = subst (λ (n : NodeState). IsNextBlock (OfLog false) n.chain
+    c.args.bytes.now c.args.block.now c.args.digest) (sym c.self.view_is) c.requires.next in
     next_of_log (kept_in c.self.inside.chain) c.self.inside.log c.args.bytes.now c.args.block.now
     c.args.digest c.self.invariant next
 
@@ -54,9 +54,9 @@ overflow_cast-added g c =
 
 pub invariant_of-result : goal.invariant_of-result
 invariant_of-result g c =
-    let next : IsNextBlock (kept_in c.self.inside.chain) c.args.bytes.now c.args.block.now
-    c.args.digest = subst (λ (n : NodeState). IsNextBlock n.chain c.args.bytes.now
-    c.args.block.now c.args.digest) (sym c.self.view_is) c.requires.next in
+    let next : IsNextBlock (OfLog false) (kept_in c.self.inside.chain) c.args.bytes.now
+    c.args.block.now c.args.digest = subst (λ (n : NodeState). IsNextBlock (OfLog false) n.chain
+    c.args.bytes.now c.args.block.now c.args.digest) (sym c.self.view_is) c.requires.next in
     one_more (kept_in c.self.inside.chain) (kept_in c.in-Ok.done.0) c.self.inside.log
     c.in-Ok-store.log c.args.bytes.now c.args.block.now c.args.digest
     (λ i. omega (arith, c.type_inv.bytes i)) c.self.invariant next c.in-Ok.ensures.digests
@@ -66,7 +66,7 @@ module _ (g : Over) (c : After-drop-run g)
     (told : is_known (g.S.Scratch.state c.args.scratch.now) ≡ true) (blocks : List Block)
     (is : IsNodeOf c.args.self
     (g.M.Clock.disk c.args.machine.now (g.M.Clock.now c.args.machine.now)) blocks)
-    (judgement : judgement_of compiled_in blocks (block_in c.args.bytes.now) ≡ Ok
+    (judgement : judgement_of stored_placement blocks (block_in c.args.bytes.now) ≡ Ok
     (Added c.args.block.now)) where
   -- the node, seen by its parts
   inner : IsNodeOf (the_view c.self.inside)
@@ -80,15 +80,16 @@ module _ (g : Over) (c : After-drop-run g)
       (g.M.Clock.disk c.store.new.machine (g.M.Clock.now c.store.new.machine))
       (blocks ++ c.args.block.now ∷ [])
   longer =
-      let placed = added_is_next compiled_in blocks (block_in c.args.bytes.now) c.args.block.now
-      c.args.block.now c.requires.next.decoded judgement in
+      let placed = added_is_next stored_placement blocks (block_in c.args.bytes.now)
+      c.args.block.now c.args.block.now c.requires.next.decoded judgement in
       longer_node (the_view c.self.inside)
       (g.M.Clock.disk c.args.machine.now (g.M.Clock.now c.args.machine.now))
       (g.M.Clock.disk c.store.new.machine (g.M.Clock.now c.store.new.machine)) blocks
       c.args.block.now (kept_in c.in-Ok.done.0) c.in-Ok-store.log
-      inner (c.in-Ok.ensures.stands told blocks inner.kept c.requires.next.digest_is placed)
+      inner placed (c.in-Ok.ensures.stands told blocks inner.kept c.requires.next.digest_is
+      (next_stored blocks c.args.block.now inner.first placed))
       c.in-Ok-store.ensures.still_known c.in-Ok-store.ensures.agrees
-      (λ content shown. c.in-Ok-store.ensures.added (placement_in compiled_in) content blocks
+      (λ content shown. c.in-Ok-store.ensures.added stored_placement content blocks
       c.args.block.now shown
       (next_after c.args.self (g.M.Clock.disk c.args.machine.now (g.M.Clock.now c.args.machine.now))
       blocks content c.args.bytes.now c.args.block.now is shown c.requires.next.decoded
@@ -96,9 +97,10 @@ module _ (g : Over) (c : After-drop-run g)
 
 pub returns-in-Ok-store-clause-answer : goal.returns-in-Ok-store-clause-answer
 returns-in-Ok-store-clause-answer g c told blocks is judgement =
-    let kept = (inner g c told blocks is judgement).kept in
-    let placed = added_is_next compiled_in blocks (block_in c.args.bytes.now) c.args.block.now
-    c.args.block.now c.requires.next.decoded judgement in
+    let node = inner g c told blocks is judgement in
+    let kept = node.kept in
+    let placed = added_is_next stored_placement blocks (block_in c.args.bytes.now)
+    c.args.block.now c.args.block.now c.requires.next.decoded judgement in
     let after = c.in-Ok.ensures.after told in
     let rows = after.rows ∙ ap
     (λ (h : History). (block_effects compiled_in h c.args.block.now).rows) kept.history_is in
@@ -113,7 +115,8 @@ returns-in-Ok-store-clause-answer g c told blocks is judgement =
             ∙ ap (length {A = Row}) rows,
         receipts,
         c.in-Ok.ensures.root_in told blocks kept
-            c.requires.next.digest_is placed,
+            c.requires.next.digest_is
+            (next_stored blocks c.args.block.now node.first placed),
       ),
       longer g c told blocks is judgement,
     )
@@ -132,13 +135,13 @@ returns-in-Ok-store-clause-ready g c = record {
 
 pub returns-in-Ok-store-clause-images : goal.returns-in-Ok-store-clause-images
 returns-in-Ok-store-clause-images g c told blocks content is shown judgement =
-    c.store.ensures.images (placement_in compiled_in) content blocks c.args.block.now shown
+    c.store.ensures.images stored_placement content blocks c.args.block.now shown
     (next_after c.args.self (g.M.Clock.disk c.args.machine.now (g.M.Clock.now c.args.machine.now))
     blocks content c.args.bytes.now c.args.block.now is shown c.requires.next.decoded judgement)
 
 pub returns-in-Err-store-clause-images : goal.returns-in-Err-store-clause-images
 returns-in-Err-store-clause-images g c told blocks content is shown judgement =
-    c.store.ensures.images (placement_in compiled_in) content blocks c.args.block.now shown
+    c.store.ensures.images stored_placement content blocks c.args.block.now shown
     (next_after c.args.self (g.M.Clock.disk c.args.machine.now (g.M.Clock.now c.args.machine.now))
     blocks content c.args.bytes.now c.args.block.now is shown c.requires.next.decoded judgement)
 
