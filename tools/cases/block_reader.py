@@ -3,7 +3,7 @@ import re
 from typing import NamedTuple
 
 from cases.block_files import FIRST_VERSION, SECOND_VERSION, block_digest
-from cases.log_cases import CLOSED, CLOSED_HEAD, FIRST_GATE, HEAD, OPEN
+from cases.log_cases import CLOSED, CLOSED_HEAD, FIRST_GATE, HEAD, MARK, OPEN
 from lineage.draft_faults import MAX_ARGS, MAX_BUDGET, MAX_BUDGETS, MAX_DEPS, MAX_SOURCE_BYTES, MAX_TXS
 
 MAX_BLOCK_BYTES = 1_048_576
@@ -135,16 +135,23 @@ def frame_at(file, start):
 
 
 class Chain:
-    """Blocks that were taken one after another: their bytes, and the transactions of each. Those of a log are of
-    the first version; of others that of the last one says which may follow."""
+    """Blocks that were taken one after another: their bytes, and the transactions of each. In a log the mark says
+    which version may follow, and in a file that of the last block."""
 
     def __init__(self, is_of_log=False):
         self.frames, self.digests, self.blocks = [], [], []
-        self.is_of_log, self.last_version = is_of_log, FIRST_VERSION
+        self.is_of_log, self.is_marked, self.last_version = is_of_log, False, FIRST_VERSION
 
     def wanted_version(self, version):
         """The version that the next block must have, where it has this one."""
-        return FIRST_VERSION if self.is_of_log else max(self.last_version, version)
+        if self.is_of_log:
+            return SECOND_VERSION if self.is_marked else FIRST_VERSION
+        return max(self.last_version, version)
+
+    def end(self):
+        """Where the closed gate stands at the end of a log that has these blocks."""
+        sizes = [len(frame) for frame in self.frames] + [0] * self.is_marked
+        return FIRST_GATE + sum(1 + len(MARK) + size for size in sizes)
 
     def take_in(self, frame):
         """Takes the block of a frame after those that are held, and answers true, unless it is one of them."""
@@ -194,8 +201,8 @@ class Chain:
 
 
 def stands_for(image):
-    """The chain that the bytes of a log stand for, none where the file isn't there, or the line that tells
-    what they are else."""
+    """The chain that the bytes of a log stand for, and whether it is marked, none where the file isn't there; or the
+    line that tells what they are else."""
     chain = Chain(is_of_log=True)
     closed_head = len(image or b"") > FIRST_GATE and image[1:FIRST_GATE] == CLOSED_HEAD[1:]
     if image is None or len(image) <= 1 or image[:1] == CLOSED:
@@ -207,12 +214,17 @@ def stands_for(image):
     gate = FIRST_GATE
     while image[gate : gate + 1] == OPEN:
         damaged = f"damaged at {gate}\n"
+        frame = b""
         try:
-            frame = frame_at(image, gate + 1)
-            is_next = chain.take_in(frame)
+            if image.startswith(MARK, gate + 1) and not chain.is_marked:
+                chain.is_marked = True
+            else:
+                frame = frame_at(image, gate + 1)
+                if not chain.take_in(frame):
+                    return None, damaged
         except Refused:
             return None, damaged
-        gate += 5 + len(frame)
-        if not is_next or gate >= len(image):
+        gate += 1 + len(MARK) + len(frame)
+        if gate >= len(image):
             return None, damaged
     return chain, None

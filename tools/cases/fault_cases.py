@@ -1,32 +1,30 @@
-"""Cases of faults and crashes: each call of a run fails once, and each moment of an append is a crash.
+"""Cases of faults and crashes: each call of a run fails once, and each moment of an `append` and of an `upgrade` is a
+crash.
 
-What is expected is worked out from docs/log.md and docs/formats.md: which calls an append makes, and what a
-disk holds after so many of them. What a crash leaves is read by tools/cases/block_reader.py; roots are those of
+What is expected is worked out from docs/log.md and docs/formats.md: which calls such a run makes, and what a disk
+holds after so many of them. What a crash leaves is read by tools/cases/block_reader.py; roots are those of
 tools/cases/root_cases.py, and proofs those of tools/cases/proof_cases.py.
 """
 import functools
 import itertools
 from typing import NamedTuple
 
-from cases.block_files import block_file, sets
+from cases.block_files import FIRST_VERSION, SECOND_VERSION, block_file, sets
 from cases.block_reader import stands_for
 from cases.log_cases import (
-    BEYOND, CLOSED, DISK_FAULT, DONE, FIRST_GATE, HEAD, MAGIC, OPEN, SET_FILE, UNREADABLE, UNTOLD, LogCase,
-    frames_of, log_of,
+    ALREADY, BEYOND, CLOSED, DISK_FAULT, DONE, FIRST_GATE, HEAD, MAGIC, MARK, OPEN, SET_FILE, UNREADABLE, UNTOLD,
+    LogCase, frames_of, log_of, upgraded,
 )
 from cases.proof_cases import proof_of
 from cases.root_cases import History, Row, block_digests, roots
 
-# The block of SET_FILE, one without transactions, and one whose row is derived from that of the first.
-FILE = block_file([[sets("raw/a", 5)], [], [sets("raw/b", 2, ["raw/a"])]])
-FRAMES = frames_of(FILE)
-LOG = log_of(FILE)
+# Of three blocks the first is that of SET_FILE, the second has no transaction, and the row of the third is derived from
+# that of the first.
+BLOCKS = [[sets("raw/a", 5)], [], [sets("raw/b", 2, ["raw/a"])]]
 ROWS = [Row("raw/a", 0, 0, 5, []), Row("raw/b", 2, 0, 2, [("raw/a", 0)])]
-ROOTS = roots(FRAMES, ROWS)
 ADDED = ["block 0 rows 1 status 0", "block 1 rows 0 status -", "block 2 rows 1 status 0"]
-LINES = [f"{line} root {root}\n" for line, root in zip(ADDED, ROOTS)]
-KNOWN = [f"known {at}\n" for at in range(len(FRAMES))]
-HEAD_BLOCK = len(FRAMES) - 1
+KNOWN = [f"known {at}\n" for at in range(len(BLOCKS))]
+HEAD_BLOCK = len(BLOCKS) - 1
 
 READ, SYNC, WRITE, TELL = "read", "sync", "write", "tell"
 # What stands in place of bytes that a crash loses.
@@ -98,21 +96,20 @@ class Disk:
         return map(self.left_by, CRASHES)
 
 
-# ---- an append of three blocks
+# ---- an append of three blocks, and an upgrade
 
 
 @functools.cache
-def held_by(image):
-    """How many blocks of the file an image has, which are its first ones."""
+def chain_in(image):
+    """The frames of the blocks of an image, which is a log or none yet, and whether it is marked."""
     chain, line = stands_for(image)
-    held = len(chain.frames)
-    assert line is None and chain.frames == [frame[4:] for frame in FRAMES[:held]]
-    return held
+    assert line is None
+    return [len(frame).to_bytes(4, "big") + frame for frame in chain.frames], chain.is_marked
 
 
-def log_of_first(count):
-    """The log of the first blocks, which isn't there where there are none."""
-    return log_of(b"".join(FRAMES[:count])) if count else b""
+def held_by(image):
+    """How many blocks an image has."""
+    return len(chain_in(image)[0])
 
 
 def is_log(image):
@@ -120,39 +117,117 @@ def is_log(image):
 
 
 def reads_of(image):
-    """How many reads open it: of the head, and of a log of each record two, of its gate with the length and of the
-    block, and one of the closed gate."""
-    return 2 + 2 * held_by(image) if is_log(image) else 1
+    """How many reads open it: of the head, and of a log of each record two, of its gate with the length and of what
+    follows, and one of the closed gate."""
+    frames, is_marked = chain_in(image)
+    return 2 + 2 * (len(frames) + is_marked) if is_log(image) else 1
+
+
+def opened(image, left):
+    """The calls that begin a run: it syncs what it finds before it reads it."""
+    yield Call(SYNC, left)
+    yield from [Call(READ, left)] * reads_of(image)
 
 
 def created(image, left):
     """The calls that make a log where there is none yet."""
+    if is_log(image):
+        return
     steps = [(0, CLOSED), (1, MAGIC + CLOSED), (0, OPEN)]
     for at, piece in steps[1:] if image.startswith(CLOSED) else steps:
         yield Call(WRITE, left, piece, at)
         yield Call(SYNC, left)
 
 
-def stored(frame, gate, left):
-    """The calls that store a block at a closed gate."""
-    for at, piece in [(gate + 1, frame + CLOSED), (gate, OPEN)]:
+def stored(record, gate, left):
+    """The calls that store a block, or the mark, at a closed gate."""
+    for at, piece in [(gate + 1, record + CLOSED), (gate, OPEN)]:
         yield Call(WRITE, left, piece, at)
         yield Call(SYNC, left)
 
 
-def append_calls(image):
-    """All calls of an append of the three blocks, in order: it syncs what it finds before it reads it."""
-    yield Call(SYNC, len(FILE))
-    yield from [Call(READ, len(FILE))] * reads_of(image)
-    gate, left, held = FIRST_GATE, len(FILE), held_by(image)
-    for at, frame in enumerate(FRAMES):
-        left -= len(frame)
-        if at >= held:
-            if at == 0 and not is_log(image):
-                yield from created(image, left)
-            yield from stored(frame, gate, left)
-        yield Call(TELL, left, LINES[at] if at >= held else KNOWN[at])
-        gate += 1 + len(frame)
+class Append:
+    """The append of three blocks; in the log the first ones are of the first version, so many, and the mark follows
+    where there are others."""
+
+    words = "append"
+
+    def __init__(self, firsts=len(BLOCKS)):
+        versions = [FIRST_VERSION] * firsts + [SECOND_VERSION] * (len(BLOCKS) - firsts)
+        self.firsts, self.file = firsts, block_file(BLOCKS, versions)
+        self.frames = frames_of(self.file)
+        self.is_marked = firsts < len(BLOCKS)
+        self.roots = roots(self.frames, ROWS)
+        self.lines = [f"{line} root {root}\n" for line, root in zip(ADDED, self.roots)]
+
+    def log_of_first(self, count):
+        """The log of the first blocks, which isn't there where there are none and it isn't marked."""
+        firsts = b"".join(self.frames[: min(count, self.firsts)])
+        if self.is_marked:
+            return log_of(firsts, b"".join(self.frames[self.firsts : count]))
+        return log_of(firsts) if count else b""
+
+    def is_kept(self, before, begun, image):
+        """Whether an image has what it must, where lines of so many blocks were begun: the first of the blocks, those
+        that were there before and those of the lines among them; and it is marked as it was."""
+        (frames, is_marked), (held, was_marked) = chain_in(image), chain_in(before)
+        is_first = frames == self.frames[: len(frames)]
+        return is_first and len(frames) >= max(begun, len(held)) and is_marked == was_marked
+
+    def is_done(self, _, image):
+        """Whether an image has all the blocks, and the mark where it must."""
+        return chain_in(image) == (self.frames, self.is_marked)
+
+    def calls(self, image):
+        """All calls of the append over an image, in order."""
+        left, held = len(self.file), held_by(image)
+        yield from opened(image, left)
+        gate = FIRST_GATE
+        for at, frame in enumerate(self.frames):
+            if self.is_marked and at == self.firsts:
+                gate += 1 + len(MARK)
+            left -= len(frame)
+            if at >= held:
+                if at == 0:
+                    yield from created(image, left)
+                yield from stored(frame, gate, left)
+            yield Call(TELL, left, self.lines[at] if at >= held else KNOWN[at])
+            gate += 1 + len(frame)
+
+
+class Upgrade:
+    """The upgrade of a log. Its input is never read."""
+
+    words = "upgrade"
+    file = b"x"
+
+    def is_kept(self, before, begun, image):
+        """Whether an image has the blocks that were there, and a mark where there was one or a line was begun."""
+        (frames, is_marked), (held, was_marked) = chain_in(image), chain_in(before)
+        return frames == held and is_marked >= max(was_marked, begun)
+
+    def is_done(self, before, image):
+        """Whether an image has the blocks that were there, and the mark."""
+        return chain_in(image) == (chain_in(before)[0], True)
+
+    def calls(self, image):
+        """All calls of the upgrade over an image, in order."""
+        left, (frames, is_marked) = len(self.file), chain_in(image)
+        yield from opened(image, left)
+        if is_marked:
+            yield Call(TELL, left, ALREADY)
+            return
+        yield from created(image, left)
+        yield from stored(MARK, FIRST_GATE + sum(1 + len(frame) for frame in frames), left)
+        yield Call(TELL, left, upgraded(len(frames)))
+
+
+APPEND, UPGRADE = Append(), Upgrade()
+FILE, FRAMES, ROOTS, LINES = APPEND.file, APPEND.frames, APPEND.roots, APPEND.lines
+LOG = log_of(FILE)
+log_of_first = APPEND.log_of_first
+# The append to a marked log, which has one block before the mark.
+MARKED_APPEND = Append(1)
 
 
 def told_by(calls):
@@ -169,46 +244,79 @@ def disk_after(image, made, failed=None):
     return disk
 
 
-def failing_append(image):
-    """The append with each of its calls failing, up to the first that is never made."""
-    calls = list(append_calls(image))
-    for number, failed in enumerate(calls):
+def failing_run(run, image):
+    """The run with each of its calls failing, up to the first that is never made."""
+    calls = list(run.calls(image))
+    for number, failed in enumerate([*calls, None]):
         made = calls[:number]
         after = bytes(disk_after(image, made, failed).content)
+        assert failed or run.is_done(image, after)
         told = "".join(told_by(made))
-        yield LogCase(
-            "append", image, told, failed.status(), after, FILE, left=failed.left, calls=f"{number}"
-        )
-    yield LogCase("append", image, "".join(told_by(calls)), DONE, LOG, FILE, calls=f"{len(calls)}")
+        status, left = (failed.status(), failed.left) if failed else (DONE, calls[-1].left)
+        yield LogCase(run.words, image, told, status, after, run.file, left=left, calls=f"{number}")
 
 
-def crash_images(image):
-    """What a crash may leave of the append at each of its moments, and after each of its calls failed."""
-    calls = list(append_calls(image))
-    images = set()
-    for number in range(len(calls) + 1):
-        failed = calls[number] if number < len(calls) else None
-        # Each line that was begun by then.
-        told = len(told_by(calls[: number + 1]))
-        for disk in [disk_after(image, calls[:number]), disk_after(image, calls[:number], failed)]:
-            for left in disk.images():
-                assert held_by(left) >= max(told, held_by(image))
-                images.add(left)
-    return images
+def whole_run(run, image):
+    """The run with nothing in its way."""
+    return list(failing_run(run, image))[-1]
 
 
-def over_crashes():
-    """Over what a crash may leave of an append to an empty disk, or to a log of two blocks: the root; and the append
-    again, with each of its calls failing. Then the root over what a crash may leave of that."""
-    starts = [log_of_first(0), log_of_first(2)]
-    first = set(starts).union(*map(crash_images, starts))
-    second = first.union(*map(crash_images, first))
+def left_by_crashes(run, image, number, is_failed):
+    """What each crash leaves of a run, after so many of its calls were made, and the next one failed or wasn't; it has
+    what it must."""
+    calls = list(run.calls(image))
+    failed = calls[number] if is_failed and number < len(calls) else None
+    # Each line that was begun by then.
+    begun = len(told_by(calls[: number + 1]))
+    for left in disk_after(image, calls[:number], failed).images():
+        assert run.is_kept(image, begun, left)
+        yield left
+
+
+def crash_images(run, image):
+    """What a crash may leave of the run at each of its moments, and after each of its calls failed."""
+    moments = range(len(list(run.calls(image))) + 1)
+    each = itertools.product(moments, [False, True])
+    return set().union(*(left_by_crashes(run, image, number, is_failed) for number, is_failed in each))
+
+
+# Runs, and over what they begin: an empty disk and a log of two blocks; a marked log with no block behind the mark, and
+# with one; an empty disk, and logs of one block and of three.
+STARTS = [
+    (APPEND, [log_of_first(0), log_of_first(2)]),
+    (MARKED_APPEND, [MARKED_APPEND.log_of_first(1), MARKED_APPEND.log_of_first(2)]),
+    (UPGRADE, [log_of_first(0), log_of_first(1), log_of_first(3)]),
+]
+
+
+def next_append(image):
+    """The append that goes on from an image; none where its mark stands before the first block, or behind all."""
+    held, is_marked = held_by(image), chain_in(image)[1]
+    return APPEND if not is_marked else MARKED_APPEND if held == MARKED_APPEND.firsts else None
+
+
+def over_crashes(run, starts):
+    """Over what a crash may leave of the run: the run again, with each of its calls failing. Then the root over what a
+    crash may leave of that; and of an upgrade the whole run once more, and an append."""
+    first = set(starts).union(*(crash_images(run, image) for image in starts))
+    second = first.union(*(crash_images(run, image) for image in first))
     for image in sorted(first):
-        yield from failing_append(image)
+        yield from failing_run(run, image)
     for image in sorted(second):
         held = held_by(image)
-        told, status = (f"root {held - 1} {ROOTS[held - 1]}\n", DONE) if held else ("beyond empty\n", BEYOND)
+        root = root_of(image)
+        told, status = (f"root {held - 1} {root}\n", DONE) if held else ("beyond empty\n", BEYOND)
         yield LogCase("root", image, told, status)
+        if run is UPGRADE:
+            again = None if image in first else run
+            yield from (whole_run(other, image) for other in [again, next_append(image)] if other)
+
+
+@functools.cache
+def root_of(image):
+    """The root at the last block of an image."""
+    frames, _ = chain_in(image)
+    return roots(frames, [row for row in ROWS if row.block < len(frames)])[-1] if frames else None
 
 
 def failing_pulls():
@@ -228,44 +336,42 @@ def failing_pulls():
 
 
 class CrashCase(NamedTuple):
-    """An append over a disk, of which the call of a number fails, or none; and each crash at some of its moments."""
+    """A run over a disk, of which the call of a number fails, or none; and each crash at some of its moments."""
 
+    run: object
     image: bytes
     moments: list
     failing: int = None
 
     def case(self):
         """As a LogCase gives its own."""
-        calls = list(append_calls(self.image))
+        calls = list(self.run.calls(self.image))
         made = calls[: self.failing]
         failed = None if self.failing is None else calls[self.failing]
         status = failed.status() if failed else DONE
         told = [f"at {at} {call.piece}" for at, call in enumerate(made) if call.kind == TELL]
-        last = len(made) + bool(failed)
-        lines = [f"== {status} crash append\n", *told, f"moment {last}\n"]
+        words, last = f"crash {self.run.words}", len(made) + bool(failed)
+        lines = [f"== {status} {words}\n", *told, f"moment {last}\n"]
         before = self.image
         for moment in self.moments:
-            disk = disk_after(self.image, made[:moment], failed if moment > len(made) else None)
-            # Each line that was begun by then.
-            begun = len(told_by(calls[: min(moment, len(made)) + 1]))
-            for left in disk.images():
-                assert held_by(left) >= max(begun, held_by(self.image))
+            number = min(moment, len(made))
+            for left in left_by_crashes(self.run, self.image, number, is_failed=moment > number):
                 lines.append(f"image {'same' if left == before else left.hex()}\n")
                 before = left
         crashes = [crash.field(moment) for moment in self.moments for crash in CRASHES]
         calls_field = "" if self.failing is None else f"{self.failing}"
-        fields = [FILE.hex(), "", calls_field, self.image.hex(), ",".join(crashes)]
-        return "crash append", "".join(lines), "|".join(fields), None
+        fields = [self.run.file.hex(), "", calls_field, self.image.hex(), ",".join(crashes)]
+        return words, "".join(lines), "|".join(fields), None
 
 
 def crash_cases():
-    """What crashes leave of an append to an empty disk, and to a log of two blocks: at each of its moments, and
-    after each of its calls failed."""
-    for image in [log_of_first(0), log_of_first(2)]:
-        count = len(list(append_calls(image)))
-        yield CrashCase(image, list(range(count + 1))).case()
-        for failing in range(count):
-            yield CrashCase(image, [failing + 1], failing).case()
+    """What crashes leave of each run: at each of its moments, and after each of its calls failed."""
+    for run, starts in STARTS:
+        for image in starts:
+            count = len(list(run.calls(image)))
+            yield CrashCase(run, image, list(range(count + 1))).case()
+            for failing in range(count):
+                yield CrashCase(run, image, [failing + 1], failing).case()
 
 
 # ---- other commands
@@ -327,6 +433,7 @@ def failing_proofs():
 
 def fault_cases():
     """All cases, as tools/cases/log_cases.py gives its own."""
-    for part in [over_crashes(), failing_pulls(), failing_questions(), failing_proofs()]:
+    crashes = itertools.starmap(over_crashes, STARTS)
+    for part in [*crashes, failing_pulls(), failing_questions(), failing_proofs()]:
         for case in part:
             yield case.case()

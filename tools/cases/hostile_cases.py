@@ -7,12 +7,14 @@ tools/cases/block_reader.py.
 import itertools
 from typing import NamedTuple
 
-from cases.block_files import GONE, OK, OUT_OF_STEPS, block_file, calls, deploys, number, sets
+from cases.block_files import (
+    FIRST_VERSION, GONE, OK, OUT_OF_STEPS, SECOND_VERSION, block_file, calls, deploys, number, sets,
+)
 from cases.block_reader import stands_for
 from cases.changed_files import CHANGES, written
 from cases.log_cases import (
-    BEYOND, CHAINS, DAMAGED, DONE, HIST, NOT_A_LOG, REFUSED, SET_ANSWER, SET_FILE, SET_LOG, SET_ROWS, LogCase,
-    frames_of, log_of,
+    ALREADY, BEYOND, CHAINS, CLOSED, DAMAGED, DONE, FIRST_GATE, HEAD, HIST, MARK, NOT_A_LOG, OPEN, REFUSED, SET_ANSWER,
+    SET_FILE, SET_LOG, SET_ROWS, LogCase, frames_of, log_of, upgraded,
 )
 from cases.proof_cases import proof_of
 from cases.root_cases import History, Row, block_digests, roots
@@ -194,25 +196,43 @@ def gone_proofs():
 # ---- changed logs
 
 
-# The block of SET_FILE, and one without transactions.
-TWO_FILE = block_file([[sets("raw/a", 5)], []])
+class Held(NamedTuple):
+    """A log of two blocks, that of SET_FILE and one without transactions; and the file of these."""
+
+    file: bytes
+    log: bytes
+
+    def lines(self):
+        """What `append` tells of the blocks."""
+        told = ["block 0 rows 1 status 0", "block 1 rows 0 status -"]
+        return [f"{line} root {root}\n" for line, root in zip(told, roots(frames_of(self.file), SET_ROWS))]
+
+
+TWO_BLOCKS = [[sets("raw/a", 5)], []]
+TWO_FILE = block_file(TWO_BLOCKS)
 TWO_LOG = log_of(TWO_FILE)
-TWO_LINES = [
-    f"{line} root {root}\n"
-    for line, root in zip(
-        ["block 0 rows 1 status 0", "block 1 rows 0 status -"], roots(frames_of(TWO_FILE), SET_ROWS)
-    )
-]
+TWO = Held(TWO_FILE, TWO_LOG)
+# The same with a mark before the second one, which is of the second version then.
+BOTH_FILE = block_file(TWO_BLOCKS, [FIRST_VERSION, SECOND_VERSION])
+BOTH = Held(BOTH_FILE, log_of(SET_FILE, frames_of(BOTH_FILE)[1]))
 # In a log of one block the length of that block stands at 9, the block at 13, and the last byte of its value at 71;
 # the second record begins at the gate at 73.
 LOG_CHANGES = [
     (SET_LOG[:9] + bytes.fromhex("ff00003c") + SET_LOG[13:], "damaged at 8\n", DAMAGED),
     (put(SET_LOG, 13, 0), "damaged at 8\n", DAMAGED),
-    # A block of the second version, which is never the next one of a log.
+    # A block of the second version, before which a mark would stand.
     (put(SET_LOG, 13, 2), "damaged at 8\n", DAMAGED),
     # No later block speaks against this one.
     (put(SET_LOG, 71, 6), "block 0 tx 0 int 6\n", DONE),
     (put(TWO_LOG, 71, 6), "damaged at 73\n", DAMAGED),
+    # In the marked log the gate of the mark stands at 73, its length at 74, the next gate at 78, and the block behind
+    # it at 83.
+    (put(BOTH.log, 71, 6), "damaged at 78\n", DAMAGED),
+    (put(BOTH.log, 83, 1), "damaged at 78\n", DAMAGED),
+    (put(BOTH.log, 77, 1), "damaged at 73\n", DAMAGED),
+    # A closed gate ends the log before the mark, or behind it.
+    (put(BOTH.log, 73, 0x5A), "block 0 tx 0 int 5\n", DONE),
+    (put(BOTH.log, 78, 0x5A), "block 0 tx 0 int 5\n", DONE),
 ]
 
 
@@ -232,17 +252,37 @@ def answer_over(image):
     return f"block 0 {version}\n" if version else "none\n", DONE
 
 
-def append_over(image):
+def with_records(image, gate, records):
+    """A log after records were stored at its closed gate, over what stands there; as it is where there are none."""
+    if not records:
+        return image
+    added = b"".join(OPEN + record for record in records) + CLOSED
+    return (HEAD + image[FIRST_GATE:])[:gate] + added + image[gate + len(added) :]
+
+
+def append_over(held, image):
     """The append of the two blocks over a log of which a byte is changed."""
     chain, line = stands_for(image)
     if line:
         told, status = wrong(line)
-        return LogCase("append", image, told, status, file=TWO_FILE, left=len(TWO_FILE))
-    taken, refused, read = chain.fold(TWO_FILE)
-    told = "".join(TWO_LINES[at] if is_new else f"known {at}\n" for at, is_new in taken) + (refused or "")
-    after = TWO_LOG if any(is_new for _, is_new in taken) else image
+        return LogCase("append", image, told, status, file=held.file, left=len(held.file))
+    gate, lines = chain.end(), held.lines()
+    taken, refused, read = chain.fold(held.file)
+    told = "".join(lines[at] if is_new else f"known {at}\n" for at, is_new in taken) + (refused or "")
+    after = with_records(image, gate, [frame for frame, (_, is_new) in zip(frames_of(held.file), taken) if is_new])
     status = REFUSED if refused else DONE
-    return LogCase("append", image, told, status, after, TWO_FILE, left=len(TWO_FILE) - read)
+    return LogCase("append", image, told, status, after, held.file, left=len(held.file) - read)
+
+
+def upgrade_over(image):
+    """The upgrade of a log of which a byte is changed."""
+    chain, line = stands_for(image)
+    if line:
+        return LogCase("upgrade", image, *wrong(line))
+    if chain.is_marked:
+        return LogCase("upgrade", image, ALREADY)
+    after = with_records(image, chain.end(), [MARK])
+    return LogCase("upgrade", image, upgraded(len(chain.frames)), DONE, after)
 
 
 def commands_over_wrong_logs():
@@ -251,7 +291,7 @@ def commands_over_wrong_logs():
     expose = f"{SET_PROVED.words.replace('verify', 'expose')} 0"
     wrong_logs = [(image, told, status) for image, told, status in LOG_CHANGES if status == DAMAGED]
     for image, told, status in [*wrong_logs, (turned(SET_LOG, 0), "not a log\n", NOT_A_LOG)]:
-        for words in ["back raw/a", "fwd raw/a 7", "root", "prove hist raw/a 7 7", expose]:
+        for words in ["back raw/a", "fwd raw/a 7", "root", "prove hist raw/a 7 7", expose, "upgrade"]:
             yield LogCase(words, image, told, status, file=source, left=len(source))
 
 
@@ -261,14 +301,15 @@ def changed_logs():
         assert answer_over(image) == (told, status)
         yield LogCase(HIST, image, told, status)
     named = [image for image, _, _ in LOG_CHANGES]
-    for log in [SET_LOG, TWO_LOG]:
+    for log, held in [(SET_LOG, None), (TWO.log, TWO), (BOTH.log, BOTH)]:
         for offset, byte in enumerate(log):
             for change in CHANGES:
                 image = put(log, offset, byte ^ change)
                 if image not in named:
                     yield LogCase(HIST, image, *answer_over(image))
-                if log == TWO_LOG:
-                    yield append_over(image)
+                if held:
+                    yield append_over(held, image)
+                    yield upgrade_over(image)
 
 
 # ---- contracts that spend what they may

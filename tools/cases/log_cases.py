@@ -18,6 +18,8 @@ MAGIC = b"LCLOG1\n"
 HEAD = OPEN + MAGIC
 CLOSED_HEAD = CLOSED + MAGIC
 FIRST_GATE = len(HEAD)
+# A record that is the mark: the length of no block.
+MARK = number(0, 4)
 BYTES = [bytes([byte]) for byte in range(256)]
 
 DONE = 0
@@ -87,9 +89,10 @@ def frames_of(file):
     return frames
 
 
-def log_of(file):
-    """The log of the blocks of a file."""
-    return HEAD + b"".join(OPEN + frame for frame in frames_of(file)) + CLOSED
+def log_of(file, marked=None):
+    """The log of the blocks of a file; or that log marked, with the blocks of another file behind the mark."""
+    records = frames_of(file) + ([] if marked is None else [MARK, *frames_of(marked)])
+    return HEAD + b"".join(OPEN + record for record in records) + CLOSED
 
 
 def block(at, parent, txs, version=FIRST_VERSION):
@@ -325,12 +328,38 @@ def wrong_images():
     for record in [
         SET_FILE[:4] + b"\2" + SET_FILE[5:] + CLOSED,
         SET_FILE[:4] + b"\3" + SET_FILE[5:] + CLOSED,
-        bytes(4) + CLOSED,
         number(1_048_577, 4) + CLOSED,
         block(1, bytes(32), []) + CLOSED,
         block(0, bytes(32), [calls("c", "f", [], 1_000_000, OK, 0)] * 11) + CLOSED,
     ]:
         yield HEAD + OPEN + record, f"damaged at {FIRST_GATE}\n", DAMAGED
+    for image, gate in wrong_marks():
+        yield image, f"damaged at {gate}\n", DAMAGED
+
+
+def wrong_marks():
+    """Logs that are damaged at the gate of a mark, or behind one, and the place of that gate."""
+    after_set = len(SET_LOG) - 1
+    parent = bytes.fromhex(digest(SET_FILE))
+    first, second = (block(1, parent, [], version) for version in [FIRST_VERSION, SECOND_VERSION])
+    # A second mark: right behind the first, and behind a block that follows it.
+    yield SET_LOG[:-1] + (OPEN + MARK) * 2 + CLOSED, after_set + 5
+    yield HEAD + (OPEN + MARK) * 2 + CLOSED, FIRST_GATE + 5
+    yield log_of(SET_FILE, second)[:-1] + OPEN + MARK + CLOSED, after_set + 5 + 1 + len(second)
+    # A block of the other version before the mark, and behind it; and one of the right version that isn't next.
+    yield log_of(block(0, bytes(32), [], SECOND_VERSION), b""), FIRST_GATE
+    yield log_of(SET_FILE + second, b""), after_set
+    yield log_of(SET_FILE, first), after_set + 5
+    yield log_of(b"", SET_FILE), FIRST_GATE + 5
+    yield log_of(SET_FILE, block(1, bytes(32), [], SECOND_VERSION)), after_set + 5
+    # Cut within the mark, right behind it, and within the block that follows.
+    whole = log_of(SET_FILE, second)
+    for length in range(after_set + 1, after_set + 6):
+        yield whole[:length], after_set
+    for length in range(after_set + 6, len(whole)):
+        yield whole[:length], after_set + 5
+    for length in range(1, 6):
+        yield log_of(b"", b"")[: FIRST_GATE + length], FIRST_GATE
 
 
 def wrong_logs():
@@ -339,6 +368,124 @@ def wrong_logs():
         yield LogCase(HIST, image, told, status)
         yield LogCase("root", image, told, status)
         yield LogCase("append", image, told, status, file=SET_FILE, left=len(SET_FILE))
+        yield LogCase("upgrade", image, told, status, file=SET_FILE, left=len(SET_FILE))
+
+
+# ---- marked logs
+
+
+ALREADY = "already upgraded\n"
+
+
+def upgraded(count):
+    return f"upgraded {count}\n"
+
+
+def upgrades():
+    """A log with its mark, and what `append` takes before and behind it."""
+    parent = bytes.fromhex(digest(SET_FILE))
+    first, second = (block(1, parent, [], version) for version in [FIRST_VERSION, SECOND_VERSION])
+    line = f"block 1 rows 0 status - root {roots([SET_FILE, second], SET_ROWS)[1]}\n"
+    marked, last = log_of(SET_FILE, b""), log_of(SET_FILE, second)
+    # Byte 73 is the gate of the mark, and the five behind it are its length and the next gate.
+    assert marked == SET_LOG[:73] + b"\xa5" + bytes(5)
+    assert (len(SET_LOG), len(last)) == (74, 123)
+    yield LogCase("upgrade", SET_LOG, upgraded(1), after=marked)
+    yield LogCase("upgrade", marked, ALREADY)
+    yield LogCase("append", marked, "known 0\n", file=SET_FILE)
+    yield LogCase("append", marked, "refused frame 0 version 2\n", REFUSED, file=first)
+    yield LogCase("append", marked, line, after=last, file=second)
+    yield LogCase("append", marked, f"known 0\n{line}", after=last, file=SET_FILE + second)
+    yield LogCase("append", SET_LOG, "refused frame 0 version 1\n", REFUSED, file=second)
+    # The same block of the first version is another one.
+    yield LogCase("append", last, f"refused frame 0 fork {digest(second)}\n", REFUSED, file=first)
+    for image in [marked, last]:
+        yield LogCase(HIST, image, SET_ANSWER)
+        yield LogCase("root 0", image, SET_ROOT)
+    for image in [log_of(SET_FILE + first), last]:
+        told = ALREADY if image == last else upgraded(2)
+        yield LogCase("upgrade", image, told, after=last if image == last else log_of(SET_FILE + first, b""))
+    # A log that isn't there yet, or that was begun, is made first.
+    empty = log_of(b"", b"")
+    assert len(empty) == 14
+    for image in [b"", CLOSED, b"x", CLOSED_HEAD, CLOSED_HEAD + CLOSED, HEAD + CLOSED]:
+        yield LogCase("upgrade", image, upgraded(0), after=empty)
+    yield LogCase("upgrade", empty, ALREADY, file=SET_FILE, left=len(SET_FILE))
+    for question in [HIST, "root"]:
+        yield LogCase(question, empty, "beyond empty\n", BEYOND)
+    set_again = block(0, bytes(32), [sets("raw/a", 5)], SECOND_VERSION)
+    line = f"block 0 rows 1 status 0 root {roots([set_again], SET_ROWS)[0]}\n"
+    yield LogCase("append", empty, line, after=log_of(b"", set_again), file=set_again)
+    yield LogCase("append", empty, "refused frame 0 version 2\n", REFUSED, file=SET_FILE)
+    yield LogCase("upgrade", log_of(b"", set_again), ALREADY)
+    # Its words are one, and nothing is read of its input.
+    for words in ["upgrade 0", "upgrade x", "upgrade upgrade", "upgraded"]:
+        yield LogCase(words, SET_LOG, "usage\n", USAGE, file=SET_FILE, left=len(SET_FILE))
+
+
+def refusals_when_marked():
+    """Frames that are refused by a marked log: the number and the parent come before the version, and the version
+    before the budgets."""
+    parent = bytes.fromhex(digest(SET_FILE))
+    eleven_calls = [calls("c", "f", [], 1_000_000, OK, 0)] * 11
+    for frame, cause in [
+        (block(2, parent, []), "number 1"),
+        (block(1, bytes(32), []), f"parent {digest(SET_FILE)}"),
+        (block(1, parent, eleven_calls), "version 2"),
+        (block(1, parent, eleven_calls, SECOND_VERSION), "budget 11000000"),
+        (SET_FILE[:4] + b"\2" + SET_FILE[5:], f"fork {digest(SET_FILE)}"),
+        (block(0, bytes(32), [sets("raw/a", 6)]), f"fork {digest(SET_FILE)}"),
+    ]:
+        image = log_of(SET_FILE, b"")
+        yield LogCase("append", image, f"refused frame 0 {cause}\n", REFUSED, file=frame + SET_FILE, left=len(SET_FILE))
+
+
+def torn_marks():
+    """What may stand where an `upgrade` of a log of one block is stopped, behind the gate of the mark and in its place:
+    whether the log is marked then, and its bytes."""
+    mark, front = MARK + CLOSED, SET_LOG[:-1]
+    for length in range(len(mark) + 1):
+        for fill in [OPEN, b"\xff", b"\x5a"]:
+            yield False, front + CLOSED + mark[:length] + fill * (len(mark) - length)
+        yield False, front + CLOSED + mark[:length]
+    for byte in BYTES:
+        yield byte == OPEN, front + byte + mark
+
+
+def stopped_upgrades():
+    """A question, and the `upgrade` again, over all that a stopped one of a log of one block may leave: the block
+    stays, and the log is marked or not."""
+    for is_marked, image in dict.fromkeys(torn_marks()):
+        yield LogCase(HIST, image, SET_ANSWER)
+        yield LogCase("upgrade", image, ALREADY if is_marked else upgraded(1), after=log_of(SET_FILE, b""))
+
+
+# What the disk holds when the call of each number fails in an `upgrade` of a log of one block: it is synced and opened
+# by five calls, as by an `append`.
+FAILED_MARKS = [
+    *[SET_LOG] * 5,
+    # The mark, and its sync.
+    SET_LOG,
+    SET_LOG + MARK + CLOSED,
+    # Its open gate.
+    SET_LOG + MARK + CLOSED,
+    log_of(SET_FILE, b""),
+]
+
+
+def failing_upgrades():
+    """An `upgrade` of which one call fails, up to the first that is never made."""
+    for call, after in enumerate(FAILED_MARKS):
+        yield LogCase("upgrade", SET_LOG, "", DISK_FAULT, after, calls=f"{call}")
+    tell, marked = len(FAILED_MARKS), log_of(SET_FILE, b"")
+    yield LogCase("upgrade", SET_LOG, "", UNTOLD, marked, calls=f"{tell}")
+    yield LogCase("upgrade", SET_LOG, upgraded(1), DONE, marked, calls=f"{tell + 1}")
+    # The mark is read as a block is, by two reads: one of its gate and its length, one of the byte that follows.
+    opened = 7
+    for call in range(opened):
+        yield LogCase("upgrade", marked, "", DISK_FAULT, calls=f"{call}")
+    yield LogCase("upgrade", marked, "", UNTOLD, calls=f"{opened}")
+    yield LogCase("upgrade", marked, ALREADY, DONE, calls=f"{opened + 1}")
 
 
 # ---- what a crash leaves
@@ -534,6 +681,10 @@ def words():
 def log_cases():
     """All cases: the words of each, what must be printed, the fields of its line after the piece, and
     the piece, where it isn't the next in turn."""
-    for part in [chains, refusals, wrong_logs, crashes, failing_calls, failing_pulls, pauses, words]:
+    parts = [
+        chains, refusals, wrong_logs, crashes, failing_calls, failing_pulls, pauses, words, upgrades,
+        refusals_when_marked, stopped_upgrades, failing_upgrades,
+    ]
+    for part in parts:
         for case in part():
             yield case.case()

@@ -10,7 +10,7 @@ from cases.fault_cases import EXPOSE, FILE, FRAMES, HEAD_BLOCK, KNOWN, LINES, LO
 from cases.fault_cases import USES, VERIFY, log_of_first
 from cases.generated_loads import load_line
 from cases.growing_roots import growing_roots
-from cases.log_cases import DONE, SCRATCH_FAULT, LogCase, frames_of, log_of
+from cases.log_cases import ALREADY, DONE, SCRATCH_FAULT, LogCase, frames_of, log_of, upgraded
 from cases.proof_cases import proof_of
 from cases.root_cases import History, Row, block_digests
 
@@ -44,6 +44,18 @@ def failing_appends():
                 put += 1
         told = "".join(KNOWN[:held] + LINES[held:])
         yield LogCase("append", image, told, DONE, LOG, FILE, scratch=f"{put}")
+
+
+def failing_upgrades():
+    """The upgrade of the logs of the first blocks with each put failing: nothing is told, and the log isn't marked. It
+    puts each body of the log, also where that is marked already."""
+    for held in range(len(FRAMES) + 1):
+        image, marked = log_of_first(held), log_of(b"".join(FRAMES[:held]), b"")
+        puts = sum(ROWS_OF_BLOCKS[:held])
+        for before, line in [(image, upgraded(held)), (marked, ALREADY)]:
+            for put in range(puts):
+                yield LogCase("upgrade", before, "", SCRATCH_FAULT, scratch=f"{put}")
+            yield LogCase("upgrade", before, line, DONE, marked, scratch=f"{puts}")
 
 
 def small_rooms():
@@ -147,7 +159,7 @@ def without_device():
 def scratch_cases():
     """All cases, as tools/cases/log_cases.py gives its own."""
     parts = [
-        failing_appends(), small_rooms(), failing_questions(), failing_expose(), failing_loads(),
+        failing_appends(), failing_upgrades(), small_rooms(), failing_questions(), failing_expose(), failing_loads(),
         bodies_not_at_hand(), without_device(),
     ]
     for part in parts:

@@ -1,4 +1,4 @@
-"""Two appends of different chains to one log, which run at the same time.
+"""Two appends of different chains to one log, which run at the same time; and an append and an upgrade.
 
 Each is given its frames by a pipe, and neither is given the last of them before both have begun, which is seen by
 that they read, or have ended. The log is then the chain of the one that ends with status 0, whole, and what that told
@@ -15,7 +15,7 @@ import termios
 import time
 
 from cases.block_files import block_file, sets
-from cases.log_cases import DISK_FAULT, DONE, frames_of, log_of
+from cases.log_cases import DISK_FAULT, DONE, REFUSED, frames_of, log_of, upgraded
 from checks.disk_calls import get, put
 from checks.log_runs import LINE_LIMIT, LOG, environment, known_lines, plain_chain, without_roots
 
@@ -37,9 +37,9 @@ def two_chains(first):
     return (chain, block_file(blocks)), lines
 
 
-def start(program, folder):
-    words = {"stdin": subprocess.PIPE, "stdout": subprocess.PIPE, "cwd": folder, "env": environment()}
-    return subprocess.Popen([program, "append"], **words)
+def start(program, folder, words="append"):
+    streams = {"stdin": subprocess.PIPE, "stdout": subprocess.PIPE, "cwd": folder, "env": environment()}
+    return subprocess.Popen([program, words], **streams)
 
 
 def give(running, source):
@@ -106,5 +106,41 @@ def pairs(checks, program, times):
     return [sum(column) for column in zip(*stored)]
 
 
+def beside_upgrade(checks, program, held):
+    """An append onto a log of so many blocks, and an upgrade that is started at the same time, and ends before the
+    append was given all: either it stores nothing and tells nothing, since the log is locked, or it marks the log. Then
+    the append stores nothing: it ends since the log is locked or was made meanwhile, or it has the mark before it."""
+    (file, _), lines = two_chains(held)
+    frames, known = frames_of(file), known_lines(held)
+    first = b"".join(frames[:held])
+    refused = f"refused frame {held} version 2\n"
+    with tempfile.TemporaryDirectory() as folder:
+        put(os.path.join(folder, LOG), log_of(first) if held else None)
+        appending, upgrading = start(program, folder), start(program, folder, "upgrade")
+        give(appending, file[: GIVEN_FIRST[0]])
+        close(upgrading)
+        done = answer(upgrading)
+        wait_for(appending)
+        give(appending, file[GIVEN_FIRST[0] :])
+        close(appending)
+        ended, name = answer(appending), f"an append onto {held} blocks and an upgrade"
+        log = get(os.path.join(folder, LOG))
+        allowed = [
+            (("", DISK_FAULT), ("".join(known + lines[held:]), DONE), log_of(file)),
+            ((upgraded(held), DONE), ("", DISK_FAULT), log_of(first, b"")),
+            ((upgraded(held), DONE), ("".join(known) + refused, REFUSED), log_of(first, b"")),
+        ]
+        checks.holds(f"{name}: {done}, {ended}", (done, ended, log) in allowed)
+        checks.same(f"files after {name}", os.listdir(folder), [LOG])
+        return done[1] == DONE
+
+
+def upgrades_beside(checks, program, times):
+    """So many such pairs, with and without a log before; how often the upgrade was the one that wrote."""
+    rounds = itertools.islice(itertools.cycle([0, HELD]), times)
+    return sum(beside_upgrade(checks, program, held) for held in rounds)
+
+
 def pairs_in_gate(checks, watched):
     pairs(checks, watched.program, ROUNDS_IN_GATE)
+    upgrades_beside(checks, watched.program, ROUNDS_IN_GATE)

@@ -4,6 +4,7 @@ them fails, moves fewer bytes, or takes nothing.
 What is expected was written from docs/formats.md and docs/log.md.
 """
 import errno
+import functools
 import os
 import subprocess
 import tempfile
@@ -11,13 +12,14 @@ import tempfile
 from cases.block_files import block_file, sets
 from cases.generated_chain import Generated
 from cases.growing_roots import growing_roots
-from cases.log_cases import BEYOND, DISK_FAULT, DONE, FIRST_GATE, HEAD, MEMORY, REFUSED, SCRATCH_FAULT, SET_FILE
-from cases.log_cases import SET_LINE, SET_LOG, UNREADABLE, UNTOLD, USAGE, frames_of, log_of
+from cases.log_cases import ALREADY, BEYOND, DISK_FAULT, DONE, FIRST_GATE, HEAD, MARK, MEMORY, REFUSED, SCRATCH_FAULT
+from cases.log_cases import SET_FILE, SET_LINE, SET_LOG, UNREADABLE, UNTOLD, USAGE, frames_of, log_of, upgraded
 from cases.root_cases import History, Row
 from checks.disk_calls import CREATE, LOCK, NEW, SYNCS, TRUNCATE
-from checks.log_runs import LOG, held_frames, known_lines
+from checks.log_runs import LOG, held_frames, is_marked, known_lines
 from checks.program_cases import RAW_A_PROOF, RECALL_FILE, RECALL_LINES, RECALL_LOG, RECALL_ROWS, USED, VERIFY
 from checks.program_runs import take_rights
+from checks.recall_chains import chain_of, over, recall_chain
 
 # The status where a call fails, by what it touches.
 STATUSES = {"log": DISK_FAULT, "folder": DISK_FAULT, "input": UNREADABLE, "output": UNTOLD}
@@ -25,6 +27,11 @@ FRAMES = frames_of(RECALL_FILE)
 LINES = RECALL_LINES.splitlines(keepends=True)
 QUESTION = "fwd raw/part/p1"
 USED_LINES = USED.splitlines(keepends=True)
+# The log of the first of the three blocks, marked, and what `append` takes behind the mark.
+MARKED = recall_chain(1)
+MARKED_LOG = MARKED.log(1)
+# The commands that change the log.
+CHANGING = ["append", "upgrade"]
 ERRORS = [errno.ENOSPC, errno.EINTR]
 
 # ---- calls as words
@@ -49,19 +56,20 @@ def head_stored():
     return [*stored(0, 1, "sync folder"), *stored(1, len(HEAD)), *stored(0, 1)]
 
 
-def block_stored(gate, frame):
-    """A block: its record, behind which comes a closed gate, then its own gate; and its line."""
-    return [*stored(gate + 1, len(frame) + 1), *stored(gate, 1), "tell"]
+def record_stored(gate, record):
+    """A block or the mark: its record, behind which comes a closed gate, then its own gate; and its line."""
+    return [*stored(gate + 1, len(record) + 1), *stored(gate, 1), "tell"]
 
 
 def blocks_stored(gate, frames):
     """Blocks one after another, the first of which has its gate at this place."""
     for frame in frames:
-        yield from block_stored(gate, frame)
+        yield from record_stored(gate, frame)
         gate += 1 + len(frame)
 
 
-KNOWN_APPEND = [*FOUND, "tell"]
+# An append of blocks that are there, and an upgrade of a log that is marked.
+UNCHANGING = [*FOUND, "tell"]
 WORDS = {"pwrite": "write {0.at} {0.size}", "write": "tell", "ftruncate": "truncate", "fchmod": "mode {0.size}"}
 # A second descriptor is made, since the first one may be that of a standard stream that was closed.
 WORDS |= {"dup": "apart", "pread": "read", "fstat": "length", "statx": "path", "unlink": "unlink"}
@@ -100,17 +108,40 @@ def order_of_calls(checks, watched):
     checks.same("calls of a first append", steps(first.calls), wanted)
     known = watched.run("append", SET_FILE, SET_LOG)
     checks.same("append of a known block", (known.told, known.status), ("known 0\n", DONE))
-    checks.same("calls of an append of a known block", steps(known.calls), KNOWN_APPEND)
+    checks.same("calls of an append of a known block", steps(known.calls), UNCHANGING)
     asked = watched.run(QUESTION, log=RECALL_LOG)
     checks.same("a question", (asked.told, asked.status), (USED, DONE))
     wanted = ["path", "open", "apart", "read", *["tell"] * len(USED_LINES)]
     checks.same("calls of a question", steps(asked.calls), wanted)
-    for ran in [first, known, asked]:
+    marking, upgrades = order_of_upgrades(checks, watched)
+    for ran in [first, known, asked, marking, *upgrades]:
         flags = [call.at for call in ran.calls if call.name == "open" and call.what == "log"]
         checks.holds("the log is opened once", len(flags) == 1)
         checks.holds("the log is never cut", not any(flag & TRUNCATE for flag in flags))
         made = [flag & NEW for flag in flags if flag & CREATE]
-        checks.same("a log is made where there is none, and there alone", made, [NEW] * (ran is first))
+        checks.same("a log is made where there is none, and there alone", made, [NEW] * (ran in (first, marking)))
+
+
+def order_of_upgrades(checks, watched):
+    """The calls of an upgrade: over no log, whose run comes first, over a log, and over one that is marked."""
+    making = [*MADE, *head_stored(), *record_stored(FIRST_GATE, MARK)]
+    marking = [*FOUND, *record_stored(len(SET_LOG) - 1, MARK)]
+    runs = []
+    for log, told, after, wanted in [
+        (None, upgraded(0), log_of(b"", b""), making),
+        (SET_LOG, upgraded(1), log_of(SET_FILE, b""), marking),
+        (MARKED_LOG, ALREADY, MARKED_LOG, UNCHANGING),
+    ]:
+        ran, name = watched.run("upgrade", SET_FILE, log), f"upgrade of {len(log or b'')} bytes"
+        checks.same(name, (ran.told, ran.status, ran.log, ran.read), (told, DONE, after, 0))
+        checks.same(f"calls of {name}", steps(ran.calls), wanted)
+        runs.append(ran)
+    ran = watched.run("append", MARKED.file, MARKED_LOG)
+    told = "".join(known_lines(1) + MARKED.lines[1:])
+    checks.same("append to a marked log", (ran.told, ran.status, ran.log), (told, DONE, MARKED.log()))
+    wanted = [*UNCHANGING, *blocks_stored(len(MARKED_LOG) - 1, MARKED.frames[1:])]
+    checks.same("calls of an append to a marked log", steps(ran.calls), wanted)
+    return runs[0], runs[1:]
 
 
 # How long the chain is that is stored block by block, and its seed.
@@ -141,6 +172,11 @@ def order_of_long_runs(checks, watched):
     checks.same("append to a long log", (ran.told, ran.status, ran.log), ("".join(lines[-2:]), DONE, log_of(file)))
     wanted = [*FOUND, *blocks_stored(len(log) - 1, frames[-2:])]
     checks.same("calls of an append to a long log", steps(ran.calls), wanted)
+    ran = watched.run("upgrade", log=log_of(file))
+    wanted = upgraded(len(rows)), DONE, log_of(file, b"")
+    checks.same("upgrade of a long log", (ran.told, ran.status, ran.log), wanted)
+    wanted = [*FOUND, *record_stored(len(log_of(file)) - 1, MARK)]
+    checks.same("calls of an upgrade of a long log", steps(ran.calls), wanted)
 
 
 # ---- calls that fail
@@ -151,6 +187,11 @@ RUNS = [
     ("append", RECALL_FILE, None, LINES),
     ("append", RECALL_FILE, log_of(FRAMES[0]), known_lines(1) + LINES[1:]),
     ("append", RECALL_FILE, RECALL_LOG, known_lines(3)),
+    ("append", MARKED.file, MARKED_LOG, known_lines(1) + MARKED.lines[1:]),
+    ("upgrade", b"", None, [upgraded(0)]),
+    ("upgrade", b"", log_of(FRAMES[0]), [upgraded(1)]),
+    ("upgrade", b"", RECALL_LOG, [upgraded(3)]),
+    ("upgrade", b"", MARKED_LOG, [ALREADY]),
     (QUESTION, b"", RECALL_LOG, USED_LINES),
 ]
 
@@ -195,37 +236,59 @@ def failing_call(checks, watched, run, good, setting):
     checks.same(f"status of {name}", ran.status, STATUSES[call.what])
     checks.same(f"lines of {name}", ran.told, "".join(lines[:told]))
     checks.same(f"calls after {name}", changes(ran.calls[number + 1 :]), [])
-    if words != "append":
+    if words not in CHANGING:
         checks.same(f"log after {name}", ran.log, log)
         return
-    held = held_frames(ran.log or b"")
-    sure = max(told, len(held_frames(log or b"")))
-    checks.same(f"blocks after {name}", held, FRAMES[: len(held)])
-    checks.holds(f"each block is there that was told of, after {name}", len(held) >= sure)
+    keeps_what_was_told(checks, words, log, ran.log, told, name)
     goes_on(checks, watched, ran.log, name)
 
 
+def keeps_what_was_told(checks, words, before, after, told, name):
+    """A log after a run that told so many lines has the blocks and the mark that it had, and what was told of: that is
+    blocks, or the mark."""
+    held, had = held_frames(after or b""), held_frames(before or b"")
+    checks.holds(f"the log has first ones of the blocks after {name}", chain_of(after) is not None)
+    if words == "append":
+        checks.holds(f"each block is there that was told of, after {name}", len(held) >= max(told, len(had)))
+        checks.same(f"whether the log is marked after {name}", is_marked(after or b""), is_marked(before or b""))
+    else:
+        checks.same(f"blocks after {name}", held, had)
+        checks.holds(f"the mark is there that was told of, after {name}", is_marked(after or b"") >= told)
+
+
+@functools.cache
+def run_again(watched, words, source, log):
+    """A run over what was left, with nothing in its way. It does the same each time."""
+    return watched.run(words, source, log)
+
+
 def goes_on(checks, watched, log, name):
-    """An append over what was left has the blocks that are there, and stores the others. What is there is
-    synced before anything is told of or written."""
-    held = len(held_frames(log or b""))
-    again = watched.run("append", RECALL_FILE, log)
-    checks.same(f"status of going on after {name}", (again.status, again.log), (DONE, RECALL_LOG))
-    wanted = "".join(known_lines(held) + LINES[held:])
-    checks.same(f"lines of going on after {name}", again.told, wanted)
-    if log is not None:
-        wanted = KNOWN_APPEND if held else FOUND[:-1]
-        checks.same(f"first calls of going on after {name}", steps(again.calls)[: len(wanted)], wanted)
+    """An append over what was left has the blocks that are there, and stores the others, and an upgrade marks it, over
+    what stands behind its end. What is there is synced before anything is told of or written."""
+    chain, held, marked = chain_of(log)
+    for words, source, wanted, after in [
+        ("append", chain.file, known_lines(held) + chain.lines[held:], over(log, chain.log(is_marked=marked))),
+        ("upgrade", b"", [ALREADY if marked else upgraded(held)], over(log, chain.log(held))),
+    ]:
+        again, going = run_again(watched, words, source, log), f"going on by {words} after {name}"
+        checks.same(f"status of {going}", (again.status, again.log), (DONE, after))
+        checks.same(f"lines of {going}", again.told, "".join(wanted))
+        if log is not None:
+            is_told = marked if words == "upgrade" else held > 0
+            wanted = UNCHANGING if is_told else FOUND[:-1]
+            checks.same(f"first calls of {going}", steps(again.calls)[: len(wanted)], wanted)
 
 
 def log_made_meanwhile(checks, watched):
     """Another program makes the log after this one found none: it stays as it is."""
-    good = watched.run("append", RECALL_FILE)
-    made = [n for n, call in enumerate(good.calls) if call.name == "open" and call.at & CREATE]
-    for number in made:
-        ran = watched.run("append", RECALL_FILE, other=SET_LOG, BEFORE=number)
-        given = (ran.told, ran.status, ran.log)
-        checks.same("a log that was made meanwhile", given, ("", DISK_FAULT, SET_LOG))
+    for words in CHANGING:
+        good = watched.run(words, RECALL_FILE)
+        made = [n for n, call in enumerate(good.calls) if call.name == "open" and call.at & CREATE]
+        checks.same(f"how often {words} makes a log", len(made), 1)
+        for number in made:
+            ran = watched.run(words, RECALL_FILE, other=SET_LOG, BEFORE=number)
+            given = (ran.told, ran.status, ran.log)
+            checks.same(f"a log that was made meanwhile, {words}", given, ("", DISK_FAULT, SET_LOG))
 
 
 # ---- the input
@@ -248,6 +311,11 @@ def rest_of_input(checks, watched):
         (QUESTION, RECALL_FILE, RECALL_LOG, DONE, 0),
         ("root", RECALL_FILE, RECALL_LOG, DONE, 0),
         ("root", RECALL_FILE, None, BEYOND, 0),
+        ("upgrade", RECALL_FILE, None, DONE, 0),
+        ("upgrade", RECALL_FILE, RECALL_LOG, DONE, 0),
+        ("upgrade", RECALL_FILE, MARKED_LOG, DONE, 0),
+        # The second block is of the first version.
+        ("append", RECALL_FILE, MARKED_LOG, REFUSED, len(first + second)),
         ("gen 2 7", RECALL_FILE, None, DONE, 0),
         ("appends", RECALL_FILE, None, USAGE, 0),
     ]:
@@ -262,7 +330,7 @@ def rest_of_input(checks, watched):
 def pipe_for_log(checks, watched):
     """Where the log is a pipe that nobody writes, a run ends at once, also one that may only read it; and
     words that are no command don't look at it."""
-    answers = {"append": ("", DISK_FAULT), "root": ("", DISK_FAULT), "hist raw/a": ("", DISK_FAULT)}
+    answers = dict.fromkeys([*CHANGING, "root", "hist raw/a"], ("", DISK_FAULT))
     answers["hist raw/a 00"] = ("usage\n", USAGE)
     for mode, prepare in [(0o666, None), (0o444, take_rights)]:
         for words, answer in answers.items():
@@ -298,6 +366,21 @@ def limit_of_a_file(checks, watched):
         checks.same(f"blocks after {name}", held, FRAMES[:told])
         checks.holds(f"no more than the limit after {name}", len(ran.log or b"") <= size)
         goes_on(checks, watched, ran.log, name)
+    limit_of_a_marked_file(checks, watched)
+
+
+def limit_of_a_marked_file(checks, watched):
+    """A log that may not grow by the mark, or by some bytes of it, is as it was but for what stands behind its end; the
+    scratch file is shorter than it."""
+    log = log_of(FRAMES[0])
+    checks.holds("a scratch file is shorter than the log", bodies_of(1) < len(log))
+    for size in range(len(log), len(log) + len(MARK) + 2):
+        ran, is_done = watched.run("upgrade", log=log, file_limit=size), size > len(log) + len(MARK)
+        name = f"upgrade of a file of at most {size} bytes"
+        checks.same(name, (ran.told, ran.status), (upgraded(1), DONE) if is_done else ("", DISK_FAULT))
+        keeps_what_was_told(checks, "upgrade", log, ran.log, is_done, name)
+        checks.same(f"whether it is marked after {name}", is_marked(ran.log), is_done)
+        goes_on(checks, watched, ran.log, name)
 
 
 def no_memory(checks, watched):
@@ -316,7 +399,7 @@ def no_memory(checks, watched):
 def no_random_bytes(checks, watched):
     """No random bytes are given for the hash of keys: no command runs, no file is touched, nothing is told, and the
     status is that of a read that failed."""
-    for words in ("append", QUESTION, "scan hist raw/a 0"):
+    for words in (*CHANGING, QUESTION, "scan hist raw/a 0"):
         ran = watched.run(words, RECALL_FILE, log=RECALL_LOG, NO_RANDOM=1)
         seen = (ran.told, ran.status, ran.log, ran.calls)
         checks.same(f"{words} without random bytes", seen, ("", UNREADABLE, RECALL_LOG, []))

@@ -1,5 +1,5 @@
-"""The lock of the log, which `append` holds from before its first read to its end, and a log that another program
-removes, replaces, cuts or extends meanwhile.
+"""The lock of the log, which `append` and `upgrade` hold from before their first read to their end, and a log that
+another program removes, replaces, cuts or extends meanwhile.
 
 What is expected was written from docs/log.md.
 """
@@ -9,11 +9,11 @@ import os
 import subprocess
 import tempfile
 
-from cases.log_cases import DISK_FAULT, DONE, SET_LOG, log_of
+from cases.log_cases import ALREADY, DISK_FAULT, DONE, SET_LOG, log_of, upgraded
 from checks.append_pairs import wait_for
 from checks.disk_calls import get, put
-from checks.edge_calls import FRAMES, LINES, changes, steps
-from checks.log_runs import LINE_LIMIT, LOG, append, ask, held_frames, known_lines, read_line, start_append
+from checks.edge_calls import FRAMES, LINES, MARKED_LOG, changes, steps
+from checks.log_runs import LINE_LIMIT, LOG, append, ask, held_frames, is_marked, known_lines, read_line, start_append
 from checks.log_runs import without_roots
 from checks.program_cases import EXPOSE, RAW_A_PROOF, RECALL_FILE, RECALL_LOG, RECALL_ROOTS, USED
 
@@ -78,14 +78,14 @@ def end(running):
 
 
 def lock_of_another(checks, watched):
-    """Where another program holds the lock, also one that shares it, `append` ends before it has read, written or told
-    anything; questions are answered."""
+    """Where another program holds the lock, also one that shares it, `append` and `upgrade` end before they have read,
+    written or told anything; questions are answered."""
     for kind in [fcntl.LOCK_EX, fcntl.LOCK_SH]:
         with folder_of(RECALL_LOG) as folder, open(os.path.join(folder, LOG), "rb") as file:
             fcntl.flock(file, kind)
-            for source in [RECALL_FILE, b""]:
-                ran = watched.run_over(folder, "append", source)
-                name = f"append over a log whose lock {kind} another program holds"
+            for words, source in [("append", RECALL_FILE), ("append", b""), ("upgrade", RECALL_FILE)]:
+                ran = watched.run_over(folder, words, source)
+                name = f"{words} over a log whose lock {kind} another program holds"
                 checks.same(name, (ran.told, ran.status, ran.log), ("", DISK_FAULT, RECALL_LOG))
                 checks.same(f"calls of {name}", steps(ran.calls), ["path", "open", "apart", "lock"])
                 checks.same(f"input of {name}", ran.read, 0)
@@ -101,7 +101,7 @@ def lock_of_another(checks, watched):
 
 def lock_of_a_run(checks, watched):
     """`append` holds the lock until it ends, also by a kill, over a log that it finds, from before it was given
-    anything, and one that it makes; another one ends at once meanwhile."""
+    anything, and one that it makes; another one, and an `upgrade`, end at once meanwhile."""
     for held in [0, 1]:
         log = log_of(b"".join(FRAMES[:held])) if held else None
         with folder_of(log) as folder, running_append(watched, folder) as running:
@@ -115,6 +115,7 @@ def lock_of_a_run(checks, watched):
                 checks.holds("the lock is held", is_locked(folder))
             before = get(os.path.join(folder, LOG))
             checks.same("a second append", append(watched.program, folder, RECALL_FILE), ("", DISK_FAULT))
+            checks.same("an upgrade meanwhile", ask(watched.program, folder, "upgrade"), ("", DISK_FAULT))
             checks.same("log after that", get(os.path.join(folder, LOG)), before)
             words = "hist raw/lot/l1".split()
             wanted = "block 1 tx 0 int 120\n", DONE
@@ -126,6 +127,9 @@ def lock_of_a_run(checks, watched):
             checks.same("append after a kill", append(watched.program, folder, RECALL_FILE), wanted)
             checks.holds("no lock is left", not is_locked(folder))
             checks.same("log after that", get(os.path.join(folder, LOG)), RECALL_LOG)
+            checks.same("upgrade then", ask(watched.program, folder, "upgrade"), (upgraded(3), DONE))
+            checks.holds("no lock is left", not is_locked(folder))
+            checks.same("log after that", get(os.path.join(folder, LOG)), log_of(RECALL_FILE, b""))
 
 
 # ---- a log that another program changes
@@ -181,11 +185,16 @@ def changes_between_frames(checks, watched):
                 checks.same(f"blocks after {name}", held_frames(get(kept)), FRAMES[:2])
 
 
+# Runs to which such a change is made: the words, and the log before.
+RUNS = [("append", None), ("append", log_of(FRAMES[0]))]
+RUNS += [("upgrade", None), ("upgrade", log_of(FRAMES[0])), ("upgrade", MARKED_LOG)]
+
+
 def changes_at_each_call(checks, watched):
     """The same, with the change before each call from the lock of a log on that was made, or from the last read of one
     that was found: the next look at what was changed ends the run."""
-    for log in [None, log_of(FRAMES[0])]:
-        good = watched.run("append", RECALL_FILE, log)
+    for words, log in RUNS:
+        good = watched.run(words, RECALL_FILE, log)
         names = [(call.name, call.what) for call in good.calls]
         first = names.index(("flock", "log"))
         if log is not None:
@@ -195,7 +204,7 @@ def changes_at_each_call(checks, watched):
             for number in range(first, len(names)):
                 seen = (names + [look]).index(look, number)
                 if names[number][1] != "input" and not is_written_over(change, log, good.calls[:seen], number):
-                    changed_call(checks, watched, log, good, change, number, seen)
+                    changed_call(checks, watched, words, log, good, change, number, seen)
 
 
 def is_written_over(change, log, calls, number):
@@ -206,16 +215,19 @@ def is_written_over(change, log, calls, number):
     return change in (cut, extend) and (is_past or is_empty)
 
 
-def changed_call(checks, watched, log, good, change, number, look):
+def changed_call(checks, watched, words, log, good, change, number, look):
     """A run to which a change is made before a call, and which looks at what was changed before another."""
-    ran = watched.run("append", RECALL_FILE, log, other=OTHER, BEFORE=number, CHANGE=change.__name__)
-    name = f"append over {len(log or b'')} bytes to which somebody does `{change.__name__}` before call {number}"
+    ran = watched.run(words, RECALL_FILE, log, other=OTHER, BEFORE=number, CHANGE=change.__name__)
+    name = f"{words} over {len(log or b'')} bytes to which somebody does `{change.__name__}` before call {number}"
     status = DISK_FAULT if look < len(good.calls) else DONE
     told = "".join(good.told.splitlines(keepends=True)[: sum(call.what == "output" for call in good.calls[:look])])
     checks.same(name, (ran.told, ran.status), (told, status))
     # The path is looked at right after the file, whatever that tells.
     checks.same(f"calls after {name}", changes(ran.calls[look + 1 :]), [])
-    sure = told.count("\n")
-    checks.same(f"blocks after {name}", held_frames(ran.kept or b"")[:sure], FRAMES[:sure])
+    kept, lines = ran.kept or b"", told.count("\n")
+    sure = lines if words == "append" else len(held_frames(log or b""))
+    checks.same(f"blocks after {name}", held_frames(kept)[:sure], FRAMES[:sure])
+    if words == "upgrade":
+        checks.holds(f"the mark is there that was told of, after {name}", is_marked(kept) >= lines)
     if change is replace:
         checks.same(f"what stands in its place after {name}", ran.log, OTHER)

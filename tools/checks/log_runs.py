@@ -9,7 +9,7 @@ import subprocess
 
 from cases import block_files
 from cases.block_files import sets
-from cases.log_cases import FIRST_GATE, HEAD, OPEN
+from cases.log_cases import FIRST_GATE, HEAD, MARK, OPEN
 
 LOG = "chain.log"
 # The name of the scratch file, and the variable that names its folder; else that is the present one.
@@ -115,13 +115,22 @@ class Checks:
         return 1 if self.failed or not self.count else 0
 
 
-def held_frames(image):
-    """The frames of the records of a log, up to the closed gate; none where there is no log yet."""
-    frames, gate = [], FIRST_GATE
+def held_records(image):
+    """The records of a log, up to the closed gate, each with its length; none where there is no log yet."""
+    records, gate = [], FIRST_GATE
     if not image.startswith(HEAD):
-        return frames
+        return records
     while image[gate : gate + 1] == OPEN:
         size = 4 + int.from_bytes(image[gate + 1 : gate + 5], "big")
-        frames.append(image[gate + 1 : gate + 1 + size])
+        records.append(image[gate + 1 : gate + 1 + size])
         gate += 1 + size
-    return frames
+    return records
+
+
+def held_frames(image):
+    """The frames of the blocks among them."""
+    return [record for record in held_records(image) if record != MARK]
+
+
+def is_marked(image):
+    return MARK in held_records(image)

@@ -11,7 +11,7 @@ import re
 
 from cases.block_files import CONFLICT, FOREIGN, NO_CONTRACT, OK, block_file, calls, deploys, number, sets
 from cases.block_reader import MAX_BUDGETS, MAX_NUMBER, MAX_TXS, Call, Deploy, Set, stands_for, Chain
-from cases.log_cases import BAD_INPUT, BEYOND, DAMAGED, DONE, NOT_A_LOG, REFUSED, REJECTED, USAGE
+from cases.log_cases import ALREADY, BAD_INPUT, BEYOND, DAMAGED, DONE, NOT_A_LOG, REFUSED, REJECTED, USAGE, upgraded
 from cases.proof_cases import answer_of, proof_of
 from cases.root_cases import History, Row, block_digests
 from cases.verifier import text_of, told_of, verify
@@ -29,6 +29,7 @@ STATUSES = {
     "log": {DONE, USAGE, NOT_A_LOG, DAMAGED, BEYOND},
     "scan": {DONE, USAGE, REFUSED, BEYOND},
     "append": {DONE, USAGE, NOT_A_LOG, DAMAGED, REFUSED},
+    "upgrade": {DONE, USAGE, NOT_A_LOG, DAMAGED},
     "fmt": {DONE, BAD_INPUT},
     "pack": {DONE, BAD_INPUT},
 }
@@ -284,8 +285,29 @@ def check_append(mutant, result):
             check_block_line(chain, at, told)
         else:
             expect("line of a block that is there", told, f"known {at}\n")
-    left, line = stands_for(result.log)
+    check_what_is_left(result.log, chain)
+
+
+def check_what_is_left(log, chain):
+    """A log has the blocks of a chain, and is marked as that is."""
+    left, line = stands_for(log)
     expect("log", (line, left and left.frames), (None, chain.frames))
+    expect("whether the log is marked", left.is_marked, chain.is_marked)
+
+
+def check_upgrade(mutant, result):
+    chain, line = stands_for(mutant.log)
+    if mutant.words != ["upgrade"]:
+        wanted = "usage\n", USAGE
+    elif line:
+        wanted = line, NOT_A_LOG if line.startswith("not") else DAMAGED
+    else:
+        wanted = ALREADY if chain.is_marked else upgraded(len(chain.frames)), DONE
+    expect("upgrade", (result.told, result.status, result.read), (*wanted, 0))
+    if wanted[1] != DONE or chain.is_marked:
+        return expect("log", result.log, mutant.log)
+    chain.is_marked = True
+    return check_what_is_left(result.log, chain)
 
 
 def check_fmt(mutant, result):
@@ -307,6 +329,7 @@ COMMANDS = {
     "log": check_log,
     "scan": check_scan,
     "append": check_append,
+    "upgrade": check_upgrade,
     "fmt": check_fmt,
     "pack": check_pack,
 }
@@ -410,6 +433,6 @@ def packed(source):
 def check_run(mutant, ran):
     """Raises what is wrong with a run."""
     hold(f"status {ran.status}", ran.status in STATUSES[mutant.kind])
-    if mutant.kind != "append":
+    if mutant.kind not in ("append", "upgrade"):
         hold("the log was changed", ran.log == mutant.log)
     COMMANDS[mutant.kind](mutant, ran)

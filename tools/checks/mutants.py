@@ -10,7 +10,7 @@ import re
 from cases.block_files import SECOND_VERSION, block_digest, number
 from cases.block_reader import MAX_TXS, Fields, Invalid
 from cases.generated_chain import Generated
-from cases.log_cases import CLOSED, HEAD, OPEN, frames_of, log_of
+from cases.log_cases import CLOSED, HEAD, MARK, OPEN, frames_of, log_of
 from cases.proof_cases import KINDS
 from cases.verifier import root_of, verify
 from checks.log_runs import held_frames
@@ -105,7 +105,7 @@ def read_seeds():
             proof = read_hex(source)
             if proof:
                 found["proofs"].append((words[1:], proof, image or None))
-        elif command in ("root", "prove", *KINDS):
+        elif command in ("root", "prove", "upgrade", *KINDS):
             found["logs"].append((words, image))
         elif command in ("scan", "append", "fmt", "pack"):
             found[command].append((words, source, image or None))
@@ -234,11 +234,10 @@ def changed_txs(frame, txs, rng):
     return frame[: 4 + TXS_AT] + number(len(given), 2) + b"".join(given)
 
 
-def linked(frames, rng):
+def linked(frames, second, rng):
     """Frames whose lengths are right, whose numbers rise from 0, and each of which names the one before, as far
-    as they are long enough. Now and then one is as it was, or those from one on are of the second version."""
+    as they are long enough; those from a number on are of the second version. Now and then one is as it was."""
     parent, given = bytes(32), []
-    second = len(frames) if rng.randrange(4) else rng.randrange(len(frames) + 1)
     for at, frame in enumerate(frames):
         block = frame[4:]
         if rng.randrange(40):
@@ -249,8 +248,13 @@ def linked(frames, rng):
     return given
 
 
+def first_of_second(frames, rng):
+    """From which of the frames on they are of the second version; of most none is."""
+    return len(frames) if rng.randrange(4) else rng.randrange(len(frames) + 1)
+
+
 def changed_frames(frames, others, txs, rng):
-    """Frames of which some are changed behind their heads, left out, doubled, or another's, linked again."""
+    """Frames of which some are changed behind their heads, left out, doubled, or another's."""
     frames = list(frames)
     for _ in range(rng.choice([1, 1, 2])):
         at = rng.randrange(len(frames) + 1)
@@ -264,25 +268,33 @@ def changed_frames(frames, others, txs, rng):
             frames.insert(at, frame)
         elif len(frames) > 1:
             del frames[rng.randrange(len(frames))]
-    return linked(frames, rng)
+    return frames
 
 
 def changed_file(file, others, txs, rng):
     """A block file after changes of its bytes, or of its blocks."""
     frames = file_frames(file)
     if frames and rng.randrange(3):
-        file = b"".join(changed_frames(frames, others, txs, rng))
+        frames = changed_frames(frames, others, txs, rng)
+        file = b"".join(linked(frames, first_of_second(frames, rng), rng))
         if rng.randrange(6):
             return file
     return changes(file, others, LIMITS, rng)
 
 
 def changed_log(image, others, txs, rng):
-    """A log after changes of its bytes, or of its blocks."""
+    """A log after changes of its bytes, or of its blocks; half of the latter are marked, mostly where the blocks of the
+    second version begin."""
     frames = held_frames(image)
     if frames and rng.randrange(3):
         frames = changed_frames(frames, others, txs, rng)
-        image = HEAD + b"".join(OPEN + frame for frame in frames) + CLOSED
+        marked = rng.randrange(len(frames) + 1)
+        records = linked(frames, rng.choice([marked] * 8 + [len(frames), rng.randrange(len(frames) + 1)]), rng)
+        if rng.randrange(2):
+            records[marked:marked] = [MARK] * rng.choice([1] * 12 + [2])
+        else:
+            records = linked(frames, first_of_second(frames, rng), rng)
+        image = HEAD + b"".join(OPEN + record for record in records) + CLOSED
         if rng.randrange(6):
             return image
     return changes(image, others, LIMITS, rng)
@@ -322,16 +334,29 @@ def proof_mutant(kind, seeds, rng):
     return Mutant(kind, ["expose", *words], digits, log, proof)
 
 
+def appended_file(image, seeds, rng):
+    """A file that is appended to a log: any; or blocks that follow those of the log, of either version."""
+    file, held = rng.choice(seeds.appended)[1], held_frames(image)
+    if not held or rng.randrange(2):
+        return file
+    frames = [*held, *file_frames(file)]
+    second = rng.choice([len(held), len(frames), first_of_second(frames, rng)])
+    return b"".join([*held, *linked(frames, second, rng)[len(held) :]])
+
+
 def log_mutant(seeds, rng):
-    """A log that is changed, and a question about it, or blocks that are appended to it."""
+    """A log that is changed, and a question about it, or blocks that are appended to it, or an upgrade of it."""
     words, image = rng.choice(seeds.logs)
     while not held_frames(image) and rng.randrange(8):
         words, image = rng.choice(seeds.logs)
     others = [log for _, log in rng.choices(seeds.logs, k=4)]
     image = changed_log(image, others, seeds.txs, rng)
-    pick = rng.randrange(6)
+    pick = rng.randrange(7)
     if pick == 0:
-        return Mutant("append", ["append"], rng.choice(seeds.appended)[1], image)
+        return Mutant("append", ["append"], appended_file(image, seeds, rng), image)
+    if pick == 6 or words[0] == "upgrade":
+        words = rng.choice([["upgrade"]] * 20 + [["upgrade", "0"]])
+        return Mutant("upgrade", words, rng.choice([b"", rng.choice(seeds.appended)[1]]), image)
     if pick == 1:
         words = rng.choice([["root"], ["root", str(rng.randrange(4))]])
     elif words[0] != "root" and len(words) > 2:

@@ -5,7 +5,7 @@ printed.
 """
 from cases.block_files import block_file
 from cases.generated_loads import load_line
-from cases.log_cases import SET_LINE, SET_LOG, frames_of, log_of
+from cases.log_cases import ALREADY, MARK, OPEN, SET_FILE, SET_LINE, SET_LOG, SET_ROWS, frames_of, log_of, upgraded
 from cases.root_cases import Row, roots
 from cases.version_cases import DROPS, EDITIONS, SECOND_SET, of_versions
 from checks.log_runs import NO_ROOT
@@ -86,6 +86,14 @@ BOTH_FIRST = b"".join(frames_of(BOTH)[:2])
 BOTH_ROOTS = roots(frames_of(BOTH_FIRST), [Row("d/a", 1, 0, 1, [])])
 BOTH_LINES = f"block 0 rows 0 status 16,0,16 root {BOTH_ROOTS[0]}\nblock 1 rows 1 status 0,4 root {BOTH_ROOTS[1]}\n"
 SECOND_THEN_FIRST = b"".join(of_versions(2, 1))
+# The log of ONE_SET, marked, and one that has no block.
+MARKED_LOG, MARKED_EMPTY = log_of(SET_FILE, b""), log_of(b"", b"")
+# The block of ONE_SET and one behind it of the second version, the log of both, and the line of the second one.
+SET_THEN_SECOND = of_versions(1, 2)
+SECOND_LINE = f"block 1 rows 0 status - root {roots(SET_THEN_SECOND, SET_ROWS)[1]}\n"
+SET_THEN_SECOND_LOG = log_of(SET_FILE, SET_THEN_SECOND[1])
+SECOND_MARK = MARKED_LOG[:-1] + OPEN + MARK + b"\0"
+MARKED_RECALL = log_of(frames_of(RECALL_FILE)[0], b"")
 
 CASES = [
     # 0: done. The program's words are those after its own name, from the first to the last.
@@ -120,6 +128,20 @@ CASES = [
     Case(b"root 1", None, f"root 1 {RECALL_ROOTS[1]}\n", 0, log=RECALL_LOG),
     Case(b"append", b"", "", 0),
     Case(b"append", ONE_SET, SET_LINE, 0, log=SET_LOG[:1], after=SET_LOG),
+    # The mark, which is put into the log once, and makes it where there is none. Nothing is read.
+    Case(b"upgrade", None, upgraded(1), 0, streams="<&-", log=SET_LOG, after=MARKED_LOG),
+    Case(b"upgrade", None, ALREADY, 0, streams="<&-", log=MARKED_LOG),
+    Case(b"upgrade", None, upgraded(0), 0, after=MARKED_EMPTY),
+    Case(b"upgrade", None, upgraded(0), 0, log=SET_LOG[:1], after=MARKED_EMPTY),
+    Case(b"upgrade", None, ALREADY, 0, log=MARKED_EMPTY),
+    Case(b"upgrade", None, upgraded(3), 0, log=RECALL_LOG, after=log_of(RECALL_FILE, b"")),
+    Case(b"append", ONE_SET, "known 0\n", 0, log=MARKED_LOG),
+    Case(b"append", b"".join(SET_THEN_SECOND), f"known 0\n{SECOND_LINE}", 0, log=MARKED_LOG, after=SET_THEN_SECOND_LOG),
+    Case(b"hist raw/a", None, SET_ANSWER, 0, log=SET_THEN_SECOND_LOG),
+    Case(b"prove hist raw/a 0 0", None, RAW_A_PROOF, 0, log=SET_THEN_SECOND_LOG),
+    Case(EXPOSE, RAW_A_PROOF, "no clash\n", 0, log=MARKED_LOG),
+    # What stood where the mark is put, and behind it.
+    Case(b"upgrade", None, upgraded(1), 0, log=SET_LOG + b"junk and more", after=MARKED_LOG + b"and more"),
     # A log that may only be read, in a folder where no file can be made: nor that of the scratch device, which
     # a block without rows doesn't use.
     Case(b"hist raw/a", None, SET_ANSWER, 0, log=SET_LOG, is_read_only=True),
@@ -131,6 +153,10 @@ CASES = [
     Case(b"append", RECALL, "", 12, log=SET_LOG[:8] + b"\0", is_read_only=True),
     Case(b"append", ONE_SET, "", 12, is_read_only=True),
     Case(b"root", None, "", 12, log=SET_LOG, is_read_only=True),
+    Case(b"upgrade", None, ALREADY, 0, log=MARKED_EMPTY, is_read_only=True),
+    Case(b"upgrade", None, "", 4, log=EMPTY_LOG, is_read_only=True),
+    Case(b"upgrade", None, "", 4, is_read_only=True),
+    Case(b"upgrade", None, "", 12, log=MARKED_LOG, is_read_only=True),
     Case(b"load 20 7", None, "", 12, is_read_only=True),
     # What stands behind a closed gate means nothing.
     Case(b"append", ONE_SET, SET_LINE, 0, log=SET_LOG[:8] + b"\0junk", after=SET_LOG),
@@ -162,6 +188,8 @@ CASES = [
     Case(b"fmt 1", b"fn f(){}", "usage\n", 1),
     Case(b"fmt 02", b"fn f(){}", "usage\n", 1),
     Case(b"fmt 2 2", b"fn f(){}", "usage\n", 1),
+    Case(b"upgrade 2", None, "usage\n", 1, log=SET_LOG),
+    Case(b"upgrade upgrade", None, "usage\n", 1),
     Case(b"gen 0 0", b"", "usage\n", 1),
     Case(b"load 0 0", b"", "usage\n", 1),
     # A word that is no text isn't passed over.
@@ -186,6 +214,9 @@ CASES = [
     Case(b"append", ONE_SET, "", 3, streams=">/dev/full", after=SET_LOG),
     Case(b"append", ONE_SET, "", 3, streams=">&-", after=SET_LOG),
     Case(b"append", ONE_SET, "", 3, streams=">&- 2>&-", log=SET_LOG),
+    # The mark was put there before, too.
+    Case(b"upgrade", None, "", 3, streams=">/dev/full", log=SET_LOG, after=MARKED_LOG),
+    Case(b"upgrade", None, "", 3, streams=">&-", log=MARKED_LOG),
     Case(b"hist raw/a", None, "", 3, streams=">&-", log=SET_LOG),
     Case(b"hist raw/a", None, "", 3, streams="<&- >&- 2>&-", log=SET_LOG),
     Case(b"hist raw/a", None, SET_ANSWER, 0, streams="2>&-", log=SET_LOG),
@@ -203,6 +234,10 @@ CASES = [
     Case(b"append", ONE_SET, "", 4, log="/dev/null"),
     Case(b"root", None, "", 4, log="/dev/null"),
     Case(b"append", ONE_SET, "", 4, log="none/chain.log"),
+    Case(b"upgrade", None, "", 4, log="."),
+    Case(b"upgrade", None, "", 4, log="/dev/full"),
+    Case(b"upgrade", None, "", 4, log="/dev/null"),
+    Case(b"upgrade", None, "", 4, log="none/chain.log"),
     # 5: out of memory, and nothing is printed.
     Case(b"fmt", MAX_SOURCE_BYTES, "", 5, memory=48_000_000),
     # 6 and 7: not a log, and a damaged one; nothing is written.
@@ -214,6 +249,14 @@ CASES = [
     Case(EXPOSE, b"zz", "damaged at 8\n", 7, log=SET_LOG[:40]),
     Case(b"append", ONE_SET, "damaged at 8\n", 7, log=SET_LOG[:40]),
     Case(b"fwd raw/a 0", None, "damaged at 8\n", 7, log=SET_LOG[:40]),
+    Case(b"upgrade", None, "not a log\n", 6, log=b"hello"),
+    Case(b"upgrade", None, "damaged at 8\n", 7, log=SET_LOG[:40]),
+    # A second mark, a mark at the end of the file, and a block of the other version behind it and before it.
+    Case(b"hist raw/a", None, "damaged at 78\n", 7, log=SECOND_MARK),
+    Case(b"upgrade", None, "damaged at 78\n", 7, log=SECOND_MARK),
+    Case(b"append", ONE_SET, "damaged at 73\n", 7, log=MARKED_LOG[:-1]),
+    Case(b"root", None, "damaged at 13\n", 7, log=log_of(b"", SET_FILE)),
+    Case(b"root", None, "damaged at 8\n", 7, log=log_of(SECOND_SET, b"")),
     # 8: a frame is refused.
     Case(b"append", SHORT_FRAME, "refused frame 0 malformed 37\n", 8),
     Case(b"append", CUT_FRAME, "refused frame 0 truncated\n", 8, log=SET_LOG),
@@ -221,6 +264,8 @@ CASES = [
     Case(b"append", ONE_FRAME[:4] + b"\3" + ONE_FRAME[5:], "refused frame 0 malformed 0\n", 8),
     Case(b"append", BOTH, f"{BOTH_LINES}refused frame 2 version 1\n", 8, after=log_of(BOTH_FIRST)),
     Case(SCAN, SECOND_THEN_FIRST, "refused frame 1 version 2\n", 8),
+    Case(b"append", ONE_SET, "refused frame 0 version 2\n", 8, log=MARKED_EMPTY),
+    Case(b"append", RECALL, "known 0\nrefused frame 1 version 2\n", 8, log=MARKED_RECALL),
     Case(SCAN, CUT_FRAME, "refused frame 0 truncated\n", 8),
     Case(SCAN, SHORT_FRAME, "refused frame 0 malformed 37\n", 8),
     # 9: there is no such block.

@@ -10,7 +10,7 @@ import tempfile
 
 from cases.block_files import OK, block_file, calls, deploys, sets
 from cases.growing_roots import growing_roots
-from cases.log_cases import DONE, SCRATCH_FAULT, frames_of, log_of
+from cases.log_cases import DONE, SCRATCH_FAULT, frames_of, log_of, upgraded
 from cases.proof_cases import proof_of
 from cases.root_cases import History, Row, block_digests
 from checks.disk_calls import CREATE, NEW, TRUNCATE, get, put
@@ -45,6 +45,7 @@ PROVED = {f"prove hist {row.key} 0 0": row for row in RECALL_ROWS if row.block =
 RUNS = [
     ("append", RECALL_FILE, None, "".join(LINES)),
     ("append", RECALL_FILE, log_of(FRAMES[0]), "".join(known_lines(1) + LINES[1:])),
+    ("upgrade", b"", RECALL_LOG, upgraded(len(FRAMES))),
     *[(words, b"", RECALL_LOG, earlier_proof(RECALL_ROWS, FRAMES, row.key)) for words, row in PROVED.items()],
 ]
 

@@ -10,7 +10,7 @@ from cases.block_files import NO_CONTRACT, OK, block_digest, block_file, calls, 
 from cases.generated_chain import Generated, spelled
 from cases.generated_loads import growing_links, links, load_line
 from cases.growing_roots import growing_roots
-from cases.log_cases import BEYOND, DONE, REFUSED, frames_of, log_of
+from cases.log_cases import BEYOND, DONE, REFUSED, frames_of, log_of, upgraded
 from cases.root_cases import Row, roots
 from checks.program_runs import Case
 
@@ -48,6 +48,9 @@ class Chain:
     def append_runs(self):
         yield run(b"append", self.file, self.lines, after=self.log)
         yield run(b"append", self.file, self.known, log=self.log)
+        marked = log_of(self.file, b"")
+        yield run(b"upgrade", None, upgraded(len(self.frames)), log=self.log, after=marked)
+        yield run(b"append", self.file, self.known, log=marked)
 
     def root_runs(self, *blocks):
         last = f"root {self.head} {self.roots[self.head]}\n"
@@ -182,6 +185,7 @@ def full_runs():
     yield run(b"scan hist raw/a 0", whole + one_more, full, REFUSED)
     log = log_of(whole)
     yield run(b"append", one_more, "refused frame 0 full\n", REFUSED, log=log)
+    yield run(b"upgrade", None, upgraded(MAX_BLOCKS), log=log, after=log_of(whole, b""))
 
 
 # ---- great blocks

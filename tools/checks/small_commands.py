@@ -8,7 +8,7 @@ from cases.log_cases import (
     BAD_INPUT, BEYOND, CLOSED, CLOSED_HEAD, DAMAGED, DONE, NOT_A_LOG, REFUSED, REJECTED, SET_LOG, USAGE, frames_of,
     log_of,
 )
-from checks.program_cases import BANK, DRAFT, EXPOSE, RAW_A_PROOF, RECALL_FILE, RECALL_LOG, VERIFY
+from checks.program_cases import BANK, DRAFT, EXPOSE, MARKED_LOG, RAW_A_PROOF, RECALL_FILE, RECALL_LOG, VERIFY
 from checks.program_runs import TOP
 
 
@@ -34,7 +34,7 @@ class Command:
 BANK_FILE = read(BANK)
 BANK_LOG = log_of(BANK_FILE)
 CUT_FILE = RECALL_FILE[:-1]
-# Those that store blocks, and all others.
+# Those that store blocks, those that mark a log, and all others.
 APPENDS = [
     Command("append", RECALL_FILE),
     Command("append", BANK_FILE),
@@ -44,6 +44,13 @@ APPENDS = [
     # Over a head that was begun, and over bytes behind a closed gate.
     Command("append", RECALL_FILE, CLOSED_HEAD + CLOSED),
     Command("append", RECALL_FILE, log_of(frames_of(RECALL_FILE)[0]) + CLOSED * 9),
+]
+UPGRADES = [
+    Command("upgrade"),
+    Command("upgrade", log=RECALL_LOG),
+    Command("upgrade", log=BANK_LOG),
+    Command("upgrade", log=CLOSED_HEAD + CLOSED),
+    Command("upgrade", log=RECALL_LOG + CLOSED * 9),
 ]
 OTHERS = [
     Command("scan hist raw/lot/l1 2", RECALL_FILE),
@@ -56,6 +63,11 @@ OTHERS = [
     Command("back raw/lot/l3", log=RECALL_LOG),
     Command("fwd bank/n 1", log=BANK_LOG),
     Command("hist raw/lot/l1 3", log=RECALL_LOG, status=BEYOND),
+    Command("hist raw/a", log=MARKED_LOG),
+    Command("root", log=log_of(RECALL_FILE, b"")),
+    Command("upgrade", log=log_of(RECALL_FILE, b"")),
+    Command("upgrade", log=b"hello", status=NOT_A_LOG),
+    Command("upgrade", log=MARKED_LOG[:-1], status=DAMAGED),
     Command("root", status=BEYOND),
     Command("root", log=b"hello", status=NOT_A_LOG),
     Command("root", log=SET_LOG[:40], status=DAMAGED),

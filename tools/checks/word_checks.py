@@ -14,11 +14,13 @@ from cases.block_files import (
     BAD_ARGS,
     BAD_SOURCE,
     CONFLICT,
+    FIRST_VERSION,
     FOREIGN,
     NO_CONTRACT,
     NO_FUNCTION,
     NO_KEY,
     OUT_OF_STEPS,
+    SECOND_VERSION,
     TAKEN,
     block_file,
     calls,
@@ -115,6 +117,29 @@ def words_for_statuses(checks, wrapper):
         checks.same("what is said where nothing is kept", (ran.returncode, ran.stderr), (DONE, b""))
 
 
+# A source that is none in either edition, for another reason in each; and what is said of the blocks of it.
+DROPS = "fn f() {\n  drop 1;\n}"
+EDITIONS = """\
+lineage: block 0 tx 0: BadSource (16): its source is no contract: line 2, column 8 of its source: this doesn't fit here
+lineage: block 1 tx 0: BadSource (16): its source is no contract: line 2, column 8 of its source: this is an int where \
+a text must stand, or a text where an int must
+"""
+
+
+def words_in_both_editions(checks, wrapper):
+    """In a log that is marked the blocks are found whose transactions failed, and their sources are looked at in the
+    edition of their version."""
+    blocks = [[deploys("one", DROPS, BAD_SOURCE)], [deploys("two", DROPS, BAD_SOURCE)]]
+    file = block_file(blocks, [FIRST_VERSION, SECOND_VERSION])
+    said = ""
+    with tempfile.TemporaryDirectory() as folder:
+        for words, source in [("append", file), ("upgrade", b""), ("append", file)]:
+            streams = {"input": source, "capture_output": True, "timeout": RUN_LIMIT}
+            said += subprocess.run([wrapper, words], cwd=folder, **streams).stderr.decode()
+    lines = [line for line in said.splitlines(True) if " tx " in line]
+    checks.same("what is said of sources of both editions", "".join(lines), EDITIONS)
+
+
 def output_that_ends(checks, wrapper):
     """Where a pipe takes no more, `append` ends with the status of that, and the log has what was told of."""
     with tempfile.TemporaryDirectory() as folder:
@@ -192,12 +217,19 @@ def progress_on_terminal(checks, make_tree):
         checks.same("what is said elsewhere", (ran.stdout, ran.stderr), (f"{line}\n", ""))
 
 
-# Logs, and what is exported of each: the blocks, the status, and a part of what is said.
+# The mark of a log, and one that has it after its block.
+MARK = OPEN + bytes(4) + CLOSED
+MARKED_LOG = SET_LOG[:-1] + MARK
+# Logs, and what is exported of each: the blocks, the status, and a part of what is said. Of the versions of its
+# blocks nothing is looked at.
 EXPORTS = [
     (SET_LOG, SET_FILE, DONE, ""),
     (RECALL_LOG, RECALL_FILE, DONE, ""),
     (SET_LOG + b"junk", SET_FILE, DONE, ""),
     (HEAD + CLOSED + SET_FILE, b"", DONE, ""),
+    (MARKED_LOG, SET_FILE, DONE, ""),
+    (HEAD + MARK, b"", DONE, ""),
+    (HEAD + MARK[:-1] + OPEN + SET_FILE + CLOSED, SET_FILE, DONE, ""),
     (b"", b"", DONE, ""),
     (CLOSED, b"", DONE, ""),
     (CLOSED_HEAD + CLOSED, b"", DONE, ""),
@@ -207,6 +239,7 @@ EXPORTS = [
     (SET_LOG[:40], b"", DAMAGED, "damaged at 8"),
     (SET_LOG[:-1], b"", DAMAGED, "damaged at 8"),
     (SET_LOG[:-1] + OPEN + bytes(4), SET_FILE, DAMAGED, f"damaged at {len(SET_LOG) - 1}"),
+    (MARKED_LOG[:-1] + MARK, SET_FILE, DAMAGED, f"damaged at {len(MARKED_LOG) - 1}"),
     (None, b"", DISK_FAULT, "No such file"),
 ]
 
@@ -351,5 +384,6 @@ def check(checks, wrapper, make_tree):
     sources_of_drafts(checks, wrapper)
     verifier_words(checks, wrapper)
     words_for_statuses(checks, wrapper)
+    words_in_both_editions(checks, wrapper)
     output_that_ends(checks, wrapper)
     words_on_terminal(checks, wrapper)

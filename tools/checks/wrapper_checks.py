@@ -15,7 +15,7 @@ import tempfile
 from cases.block_files import (
     FIRST_VERSION, NO_CONTRACT, SECOND_VERSION, block_digest, block_file, block_frame, calls, sets,
 )
-from cases.log_cases import CLOSED, CLOSED_HEAD, NOT_A_LOG, REFUSED, SET_FILE, SET_LINE, SET_LOG
+from cases.log_cases import CLOSED, CLOSED_HEAD, HEAD, NOT_A_LOG, OPEN, REFUSED, SET_FILE, SET_LINE, SET_LOG
 from checks import build_checks, disk_calls, page_runs, word_checks
 from checks.log_runs import LOG
 from checks.program_cases import CASES, RAW_A_PROOF, RAW_A_ROOT, RECALL_FILE
@@ -26,6 +26,8 @@ from lineage import commands, lineage_input, lineage_messages, statuses
 RUN_LIMIT = 60
 PAUSE = 1
 QUIET = {"stdin": subprocess.DEVNULL, "stdout": subprocess.DEVNULL, "stderr": subprocess.DEVNULL}
+# The commands that change the log.
+CHANGES = [command.form for command in commands.COMMANDS if command.changes_log]
 COPIED = ["lineage", "crates.txt", "HANDLES", "tools", "examples", "verifiers"]
 # A log whose first byte was zeroed, and a file that begins so and is none.
 ZEROED_LOG = CLOSED + SET_LOG[1:]
@@ -37,7 +39,15 @@ SET_DIGEST, SECOND_DIGEST = (block_digest(file[4:]) for file in (SET_FILE, SECON
 AFTER_SET = block_frame(SECOND_VERSION, 1, SET_DIGEST, [])
 COSTLY = [calls("c", "f", [], 1_000_000, NO_CONTRACT, 0)] * 11
 COSTLY_AFTER_SET = block_frame(SECOND_VERSION, 1, SET_DIGEST, COSTLY)
-FIRST_AFTER_SECOND = block_frame(FIRST_VERSION, 1, SECOND_DIGEST, [])
+FIRST_AFTER_SET, FIRST_AFTER_SECOND = (
+    block_frame(FIRST_VERSION, 1, digest, []) for digest in (SET_DIGEST, SECOND_DIGEST)
+)
+COSTLY_FIRST = block_frame(FIRST_VERSION, 1, SET_DIGEST, COSTLY)
+# The log of SET_FILE and one without any block, with the mark behind; and that of a block of each version.
+MARK = OPEN + bytes(4) + CLOSED
+MARKED_LOG, MARKED_HEAD = SET_LOG[:-1] + MARK, HEAD + MARK
+BOTH_LOG = MARKED_LOG[:-1] + OPEN + AFTER_SET + CLOSED
+FIRST_AFTER_BOTH = block_frame(FIRST_VERSION, 2, block_digest(AFTER_SET[4:]), [])
 # Words, input, log before, and a part of what is said.
 SAID = [
     ("", b"", None, "the commands are"),
@@ -65,6 +75,18 @@ SAID = [
     ("append", COSTLY_AFTER_SET, SET_LOG, "takes a block of version 1 next"),
     ("append", SECOND_FILE, SET_LOG, "has another block of this number"),
     ("append", AFTER_SET, None, "takes block 0 next"),
+    ("append", FIRST_AFTER_SET, MARKED_LOG, "takes a block of version 2 next"),
+    ("append", COSTLY_FIRST, MARKED_LOG, "takes a block of version 2 next"),
+    ("append", SET_FILE, MARKED_HEAD, "takes a block of version 2 next"),
+    ("append", COSTLY_AFTER_SET, MARKED_LOG, "come to 11000000"),
+    ("append", SECOND_FILE, MARKED_LOG, "has another block of this number"),
+    ("append", SET_FILE + AFTER_SET + FIRST_AFTER_SET, BOTH_LOG, "has another block of this number"),
+    ("append", FIRST_AFTER_BOTH, BOTH_LOG, "takes a block of version 2 next"),
+    ("upgrade 2", b"", None, "these are 2 words, and the command is `upgrade`"),
+    ("upgrade", b"", b"hello", "something else than a log"),
+    ("upgrade", b"", SET_LOG[:40], "was changed or cut"),
+    ("upgrade", b"", MARKED_LOG[:-1] + MARK, "was changed or cut"),
+    ("root", b"", MARKED_HEAD, f"{LOG} has no block yet"),
     ("scan hist raw/a 0", SET_FILE + COSTLY_AFTER_SET, None, "come to 11000000"),
     ("scan hist raw/a 0", SECOND_FILE + FIRST_AFTER_SECOND, None, "takes a block of version 2 next"),
     ("append", bytes(4), SET_LOG, "its length is 0"),
@@ -215,12 +237,13 @@ def what_of_the_disk(checks, wrapper):
     ]:
         with tempfile.TemporaryDirectory() as folder:
             make(os.path.join(folder, LOG))
-            printed, status, told = run(wrapper, "append", SET_FILE, folder)
-            checks.same(f"a log that {said}", (printed, status), (b"", 4))
-            checks.holds(f"{told!r} has {said!r}", said in told)
+            for words in CHANGES:
+                printed, status, told = run(wrapper, words, SET_FILE, folder)
+                checks.same(f"{words} over a log that {said}", (printed, status), (b"", 4))
+                checks.holds(f"{told!r} has {said!r}", said in told)
 
 
-# The modes of the log, or none where there is no log, and of its folder; what is said of an `append`.
+# The modes of the log, or none where there is no log, and of its folder; what is said of a command that changes it.
 RIGHTS = [
     (0o000, 0o755, "may not read chain.log"),
     (0o444, 0o755, "may not write chain.log"),
@@ -237,15 +260,16 @@ def what_of_rights(checks):
                 with open(os.path.join(folder, LOG), "wb") as file:
                     os.fchmod(file.fileno(), log_mode)
             os.chmod(folder, folder_mode)
-            told = disk_sentence_in(folder, take_rights)
-            checks.holds(f"{told!r} has {said!r}", said in told)
+            for words in CHANGES:
+                told = disk_sentence_in(folder, take_rights, words)
+                checks.holds(f"{told!r} has {said!r}", said in told)
             os.chmod(folder, 0o755)
     with tempfile.TemporaryDirectory() as folder:
         told = disk_sentence_in(folder, lambda: disk_calls.limit_files(100))
         checks.holds(f"{told!r} names the limit", "longer than 100 bytes" in told)
 
 
-def disk_sentence_in(folder, prepare):
+def disk_sentence_in(folder, prepare, words="append"):
     """What is said of a log that can't be used, by a process that is prepared first. It is not started
     anew: a user without rights may be unable to start Python."""
     told, teller = os.pipe()
@@ -253,7 +277,7 @@ def disk_sentence_in(folder, prepare):
     if not child:
         os.chdir(folder)
         prepare()
-        os.write(teller, lineage_messages.disk_sentence(["append"]).encode())
+        os.write(teller, lineage_messages.disk_sentence([words]).encode())
         os._exit(0)
     os.close(teller)
     with os.fdopen(told, encoding="utf-8") as pipe:
@@ -263,12 +287,18 @@ def disk_sentence_in(folder, prepare):
 
 
 def lock(checks, wrapper):
-    """An append waits while another one has the folder, and says who that is; a question doesn't."""
+    """An append or an upgrade waits while another one has the folder, and says who that is; a question doesn't."""
+    for words in CHANGES:
+        waiting_for_folder(checks, wrapper, words)
+
+
+def waiting_for_folder(checks, wrapper, words):
+    """A command that changes the log waits for the folder."""
     with tempfile.TemporaryDirectory() as folder:
         held = os.open(folder, os.O_RDONLY)
         fcntl.flock(held, fcntl.LOCK_EX)
         streams = {"stdin": subprocess.PIPE, "stdout": subprocess.PIPE, "stderr": subprocess.PIPE}
-        waiting = subprocess.Popen([wrapper, "append"], cwd=folder, **streams)
+        waiting = subprocess.Popen([wrapper, words], cwd=folder, **streams)
         said = waiting.stderr.readline().decode()
         checks.holds(f"{said!r} names the holder", f"waiting for process {os.getpid()} (" in said)
         checks.same("a question meanwhile", run(wrapper, "root", b"", folder)[1], 9)
@@ -298,21 +328,23 @@ def locked_log(checks):
 
 
 def locked_append(checks, wrapper):
-    """An append ends where another process has the log locked, and says which; a question doesn't."""
+    """An append or an upgrade ends where another process has the log locked, and says which; a question doesn't."""
     with tempfile.TemporaryDirectory() as folder:
         path = os.path.join(folder, LOG)
         with open(path, "wb") as file:
             file.write(SET_LOG)
         with open(path, "rb") as held:
             fcntl.flock(held, fcntl.LOCK_EX)
-            printed, status, told = run(wrapper, "append", RECALL_FILE, folder)
-            checks.same("append over a log that is locked", (printed, status), (b"", statuses.DISK_FAULT))
-            holder = f"process {os.getpid()} ("
-            checks.holds(f"{told!r} names the holder", holder in told and f"has {LOG} locked" in told)
+            for words in CHANGES:
+                printed, status, told = run(wrapper, words, RECALL_FILE, folder)
+                checks.same(f"{words} over a log that is locked", (printed, status), (b"", statuses.DISK_FAULT))
+                holder = f"process {os.getpid()} ("
+                checks.holds(f"{told!r} names the holder", holder in told and f"has {LOG} locked" in told)
             checks.same("a question over it", run(wrapper, "root", b"", folder)[1], statuses.DONE)
             checks.same("the log after it", held.read(), SET_LOG)
-        printed, status, _ = run(wrapper, "append", SET_FILE, folder)
-        checks.same("append over a log that was locked", (printed, status), (b"known 0\n", statuses.DONE))
+        for words, line in [("append", b"known 0\n"), ("upgrade", b"upgraded 1\n")]:
+            printed, status, _ = run(wrapper, words, SET_FILE, folder)
+            checks.same(f"{words} over a log that was locked", (printed, status), (line, statuses.DONE))
 
 
 def take_locks():
@@ -324,7 +356,7 @@ def take_locks():
     fcntl.flock = refuse
 
 
-# The logs that begin with a zero, and what is said of an `append`.
+# The logs that begin with a zero, and what is said of a command that would write over it.
 ZEROED = [
     (ZEROED_LOG, "its first byte was a5"),
     (CLOSED + SET_LOG[1:10], "its first byte was a5"),
@@ -342,22 +374,24 @@ def zeroed_log(checks, wrapper):
             path = os.path.join(folder, LOG)
             with open(path, "wb") as file:
                 file.write(log)
-            printed, status, told = run(wrapper, "append", SET_FILE, folder)
-            checks.same(f"append over {log!r}", (printed, status), (b"", statuses.ZEROED_LOG))
-            checks.holds(f"{told!r} has {said!r}", said in told)
-            with open(path, "rb") as file:
-                checks.same(f"the log after append over {log!r}", file.read(), log)
+            for words in CHANGES:
+                printed, status, told = run(wrapper, words, SET_FILE, folder)
+                checks.same(f"{words} over {log!r}", (printed, status), (b"", statuses.ZEROED_LOG))
+                checks.holds(f"{told!r} has {said!r}", said in told)
+                with open(path, "rb") as file:
+                    checks.same(f"the log after {words} over {log!r}", file.read(), log)
             if log == ZEROED_LOG:
                 [line] = [line.strip() for line in told.split("\n") if "dd of=" in line]
                 subprocess.run(["sh", "-c", line], cwd=folder, check=True, stderr=subprocess.DEVNULL)
                 with open(path, "rb") as file:
                     checks.same("the log that was restored", file.read(), SET_LOG)
     for log in (CLOSED, CLOSED_HEAD, CLOSED_HEAD + CLOSED, CLOSED * 9):
-        with tempfile.TemporaryDirectory() as folder:
-            with open(os.path.join(folder, LOG), "wb") as file:
-                file.write(log)
-            printed = run(wrapper, "append", SET_FILE, folder)[:2]
-            checks.same(f"append over {log!r}", printed, (SET_LINE.encode(), 0))
+        for words, line in [("append", SET_LINE.encode()), ("upgrade", b"upgraded 0\n")]:
+            with tempfile.TemporaryDirectory() as folder:
+                with open(os.path.join(folder, LOG), "wb") as file:
+                    file.write(log)
+                printed = run(wrapper, words, SET_FILE, folder)[:2]
+                checks.same(f"{words} over {log!r}", printed, (line, 0))
 
 
 # ---- pages

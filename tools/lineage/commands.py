@@ -53,6 +53,8 @@ class Command:
         self.reads_whole = self.reads_input and self.input is not BLOCKS
         self.takes_frames = self.input is BLOCKS
         self.uses_log = uses.get("uses_log", False)
+        # Whether it writes to the log, and so locks it.
+        self.changes_log = uses.get("changes_log", False)
         self.uses_scratch = uses.get("uses_scratch", False)
         self.checks_proof = self.input is PROOF
         self.asks_for_block = "BLOCK" in form
@@ -118,6 +120,20 @@ COMMANDS = [
         "./lineage append < examples/recall.blocks",
         input=BLOCKS,
         uses_log=True,
+        changes_log=True,
+        uses_scratch=True,
+    ),
+    Command(
+        "upgrade",
+        "marks chain.log for good; its next blocks have version 2",
+        [
+            ("upgraded N", "the log is marked, and has N blocks before the mark"),
+            ("already upgraded", "the log was marked before, and stays as it is"),
+            NO_LOG,
+        ],
+        "./lineage upgrade",
+        uses_log=True,
+        changes_log=True,
         uses_scratch=True,
     ),
     Command(

@@ -23,6 +23,8 @@ MAX_AGAIN_BYTES = 1 << 28
 FIRST_GATE = 8
 OPEN = b"\xa5"
 MAGIC = b"LCLOG1\n"
+# The record of a log that has no block: the blocks after it have the second version.
+MARK = bytes(LENGTH_BYTES)
 # What a crash leaves of a log that is being made has at most a head: two gates and the magic.
 HEAD_BYTES = 9
 EXAMPLE = "./lineage scan hist raw/a 0 < examples/one-set.blocks"
@@ -37,7 +39,8 @@ SENTENCES = {
     "the present one where that isn't set; docs/log.md says what to do",
 }
 OTHER_CAUSES = (
-    f"a call of the disk failed, see `dmesg`; or another `append` had {LOG_FILE} locked, and has ended since;\n"
+    "a call of the disk failed, see `dmesg`;\n"
+    f"or another `append` or `upgrade` had {LOG_FILE} locked, and has ended since;\n"
     "or another program made, changed, moved or removed it meanwhile"
 )
 NO_LOG = "chain.log holds something else than a log"
@@ -68,8 +71,6 @@ CAUSES = {
     "budget": ("S", "the budgets of its calls come to {}; those of a block may come to 10,000,000"),
 }
 REFUSED = "a frame is refused; frames count from 0"
-# The line of a block of the second version, which no log takes, whatever its number in the input.
-NO_SECOND_VERSION = b"refused frame 0 version 1\n"
 # Which check of a proof fails: what is printed after `rejected`, and what that means.
 REJECTED = {
     "malformed": "these are not the bytes of a proof: the first invalid field is at offset {}",
@@ -143,7 +144,7 @@ def beyond_sentence(words):
         return f"there is no log here: {os.getcwd()} has no {LOG_FILE}, which `append` makes"
     if command and command.uses_log and is_zeroed():
         return zeroed_sentence()
-    if command and command.uses_log and log_frames_end() == FIRST_GATE:
+    if command and command.uses_log and not any(log_frames()):
         return f"{LOG_FILE} has no block yet"
     if words[0] in ("prove", "expose") and int(words[-2]) > int(words[-1]):
         return "BLOCK is past ROOTBLOCK, and a root says nothing of later blocks"
@@ -166,8 +167,8 @@ def first_bytes():
 
 
 def is_zeroed():
-    """Whether the log begins with a zero, so that it stands for no block and `append` writes over it, and
-    yet has more than a crash leaves of a log that is being made."""
+    """Whether the log begins with a zero, so that it stands for no block and a command that changes it writes over
+    it, and yet has more than a crash leaves of a log that is being made."""
     size, first = first_bytes()
     return size > HEAD_BYTES and first[:1] == b"\0"
 
@@ -192,7 +193,7 @@ def zeroed_sentence():
     else:
         done = kinds.advice(first, kinds.LOG, "it") or "it is no log whose first byte alone was changed"
         done = f"{done}\nsee where it comes from, and move it away"
-    return "\n".join([f"{found}, and `append` would write over it", done])
+    return "\n".join([f"{found}, and `append` and `upgrade` would write over it", done])
 
 
 # ---- the disk
@@ -200,15 +201,15 @@ def zeroed_sentence():
 
 def disk_sentence(words):
     """What of the log, its folder or the space is in the way, as far as it can be seen."""
-    writes = words == ["append"]
-    causes = [*log_causes(writes), *folder_causes(writes), *space_causes(writes), *lock_causes(writes)]
+    writes = commands.command_of(words).changes_log
+    causes = [*log_causes(writes), *folder_causes(writes), *space_causes(writes), *lock_causes(words, writes)]
     causes = causes or [OTHER_CAUSES if writes else "a call of the disk failed; see `dmesg`"]
     stored = "each block of which a line was printed is stored; docs/log.md says what to do"
     return "\n".join([f"the log can't be opened, read, written or synced; {stored}", *causes])
 
 
-def lock_causes(writes):
-    """Who has the log locked, which `append` does as long as it runs."""
+def lock_causes(words, writes):
+    """Who has the log locked, which a command that changes it does as long as it runs."""
     if not writes:
         return
     with contextlib.suppress(OSError):
@@ -216,12 +217,12 @@ def lock_causes(writes):
         try:
             holder = locks.holder_of(os.fstat(log))
             if holder:
-                yield f"{holder} has {LOG_FILE} locked, as another `append` does as long as it runs"
+                yield f"{holder} has {LOG_FILE} locked, as `append` and `upgrade` do as long as they run"
             else:
                 # This takes no lock, and fails where there can be none.
                 fcntl.flock(log, fcntl.LOCK_UN)
         except OSError:
-            yield f"the file system of {LOG_FILE} has no locks, and `append` takes one"
+            yield f"the file system of {LOG_FILE} has no locks, and `{words[0]}` takes one"
         finally:
             os.close(log)
 
@@ -289,7 +290,7 @@ def kind_advice(words, start):
 def refused_line(program, words, start):
     """The line of a frame that is refused, by `scan`, which only reads: over the input, or over the
     blocks of the log and the frame, whose number in the input isn't told then."""
-    again = os.fstat(0).st_size - start if words[0] == "scan" else log_frames_end()
+    again = os.fstat(0).st_size - start if words[0] == "scan" else log_end()
     if again > MAX_AGAIN_BYTES:
         return b""
     if words[0] == "scan":
@@ -298,14 +299,17 @@ def refused_line(program, words, start):
     frame = os.pread(0, LENGTH_BYTES + MAX_BLOCK_BYTES, at)
     frame = frame[: LENGTH_BYTES + int.from_bytes(frame[:LENGTH_BYTES], "big")]
     printed = printed_over(program, ["scan", "hist", "a", "0"], [*log_frames(), frame])
-    return NO_SECOND_VERSION if is_of_wrong_version(frame, printed) else printed
+    return version_line(frame, printed) or printed
 
 
-def is_of_wrong_version(frame, printed):
-    """Whether `append` refuses a frame for its version, by what `scan` prints over the blocks of the log and the
-    frame: that takes a block of the second version after one of the first, and tests its budgets then."""
-    is_second = frame[LENGTH_BYTES : LENGTH_BYTES + 1] == bytes([kinds.SECOND_VERSION])
-    return is_second and re.match(rb"refused frame \d+ (?!budget )", printed) is None
+def version_line(frame, printed):
+    """The line of a frame that `append` refuses for its version, with 0 for the number of the frame, by what `scan`
+    prints over the blocks of the log and the frame: that goes by the versions of these blocks and not by the mark,
+    and tests the budgets where they may stand so. Nothing where the frame is refused for another cause."""
+    version = kinds.SECOND_VERSION if is_marked() else kinds.FIRST_VERSION
+    is_other = frame[LENGTH_BYTES : LENGTH_BYTES + 1] != bytes([version])
+    is_refused = re.match(rb"refused frame \d+ (?!budget )", printed)
+    return b"refused frame 0 version %d\n" % version if is_other and not is_refused else b""
 
 
 def refused_offset(start, end):
@@ -320,8 +324,8 @@ def refused_offset(start, end):
         at = after
 
 
-def log_frames():
-    """The frames of the records of the log."""
+def log_records():
+    """The records of the log, each a length and the bytes of a block; of the mark there is the length 0 alone."""
     with contextlib.suppress(OSError), open(LOG_FILE, "rb") as log:
         log.seek(FIRST_GATE)
         while log.read(1) == OPEN:
@@ -329,9 +333,19 @@ def log_frames():
             yield length + log.read(int.from_bytes(length, "big"))
 
 
-def log_frames_end():
+def log_frames():
+    """The records of the log that have a block, which are frames of a block file."""
+    return (record for record in log_records() if record != MARK)
+
+
+def is_marked():
+    """Whether one of the records of the log is the mark."""
+    return MARK in log_records()
+
+
+def log_end():
     """The offset of the closed gate of the log."""
-    return FIRST_GATE + sum(1 + len(frame) for frame in log_frames())
+    return FIRST_GATE + sum(1 + len(record) for record in log_records())
 
 
 def printed_over(program, words, pieces):

@@ -12,10 +12,12 @@ import re
 import signal
 import stat
 
+from lineage import kinds
 from lineage.lineage_messages import (
     FIRST_GATE,
     LENGTH_BYTES,
     LOG_FILE,
+    MARK,
     OPEN,
     contract_sentence,
     printed_over,
@@ -117,7 +119,7 @@ class Fields:
             for _ in range(self.number(1)):
                 self.string()
         elif kind == DEPLOY:
-            fields = {"name": self.name(), "source": self.string()}
+            fields = {"name": self.name(), "source": self.string(), "version": self.block[0]}
         else:
             fields = {"contract": self.name(), "function": self.name()}
             for _ in range(self.number(1)):
@@ -130,7 +132,7 @@ class Log:
     """The blocks of the log, each after those that were asked for before."""
 
     def __init__(self):
-        # The gate of the record that is read next, and its number.
+        # The gate of the record that is read next, and how many blocks stand before it.
         self.gate, self.number = FIRST_GATE, 0
 
     def frame(self, block):
@@ -140,8 +142,9 @@ class Log:
         with contextlib.suppress(OSError), open(LOG_FILE, "rb") as log:
             log.seek(self.gate)
             while self.number <= block and log.read(1) == OPEN:
-                found = log.read(int.from_bytes(log.read(LENGTH_BYTES), "big"))
-                self.gate, self.number = log.tell(), self.number + 1
+                length = log.read(LENGTH_BYTES)
+                found = log.read(int.from_bytes(length, "big"))
+                self.gate, self.number = log.tell(), self.number + (length != MARK)
         return found if self.number == block + 1 else b""
 
     def txs(self, block):
@@ -179,7 +182,8 @@ class Words:
         if isinstance(text, dict):
             text = text.get(kind, "docs/language.md says when").format(**fields)
         if status == BAD_SOURCE and "source" in fields:
-            printed = printed_over(self.program, ["fmt"], [fields["source"]])
+            edition = ["2"] if fields["version"] == kinds.SECOND_VERSION else []
+            printed = printed_over(self.program, ["fmt", *edition], [fields["source"]])
             text += f": {contract_sentence(fields['source'], printed, 'its source')}"
         return f"{name} ({status}): {text}"
 

@@ -6,8 +6,7 @@ use Rattle.std.proofs.lemmas.List.{length-take, get_or-take}
 use Rattle.std.specs.Prelude.{◌==◌, if◌then◌else◌, Option, Some, slice_get}
 use Rattle.std.proofs.lemmas.Bool.{cases_Bool}
 use Rattle.block_codec.specs.Placement.{no_parent}
-use Rattle.block_codec.specs.declared.limits.TheConstants.{MAX_BLOCKS}
-use Rattle.block_log.specs.declared.layout.TheConstants.{FIRST_GATE}
+use Rattle.block_log.specs.declared.layout.TheConstants.{FIRST_GATE, MAX_RECORDS}
 use Rattle.block_log.specs.declared.layout.Stored.{Stored}
 use Rattle.block_log.specs.declared.reading.Head.TheVariants as heads
 use Rattle.block_log.specs.Standing.{Blank, NotALog, is_log, is_blank, records_at, standing}
@@ -46,7 +45,7 @@ head_prefix image =
 -- ---- what the head says
 
 -- A log stands for its records.
-pub log_head : (image : List ℕ) → head_of image ≡ heads.Log → standing next_in_log image ≡ records_at next_in_log (MAX_BLOCKS + 1) FIRST_GATE [] (drop FIRST_GATE image)
+pub log_head : (image : List ℕ) → head_of image ≡ heads.Log → standing next_in_log image ≡ records_at next_in_log (MAX_RECORDS + 1) false FIRST_GATE [] (drop FIRST_GATE image)
 unfolding head_of standing
 log_head image is = elim (cases_Bool (is_log image)) [
   | inl opens ↦ rw opens refl
@@ -102,10 +101,10 @@ none_stored = record { chained = λ i s at. absurd (none_at i s at); digests_are
     none_at (suc i) s at = cc at
 
 -- A log of which no block has been read.
-pub first_read : (content : Option (List ℕ)) → ((image : List ℕ) → content ≡ Some image → head_of image ≡ heads.Log) → AreRead (log_at FIRST_GATE 0 no_parent) content []
+pub first_read : (content : Option (List ℕ)) → ((image : List ℕ) → content ≡ Some image → head_of image ≡ heads.Log) → AreRead (log_at FIRST_GATE 0 no_parent false) content []
 first_read content is = record {
   are_stored = none_stored;
-  held = record { count_is = refl; last_is = refl };
+  held = record { count_is = refl; last_is = refl; fits = λ unmarked. refl; headless = λ is. refl };
   stands = λ image told. log_head image (is image told);
 }
 
@@ -113,7 +112,7 @@ first_read content is = record {
 pub blank_started : (content : Option (List ℕ)) (begun : Bool) → ((image : List ℕ) → content ≡ Some image → head_of image ≡ heads.Blank begun) → AreAll (blank_log begun) content []
 blank_started content begun is = record {
   are_stored = none_stored;
-  held = record { count_is = refl; last_is = refl };
+  held = record { count_is = refl; last_is = refl; fits = λ unmarked. refl; headless = λ is. refl };
   started = λ image told.
       let blank = blank_head image begun (is image told) in
       (record { stands = blank.0; begun_is = blank.1 }, refl);

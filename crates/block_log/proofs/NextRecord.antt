@@ -1,5 +1,5 @@
 -- The record of the next block of a log, by the log's own placement and by each stricter one.
-use Rattle.std.proofs.Common.{◌≡◌, ◌≢◌, ◌⊎◌, inl, inr, ℕ, ◌+◌, ◌-◌, ◌≤◌, ◌<◌, Bool, true, false, List, [], ◌∷◌, ◌++◌, length, length-append, map, refl, sym, ◌∙◌, ap, subst, arith}
+use Rattle.std.proofs.Common.{◌≡◌, ◌≢◌, ◌⊎◌, inl, inr, ℕ, suc, ◌+◌, ◌-◌, ◌≤◌, ◌<◌, Bool, true, false, List, [], ◌∷◌, ◌++◌, length, length-append, map, refl, sym, ◌∙◌, ap, subst, arith}
 use Rattle.std.specs.Prelude.{Option, Some, None, MatchBool, slice_get, unwrap_or}
 use Rattle.std.proofs.lemmas.List.{length-map, map-append}
 use Rattle.std.proofs.lemmas.Option.{slice_get_past, slice_get-get_or}
@@ -16,32 +16,38 @@ use Rattle.block_codec.specs.declared.block.Block.{Block}
 use Rattle.block_codec.specs.declared.placement.Placement.TheVariants.{Next}
 use Rattle.block_codec.proofs.WholeBlocks.{is_spelled}
 use Rattle.block_codec.proofs.Placements.{next_is_placed, next_has_passed}
-use Rattle.block_log.specs.declared.layout.TheConstants.{OPEN_GATE}
+use Rattle.block_log.specs.declared.layout.TheConstants.{OPEN_GATE, MAX_MARKED_BLOCKS, MAX_RECORDS}
 use Rattle.block_log.specs.declared.layout.Stored.{Stored}
-use Rattle.block_log.specs.Standing.{Holds, Placer, NextBlock, next_decoded, if_next, next_block, blocks_in, blocks_of, standing, chain_of}
-use Rattle.block_log.specs.Log.{LogState, log_placement, next_in_log, IsKeptLog, Agrees, AgreesWithBlocks, AgreesWithBlank, IsNextOf, IsNextAfter, IsOldOrNew, log_with_block}
+use Rattle.block_log.specs.Standing.{Standing, Holds, records_at, Logged, with_block, Placer, NextBlock, next_decoded, if_next, next_block, blocks_in, logged_of, standing, chain_of}
+use Rattle.block_log.specs.Log.{LogState, marks, most_blocks, log_placement, next_in_log, IsKeptLog, Agrees, AgreesWithBlocks, AgreesWithBlank, IsNextOf, IsNextAfter, IsOldOrNew, log_with_block}
 use Rattle.block_log.specs.Steps.{synced_write, record_bytes}
 use Rattle.block_log.proofs.Records.{IsLog, log_is, stored_at}
 use Rattle.block_log.proofs.Stricter.{same_blocks}
 use Rattle.block_log.proofs.Resting.{rests_at, rests_on, told_before}
-use Rattle.block_log.proofs.TornRecords.{within, staged_within, torn_after, torn_gate, written_gate}
+use Rattle.block_log.proofs.TornRecords.{block_opens, within, staged_within, torn_after, torn_gate, written_gate}
 
 -- ---- the place of the next block
 
+-- the greatest number of blocks is that of a placement
+pub full_by : (marked : Bool) (n : ℕ) → n ≢ MAX_BLOCKS → n ≢ most_blocks marked
+full_by true n room = room
+full_by false n room = room
+
 -- a next block comes after fewer blocks than the most that a chain has
-some_room : (blocks : List Block) (block : Block) → log_placement blocks block ≡ Next → length blocks ≢ MAX_BLOCKS
-some_room blocks block is =
+some_room : (marked : Bool) (blocks : List Block) (block : Block) → log_placement marked blocks block ≡ Next → length blocks ≢ most_blocks marked
+some_room marked blocks block is =
     let digests = map digest_of blocks in
-    (next_has_passed false (length blocks) 0 (slice_get digests block.number) (last_digest digests) block
+    full_by marked (length blocks)
+    (next_has_passed marked (length blocks) 0 (slice_get digests block.number) (last_digest digests) block
     (digest_of block) is).room
 
 -- the next block by what a log keeps is the next one after the blocks themselves
-pub placed_next : (blocks : List Block) (count : ℕ) (last : Digest) (block : Block) → count ≡ length blocks → last ≡ last_digest (map digest_of blocks) → new_placement false count 0 last block ≡ Next → log_placement blocks block ≡ Next
-placed_next blocks count last block count_is last_is is =
-    let number = (next_is_placed false count 0 last block is).number in
+pub placed_next : (marked : Bool) (blocks : List Block) (count : ℕ) (last : Digest) (block : Block) → count ≡ length blocks → last ≡ last_digest (map digest_of blocks) → new_placement marked count 0 last block ≡ Next → log_placement marked blocks block ≡ Next
+placed_next marked blocks count last block count_is last_is is =
+    let number = (next_is_placed marked count 0 last block is).number in
     let past : slice_get (map digest_of blocks) block.number ≡ None = slice_get_past (map digest_of blocks) block.number (omega (arith, number, count_is, length-map blocks digest_of)) in
-    ap (λ (have : Option Digest). placement false (length blocks) 0 have (last_digest (map digest_of blocks)) block (digest_of block)) past
-    ∙ ap (λ n. new_placement false n 0 (last_digest (map digest_of blocks)) block) (sym count_is) ∙ ap (λ d. new_placement false count 0 d block) (sym last_is) ∙ is
+    ap (λ (have : Option Digest). placement marked (length blocks) 0 have (last_digest (map digest_of blocks)) block (digest_of block)) past
+    ∙ ap (λ n. new_placement marked n 0 (last_digest (map digest_of blocks)) block) (sym count_is) ∙ ap (λ d. new_placement marked count 0 d block) (sym last_is) ∙ is
 
 pub last_of : (digests : List Digest) (d : Digest) → last_digest (digests ++ d ∷ []) ≡ d
 last_of digests d =
@@ -52,33 +58,45 @@ last_of digests d =
 
 -- ---- its record
 
-pub record NextRecord (next : NextBlock) (content : List ℕ) (stored : List Stored) (gate : ℕ) (bytes : List ℕ) (block : Block) : Type 0 where
-  pub log : IsLog next content stored gate
+pub record NextRecord (next : NextBlock) (content : List ℕ) (stored : List Stored) (marked : Bool) (gate : ℕ) (bytes : List ℕ) (block : Block) : Type 0 where
+  pub log : IsLog next content stored marked gate
   pub low : 1 ≤ length bytes
   pub high : length bytes ≤ MAX_BLOCK_BYTES
-  pub few : length stored < MAX_BLOCKS
-  pub found : next (blocks_in stored) bytes ≡ Some block
+  pub some : 0 < log.left
+  pub found : next marked (blocks_in stored) bytes ≡ Some block
 
 some_bytes : (bytes : List ℕ) (block : Block) → Spells bytes block → 1 ≤ length bytes
 some_bytes bytes block spells = omega (arith, ap (length {A = ℕ}) spells.spelled)
 
-below : (n m : ℕ) → n ≤ m → n ≢ m → n < m
+pub below : (n m : ℕ) → n ≤ m → n ≢ m → n < m
 below n m at_most other = grind arith
 
-next_record : (place : Placer) (content bytes : List ℕ) (stored : List Stored) (gate : ℕ) (blocks : List Block) (block : Block) → standing next_in_log content ≡ Holds stored gate → IsBytes bytes → IsNextAfter place content bytes blocks block
-    → NextRecord (next_block block_in place) content stored gate bytes block × (blocks ≡ blocks_in stored)
-next_record place content bytes stored gate blocks block own fits after =
-    let same = same_blocks place after.stricter content stored gate blocks own after.stands in
+-- a log that takes a block looks at one more gate
+left_over : (marked : Bool) (n left : ℕ) → n + marks marked + left ≡ MAX_RECORDS → n < MAX_MARKED_BLOCKS → 0 < left
+left_over true n left all less = omega (arith, all, less)
+left_over false n left all less = omega (arith, all, less)
+
+-- a log that takes a block has room for it
+pub room_by : (marked : Bool) (n : ℕ) → n ≤ MAX_MARKED_BLOCKS → (marked ≡ false → n ≤ MAX_BLOCKS) → n ≢ most_blocks marked → (n < MAX_MARKED_BLOCKS) × (marked ≡ false → n < MAX_BLOCKS)
+room_by true n few unmarked room = (below n MAX_MARKED_BLOCKS few room, λ is. absurd (cc is))
+room_by false n few unmarked room = let less = below n MAX_BLOCKS (unmarked refl) room in (omega (arith, less), λ is. less)
+
+-- `few` and `unmarked`: a log has at most as many blocks as its placement says
+next_record : (place : Placer) (content bytes : List ℕ) (stored : List Stored) (marked : Bool) (gate : ℕ) (logged : Logged) (block : Block) → length stored ≤ MAX_MARKED_BLOCKS → (marked ≡ false → length stored ≤ MAX_BLOCKS) → standing next_in_log content ≡ Holds stored marked gate → IsBytes bytes → IsNextAfter place content bytes logged block
+    → NextRecord (next_block block_in place) content stored marked gate bytes block × (logged ≡ record { blocks = blocks_in stored; marked = marked })
+next_record place content bytes stored marked gate logged block few unmarked own fits after =
+    let same = same_blocks place after.stricter content stored marked gate logged own after.stands in
     let spells = is_spelled bytes block fits after.decoded in
-    let log = log_is (next_block block_in place) content stored gate same.0 in
-    let room = some_room blocks block (after.stricter blocks block after.placed) in
-    let long : length blocks ≡ length stored = ap (length {A = Block}) same.1 ∙ length-map stored (λ s. s.block) in (
+    let log = log_is (next_block block_in place) content stored marked gate same.0 in
+    let placed : place marked (blocks_in stored) block ≡ Next = ap (λ (l : Logged). place l.marked l.blocks block) (sym same.1) ∙ after.placed in
+    let room = some_room marked (blocks_in stored) block (after.stricter marked (blocks_in stored) block placed) in
+    let long : length (blocks_in stored) ≡ length stored = length-map stored (λ s. s.block) in (
       record {
         log = log;
         low = some_bytes bytes block spells;
         high = spells.short;
-        few = below (length stored) MAX_BLOCKS (omega (arith, log.count_is)) (λ full. room (long ∙ full));
-        found = ap (next_decoded place (blocks_in stored)) after.decoded ∙ ap (λ (blocks : List Block). if_next block (place blocks block)) (sym same.1) ∙ ap (if_next block) after.placed;
+        some = left_over marked (length stored) log.left log.count_is (room_by marked (length stored) few unmarked (λ full. room (long ∙ full))).0;
+        found = ap (next_decoded place marked (blocks_in stored)) after.decoded ∙ ap (if_next block) placed;
       },
       same.1,
     )
@@ -87,8 +105,7 @@ next_record place content bytes stored gate blocks block own fits after =
 chain_with : (stored : List Stored) (gate : ℕ) (blocks : List Block) (block : Block) → blocks ≡ blocks_in stored → blocks_in (stored ++ stored_at gate block ∷ []) ≡ blocks ++ block ∷ []
 chain_with stored gate blocks block is = map-append (λ (s : Stored). s.block) stored (stored_at gate block ∷ []) ∙ ap (λ (blocks : List Block). blocks ++ block ∷ []) (sym is)
 
--- `log` is the log as its fields show it, `seen` as contracts see it
-module _ (log seen : LogState) (bytes : List ℕ) (same : log ≡ seen) (seen_next : IsNextOf seen bytes) (fits : IsBytes bytes) where
+module _ (log seen : LogState) (bytes : List ℕ) (same : log ≡ seen) (seen_next : IsNextOf seen bytes) (fits : IsBytes bytes) (log_kept : IsKeptLog log) where
   is_next : IsNextOf log bytes
   is_next = subst (λ log. IsNextOf log bytes) (sym same) seen_next
 
@@ -102,32 +119,52 @@ module _ (log seen : LogState) (bytes : List ℕ) (same : log ≡ seen) (seen_ne
   short = (is_spelled bytes is_next.block fits is_next.decoded).short
 
   -- the bounds of the log with the block
-  pub kept : IsKeptLog log → IsKeptLog (log_with_block log bytes)
-  kept is =
-      let room = (next_is_placed false log.count 0 log.last is_next.block is_next.placed).room in
-      record { few = omega (arith, below log.count MAX_BLOCKS is.few room); near = omega (arith, is.near, short); no_block = λ headless. absurd (cc headless) }
+  pub kept : IsKeptLog (log_with_block log bytes)
+  kept =
+      let room = room_by log.is_marked log.count log_kept.few (λ is. (log_kept.unmarked is).few) (full_by log.is_marked log.count (next_is_placed log.is_marked log.count 0 log.last is_next.block is_next.placed).room) in
+      record {
+        few = omega (arith, room.0);
+        near = omega (arith, log_kept.near, short);
+        unmarked = λ is. let small = log_kept.unmarked is in record { few = omega (arith, room.1 is); near = omega (arith, small.near, short) };
+        no_block = λ headless. absurd (cc headless);
+      }
+
+  few_stored : (content : List ℕ) (agrees : AgreesWithBlocks log content) → length agrees.stored ≤ MAX_MARKED_BLOCKS
+  few_stored content agrees = omega (arith, log_kept.few, agrees.count_is)
+
+  fewer_stored : (content : List ℕ) (agrees : AgreesWithBlocks log content) → log.is_marked ≡ false → length agrees.stored ≤ MAX_BLOCKS
+  fewer_stored content agrees is = let small = log_kept.unmarked is in omega (arith, small.few, agrees.count_is)
 
   -- the log's own view
-  own : (content : List ℕ) (agrees : AgreesWithBlocks log content) → NextRecord next_in_log content agrees.stored log.gate bytes is_next.block
+  own : (content : List ℕ) (agrees : AgreesWithBlocks log content) → NextRecord next_in_log content agrees.stored log.is_marked log.gate bytes is_next.block
   own content agrees =
       let count : log.count ≡ length (blocks_in agrees.stored) = agrees.count_is ∙ sym (length-map agrees.stored (λ s. s.block)) in
-      let after : IsNextAfter log_placement content bytes (blocks_in agrees.stored) is_next.block = record {
-        stricter = λ blocks block next. next;
-        stands = ap blocks_of agrees.stands;
+      let logged : Logged = record { blocks = blocks_in agrees.stored; marked = log.is_marked } in
+      let after : IsNextAfter log_placement content bytes logged is_next.block = record {
+        stricter = λ marked blocks block next. next;
+        stands = ap logged_of agrees.stands;
         decoded = is_next.decoded;
-        placed = placed_next (blocks_in agrees.stored) log.count log.last is_next.block count agrees.last_is is_next.placed;
+        placed = placed_next log.is_marked (blocks_in agrees.stored) log.count log.last is_next.block count agrees.last_is is_next.placed;
       } in
-      (next_record log_placement content bytes agrees.stored log.gate (blocks_in agrees.stored) is_next.block agrees.stands fits after).0
+      (next_record log_placement content bytes agrees.stored log.is_marked log.gate logged is_next.block (few_stored content agrees) (fewer_stored content agrees) agrees.stands fits after).0
+
+  -- what the image with the record stands for, by a placement
+  abbrev with_record : List Stored → Block → Standing
+  with_record stored block = Holds (stored ++ stored_at log.gate block ∷ []) log.is_marked (log.gate + 5 + length bytes)
+
+  opens : (next : NextBlock) (content : List ℕ) (stored : List Stored) (block : Block) (r : NextRecord next content stored log.is_marked log.gate bytes block)
+      → (ys : List ℕ) → records_at next (suc r.log.left) log.is_marked log.gate stored (OPEN_GATE ∷ (record_bytes bytes ++ ys)) ≡ with_record stored block
+  opens next content stored block r = block_opens next r.log.left log.is_marked log.gate stored bytes block r.some r.low r.high r.found
 
   first_within : (content : List ℕ) → AgreesWithBlocks log content → log.gate + 1 ≤ length content
   first_within content agrees =
       let r = own content agrees in
-      within next_in_log content agrees.stored log.gate bytes is_next.block r.log r.low r.high r.few r.found
+      within next_in_log content agrees.stored log.is_marked log.gate bytes (with_record agrees.stored is_next.block) r.log (opens next_in_log content agrees.stored is_next.block r)
 
   second_within : (content : List ℕ) → AgreesWithBlocks log content → log.gate ≤ length (staged content)
   second_within content agrees =
       let r = own content agrees in
-      staged_within next_in_log content agrees.stored log.gate bytes is_next.block r.log r.low r.high r.few r.found
+      staged_within next_in_log content agrees.stored log.is_marked log.gate bytes (with_record agrees.stored is_next.block) r.log (opens next_in_log content agrees.stored is_next.block r)
 
   -- the log with the block agrees with the bytes
   agrees_after : (content : List ℕ) → AgreesWithBlocks log content → AgreesWithBlocks (log_with_block log bytes) (whole content)
@@ -140,7 +177,7 @@ module _ (log seen : LogState) (bytes : List ℕ) (same : log ≡ seen) (seen_ne
       let spelled : bytes_digest bytes ≡ digest_of block = ap bytes_digest (is_spelled bytes block fits is_next.decoded).spelled in
       record {
         stored = stored ++ stored_at log.gate block ∷ [];
-        stands = written_gate next_in_log content stored log.gate bytes block r.log r.low r.high r.few r.found;
+        stands = written_gate next_in_log content stored log.is_marked log.gate bytes (with_record stored block) r.log (opens next_in_log content stored block r);
         count_is = omega (arith, agrees.count_is, length-append stored (stored_at log.gate block ∷ []));
         last_is = spelled ∙ sym (last_of (map digest_of (blocks_in stored)) (digest_of block)) ∙ sym (ap last_digest digests);
       }
@@ -175,7 +212,7 @@ module _ (log seen : LogState) (bytes : List ℕ) (same : log ≡ seen) (seen_ne
         (rests_on (Agrees log) (λ c. AgreesWithBlocks (log_with_block log bytes) (bytes_over log.gate (OPEN_GATE ∷ []) c)) (log.gate + 1) (record_bytes bytes) state mid rests first
         (λ c agrees. agrees_after c (is_blocks c log.is_ready ready agrees))) second (λ c agrees. agrees)
 
-    module _ (place : Placer) (content : List ℕ) (blocks : List Block) (block : Block) (told : content_of state ≡ Some content) (after : IsNextAfter place content bytes blocks block) where
+    module _ (place : Placer) (content : List ℕ) (logged : Logged) (block : Block) (told : content_of state ≡ Some content) (after : IsNextAfter place content bytes logged block) where
       abbrev next : NextBlock
       next = next_block block_in place
 
@@ -183,34 +220,37 @@ module _ (log seen : LogState) (bytes : List ℕ) (same : log ≡ seen) (seen_ne
       stored = (at content told).1.stored
 
       -- the record by this placement
-      there : NextRecord next content stored log.gate bytes block × (blocks ≡ blocks_in stored)
-      there = next_record place content bytes stored log.gate blocks block (at content told).1.stands fits after
+      there : NextRecord next content stored log.is_marked log.gate bytes block × (logged ≡ record { blocks = blocks_in stored; marked = log.is_marked })
+      there = next_record place content bytes stored log.is_marked log.gate logged block (few_stored content (at content told).1) (fewer_stored content (at content told).1) (at content told).1.stands fits after
 
-      is_old : (c : List ℕ) → standing next c ≡ Holds stored log.gate → IsOldOrNew next blocks block c
-      is_old c is = inl (ap blocks_of is ∙ ap Some (sym there.1))
+      is_old : (c : List ℕ) → standing next c ≡ Holds stored log.is_marked log.gate → IsOldOrNew next logged block c
+      is_old c is = inl (ap logged_of is ∙ ap Some (sym there.1))
 
-      with_block : (c : List ℕ) → standing next c ≡ Holds (stored ++ stored_at log.gate block ∷ []) (log.gate + 5 + length bytes) → chain_of next c ≡ Some (blocks ++ block ∷ [])
-      with_block c is = ap blocks_of is ∙ ap Some (chain_with stored log.gate blocks block there.1)
+      with_it : (c : List ℕ) → standing next c ≡ with_record stored block → chain_of next c ≡ Some (with_block logged block)
+      with_it c is =
+          ap logged_of is ∙ ap (λ (blocks : List Block). Some (record { blocks = blocks; marked = log.is_marked })) (chain_with stored log.gate (blocks_in stored) block refl)
+          ∙ ap (λ (l : Logged). Some (with_block l block)) (sym there.1)
 
       pub rests_there : state ≡ Some (settled_disk content)
       rests_there = (at content told).0
 
-      pub first_leaves : (c : List ℕ) → Torn (log.gate + 1) (length (record_bytes bytes)) content c → IsOldOrNew next blocks block c
+      pub first_leaves : (c : List ℕ) → Torn (log.gate + 1) (length (record_bytes bytes)) content c → IsOldOrNew next logged block c
       first_leaves c torn =
           let r = there.0 in
-          is_old c (torn_after next content stored log.gate bytes block r.log r.low r.high r.few r.found c torn)
+          is_old c (torn_after next content stored log.is_marked log.gate bytes (with_record stored block) r.log (opens next content stored block r) c torn)
 
-      either : (c : List ℕ) → (standing next c ≡ Holds stored log.gate) ⊎ (standing next c ≡ Holds (stored ++ stored_at log.gate block ∷ []) (log.gate + 5 + length bytes)) → IsOldOrNew next blocks block c
+      either : (c : List ℕ) → (standing next c ≡ Holds stored log.is_marked log.gate) ⊎ (standing next c ≡ with_record stored block) → IsOldOrNew next logged block c
       either c (inl is) = is_old c is
-      either c (inr is) = inr (with_block c is)
+      either c (inr is) = inr (with_it c is)
 
-      pub second_leaves : (c : List ℕ) → Torn log.gate 1 (staged content) c → IsOldOrNew next blocks block c
+      pub second_leaves : (c : List ℕ) → Torn log.gate 1 (staged content) c → IsOldOrNew next logged block c
       second_leaves c torn =
           let r = there.0 in
-          either c (torn_gate next content stored log.gate bytes block r.log r.low r.high r.few r.found c torn)
+          either c (torn_gate next content stored log.is_marked log.gate bytes (with_record stored block) r.log (opens next content stored block r) c torn)
 
-      pub chain_then : (mid new : Option DiskState) → mid ≡ synced_write (log.gate + 1) (record_bytes bytes) state → new ≡ synced_write log.gate (OPEN_GATE ∷ []) mid → Rests new (λ image. chain_of next image ≡ Some (blocks ++ block ∷ []))
+      pub chain_then : (mid new : Option DiskState) → mid ≡ synced_write (log.gate + 1) (record_bytes bytes) state → new ≡ synced_write log.gate (OPEN_GATE ∷ []) mid → Rests new (λ image. chain_of next image ≡ Some (with_block logged block))
       chain_then mid new first second =
           let r = there.0 in
           let all : new ≡ Some (settled_disk (whole content)) = second ∙ ap (synced_write log.gate (OPEN_GATE ∷ [])) (first ∙ ap (synced_write (log.gate + 1) (record_bytes bytes)) rests_there) in
-          subst (λ n. Rests n (λ image. chain_of next image ≡ Some (blocks ++ block ∷ []))) (sym all) (refl, with_block (whole content) (written_gate next content stored log.gate bytes block r.log r.low r.high r.few r.found))
+          subst (λ n. Rests n (λ image. chain_of next image ≡ Some (with_block logged block))) (sym all)
+          (refl, with_it (whole content) (written_gate next content stored log.is_marked log.gate bytes (with_record stored block) r.log (opens next content stored block r)))

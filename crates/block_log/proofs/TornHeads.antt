@@ -6,9 +6,8 @@ use Rattle.std.proofs.lemmas.List.{take-append-drop, length-drop, drop_more, get
 use Rattle.std.proofs.lemmas.Bool.{cases_eq, cases_lt}
 use Rattle.std.proofs.lemmas.Bool.Decides.{nat_tests}
 use Rattle.disk_model.specs.Disk.{Torn, bytes_over}
-use Rattle.block_codec.specs.declared.limits.TheConstants.{MAX_BLOCKS}
-use Rattle.block_log.specs.declared.layout.TheConstants.{OPEN_GATE, CLOSED_GATE, FIRST_GATE}
-use Rattle.block_log.specs.Standing.{Blank, Holds, NextBlock, is_log, is_blank, standing, magic, blocks_of, chain_of}
+use Rattle.block_log.specs.declared.layout.TheConstants.{OPEN_GATE, CLOSED_GATE, FIRST_GATE, MAX_RECORDS}
+use Rattle.block_log.specs.Standing.{Blank, Holds, NextBlock, is_log, is_blank, standing, magic, logged_of, chain_of}
 use Rattle.block_log.specs.Log.{LogState, IsBlank, IsKeptLog, Agrees, next_in_log, log_with_head}
 use Rattle.block_log.specs.Steps.{HasClosedHead, IsPrepared, HasNoBlock}
 use Rattle.block_log.proofs.Records.{closed_records}
@@ -40,24 +39,24 @@ begun_head (byte ∷ rest) blank =
 headed_stands : (next : NextBlock) (head gate : ℕ) (rest : List ℕ) → head == OPEN_GATE ≡ false → gate == OPEN_GATE ≡ false → standing next (head ∷ (magic ++ gate ∷ rest)) ≡ Blank
 headed_stands next head gate rest shut closed = blank_stands next (head ∷ (magic ++ gate ∷ rest)) (grind (arith, nat_tests)) (grind (arith, nat_tests))
 
-pub opened_stands : (next : NextBlock) (gate : ℕ) (rest : List ℕ) → gate == OPEN_GATE ≡ false → standing next (OPEN_GATE ∷ (magic ++ gate ∷ rest)) ≡ Holds [] FIRST_GATE
+pub opened_stands : (next : NextBlock) (gate : ℕ) (rest : List ℕ) → gate == OPEN_GATE ≡ false → standing next (OPEN_GATE ∷ (magic ++ gate ∷ rest)) ≡ Holds [] false FIRST_GATE
 unfolding standing
 opened_stands next gate rest closed =
     let opens : is_log (OPEN_GATE ∷ (magic ++ gate ∷ rest)) ≡ true = grind (arith, nat_tests) in
-    rw opens (closed_records next MAX_BLOCKS FIRST_GATE [] gate rest closed)
+    rw opens (closed_records next MAX_RECORDS false FIRST_GATE [] gate rest closed)
 
 -- whichever byte the head gate is
 pub any_head : (head gate : ℕ) (rest : List ℕ) → gate == OPEN_GATE ≡ false → HasNoBlock (head ∷ (magic ++ gate ∷ rest))
 any_head head gate rest closed next = elim (cases_eq head OPEN_GATE) [
-  | inl opens ↦ ap (λ h. chain_of next (h ∷ (magic ++ gate ∷ rest))) opens ∙ ap blocks_of (opened_stands next gate rest closed)
-  | inr shuts ↦ ap blocks_of (headed_stands next head gate rest (grind (arith, nat_tests)) closed)
+  | inl opens ↦ ap (λ h. chain_of next (h ∷ (magic ++ gate ∷ rest))) opens ∙ ap logged_of (opened_stands next gate rest closed)
+  | inr shuts ↦ ap logged_of (headed_stands next head gate rest (grind (arith, nat_tests)) closed)
 ]
 
 -- ---- the three steps
 
 -- no log yet, whichever block comes next
 pub blank_none : (is_begun : Bool) (content : List ℕ) → IsBlank is_begun content → HasNoBlock content
-blank_none is_begun content blank next = let is = blank_is content blank.stands in ap blocks_of (blank_stands next content is.0 is.1)
+blank_none is_begun content blank next = let is = blank_is content blank.stands in ap logged_of (blank_stands next content is.0 is.1)
 
 -- the first byte may be any, the others stay
 first_torn : (old c : List ℕ) → Torn 0 1 old c → 1 ≤ length old → c ≡ get_or c 0 0 ∷ drop 1 old
@@ -79,7 +78,7 @@ magic_there image blank other more =
 -- the first step, on bytes that do not begin with 0
 pub first_step : (content : List ℕ) → IsBlank false content → (c : List ℕ) → Torn 0 1 content c → HasNoBlock c
 first_step content blank c torn next = elim (cases_lt 1 (length content)) [
-  | inr short ↦ ap blocks_of (short_stands next c (omega (arith, torn.no_longer, short)))
+  | inr short ↦ ap logged_of (short_stands next c (omega (arith, torn.no_longer, short)))
   | inl long ↦
       let m = magic_there content (blank_is content blank.stands).1 (sym blank.begun_is) long in
       ap (chain_of next) (first_torn content c torn (omega (arith, long)) ∙ ap (λ (l : List ℕ). get_or c 0 0 ∷ l) m.3) ∙ any_head (get_or c 0 0) m.0 m.1 m.2 next
@@ -88,7 +87,7 @@ first_step content blank c torn next = elim (cases_lt 1 (length content)) [
 -- the second step
 pub second_step : (content : List ℕ) → HasClosedHead content → (c : List ℕ) → Torn 1 8 content c → HasNoBlock c
 second_step content closed c torn next =
-    ap (chain_of next) (sym (take-append-drop 1 c) ∙ ap (λ (l : List ℕ). l ++ drop 1 c) (torn.before ∙ ap (take 1) closed.is)) ∙ ap blocks_of (begun_stands next (drop 1 c))
+    ap (chain_of next) (sym (take-append-drop 1 c) ∙ ap (λ (l : List ℕ). l ++ drop 1 c) (torn.before ∙ ap (take 1) closed.is)) ∙ ap logged_of (begun_stands next (drop 1 c))
 
 -- the third step
 pub third_step : (content : List ℕ) → IsPrepared content → (c : List ℕ) → Torn 0 1 content c → HasNoBlock c
@@ -97,7 +96,7 @@ third_step content prepared c torn next =
     let whole = first_torn old c (subst (λ l. Torn 0 1 l c) prepared.is torn) (omega arith) in
     ap (chain_of next) whole ∙ any_head (get_or c 0 0) CLOSED_GATE prepared.rest refl next
 
-pub third_done : (next : NextBlock) (content : List ℕ) → IsPrepared content → standing next (bytes_over 0 (OPEN_GATE ∷ []) content) ≡ Holds [] FIRST_GATE
+pub third_done : (next : NextBlock) (content : List ℕ) → IsPrepared content → standing next (bytes_over 0 (OPEN_GATE ∷ []) content) ≡ Holds [] false FIRST_GATE
 third_done next content prepared = ap (λ (l : List ℕ). standing next (bytes_over 0 (OPEN_GATE ∷ []) l)) prepared.is ∙ opened_stands next CLOSED_GATE prepared.rest refl
 
 pub created_agrees : (log : LogState) → IsKeptLog log → log.is_ready ≡ false → (content : List ℕ) → IsPrepared content → Agrees (log_with_head log) (bytes_over 0 (OPEN_GATE ∷ []) content)

@@ -1,14 +1,13 @@
 -- What reading a log returns, block by block.
-use Rattle.std.specs.Prelude.{◌≡◌, ℕ, ◌+◌, ◌-◌, ◌≤◌, ◌<◌, Bool, true, false, List, [], ◌∷◌, ◌++◌, drop, Option, Some, Result, Ok, Err}
+use Rattle.std.specs.Prelude.{◌≡◌, ℕ, ◌+◌, ◌-◌, ◌*◌, ◌≤◌, ◌<◌, Bool, true, false, List, [], ◌∷◌, ◌++◌, drop, Option, Some, Result, Ok, Err}
 use Rattle.lc_base.specs.declared.digest.Digest.{Digest}
 use Rattle.block_codec.specs.Spelling.{IsBlock}
 use Rattle.block_codec.specs.Reading.{block_in}
-use Rattle.block_codec.specs.Placement.{digest_of, no_parent, new_placement}
+use Rattle.block_codec.specs.Placement.{digest_of, no_parent, new_placement, wanted_version}
 use Rattle.block_codec.specs.declared.block.Block.{Block}
-use Rattle.block_codec.specs.declared.limits.TheConstants.{MAX_BLOCKS}
 use Rattle.block_log.specs.Standing.{NotALog, Damaged, Holds, next_block, records_at, standing}
-use Rattle.block_log.specs.Log.{LogState, AreStored, HoldsBlocks, IsStarted, next_in_log}
-use Rattle.block_log.specs.declared.layout.TheConstants.{FIRST_GATE, MAX_RECORD_BYTES}
+use Rattle.block_log.specs.Log.{LogState, AreStored, HoldsBlocks, IsSmall, IsStarted, next_in_log, records_of}
+use Rattle.block_log.specs.declared.layout.TheConstants.{FIRST_GATE, MAX_RECORD_BYTES, MAX_MARKED_BLOCKS, MAX_RECORDS}
 use Rattle.block_log.specs.declared.layout.Stored.{Stored}
 use Rattle.block_log.specs.declared.error.LogError.{LogError}
 use Rattle.block_log.specs.declared.error.LogError.TheVariants as errors
@@ -24,13 +23,13 @@ use Rattle.block_log.specs.declared.start.Opened.TheVariants as openeds
 -- ---- logs
 
 -- A log of `count` blocks, the last of which has the digest `last`, with its next gate at the
--- offset `gate`.
-abbrev pub log_at : ℕ → ℕ → Digest → LogState
-log_at gate count last = record { gate = gate; count = count; last = last; is_ready = true; is_begun = false }
+-- offset `gate`, which is marked or isn't.
+abbrev pub log_at : ℕ → ℕ → Digest → Bool → LogState
+log_at gate count last marked = record { gate = gate; count = count; last = last; is_ready = true; is_begun = false; is_marked = marked }
 
 -- A log without a head.
 abbrev pub blank_log : Bool → LogState
-blank_log is_begun = record { gate = FIRST_GATE; count = 0; last = no_parent; is_ready = false; is_begun = is_begun }
+blank_log is_begun = record { gate = FIRST_GATE; count = 0; last = no_parent; is_ready = false; is_begun = is_begun; is_marked = false }
 
 -- ---- blocks that are read one after another
 
@@ -40,7 +39,7 @@ blank_log is_begun = record { gate = FIRST_GATE; count = 0; last = no_parent; is
 pub record AreRead (log : LogState) (content : Option (List ℕ)) (stored : List Stored) : Type 0 where
   pub are_stored : AreStored stored
   pub held : HoldsBlocks log stored
-  pub stands : (image : List ℕ) → content ≡ Some image → standing next_in_log image ≡ records_at next_in_log (MAX_BLOCKS + 1 - log.count) log.gate stored (drop log.gate image)
+  pub stands : (image : List ℕ) → content ≡ Some image → standing next_in_log image ≡ records_at next_in_log (MAX_RECORDS + 1 - records_of log) log.is_marked log.gate stored (drop log.gate image)
 
 -- These blocks were read, and they are all. Also if the content is not known, they are a chain; if
 -- it is known, the log agrees with it.
@@ -59,26 +58,38 @@ IsOpened content (Err (errors.Damaged at)) = ⊥
 IsOpened content (Err errors.DiskFault) = Unit {0}
 IsOpened content (Err errors.Memory) = Unit {0}
 
--- What comes after these blocks: one more block, the end, or damage.
+-- What comes after these blocks: one more block, the mark, the end, or damage.
 abbrev pub IsTurn : Option (List ℕ) → List Stored → Result Turn LogError → Type 0
 IsTurn content stored (Ok (turns.Block next reader)) = AreRead reader content (stored ++ next ∷ [])
+IsTurn content stored (Ok (turns.Mark reader)) = AreRead reader content stored
 IsTurn content stored (Ok (turns.End log)) = AreAll log content stored
 IsTurn content stored (Err errors.NotALog) = ⊥
 IsTurn content stored (Err (errors.Damaged at)) = (image : List ℕ) → content ≡ Some image → standing next_in_log image ≡ Damaged stored at
 IsTurn content stored (Err errors.DiskFault) = Unit {0}
 IsTurn content stored (Err errors.Memory) = Unit {0}
 
--- A block is returned with its own digest, and is one more block of the log.
+-- A block is returned with its own digest, is one more block of the log, and has the version that
+-- the log wants.
 pub record IsOneMore (old new : LogState) (next : Stored) : Type 0 where
   pub lawful : IsBlock next.block
   pub digest_is : next.digest ≡ digest_of next.block
   pub place_is : next.place ≡ old.gate
   pub count_is : new.count ≡ old.count + 1
-  pub few : new.count ≤ MAX_BLOCKS
+  pub few : new.count ≤ MAX_MARKED_BLOCKS
+  pub marked_is : new.is_marked ≡ old.is_marked
+  pub version_is : next.block.version ≡ wanted_version old.is_marked
 
--- If a block was returned, the reader after it has read one block more.
+-- A mark was read, and none before it. It adds no block.
+pub record IsMarkRead (old new : LogState) : Type 0 where
+  pub unmarked : old.is_marked ≡ false
+  pub marked_is : new.is_marked ≡ true
+  pub count_is : new.count ≡ old.count
+  pub last_is : new.last ≡ old.last
+
+-- If a block was returned, the reader after it has read one block more; if the mark was, one mark.
 abbrev pub IfBlock : LogState → Turn → Type 0
 IfBlock old (turns.Block next reader) = IsOneMore old reader next
+IfBlock old (turns.Mark reader) = IsMarkRead old reader
 IfBlock old (turns.End log) = Unit {0}
 
 -- ---- one record
@@ -93,27 +104,41 @@ abbrev pub stored_at : ℕ → Block → Stored
 stored_at gate block = record { place = gate; digest = digest_of block; block = block }
 
 -- The block that bytes spell, if it is the next one after `count` blocks, the last of which has the
--- digest `last`.
-abbrev pub next_of : ℕ → Digest → List ℕ → Option Block
-next_of count last bytes = next_block block_in (λ blocks block. new_placement false count 0 last block) [] bytes
+-- digest `last`, in a log that is marked or isn't.
+abbrev pub next_of : ℕ → Digest → Bool → List ℕ → Option Block
+next_of count last marked bytes = next_block block_in (λ marked blocks block. new_placement marked count 0 last block) marked [] bytes
 
--- What is found at the gate at this offset, after these `count` blocks.
-abbrev pub IsFound : Option (List ℕ) → ℕ → ℕ → List Stored → Found → Type 0
-IsFound content gate count stored founds.Closed = (image : List ℕ) → content ≡ Some image → standing next_in_log image ≡ Holds stored gate
-IsFound content gate count stored founds.Broken = (image : List ℕ) → content ≡ Some image → standing next_in_log image ≡ Damaged stored gate
-IsFound content gate count stored (founds.Next next after) = AreRead (log_at after (count + 1) next.digest) content (stored ++ next ∷ [])
+-- What a record of length 0 at the gate at this offset is: the mark, if none stands before it.
+abbrev pub found_mark : ℕ → Bool → Found
+found_mark gate true = founds.Broken
+found_mark gate false = founds.Mark (gate + 5)
 
--- A block that is found comes with its own digest, the gate after it is at most a record away, and
--- the log had room for it.
-pub record IsNear (gate count : ℕ) (next : Stored) (after : ℕ) : Type 0 where
+-- What is found at the gate of this log, after these blocks.
+abbrev pub IsFound : Option (List ℕ) → LogState → List Stored → Found → Type 0
+IsFound content log stored founds.Closed = (image : List ℕ) → content ≡ Some image → standing next_in_log image ≡ Holds stored log.is_marked log.gate
+IsFound content log stored founds.Broken = (image : List ℕ) → content ≡ Some image → standing next_in_log image ≡ Damaged stored log.gate
+IsFound content log stored (founds.Mark after) = AreRead (log_at after log.count log.last true) content stored
+IsFound content log stored (founds.Next next after) = AreRead (log_at after (log.count + 1) next.digest log.is_marked) content (stored ++ next ∷ [])
+
+-- A block that is found comes with its own digest, the gate after it is at most a record away, the
+-- log had room for it, and it has the version that the log wants.
+pub record IsNear (gate count : ℕ) (marked : Bool) (next : Stored) (after : ℕ) : Type 0 where
   pub lawful : IsBlock next.block
   pub digest_is : next.digest ≡ digest_of next.block
   pub place_is : next.place ≡ gate
   pub near : after ≤ gate + MAX_RECORD_BYTES
-  pub few : count < MAX_BLOCKS
+  pub few : count < MAX_MARKED_BLOCKS
+  pub unmarked : marked ≡ false → IsSmall after (count + 1)
+  pub version_is : next.block.version ≡ wanted_version marked
+
+-- A mark is found where none stands before it, and the gate after it is within the log's bounds.
+pub record IsMarkNear (gate count : ℕ) (marked : Bool) (after : ℕ) : Type 0 where
+  pub unmarked : marked ≡ false
+  pub near : after ≤ FIRST_GATE + 5 + count * MAX_RECORD_BYTES
 
 -- If a record was found, it is near.
-abbrev pub IfNear : ℕ → ℕ → Found → Type 0
-IfNear gate count founds.Closed = Unit {0}
-IfNear gate count founds.Broken = Unit {0}
-IfNear gate count (founds.Next next after) = IsNear gate count next after
+abbrev pub IfNear : ℕ → ℕ → Bool → Found → Type 0
+IfNear gate count marked founds.Closed = Unit {0}
+IfNear gate count marked founds.Broken = Unit {0}
+IfNear gate count marked (founds.Mark after) = IsMarkNear gate count marked after
+IfNear gate count marked (founds.Next next after) = IsNear gate count marked next after

@@ -22,9 +22,9 @@ head_of image = if is_log image then heads.Log else (if is_blank image then head
 
 -- ---- a record
 
--- A record with this length, if a record may have it.
+-- A record with this length, if a record may have it. The one with length 0 is a mark.
 abbrev pub sized_record : ℕ → Record
-sized_record size = if nat_le 1 size && nat_le size MAX_BLOCK_BYTES then records.Open size else records.Broken
+sized_record size = if nat_le size MAX_BLOCK_BYTES then records.Open size else records.Broken
 
 -- What follows an open gate: a record, if its length is there.
 abbrev pub opened_record : List ℕ → Record

@@ -1,7 +1,7 @@
 //! Appending a block: its record is written and synced behind a closed gate, which is then opened.
 
 ghost use Rattle.std.specs.{
-  Prelude.{◌≡◌, ◌≤◌, ◌+◌, true, List, ℕ, [], ◌∷◌, ◌++◌, length, take, Some, IfOk, IsErr},
+  Prelude.{◌≡◌, ◌≤◌, ◌+◌, true, List, ℕ, [], length, take, Some, IfOk, IsErr},
   Option.{is_some},
 };
 ghost use Rattle.lc_base.specs.Faults.{HasCause};
@@ -14,7 +14,7 @@ ghost use Rattle.block_codec.specs.{
 };
 ghost use Rattle.block_log.specs.{
   declared.layout.TheConstants.{MAX_RECORD_BYTES},
-  Standing.{Placer, next_block, chain_of},
+  Standing.{Placer, Logged, with_block, next_block, chain_of},
   Log.{Agrees, IsNextOf, IsNextAfter, IsOldOrNew, log_with_block},
   Steps.{record_bytes},
 };
@@ -68,11 +68,11 @@ impl Log {
         ensures agrees { IfOk result (λ log. Rests (M.disk machine.new (M.now machine.new)) (Agrees log)) }
         // A crash at any moment of the call leaves the chain without the block or the chain with
         // it.
-        ensures images { (place : Placer) (content : List ℕ) (blocks : List Block) (block : Block) → content_of (M.disk machine.old (M.now machine.old)) ≡ Some content
-            → IsNextAfter place content bytes.now blocks block → Keeps M.now M.disk machine.old machine.new (IsOldOrNew (next_block block_in place) blocks block) }
-        ensures added { IfOk result (λ log. (place : Placer) (content : List ℕ) (blocks : List Block) (block : Block) → content_of (M.disk machine.old (M.now machine.old)) ≡ Some content
-            → IsNextAfter place content bytes.now blocks block
-            → Rests (M.disk machine.new (M.now machine.new)) (λ image. chain_of (next_block block_in place) image ≡ Some (blocks ++ block ∷ []))) }
+        ensures images { (place : Placer) (content : List ℕ) (logged : Logged) (block : Block) → content_of (M.disk machine.old (M.now machine.old)) ≡ Some content
+            → IsNextAfter place content bytes.now logged block → Keeps M.now M.disk machine.old machine.new (IsOldOrNew (next_block block_in place) logged block) }
+        ensures added { IfOk result (λ log. (place : Placer) (content : List ℕ) (logged : Logged) (block : Block) → content_of (M.disk machine.old (M.now machine.old)) ≡ Some content
+            → IsNextAfter place content bytes.now logged block
+            → Rests (M.disk machine.new (M.now machine.new)) (λ image. chain_of (next_block block_in place) image ≡ Some (with_block logged block))) }
         ensures still_known { IfOk result (λ log. is_some (M.disk machine.new (M.now machine.new)) ≡ is_some (M.disk machine.old (M.now machine.old))) }
         ensures told { M.told machine.new ≡ M.told machine.old }
         ensures wire_faults { M.wire_faults machine.new ≡ M.wire_faults machine.old }
@@ -83,6 +83,7 @@ impl Log {
             gate,
             count,
             is_begun,
+            is_marked,
             ..
         } = self;
         fill(&mut buffer, bytes);
@@ -95,6 +96,7 @@ impl Log {
             last: digest,
             is_ready: true,
             is_begun,
+            is_marked,
         })
     }
 }

@@ -1,13 +1,13 @@
 //! Making the head of a log, in an order by which a crash leaves no block.
 
 ghost use Rattle.std.specs.{
-  Prelude.{◌≡◌, false, List, ℕ, [], Some, IfOk, IsErr},
+  Prelude.{◌≡◌, false, List, ℕ, Some, IfOk, IsErr},
   Option.{is_some},
 };
 ghost use Rattle.lc_base.specs.Faults.{HasCause};
 ghost use Rattle.disk_model.specs.{Disk.{Keeps, Rests, content_of}, Leaving.{LeavesWire}};
 ghost use Rattle.block_log.specs.{
-  Standing.{NextBlock, chain_of},
+  Standing.{NextBlock, nothing_logged, chain_of},
   Log.{Agrees, IsBlank, log_with_head},
   Steps.{HasClosedHead, IsPrepared, MakesHead},
 };
@@ -56,8 +56,8 @@ impl Log {
         ensures agrees { IfOk result (λ log. Rests (M.disk machine.new (M.now machine.new)) (Agrees log)) }
         // A crash at any moment of the call leaves no block, whichever block comes next.
         ensures images { (next : NextBlock) (content : List ℕ) → content_of (M.disk machine.old (M.now machine.old)) ≡ Some content
-            → Keeps M.now M.disk machine.old machine.new (λ image. chain_of next image ≡ Some []) }
-        ensures empty { IfOk result (λ log. (next : NextBlock) → Rests (M.disk machine.new (M.now machine.new)) (λ image. chain_of next image ≡ Some [])) }
+            → Keeps M.now M.disk machine.old machine.new (λ image. chain_of next image ≡ Some nothing_logged) }
+        ensures empty { IfOk result (λ log. (next : NextBlock) → Rests (M.disk machine.new (M.now machine.new)) (λ image. chain_of next image ≡ Some nothing_logged)) }
         // If it returns `Ok`, the disk is known exactly if it was known at entry.
         ensures still_known { IfOk result (λ log. is_some (M.disk machine.new (M.now machine.new)) ≡ is_some (M.disk machine.old (M.now machine.old))) }
         ensures told { M.told machine.new ≡ M.told machine.old }
@@ -70,6 +70,7 @@ impl Log {
             gate: FIRST_GATE,
             is_ready: true,
             is_begun: false,
+            is_marked: false,
             ..self
         })
     }

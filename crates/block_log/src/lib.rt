@@ -6,13 +6,14 @@ mod creation;
 mod error;
 mod layout;
 mod log;
+mod marking;
 mod reader;
 mod reading;
 mod start;
 mod steps;
 
 pub use error::{DiskFault, LogError};
-pub use layout::{MAX_RECORD_BYTES, Stored};
+pub use layout::{MAX_MARKED_BLOCKS, MAX_RECORD_BYTES, MAX_RECORDS, Stored};
 pub use log::Log;
 pub use reader::{LogReader, Turn};
 pub use start::Opened;

@@ -16,6 +16,7 @@ pub struct Log {
     pub(crate) last: Digest,
     pub(crate) is_ready: bool,
     pub(crate) is_begun: bool,
+    pub(crate) is_marked: bool,
 }
 
 impl Model for Log {
@@ -25,9 +26,9 @@ impl Model for Log {
 
     ghost Value = { LogState };
 
-    ghost view = { λ log. record { gate = log.gate; count = log.count; last = log.last; is_ready = log.is_ready; is_begun = log.is_begun } };
+    ghost view = { λ log. record { gate = log.gate; count = log.count; last = log.last; is_ready = log.is_ready; is_begun = log.is_begun; is_marked = log.is_marked } };
 
-    ghost invariant = { λ log. (length log.buffer.items ≡ MAX_RECORD_BYTES) × IsKeptLog (record { gate = log.gate; count = log.count; last = log.last; is_ready = log.is_ready; is_begun = log.is_begun }) };
+    ghost invariant = { λ log. (length log.buffer.items ≡ MAX_RECORD_BYTES) × IsKeptLog (record { gate = log.gate; count = log.count; last = log.last; is_ready = log.is_ready; is_begun = log.is_begun; is_marked = log.is_marked }) };
 }
 
 impl Log {
@@ -37,5 +38,13 @@ impl Log {
         ensures { result ≡ self.now.is_ready }
     {
         self.is_ready
+    }
+
+    /// Whether the log is marked, so that its next block has the second version. Else it has the
+    /// first.
+    pub fn marked(&self) -> bool
+        ensures { result ≡ self.now.is_marked }
+    {
+        self.is_marked
     }
 }

@@ -1,7 +1,7 @@
 //! Reading the blocks of a log, one after another.
 
 ghost use Rattle.std.specs.{
-  Prelude.{◌≡◌, ℕ, ◌+◌, ◌*◌, ◌≤◌, ◌<◌, false, List, length, Some, IfOk, IfSome, IsErrOf},
+  Prelude.{◌≡◌, ℕ, ◌+◌, ◌*◌, ◌^◌, ◌≤◌, ◌<◌, false, List, length, Some, IfOk, IfSome, IsErrOf},
   Option.{is_some, option_map},
 };
 ghost use Rattle.lc_base.specs.Faults.{HasCause};
@@ -10,13 +10,14 @@ ghost use Rattle.disk_model.specs.Disk.{content_of};
 ghost use Rattle.block_codec.specs.{
   Spelling.{IsBlock},
   Placement.{digest_of, new_placement},
-  declared.limits.TheConstants.{MAX_BLOCKS, MAX_BLOCK_BYTES},
+  declared.limits.TheConstants.{MAX_BLOCK_BYTES},
 };
 ghost use Rattle.block_log.specs.{
   declared.layout.Stored.{Stored as Storeds},
-  declared.layout.TheConstants.{FIRST_GATE, MAX_RECORD_BYTES},
+  declared.layout.TheConstants.{FIRST_GATE, MAX_RECORD_BYTES, MAX_MARKED_BLOCKS},
   Standing.{if_next},
-  Reader.{AreRead, IsTurn, IsFound, IfBlock, IfNear, log_at, next_of, stored_at},
+  Log.{IsSmall},
+  Reader.{AreRead, IsTurn, IsFound, IfBlock, IfNear, found_mark, log_at, next_of, stored_at},
 };
 
 use crate::error::LogError;
@@ -36,34 +37,37 @@ pub(crate) enum Found {
     Closed,
     /// There is no gate, or it is open and no record of the next block follows it.
     Broken,
+    /// The gate is open, and the mark follows, then the gate at the offset `after`.
+    Mark { after: u64 },
     /// The gate is open, and the next block follows, then the gate at the offset `after`.
     Next { next: Stored, after: u64 },
 }
 
 /// Whether a block with this digest is the next one after `count` blocks, the last of which has the
-/// digest `last`. A block with the number of a held one is not, whichever block is held, nor is one
-/// of another version than the first.
-fn is_next(count: u32, last: Digest, block: &Block, digest: Digest) -> bool
+/// digest `last`, in a log that is marked or isn't. A block with the number of a held one is not,
+/// whichever block is held.
+fn is_next(count: u32, last: Digest, block: &Block, digest: Digest, marked: bool) -> bool
     requires lawful { IsBlock block.now }
-    ensures { result ≡ is_some (if_next block.now (new_placement false count 0 last block.now)) }
+    ensures { result ≡ is_some (if_next block.now (new_placement marked count 0 last block.now)) }
 {
     block.number == count
         && matches!(
-            place(count, 0, None, last, block, digest, false),
+            place(count, 0, None, last, block, digest, marked),
             Placement::Next
         )
 }
 
 /// The block that the bytes after the gate at this offset spell, if it is the next one after
-/// `count` blocks, the last of which has the digest `last`.
+/// `count` blocks, the last of which has the digest `last`, in a log that is marked or isn't.
 fn next_stored(
     alloc: Global,
     gate: u64,
     count: u32,
     last: Digest,
+    marked: bool,
     bytes: &[u8],
 ) -> Result<Option<Stored>, Memory>
-    ensures next { IfOk result (λ found. found ≡ option_map (stored_at gate) (next_of count last bytes.now)) }
+    ensures next { IfOk result (λ found. found ≡ option_map (stored_at gate) (next_of count last marked bytes.now)) }
     ensures lawful { IfOk result (λ found. IfSome found (λ next. IsBlock next.block)) }
 {
     let block = match decode(alloc, bytes) {
@@ -72,7 +76,7 @@ fn next_stored(
         Err(DecodeError::Memory) => return Err(Memory),
     };
     let digest = block_digest(bytes);
-    if is_next(count, last, &block, digest) {
+    if is_next(count, last, &block, digest, marked) {
         Ok(Some(Stored {
             place: gate,
             digest,
@@ -83,8 +87,22 @@ fn next_stored(
     }
 }
 
+/// What a record of length 0 at the gate at this offset is: the mark, if none stands before it.
+fn mark_found(gate: u64, marked: bool) -> Found
+    requires { gate + 5 < 2 ^ 64 }
+    ensures { result ≡ found_mark gate marked }
+{
+    if marked {
+        Found::Broken
+    } else {
+        Found::Mark {
+            after: gate + PREFIX_BYTES as u64,
+        }
+    }
+}
+
 /// Reads, through the buffer, what is at the gate at this offset, after `count` blocks, the last of
-/// which has the digest `last`.
+/// which has the digest `last`, in a log that is marked or isn't.
 fn read_next<M: Disk>(
     alloc: Global,
     machine: &mut M,
@@ -92,13 +110,15 @@ fn read_next<M: Disk>(
     gate: u64,
     count: u32,
     last: Digest,
+    marked: bool,
 ) -> Result<Found, HostError>
     requires room { length buffer.old ≡ MAX_RECORD_BYTES }
-    requires few { count ≤ MAX_BLOCKS }
-    requires near { gate ≤ FIRST_GATE + count * MAX_RECORD_BYTES }
-    ensures found { IfOk result (λ found. (stored : List Storeds) → AreRead (log_at gate count last) (content_of (M.disk machine.old (M.now machine.old))) stored
-        → IsFound (content_of (M.disk machine.new (M.now machine.new))) gate count stored found) }
-    ensures near { IfOk result (IfNear gate count) }
+    requires few { count ≤ MAX_MARKED_BLOCKS }
+    requires near { gate ≤ FIRST_GATE + 5 + count * MAX_RECORD_BYTES }
+    requires unmarked { marked ≡ false → IsSmall gate count }
+    ensures found { IfOk result (λ found. (stored : List Storeds) → AreRead (log_at gate count last marked) (content_of (M.disk machine.old (M.now machine.old))) stored
+        → IsFound (content_of (M.disk machine.new (M.now machine.new))) (log_at gate count last marked) stored found) }
+    ensures near { IfOk result (IfNear gate count marked) }
     ensures room { length buffer.new ≡ length buffer.old }
     ensures disk { Stays M.now M.disk machine.old machine.new }
     ensures told { M.told machine.new ≡ M.told machine.old }
@@ -110,7 +130,10 @@ fn read_next<M: Disk>(
         Record::Broken => return Ok(Found::Broken),
         Record::Open { size } => size,
     };
-    match next_stored(alloc, gate, count, last, &buffer[..size])? {
+    if size == 0 {
+        return Ok(mark_found(gate, marked));
+    }
+    match next_stored(alloc, gate, count, last, marked, &buffer[..size])? {
         Some(next) => Ok(Found::Next {
             next,
             after: gate + (PREFIX_BYTES + size) as u64,
@@ -142,13 +165,22 @@ impl Model for LogReader {
 pub enum Turn {
     /// The next block, and the reader of those after it.
     Block { next: Stored, reader: LogReader },
+    /// The mark, and the reader of the blocks after it, which have the second version.
+    Mark { reader: LogReader },
     /// All blocks have been read, and this is the log of them.
     End { log: Log },
 }
 
 impl LogReader {
-    /// Reads the next block of the log, or finds its end. It writes nothing, and takes memory for
-    /// the block only.
+    /// Whether the mark has been read, so that the next block has the second version.
+    pub fn marked(&self) -> bool
+        ensures { result ≡ self.now.is_marked }
+    {
+        self.log.is_marked
+    }
+
+    /// Reads the next block of the log, or the mark, or finds its end. It writes nothing, and takes
+    /// memory for the block only.
     pub fn next<M: Disk>(self, alloc: Global, machine: &mut M) -> Result<Turn, LogError>
         // Also if the content is not known, the blocks returned so far are a chain, each with its
         // digest, and the log holds their number and the last digest.
@@ -168,9 +200,20 @@ impl LogReader {
             log.gate,
             log.count,
             log.last,
+            log.is_marked,
         )? {
             Found::Closed => Ok(Turn::End { log }),
             Found::Broken => Err(LogError::Damaged { at: log.gate }),
+            Found::Mark { after: gate } => {
+                let reader = LogReader {
+                    log: Log {
+                        gate,
+                        is_marked: true,
+                        ..log
+                    },
+                };
+                Ok(Turn::Mark { reader })
+            }
             Found::Next { next, after } => {
                 let reader = LogReader {
                     log: Log {

@@ -39,7 +39,7 @@ pub(crate) enum Record {
     Closed,
     /// There is no gate, or it is open and no whole record follows it.
     Broken,
-    /// The gate is open, and a record follows whose block has `size` bytes.
+    /// The gate is open, and a record follows whose block has `size` bytes. A mark has none.
     Open { size: usize },
 }
 
@@ -102,12 +102,12 @@ pub(crate) fn read_head<M: Disk>(machine: &mut M) -> Result<Head, Failed>
     Ok(head_in(&image[..count]))
 }
 
-/// A record whose block has `size` bytes, if a block may have that many.
+/// A record whose block has `size` bytes, if a block may have that many. A mark has none.
 fn record_of_size(size: u32) -> Record
     ensures { result ≡ sized_record size }
 {
     let size = size as usize;
-    if size >= 1 && size <= MAX_BLOCK_BYTES {
+    if size <= MAX_BLOCK_BYTES {
         Record::Open { size }
     } else {
         Record::Broken

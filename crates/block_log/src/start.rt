@@ -1,6 +1,6 @@
 //! Opening a disk as a log. Nothing is written.
 
-ghost use Rattle.std.specs.Prelude.{◌≡◌, length, IfOk, IsErrOf};
+ghost use Rattle.std.specs.Prelude.{◌≡◌, false, length, IfOk, IsErrOf};
 ghost use Rattle.lc_base.specs.Faults.{HasCause};
 ghost use Rattle.lc_io.specs.Disk.{Stays};
 ghost use Rattle.disk_model.specs.Disk.{content_of};
@@ -40,7 +40,7 @@ fn buffer_of(alloc: Global, count: usize) -> Result<Vec<u8>, Memory>
 /// A reader of a log of which no block has been read.
 fn first_reader(buffer: Vec<u8>) -> LogReader
     requires room { length buffer.items ≡ MAX_RECORD_BYTES }
-    ensures { result ≡ log_at FIRST_GATE 0 no_parent }
+    ensures { result ≡ log_at FIRST_GATE 0 no_parent false }
 {
     let log = blank_log(buffer, false);
     LogReader {
@@ -63,6 +63,7 @@ fn blank_log(buffer: Vec<u8>, is_begun: bool) -> Log
         last: NO_PARENT,
         is_ready: false,
         is_begun,
+        is_marked: false,
     }
 }
 

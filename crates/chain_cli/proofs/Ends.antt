@@ -1,7 +1,7 @@
 -- Each command ends only with statuses that it may end with.
-use Rattle.std.proofs.Common.{◌≡◌, true, false, List, ℕ, [], Option, Some, None, Result, Ok, Err}
-use Rattle.std.proofs.Common.{refl, sym, subst}
-use Rattle.std.specs.Prelude.{IfOk}
+use Rattle.std.proofs.Common.{◌≡◌, inl, inr, true, false, List, ℕ, [], Option, Some, None}
+use Rattle.std.proofs.Common.{Result, Ok, Err, refl, sym, ◌∙◌, subst}
+use Rattle.std.specs.Prelude.{◌⊎◌, IfOk}
 use Rattle.lc_io.specs.Disk.{DiskState}
 use Rattle.lc_io.specs.Outside.{Tell}
 use Rattle.contract_tree.specs.Tree.{FunctionTree}
@@ -17,6 +17,7 @@ use Rattle.cli_words.specs.declared.words.Generation.{Generation}
 use Rattle.cli_words.specs.declared.words.Command.{Command}
 use Rattle.cli_words.specs.declared.words.Edition.{Edition}
 use Rattle.cli_words.specs.declared.words.Command.TheVariants.{Scan, Fmt, Pack, Gen, Load, Append}
+use Rattle.cli_words.specs.declared.words.Command.TheVariants.{Upgrade}
 use Rattle.cli_words.specs.declared.words.Command.TheVariants.{Root, Ask, Prove, Verify, Expose}
 use Rattle.cli_append.specs.cli_lines.Outcome.{status_of}
 use Rattle.cli_append.specs.cli_lines.declared.outcome.Outcome.{Outcome}
@@ -27,10 +28,10 @@ use Rattle.cli_append.specs.cli_lines.declared.status.Status.TheVariants as stat
 use Rattle.cli_output.specs.Blocks.{draft_outcome}
 use Rattle.cli_output.specs.Output.{Output, output_of, edition_number, fmt_outcome}
 use Rattle.cli_output.specs.Output.{source_outcome, IsFmtOutput, Long, Source}
-use Rattle.cli_output.specs.Uses.{reads_input, uses_disk, changes_log}
-use Rattle.cli_output.specs.Running.{MayEnd, found_no_log}
+use Rattle.cli_output.specs.Uses.{reads_input, uses_disk, uses_scratch, changes_log}
+use Rattle.cli_output.specs.Running.{MayEnd, IsSilent, found_no_log}
 use Rattle.cli_output.specs.Telling.{status_of_result, status_of_stop, status_of_found}
-use Rattle.cli_output.specs.Telling.{OnlyReads, OnlyTells, append_answer, Tells}
+use Rattle.cli_output.specs.Telling.{OnlyReads, OnlyTells, append_answer, upgrade_answer, Tells}
 use Rattle.cli_output.specs.declared.stop.OutcomeStop.{OutcomeStop}
 use Rattle.cli_output.specs.declared.stop.OutcomeStop.TheVariants as outcomes
 use Rattle.cli_output.proofs.Ends.{may_end}
@@ -92,6 +93,30 @@ answer_has_log (Err stops.DiskFault) = refl
 answer_has_log (Err stops.ScratchFault) = refl
 answer_has_log (Err stops.Memory) = refl
 
+-- ---- `upgrade`
+
+pub upgrade_ends : {T : Type 0} (answer : Result T RunStop) → (answer ≡ Err stops.Unreadable → ⊥)
+    → MayEnd (status_of_result (upgrade_answer answer)) (Some Upgrade)
+upgrade_ends (Ok done) reads = refl
+upgrade_ends (Err stops.Unreadable) reads = absurd (reads refl)
+upgrade_ends (Err stops.Untold) reads = tt
+upgrade_ends (Err stops.DiskFault) reads = refl
+upgrade_ends (Err stops.ScratchFault) reads = refl
+upgrade_ends (Err stops.Memory) reads = tt
+
+pub upgrade_silent : {T : Type 0} (answer : Result T RunStop) (old mid new : Option (List Tell))
+    → mid ≡ old → (answer ≡ Err stops.Unreadable → ⊥) → (answer ≡ Err stops.ScratchFault → ⊥)
+    → (answer ≡ Err stops.DiskFault → new ≡ mid) → (answer ≡ Err stops.Memory → new ≡ mid)
+    → IsSilent (status_of_result (upgrade_answer answer)) old new
+upgrade_silent (Ok done) old mid new same reads keeps disk memory = tt
+upgrade_silent (Err stops.Unreadable) old mid new same reads keeps disk memory =
+    absurd (reads refl)
+upgrade_silent (Err stops.Untold) old mid new same reads keeps disk memory = tt
+upgrade_silent (Err stops.DiskFault) old mid new same reads keeps disk memory = disk refl ∙ same
+upgrade_silent (Err stops.ScratchFault) old mid new same reads keeps disk memory =
+    absurd (keeps refl)
+upgrade_silent (Err stops.Memory) old mid new same reads keeps disk memory = memory refl ∙ same
+
 stop_has_log : (stop : RunStop) → found_no_log (status_of_stop stop) ≡ false
 stop_has_log stops.Unreadable = refl
 stop_has_log stops.Untold = refl
@@ -146,20 +171,54 @@ no_log_found now disk told old new (Ok outcome) (Err stop) says none =
 no_log_found now disk told old new (Err stop) result says none = subst
     (λ (r : Result Ending RunStop). found_no_log (status_of_result r) ≡ true) says.stop_is none
 
--- a command other than `append` leaves the log as it is
-pub others_keep : (command : Command) → (command ≡ Append → ⊥)
+-- `append` and `upgrade` change the log, and no other command does
+pub changed_by : (command : Command)
+    → (changes_log (Some command) ≡ false) ⊎ ((command ≡ Append) ⊎ (command ≡ Upgrade))
+changed_by (Scan query) = inl refl
+changed_by (Fmt edition) = inl refl
+changed_by Pack = inl refl
+changed_by (Gen generation) = inl refl
+changed_by (Load generation) = inl refl
+changed_by Append = inr (inl refl)
+changed_by Upgrade = inr (inr refl)
+changed_by (Root at) = inl refl
+changed_by (Ask kind key at) = inl refl
+changed_by (Prove query root_at) = inl refl
+changed_by (Verify root query) = inl refl
+changed_by (Expose root query root_at) = inl refl
+
+pub others_keep : (command : Command) → (command ≡ Append → ⊥) → (command ≡ Upgrade → ⊥)
     → changes_log (Some command) ≡ false
-others_keep (Scan query) other = refl
-others_keep (Fmt edition) other = refl
-others_keep Pack other = refl
-others_keep (Gen generation) other = refl
-others_keep (Load generation) other = refl
-others_keep Append other = absurd (other refl)
-others_keep (Root at) other = refl
-others_keep (Ask kind key at) other = refl
-others_keep (Prove query root_at) other = refl
-others_keep (Verify root query) other = refl
-others_keep (Expose root query root_at) other = refl
+others_keep command appends marks = elim (changed_by command) [
+  | inl keeps ↦ keeps
+  | inr other ↦ elim other [
+    | inl is ↦ absurd (appends is)
+    | inr is ↦ absurd (marks is)
+  ]
+]
+
+pub marks_log : (command : Command) → changes_log (Some command) ≡ true → (command ≡ Append → ⊥)
+    → command ≡ Upgrade
+marks_log command changes appends = elim (changed_by command) [
+  | inl keeps ↦ absurd (cc (changes, keeps))
+  | inr other ↦ elim other [
+    | inl is ↦ absurd (appends is)
+    | inr is ↦ is
+  ]
+]
+
+-- both use the disk and the scratch device
+abbrev UsesBoth : Command → Type 0
+UsesBoth command = (uses_disk (Some command) ≡ true) × (uses_scratch (Some command) ≡ true)
+
+pub uses_both : (command : Command) → changes_log (Some command) ≡ true → UsesBoth command
+uses_both command changes = elim (changed_by command) [
+  | inl keeps ↦ absurd (cc (changes, keeps))
+  | inr other ↦ elim other [
+    | inl is ↦ subst UsesBoth (sym is) (refl, refl)
+    | inr is ↦ subst UsesBoth (sym is) (refl, refl)
+  ]
+]
 
 -- a load that words can spell is of a number of blocks that may be made
 pub is_count : (command : Command) (generation : Generation) → command ≡ Load generation

@@ -6,14 +6,15 @@ use Rattle.std.specs.Int.{w32, from_be_bytes}
 use Rattle.std.proofs.lemmas.Bool.{cases_lt}
 use Rattle.byte_fields.specs.Spelling.{IsBytes}
 use Rattle.byte_fields.proofs.Pieces.{IsBytes-drop, IsBytes-take}
-use Rattle.block_codec.specs.declared.limits.TheConstants.{MAX_FRAMES, MAX_BLOCK_BYTES, MAX_BLOCKS}
+use Rattle.block_codec.specs.declared.limits.TheConstants.{MAX_FRAMES, MAX_BLOCK_BYTES}
 use Rattle.block_codec.specs.Placement.{digest_of}
-use Rattle.block_log.specs.declared.layout.TheConstants.{OPEN_GATE, FIRST_GATE}
+use Rattle.block_codec.specs.declared.placement.Placement.{Placement}
+use Rattle.block_log.specs.declared.layout.TheConstants.{OPEN_GATE, FIRST_GATE, MAX_RECORDS}
 use Rattle.block_log.specs.declared.layout.Stored.{Stored}
 use Rattle.block_log.specs.Standing.{Standing, Blank, NotALog, Damaged, Holds, Placer, next_decoded}
-use Rattle.block_log.specs.Standing.{next_block, blocks_in, after_record, record_at, records_at}
+use Rattle.block_log.specs.Standing.{Logged, nothing_logged, next_block, blocks_in, after_record, is_mark, is_sized, record_at, records_at}
 use Rattle.block_log.specs.Standing.{is_log, is_blank, standing}
-use Rattle.chain_replay.specs.Chain.{placement_in}
+use Rattle.chain_replay.specs.Chain.{placement_in, placement_by_mark}
 use Rattle.block_codec.specs.declared.block.Block.{Block}
 use Rattle.block_codec.specs.Frames.{FrameStep, End, Truncated, Length, Many, Frame, frame_step}
 use Rattle.block_codec.specs.Reading.{block_in}
@@ -36,9 +37,8 @@ use Rattle.chain_replay.specs.declared.refusal.Refusal.{Refusal}
 use Rattle.chain_input.specs.Folding.{Fold, taken_before, fold_after_frame, fold_step, fold_from}
 use Rattle.chain_input.specs.Folding.{fold_input}
 use Rattle.cli_output.specs.Output.{Output, output_of, scan_output, usage_output, long_output}
-use Rattle.cli_output.specs.Output.{pack_output, gen_output, load_output, append_output}
+use Rattle.cli_output.specs.Output.{pack_output, gen_output, load_output, append_output, append_to, upgrade_output}
 use Rattle.cli_output.specs.Output.{root_output, ask_output, prove_output, on_log, next_by}
-use Rattle.cli_output.specs.Output.{stored_by}
 use Rattle.cli_output.specs.Output.{edition_number, source_outcome, IsFmtOutput, Long, Source, IsVerifyOutput}
 use Rattle.cli_output.specs.Output.{LongProof, Verified, IsExposeOutput, IsOnLog, Wants, IsWanted}
 use Rattle.cli_output.specs.Output.{IsOneOutput}
@@ -46,7 +46,7 @@ use Rattle.cli_output.specs.Proofs.{verification_outcome}
 use Rattle.cli_output.proofs.Exposed.{some_expose, one_expose}
 use Rattle.cli_output.proofs.Meets.{some_on_log, one_on_log}
 use Rattle.cli_words.specs.declared.words.Command.{Command}
-use Rattle.cli_words.specs.declared.words.Command.TheVariants.{Scan, Fmt, Pack, Gen, Load, Append}
+use Rattle.cli_words.specs.declared.words.Command.TheVariants.{Scan, Fmt, Pack, Gen, Load, Append, Upgrade}
 use Rattle.cli_words.specs.declared.words.Command.TheVariants.{Root, Ask, Prove, Verify, Expose}
 
 -- ---- the fold, by two decoders that are right
@@ -58,7 +58,7 @@ next_same : (f g : List Block → List ℕ → Fold)
 next_same f g same taken blocks rest fits (Ok frame) = ap (taken_before (frame ∷ [])) (same (blocks ++ added_by frame) rest fits)
 next_same f g same taken blocks rest fits (Err refusal) = refl
 
-module _ (place : Placer) (a b : Decoder) (is_a : IsDecoder a) (is_b : IsDecoder b) where
+module _ (place : List Block → Block → Placement) (a b : Decoder) (is_a : IsDecoder a) (is_b : IsDecoder b) where
   step_same : (f g : List Block → List ℕ → Fold) → ((blocks : List Block) (input : List ℕ) → IsBytes input → f blocks input ≡ g blocks input) → (taken : ℕ) (blocks : List Block) (input : List ℕ) → IsBytes input
       → (step : FrameStep) → frame_step taken input ≡ step → fold_step a place f taken blocks input step ≡ fold_step b place g taken blocks input step
   step_same f g same taken blocks input fits End e = refl
@@ -88,29 +88,34 @@ either : {A : Type 0} (b : Bool) (x y z : A) → x ≡ y → cond b x z ≡ cond
 either true x y z same = same
 either false x y z same = refl
 
+both : {A : Type 0} (b : Bool) (x y v w : A) → x ≡ y → v ≡ w → cond b x v ≡ cond b y w
+both true x y v w same other = same
+both false x y v w same other = other
+
 module _ (place : Placer) (a b : Decoder) (is_a : IsDecoder a) (is_b : IsDecoder b) where
-  next_block_same : (blocks : List Block) (bytes : List ℕ) → IsBytes bytes → next_block a place blocks bytes ≡ next_block b place blocks bytes
-  next_block_same blocks bytes fits = ap (next_decoded place blocks) (decoders_agree a b is_a is_b bytes fits)
+  next_block_same : (marked : Bool) (blocks : List Block) (bytes : List ℕ) → IsBytes bytes → next_block a place marked blocks bytes ≡ next_block b place marked blocks bytes
+  next_block_same marked blocks bytes fits = ap (next_decoded place marked blocks) (decoders_agree a b is_a is_b bytes fits)
 
-  record_same : (f g : ℕ → List Stored → List ℕ → Standing) → ((gate : ℕ) (stored : List Stored) (bytes : List ℕ) → IsBytes bytes → f gate stored bytes ≡ g gate stored bytes)
-      → (gate size : ℕ) (stored : List Stored) (bytes : List ℕ) → IsBytes bytes → record_at (next_block a place) f gate size stored bytes ≡ record_at (next_block b place) g gate size stored bytes
-  record_same f g same gate size stored bytes fits =
-      either (leb 1 size && leb size MAX_BLOCK_BYTES && ltb size (length bytes)) _ _ (Damaged stored gate)
-      (ap (after_record f gate size stored (drop size bytes)) (next_block_same (blocks_in stored) (take size bytes) (IsBytes-take size bytes fits))
-      ∙ after_same f g same gate size stored (drop size bytes) (next_block b place (blocks_in stored) (take size bytes)) (IsBytes-drop size bytes fits))
+  record_same : (f g : Bool → ℕ → List Stored → List ℕ → Standing) → ((marked : Bool) (gate : ℕ) (stored : List Stored) (bytes : List ℕ) → IsBytes bytes → f marked gate stored bytes ≡ g marked gate stored bytes)
+      → (marked : Bool) (gate size : ℕ) (stored : List Stored) (bytes : List ℕ) → IsBytes bytes → record_at (next_block a place) f marked gate size stored bytes ≡ record_at (next_block b place) g marked gate size stored bytes
+  record_same f g same marked gate size stored bytes fits =
+      both (is_mark marked size bytes) _ _ _ _ (same true (gate + 5) stored bytes fits)
+      (either (is_sized size bytes) _ _ (Damaged stored gate)
+      (ap (after_record (f marked) gate size stored (drop size bytes)) (next_block_same marked (blocks_in stored) (take size bytes) (IsBytes-take size bytes fits))
+      ∙ after_same (f marked) (g marked) (same marked) gate size stored (drop size bytes) (next_block b place marked (blocks_in stored) (take size bytes)) (IsBytes-drop size bytes fits)))
 
-  records_same : (count gate : ℕ) (stored : List Stored) (bytes : List ℕ) → IsBytes bytes → records_at (next_block a place) count gate stored bytes ≡ records_at (next_block b place) count gate stored bytes
+  records_same : (count : ℕ) (marked : Bool) (gate : ℕ) (stored : List Stored) (bytes : List ℕ) → IsBytes bytes → records_at (next_block a place) count marked gate stored bytes ≡ records_at (next_block b place) count marked gate stored bytes
   unfolding records_at
-  records_same zero gate stored bytes fits = refl
-  records_same (suc count) gate stored [] fits = refl
-  records_same (suc count) gate stored (byte ∷ bytes) fits =
+  records_same zero marked gate stored bytes fits = refl
+  records_same (suc count) marked gate stored [] fits = refl
+  records_same (suc count) marked gate stored (byte ∷ bytes) fits =
       let rest : IsBytes bytes = IsBytes-drop 1 (byte ∷ bytes) fits in
-      either (eqb byte OPEN_GATE) _ _ (Holds stored gate)
-      (record_same (records_at (next_block a place) count) (records_at (next_block b place) count) (records_same count) gate (from_be_bytes w32 (take 4 bytes)) stored (drop 4 bytes) (IsBytes-drop 4 bytes rest))
+      either (eqb byte OPEN_GATE) _ _ (Holds stored marked gate)
+      (record_same (records_at (next_block a place) count) (records_at (next_block b place) count) (records_same count) marked gate (from_be_bytes w32 (take 4 bytes)) stored (drop 4 bytes) (IsBytes-drop 4 bytes rest))
 
   standing_same : (image : List ℕ) → IsBytes image → standing (next_block a place) image ≡ standing (next_block b place) image
   unfolding standing
-  standing_same image fits = either (is_log image) _ _ (cond (is_blank image) Blank NotALog) (records_same (MAX_BLOCKS + 1) FIRST_GATE [] (drop FIRST_GATE image) (IsBytes-drop FIRST_GATE image fits))
+  standing_same image fits = either (is_log image) _ _ (cond (is_blank image) Blank NotALog) (records_same (MAX_RECORDS + 1) false FIRST_GATE [] (drop FIRST_GATE image) (IsBytes-drop FIRST_GATE image fits))
 
 -- ---- there is an output
 
@@ -138,25 +143,26 @@ some_output (Some (Fmt edition)) input content = some_fmt (edition_number editio
 some_output (Some Pack) input content = (pack_output input, refl)
 some_output (Some (Gen generation)) input content = (gen_output generation input, refl)
 some_output (Some (Load generation)) input content = (load_output compiled_in generation input, refl)
-some_output (Some Append) input content = (on_log (λ blocks. append_output compiled_in blocks (fold_from block_in (stored_by compiled_in) (MAX_FRAMES + 1) blocks input)) input (standing (next_by block_in compiled_in) content), refl)
-some_output (Some (Root at)) input content = (on_log (root_output compiled_in at input) input (standing (next_by block_in compiled_in) content), refl)
-some_output (Some (Ask kind key at)) input content = (on_log (ask_output compiled_in kind key at input) input (standing (next_by block_in compiled_in) content), refl)
-some_output (Some (Prove query root_at)) input content = (on_log (prove_output compiled_in query root_at input) input (standing (next_by block_in compiled_in) content), refl)
+some_output (Some Append) input content = (on_log (append_to block_in compiled_in input) input (standing (next_by block_in compiled_in) content), refl)
+some_output (Some Upgrade) input content = (on_log (upgrade_output input) input (standing (next_by block_in compiled_in) content), refl)
+some_output (Some (Root at)) input content = (on_log (λ logged. root_output compiled_in at input logged.blocks) input (standing (next_by block_in compiled_in) content), refl)
+some_output (Some (Ask kind key at)) input content = (on_log (λ logged. ask_output compiled_in kind key at input logged.blocks) input (standing (next_by block_in compiled_in) content), refl)
+some_output (Some (Prove query root_at)) input content = (on_log (λ logged. prove_output compiled_in query root_at input logged.blocks) input (standing (next_by block_in compiled_in) content), refl)
 some_output (Some (Verify root query)) input content = some_verify root.0 query input
 some_output (Some (Expose root query root_at)) input content =
-    let over : List Block → Output = λ blocks. (some_expose root.0 query input compiled_in root_at blocks).0 in
+    let over : Logged → Output = λ logged. (some_expose root.0 query input compiled_in root_at logged.blocks).0 in
     let stands : Standing = standing (next_by block_in compiled_in) content in
-    (on_log over input stands, some_on_log (IsExposeOutput compiled_in root.0 query root_at input) over (λ blocks. (some_expose root.0 query input compiled_in root_at blocks).1) input stands)
+    (on_log over input stands, some_on_log (λ logged. IsExposeOutput compiled_in root.0 query root_at input logged.blocks) over (λ logged. (some_expose root.0 query input compiled_in root_at logged.blocks).1) input stands)
 
 -- ---- and only one
 
-on_log_same : (over other : List Block → Output) (input : List ℕ)
-    → ((blocks : List Block) → over blocks ≡ other blocks) → (stands : Standing)
+on_log_same : (over other : Logged → Output) (input : List ℕ)
+    → ((logged : Logged) → over logged ≡ other logged) → (stands : Standing)
     → on_log over input stands ≡ on_log other input stands
-on_log_same over other input same Blank = same []
+on_log_same over other input same Blank = same nothing_logged
 on_log_same over other input same NotALog = refl
 on_log_same over other input same (Damaged before at) = refl
-on_log_same over other input same (Holds stored gate) = same (blocks_in stored)
+on_log_same over other input same (Holds stored marked gate) = same (record { blocks = blocks_in stored; marked = marked })
 
 only_long : (edition : ℕ) (input : List ℕ) → MAX_WHOLE_INPUT_BYTES < length input → (other : Output)
     → IsFmtOutput edition input other → other ≡ long_output input
@@ -200,27 +206,30 @@ same_output read compile is_read compile_is (Some Pack) input content fits whole
 same_output read compile is_read compile_is (Some (Gen generation)) input content fits whole other is = is
 same_output read compile is_read compile_is (Some (Load generation)) input content fits whole other is = is ∙ ap (λ (c : Compiler). load_output c generation input) compile_is
 same_output read compile is_read compile_is (Some Append) input content fits whole other is =
-    is ∙ ap (λ (c : Compiler). on_log (λ blocks. append_output c blocks (fold_from read (stored_by c) (MAX_FRAMES + 1) blocks input)) input (standing (next_by read c) content)) compile_is
-    ∙ ap (on_log (λ blocks. append_output compiled_in blocks (fold_from read (stored_by compiled_in) (MAX_FRAMES + 1) blocks input)) input) (standing_same (stored_by compiled_in) read block_in is_read decided content whole)
-    ∙ on_log_same (λ blocks. append_output compiled_in blocks (fold_from read (stored_by compiled_in) (MAX_FRAMES + 1) blocks input)) (λ blocks. append_output compiled_in blocks (fold_from block_in (stored_by compiled_in) (MAX_FRAMES + 1) blocks input)) input
-    (λ blocks. ap (append_output compiled_in blocks) (fold_same (stored_by compiled_in) read block_in is_read decided (MAX_FRAMES + 1) blocks input fits)) (standing (next_by block_in compiled_in) content)
+    is ∙ ap (λ (c : Compiler). on_log (append_to read c input) input (standing (next_by read c) content)) compile_is
+    ∙ ap (on_log (append_to read compiled_in input) input) (standing_same (placement_by_mark compiled_in) read block_in is_read decided content whole)
+    ∙ on_log_same (append_to read compiled_in input) (append_to block_in compiled_in input) input
+    (λ logged. ap (append_output compiled_in logged.blocks) (fold_same (placement_by_mark compiled_in logged.marked) read block_in is_read decided (MAX_FRAMES + 1) logged.blocks input fits)) (standing (next_by block_in compiled_in) content)
+same_output read compile is_read compile_is (Some Upgrade) input content fits whole other is =
+    is ∙ ap (λ (c : Compiler). on_log (upgrade_output input) input (standing (next_by read c) content)) compile_is
+    ∙ ap (on_log (upgrade_output input) input) (standing_same (placement_by_mark compiled_in) read block_in is_read decided content whole)
 same_output read compile is_read compile_is (Some (Root at)) input content fits whole other is =
-    is ∙ ap (λ (c : Compiler). on_log (root_output c at input) input (standing (next_by read c) content)) compile_is
-    ∙ ap (on_log (root_output compiled_in at input) input) (standing_same (stored_by compiled_in) read block_in is_read decided content whole)
+    is ∙ ap (λ (c : Compiler). on_log (λ logged. root_output c at input logged.blocks) input (standing (next_by read c) content)) compile_is
+    ∙ ap (on_log (λ logged. root_output compiled_in at input logged.blocks) input) (standing_same (placement_by_mark compiled_in) read block_in is_read decided content whole)
 same_output read compile is_read compile_is (Some (Ask kind key at)) input content fits whole other is =
-    is ∙ ap (λ (c : Compiler). on_log (ask_output c kind key at input) input (standing (next_by read c) content)) compile_is
-    ∙ ap (on_log (ask_output compiled_in kind key at input) input) (standing_same (stored_by compiled_in) read block_in is_read decided content whole)
+    is ∙ ap (λ (c : Compiler). on_log (λ logged. ask_output c kind key at input logged.blocks) input (standing (next_by read c) content)) compile_is
+    ∙ ap (on_log (λ logged. ask_output compiled_in kind key at input logged.blocks) input) (standing_same (placement_by_mark compiled_in) read block_in is_read decided content whole)
 same_output read compile is_read compile_is (Some (Prove query root_at)) input content fits whole other is =
-    is ∙ ap (λ (c : Compiler). on_log (prove_output c query root_at input) input (standing (next_by read c) content)) compile_is
-    ∙ ap (on_log (prove_output compiled_in query root_at input) input) (standing_same (stored_by compiled_in) read block_in is_read decided content whole)
+    is ∙ ap (λ (c : Compiler). on_log (λ logged. prove_output c query root_at input logged.blocks) input (standing (next_by read c) content)) compile_is
+    ∙ ap (on_log (λ logged. prove_output compiled_in query root_at input logged.blocks) input) (standing_same (placement_by_mark compiled_in) read block_in is_read decided content whole)
 same_output read compile is_read compile_is (Some (Verify root query)) input content fits whole other is = only_verify root.0 query input other (some_verify root.0 query input).0 is (some_verify root.0 query input).1
 same_output read compile is_read compile_is (Some (Expose root query root_at)) input content fits whole other is =
     let some = some_output (Some (Expose root query root_at)) input content in
-    let compiled : IsOnLog (IsExposeOutput compiled_in root.0 query root_at input) input (standing (next_by read compiled_in) content) other =
-    subst (λ (c : Compiler). IsOnLog (IsExposeOutput c root.0 query root_at input) input (standing (next_by read c) content) other) compile_is is in
-    let here : IsOnLog (IsExposeOutput compiled_in root.0 query root_at input) input (standing (next_by block_in compiled_in) content) other =
-    subst (λ (stands : Standing). IsOnLog (IsExposeOutput compiled_in root.0 query root_at input) input stands other) (standing_same (stored_by compiled_in) read block_in is_read decided content whole) compiled in
-    one_on_log (IsExposeOutput compiled_in root.0 query root_at input) (one_expose root.0 query input compiled_in root_at) input (standing (next_by block_in compiled_in) content) other some.0 here some.1
+    let compiled : IsOnLog (λ logged. IsExposeOutput compiled_in root.0 query root_at input logged.blocks) input (standing (next_by read compiled_in) content) other =
+    subst (λ (c : Compiler). IsOnLog (λ logged. IsExposeOutput c root.0 query root_at input logged.blocks) input (standing (next_by read c) content) other) compile_is is in
+    let here : IsOnLog (λ logged. IsExposeOutput compiled_in root.0 query root_at input logged.blocks) input (standing (next_by block_in compiled_in) content) other =
+    subst (λ (stands : Standing). IsOnLog (λ logged. IsExposeOutput compiled_in root.0 query root_at input logged.blocks) input stands other) (standing_same (placement_by_mark compiled_in) read block_in is_read decided content whole) compiled in
+    one_on_log (λ logged. IsExposeOutput compiled_in root.0 query root_at input logged.blocks) (λ logged. one_expose root.0 query input compiled_in root_at logged.blocks) input (standing (next_by block_in compiled_in) content) other some.0 here some.1
 
 -- the program's compiler is the right one, and the only one
 pub compiled_by : OneCompiler

@@ -16,7 +16,7 @@ ghost use Rattle.cli_output.specs.{
   Running.{MayEnd, found_no_log},
   Scanning.{IsFoundFor, IsFoundOver},
   Telling.{status_of_found},
-  Uses.{asks_lineage, reads_input, uses_disk, uses_scratch, tells_as_it_goes},
+  Uses.{asks_lineage, changes_log, reads_input, uses_disk, uses_scratch, tells_as_it_goes},
 };
 
 use crate::fmt::fmt;
@@ -120,7 +120,8 @@ fn ask_lineage<I: Source, M: Disk, S: Scratch>(
     }
 }
 
-/// What is found for a command that prints at its end: its outcome, or why it stops without one.
+/// What is found for a command that prints at its end and leaves the log as it is: its outcome, or
+/// why it stops without one.
 pub fn find<I: Source, M: Disk, S: Scratch>(
     resources: Resources,
     command: &Command,
@@ -131,6 +132,7 @@ pub fn find<I: Source, M: Disk, S: Scratch>(
     requires given { CanBeGiven command.now }
     requires settled { IsSettled (M.disk machine.old (M.now machine.old)) }
     requires at_end { tells_as_it_goes (Some command.now) ≡ false }
+    requires unchanged { changes_log (Some command.now) ≡ false }
     ensures found { IsFoundFor (M.disk machine.old (M.now machine.old)) (I.left source.old) (I.left source.new) (is_known (S.state scratch.old)) (Some command.now) result }
     ensures ends { MayEnd (status_of_found result) (Some command.now) }
     ensures no_log { found_no_log (status_of_found result) ≡ true → source.new ≡ source.old }
@@ -152,6 +154,6 @@ pub fn find<I: Source, M: Disk, S: Scratch>(
         Command::Root(_) | Command::Prove { .. } | Command::Expose { .. } => {
             ask_lineage(resources, command, source, machine, scratch)
         }
-        Command::Gen(_) | Command::Append => unreachable!(),
+        Command::Gen(_) | Command::Append | Command::Upgrade => unreachable!(),
     }
 }

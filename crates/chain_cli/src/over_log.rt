@@ -1,7 +1,7 @@
-//! The commands over the log: `append`, and what is found for `root` and for the questions `hist`,
-//! `back` and `fwd`.
+//! The commands over the log: `append` and `upgrade`, and what is found for `root` and for the
+//! questions `hist`, `back` and `fwd`.
 
-ghost use Rattle.std.specs.Prelude.{◌≡◌, ℕ, true, List, Some, IfOk, IsErrOf};
+ghost use Rattle.std.specs.Prelude.{◌≡◌, ℕ, true, false, List, Option, Some, IfOk, IsErrOf};
 ghost use Rattle.lc_base.specs.Faults.{HasCause};
 ghost use Rattle.disk_model.specs.Disk.{IsSettled, Keeps, content_of};
 ghost use Rattle.block_codec.specs.{Reading.{block_in}, declared.block.Block.{Block as Blocks}};
@@ -12,19 +12,20 @@ ghost use Rattle.scratch_model.specs.Scratch.{is_known};
 ghost use Rattle.cli_append.specs.recovery.Node.{next_in_chain};
 ghost use Rattle.crash_promises.specs.Promises.{MayLeaveAny};
 ghost use Rattle.cli_proofs.specs.{Exposing.{ledger_kept}, merkle_dag.Lineage.{ledger_in}};
-ghost use Rattle.cli_words.specs.declared.words.Command.TheVariants.{Append};
 ghost use Rattle.cli_output.specs.{
   Output.{answer_outcome, root_outcome, at_or_last},
-  Running.{IsRun, MayEnd, found_no_log},
+  Running.{IsRun, IsSilent, MayEnd, found_no_log},
   Scanning.{EndsAsked},
-  Telling.{append_answer, status_of_result},
+  Telling.{append_answer, status_of_result, upgrade_answer},
+  Uses.{changes_log, reads_input, tells_as_it_goes},
 };
 
 use crate::scan::whole_outcome;
 use chain_replay::Chain;
-use cli_append::{AppendEnd, Ending, Outcome, append as append_frames, root_line, start};
+use cli_append::{AppendEnd, Ending, Outcome, append, root_line, start, upgrade};
 use cli_output::{RunStop, beyond, start_outcome, tell};
 use cli_proofs::Lineage;
+use cli_words::Command;
 use disk_model::Disk;
 use lc_base::{Key, Kind, Memory, Query};
 use lc_io::{Source, Wire};
@@ -43,19 +44,36 @@ fn append_answer(answer: Result<AppendEnd, RunStop>) -> Result<Ending, RunStop>
     }
 }
 
-/// Takes the blocks of the input into the chain of the log, and prints a line for each.
-pub fn append<I: Source, M: Disk + Wire, S: Scratch>(
+/// How the command `upgrade` ends, by the result of marking the log.
+fn upgrade_answer(answer: Result<(), RunStop>) -> Result<Ending, RunStop>
+    ensures { result ≡ upgrade_answer answer }
+{
+    match answer {
+        Ok(()) => Ok(Ending::Done),
+        Err(stop) => Err(stop),
+    }
+}
+
+/// Takes the blocks of the input into the chain of the log, and prints a line for each; or marks the
+/// log, and prints the number of its blocks, or that it was marked already. Both begin with a sync:
+/// so that a block or a mark of which is printed that it is there rests on bytes that no crash can
+/// take.
+pub fn change_log<I: Source, M: Disk + Wire, S: Scratch>(
     resources: Resources,
+    command: &Command,
     source: &mut I,
     machine: &mut M,
     scratch: &mut S,
 ) -> Result<Ending, RunStop>
+    requires changes { changes_log (Some command.now) ≡ true }
     requires settled { IsSettled (M.disk machine.old (M.now machine.old)) }
-    ensures run { IsRun M.now M.disk M.told machine.old machine.new (status_of_result result) (I.left source.old) (I.left source.new) (is_known (S.state scratch.old)) block_in compiled_in (Some Append) }
+    ensures run { IsRun M.now M.disk M.told machine.old machine.new (status_of_result result) (I.left source.old) (I.left source.new) (is_known (S.state scratch.old)) block_in compiled_in (Some command.now) }
     ensures goes_on { is_known (S.state scratch.old) ≡ true → (content : List ℕ) → content_of (M.disk machine.old (M.now machine.old)) ≡ Some content → Keeps M.now M.disk machine.old machine.new (MayLeaveAny next_in_chain content) }
     ensures log_goes_on { (content : List ℕ) → content_of (M.disk machine.old (M.now machine.old)) ≡ Some content → Keeps M.now M.disk machine.old machine.new (MayLeaveAny next_in_log content) }
-    ensures ends { MayEnd (status_of_result result) (Some Append) }
+    ensures silent { tells_as_it_goes (Some command.now) ≡ false → IsSilent (status_of_result result) (M.told machine.old) (M.told machine.new) }
+    ensures ends { MayEnd (status_of_result result) (Some command.now) }
     ensures no_log { found_no_log (status_of_result result) ≡ true → source.new ≡ source.old }
+    ensures unread { reads_input (Some command.now) ≡ false → source.new ≡ source.old }
     ensures unreadable { HasCause (I.source_faults source.old) (I.source_faults source.new) (IsErrOf result RunStop.Unreadable) }
     ensures disk_fault { HasCause (M.disk_faults machine.old) (M.disk_faults machine.new) (IsErrOf result RunStop.DiskFault) }
     ensures scratch_fault { HasCause (S.scratch_faults scratch.old) (S.scratch_faults scratch.new) (IsErrOf result RunStop.ScratchFault) }
@@ -63,7 +81,10 @@ pub fn append<I: Source, M: Disk + Wire, S: Scratch>(
 {
     let alloc = resources.alloc;
     match start(resources, machine, scratch) {
-        Ok(node) => append_answer(append_frames(alloc, source, machine, scratch, node)),
+        Ok(node) => match command {
+            Command::Append => append_answer(append(alloc, source, machine, scratch, node)),
+            _ => upgrade_answer(upgrade(alloc, machine, node)),
+        },
         Err(error) => tell(machine, start_outcome(alloc, error)),
     }
 }

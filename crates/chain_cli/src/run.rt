@@ -25,7 +25,7 @@ ghost use Rattle.cli_output.specs.{
 
 use crate::answering::find;
 use crate::generating::generate;
-use crate::over_log::append;
+use crate::over_log::change_log;
 use cli_append::{Ending, Status};
 use cli_output::{RunStop, status_of_stop, tell, tell_usage};
 use cli_words::{Command, command_of};
@@ -63,7 +63,9 @@ fn run_command<I: Source, M: Disk + Wire, S: Scratch>(
 {
     match command {
         Command::Gen(generation) => generate(resources.alloc, machine, generation),
-        Command::Append => append(resources, source, machine, scratch),
+        Command::Append | Command::Upgrade => {
+            change_log(resources, command, source, machine, scratch)
+        }
         _ => {
             let found = find(resources, command, source, machine, scratch);
             tell(machine, found)
@@ -111,7 +113,7 @@ fn run_words<I: Source, M: Disk + Wire, S: Scratch>(
 }
 
 /// Everything that the program does: it reads the words, the input and the disk, keeps bodies of
-/// versions on the scratch device, prints the lines, and appends to the log.
+/// versions on the scratch device, prints the lines, and appends to the log or marks it.
 #[tactic(auto, using(crate::proofs::OneOutput::one_output, crate::proofs::Formatted::formats_again, crate::proofs::Held::verified_holds, cli_output::proofs::WrongTold::wrong_answers_are_told, block_codec::proofs::WholeBlocks::decided, crate::proofs::OneOutput::compiled_by))]
 pub fn run<I: Source, M: Disk + Wire, S: Scratch>(
     resources: Resources,
@@ -143,13 +145,14 @@ pub fn run<I: Source, M: Disk + Wire, S: Scratch>(
     // prints a text of the proof and one of that chain's ledger that differ and have one digest.
     ensures exposed { (root : List ℕ) (query : Query) (root_at : ℕ) (input : List ℕ) → WrongAnswersAreTold root query root_at input }
     // Whatever the source has left, if the disk is known, and which bytes the scratch device holds:
-    // a crash at any moment leaves what the disk held, or the chain of that with further blocks.
+    // a crash at any moment leaves what the disk held, or the chain of that with further blocks, or
+    // marked.
     ensures goes_on { (read : Decoder) × IsDecoder read × ((compile : Compiler) × IsCompiler compile
         × (is_known (S.state scratch.old) ≡ true → (content : List ℕ) → content_of (M.disk machine.old (M.now machine.old)) ≡ Some content
         → Keeps M.now M.disk machine.old machine.new (MayLeaveAny (next_by read compile) content))) }
     // The same whatever the scratch device returns, with rows not counted: the blocks from before
-    // stay, and only blocks follow them, each placed by its digest, its number, its version and its
-    // budget.
+    // stay, and so does a mark, and only blocks follow them, each placed by its digest, its number,
+    // its version and its budget.
     ensures log_goes_on { (read : Decoder) × IsDecoder read
         × ((content : List ℕ) → content_of (M.disk machine.old (M.now machine.old)) ≡ Some content
         → Keeps M.now M.disk machine.old machine.new (MayLeaveAny (log_next_by read) content)) }

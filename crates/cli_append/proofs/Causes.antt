@@ -3,12 +3,26 @@ use Rattle.std.proofs.Common.{◌≡◌, ℕ, sym, subst}
 use Rattle.lc_base.specs.Faults.{HasCause}
 
 -- What the second call blames, both blame, if they blame for the same.
-pub carried : (before mid now : ℕ) (B C : Type 0) → mid ≡ before → HasCause mid now B → (B → C) → (C → B) → HasCause before now C
+pub carried : (before mid now : ℕ) (B C : Type 0) → mid ≡ before → HasCause mid now B → (B → C)
+    → (C → B) → HasCause before now C
 carried before mid now B C same cause there back =
-    subst (λ (n : ℕ). HasCause n now C) same (record { later = cause.later; failed = λ blames. cause.failed (back blames); told = λ differ. there (cause.told differ) })
+    subst (λ (n : ℕ). HasCause n now C) same
+    (record {
+      later = cause.later;
+      failed = λ blames. cause.failed (back blames);
+      told =
+          λ differ. there (cause.told differ);
+    })
 
 -- What the first call blames, both blame, if the second leaves the count as it was and they blame
 -- for the same.
-pub kept : (before mid now : ℕ) (B C : Type 0) → now ≡ mid → HasCause before mid B → (B → C) → (C → B) → HasCause before now C
+pub kept : (before mid now : ℕ) (B C : Type 0) → now ≡ mid → HasCause before mid B → (B → C)
+    → (C → B) → HasCause before now C
 kept before mid now B C same cause there back =
-    subst (λ (n : ℕ). HasCause before n C) (sym same) (record { later = cause.later; failed = λ blames. cause.failed (back blames); told = λ differ. there (cause.told differ) })
+    subst (λ (n : ℕ). HasCause before n C) (sym same)
+    (record {
+      later = cause.later;
+      failed = λ blames. cause.failed (back blames);
+      told =
+          λ differ. there (cause.told differ);
+    })

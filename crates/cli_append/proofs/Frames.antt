@@ -1,6 +1,6 @@
 -- One frame: what was printed for it, and what a crash may leave.
 use Rattle.std.proofs.Common.{◌≡◌, inr, ℕ, Bool, true, false, List, [], ◌∷◌, ◌++◌, refl, sym, ◌∙◌}
-use Rattle.std.proofs.Common.{ap, subst}
+use Rattle.std.proofs.Common.{ap, subst, append-nil}
 use Rattle.std.specs.Prelude.{Option, Some, None, Result, Ok, Err}
 use Rattle.lc_io.specs.Disk.{DiskState, Stays}
 use Rattle.lc_io.specs.Outside.{Tell}
@@ -8,12 +8,14 @@ use Rattle.disk_model.specs.Disk.{IsImage, Keeps, Rests, content_of}
 use Rattle.disk_model.proofs.Images.{settled_image}
 use Rattle.disk_model.proofs.Moments.{then_keeps, weaker, stays_here}
 use Rattle.block_codec.specs.declared.block.Block.{Block}
+use Rattle.block_log.specs.Standing.{Logged, with_blocks}
 use Rattle.block_log.specs.Log.{LogState}
 use Rattle.chain_exec.specs.Compiled.{compiled_in}
 use Rattle.recovery.specs.chain_replay.Judging.{Taken, Known, Added, judgement_of, added_by}
 use Rattle.recovery.specs.chain_replay.declared.refusal.Refusal.{Refusal}
 use Rattle.recovery.specs.Node.{NodeState, HoldsChain, IsNodeOf, IsStepOf, IsAppended, was_added}
 use Rattle.recovery.specs.Node.{blocks_after, next_in_chain, chain_in, stored_placement}
+use Rattle.recovery.specs.Node.{logged_in}
 use Rattle.recovery.specs.declared.node.Appended.{Appended}
 use Rattle.recovery.specs.declared.node.Appended.TheVariants as appendeds
 use Rattle.crash_promises.specs.Promises.{Promise, IsKeptAt, Telling}
@@ -22,6 +24,7 @@ use Rattle.crash_promises.proofs.Sure.{sure_kept}
 use Rattle.cli_append.specs.Appending.{IsKnown, line_of}
 use Rattle.cli_append.specs.Steps.{appended_text, lines_for, added_for, Takes}
 use Rattle.cli_append.specs.declared.ending.RunStop.{RunStop}
+use Rattle.chain_input.specs.declared.taking.Turn.{Turn}
 use Rattle.chain_input.specs.declared.taking.Turn.TheVariants as turns
 use Rattle.cli_append.proofs.Promised.{line_sure}
 
@@ -31,115 +34,227 @@ pub content_known : (state : Option DiskState) → IsKnown state
 content_known None is_told = absurd (cc is_told)
 content_known (Some state) is_told = (state.content, refl)
 
--- the content on the disk of a node stands for its blocks
-pub stands_at : (log : LogState) (blocks : List Block) (state : Option DiskState)
-    → Rests state (HoldsChain log blocks) → Rests state (λ image. chain_in image ≡ Some blocks)
-stands_at log blocks None rests = tt
-stands_at log blocks (Some state) rests = (rests.0, rests.1.stands)
+-- the content on the disk of a node stands for its chain
+pub stands_at : (log : LogState) (logged : Logged) (state : Option DiskState)
+    → log.is_marked ≡ logged.marked → Rests state (HoldsChain log logged.blocks)
+    → Rests state (λ image. chain_in image ≡ Some logged)
+stands_at log logged None same rests = tt
+stands_at log logged (Some state) same rests = (
+  rests.0,
+  rests.1.stands ∙ ap (λ (m : Bool). Some (record {
+    blocks = logged.blocks;
+    marked = m;
+  })) same,
+)
+
+-- a chain with no more blocks is the same
+pub with_none : (logged : Logged) → with_blocks logged [] ≡ logged
+with_none logged =
+    ap (λ (blocks : List Block). record { blocks = blocks; marked = logged.marked })
+    (append-nil logged.blocks)
 
 -- if nothing is pending, each image that a crash may leave is the content
 pub rests_each : (state : Option DiskState) (P : List ℕ → Type 0) → Rests state P
     → (s : DiskState) (image : List ℕ) → state ≡ Some s → IsImage s image → P image
 rests_each state P rests s image is at =
     let r = subst (λ (o : Option DiskState). Rests o P) is rests in
-    subst P (sym (settled_image s.content image (subst (λ (u : DiskState). IsImage u image) r.0 at))) r.1
+    subst P (sym (settled_image s.content image (subst (λ (u : DiskState). IsImage u image) r.0
+    at))) r.1
 
 -- what is printed for a frame that was taken is its line
-pub took : (old node : NodeState) (appended : Appended) (blocks : List Block) (judgement : Result Taken Refusal) → IsAppended old blocks judgement node appended
-    → (frame : Taken) × (judgement ≡ Ok frame) × (appended_text appended ≡ (line_of compiled_in blocks frame).text)
+pub took : (old node : NodeState) (appended : Appended) (blocks : List Block)
+    (judgement : Result Taken Refusal) → IsAppended old blocks judgement node appended
+    → (frame : Taken) × (judgement ≡ Ok frame)
+    × (appended_text appended ≡ (line_of compiled_in blocks frame).text)
 took old node (appendeds.Known number) blocks judgement (block, is, number_is, same) =
     (Known block, is, rw number_is refl)
-took old node (appendeds.Added number rows receipts root) blocks judgement (block, is, number_is, rows_is, receipts_are, root_is) = (Added block, is, rw (number_is, rows_is, receipts_are, root_is) refl)
+took old node (appendeds.Added number rows receipts root) blocks judgement
+    (block, is, number_is, rows_is, receipts_are, root_is) =
+    (Added block, is, rw (number_is, rows_is, receipts_are, root_is) refl)
 
 -- a block that is not added is reported as one that is held
-not_added : (old node : NodeState) (appended : Appended) (blocks : List Block) (judgement : Result Taken Refusal)
+not_added : (old node : NodeState) (appended : Appended) (blocks : List Block)
+    (judgement : Result Taken Refusal)
     → IsAppended old blocks judgement node appended → added_for judgement ≡ []
     → was_added appended ≡ false
 not_added old node (appendeds.Known number) blocks judgement is none = refl
-not_added old node (appendeds.Added number rows receipts root) blocks judgement (block, is, number_is, rows_is, receipts_are, root_is) none = absurd (cc (sym (ap added_for is) ∙ none))
+not_added old node (appendeds.Added number rows receipts root) blocks judgement
+    (block, is, number_is, rows_is, receipts_are, root_is) none = absurd
+    (cc (sym (ap added_for is) ∙ none))
 
-module _ {D : Type 0} (now : D → ℕ) (disk : D → ℕ → Option DiskState) (told : D → Option (List Tell)) where
+module _ {D : Type 0} (now : D → ℕ) (disk : D → ℕ → Option DiskState)
+    (told : D → Option (List Tell)) where
   -- a disk that was known stays known
   pub still_known : (old new : D) (P : List ℕ → Type 0) → Keeps now disk old new P
       → IsKnown (disk old (now old)) → IsKnown (disk new (now new))
   still_known old new P keeps is_told = keeps.told ∙ is_told
 
   -- while the line of a frame is printed, the disk holds its chain
-  after_images : (mid new : D) (blocks : List Block) (frame : Taken)
-      → Rests (disk mid (now mid)) (λ image. chain_in image ≡ Some (blocks ++ added_by frame))
-      → Stays now disk mid new → Keeps now disk mid new (IsStepOf blocks (Ok frame))
-  after_images mid new blocks frame rests stays =
-      let P : List ℕ → Type 0 = λ image. chain_in image ≡ Some (blocks ++ added_by frame) in
-      weaker now disk mid new P (IsStepOf blocks (Ok frame)) (still next_in_chain now disk told mid new P (rests_each (disk mid (now mid)) P rests) stays) (λ image is. inr is)
+  after_images : (mid new : D) (logged : Logged) (frame : Taken)
+      → Rests (disk mid (now mid)) (λ image. chain_in image
+      ≡ Some (with_blocks logged (added_by frame)))
+      → Stays now disk mid new → Keeps now disk mid new (IsStepOf logged (Ok frame))
+  after_images mid new logged frame rests stays =
+      let P : List ℕ → Type 0 = λ image. chain_in image ≡ Some (with_blocks logged (added_by frame))
+      in
+      weaker now disk mid new P (IsStepOf logged (Ok frame)) (still next_in_chain now disk told mid
+      new P (rests_each (disk mid (now mid)) P rests) stays) (λ image is. inr is)
 
   -- a frame was stored, and its line printed, or its first bytes
-  pub stored : (old mid new : D) (blocks : List Block) (spelled : Result Block ℕ) (start node : NodeState) (appended : Appended) (bytes : List ℕ) (all : Bool)
-      → IsAppended start blocks (judgement_of stored_placement blocks spelled) node appended → bytes ≡ appended_text appended
-      → (IsKnown (disk old (now old)) → Keeps now disk old mid (IsStepOf blocks (judgement_of stored_placement blocks spelled))) → told mid ≡ told old
-      → IsNodeOf node (disk mid (now mid)) (blocks_after blocks (judgement_of stored_placement blocks spelled))
-      → ((promise : Promise) → IsKeptAt next_in_chain now disk mid promise → Telling next_in_chain now disk told mid new (record { text = bytes; promise = promise } ∷ []) all) → Stays now disk mid new
-      → (frame : Taken) × (judgement_of stored_placement blocks spelled ≡ Ok frame) × IsNodeOf node (disk new (now new)) (blocks ++ added_by frame)
-      × (IsKnown (disk old (now old)) → Keeps now disk old new (IsStepOf blocks (Ok frame)))
-      × (IsKnown (disk old (now old)) → Telling next_in_chain now disk told old new (line_of compiled_in blocks frame ∷ []) all)
-  stored old mid new blocks spelled start node appended bytes all is text images same is_node tell stays =
-      let t = took start node appended blocks (judgement_of stored_placement blocks spelled) is in
+  pub stored : (old mid new : D) (logged : Logged) (spelled : Result Block ℕ)
+      (start node : NodeState) (appended : Appended) (bytes : List ℕ) (all : Bool)
+      → IsAppended start logged.blocks (judgement_of (stored_placement logged.marked) logged.blocks
+      spelled) node appended → bytes ≡ appended_text appended → node.log.is_marked
+      ≡ logged.marked
+      → (IsKnown (disk old (now old)) → Keeps now disk old mid
+      (IsStepOf logged (judgement_of (stored_placement logged.marked) logged.blocks spelled)))
+      → told mid ≡ told old
+      → IsNodeOf node (disk mid (now mid)) (blocks_after logged.blocks
+      (judgement_of (stored_placement logged.marked) logged.blocks spelled))
+      → ((promise : Promise) → IsKeptAt next_in_chain now disk mid promise → Telling next_in_chain
+      now disk told mid new (record { text = bytes; promise = promise } ∷ []) all)
+      → Stays now disk mid new
+      → (frame : Taken) × (judgement_of (stored_placement logged.marked) logged.blocks spelled
+      ≡ Ok frame) × IsNodeOf node (disk new (now new)) (logged.blocks ++ added_by frame)
+      × (IsKnown (disk old (now old)) → Keeps now disk old new (IsStepOf logged (Ok frame)))
+      × (IsKnown (disk old (now old)) → Telling next_in_chain now disk told old new
+      (line_of compiled_in logged.blocks frame ∷ []) all)
+  stored old mid new logged spelled start node appended bytes all is text mark images same is_node
+      tell stays =
+      let t = took start node appended logged.blocks (judgement_of (stored_placement logged.marked)
+      logged.blocks spelled) is in
       let frame : Taken = t.0 in
-      let e : judgement_of stored_placement blocks spelled ≡ Ok frame = t.1 in
-      let node_is = subst (λ (j : Result Taken Refusal). IsNodeOf node (disk mid (now mid)) (blocks_after blocks j)) e is_node in
-      let step = subst (λ (j : Result Taken Refusal). IsKnown (disk old (now old)) → Keeps now disk old mid (IsStepOf blocks j)) e images in
-      let rests = stands_at node.log (blocks ++ added_by frame) (disk mid (now mid)) node_is.log in
-      let promise : Promise = (line_of compiled_in blocks frame).promise in
+      let e : judgement_of (stored_placement logged.marked) logged.blocks spelled ≡ Ok frame = t.1
+      in
+      let node_is = subst (λ (j : Result Taken Refusal). IsNodeOf node (disk mid (now mid))
+      (blocks_after logged.blocks j)) e is_node in
+      let step = subst (λ (j : Result Taken Refusal). IsKnown (disk old (now old)) → Keeps now disk
+      old mid (IsStepOf logged j)) e images in
+      let rests = stands_at node.log (with_blocks logged (added_by frame)) (disk mid (now mid)) mark
+      node_is.log in
+      let promise : Promise = (line_of compiled_in logged.blocks frame).promise in
       let here : IsKeptAt next_in_chain now disk mid promise = λ s image at shows.
-      sure_kept next_in_chain (blocks ++ added_by frame) promise image (line_sure blocks spelled frame e) (rests_each (disk mid (now mid)) (λ image. chain_in image ≡ Some (blocks ++ added_by frame)) rests s image at shows) in
-      let one = subst (λ (b : List ℕ). Telling next_in_chain now disk told mid new (record { text = b; promise = promise } ∷ []) all) (text ∙ t.2) (tell promise here) in (
+      sure_kept next_in_chain (with_blocks logged (added_by frame)) promise image
+      (line_sure logged spelled frame e) (rests_each (disk mid (now mid))
+      (λ image. chain_in image ≡ Some (with_blocks logged (added_by frame))) rests s image at
+      shows) in
+      let one = subst (λ (b : List ℕ). Telling next_in_chain now disk told mid new
+      (record { text = b; promise = promise } ∷ []) all) (text ∙ t.2) (tell promise here) in (
         frame,
         e,
-        subst (λ (o : Option DiskState). IsNodeOf node o (blocks ++ added_by frame)) (sym stays.last) node_is,
-        λ is_told. then_keeps now disk old mid new (IsStepOf blocks (Ok frame)) (step is_told) (after_images mid new blocks frame rests stays),
-        λ is_told. told_since next_in_chain now disk told old mid new (line_of compiled_in blocks frame ∷ []) all same one,
+        subst (λ (o : Option DiskState). IsNodeOf node o (logged.blocks ++ added_by frame))
+            (sym stays.last) node_is,
+        λ is_told. then_keeps now disk old mid new (IsStepOf logged (Ok frame)) (step is_told)
+            (after_images mid new logged frame rests stays),
+        λ is_told. told_since next_in_chain now disk told old mid new
+            (line_of compiled_in logged.blocks frame ∷ []) all same one,
       )
 
-  pub takes_whole : (old mid new : D) (blocks : List Block) (spelled : Result Block ℕ) (start node : NodeState) (appended : Appended) (bytes : List ℕ)
-      → IsAppended start blocks (judgement_of stored_placement blocks spelled) node appended → bytes ≡ appended_text appended
-      → (IsKnown (disk old (now old)) → Keeps now disk old mid (IsStepOf blocks (judgement_of stored_placement blocks spelled))) → told mid ≡ told old
-      → IsNodeOf node (disk mid (now mid)) (blocks_after blocks (judgement_of stored_placement blocks spelled))
-      → ((promise : Promise) → IsKeptAt next_in_chain now disk mid promise → Telling next_in_chain now disk told mid new (record { text = bytes; promise = promise } ∷ []) true) → Stays now disk mid new → (was_added appended ≡ false → mid ≡ old)
-      → Takes now disk told old new blocks (judgement_of stored_placement blocks spelled) (Ok (turns.Taken node))
-  takes_whole old mid new blocks spelled start node appended bytes is text images same is_node tell stays untouched =
-      let s = stored old mid new blocks spelled start node appended bytes true is text images same is_node tell stays in
-      subst (λ (j : Result Taken Refusal). Takes now disk told old new blocks j (Ok (turns.Taken node))) (sym s.1) (record {
+  pub takes_whole : (old mid new : D) (logged : Logged) (spelled : Result Block ℕ)
+      (start node : NodeState) (appended : Appended) (bytes : List ℕ)
+      → IsAppended start logged.blocks (judgement_of (stored_placement logged.marked) logged.blocks
+      spelled) node appended → bytes ≡ appended_text appended → node.log.is_marked
+      ≡ logged.marked
+      → (IsKnown (disk old (now old)) → Keeps now disk old mid
+      (IsStepOf logged (judgement_of (stored_placement logged.marked) logged.blocks spelled)))
+      → told mid ≡ told old
+      → IsNodeOf node (disk mid (now mid)) (blocks_after logged.blocks
+      (judgement_of (stored_placement logged.marked) logged.blocks spelled))
+      → ((promise : Promise) → IsKeptAt next_in_chain now disk mid promise → Telling next_in_chain
+      now disk told mid new (record { text = bytes; promise = promise } ∷ []) true)
+      → Stays now disk mid new → (was_added appended ≡ false → mid ≡ old)
+      → Takes now disk told old new logged (judgement_of (stored_placement logged.marked)
+      logged.blocks spelled) (Ok (turns.Taken node))
+  takes_whole old mid new logged spelled start node appended bytes is text mark images same is_node
+      tell stays untouched =
+      let s = stored old mid new logged spelled start node appended bytes true is text mark images
+      same is_node tell stays in
+      subst (λ (j : Result Taken Refusal). Takes now disk told old new logged j
+      (Ok (turns.Taken node))) (sym s.1) (record {
         images = s.3;
         lines = s.4;
-        unwritten = λ ok none. subst (λ (m : D). Stays now disk m new) (untouched (not_added start node appended blocks (judgement_of stored_placement blocks spelled) is (ap added_for s.1 ∙ none))) stays;
-        answer = (s.0, refl, s.2);
+        unwritten = λ ok none. subst (λ (m : D). Stays now disk m new)
+            (untouched (not_added start node appended logged.blocks
+            (judgement_of (stored_placement logged.marked) logged.blocks spelled) is
+            (ap added_for s.1 ∙ none))) stays;
+        answer = (s.0, refl, s.2, mark);
       })
 
-  pub takes_part : (old mid new : D) (blocks : List Block) (spelled : Result Block ℕ) (start node : NodeState) (appended : Appended) (bytes : List ℕ) (stop : RunStop)
-      → IsAppended start blocks (judgement_of stored_placement blocks spelled) node appended → bytes ≡ appended_text appended
-      → (IsKnown (disk old (now old)) → Keeps now disk old mid (IsStepOf blocks (judgement_of stored_placement blocks spelled))) → told mid ≡ told old
-      → IsNodeOf node (disk mid (now mid)) (blocks_after blocks (judgement_of stored_placement blocks spelled))
-      → ((promise : Promise) → IsKeptAt next_in_chain now disk mid promise → Telling next_in_chain now disk told mid new (record { text = bytes; promise = promise } ∷ []) false) → Stays now disk mid new
-      → Takes now disk told old new blocks (judgement_of stored_placement blocks spelled) (Err stop)
-  takes_part old mid new blocks spelled start node appended bytes stop is text images same is_node tell stays =
-      let s = stored old mid new blocks spelled start node appended bytes false is text images same is_node tell stays in
-      subst (λ (j : Result Taken Refusal). Takes now disk told old new blocks j (Err stop)) (sym s.1) (record { images = s.3; lines = s.4; unwritten = λ ok none. absurd (cc ok); answer = tt })
+  pub takes_part : (old mid new : D) (logged : Logged) (spelled : Result Block ℕ)
+      (start node : NodeState) (appended : Appended) (bytes : List ℕ) (stop : RunStop)
+      → IsAppended start logged.blocks (judgement_of (stored_placement logged.marked) logged.blocks
+      spelled) node appended → bytes ≡ appended_text appended → node.log.is_marked
+      ≡ logged.marked
+      → (IsKnown (disk old (now old)) → Keeps now disk old mid
+      (IsStepOf logged (judgement_of (stored_placement logged.marked) logged.blocks spelled)))
+      → told mid ≡ told old
+      → IsNodeOf node (disk mid (now mid)) (blocks_after logged.blocks
+      (judgement_of (stored_placement logged.marked) logged.blocks spelled))
+      → ((promise : Promise) → IsKeptAt next_in_chain now disk mid promise → Telling next_in_chain
+      now disk told mid new (record { text = bytes; promise = promise } ∷ []) false)
+      → Stays now disk mid new
+      → Takes now disk told old new logged (judgement_of (stored_placement logged.marked)
+      logged.blocks spelled) (Err stop)
+  takes_part old mid new logged spelled start node appended bytes stop is text mark images same
+      is_node tell stays =
+      let s = stored old mid new logged spelled start node appended bytes false is text mark images
+      same is_node tell stays in
+      subst (λ (j : Result Taken Refusal). Takes now disk told old new logged j (Err stop))
+      (sym s.1) (record {
+        images = s.3;
+        lines = s.4;
+        unwritten = λ ok none. absurd (cc ok);
+        answer = tt;
+      })
 
   -- nothing was printed for a frame
-  pub takes_none : (old new : D) (blocks : List Block) (judgement : Result Taken Refusal) (stop : RunStop) → (IsKnown (disk old (now old)) → Keeps now disk old new (IsStepOf blocks judgement)) → told new ≡ told old
-      → Takes now disk told old new blocks judgement (Err stop)
-  takes_none old new blocks judgement stop images same = record { images = images; lines = λ is_told. none_told next_in_chain now disk told old new (lines_for blocks judgement) same; unwritten = λ ok none. absurd (cc ok); answer = tt }
-
-  -- a frame was refused
-  pub takes_refusal : (old new : D) (blocks : List Block) (judgement : Result Taken Refusal) (node : NodeState) (refusal : Refusal) → (IsKnown (disk old (now old)) → Keeps now disk old new (IsStepOf blocks judgement)) → told new ≡ told old
-      → new ≡ old → judgement ≡ Err refusal → IsNodeOf node (disk new (now new)) blocks → Takes now disk told old new blocks judgement (Ok (turns.Refused refusal))
-  takes_refusal old new blocks judgement node refusal images same untouched is is_node = record {
+  pub takes_none : (old new : D) (logged : Logged) (judgement : Result Taken Refusal)
+      (stop : RunStop) → (IsKnown (disk old (now old)) → Keeps now disk old new
+      (IsStepOf logged judgement)) → told new ≡ told old
+      → Takes now disk told old new logged judgement (Err stop)
+  takes_none old new logged judgement stop images same = record {
     images = images;
-    lines = λ is_told. subst (λ (j : Result Taken Refusal). Telling next_in_chain now disk told old new (lines_for blocks j) true) (sym is) (none_to_tell next_in_chain now disk told old new true same);
-    unwritten = λ ok none. subst (λ (m : D). Stays now disk old m) (sym untouched) (stays_here now disk old);
-    answer = (is, stands_at node.log blocks (disk new (now new)) is_node.log);
+    lines =
+        λ is_told. none_told next_in_chain now disk told old new (lines_for logged.blocks judgement)
+        same;
+    unwritten = λ ok none. absurd (cc ok);
+    answer = tt;
   }
 
+  -- a frame was refused
+  pub takes_refusal : (old new : D) (logged : Logged) (judgement : Result Taken Refusal)
+      (node : NodeState) (refusal : Refusal) → node.log.is_marked ≡ logged.marked
+      → (IsKnown (disk old (now old)) → Keeps now disk old new (IsStepOf logged judgement))
+      → told new ≡ told old
+      → new ≡ old → judgement ≡ Err refusal → IsNodeOf node (disk new (now new)) logged.blocks
+      → Takes now disk told old new logged judgement (Ok (turns.Refused refusal))
+  takes_refusal old new logged judgement node refusal mark images same untouched is is_node =
+      record {
+        images = images;
+        lines = λ is_told. subst (λ (j : Result Taken Refusal). Telling next_in_chain now disk told old
+            new (lines_for logged.blocks j) true) (sym is) (none_to_tell next_in_chain now disk told old
+            new true same);
+        unwritten = λ ok none. subst (λ (m : D). Stays now disk old m) (sym untouched)
+            (stays_here now disk old);
+        answer = (is, stands_at node.log logged (disk new (now new)) mark is_node.log);
+      }
+
   -- what an append of a node says of images, if the disk is known
-  pub images_told : (old new : D) (blocks : List Block) (judgement : Result Taken Refusal) → ((content : List ℕ) → content_of (disk old (now old)) ≡ Some content → Keeps now disk old new (IsStepOf blocks judgement))
-      → IsKnown (disk old (now old)) → Keeps now disk old new (IsStepOf blocks judgement)
-  images_told old new blocks judgement images is_told = let c = content_known (disk old (now old)) is_told in images c.0 c.1
+  pub images_told : (old new : D) (logged : Logged) (judgement : Result Taken Refusal)
+      → ((content : List ℕ) → content_of (disk old (now old)) ≡ Some content → Keeps now disk old
+      new (IsStepOf logged judgement))
+      → IsKnown (disk old (now old)) → Keeps now disk old new (IsStepOf logged judgement)
+  images_told old new logged judgement images is_told = let c = content_known (disk old (now old))
+      is_told in images c.0 c.1
+
+  -- by the mark of the node, a frame is taken as by that of the chain
+  pub takes_by : (old new : D) (node : NodeState) (logged : Logged) (spelled : Result Block ℕ)
+      (result : Result (Turn NodeState) RunStop) → node.log.is_marked ≡ logged.marked
+      → Takes now disk told old new (logged_in node.log logged.blocks)
+      (judgement_of (stored_placement node.log.is_marked) logged.blocks spelled) result
+      → Takes now disk told old new logged (judgement_of (stored_placement logged.marked)
+      logged.blocks spelled) result
+  takes_by old new node logged spelled result mark takes =
+      subst (λ (m : Bool). Takes now disk told old new
+      (record { blocks = logged.blocks; marked = m }) (judgement_of (stored_placement m)
+      logged.blocks spelled) result) mark takes

@@ -25,4 +25,5 @@ statuses_text (receipt ∷ others) = join_with_byte COMMA (map status_text (rece
 -- ended, and the root at it.
 abbrev pub block_line : ℕ → ℕ → List Receipt → List ℕ → List ℕ
 block_line number rows receipts root =
-    line (codes "block " ++ decimal number ++ codes " rows " ++ decimal rows ++ codes " status " ++ statuses_text receipts ++ codes " root " ++ encode_lower root)
+    line (codes "block " ++ decimal number ++ codes " rows " ++ decimal rows ++ codes " status "
+    ++ statuses_text receipts ++ codes " root " ++ encode_lower root)

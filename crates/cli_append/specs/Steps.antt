@@ -1,11 +1,13 @@
 -- What the parts of `append` do, by the definition of what it prints.
-use Rattle.std.specs.Prelude.{◌≡◌, ℕ, true, List, [], ◌∷◌, ◌++◌, Option, Some, Result, Ok, Err, is_ok, IsErrOf}
+use Rattle.std.specs.Prelude.{◌≡◌, ℕ, true, List, [], ◌∷◌, ◌++◌, Option, Some, Result, Ok, Err}
+use Rattle.std.specs.Prelude.{is_ok, IsErrOf}
 use Rattle.lc_base.specs.Faults.{HasCause}
 use Rattle.lc_io.specs.Disk.{DiskState, Stays}
 use Rattle.lc_io.specs.Outside.{Tell}
 use Rattle.disk_model.specs.Disk.{Keeps, Rests, content_of}
 use Rattle.block_codec.specs.Reading.{block_in}
 use Rattle.block_codec.specs.declared.block.Block.{Block}
+use Rattle.block_log.specs.Standing.{Logged}
 use Rattle.block_log.specs.Log.{next_in_log}
 use Rattle.scratch_model.specs.Scratch.{ScratchState, is_known, Retains}
 use Rattle.chain_input.specs.declared.taking.Turn.{Turn}
@@ -14,13 +16,12 @@ use Rattle.chain_exec.specs.Compiled.{compiled_in}
 use Rattle.recovery.specs.chain_replay.Judging.{Taken, judgement_of, added_by}
 use Rattle.recovery.specs.chain_replay.declared.refusal.Refusal.{Refusal}
 use Rattle.recovery.specs.Node.{NodeState, IsNodeOf, IsReady, IsStepOf, next_in_chain, chain_in}
-use Rattle.recovery.specs.Node.{stored_placement}
+use Rattle.recovery.specs.Node.{stored_placement, logged_in}
 use Rattle.recovery.specs.declared.node.Appended.{Appended}
 use Rattle.recovery.specs.declared.node.Appended.TheVariants as appendeds
 use Rattle.crash_promises.specs.Promises.{Line, Telling}
-use Rattle.crash_promises.specs.Laws.{GoesOn}
 use Rattle.cli_append.specs.Lines.{known_line, block_line}
-use Rattle.cli_append.specs.Appending.{IsKnown, line_of}
+use Rattle.cli_append.specs.Appending.{IsKnown, line_of, Grows}
 use Rattle.cli_append.specs.declared.ending.RunStop.{RunStop}
 use Rattle.cli_append.specs.declared.ending.RunStop.TheVariants as stops
 
@@ -41,12 +42,17 @@ abbrev pub added_for : Result Taken Refusal → List Block
 added_for (Ok frame) = added_by frame
 added_for (Err refusal) = []
 
--- What is returned for a frame with this judgement: a node with the block that it adds, or why it
--- is refused; then, if the disk is known, nothing is pending, and it stands for the blocks.
-abbrev pub IsTaken : Option DiskState → List Block → Result Taken Refusal → Result (Turn NodeState) RunStop → Type 0
-IsTaken state blocks judgement (Ok (turns.Taken node)) = (frame : Taken) × (judgement ≡ Ok frame) × IsNodeOf node state (blocks ++ added_by frame)
-IsTaken state blocks judgement (Ok (turns.Refused refusal)) = (judgement ≡ Err refusal) × Rests state (λ image. chain_in image ≡ Some blocks)
-IsTaken state blocks judgement (Err stop) = Unit {0}
+-- What is returned for a frame with this judgement: a node with the block that it adds, marked as
+-- it was, or why it is refused; then, if the disk is known, nothing is pending, and it stands for
+-- the chain.
+abbrev pub IsTaken : Option DiskState → Logged → Result Taken Refusal → Result (Turn NodeState)
+    RunStop → Type 0
+IsTaken state logged judgement (Ok (turns.Taken node)) =
+    (frame : Taken) × (judgement ≡ Ok frame) × IsNodeOf node state (logged.blocks ++ added_by frame)
+    × (node.log.is_marked ≡ logged.marked)
+IsTaken state logged judgement (Ok (turns.Refused refusal)) = (judgement ≡ Err refusal)
+    × Rests state (λ image. chain_in image ≡ Some logged)
+IsTaken state logged judgement (Err stop) = Unit {0}
 
 -- If a node is left after the frame, this holds of it.
 abbrev pub IfLonger : (NodeState → Type 0) → Result (Turn NodeState) RunStop → Type 0
@@ -55,25 +61,30 @@ IfLonger P (Ok (turns.Refused refusal)) = Unit {0}
 IfLonger P (Err stop) = Unit {0}
 
 -- A frame with this judgement was taken or refused, or taking it was stopped.
-pub record Takes {D : Type 0} (now : D → ℕ) (disk : D → ℕ → Option DiskState) (told : D → Option (List Tell)) (old new : D) (blocks : List Block) (judgement : Result Taken Refusal) (result : Result (Turn NodeState) RunStop) : Type 0 where
-  pub images : IsKnown (disk old (now old)) → Keeps now disk old new (IsStepOf blocks judgement)
-  pub lines : IsKnown (disk old (now old)) → Telling next_in_chain now disk told old new (lines_for blocks judgement) (is_ok result)
+pub record Takes {D : Type 0} (now : D → ℕ) (disk : D → ℕ → Option DiskState) (told : D → Option (List Tell)) (old new : D) (logged : Logged) (judgement : Result Taken Refusal) (result : Result (Turn NodeState) RunStop) : Type 0 where
+  pub images : IsKnown (disk old (now old)) → Keeps now disk old new (IsStepOf logged judgement)
+  pub lines : IsKnown (disk old (now old)) → Telling next_in_chain now disk told old new
+      (lines_for logged.blocks judgement) (is_ok result)
   pub unwritten : is_ok result ≡ true → added_for judgement ≡ [] → Stays now disk old new
-  pub answer : IsTaken (disk new (now new)) blocks judgement result
+  pub answer : IsTaken (disk new (now new)) logged judgement result
 
 -- What a frame's turn does, whatever is known, to the machine and the scratch device that are lent
 -- for it: a pair before it, and a pair after it.
 pub record AppendsFrame {D S : Type 0} (now : D → ℕ) (disk : D → ℕ → Option DiskState) (told : D → Option (List Tell)) (disk_faults wire_faults : D → ℕ) (scratch : S → ScratchState) (scratch_faults : S → ℕ) (old : D × S) (node : NodeState) (frame : List ℕ) (new : D × S) (result : Result (Turn NodeState) RunStop) : Type 0 where
   -- If it is known which bytes the scratch device holds, the frame is taken as it is judged.
-  pub takes : is_known (scratch old.1) ≡ true → (blocks : List Block) → IsNodeOf node (disk old.0 (now old.0)) blocks
-      → Takes now disk told old.0 new.0 blocks (judgement_of stored_placement blocks (block_in frame)) result
+  pub takes : is_known (scratch old.1) ≡ true → (blocks : List Block) → IsNodeOf node
+      (disk old.0 (now old.0)) blocks
+      → Takes now disk told old.0 new.0 (logged_in node.log blocks)
+      (judgement_of (stored_placement node.log.is_marked) blocks (block_in frame)) result
   -- Whatever the scratch device returns, a crash leaves the chain from before, and any blocks after
   -- it, with rows not counted.
-  pub log_goes_on : (content : List ℕ) → content_of (disk old.0 (now old.0)) ≡ Some content → Keeps now disk old.0 new.0 (GoesOn next_in_log content)
+  pub log_goes_on : (content : List ℕ) → content_of (disk old.0 (now old.0)) ≡ Some content
+      → Keeps now disk old.0 new.0 (Grows next_in_log content)
   pub ready : IfLonger (λ longer. IsReady longer (disk new.0 (now new.0)) (scratch new.1)) result
   pub retains : Retains (scratch old.1) (scratch new.1)
   -- A disk, a scratch device or a wire is blamed exactly if it failed, and no source is blamed.
   pub disk_fault : HasCause (disk_faults old.0) (disk_faults new.0) (IsErrOf result stops.DiskFault)
-  pub scratch_fault : HasCause (scratch_faults old.1) (scratch_faults new.1) (IsErrOf result stops.ScratchFault)
+  pub scratch_fault : HasCause (scratch_faults old.1) (scratch_faults new.1)
+      (IsErrOf result stops.ScratchFault)
   pub untold : HasCause (wire_faults old.0) (wire_faults new.0) (IsErrOf result stops.Untold)
   pub reads : IsErrOf result stops.Unreadable → ⊥

@@ -1,5 +1,7 @@
-//! The command `append`: the frames of an input are taken into the chain of a log one after
-//! another, and the line of a block is printed after the block is stored.
+//! The commands that change a log. `append` takes the frames of an input into its chain one after
+//! another, and prints the line of a block after the block is stored; `upgrade` marks it, and
+//! prints
+//! its line then.
 #![tactic(auto)]
 
 mod appending;
@@ -8,6 +10,7 @@ mod lines;
 mod starting;
 mod taking;
 mod telling;
+mod upgrading;
 
 pub use appending::append;
 pub use cli_lines::{
@@ -17,3 +20,4 @@ pub use cli_lines::{
 pub use ending::{AppendEnd, RunStop};
 pub use recovery::{Node, StartError, stored_chain};
 pub use starting::start;
+pub use upgrading::upgrade;

@@ -36,7 +36,8 @@ fn status_text(alloc: Global, receipt: &Receipt) -> Result<String, AllocError>
 
 /// The text, and then for each transaction a comma and the number of its status.
 fn with_statuses(alloc: Global, text: Vec<u8>, receipts: &[Receipt]) -> Result<Vec<u8>, AllocError>
-    ensures { IfOk result (λ longer. longer.items ≡ text.items ++ flat_map (λ r. COMMA ∷ status_text r) receipts.now) }
+    ensures { IfOk result (λ longer. longer.items ≡ text.items ++ flat_map
+        (λ r. COMMA ∷ status_text r) receipts.now) }
 {
     let mut longer = text;
     for receipt in receipts {

@@ -24,7 +24,8 @@ fn settle<M: Disk>(machine: &mut M) -> Result<(), Failed>
     ensures disk { Syncs M.now M.disk machine.old machine.new result }
     ensures settled { IfOk result (λ done. IsSettled (M.disk machine.new (M.now machine.new))) }
     // and either way it has the content that it had.
-    ensures content { content_of (M.disk machine.new (M.now machine.new)) ≡ content_of (M.disk machine.old (M.now machine.old)) }
+    ensures content { content_of (M.disk machine.new (M.now machine.new)) ≡ content_of
+        (M.disk machine.old (M.now machine.old)) }
     ensures wire { LeavesWire M.told M.wire_faults machine.old machine.new }
     ensures cause { HasCause (M.disk_faults machine.old) (M.disk_faults machine.new) (IsErr result) }
 {
@@ -43,18 +44,25 @@ pub fn start<M: Disk, S: Scratch>(
     ensures settled { IfOk result (λ node. IsSettled (M.disk machine.new (M.now machine.new))) }
     // If it is known which bytes the scratch device holds, the node is that of the chain that the
     // content at entry stands for, or the content stands for no chain.
-    ensures answer { is_known (S.state scratch.old) ≡ true → (content : List ℕ) → content_of (M.disk machine.old (M.now machine.old)) ≡ Some content
-        → IsNodeStarted (M.disk machine.new (M.now machine.new)) (standing next_in_chain content) result }
+    ensures answer { is_known (S.state scratch.old) ≡ true → (content : List ℕ)
+        → content_of (M.disk machine.old (M.now machine.old)) ≡ Some content
+        → IsNodeStarted (M.disk machine.new (M.now machine.new)) (standing next_in_chain content)
+        result }
     // Whether or not it is known what the disk and the device hold, the node is ready to take
     // blocks.
-    ensures ready { IfOk result (λ node. IsReady node (M.disk machine.new (M.now machine.new)) (S.state scratch.new)) }
+    ensures ready { IfOk result (λ node. IsReady node (M.disk machine.new (M.now machine.new))
+        (S.state scratch.new)) }
     // Whatever is returned: the content is as it was; a crash at any moment leaves what one at
     // entry could have left; and if nothing was pending at entry, the disk stays as it is.
-    ensures content { content_of (M.disk machine.new (M.now machine.new)) ≡ content_of (M.disk machine.old (M.now machine.old)) }
-    ensures images { (state : DiskState) → M.disk machine.old (M.now machine.old) ≡ Some state → Keeps M.now M.disk machine.old machine.new (IsImage state) }
-    ensures stays { IsSettled (M.disk machine.old (M.now machine.old)) → Stays M.now M.disk machine.old machine.new }
+    ensures content { content_of (M.disk machine.new (M.now machine.new)) ≡ content_of
+        (M.disk machine.old (M.now machine.old)) }
+    ensures images { (state : DiskState) → M.disk machine.old (M.now machine.old) ≡ Some state
+        → Keeps M.now M.disk machine.old machine.new (IsImage state) }
+    ensures stays { IsSettled (M.disk machine.old (M.now machine.old)) → Stays M.now M.disk
+        machine.old machine.new }
     ensures wire { LeavesWire M.told M.wire_faults machine.old machine.new }
-    ensures disk_fault { HasCause (M.disk_faults machine.old) (M.disk_faults machine.new) (IsErrOf result StartError.DiskFault) }
+    ensures disk_fault { HasCause (M.disk_faults machine.old) (M.disk_faults machine.new)
+        (IsErrOf result StartError.DiskFault) }
     ensures scratch { Serves S.state S.scratch_faults scratch.old scratch.new
         (IsErrOf result StartError.ScratchFault) }
 {

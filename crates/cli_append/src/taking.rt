@@ -10,9 +10,8 @@ ghost use Rattle.block_codec.specs.{Reading.{block_in}, declared.block.Block.{Bl
 ghost use Rattle.block_log.specs.Log.{next_in_log};
 ghost use Rattle.recovery.specs.chain_replay.Judging.{judgement_of};
 ghost use Rattle.scratch_model.specs.Scratch.{is_known, Retains};
-ghost use Rattle.recovery.specs.Node.{IsNodeOf, IsReady, stored_placement};
-ghost use Rattle.crash_promises.specs.Laws.{GoesOn};
-ghost use Rattle.cli_append.specs.Steps.{AppendsFrame, IfLonger, Takes};
+ghost use Rattle.recovery.specs.Node.{IsNodeOf, IsReady, logged_in, stored_placement};
+ghost use Rattle.cli_append.specs.{Appending.{Grows}, Steps.{AppendsFrame, IfLonger, Takes}};
 
 use crate::ending::RunStop;
 use crate::lines::appended_line;
@@ -41,14 +40,21 @@ pub fn take_frame<M: Disk + Wire, S: Scratch>(
     frame: &[u8],
 ) -> Result<Turn<Node>, RunStop>
     requires ready { IsReady node (M.disk machine.old (M.now machine.old)) (S.state scratch.old) }
-    ensures takes { is_known (S.state scratch.old) ≡ true → (blocks : List Block) → IsNodeOf node (M.disk machine.old (M.now machine.old)) blocks
-        → Takes M.now M.disk M.told machine.old machine.new blocks (judgement_of stored_placement blocks (block_in frame.now)) result }
-    ensures log_goes_on { (content : List ℕ) → content_of (M.disk machine.old (M.now machine.old)) ≡ Some content → Keeps M.now M.disk machine.old machine.new (GoesOn next_in_log content) }
-    ensures ready { IfLonger (λ longer. IsReady longer (M.disk machine.new (M.now machine.new)) (S.state scratch.new)) result }
+    ensures takes { is_known (S.state scratch.old) ≡ true → (blocks : List Block) → IsNodeOf node
+        (M.disk machine.old (M.now machine.old)) blocks
+        → Takes M.now M.disk M.told machine.old machine.new (logged_in node.log blocks)
+        (judgement_of (stored_placement node.log.is_marked) blocks (block_in frame.now)) result }
+    ensures log_goes_on { (content : List ℕ) → content_of (M.disk machine.old (M.now machine.old))
+        ≡ Some content → Keeps M.now M.disk machine.old machine.new (Grows next_in_log content) }
+    ensures ready { IfLonger (λ longer. IsReady longer (M.disk machine.new (M.now machine.new))
+        (S.state scratch.new)) result }
     ensures retains { Retains (S.state scratch.old) (S.state scratch.new) }
-    ensures disk_fault { HasCause (M.disk_faults machine.old) (M.disk_faults machine.new) (IsErrOf result RunStop.DiskFault) }
-    ensures scratch_fault { HasCause (S.scratch_faults scratch.old) (S.scratch_faults scratch.new) (IsErrOf result RunStop.ScratchFault) }
-    ensures untold { HasCause (M.wire_faults machine.old) (M.wire_faults machine.new) (IsErrOf result RunStop.Untold) }
+    ensures disk_fault { HasCause (M.disk_faults machine.old) (M.disk_faults machine.new)
+        (IsErrOf result RunStop.DiskFault) }
+    ensures scratch_fault { HasCause (S.scratch_faults scratch.old) (S.scratch_faults scratch.new)
+        (IsErrOf result RunStop.ScratchFault) }
+    ensures untold { HasCause (M.wire_faults machine.old) (M.wire_faults machine.new)
+        (IsErrOf result RunStop.Untold) }
     ensures reads { IsErrOf result RunStop.Unreadable → ⊥ }
 {
     match node.append(alloc, machine, scratch, frame) {
@@ -89,18 +95,26 @@ impl<'a, M: Disk + Wire, S: Scratch> FrameTaker for Appender<'a, M, S> {
 
     type Stop = RunStop;
 
-    ghost ready = { λ s node. IsReady node (M.disk s.machine.now (M.now s.machine.now)) (S.state s.scratch.now) };
+    ghost ready = { λ s node. IsReady node (M.disk s.machine.now (M.now s.machine.now))
+        (S.state s.scratch.now) };
 
     // Both fields are still the references that it was made with, so whoever lent them has them
     // back.
-    ghost same = { λ s t. (t.machine.ghost_name ≡ s.machine.ghost_name) × (t.scratch.ghost_name ≡ s.scratch.ghost_name) };
+    ghost same = { λ s t. (t.machine.ghost_name ≡ s.machine.ghost_name)
+        × (t.scratch.ghost_name ≡ s.scratch.ghost_name) };
 
-    ghost turn = { λ s node frame t result. AppendsFrame M.now M.disk M.told M.disk_faults M.wire_faults S.state S.scratch_faults (s.machine.now, s.scratch.now) node frame (t.machine.now, t.scratch.now) result };
+    ghost turn = { λ s node frame t result. AppendsFrame M.now M.disk M.told M.disk_faults
+        M.wire_faults S.state S.scratch_faults (s.machine.now, s.scratch.now) node frame
+        (t.machine.now, t.scratch.now) result };
 
     fn take(&mut self, alloc: Global, chain: Node, frame: &[u8]) -> Result<Turn<Node>, RunStop>
-        requires ready { IsReady chain (M.disk self.old.machine.now (M.now self.old.machine.now)) (S.state self.old.scratch.now) }
-        ensures same { (self.new.machine.ghost_name ≡ self.old.machine.ghost_name) × (self.new.scratch.ghost_name ≡ self.old.scratch.ghost_name) }
-        ensures turn { AppendsFrame M.now M.disk M.told M.disk_faults M.wire_faults S.state S.scratch_faults (self.old.machine.now, self.old.scratch.now) chain frame.now (self.new.machine.now, self.new.scratch.now) result }
+        requires ready { IsReady chain (M.disk self.old.machine.now (M.now self.old.machine.now))
+            (S.state self.old.scratch.now) }
+        ensures same { (self.new.machine.ghost_name ≡ self.old.machine.ghost_name)
+            × (self.new.scratch.ghost_name ≡ self.old.scratch.ghost_name) }
+        ensures turn { AppendsFrame M.now M.disk M.told M.disk_faults M.wire_faults S.state
+            S.scratch_faults (self.old.machine.now, self.old.scratch.now) chain frame.now
+            (self.new.machine.now, self.new.scratch.now) result }
     {
         take_frame(alloc, self.machine, self.scratch, chain, frame)
     }

@@ -16,8 +16,10 @@ use std::alloc::Global;
 /// Prints one line.
 pub fn tell_line<M: Wire>(machine: &mut M, line: &[u8]) -> Result<(), Failed>
     // If each image of the disk keeps now what the line promises, each image since then keeps it.
-    ensures lines { (next : NextBlock) (promise : Promise) → IsKeptAt next M.now M.disk machine.old promise
-        → Telling next M.now M.disk M.told machine.old machine.new (record { text = line.now; promise = promise } ∷ []) (is_ok result) }
+    ensures lines { (next : NextBlock) (promise : Promise) → IsKeptAt next M.now M.disk machine.old
+        promise
+        → Telling next M.now M.disk M.told machine.old machine.new
+        (record { text = line.now; promise = promise } ∷ []) (is_ok result) }
     ensures disk { LeavesDisk M.now M.disk M.disk_faults machine.old machine.new }
     ensures cause { HasCause (M.wire_faults machine.old) (M.wire_faults machine.new) (IsErr result) }
 {
@@ -31,10 +33,12 @@ pub fn refuse<M: Wire>(
     frame: u32,
     cause: Cause,
 ) -> Result<AppendEnd, RunStop>
-    ensures lines { (next : NextBlock) → Telling next M.now M.disk M.told machine.old machine.new (plain (refused_text frame cause) ∷ []) (is_ok result) }
+    ensures lines { (next : NextBlock) → Telling next M.now M.disk M.told machine.old machine.new
+        (plain (refused_text frame cause) ∷ []) (is_ok result) }
     ensures end { IfOk result (λ end. end ≡ AppendEnd.Refused frame cause) }
     ensures disk { LeavesDisk M.now M.disk M.disk_faults machine.old machine.new }
-    ensures untold { HasCause (M.wire_faults machine.old) (M.wire_faults machine.new) (IsErrOf result RunStop.Untold) }
+    ensures untold { HasCause (M.wire_faults machine.old) (M.wire_faults machine.new)
+        (IsErrOf result RunStop.Untold) }
     ensures reads { IsErrOf result RunStop.Unreadable → ⊥ }
     ensures writes { IsErrOf result RunStop.DiskFault → ⊥ }
     ensures keeps { IsErrOf result RunStop.ScratchFault → ⊥ }

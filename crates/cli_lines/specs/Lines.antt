@@ -95,6 +95,16 @@ not_a_log_line = line (codes "not a log")
 abbrev pub damaged_line : ℕ → List ℕ
 damaged_line at = line (codes "damaged at " ++ decimal at)
 
+-- ---- logs that are marked
+
+-- The line for a log that was marked: the number of its blocks.
+abbrev pub upgraded_line : ℕ → List ℕ
+upgraded_line count = line (codes "upgraded " ++ decimal count)
+
+-- The line for a log that was marked already.
+abbrev pub already_upgraded_line : List ℕ
+already_upgraded_line = line (codes "already upgraded")
+
 -- ---- faults of contracts
 
 -- The word for a fault of a source's syntax.

@@ -4,7 +4,7 @@ ghost use Rattle.std.specs.{
   Prelude.{◌≡◌, [], ◌∷◌, ◌++◌, codes, decimal, map, string_bytes, IfOk},
   Fmt.{signed_decimal},
 };
-ghost use Rattle.cli_lines.specs.Lines.{usage_line, beyond_line, misplaced_text, refusal_text, cause_text, refused_line, value_text, dep_line, answer_lines, bad_input_line, not_a_log_line, damaged_line, root_line, line};
+ghost use Rattle.cli_lines.specs.Lines.{usage_line, beyond_line, misplaced_text, refusal_text, cause_text, refused_line, value_text, dep_line, answer_lines, bad_input_line, not_a_log_line, damaged_line, upgraded_line, already_upgraded_line, root_line, line};
 ghost use Rattle.hex.specs.Hex.{encode_lower};
 
 use chain_input::{Cause, Misplaced, Refusal};
@@ -132,6 +132,21 @@ pub fn damaged_line(alloc: Global, at: u64) -> Result<Bytes, Memory>
 {
     let text = format!(in alloc; "damaged at {at}")?;
     line(alloc, text.as_str())
+}
+
+/// The line for a log that was marked, with the number of its blocks.
+pub fn upgraded_line(alloc: Global, count: u32) -> Result<Bytes, Memory>
+    ensures { IfOk result (λ bytes. bytes ≡ upgraded_line count) }
+{
+    let text = format!(in alloc; "upgraded {count}")?;
+    line(alloc, text.as_str())
+}
+
+/// The line for a log that was marked already.
+pub fn already_upgraded_line(alloc: Global) -> Result<Bytes, Memory>
+    ensures { IfOk result (λ bytes. bytes ≡ already_upgraded_line) }
+{
+    line(alloc, "already upgraded")
 }
 
 fn int_line(alloc: Global, block: u32, tx: u16, number: i64) -> Result<Bytes, Memory>

@@ -12,13 +12,13 @@ use Rattle.cli_append.specs.recovery.Node.{IsChainStored, IsNoStart, next_in_cha
 use Rattle.cli_append.specs.recovery.declared.errors.StartError.{StartError}
 use Rattle.cli_append.specs.cli_lines.declared.outcome.Outcome.{Outcome}
 use Rattle.cli_words.specs.declared.words.Command.{Command}
-use Rattle.cli_words.specs.declared.words.Command.TheVariants.{Scan, Fmt, Pack, Gen, Load, Append}
+use Rattle.cli_words.specs.declared.words.Command.TheVariants.{Scan, Fmt, Pack, Gen, Load, Append, Upgrade}
 use Rattle.cli_words.specs.declared.words.Command.TheVariants.{Root, Ask, Prove, Verify, Expose}
 use Rattle.cli_output.specs.Output.{Output, output_of, root_output, ask_output, prove_output}
 use Rattle.cli_output.specs.Output.{IsOnLog, Wants}
 use Rattle.cli_output.specs.Uses.{ChainUse, NoChain, InputRows, LogRows, LogLineage, MadeLineage}
-use Rattle.cli_output.specs.Uses.{LogAppended, use_of, is_log_lineage, is_log_asked}
-use Rattle.cli_output.specs.Uses.{is_log_appended, keeps_bodies, reads_input, uses_disk}
+use Rattle.cli_output.specs.Uses.{LogAppended, LogMarked, use_of, is_log_lineage, is_log_asked}
+use Rattle.cli_output.specs.Uses.{is_log_changed, keeps_bodies, reads_input, uses_disk}
 use Rattle.cli_output.specs.Uses.{uses_scratch, asks_log, asks_lineage}
 use Rattle.cli_output.specs.Running.{leaves, HeldIsGiven, IsGiven}
 use Rattle.cli_output.specs.Scanning.{GivesAny, GivesFrom, WantsOver, IsFoundFor, IsFoundOver}
@@ -50,6 +50,7 @@ lineage_asks LogRows is = absurd (cc is)
 lineage_asks LogLineage is = refl
 lineage_asks MadeLineage is = absurd (cc is)
 lineage_asks LogAppended is = absurd (cc is)
+lineage_asks LogMarked is = absurd (cc is)
 
 lineage_keeps : (chain : ChainUse) → is_log_lineage chain ≡ true → keeps_bodies chain ≡ true
 lineage_keeps NoChain is = absurd (cc is)
@@ -58,15 +59,17 @@ lineage_keeps LogRows is = absurd (cc is)
 lineage_keeps LogLineage is = refl
 lineage_keeps MadeLineage is = absurd (cc is)
 lineage_keeps LogAppended is = absurd (cc is)
+lineage_keeps LogMarked is = absurd (cc is)
 
 asked_uses : (chain : ChainUse) → is_log_asked chain ≡ true
-    → (is_log_asked chain || is_log_appended chain) ≡ true
+    → (is_log_asked chain || is_log_changed chain) ≡ true
 asked_uses NoChain is = absurd (cc is)
 asked_uses InputRows is = absurd (cc is)
 asked_uses LogRows is = refl
 asked_uses LogLineage is = refl
 asked_uses MadeLineage is = absurd (cc is)
 asked_uses LogAppended is = absurd (cc is)
+asked_uses LogMarked is = absurd (cc is)
 
 -- a command that asks the lineage of the log asks the log
 pub asks_it : (command : Option Command) → asks_lineage command ≡ true → asks_log command ≡ true
@@ -123,14 +126,14 @@ unread_found wanted (Err stop) uses left input given is = tt
 -- ---- commands that ask the blocks of the log
 
 log_wanted : (command : Command) → asks_log (Some command) ≡ true → (input content : List ℕ)
-    (output : Output) → IsOnLog (WantsOver command input) input (standing next_in_chain content) output
+    (output : Output) → IsOnLog (λ logged. WantsOver command input logged.blocks) input (standing next_in_chain content) output
     → Wants block_in compiled_in (Some command) input content output
-log_wanted (Root at) asks input content output is = on_log_is (root_output compiled_in at input) input
+log_wanted (Root at) asks input content output is = on_log_is (λ logged. root_output compiled_in at input logged.blocks) input
     (standing next_in_chain content) output is
 log_wanted (Ask kind key at) asks input content output is = on_log_is
-    (ask_output compiled_in kind key at input) input (standing next_in_chain content) output is
+    (λ logged. ask_output compiled_in kind key at input logged.blocks) input (standing next_in_chain content) output is
 log_wanted (Prove query root_at) asks input content output is = on_log_is
-    (prove_output compiled_in query root_at input) input (standing next_in_chain content) output is
+    (λ logged. prove_output compiled_in query root_at input logged.blocks) input (standing next_in_chain content) output is
 log_wanted (Expose root query root_at) asks input content output is = is
 log_wanted (Scan query) asks input content output is = absurd (cc asks)
 log_wanted (Fmt edition) asks input content output is = absurd (cc asks)
@@ -138,6 +141,7 @@ log_wanted Pack asks input content output is = absurd (cc asks)
 log_wanted (Gen generation) asks input content output is = absurd (cc asks)
 log_wanted (Load generation) asks input content output is = absurd (cc asks)
 log_wanted Append asks input content output is = absurd (cc asks)
+log_wanted Upgrade asks input content output is = absurd (cc asks)
 log_wanted (Verify root query) asks input content output is = absurd (cc asks)
 
 -- their chain was started
@@ -152,11 +156,11 @@ asked_found state command kept (Ok outcome) left_old left_new held asks started 
     content given_input given =
     let s = started heard content
     (content_given (uses_disk (Some command)) state content (needs_disk (Some command) asks) given) in
-    let from = over heard input given_input s.0 s.2 in (
+    let from = over heard input given_input s.0.blocks s.2 in (
       from.0,
       from.1,
       log_wanted command asks input content (output_of outcome from.0)
-          (is_on_log_blocks (WantsOver command input) input
+          (is_on_log_blocks (λ logged. WantsOver command input logged.blocks) input
           (standing next_in_chain content) s.0 (output_of outcome from.0) s.1 from.2),
     )
 asked_found state command kept (Err stop) left_old left_new held asks started over heard input
@@ -177,7 +181,7 @@ no_start_found state command error (Ok outcome) left held asks started is heard 
       input,
       left_given (reads_input (Some command)) left input given_input,
       log_wanted command asks input content (output_of outcome input)
-          (is_on_no_log (WantsOver command input) input
+          (is_on_no_log (λ logged. WantsOver command input logged.blocks) input
           (standing next_in_chain content) error outcome s is),
     )
 no_start_found state command error (Err stop) left held asks started is heard input content

@@ -8,7 +8,8 @@ use Rattle.lc_io.specs.Outside.{Tell}
 use Rattle.disk_model.specs.Disk.{IsSettled, Keeps, Rests, content_of}
 use Rattle.disk_model.proofs.Moments.{weaker}
 use Rattle.block_codec.specs.declared.block.Block.{Block}
-use Rattle.block_log.specs.Standing.{Standing, Blank, NotALog, Damaged, Holds, blocks_of}
+use Rattle.block_log.specs.Standing.{Standing, Blank, NotALog, Damaged, Holds, Logged}
+use Rattle.block_log.specs.Standing.{nothing_logged, logged_of, blocks_in}
 use Rattle.block_log.specs.Standing.{blocks_in}
 use Rattle.cli_append.specs.recovery.Node.{NodeState, IsNodeStarted, IsChainStored, IsNoStart}
 use Rattle.cli_append.specs.recovery.Node.{next_in_chain}
@@ -77,72 +78,76 @@ same_may_leave content what c is same = subst (λ (x : Change). MayLeave next_in
     (sym is) same
 
 -- the output of a command, by the blocks of the log
-pub on_log_blocks : (over : List Block → Output) (input : List ℕ) (stands : Standing)
-    (blocks : List Block) → blocks_of stands ≡ Some blocks → on_log over input stands ≡ over blocks
-on_log_blocks over input Blank blocks is = let same : [] ≡ blocks = cc is in ap over same
-on_log_blocks over input NotALog blocks is = absurd (cc is)
-on_log_blocks over input (Damaged before at) blocks is = absurd (cc is)
-on_log_blocks over input (Holds stored gate) blocks is = let same : blocks_in stored ≡ blocks = cc
-    is in ap over same
+pub on_log_blocks : (over : Logged → Output) (input : List ℕ) (stands : Standing)
+    (logged : Logged) → logged_of stands ≡ Some logged → on_log over input stands ≡ over logged
+on_log_blocks over input Blank logged is = let same : nothing_logged ≡ logged = cc is in ap over same
+on_log_blocks over input NotALog logged is = absurd (cc is)
+on_log_blocks over input (Damaged before at) logged is = absurd (cc is)
+on_log_blocks over input (Holds stored marked gate) logged is =
+    let held : Logged = record { blocks = blocks_in stored; marked = marked } in
+    let same : held ≡ logged = cc is in
+    ap over same
 
-pub is_on_log_blocks : (Over : List Block → Output → Type 0) (input : List ℕ) (stands : Standing)
-    (blocks : List Block) (output : Output) → blocks_of stands ≡ Some blocks → Over blocks output
+pub is_on_log_blocks : (Over : Logged → Output → Type 0) (input : List ℕ) (stands : Standing)
+    (logged : Logged) (output : Output) → logged_of stands ≡ Some logged → Over logged output
     → IsOnLog Over input stands output
-is_on_log_blocks Over input Blank blocks output is over = let same : [] ≡ blocks = cc is in subst
-    (λ (b : List Block). Over b output) (sym same) over
-is_on_log_blocks Over input NotALog blocks output is over = absurd (cc is)
-is_on_log_blocks Over input (Damaged before at) blocks output is over = absurd (cc is)
-is_on_log_blocks Over input (Holds stored gate) blocks output is over = let same : blocks_in stored
-    ≡ blocks = cc is in subst (λ (b : List Block). Over b output) (sym same) over
+is_on_log_blocks Over input Blank logged output is over = let same : nothing_logged ≡ logged = cc is in subst
+    (λ (l : Logged). Over l output) (sym same) over
+is_on_log_blocks Over input NotALog logged output is over = absurd (cc is)
+is_on_log_blocks Over input (Damaged before at) logged output is over = absurd (cc is)
+is_on_log_blocks Over input (Holds stored marked gate) logged output is over =
+    let held : Logged = record { blocks = blocks_in stored; marked = marked } in
+    let same : held ≡ logged = cc is in
+    subst (λ (l : Logged). Over l output) (sym same) over
 
--- if there is an output over any blocks, there is one over any log
-pub some_on_log : (Over : List Block → Output → Type 0) (over : List Block → Output)
-    → ((blocks : List Block) → Over blocks (over blocks)) → (input : List ℕ) (stands : Standing)
+-- if there is an output over any chain, there is one over any log
+pub some_on_log : (Over : Logged → Output → Type 0) (over : Logged → Output)
+    → ((logged : Logged) → Over logged (over logged)) → (input : List ℕ) (stands : Standing)
     → IsOnLog Over input stands (on_log over input stands)
-some_on_log Over over wanted input Blank = wanted []
+some_on_log Over over wanted input Blank = wanted nothing_logged
 some_on_log Over over wanted input NotALog = refl
 some_on_log Over over wanted input (Damaged before at) = refl
-some_on_log Over over wanted input (Holds stored gate) = wanted (blocks_in stored)
+some_on_log Over over wanted input (Holds stored marked gate) = wanted (record { blocks = blocks_in stored; marked = marked })
 
--- and if it is the only one over any blocks, it is the only one over any log
-pub one_on_log : (Over : List Block → Output → Type 0)
-    → ((blocks : List Block) (a b : Output) → Over blocks a → Over blocks b → a ≡ b)
+-- and if it is the only one over any chain, it is the only one over any log
+pub one_on_log : (Over : Logged → Output → Type 0)
+    → ((logged : Logged) (a b : Output) → Over logged a → Over logged b → a ≡ b)
     → (input : List ℕ) (stands : Standing) (a b : Output) → IsOnLog Over input stands a
     → IsOnLog Over input stands b → a ≡ b
-one_on_log Over one input Blank a b is_a is_b = one [] a b is_a is_b
+one_on_log Over one input Blank a b is_a is_b = one nothing_logged a b is_a is_b
 one_on_log Over one input NotALog a b is_a is_b = is_a ∙ sym is_b
 one_on_log Over one input (Damaged before at) a b is_a is_b = is_a ∙ sym is_b
-one_on_log Over one input (Holds stored gate) a b is_a is_b = one (blocks_in stored) a b is_a is_b
+one_on_log Over one input (Holds stored marked gate) a b is_a is_b = one (record { blocks = blocks_in stored; marked = marked }) a b is_a is_b
 
--- an output over the log changes nothing if none over any blocks does
-pub on_log_no_change : (over : List Block → Output)
-    → ((blocks : List Block) → (over blocks).change ≡ NoChange)
+-- an output over the log changes nothing if none over any chain does
+pub on_log_no_change : (over : Logged → Output)
+    → ((logged : Logged) → (over logged).change ≡ NoChange)
     → (input : List ℕ) (stands : Standing) → (on_log over input stands).change ≡ NoChange
-on_log_no_change over none input Blank = none []
+on_log_no_change over none input Blank = none nothing_logged
 on_log_no_change over none input NotALog = refl
 on_log_no_change over none input (Damaged before at) = refl
-on_log_no_change over none input (Holds stored gate) = none (blocks_in stored)
+on_log_no_change over none input (Holds stored marked gate) = none (record { blocks = blocks_in stored; marked = marked })
 
-pub is_on_log_no_change : (Over : List Block → Output → Type 0)
-    → ((blocks : List Block) (output : Output) → Over blocks output → output.change ≡ NoChange)
+pub is_on_log_no_change : (Over : Logged → Output → Type 0)
+    → ((logged : Logged) (output : Output) → Over logged output → output.change ≡ NoChange)
     → (input : List ℕ) (stands : Standing) (output : Output) → IsOnLog Over input stands output
     → output.change ≡ NoChange
-is_on_log_no_change Over none input Blank output is = none [] output is
+is_on_log_no_change Over none input Blank output is = none nothing_logged output is
 is_on_log_no_change Over none input NotALog output is = ap (λ (o : Output). o.change) is
 is_on_log_no_change Over none input (Damaged before at) output is = ap (λ (o : Output). o.change) is
-is_on_log_no_change Over none input (Holds stored gate) output is = none (blocks_in stored) output
+is_on_log_no_change Over none input (Holds stored marked gate) output is = none (record { blocks = blocks_in stored; marked = marked }) output
     is
 
--- where there is one output over any blocks, it is that over the log
-pub on_log_is : (over : List Block → Output) (input : List ℕ) (stands : Standing) (output : Output)
-    → IsOnLog (λ blocks o. o ≡ over blocks) input stands output → output ≡ on_log over input stands
+-- where there is one output over any chain, it is that over the log
+pub on_log_is : (over : Logged → Output) (input : List ℕ) (stands : Standing) (output : Output)
+    → IsOnLog (λ logged o. o ≡ over logged) input stands output → output ≡ on_log over input stands
 on_log_is over input Blank output is = is
 on_log_is over input NotALog output is = is
 on_log_is over input (Damaged before at) output is = is
-on_log_is over input (Holds stored gate) output is = is
+on_log_is over input (Holds stored marked gate) output is = is
 
 -- where nothing could be started, what is found makes the output over the log
-pub is_on_no_log : (Over : List Block → Output → Type 0) (input : List ℕ) (stands : Standing)
+pub is_on_no_log : (Over : Logged → Output → Type 0) (input : List ℕ) (stands : Standing)
     (error : StartError) (outcome : Outcome) → IsNoStart stands error
     → start_outcome error ≡ Ok outcome → IsOnLog Over input stands (output_of outcome input)
 is_on_no_log Over input stands starts.NotALog outcome is found =
@@ -168,7 +173,7 @@ of_blocks (Err e) P Q is blocks p = tt
 -- the chain of a node
 pub chain_of_node : (state : Option DiskState) (node : NodeState) (stands : Standing)
     → IsNodeStarted state stands (Ok node) → IsChainStored stands (Ok node.chain)
-chain_of_node state node stands started = (started.0, started.1, started.2.kept)
+chain_of_node state node stands started = (started.0, started.1, started.2.0.kept)
 
 module _ {D : Type 0} (now : D → ℕ) (disk : D → ℕ → Option DiskState)
     (told : D → Option (List Tell)) where

@@ -12,7 +12,7 @@ use Rattle.block_codec.specs.Spelling.{Decoder, IsDecoder}
 use Rattle.block_codec.specs.declared.block.Block.{Block}
 use Rattle.block_codec.specs.declared.limits.TheConstants.{MAX_FRAMES}
 use Rattle.block_log.specs.Standing.{Standing, Blank, NotALog, Damaged, Holds, NextBlock}
-use Rattle.block_log.specs.Standing.{next_block, blocks_in, standing}
+use Rattle.block_log.specs.Standing.{Logged, nothing_logged, next_block, blocks_in, standing}
 use Rattle.block_log.specs.Log.{log_placement}
 use Rattle.contract_tree.specs.Tree.{FunctionTree}
 use Rattle.contract_print.specs.contract_parse.Syntax.{Outcome as SourceOutcome, IsOutcome}
@@ -23,12 +23,12 @@ use Rattle.contract_print.specs.Canonical.{contract_text}
 use Rattle.cli_append.specs.chain_exec.Compiled.{Compiler, IsCompiler}
 use Rattle.cli_append.specs.chain_exec.Replay.{replay}
 use Rattle.replay_soundness.specs.chain_replay.Chain.{placement_by_mark, placement_in}
-use Rattle.replay_soundness.specs.chain_replay.Judging.{Placer, added_by_all}
+use Rattle.replay_soundness.specs.chain_replay.Judging.{added_by_all}
 use Rattle.replay_soundness.specs.rooted_chain.Roots.{root_in}
 use Rattle.replay_soundness.specs.chain_input.Folding.{Fold, FoldEnd, Whole, Refused, fold_from}
 use Rattle.replay_soundness.specs.chain_input.Folding.{fold_input}
 use Rattle.crash_promises.specs.Promises.{Line, plain, Change, NoChange, Appends}
-use Rattle.cli_append.specs.Appending.{fold_lines}
+use Rattle.cli_append.specs.Appending.{fold_lines, marked_line, upgrade_text, upgrade_change}
 use Rattle.chain_pack.specs.Draft.{texts_of_draft}
 use Rattle.chain_gen.specs.Generator.{blocks_of_seed}
 use Rattle.chain_load.specs.Loads.{load_of}
@@ -43,7 +43,7 @@ use Rattle.cli_words.specs.declared.words.Edition.{Edition}
 use Rattle.cli_words.specs.declared.words.Edition.TheVariants as editions
 use Rattle.cli_words.specs.declared.words.Generation.{Generation}
 use Rattle.cli_words.specs.declared.words.Command.{Command}
-use Rattle.cli_words.specs.declared.words.Command.TheVariants.{Scan, Fmt, Pack, Gen, Load, Append}
+use Rattle.cli_words.specs.declared.words.Command.TheVariants.{Scan, Fmt, Pack, Gen, Load, Append, Upgrade}
 use Rattle.cli_words.specs.declared.words.Command.TheVariants.{Root, Ask, Prove, Verify, Expose}
 use Rattle.cli_append.specs.cli_lines.Lines.{usage_line, beyond_line, root_line}
 use Rattle.cli_output.specs.LoadLine.{load_line}
@@ -191,14 +191,10 @@ load_output compile generation input = output_of (load_outcome compile generatio
 
 -- ---- the log
 
--- The place of a block after those of a log. A log has no mark, so the first version is next.
-abbrev pub stored_by : Compiler → Placer
-stored_by compile = placement_by_mark compile false
-
 -- The next block of a log, with the rows of the blocks before it counted, by a decoder and a
--- compiler.
+-- compiler: after a mark the second version is next, else the first.
 abbrev pub next_by : Decoder → Compiler → NextBlock
-next_by read compile = next_block read (stored_by compile)
+next_by read compile = next_block read (placement_by_mark compile)
 
 -- The next block of a log by itself, by a decoder: no block runs, so no row is counted.
 abbrev pub log_next_by : Decoder → NextBlock
@@ -212,22 +208,22 @@ not_a_log_output input = output_of (outcome_with (not_a_log_line ∷ []) endings
 abbrev pub damaged_output : ℕ → List ℕ → Output
 damaged_output at input = output_of (outcome_with (damaged_line at ∷ []) endings.Damaged) input
 
--- The output of a command over the blocks that the bytes on the disk stand for. If they are
+-- The output of a command over the chain that the bytes on the disk stand for. If they are
 -- something other than a log, or damaged, that is printed, and the input and the disk stay as they
 -- are.
-abbrev pub on_log : (List Block → Output) → List ℕ → Standing → Output
-on_log over input Blank = over []
+abbrev pub on_log : (Logged → Output) → List ℕ → Standing → Output
+on_log over input Blank = over nothing_logged
 on_log over input NotALog = not_a_log_output input
 on_log over input (Damaged before at) = damaged_output at input
-on_log over input (Holds stored gate) = over (blocks_in stored)
+on_log over input (Holds stored marked gate) = over (record { blocks = blocks_in stored; marked = marked })
 
--- An output of a command over the blocks that the bytes on the disk stand for, if its outputs over
--- blocks are those that `Over` admits.
-abbrev pub IsOnLog : (List Block → Output → Type 0) → List ℕ → Standing → Output → Type 0
-IsOnLog Over input Blank output = Over [] output
+-- An output of a command over the chain that the bytes on the disk stand for, if its outputs over
+-- chains are those that `Over` admits.
+abbrev pub IsOnLog : (Logged → Output → Type 0) → List ℕ → Standing → Output → Type 0
+IsOnLog Over input Blank output = Over nothing_logged output
 IsOnLog Over input NotALog output = output ≡ not_a_log_output input
 IsOnLog Over input (Damaged before at) output = output ≡ damaged_output at input
-IsOnLog Over input (Holds stored gate) output = Over (blocks_in stored) output
+IsOnLog Over input (Holds stored marked gate) output = Over (record { blocks = blocks_in stored; marked = marked }) output
 
 -- How `append` ends, by how the frames end.
 abbrev pub fold_ending : FoldEnd → Ending
@@ -239,6 +235,18 @@ fold_ending (Refused frame cause) = endings.Refused
 abbrev pub append_output : Compiler → List Block → Fold → Output
 append_output compile blocks fold =
     record { lines = fold_lines compile blocks fold; status = status_of (fold_ending fold.end); left = fold.left; change = Appends (added_by_all fold.taken) }
+
+-- The output of `append` for the frames of an input, over the chain of a log: they are folded by
+-- its mark.
+abbrev pub append_to : Decoder → Compiler → List ℕ → Logged → Output
+append_to read compile input logged =
+    append_output compile logged.blocks (fold_from read (placement_by_mark compile logged.marked) (MAX_FRAMES + 1) logged.blocks input)
+
+-- The output of `upgrade` over the chain of a log: the number of its blocks, and it is marked; or
+-- that it was marked already, and it stays as it is. The input is left.
+abbrev pub upgrade_output : List ℕ → Logged → Output
+upgrade_output input logged =
+    record { lines = marked_line (upgrade_text logged.marked (length logged.blocks)) ∷ []; status = statuses.Done; left = input; change = upgrade_change logged.marked }
 
 -- The block that a question names, or else the last one.
 abbrev pub at_or_last : Option ℕ → List Block → ℕ
@@ -311,16 +319,18 @@ Wants read compile (Some Pack) input content output = output ≡ pack_output inp
 Wants read compile (Some (Gen generation)) input content output = output ≡ gen_output generation input
 Wants read compile (Some (Load generation)) input content output = output ≡ load_output compile generation input
 Wants read compile (Some Append) input content output =
-    output ≡ on_log (λ blocks. append_output compile blocks (fold_from read (stored_by compile) (MAX_FRAMES + 1) blocks input)) input (standing (next_by read compile) content)
+    output ≡ on_log (append_to read compile input) input (standing (next_by read compile) content)
+Wants read compile (Some Upgrade) input content output =
+    output ≡ on_log (upgrade_output input) input (standing (next_by read compile) content)
 Wants read compile (Some (Root at)) input content output =
-    output ≡ on_log (root_output compile at input) input (standing (next_by read compile) content)
+    output ≡ on_log (λ logged. root_output compile at input logged.blocks) input (standing (next_by read compile) content)
 Wants read compile (Some (Ask kind key at)) input content output =
-    output ≡ on_log (ask_output compile kind key at input) input (standing (next_by read compile) content)
+    output ≡ on_log (λ logged. ask_output compile kind key at input logged.blocks) input (standing (next_by read compile) content)
 Wants read compile (Some (Prove query root_at)) input content output =
-    output ≡ on_log (prove_output compile query root_at input) input (standing (next_by read compile) content)
+    output ≡ on_log (λ logged. prove_output compile query root_at input logged.blocks) input (standing (next_by read compile) content)
 Wants read compile (Some (Verify root query)) input content output = IsVerifyOutput root.0 query input output
 Wants read compile (Some (Expose root query root_at)) input content output =
-    IsOnLog (IsExposeOutput compile root.0 query root_at input) input (standing (next_by read compile) content) output
+    IsOnLog (λ logged. IsExposeOutput compile root.0 query root_at input logged.blocks) input (standing (next_by read compile) content) output
 
 -- This is the output of the command, by a right decoder and a right compiler.
 abbrev pub IsWanted : Option Command → List ℕ → List ℕ → Output → Type 0

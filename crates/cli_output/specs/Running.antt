@@ -7,7 +7,7 @@ use Rattle.disk_model.specs.Disk.{Keeps, Rests, content_of}
 use Rattle.block_codec.specs.Spelling.{Decoder}
 use Rattle.block_log.specs.Standing.{NextBlock}
 use Rattle.cli_append.specs.chain_exec.Compiled.{Compiler}
-use Rattle.crash_promises.specs.Promises.{Change, NoChange, Appends, Telling, MayLeave, IsChanged}
+use Rattle.crash_promises.specs.Promises.{Change, NoChange, Appends, Marks, Telling, MayLeave, IsChanged}
 use Rattle.cli_words.specs.declared.words.Command.{Command}
 use Rattle.cli_append.specs.cli_lines.declared.status.Status.{Status}
 use Rattle.cli_append.specs.cli_lines.declared.status.Status.TheVariants as statuses
@@ -53,14 +53,16 @@ found_no_log other = false
 abbrev pub leaves : Option (List ℕ) → List ℕ → Option (List ℕ)
 leaves before left = option_map (λ input. left) before
 
--- Whether a change appends no block.
-abbrev pub appends_none : Change → Bool
-appends_none NoChange = true
-appends_none (Appends []) = true
-appends_none (Appends (block ∷ blocks)) = false
+-- Whether a change is none: no block is appended, and the log is not marked.
+abbrev pub is_no_change : Change → Bool
+is_no_change NoChange = true
+is_no_change (Appends []) = true
+is_no_change (Appends (block ∷ blocks)) = false
+is_no_change Marks = false
 
 -- A run that came to its end has the status of the output, and leaves of the input what the output
--- says. If the disk is known, nothing is pending, and the log has all blocks that are appended.
+-- says. If the disk is known, nothing is pending, and the log has all blocks that are appended, or
+-- is marked.
 pub record HasEnded (next : NextBlock) (state : Option DiskState) (status : Status) (left_old left_new : Option (List ℕ)) (content : List ℕ) (output : Output) : Type 0 where
   pub status_is : status ≡ output.status
   pub left_is : left_new ≡ leaves left_old output.left
@@ -72,11 +74,11 @@ pub record Meets {D : Type 0} (next : NextBlock) (now : D → ℕ) (disk : D →
   -- moment on at which printing a line began, whatever a crash may leave keeps what the line
   -- promises.
   pub lines : Telling next now disk told old new output.lines (came_to_end status)
-  -- A crash at any moment leaves the content as it was, or its chain with the first blocks, any
-  -- number of them, of those that are appended.
+  -- A crash at any moment leaves the content as it was; or its chain with the first blocks, any
+  -- number of them, of those that are appended; or its chain marked.
   pub images : Keeps now disk old new (MayLeave next content output.change)
-  -- If it came to its end and appends no block, it did not touch the disk.
-  pub unwritten : came_to_end status ≡ true → appends_none output.change ≡ true
+  -- If it came to its end, and neither appends a block nor marks the log, it did not touch the disk.
+  pub unwritten : came_to_end status ≡ true → is_no_change output.change ≡ true
       → Stays now disk old new
   pub ended : came_to_end status ≡ true
       → HasEnded next (disk new (now new)) status left_old left_new content output

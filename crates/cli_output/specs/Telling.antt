@@ -49,6 +49,11 @@ abbrev pub append_answer : Result AppendEnd RunStop → Result Ending RunStop
 append_answer (Ok end) = Ok (fold_ending (fold_end end))
 append_answer (Err stop) = Err stop
 
+-- How the command `upgrade` ends, by the result of marking the log.
+abbrev pub upgrade_answer : {T : Type 0} → Result T RunStop → Result Ending RunStop
+upgrade_answer (Ok done) = Ok endings.Done
+upgrade_answer (Err stop) = Err stop
+
 -- The stop for a failure of a source.
 abbrev pub stop_of_source : HostError → OutcomeStop
 stop_of_source reads.Fault = outcomes.Unreadable

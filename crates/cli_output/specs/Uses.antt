@@ -2,7 +2,7 @@
 -- prints. `use_of` has one row a command, and all else here follows from it.
 use Rattle.std.specs.Prelude.{Bool, true, false, ◌||◌, Option, Some, None}
 use Rattle.cli_words.specs.declared.words.Command.{Command}
-use Rattle.cli_words.specs.declared.words.Command.TheVariants.{Scan, Fmt, Pack, Gen, Load, Append}
+use Rattle.cli_words.specs.declared.words.Command.TheVariants.{Scan, Fmt, Pack, Gen, Load, Append, Upgrade}
 use Rattle.cli_words.specs.declared.words.Command.TheVariants.{Root, Ask, Prove, Verify, Expose}
 
 -- What is read of the input: nothing; frames of blocks; all of it, as a text; or all of it, as a
@@ -15,7 +15,7 @@ pub data InputUse : Type 0 where
 
 -- The chain that is worked over: none; the rows of the input's blocks; those of the log's blocks,
 -- in memory; the lineage of the log's blocks, with bodies on the scratch device; that of blocks
--- that are made; or the chain of the log, to which blocks are appended.
+-- that are made; or the chain of the log, to which blocks are appended, or which is marked.
 pub data ChainUse : Type 0 where
   NoChain : ChainUse
   InputRows : ChainUse
@@ -23,6 +23,7 @@ pub data ChainUse : Type 0 where
   LogLineage : ChainUse
   MadeLineage : ChainUse
   LogAppended : ChainUse
+  LogMarked : ChainUse
 
 -- When it is printed: once all is made, or each piece as soon as it is made.
 pub data PrintUse : Type 0 where
@@ -44,6 +45,7 @@ use_of (Some Pack) = record { input = Text; chain = NoChain; print = AtEnd }
 use_of (Some (Gen generation)) = record { input = Unread; chain = NoChain; print = AsMade }
 use_of (Some (Load generation)) = record { input = Unread; chain = MadeLineage; print = AtEnd }
 use_of (Some Append) = record { input = Frames; chain = LogAppended; print = AsMade }
+use_of (Some Upgrade) = record { input = Unread; chain = LogMarked; print = AtEnd }
 use_of (Some (Root at)) = record { input = Unread; chain = LogLineage; print = AtEnd }
 use_of (Some (Ask kind key at)) = record { input = Unread; chain = LogRows; print = AtEnd }
 use_of (Some (Prove query root_at)) = record { input = Unread; chain = LogLineage; print = AtEnd }
@@ -77,10 +79,11 @@ abbrev pub is_log_asked : ChainUse → Bool
 is_log_asked LogRows = true
 is_log_asked other = is_log_lineage other
 
--- Whether blocks are appended to the log.
-abbrev pub is_log_appended : ChainUse → Bool
-is_log_appended LogAppended = true
-is_log_appended other = false
+-- Whether the log is changed: blocks are appended to it, or it is marked.
+abbrev pub is_log_changed : ChainUse → Bool
+is_log_changed LogAppended = true
+is_log_changed LogMarked = true
+is_log_changed other = false
 
 -- Whether a block of a chain is asked for.
 abbrev pub is_asked : ChainUse → Bool
@@ -90,7 +93,7 @@ is_asked other = is_log_asked other
 -- Whether bodies are kept on the scratch device.
 abbrev pub keeps_bodies : ChainUse → Bool
 keeps_bodies MadeLineage = true
-keeps_bodies other = is_log_lineage other || is_log_appended other
+keeps_bodies other = is_log_lineage other || is_log_changed other
 
 -- Whether each piece is printed as soon as it is made.
 abbrev pub is_as_made : PrintUse → Bool
@@ -127,7 +130,7 @@ asks_log command = is_log_asked (use_of command).chain
 
 -- Whether it may change the log.
 abbrev pub changes_log : Option Command → Bool
-changes_log command = is_log_appended (use_of command).chain
+changes_log command = is_log_changed (use_of command).chain
 
 -- Whether it uses the disk.
 abbrev pub uses_disk : Option Command → Bool

@@ -12,7 +12,7 @@ use Rattle.cli_words.specs.declared.words.Edition.{Edition}
 use Rattle.cli_words.specs.declared.words.Edition.TheVariants.{First, Second}
 use Rattle.cli_words.specs.declared.words.Generation.{Generation}
 use Rattle.cli_words.specs.declared.words.Command.{Command}
-use Rattle.cli_words.specs.declared.words.Command.TheVariants.{Scan, Fmt, Pack, Gen, Load, Append, Root, Ask, Prove, Verify, Expose}
+use Rattle.cli_words.specs.declared.words.Command.TheVariants.{Scan, Fmt, Pack, Gen, Load, Append, Upgrade, Root, Ask, Prove, Verify, Expose}
 use Rattle.cli_words.specs.Words.{kind_word, query_words, scan_words, fmt_words, generation_words, ask_words, root_words, prove_words, verify_words, expose_words, command_words, IsQuery, IsGeneration, IsRootGiven, Fits, CanBeGiven, IsCommand, IsOneCommand}
 
 one_number : (m n : ℕ) → m < 2 ^ 32 → n < 2 ^ 32 → decimal m ≡ decimal n → m ≡ n
@@ -237,6 +237,7 @@ one_given (Scan a) Pack is_a is_b same = absurd cc
 one_given (Scan a) (Gen b) is_a is_b same = absurd cc
 one_given (Scan a) (Load b) is_a is_b same = absurd cc
 one_given (Scan a) Append is_a is_b same = absurd cc
+one_given (Scan a) Upgrade is_a is_b same = absurd cc
 one_given (Scan a) (Root b) is_a is_b same = absurd (root_scan b a (sym same))
 one_given (Scan a) (Ask bk by bt) is_a is_b same = absurd (no_scan bk by bt a (sym same))
 one_given (Scan a) (Prove b br) is_a is_b same = absurd cc
@@ -250,6 +251,8 @@ one_given (Fmt a) (Gen b) is_a is_b same = absurd (fmt_made a _ b same)
 one_given (Fmt a) (Load b) is_a is_b same = absurd (fmt_made a _ b same)
 one_given (Fmt a) Append is_a is_b same =
     let first : 102 ≡ 97 = fmt_alone a (codes "append") same in absurd (omega (arith, first))
+one_given (Fmt a) Upgrade is_a is_b same =
+    let first : 102 ≡ 117 = fmt_alone a (codes "upgrade") same in absurd (omega (arith, first))
 one_given (Fmt a) (Root b) is_a is_b same = absurd (fmt_root a b same)
 one_given (Fmt a) (Ask bk by bt) is_a is_b same = absurd (fmt_ask a bk by bt same)
 one_given (Fmt a) (Prove b br) is_a is_b same =
@@ -265,6 +268,7 @@ one_given Pack Pack is_a is_b same = refl
 one_given Pack (Gen b) is_a is_b same = absurd cc
 one_given Pack (Load b) is_a is_b same = absurd cc
 one_given Pack Append is_a is_b same = absurd cc
+one_given Pack Upgrade is_a is_b same = absurd cc
 one_given Pack (Root b) is_a is_b same =
     let first : 114 ≡ 112 = root_alone b (codes "pack") (sym same) in absurd (omega (arith, first))
 one_given Pack (Ask bk by bt) is_a is_b same = absurd (no_word bk by bt _ (sym same))
@@ -277,6 +281,7 @@ one_given (Gen a) Pack is_a is_b same = absurd cc
 one_given (Gen a) (Gen b) is_a is_b same = ap Gen (one_generation _ a b is_a is_b same)
 one_given (Gen a) (Load b) is_a is_b same = absurd (gen_load a b same)
 one_given (Gen a) Append is_a is_b same = absurd cc
+one_given (Gen a) Upgrade is_a is_b same = absurd cc
 one_given (Gen a) (Root b) is_a is_b same = absurd (root_made b _ a (sym same))
 one_given (Gen a) (Ask bk by bt) is_a is_b same =
     absurd (no_gen bk (no_made bk by bt _ a (sym same)))
@@ -289,6 +294,7 @@ one_given (Load a) Pack is_a is_b same = absurd cc
 one_given (Load a) (Gen b) is_a is_b same = absurd (gen_load b a (sym same))
 one_given (Load a) (Load b) is_a is_b same = ap Load (one_generation _ a b is_a is_b same)
 one_given (Load a) Append is_a is_b same = absurd cc
+one_given (Load a) Upgrade is_a is_b same = absurd cc
 one_given (Load a) (Root b) is_a is_b same = absurd (root_made b _ a (sym same))
 one_given (Load a) (Ask bk by bt) is_a is_b same =
     absurd (no_load bk (no_made bk by bt _ a (sym same)))
@@ -302,12 +308,27 @@ one_given Append Pack is_a is_b same = absurd cc
 one_given Append (Gen b) is_a is_b same = absurd cc
 one_given Append (Load b) is_a is_b same = absurd cc
 one_given Append Append is_a is_b same = refl
+one_given Append Upgrade is_a is_b same = absurd cc
 one_given Append (Root b) is_a is_b same =
     let first : 114 ≡ 97 = root_alone b (codes "append") (sym same) in absurd (omega (arith, first))
 one_given Append (Ask bk by bt) is_a is_b same = absurd (no_word bk by bt _ (sym same))
 one_given Append (Prove b br) is_a is_b same = absurd cc
 one_given Append (Verify br b) is_a is_b same = absurd cc
 one_given Append (Expose br b bn) is_a is_b same = absurd cc
+one_given Upgrade (Scan b) is_a is_b same = absurd cc
+one_given Upgrade (Fmt b) is_a is_b same =
+    let first : 102 ≡ 117 = fmt_alone b (codes "upgrade") (sym same) in absurd (omega (arith, first))
+one_given Upgrade Pack is_a is_b same = absurd cc
+one_given Upgrade (Gen b) is_a is_b same = absurd cc
+one_given Upgrade (Load b) is_a is_b same = absurd cc
+one_given Upgrade Append is_a is_b same = absurd cc
+one_given Upgrade Upgrade is_a is_b same = refl
+one_given Upgrade (Root b) is_a is_b same =
+    let first : 114 ≡ 117 = root_alone b (codes "upgrade") (sym same) in absurd (omega (arith, first))
+one_given Upgrade (Ask bk by bt) is_a is_b same = absurd (no_word bk by bt _ (sym same))
+one_given Upgrade (Prove b br) is_a is_b same = absurd cc
+one_given Upgrade (Verify br b) is_a is_b same = absurd cc
+one_given Upgrade (Expose br b bn) is_a is_b same = absurd cc
 one_given (Root a) (Scan b) is_a is_b same = absurd (root_scan a b same)
 one_given (Root a) (Fmt b) is_a is_b same = absurd (fmt_root b a (sym same))
 one_given (Root a) Pack is_a is_b same =
@@ -316,6 +337,8 @@ one_given (Root a) (Gen b) is_a is_b same = absurd (root_made a _ b same)
 one_given (Root a) (Load b) is_a is_b same = absurd (root_made a _ b same)
 one_given (Root a) Append is_a is_b same =
     let first : 114 ≡ 97 = root_alone a (codes "append") same in absurd (omega (arith, first))
+one_given (Root a) Upgrade is_a is_b same =
+    let first : 114 ≡ 117 = root_alone a (codes "upgrade") same in absurd (omega (arith, first))
 one_given (Root a) (Root b) is_a is_b same = ap Root (one_root a b is_a is_b same)
 one_given (Root a) (Ask bk by bt) is_a is_b same = absurd (no_root bk by bt a (sym same))
 one_given (Root a) (Prove b br) is_a is_b same =
@@ -330,6 +353,7 @@ one_given (Ask ak ay at) Pack is_a is_b same = absurd (no_word ak ay at _ same)
 one_given (Ask ak ay at) (Gen b) is_a is_b same = absurd (no_gen ak (no_made ak ay at _ b same))
 one_given (Ask ak ay at) (Load b) is_a is_b same = absurd (no_load ak (no_made ak ay at _ b same))
 one_given (Ask ak ay at) Append is_a is_b same = absurd (no_word ak ay at _ same)
+one_given (Ask ak ay at) Upgrade is_a is_b same = absurd (no_word ak ay at _ same)
 one_given (Ask ak ay at) (Root b) is_a is_b same = absurd (no_root ak ay at b same)
 one_given (Ask ak ay at) (Ask bk by bt) is_a is_b same =
     one_ask ak bk ay by at bt is_a.1 is_b.1 same
@@ -344,6 +368,7 @@ one_given (Prove a ar) Pack is_a is_b same = absurd cc
 one_given (Prove a ar) (Gen b) is_a is_b same = absurd cc
 one_given (Prove a ar) (Load b) is_a is_b same = absurd cc
 one_given (Prove a ar) Append is_a is_b same = absurd cc
+one_given (Prove a ar) Upgrade is_a is_b same = absurd cc
 one_given (Prove a ar) (Root b) is_a is_b same =
     absurd (too_few (root_words b) (prove_words a ar) (few_root b) (omega arith) (sym same))
 one_given (Prove a ar) (Ask bk by bt) is_a is_b same = absurd (too_few (ask_words bk by bt) (prove_words a ar) (few_asked bk by bt) (omega arith) (sym same))
@@ -357,6 +382,7 @@ one_given (Verify ar a) Pack is_a is_b same = absurd cc
 one_given (Verify ar a) (Gen b) is_a is_b same = absurd cc
 one_given (Verify ar a) (Load b) is_a is_b same = absurd cc
 one_given (Verify ar a) Append is_a is_b same = absurd cc
+one_given (Verify ar a) Upgrade is_a is_b same = absurd cc
 one_given (Verify ar a) (Root b) is_a is_b same =
     absurd (too_few (root_words b) (verify_words ar a) (few_root b) (omega arith) (sym same))
 one_given (Verify ar a) (Ask bk by bt) is_a is_b same = absurd (too_few (ask_words bk by bt) (verify_words ar a) (few_asked bk by bt) (omega arith) (sym same))
@@ -370,6 +396,7 @@ one_given (Expose ar a an) Pack is_a is_b same = absurd cc
 one_given (Expose ar a an) (Gen b) is_a is_b same = absurd cc
 one_given (Expose ar a an) (Load b) is_a is_b same = absurd cc
 one_given (Expose ar a an) Append is_a is_b same = absurd cc
+one_given (Expose ar a an) Upgrade is_a is_b same = absurd cc
 one_given (Expose ar a an) (Root b) is_a is_b same =
     absurd (too_few (root_words b) (expose_words ar a an) (few_root b) (omega arith) (sym same))
 one_given (Expose ar a an) (Ask bk by bt) is_a is_b same = absurd (too_few (ask_words bk by bt) (expose_words ar a an) (few_asked bk by bt) (omega arith) (sym same))

@@ -11,7 +11,7 @@ use Rattle.cli_words.specs.declared.words.Edition.{Edition}
 use Rattle.cli_words.specs.declared.words.Edition.TheVariants as editions
 use Rattle.cli_words.specs.declared.words.Generation.{Generation}
 use Rattle.cli_words.specs.declared.words.Command.{Command}
-use Rattle.cli_words.specs.declared.words.Command.TheVariants.{Scan, Fmt, Pack, Gen, Load, Append, Root, Ask, Prove, Verify, Expose}
+use Rattle.cli_words.specs.declared.words.Command.TheVariants.{Scan, Fmt, Pack, Gen, Load, Append, Upgrade, Root, Ask, Prove, Verify, Expose}
 
 -- The word for a kind of question.
 abbrev pub kind_word : Kind → List ℕ
@@ -97,6 +97,7 @@ command_words Pack = codes "pack" ∷ []
 command_words (Gen generation) = generation_words (codes "gen") generation
 command_words (Load generation) = generation_words (codes "load") generation
 command_words Append = codes "append" ∷ []
+command_words Upgrade = codes "upgrade" ∷ []
 command_words (Root at) = root_words at
 command_words (Ask kind key at) = ask_words kind key at
 command_words (Prove query root_at) = prove_words query root_at
@@ -112,6 +113,7 @@ CanBeGiven Pack = Unit {0}
 CanBeGiven (Gen generation) = IsGeneration generation
 CanBeGiven (Load generation) = IsGeneration generation
 CanBeGiven Append = Unit {0}
+CanBeGiven Upgrade = Unit {0}
 CanBeGiven (Root at) = Fits at
 CanBeGiven (Ask kind key at) = IsKey key × Fits at
 CanBeGiven (Prove query root_at) = IsQuery query × (root_at < 2 ^ 32)

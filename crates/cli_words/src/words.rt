@@ -46,6 +46,8 @@ pub enum Command {
     Load(Generation),
     /// `append`: take the blocks of the input into the chain of the log.
     Append,
+    /// `upgrade`: mark the log, so that the blocks after this have the second version.
+    Upgrade,
     /// `root` or `root BLOCK`: print the root at a block of the log, which is the last one if no
     /// BLOCK is named.
     Root(Option<u32>),
@@ -130,6 +132,9 @@ fn parse_command(words: &[String]) -> Option<Command>
     }
     if is_alone(words, "append") {
         return Some(Command::Append);
+    }
+    if is_alone(words, "upgrade") {
+        return Some(Command::Upgrade);
     }
     if let Some(generation) = generation_of(words, "gen") {
         return Some(Command::Gen(generation));

@@ -1,11 +1,11 @@
 -- Laws about what printed lines promise, over one run and over several.
-use Rattle.std.specs.Prelude.{◌≡◌, ℕ, ◌≤◌, Bool, nat_le, if◌then◌else◌, List, [], ◌∷◌, ◌++◌, map, Option, Some}
+use Rattle.std.specs.Prelude.{◌≡◌, ℕ, ◌≤◌, Bool, true, nat_le, if◌then◌else◌, List, [], ◌∷◌, ◌++◌, map, Option, Some}
 use Rattle.std.specs.List.{concat}
 use Rattle.lc_io.specs.Disk.{DiskState}
 use Rattle.lc_io.specs.Outside.{Tell, IsPrefix, bytes_told}
 use Rattle.disk_model.specs.Disk.{IsImage, Keeps}
 use Rattle.block_log.specs.block_codec.declared.block.Block.{Block}
-use Rattle.block_log.specs.Standing.{NextBlock, chain_of}
+use Rattle.block_log.specs.Standing.{Logged, NextBlock, chain_of}
 use Rattle.crash_promises.specs.Promises.{Promise, Line, Change, IsPromiseKept, AreBegun, Telling, MayLeave}
 
 -- The bytes that were printed of lines are a prefix of the lines' bytes.
@@ -24,10 +24,16 @@ abbrev pub AllAreKept : NextBlock → List Promise → List ℕ → Type 0
 AllAreKept next [] image = Unit {0}
 AllAreKept next (promise ∷ promises) image = IsPromiseKept next promise image × AllAreKept next promises image
 
--- The image stands for the chain of `before`, followed by any blocks.
+-- A chain has the blocks of another, followed by any; and if that one is marked, so is it.
+pub record IsLonger (before now : Logged) : Type 0 where
+  pub more : List Block
+  pub blocks_are : now.blocks ≡ before.blocks ++ more
+  pub stays_marked : before.marked ≡ true → now.marked ≡ true
+
+-- The image stands for the chain of `before`, followed by any blocks; a mark stays.
 abbrev pub GoesOn : NextBlock → List ℕ → List ℕ → Type 0
 GoesOn next before image =
-    (blocks : List Block) → chain_of next before ≡ Some blocks → (more : List Block) × (chain_of next image ≡ Some (blocks ++ more))
+    (logged : Logged) → chain_of next before ≡ Some logged → (now : Logged) × IsLonger logged now × (chain_of next image ≡ Some now)
 
 -- Runs, the first on this image, and each other one on the image that the run before it left. A run
 -- leaves the same chain or a longer one, and keeps what it promised.
@@ -46,10 +52,11 @@ abbrev pub all_acknowledged : List Left → List Promise
 all_acknowledged [] = []
 all_acknowledged (left ∷ others) = left.acknowledged ++ all_acknowledged others
 
--- The last chain begins with the first one, and has every block that any of the runs acknowledged.
+-- The last chain begins with the first one, is marked if that is, and keeps all that any of the
+-- runs acknowledged.
 abbrev pub RunsHold : Type 0
-RunsHold = (next : NextBlock) (first : List ℕ) (blocks : List Block) (runs : List Left) → chain_of next first ≡ Some blocks → AreRuns next first runs
-    → (more : List Block) × (chain_of next (last_image first runs) ≡ Some (blocks ++ more)) × AllAreKept next (all_acknowledged runs) (last_image first runs)
+RunsHold = (next : NextBlock) (first : List ℕ) (logged : Logged) (runs : List Left) → chain_of next first ≡ Some logged → AreRuns next first runs
+    → (last : Logged) × IsLonger logged last × (chain_of next (last_image first runs) ≡ Some last) × AllAreKept next (all_acknowledged runs) (last_image first runs)
 
 -- ---- one run, and a stop
 

@@ -1,18 +1,20 @@
 -- What the lines that a command prints promise about the log, and what a crash may leave of it.
-use Rattle.std.specs.Prelude.{◌≡◌, ℕ, Bool, true, List, [], ◌∷◌, ◌++◌, take, map, Option, Some, slice_get}
+use Rattle.std.specs.Prelude.{◌≡◌, ℕ, Bool, true, List, [], ◌∷◌, take, map, Option, Some, slice_get}
 use Rattle.lc_io.specs.Disk.{DiskState}
 use Rattle.lc_io.specs.Outside.{Tell, with_tells, IsPrefix}
 use Rattle.disk_model.specs.Disk.{IsImage, LeftSince}
 use Rattle.block_log.specs.block_codec.declared.block.Block.{Block}
-use Rattle.block_log.specs.Standing.{NextBlock, chain_of}
+use Rattle.block_log.specs.Standing.{Logged, with_blocks, with_mark, NextBlock, chain_of}
+use Rattle.block_log.specs.Log.{IsOldOrMarked}
 
 -- ---- lines, and what they promise
 
--- What a line promises about the log from the moment on at which its printing begins: nothing, or
--- that the chain has this block with this number.
+-- What a line promises about the log from the moment on at which its printing begins: nothing, that
+-- the chain has this block with this number, or that the log is marked.
 pub data Promise : Type 0 where
   NoPromise : Promise
   Holds : ℕ → Block → Promise
+  IsMarked : Promise
 
 -- A line, including its end, and what it promises.
 pub record Line : Type 0 where
@@ -23,11 +25,12 @@ pub record Line : Type 0 where
 abbrev pub plain : List ℕ → Line
 plain text = record { text = text; promise = NoPromise }
 
--- The image keeps the promise: it stands for a chain that has the block with that number. `next`
--- says which bytes are the next block of a chain.
+-- The image keeps the promise: it stands for a chain that has the block with that number, or for
+-- one that is marked. `next` says which bytes are the next block of a chain.
 abbrev pub IsPromiseKept : NextBlock → Promise → List ℕ → Type 0
 IsPromiseKept next NoPromise image = Unit {0}
-IsPromiseKept next (Holds number block) image = (blocks : List Block) × (chain_of next image ≡ Some blocks) × (slice_get blocks number ≡ Some block)
+IsPromiseKept next (Holds number block) image = (logged : Logged) × (chain_of next image ≡ Some logged) × (slice_get logged.blocks number ≡ Some block)
+IsPromiseKept next IsMarked image = (logged : Logged) × (chain_of next image ≡ Some logged) × (logged.marked ≡ true)
 
 -- The image keeps what all these lines promise.
 abbrev pub KeepsLines : NextBlock → List Line → List ℕ → Type 0
@@ -70,29 +73,33 @@ pub record Telling {D : Type 0} (next : NextBlock) (now : D → ℕ) (disk : D �
 
 -- ---- what a crash may leave
 
--- What a command does to the log: it leaves the disk as it is, or it appends these blocks, one
--- after another.
+-- What a command does to the log: it leaves the disk as it is, it appends these blocks, one after
+-- another, or it marks the log.
 pub data Change : Type 0 where
   NoChange : Change
   Appends : List Block → Change
+  Marks : Change
 
--- The image stands for these blocks, followed by some first ones of the others.
-abbrev pub IsPartly : NextBlock → List Block → List Block → List ℕ → Type 0
-IsPartly next blocks added image = (count : ℕ) × (chain_of next image ≡ Some (blocks ++ take count added))
+-- The image stands for this chain, followed by some first ones of the blocks.
+abbrev pub IsPartly : NextBlock → Logged → List Block → List ℕ → Type 0
+IsPartly next logged added image = (count : ℕ) × (chain_of next image ≡ Some (with_blocks logged (take count added)))
 
--- What a crash may leave of a disk that had this content at first: the content itself or, if blocks
--- are appended, its chain followed by some first ones of them.
+-- What a crash may leave of a disk that had this content at first: the content itself; if blocks
+-- are appended, its chain followed by some first ones of them; if the log is marked, its chain,
+-- marked or as it was.
 abbrev pub MayLeave : NextBlock → List ℕ → Change → List ℕ → Type 0
 MayLeave next content NoChange image = image ≡ content
-MayLeave next content (Appends added) image = (blocks : List Block) × (chain_of next content ≡ Some blocks) × IsPartly next blocks added image
+MayLeave next content (Appends added) image = (logged : Logged) × (chain_of next content ≡ Some logged) × IsPartly next logged added image
+MayLeave next content Marks image = (logged : Logged) × (chain_of next content ≡ Some logged) × IsOldOrMarked next logged image
 
--- What a crash may leave whatever is appended: the content at first, or its chain followed by
--- further blocks.
+-- What a crash may leave whatever the command does: the content at first, or its chain, followed by
+-- further blocks or marked.
 abbrev pub MayLeaveAny : NextBlock → List ℕ → List ℕ → Type 0
 MayLeaveAny next content image = (change : Change) × MayLeave next content change image
 
--- What a command leaves that ran to its end: the content as it was, or its chain followed by all
--- appended blocks.
+-- What a command leaves that ran to its end: the content as it was, its chain followed by all
+-- appended blocks, or its chain marked.
 abbrev pub IsChanged : NextBlock → List ℕ → Change → List ℕ → Type 0
 IsChanged next content NoChange image = image ≡ content
-IsChanged next content (Appends added) image = (blocks : List Block) × (chain_of next content ≡ Some blocks) × (chain_of next image ≡ Some (blocks ++ added))
+IsChanged next content (Appends added) image = (logged : Logged) × (chain_of next content ≡ Some logged) × (chain_of next image ≡ Some (with_blocks logged added))
+IsChanged next content Marks image = (logged : Logged) × (chain_of next content ≡ Some logged) × (chain_of next image ≡ Some (with_mark logged))

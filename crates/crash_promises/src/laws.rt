@@ -11,7 +11,7 @@ pub fn begun_is_prefix()
 {}
 
 /// After any number of runs and stops, the last chain begins with the first one, and has every
-/// block that was acknowledged.
+/// block and the mark that were acknowledged.
 pub fn runs_hold()
     ensures { RunsHold }
 {}

@@ -1,18 +1,17 @@
 -- A block that is next when rows are counted is next when they are not; and in a log it is next by
--- the versions too.
-use Rattle.std.proofs.Common.{◌≡◌, ℕ, Bool, false, List, [], ◌∷◌, ◌++◌, length, map, Option, None}
-use Rattle.std.proofs.Common.{refl, ap, ◌∙◌, arith}
+-- the versions too, if the mark fits them.
+use Rattle.std.proofs.Common.{◌≡◌, ℕ, Bool, false, List, [], ◌∷◌, ◌++◌, length, map, Option}
+use Rattle.std.proofs.Common.{None, sym, ap, subst, ◌∙◌, arith}
 use Rattle.std.specs.Prelude.{slice_get}
 use Rattle.lc_base.specs.declared.digest.Digest.{Digest}
 use Rattle.lc_base.specs.declared.row.Row.{Row}
 use Rattle.block_codec.specs.Placement.{digest_of, last_digest, new_placement, placement}
-use Rattle.block_codec.specs.Placement.{last_version, IsNextPlaced}
-use Rattle.block_codec.specs.declared.block.TheConstants.{FIRST_VERSION}
+use Rattle.block_codec.specs.Placement.{FitsVersions, IsNextPlaced}
 use Rattle.block_codec.specs.declared.block.Block.{Block}
 use Rattle.block_codec.specs.declared.placement.Placement.TheVariants.{Next}
 use Rattle.block_codec.proofs.Placements.{next_is_placed, placed_is_next, next_is_new}
 use Rattle.block_codec.proofs.Versions.{next_by_versions, fits_with_next}
-use Rattle.block_log.specs.Log.{LogState, IsStricter, IsNextOf}
+use Rattle.block_log.specs.Log.{LogState, IsStricter, IsNextOf, log_with_head}
 use Rattle.rooted_chain.specs.chain_exec.Compiled.{compiled_in}
 use Rattle.rooted_chain.specs.chain_exec.Replay.{replay}
 use Rattle.rooted_chain.specs.chain_replay.Chain.{ChainState, placement_in}
@@ -55,36 +54,51 @@ unrun marked held rows have parent block digest is =
 
 -- A placement that counts rows is stricter than that of the log.
 pub stricter : IsStricter stored_placement
-stricter blocks block is = unrun false (length blocks) _
+stricter marked blocks block is = unrun marked (length blocks) _
     (slice_get (map digest_of blocks) block.number) (last_digest (map digest_of blocks)) block
     (digest_of block) is
 
 -- The next block of a chain is that of the log of its blocks.
 pub next_of_log : (chain : ChainState) (log : LogState) (bytes : List ℕ) (block : Block)
-    (digest : Digest) → AreOfOneChain chain log → IsNextBlock (OfLog false) chain bytes block digest
-    → IsNextOf log bytes
-next_of_log chain log bytes block digest one next = record {
-  block = block;
-  decoded = next.decoded;
-  placed =
-      ap (λ (count : ℕ). new_placement false count 0 log.last block) one.count_is
-      ∙ ap (λ (last : Digest). new_placement false (length chain.digests) 0 last block) one.last_is
-      ∙ (new_one false (length chain.digests) (length chain.rows)
-      (slice_get chain.digests block.number) (last_digest chain.digests) block digest
-      next.placed).1;
-}
+    (digest : Digest) → AreOfOneChain chain log
+    → IsNextBlock (OfLog log.is_marked) chain bytes block digest → IsNextOf log bytes
+next_of_log chain log bytes block digest one next =
+    let marked = log.is_marked in
+    record {
+      block = block;
+      decoded = next.decoded;
+      placed =
+          ap (λ (count : ℕ). new_placement marked count 0 log.last block) one.count_is
+          ∙ ap (λ (last : Digest). new_placement marked (length chain.digests) 0 last block)
+          one.last_is
+          ∙ (new_one marked (length chain.digests) (length chain.rows)
+          (slice_get chain.digests block.number) (last_digest chain.digests) block digest
+          next.placed).1;
+    }
 
--- ---- blocks of the first version
+-- It is the next block too of the log that is created where there is none.
+pub next_headed : (log created : LogState) (bytes : List ℕ) → log.is_marked ≡ false
+    → created ≡ log_with_head log → IsNextOf log bytes → IsNextOf created bytes
+next_headed log created bytes unmarked is next = subst (λ (l : LogState). IsNextOf l bytes) (sym is)
+    (record {
+      block = next.block;
+      decoded = next.decoded;
+      placed =
+          ap (λ (m : Bool). new_placement m log.count 0 log.last next.block) (sym unmarked)
+          ∙ next.placed;
+    })
 
--- what is next after blocks of the first version in a log is next by the versions
-pub next_stored : (blocks : List Block) (block : Block) → last_version blocks ≡ FIRST_VERSION
-    → stored_placement blocks block ≡ Next → placement_in compiled_in blocks block ≡ Next
-next_stored blocks block first is =
-    next_by_versions false (length {A = Row} (replay compiled_in blocks).rows) blocks block
-    (λ unmarked. first) is
+-- ---- the versions of blocks
 
--- and it has the first version too
-pub first_with_next : (blocks : List Block) (block : Block)
-    → stored_placement blocks block ≡ Next → last_version (blocks ++ block ∷ []) ≡ FIRST_VERSION
-first_with_next blocks block is =
-    fits_with_next false (length {A = Row} (replay compiled_in blocks).rows) blocks block is refl
+-- what is next in a log whose mark fits the blocks is next by the versions
+pub next_stored : (marked : Bool) (blocks : List Block) (block : Block)
+    → FitsVersions marked blocks → stored_placement marked blocks block ≡ Next
+    → placement_in compiled_in blocks block ≡ Next
+next_stored marked blocks block fits is =
+    next_by_versions marked (length {A = Row} (replay compiled_in blocks).rows) blocks block fits is
+
+-- and the mark fits the blocks with it too
+pub fits_next : (marked : Bool) (blocks : List Block) (block : Block)
+    → stored_placement marked blocks block ≡ Next → FitsVersions marked (blocks ++ block ∷ [])
+fits_next marked blocks block is =
+    fits_with_next marked (length {A = Row} (replay compiled_in blocks).rows) blocks block is

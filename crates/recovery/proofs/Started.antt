@@ -1,5 +1,5 @@
 -- What is started from a log: the chain and the log of its blocks, or the reason why there is none.
-use Rattle.std.proofs.Common.{◌≡◌, inl, inr, ℕ, Bool, List, [], length, Option, Some, None}
+use Rattle.std.proofs.Common.{◌≡◌, inl, inr, ℕ, Bool, false, List, [], length, Option, Some, None}
 use Rattle.std.proofs.Common.{Result, Ok, Err, refl, sym, ap, subst, ◌∙◌}
 use Rattle.std.specs.Prelude.{IfOk, MatchBool}
 use Rattle.std.proofs.lemmas.List.{length-map}
@@ -9,7 +9,8 @@ use Rattle.lc_io.specs.Disk.{DiskState}
 use Rattle.disk_model.specs.Disk.{IsSettled, Rests, content_of}
 use Rattle.block_codec.specs.Placement.{last_digest}
 use Rattle.block_codec.specs.declared.block.Block.{Block}
-use Rattle.block_log.specs.Standing.{NotALog, Damaged, Holds, blocks_in, blocks_of, standing}
+use Rattle.block_log.specs.Standing.{NotALog, Damaged, Holds, Logged, blocks_in, logged_of}
+use Rattle.block_log.specs.Standing.{standing}
 use Rattle.block_log.specs.Log.{LogState, Agrees, AgreesWithBlocks, AgreesWithBlank}
 use Rattle.block_log.specs.Log.{IsStarted as IsLogStarted, next_in_log}
 use Rattle.block_log.specs.Reader.{AreAll, IsOpened, IsTurn}
@@ -17,11 +18,10 @@ use Rattle.block_log.specs.declared.error.LogError.{LogError}
 use Rattle.block_log.specs.declared.error.LogError.TheVariants as logs
 use Rattle.block_log.specs.Stricter.{restanding}
 use Rattle.block_log.proofs.Stricter.{stands_stricter}
-use Rattle.block_log.proofs.FirstVersions.{last_stored_version}
 use Rattle.block_log.specs.declared.layout.Stored.{Stored}
 use Rattle.rooted_chain.specs.chain_replay.Chain.{ChainState, nothing_kept}
-use Rattle.recovery.specs.Node.{AreOfBlocks, AreOfOneChain, IsStarted, chain_in, next_in_chain}
-use Rattle.recovery.specs.Node.{stored_placement}
+use Rattle.recovery.specs.Node.{AreOfBlocks, AreOfLogged, AreOfOneChain, IsStarted, chain_in}
+use Rattle.recovery.specs.Node.{logged_in, next_in_chain, stored_placement}
 use Rattle.recovery.specs.Restoring.{HasRead, HasRun, IsRestored, start_error}
 use Rattle.recovery.specs.declared.errors.StartError.{StartError}
 use Rattle.recovery.specs.declared.errors.StartError.TheVariants as starts
@@ -38,6 +38,10 @@ pub not_a_log : (image : List ℕ) → standing next_in_log image ≡ NotALog
     → standing next_in_chain image ≡ NotALog
 not_a_log image is = counted image ∙ ap (restanding stored_placement) is
 
+-- these blocks, marked or not
+abbrev logged : List Stored → Bool → Logged
+logged stored marked = record { blocks = blocks_in stored; marked = marked }
+
 module _ (stored : List Stored) (chain : ChainState) (run : AreRun stored chain) where
   -- the log is damaged after these blocks
   pub damaged_after : (image : List ℕ) (at : ℕ) → standing next_in_log image ≡ Damaged stored at
@@ -46,22 +50,24 @@ module _ (stored : List Stored) (chain : ChainState) (run : AreRun stored chain)
       ∙ all_run stored chain run (λ held. Damaged held at)
 
   -- these are all blocks, of bytes with a head or without one
-  chain_is : (log : LogState) (image : List ℕ) → IsLogStarted log stored image
-      → chain_in image ≡ Some (blocks_in stored)
-  chain_is log image started = elim (cases_Bool log.is_ready) [
+  chain_is : (log : LogState) (image : List ℕ) → (log.is_ready ≡ false → log.is_marked ≡ false)
+      → IsLogStarted log stored image → chain_in image ≡ Some (logged_in log (blocks_in stored))
+  chain_is log image unmarked started = elim (cases_Bool log.is_ready) [
     | inl ready ↦
         let holds = subst (λ (b : Bool). MatchBool b
-        (standing next_in_log image ≡ Holds stored log.gate) (stored ≡ [])) ready started.1 in
-        ap blocks_of (counted image ∙ ap (restanding stored_placement) holds
-        ∙ all_run stored chain run (λ held. Holds held log.gate))
+        (standing next_in_log image ≡ Holds stored log.is_marked log.gate) (stored ≡ [])) ready
+        started.1 in
+        ap logged_of (counted image ∙ ap (restanding stored_placement) holds
+        ∙ all_run stored chain run (λ held. Holds held log.is_marked log.gate))
     | inr headless ↦
         let blank = (subst (λ (b : Bool). MatchBool b (AgreesWithBlocks log image)
         (AgreesWithBlank log image)) headless started.0).stands in
         let none = subst (λ (b : Bool). MatchBool b
-        (standing next_in_log image ≡ Holds stored log.gate) (stored ≡ [])) headless started.1
-        in
-        ap blocks_of (counted image ∙ ap (restanding stored_placement) blank)
-        ∙ ap (λ (all : List Stored). Some (blocks_in all)) (sym none)
+        (standing next_in_log image ≡ Holds stored log.is_marked log.gate) (stored ≡ [])) headless
+        started.1 in
+        ap logged_of (counted image ∙ ap (restanding stored_placement) blank)
+        ∙ ap (λ (all : List Stored). Some (logged all false)) (sym none)
+        ∙ ap (λ (m : Bool). Some (logged stored m)) (sym (unmarked headless))
   ]
 
   pub has_run : (log : LogState) (content : Option (List ℕ)) → AreAll log content stored
@@ -70,7 +76,7 @@ module _ (stored : List Stored) (chain : ChainState) (run : AreRun stored chain)
     stored = stored;
     all = all;
     stands = run.stands;
-    counted = λ image told. chain_is log image
+    counted = λ image told. chain_is log image all.held.headless
         (all.started image told);
   }
 
@@ -94,6 +100,7 @@ one_chain chain log content read = record {
       ∙ ap (length {A = Digest}) (sym read.digests_are);
   last_is = read.all.held.last_is
       ∙ ap last_digest (sym (read.digests_are ∙ read.all.are_stored.digests_are));
+  headless = read.all.held.headless;
 }
 
 -- the log agrees with its disk, if that is known
@@ -108,12 +115,12 @@ node_of : (chain : ChainState) (log : LogState) (state : Option DiskState) → I
     → AreOfBlocks chain log state (blocks_in run.stored)
 node_of chain log None rests run = record {
   kept = run.stands;
-  first = last_stored_version run.stored run.all.are_stored;
+  fits = run.all.held.fits;
   log = tt;
 }
 node_of chain log (Some s) rests run = record {
   kept = run.stands;
-  first = last_stored_version run.stored run.all.are_stored;
+  fits = run.all.held.fits;
   log = (
     rests,
     record {
@@ -128,13 +135,12 @@ module _ {C : Type 0} (kept : C → ChainState) (state : Option DiskState) (rest
   where
     pub started : (result : Result (C × LogState) StartError)
         → IsRestored kept (content_of state) result → (image : List ℕ) → content_of state ≡ Some image
-        → IsStarted (λ (opened : C × LogState). AreOfBlocks (kept opened.0) opened.1 state)
+        → IsStarted (λ (opened : C × LogState). AreOfLogged (kept opened.0) opened.1 state)
         (standing next_in_chain image) result
     started (Ok opened) run image told = (
-      blocks_in run.stored,
+      logged_in opened.1 (blocks_in run.stored),
       run.counted image told,
-      node_of (kept opened.0) opened.1 state rests
-          run,
+      (node_of (kept opened.0) opened.1 state rests run, refl),
     )
     started (Err starts.NotALog) run image told = run image told
     started (Err (starts.Damaged at)) run image told = run image told

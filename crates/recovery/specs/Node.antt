@@ -9,11 +9,10 @@ use Rattle.body_store.specs.Bodies.{BodiesState}
 use Rattle.rooted_chain.specs.merkle_dag.Lineage.{LineageState, AgreesWith}
 use Rattle.disk_model.specs.Disk.{Keeps, Rests, content_of}
 use Rattle.block_codec.specs.Reading.{block_in}
-use Rattle.block_codec.specs.Placement.{last_digest, last_version}
-use Rattle.block_codec.specs.declared.block.TheConstants.{FIRST_VERSION}
+use Rattle.block_codec.specs.Placement.{last_digest, FitsVersions}
 use Rattle.block_codec.specs.declared.block.Block.{Block}
 use Rattle.block_log.specs.Standing.{Standing, NotALog, Damaged, Placer, NextBlock, next_block}
-use Rattle.block_log.specs.Standing.{blocks_of, chain_of}
+use Rattle.block_log.specs.Standing.{Logged, with_blocks, logged_of, chain_of}
 use Rattle.block_log.specs.Log.{LogState, Agrees, IsOldOrNew, next_in_log}
 use Rattle.block_log.specs.declared.layout.Stored.{Stored}
 use Rattle.rooted_chain.specs.chain_exec.Compiled.{compiled_in}
@@ -43,40 +42,53 @@ pub record NodeState : Type 0 where
 abbrev pub lineage_in : NodeState → LineageState
 lineage_in node = lineage_of node.chain node.bodies
 
--- The log holds the number of the chain's blocks and the digest of the last one.
+-- The log holds the number of the chain's blocks and the digest of the last one. If it has no head,
+-- it has no mark either.
 pub record AreOfOneChain (chain : ChainState) (log : LogState) : Type 0 where
   pub count_is : log.count ≡ length chain.digests
   pub last_is : log.last ≡ last_digest chain.digests
+  pub headless : log.is_ready ≡ false → log.is_marked ≡ false
 
--- The place of a block after those of a log, with the rows of these counted. A log has blocks of
--- the first version alone.
+-- The chain of these blocks, marked as the log is.
+abbrev pub logged_in : LogState → List Block → Logged
+logged_in log blocks = record { blocks = blocks; marked = log.is_marked }
+
+-- The place of a block after those of a log that is marked or isn't, with the rows of these
+-- counted.
 abbrev pub stored_placement : Placer
-stored_placement = placement_by_mark compiled_in false
+stored_placement = placement_by_mark compiled_in
 
 -- The next block of a chain, with the rows of the blocks before it counted.
 abbrev pub next_in_chain : NextBlock
 next_in_chain = next_block block_in stored_placement
 
--- The chain that the bytes of a log stand for, with rows counted.
-abbrev pub chain_in : List ℕ → Option (List Block)
+-- The chain that the bytes of a log stand for, with rows counted, and whether it is marked.
+abbrev pub chain_in : List ℕ → Option Logged
 chain_in image = chain_of next_in_chain image
 
--- The bytes on the disk are those that the log agrees with, and stand for these blocks.
+-- The bytes on the disk are those that the log agrees with, and stand for these blocks, marked as
+-- the log is.
 pub record HoldsChain (log : LogState) (blocks : List Block) (image : List ℕ) : Type 0 where
   pub agrees : Agrees log image
-  pub stands : chain_in image ≡ Some blocks
+  pub stands : chain_in image ≡ Some (logged_in log blocks)
 
--- A chain and a log of these blocks: the chain stands for them, they have the first version, and if
--- the disk is known, nothing is pending and its content stands for them.
+-- A chain and a log of these blocks: the chain stands for them; if the log is not marked, the last
+-- one has the first version; and if the disk is known, nothing is pending and its content stands
+-- for them.
 pub record AreOfBlocks (chain : ChainState) (held : LogState) (state : Option DiskState)
     (blocks : List Block) : Type 0 where
   pub kept : StandsFor chain blocks
-  pub first : last_version blocks ≡ FIRST_VERSION
+  pub fits : FitsVersions held.is_marked blocks
   pub log : Rests state (HoldsChain held blocks)
 
 -- A node of these blocks.
 abbrev pub IsNodeOf : NodeState → Option DiskState → List Block → Type 0
 IsNodeOf node state blocks = AreOfBlocks node.chain node.log state blocks
+
+-- A chain and a log of these blocks, which is marked exactly if they are.
+abbrev pub AreOfLogged : ChainState → LogState → Option DiskState → Logged → Type 0
+AreOfLogged chain held state logged = AreOfBlocks chain held state logged.blocks
+    × (held.is_marked ≡ logged.marked)
 
 -- A node over a disk and a scratch device. Whether or not it is known which bytes the device holds,
 -- the lineage agrees with the device, and if the disk is known, nothing is pending, and the log
@@ -96,44 +108,46 @@ IsNoStart stands starts.DiskFault = Unit {0}
 IsNoStart stands starts.ScratchFault = Unit {0}
 IsNoStart stands starts.Memory = Unit {0}
 
--- What is started on bytes that stand for this: it is of their blocks, in the sense of `IsOf`, or
+-- What is started on bytes that stand for this: it is of what they hold, in the sense of `IsOf`, or
 -- the error says why nothing was started.
-abbrev pub IsStarted : {A : Type 0} → (A → List Block → Type 0) → Standing → Result A StartError
+abbrev pub IsStarted : {A : Type 0} → (A → Logged → Type 0) → Standing → Result A StartError
     → Type 0
-IsStarted IsOf stands (Ok started) = (blocks : List Block) × (blocks_of stands ≡ Some blocks)
-    × IsOf started blocks
+IsStarted IsOf stands (Ok started) = (logged : Logged) × (logged_of stands ≡ Some logged)
+    × IsOf started logged
 IsStarted IsOf stands (Err error) = IsNoStart stands error
 
--- A node of the blocks, on this disk, was started.
+-- A node of the blocks, on this disk, was started, with a log that is marked exactly if they are.
 abbrev pub IsNodeStarted : Option DiskState → Standing → Result NodeState StartError → Type 0
-IsNodeStarted state stands result = IsStarted (λ node. IsNodeOf node state) stands result
+IsNodeStarted state stands result = IsStarted (λ node. AreOfLogged node.chain node.log state) stands
+    result
 
 -- A chain was started that stands for the blocks.
 abbrev pub IsChainStored : Standing → Result ChainState StartError → Type 0
-IsChainStored stands result = IsStarted StandsFor stands result
+IsChainStored stands result = IsStarted (λ chain logged. StandsFor chain logged.blocks) stands
+    result
 
 -- ---- one more block
 
 -- What a crash may leave while bytes with this judgement are taken: the chain from before, or that
 -- with the block that they add.
-abbrev pub IsStepOf : List Block → Result Taken Refusal → List ℕ → Type 0
-IsStepOf blocks (Ok frame) image = (chain_in image ≡ Some blocks)
-    ⊎ (chain_in image ≡ Some (blocks ++ added_by frame))
-IsStepOf blocks (Err refusal) image = chain_in image ≡ Some blocks
+abbrev pub IsStepOf : Logged → Result Taken Refusal → List ℕ → Type 0
+IsStepOf logged (Ok frame) image = (chain_in image ≡ Some logged)
+    ⊎ (chain_in image ≡ Some (with_blocks logged (added_by frame)))
+IsStepOf logged (Err refusal) image = chain_in image ≡ Some logged
 
 -- What a crash may leave of the log by itself, with rows not counted, while bytes that spell this
 -- are taken: the chain from before, or that with the block that they spell.
-abbrev pub IsLogStepOf : List Block → Result Block ℕ → List ℕ → Type 0
-IsLogStepOf blocks (Ok block) image = IsOldOrNew next_in_log blocks block image
-IsLogStepOf blocks (Err offset) image = chain_of next_in_log image ≡ Some blocks
+abbrev pub IsLogStepOf : Logged → Result Block ℕ → List ℕ → Type 0
+IsLogStepOf logged (Ok block) image = IsOldOrNew next_in_log logged block image
+IsLogStepOf logged (Err offset) image = chain_of next_in_log image ≡ Some logged
 
 -- While these bytes are taken, a crash at any moment leaves only that. It is said of the log alone,
 -- so it holds whatever the scratch device returns.
 abbrev pub KeepsLog : {D : Type 0} → (D → ℕ) → (D → ℕ → Option DiskState) → D → D → List ℕ → Type 0
-KeepsLog now disk old new bytes = (blocks : List Block) (content : List ℕ)
+KeepsLog now disk old new bytes = (logged : Logged) (content : List ℕ)
     → content_of (disk old (now old)) ≡ Some content
-    → chain_of next_in_log content ≡ Some blocks
-    → Keeps now disk old new (IsLogStepOf blocks (block_in bytes))
+    → chain_of next_in_log content ≡ Some logged
+    → Keeps now disk old new (IsLogStepOf logged (block_in bytes))
 
 -- What is reported of bytes with this judgement that were not refused. A block that is held already
 -- leaves the node as it was; an added one is reported with its rows, its receipts and the root at
@@ -223,3 +237,18 @@ abbrev pub IfNode : (NodeState → Type 0)
     → Result (NodeState × Appended) (Option NodeState × AppendError) → Type 0
 IfNode P (Ok done) = P done.0
 IfNode P (Err back) = IfSome back.0 P
+
+-- ---- the mark
+
+-- A log with a head and a mark, of as many blocks as another, with the same last one.
+pub record IsMarkedLog (old new : LogState) : Type 0 where
+  pub count_is : new.count ≡ old.count
+  pub last_is : new.last ≡ old.last
+  pub marked_is : new.is_marked ≡ true
+  pub has_head : new.is_ready ≡ true
+
+-- What marking a node leaves of it: the same chain, with the same bodies, and a log that is marked.
+pub record IsUpgraded (old new : NodeState) : Type 0 where
+  pub chain_is : new.chain ≡ old.chain
+  pub bodies_are : new.bodies ≡ old.bodies
+  pub log : IsMarkedLog old.log new.log

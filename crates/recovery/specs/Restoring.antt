@@ -15,7 +15,7 @@ use Rattle.block_log.specs.declared.layout.Stored.{Stored}
 use Rattle.block_log.specs.declared.error.LogError.{LogError}
 use Rattle.block_log.specs.declared.error.LogError.TheVariants as errors
 use Rattle.rooted_chain.specs.chain_replay.Chain.{ChainState, StandsFor}
-use Rattle.recovery.specs.Node.{chain_in, next_in_chain, stored_placement}
+use Rattle.recovery.specs.Node.{chain_in, logged_in, next_in_chain, stored_placement}
 use Rattle.recovery.specs.declared.errors.StartError.{StartError}
 use Rattle.recovery.specs.declared.errors.StartError.TheVariants as starts
 
@@ -42,12 +42,13 @@ pub record RunsOn {S : Type 0} (calls : Bool) (state : S → ScratchState) (faul
   pub serves : Serves state faults old new Blames
   pub unused : calls ≡ false → (new ≡ old) × (Blames → ⊥)
 
--- The block is the next one after these, and the chain is that with it; or it isn't, and this is
--- the offset of its gate. `kept` is what is kept of a chain.
-abbrev pub IsRun : {C : Type 0} → (C → ChainState) → List Block → Stored → Result C ℕ → Type 0
-IsRun kept blocks next (Ok chain) = (stored_placement blocks next.block ≡ Next)
+-- The block is the next one after these, in a log that is marked or isn't, and the chain is that
+-- with it; or it isn't, and this is the offset of its gate. `kept` is what is kept of a chain.
+abbrev pub IsRun : {C : Type 0} → (C → ChainState) → Bool → List Block → Stored → Result C ℕ
+    → Type 0
+IsRun kept marked blocks next (Ok chain) = (stored_placement marked blocks next.block ≡ Next)
     × StandsFor (kept chain) (blocks ++ next.block ∷ [])
-IsRun kept blocks next (Err at) = (stored_placement blocks next.block ≡ Next → ⊥)
+IsRun kept marked blocks next (Err at) = (stored_placement marked blocks next.block ≡ Next → ⊥)
     × (at ≡ next.place)
 
 -- This holds of what was made, if anything was.
@@ -71,8 +72,9 @@ pub record HasRun (chain : ChainState) (log : LogState) (content : Option (List 
   pub stored : List Stored
   pub all : AreAll log content stored
   pub stands : StandsFor chain (blocks_in stored)
-  -- If the content is known it stands for them, with rows counted.
-  pub counted : (image : List ℕ) → content ≡ Some image → chain_in image ≡ Some (blocks_in stored)
+  -- If the content is known it stands for them, with rows counted, marked as the log is.
+  pub counted : (image : List ℕ) → content ≡ Some image
+      → chain_in image ≡ Some (logged_in log (blocks_in stored))
 
 -- What restoring the chain of a log returns, by its content.
 abbrev pub IsRestored : {C : Type 0} → (C → ChainState) → Option (List ℕ)

@@ -1,12 +1,13 @@
 //! Taking a block: it has run before it is stored, so storing it can fail for the disk only.
 
-ghost use Rattle.std.specs.Prelude.{◌≡◌, ℕ, List, Ok, Some, false, true};
+ghost use Rattle.std.specs.Prelude.{◌≡◌, ℕ, List, Ok, Some, IfOk, false, true};
 ghost use Rattle.lc_base.specs.Faults.{HasCause};
 ghost use Rattle.scratch_model.specs.Scratch.{is_known, Serves};
 ghost use Rattle.disk_model.specs.{Disk.{Keeps, content_of}, Leaving.{LeavesWire}};
 ghost use Rattle.block_codec.specs.{Reading.{block_in}, declared.block.Block.{Block as Blocks}};
-ghost use Rattle.rooted_chain.specs.chain_replay.Judging.{Added, judgement_of, IsNextBlock};
-ghost use Rattle.recovery.specs.Node.{IsNodeOf, IsReady, IsStepOf, KeepsLog, IsAppendAnswer, append_error, Blames, HandsBack, IfNode, is_disk_fault, is_scratch_fault, reaches_disk, stored_placement};
+ghost use Rattle.rooted_chain.specs.chain_replay.Chain.{StandsFor};
+ghost use Rattle.rooted_chain.specs.chain_replay.Judging.{Added, judgement_of, IfNext, IsJudged, IsNextBlock};
+ghost use Rattle.recovery.specs.Node.{IsNodeOf, IsReady, IsStepOf, logged_in, KeepsLog, IsAppendAnswer, append_error, Blames, HandsBack, IfNode, is_disk_fault, is_scratch_fault, reaches_disk, stored_placement};
 
 use crate::errors::AppendError;
 use crate::node::{Appended, Node};
@@ -30,6 +31,19 @@ fn run_error(error: HostError) -> AppendError
 }
 
 impl Node {
+    /// Judges bytes, by the mark of the log.
+    fn judge(&self, alloc: Global, bytes: &[u8]) -> Result<Judged, Memory>
+        ensures judged { IfOk result (λ answer. (blocks : List Blocks)
+            → StandsFor self.now.chain blocks
+            → IsJudged answer
+            (judgement_of (stored_placement self.now.log.is_marked) blocks (block_in bytes.now))) }
+        ensures next { IfOk result (λ answer. IfNext answer
+            (IsNextBlock (Marking.OfLog self.now.log.is_marked) self.now.chain bytes.now)) }
+    {
+        let marked = self.marked();
+        self.chain.judge(alloc, bytes, Marking::OfLog { marked })
+    }
+
     /// Runs the next block of the chain, and then stores it: by then it is known that there is
     /// memory for it, and that the scratch device keeps it.
     fn add<M: Disk, S: Scratch>(
@@ -42,22 +56,26 @@ impl Node {
         bytes: &[u8],
     ) -> Result<(Node, Appended), (Option<Node>, AppendError)>
         requires ready { IsReady self (M.disk machine.old (M.now machine.old)) (S.state scratch.old) }
-        requires next { IsNextBlock (Marking.OfLog false) self.chain bytes.now block.now digest }
+        requires next { IsNextBlock (Marking.OfLog self.log.is_marked) self.chain bytes.now
+            block.now digest }
         ensures answer { is_known (S.state scratch.old) ≡ true → (blocks : List Blocks)
             → IsNodeOf self (M.disk machine.old (M.now machine.old)) blocks
-            → judgement_of stored_placement blocks (block_in bytes.now) ≡ Ok (Added block.now)
+            → judgement_of (stored_placement self.log.is_marked) blocks (block_in bytes.now)
+            ≡ Ok (Added block.now)
             → IsAppendAnswer self (M.disk machine.new (M.now machine.new)) blocks
             (Ok (Added block.now)) result }
         ensures images { is_known (S.state scratch.old) ≡ true
             → (blocks : List Blocks) (content : List ℕ)
             → IsNodeOf self (M.disk machine.old (M.now machine.old)) blocks
             → content_of (M.disk machine.old (M.now machine.old)) ≡ Some content
-            → judgement_of stored_placement blocks (block_in bytes.now) ≡ Ok (Added block.now)
+            → judgement_of (stored_placement self.log.is_marked) blocks (block_in bytes.now)
+            ≡ Ok (Added block.now)
             → Keeps M.now M.disk machine.old machine.new
-            (IsStepOf blocks (Ok (Added block.now))) }
+            (IsStepOf (logged_in self.log blocks) (Ok (Added block.now))) }
         ensures log_images { KeepsLog M.now M.disk machine.old machine.new bytes.now }
         ensures ready { IfNode (λ node. IsReady node (M.disk machine.new (M.now machine.new))
             (S.state scratch.new)) result }
+        ensures marked { IfNode (λ node. node.log.is_marked ≡ self.log.is_marked) result }
         ensures handed { HandsBack result }
         ensures untouched { reaches_disk result ≡ false → machine.new ≡ machine.old }
         ensures wire { LeavesWire M.told M.wire_faults machine.old machine.new }
@@ -108,23 +126,27 @@ impl Node {
         ensures answer { is_known (S.state scratch.old) ≡ true → (blocks : List Blocks)
             → IsNodeOf self (M.disk machine.old (M.now machine.old)) blocks
             → IsAppendAnswer self (M.disk machine.new (M.now machine.new)) blocks
-            (judgement_of stored_placement blocks (block_in bytes.now)) result }
+            (judgement_of (stored_placement self.log.is_marked) blocks (block_in bytes.now))
+            result }
         // A crash at any moment leaves the chain from before the call, or that with the next block.
         ensures images { is_known (S.state scratch.old) ≡ true
             → (blocks : List Blocks) (content : List ℕ)
             → IsNodeOf self (M.disk machine.old (M.now machine.old)) blocks
             → content_of (M.disk machine.old (M.now machine.old)) ≡ Some content
             → Keeps M.now M.disk machine.old machine.new
-            (IsStepOf blocks (judgement_of stored_placement blocks (block_in bytes.now))) }
+            (IsStepOf (logged_in self.log blocks)
+            (judgement_of (stored_placement self.log.is_marked) blocks (block_in bytes.now))) }
         // Whether or not that is known, and so whatever the device returns: a crash at any moment
         // leaves the chain from before the call, or that with the block that the bytes spell, if
         // rows are not counted. Nothing else depends on the device than the rows, which can only
         // refuse a block.
         ensures log_images { KeepsLog M.now M.disk machine.old machine.new bytes.now }
-        // A node that is returned, with or without an error, is ready for the next block; and it is
-        // returned with an error exactly if the bytes are refused.
+        // A node that is returned, with or without an error, is ready for the next block, and its
+        // log is marked exactly if it was; and it is returned with an error exactly if the bytes
+        // are refused.
         ensures ready { IfNode (λ node. IsReady node (M.disk machine.new (M.now machine.new))
             (S.state scratch.new)) result }
+        ensures marked { IfNode (λ node. node.log.is_marked ≡ self.log.is_marked) result }
         ensures handed { HandsBack result }
         // If no block was stored and the disk did not fail, also after ScratchFault and Memory, the
         // disk was not touched, and the content at entry is all that a crash could have left.
@@ -138,10 +160,7 @@ impl Node {
         ensures scratch { Serves S.state S.scratch_faults scratch.old scratch.new
             (Blames is_scratch_fault result) }
     {
-        match self
-            .chain
-            .judge(alloc, bytes, Marking::OfLog { marked: false })
-        {
+        match self.judge(alloc, bytes) {
             Ok(Judged::Known { number }) => Ok((self, Appended::Known { number })),
             Ok(Judged::Next { block, digest }) => {
                 self.add(alloc, machine, scratch, &block, digest, bytes)

@@ -9,6 +9,7 @@ mod node;
 mod opening;
 mod restoring;
 mod storing;
+mod upgrading;
 
 pub use errors::{AppendError, StartError};
 pub use node::{Appended, Node};

@@ -114,6 +114,14 @@ impl Node {
         self.chain.root(at)
     }
 
+    /// Whether its log is marked, so that its next block has the second version. Else it has the
+    /// first.
+    pub fn marked(&self) -> bool
+        ensures { result ≡ self.now.log.is_marked }
+    {
+        self.log.marked()
+    }
+
     /// The lineage of its chain.
     pub fn lineage(&self) -> &Lineage
         ensures { result.now ≡ lineage_in self.now }

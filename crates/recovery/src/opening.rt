@@ -6,7 +6,7 @@ ghost use Rattle.block_codec.specs.declared.block.Block.{Block as Blocks};
 ghost use Rattle.block_log.specs.{Standing.{standing}, Log.{Agrees}};
 ghost use Rattle.rooted_chain.specs.chain_replay.Chain.{IsKnownFor, StandsFor};
 ghost use Rattle.recovery.specs.{
-  Node.{AreOfBlocks, AreOfOneChain, IsStarted, IsChainStored, next_in_chain},
+  Node.{AreOfBlocks, AreOfLogged, AreOfOneChain, IsStarted, IsChainStored, next_in_chain},
   Restoring.{ReadsLog, RunsOn},
 };
 
@@ -30,7 +30,7 @@ pub fn open<C: Replay, M: Disk, S: Scratch>(
     // Holds if the scratch device is not called, or if it is known which bytes it holds.
     ensures answer { IsKnownFor C.calls_scratch (S.state scratch.old) → (content : List ℕ)
         → content_of (M.disk machine.old (M.now machine.old)) ≡ Some content
-        → IsStarted (λ opened. AreOfBlocks (C.kept opened.0) opened.1
+        → IsStarted (λ opened. AreOfLogged (C.kept opened.0) opened.1
         (M.disk machine.new (M.now machine.new))) (standing next_in_chain content) result }
     ensures blocks { IsKnownFor C.calls_scratch (S.state scratch.old)
         → IfOk result (λ opened. (blocks : List Blocks)

@@ -4,9 +4,8 @@ ghost use Rattle.std.specs.Prelude.{◌≡◌, [], ◌∷◌, ◌++◌, List, If
 ghost use Rattle.disk_model.specs.Disk.{content_of};
 ghost use Rattle.block_codec.specs.{
   Spelling.{IsBlock},
-  Placement.{digest_of, last_version},
+  Placement.{digest_of, FitsVersions},
   declared.block.Block.{Block as Blocks},
-  declared.block.TheConstants.{FIRST_VERSION},
 };
 ghost use Rattle.block_log.specs.Reader.{AreRead};
 ghost use Rattle.rooted_chain.specs.chain_replay.Chain.{IsKnownFor, StandsFor};
@@ -45,20 +44,21 @@ impl From<Memory> for StartError {
 }
 
 /// Runs a block of a log and returns the chain with it. The offset of its gate is returned instead
-/// if it is not the next block, as those before it wrote too many rows. The blocks of a log have
-/// the first version.
+/// if it is not the next block, as those before it wrote too many rows. `marked` says whether the
+/// mark of the log stands before it.
 fn run_stored<C: Replay, S: Scratch>(
     alloc: Global,
     chain: C,
     scratch: &mut S,
     next: &Stored,
+    marked: bool,
 ) -> Result<Result<C, u64>, HostError>
     requires is_block { IsBlock next.now.block }
     requires agrees { C.agrees chain (S.state scratch.old) }
     ensures run { IsKnownFor C.calls_scratch (S.state scratch.old) → (blocks : List Blocks)
-        → StandsFor (C.kept chain) blocks → last_version blocks ≡ FIRST_VERSION
+        → StandsFor (C.kept chain) blocks → FitsVersions marked blocks
         → next.now.digest ≡ digest_of next.now.block
-        → IfOk result (IsRun C.kept blocks next.now) }
+        → IfOk result (IsRun C.kept marked blocks next.now) }
     ensures digests { IfOk result
         (IfMade (λ longer. (C.kept longer).digests ≡ (C.kept chain).digests ++ next.now.digest ∷
         [])) }
@@ -66,7 +66,7 @@ fn run_stored<C: Replay, S: Scratch>(
     ensures scratch { RunsOn C.calls_scratch S.state S.scratch_faults scratch.old scratch.new
         (IsErrOf result HostError.Fault) }
 {
-    match chain.place(&next.block, next.digest, false) {
+    match chain.place(&next.block, next.digest, marked) {
         Placement::Next => {
             let longer = chain.replay(alloc, scratch, &next.block, next.digest)?;
             Ok(Ok(longer))
@@ -101,12 +101,14 @@ pub fn restore<C: Replay, M: Disk, S: Scratch>(
     let mut chain = C::start(resources)?;
     let mut reader = first;
     loop {
+        let marked = reader.marked();
         match reader.next(resources.alloc, machine)? {
             Turn::End { log } => return Ok((chain, log)),
+            Turn::Mark { reader: further } => reader = further,
             Turn::Block {
                 next,
                 reader: further,
-            } => match run_stored(resources.alloc, chain, scratch, &next) {
+            } => match run_stored(resources.alloc, chain, scratch, &next, marked) {
                 Ok(Ok(longer)) => {
                     chain = longer;
                     reader = further;

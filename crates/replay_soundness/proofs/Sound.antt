@@ -22,9 +22,9 @@ accepted_proofs_answer_as_replays root query proof answer is compile blocks bloc
     accepted_is_sound root query proof answer is.lawful is.accepted (replay compile blocks).rows (map digest_of blocks) block typed.history fits has.root_is
 
 pub accepted_proofs_answer_as_logs : AcceptedProofsAnswerAsLogs
-accepted_proofs_answer_as_logs read compile marked image blocks block query proof answer decodes right fits stands within is =
-    accepted_proofs_answer_as_replays _ query proof answer is compile blocks block
-    (record { right = right; chain = logs_hold_chains read compile marked image blocks decodes fits stands; within = within; root_is = refl })
+accepted_proofs_answer_as_logs read compile image logged block query proof answer decodes right fits stands within is =
+    accepted_proofs_answer_as_replays _ query proof answer is compile logged.blocks block
+    (record { right = right; chain = (logs_hold_chains read compile image logged decodes fits stands).0; within = within; root_is = refl })
 
 -- ---- two of them
 

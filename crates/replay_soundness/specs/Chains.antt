@@ -4,7 +4,7 @@ use Rattle.byte_fields.specs.Spelling.{IsBytes}
 use Rattle.block_codec.specs.Placement.{FitsVersions}
 use Rattle.block_codec.specs.Spelling.{Decoder, IsDecoder}
 use Rattle.block_codec.specs.declared.block.Block.{Block}
-use Rattle.block_log.specs.Standing.{next_block, chain_of}
+use Rattle.block_log.specs.Standing.{Logged, next_block, chain_of}
 use Rattle.replay_soundness.specs.chain_exec.Compiled.{Compiler}
 use Rattle.replay_soundness.specs.chain_replay.Chain.{placement_by_mark, placement_in}
 use Rattle.replay_soundness.specs.chain_replay.Judging.{added_by_all}
@@ -12,11 +12,13 @@ use Rattle.chain_input.specs.Folding.{fold_from, fold_input}
 use Rattle.replay_soundness.specs.TypedChains.{IsLawfulChain}
 
 -- The blocks that the bytes of a log stand for are a chain, where each is placed as in a chain that
--- is `marked` or isn't: so all have the second version, or all the first.
+-- is marked or isn't, as the mark stands before it or doesn't; and the mark fits them, as it must for
+-- the frames of an input to add to the log.
 abbrev pub LogsHoldChains : Type 0
 LogsHoldChains =
-    (read : Decoder) (compile : Compiler) (marked : Bool) (image : List ℕ) (blocks : List Block) → IsDecoder read → IsBytes image
-    → chain_of (next_block read (placement_by_mark compile marked)) image ≡ Some blocks → IsLawfulChain compile blocks
+    (read : Decoder) (compile : Compiler) (image : List ℕ) (logged : Logged) → IsDecoder read → IsBytes image
+    → chain_of (next_block read (placement_by_mark compile)) image ≡ Some logged
+    → IsLawfulChain compile logged.blocks × FitsVersions logged.marked logged.blocks
 
 -- A chain with the blocks that the frames of an input add to it is a chain, wherever the frames
 -- end: where the versions of its blocks say which version is next;

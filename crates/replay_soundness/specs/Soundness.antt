@@ -1,5 +1,5 @@
 -- What accepted proofs say of replays: the answer is that of the replay, or texts clash.
-use Rattle.std.specs.Prelude.{◌≡◌, ◌≢◌, ◌⊎◌, ◌<◌, ℕ, Bool, List, length, map, Option, Some, Ok}
+use Rattle.std.specs.Prelude.{◌≡◌, ◌≢◌, ◌⊎◌, ◌<◌, ℕ, List, length, map, Option, Some, Ok}
 use Rattle.std.specs.Prelude.{IsSomeAnd}
 use Rattle.byte_fields.specs.Spelling.{IsBytes}
 use Rattle.lc_base.specs.declared.answer.Query.{Query}
@@ -10,7 +10,7 @@ use Rattle.merkle_tree.specs.Clash.{Clash}
 use Rattle.block_codec.specs.Placement.{digest_of}
 use Rattle.block_codec.specs.Spelling.{Decoder, IsDecoder}
 use Rattle.block_codec.specs.declared.block.Block.{Block}
-use Rattle.block_log.specs.Standing.{next_block, chain_of}
+use Rattle.block_log.specs.Standing.{Logged, next_block, chain_of}
 use Rattle.replay_soundness.specs.chain_exec.Compiled.{Compiler, IsCompiler}
 use Rattle.replay_soundness.specs.chain_exec.Replay.{replay}
 use Rattle.replay_soundness.specs.chain_replay.Chain.{placement_by_mark}
@@ -73,14 +73,14 @@ AcceptedProofsAnswerAsReplays =
     → AnswersAsReplays root query proof answer
 
 -- A proof that is accepted under the root at a block of the chain that a log stands for, where each
--- block is placed as in a chain that is `marked` or isn't, has the answer of that chain, or there
--- is a clash.
+-- block is placed as the mark stands before it or doesn't, has the answer of that chain, or there is
+-- a clash.
 abbrev pub AcceptedProofsAnswerAsLogs : Type 0
 AcceptedProofsAnswerAsLogs =
-    (read : Decoder) (compile : Compiler) (marked : Bool) (image : List ℕ) (blocks : List Block) (block : ℕ) (query : Query) (proof : Proof) (answer : Answer)
-    → IsDecoder read → IsCompiler compile → IsBytes image → chain_of (next_block read (placement_by_mark compile marked)) image ≡ Some blocks
-    → block < length blocks → IsAccepted (root_in compile blocks block) query proof answer
-    → AnswersAsReplay compile blocks block query proof answer
+    (read : Decoder) (compile : Compiler) (image : List ℕ) (logged : Logged) (block : ℕ) (query : Query) (proof : Proof) (answer : Answer)
+    → IsDecoder read → IsCompiler compile → IsBytes image → chain_of (next_block read (placement_by_mark compile)) image ≡ Some logged
+    → block < length logged.blocks → IsAccepted (root_in compile logged.blocks block) query proof answer
+    → AnswersAsReplay compile logged.blocks block query proof answer
 
 -- Two proofs that are accepted for one query under a root that a chain has, have one answer, or one
 -- of them clashes with the texts of the chain.

@@ -2,8 +2,8 @@
 
 ghost use Rattle.replay_soundness.specs.Chains.{LogsHoldChains, InputsAddToChains, InputsAddToLogs, InputsHoldChains};
 
-/// The blocks that the bytes of a log stand for are a chain: all of the first version, or all of
-/// the second.
+/// The blocks that the bytes of a log stand for are a chain, and its mark fits them: where it has
+/// none, the last one has the first version.
 pub fn logs_hold_chains()
     ensures { LogsHoldChains }
 {}

@@ -1,6 +1,6 @@
 //! The placement of a block in a chain that is full, by its blocks or by its rows, and in one that
 //! is not yet: no chain of so many rows can be made here. And the placement of a block of either
-//! version in a chain that is marked, and in one that isn't: no command has a chain that is marked.
+//! version in a chain that is marked, and in one that isn't.
 
 ghost use Rattle.std.specs.Prelude.{◌≡◌, ◌≤◌, true, IfSome};
 ghost use Rattle.block_codec.specs.Spelling.{IsBlock, is_version};

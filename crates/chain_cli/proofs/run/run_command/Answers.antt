@@ -1,9 +1,8 @@
 use Rattle.std.proofs.Common.{Some}
 use Rattle.scratch_model.specs.Scratch.{is_known}
 use Rattle.cli_append.specs.recovery.Node.{next_in_chain}
-use Rattle.cli_words.specs.declared.words.Command.TheVariants.{Append}
 use Rattle.cli_output.specs.Telling.{status_of_result}
-use Rattle.chain_cli.proofs.Ends.{done_ends, of_given, no_log_found, others_keep}
+use Rattle.chain_cli.proofs.Ends.{done_ends, no_log_found, others_keep}
 use Rattle.chain_cli.proofs.Runs.{gen_run, found_run, of_command}
 use Rattle.chain_cli.proofs.run.run_command.Goals as goal
 
@@ -16,13 +15,10 @@ pub returns-in-Gen-clause-ends : goal.returns-in-Gen-clause-ends
 returns-in-Gen-clause-ends g c =
     done_ends c.generate.result c.args.command.now c.generate.ensures.ending c.generate.ensures.only
 
-pub returns-in-Append-clause-ends : goal.returns-in-Append-clause-ends
-returns-in-Append-clause-ends g c = of_given (status_of_result c.append.result) c.args.command.now Append c.in-Append.is c.append.ensures.ends
-
 pub returns-in_default-clause-run : goal.returns-in_default-clause-run
 returns-in_default-clause-run g c =
     found_run g.M.Clock.now g.M.Clock.disk g.M.Clock.told c.args.machine.now c.find-found.new.machine c.tell.new.machine (Some c.args.command.now) c.find-found.result c.tell.result (g.I.Source.left c.args.source.now) (g.I.Source.left c.find-found.new.source) (is_known (g.S.Scratch.state c.args.scratch.now))
-    (others_keep c.args.command.now c.in_default.not-Append) c.requires.settled c.find-found.ensures.machine.stays c.find-found.ensures.machine.wire.told c.tell.ensures.disk.stays (c.tell.ensures.tells next_in_chain) c.find-found.ensures.found
+    (others_keep c.args.command.now c.in_default.not-Append c.in_default.not-Upgrade) c.requires.settled c.find-found.ensures.machine.stays c.find-found.ensures.machine.wire.told c.tell.ensures.disk.stays (c.tell.ensures.tells next_in_chain) c.find-found.ensures.found
 
 pub returns-in_default-clause-ends : goal.returns-in_default-clause-ends
 returns-in_default-clause-ends g c =

@@ -1,9 +1,9 @@
 use Rattle.std.proofs.Common.{rules}
 use Rattle.disk_model.proofs.Calls.{stay_keeps}
 use Rattle.block_log.specs.Log.{next_in_log}
-use Rattle.recovery.specs.Node.{next_in_chain}
+use Rattle.recovery.specs.Node.{next_in_chain, logged_in}
 use Rattle.recovery.proofs.merkle_dag.Causes.{unblamed}
-use Rattle.crash_promises.specs.Laws.{GoesOn}
+use Rattle.cli_append.specs.Appending.{Grows}
 use Rattle.cli_append.specs.declared.ending.RunStop.TheVariants as stops
 use Rattle.cli_append.proofs.Loop.{goes_still}
 use Rattle.cli_append.proofs.Turns.{all_appended, unread, stopped_within, refused}
@@ -14,14 +14,16 @@ pub returns-in-Ok-Whole-clause-appends : goal.returns-in-Ok-Whole-clause-appends
 returns-in-Ok-Whole-clause-appends g c known first input is left =
     let takes = rw c.in-Ok-Whole.field-0-is at c.in-Ok-Whole.ensures.takes in
     all_appended g.M.Clock.now g.M.Clock.disk g.M.Clock.told g.M.Clock.disk_faults
-    g.M.Clock.wire_faults g.S.Scratch.state g.S.Scratch.scratch_faults _ _ _ c.requires.ready known first input is left
+    g.M.Clock.wire_faults g.S.Scratch.state g.S.Scratch.scratch_faults _ _ _ c.requires.ready known
+    first input is left
     c.in-Ok-Whole.longer takes
 
 pub returns-in-Ok-Refused-clause-appends : goal.returns-in-Ok-Refused-clause-appends
 returns-in-Ok-Refused-clause-appends g c known first input is left =
     let takes = rw c.in-Ok-Refused.field-0-is at c.in-Ok-Refused.ensures.takes in
     refused g.M.Clock.now g.M.Clock.disk g.M.Clock.told g.M.Clock.disk_faults
-    g.M.Clock.wire_faults g.S.Scratch.state g.S.Scratch.scratch_faults _ _ _ c.requires.ready known first input is left
+    g.M.Clock.wire_faults g.S.Scratch.state g.S.Scratch.scratch_faults _ _ _ c.requires.ready known
+    first input is left
     c.refuse.new.machine c.in-Ok-Refused.frame c.refuse.result c.in-Ok-Refused.cause takes
     c.refuse.ensures.disk.stays (c.refuse.ensures.lines next_in_chain) c.refuse.ensures.end
 
@@ -29,14 +31,16 @@ pub returns-in-Err-Fault-clause-appends : goal.returns-in-Err-Fault-clause-appen
 returns-in-Err-Fault-clause-appends g c known first input is left =
     let takes = rw c.in-Err-Fault.field-0-is at c.in-Err-Fault.ensures.takes in
     unread g.M.Clock.now g.M.Clock.disk g.M.Clock.told g.M.Clock.disk_faults
-    g.M.Clock.wire_faults g.S.Scratch.state g.S.Scratch.scratch_faults _ _ _ c.requires.ready known first input is left
+    g.M.Clock.wire_faults g.S.Scratch.state g.S.Scratch.scratch_faults _ _ _ c.requires.ready known
+    first input is left
     _ stops.Unreadable takes takes.end
 
 pub returns-in-Err-Memory-clause-appends : goal.returns-in-Err-Memory-clause-appends
 returns-in-Err-Memory-clause-appends g c known first input is left =
     let takes = rw c.in-Err-Memory.field-0-is at c.in-Err-Memory.ensures.takes in
     unread g.M.Clock.now g.M.Clock.disk g.M.Clock.told g.M.Clock.disk_faults
-    g.M.Clock.wire_faults g.S.Scratch.state g.S.Scratch.scratch_faults _ _ _ c.requires.ready known first input is left
+    g.M.Clock.wire_faults g.S.Scratch.state g.S.Scratch.scratch_faults _ _ _ c.requires.ready known
+    first input is left
     _ stops.Memory takes takes.end
 
 pub returns-in-Err-Taker-clause-appends : goal.returns-in-Err-Taker-clause-appends
@@ -45,20 +49,21 @@ returns-in-Err-Taker-clause-appends g c known first input is left =
     search (
       rules,
       stopped_within g.M.Clock.now g.M.Clock.disk g.M.Clock.told g.M.Clock.disk_faults
-          g.M.Clock.wire_faults g.S.Scratch.state g.S.Scratch.scratch_faults _ _ _ c.requires.ready known first input is left
+          g.M.Clock.wire_faults g.S.Scratch.state g.S.Scratch.scratch_faults _ _ _ c.requires.ready
+          known first input is left
           c.in-Err-Taker.stop takes,
     )
 
 pub returns-in-Ok-Refused-clause-goes_on : goal.returns-in-Ok-Refused-clause-goes_on
 returns-in-Ok-Refused-clause-goes_on g c known first is is_told =
     goes_still g.M.Clock.now g.M.Clock.disk g.M.Clock.told c.args.machine.now
-    c.take_all.new.machine c.refuse.new.machine first
+    c.take_all.new.machine c.refuse.new.machine (logged_in c.args.node.log first)
     (c.take_all.ensures.goes_on known first is is_told) c.refuse.ensures.disk.stays
 
 pub returns-in-Ok-Refused-clause-log_goes_on : goal.returns-in-Ok-Refused-clause-log_goes_on
 returns-in-Ok-Refused-clause-log_goes_on g c content content_is =
     stay_keeps g.M.Clock.now g.M.Clock.disk c.args.machine.now c.take_all.new.machine
-    c.refuse.new.machine (GoesOn next_in_log content)
+    c.refuse.new.machine (Grows next_in_log content)
     (c.take_all.ensures.log_goes_on content content_is) c.refuse.ensures.disk.stays
 
 pub returns-in-Ok-Refused-clause-untold : goal.returns-in-Ok-Refused-clause-untold

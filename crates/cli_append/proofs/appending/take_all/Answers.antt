@@ -25,7 +25,8 @@ returns-clause-goes_on g c known blocks is is_told =
     search (
       rules,
       goes_ends g.M.Clock.now g.M.Clock.disk g.M.Clock.told g.M.Clock.disk_faults
-          g.M.Clock.wire_faults g.S.Scratch.state g.S.Scratch.scratch_faults _ _ _ c.requires.ready _ all known blocks is is_told,
+          g.M.Clock.wire_faults g.S.Scratch.state g.S.Scratch.scratch_faults _ _ _ c.requires.ready
+          _ all known blocks is is_told,
     )
 
 pub returns-clause-log_goes_on : goal.returns-clause-log_goes_on
@@ -37,7 +38,8 @@ returns-clause-log_goes_on g c content content_is =
     search (
       rules,
       log_ends g.M.Clock.now g.M.Clock.disk g.M.Clock.told g.M.Clock.disk_faults
-          g.M.Clock.wire_faults g.S.Scratch.state g.S.Scratch.scratch_faults _ _ _ c.requires.ready _ all content content_is,
+          g.M.Clock.wire_faults g.S.Scratch.state g.S.Scratch.scratch_faults _ _ _ c.requires.ready
+          _ all content content_is,
     )
 
 pub returns-clause-retains : goal.returns-clause-retains
@@ -49,7 +51,8 @@ returns-clause-retains g c =
     search (
       rules,
       retains_ends g.M.Clock.now g.M.Clock.disk g.M.Clock.told g.M.Clock.disk_faults
-          g.M.Clock.wire_faults g.S.Scratch.state g.S.Scratch.scratch_faults _ _ _ c.requires.ready _ all,
+          g.M.Clock.wire_faults g.S.Scratch.state g.S.Scratch.scratch_faults _ _ _ c.requires.ready
+          _ all,
     )
 
 pub returns-clause-disk_fault : goal.returns-clause-disk_fault
@@ -61,7 +64,8 @@ returns-clause-disk_fault g c =
     search (
       rules,
       disk_ends g.M.Clock.now g.M.Clock.disk g.M.Clock.told g.M.Clock.disk_faults
-          g.M.Clock.wire_faults g.S.Scratch.state g.S.Scratch.scratch_faults _ _ _ c.requires.ready _ all,
+          g.M.Clock.wire_faults g.S.Scratch.state g.S.Scratch.scratch_faults _ _ _ c.requires.ready
+          _ all,
     )
 
 pub returns-clause-scratch_fault : goal.returns-clause-scratch_fault
@@ -73,7 +77,8 @@ returns-clause-scratch_fault g c =
     search (
       rules,
       scratch_ends g.M.Clock.now g.M.Clock.disk g.M.Clock.told g.M.Clock.disk_faults
-          g.M.Clock.wire_faults g.S.Scratch.state g.S.Scratch.scratch_faults _ _ _ c.requires.ready _ all,
+          g.M.Clock.wire_faults g.S.Scratch.state g.S.Scratch.scratch_faults _ _ _ c.requires.ready
+          _ all,
     )
 
 pub returns-clause-untold : goal.returns-clause-untold
@@ -85,7 +90,8 @@ returns-clause-untold g c =
     search (
       rules,
       wire_ends g.M.Clock.now g.M.Clock.disk g.M.Clock.told g.M.Clock.disk_faults
-          g.M.Clock.wire_faults g.S.Scratch.state g.S.Scratch.scratch_faults _ _ _ c.requires.ready _ all,
+          g.M.Clock.wire_faults g.S.Scratch.state g.S.Scratch.scratch_faults _ _ _ c.requires.ready
+          _ all,
     )
 
 pub returns-clause-reads : goal.returns-clause-reads
@@ -95,4 +101,5 @@ returns-clause-reads g c is =
     g.M.Clock.wire_faults g.S.Scratch.state g.S.Scratch.scratch_faults)
     (λ s t chain frame turned has. has) _ _ _ _ c.take_frames.ensures.takes in
     reads_ends g.M.Clock.now g.M.Clock.disk g.M.Clock.told g.M.Clock.disk_faults
-    g.M.Clock.wire_faults g.S.Scratch.state g.S.Scratch.scratch_faults _ _ _ c.requires.ready _ all is
+    g.M.Clock.wire_faults g.S.Scratch.state g.S.Scratch.scratch_faults _ _ _ c.requires.ready _ all
+    is

@@ -10,6 +10,8 @@ pub returns : goal.returns
 returns c =
     let receipts = c.args.receipts.now in
     subst (λ (bytes : List ℕ). IfOk c.with_statuses.result (λ text. text.items ≡ bytes))
-    (ap (λ (first : List ℕ). first ++ flat_map (λ r. COMMA ∷ status_text r) (take (length receipts - 1) (drop 1 receipts))) (ap (λ v. v.items) c.into_bytes.ensures.value ∙ c.in_ok-first.ensures)
+    (ap (λ (first : List ℕ). first ++ flat_map (λ r. COMMA ∷ status_text r)
+    (take (length receipts - 1) (drop 1 receipts)))
+    (ap (λ v. v.items) c.into_bytes.ensures.value ∙ c.in_ok-first.ensures)
     ∙ all_statuses receipts _ c.if-is_empty.ensures)
     c.with_statuses.ensures

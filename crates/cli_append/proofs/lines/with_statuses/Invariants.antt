@@ -5,4 +5,5 @@ use Rattle.cli_append.specs.declared.lines.TheConstants.{COMMA}
 use Rattle.cli_append.proofs.lines.with_statuses.Given as goal
 
 abbrev pub invariant-loop-receipt : goal.invariant-loop-receipt
-invariant-loop-receipt l = l.longer.items ≡ l.fn.text.items ++ flat_map (λ r. COMMA ∷ status_text r) (take l.receipt-index l.receipts)
+invariant-loop-receipt l = l.longer.items ≡ l.fn.text.items ++ flat_map (λ r. COMMA ∷ status_text r)
+    (take l.receipt-index l.receipts)

@@ -1,7 +1,7 @@
 use Rattle.std.proofs.Common.{◌∙◌, refl}
 use Rattle.block_codec.specs.Reading.{block_in}
 use Rattle.recovery.specs.chain_replay.Judging.{judgement_of}
-use Rattle.recovery.specs.Node.{next_in_chain, stored_placement}
+use Rattle.recovery.specs.Node.{next_in_chain, stored_placement, logged_in}
 use Rattle.cli_append.proofs.Causes.{carried, kept}
 use Rattle.cli_append.proofs.Frames.{takes_whole, takes_part, takes_none, takes_refusal}
 use Rattle.cli_append.proofs.Frames.{images_told}
@@ -11,13 +11,15 @@ use Rattle.cli_append.proofs.taking.take_frame.Goals as goal
 pub returns-in-Ok-tell_line-clause-takes : goal.returns-in-Ok-tell_line-clause-takes
 returns-in-Ok-tell_line-clause-takes g c heard blocks is =
     let answer = c.in-Ok.ensures.answer heard blocks is in
-    let judgement = judgement_of stored_placement blocks (block_in c.args.frame.now) in
+    let judgement = judgement_of (stored_placement c.args.node.log.is_marked) blocks
+    (block_in c.args.frame.now) in
     takes_whole g.M.Clock.now g.M.Clock.disk g.M.Clock.told c.args.machine.now c.append.new.machine
-    c.tell_line.new.machine blocks (block_in c.args.frame.now) c.args.node c.in-Ok.longer
+    c.tell_line.new.machine (logged_in c.args.node.log blocks) (block_in c.args.frame.now)
+    c.args.node c.in-Ok.longer
     c.in-Ok.appended c.as_bytes.result.now
-    answer.0 (c.as_bytes.ensures ∙ c.in-Ok-appended_line.ensures)
+    answer.0 (c.as_bytes.ensures ∙ c.in-Ok-appended_line.ensures) c.in-Ok.ensures.marked
     (images_told g.M.Clock.now g.M.Clock.disk g.M.Clock.told c.args.machine.now
-    c.append.new.machine blocks judgement
+    c.append.new.machine (logged_in c.args.node.log blocks) judgement
     (λ content told. c.append.ensures.images heard blocks content is told))
     c.append.ensures.wire.told answer.1 (c.in-Ok-tell_line.ensures.lines next_in_chain)
     c.tell_line.ensures.disk.stays c.in-Ok.ensures.untouched
@@ -25,62 +27,75 @@ returns-in-Ok-tell_line-clause-takes g c heard blocks is =
 pub returns-in-Ok-appended_line-clause-takes : goal.returns-in-Ok-appended_line-clause-takes
 returns-in-Ok-appended_line-clause-takes g c heard blocks is =
     let answer = c.in-Ok.ensures.answer heard blocks is in
-    let judgement = judgement_of stored_placement blocks (block_in c.args.frame.now) in
+    let judgement = judgement_of (stored_placement c.args.node.log.is_marked) blocks
+    (block_in c.args.frame.now) in
     takes_part g.M.Clock.now g.M.Clock.disk g.M.Clock.told c.args.machine.now c.append.new.machine
-    c.tell_line.new.machine blocks (block_in c.args.frame.now) c.args.node c.in-Ok.longer
+    c.tell_line.new.machine (logged_in c.args.node.log blocks) (block_in c.args.frame.now)
+    c.args.node c.in-Ok.longer
     c.in-Ok.appended c.as_bytes.result.now _
-    answer.0 (c.as_bytes.ensures ∙ c.in-Ok-appended_line.ensures)
+    answer.0 (c.as_bytes.ensures ∙ c.in-Ok-appended_line.ensures) c.in-Ok.ensures.marked
     (images_told g.M.Clock.now g.M.Clock.disk g.M.Clock.told c.args.machine.now
-    c.append.new.machine blocks judgement
+    c.append.new.machine (logged_in c.args.node.log blocks) judgement
     (λ content told. c.append.ensures.images heard blocks content is told))
     c.append.ensures.wire.told answer.1 (c.in-Err-tell_line.ensures.lines next_in_chain)
     c.tell_line.ensures.disk.stays
 
 pub returns-in-Ok-clause-takes : goal.returns-in-Ok-clause-takes
 returns-in-Ok-clause-takes g c heard blocks is =
-    let judgement = judgement_of stored_placement blocks (block_in c.args.frame.now) in
+    let judgement = judgement_of (stored_placement c.args.node.log.is_marked) blocks
+    (block_in c.args.frame.now) in
     takes_none g.M.Clock.now g.M.Clock.disk g.M.Clock.told c.args.machine.now c.append.new.machine
-    blocks judgement _
+    (logged_in c.args.node.log blocks) judgement _
     (images_told g.M.Clock.now g.M.Clock.disk g.M.Clock.told c.args.machine.now c.append.new.machine
-    blocks judgement (λ content told. c.append.ensures.images heard blocks content is told))
+    (logged_in c.args.node.log blocks) judgement (λ content told. c.append.ensures.images heard
+    blocks content is told))
     c.append.ensures.wire.told
 
 pub returns-in-Refused-clause-takes : goal.returns-in-Refused-clause-takes
 returns-in-Refused-clause-takes g c heard blocks is =
-    let judgement = judgement_of stored_placement blocks (block_in c.args.frame.now) in
+    let judgement = judgement_of (stored_placement c.args.node.log.is_marked) blocks
+    (block_in c.args.frame.now) in
     let handed = rw c.in-Refused.is at (c.in-Err.ensures.answer heard blocks is) in
     let untouched = (rw c.in-Refused.is at c.in-Err.ensures.untouched) refl in
     takes_refusal g.M.Clock.now g.M.Clock.disk g.M.Clock.told c.args.machine.now
-    c.append.new.machine blocks judgement c.args.node c.in-Refused.refusal
+    c.append.new.machine (logged_in c.args.node.log blocks) judgement c.args.node
+    c.in-Refused.refusal refl
     (images_told g.M.Clock.now g.M.Clock.disk g.M.Clock.told c.args.machine.now c.append.new.machine
-    blocks judgement (λ content told. c.append.ensures.images heard blocks content is told))
+    (logged_in c.args.node.log blocks) judgement (λ content told. c.append.ensures.images heard
+    blocks content is told))
     c.append.ensures.wire.told untouched handed.0 handed.2
 
 pub returns-in-DiskFault-clause-takes : goal.returns-in-DiskFault-clause-takes
 returns-in-DiskFault-clause-takes g c heard blocks is =
-    let judgement = judgement_of stored_placement blocks (block_in c.args.frame.now) in
+    let judgement = judgement_of (stored_placement c.args.node.log.is_marked) blocks
+    (block_in c.args.frame.now) in
     takes_none g.M.Clock.now g.M.Clock.disk g.M.Clock.told c.args.machine.now c.append.new.machine
-    blocks judgement _
+    (logged_in c.args.node.log blocks) judgement _
     (images_told g.M.Clock.now g.M.Clock.disk g.M.Clock.told c.args.machine.now c.append.new.machine
-    blocks judgement (λ content told. c.append.ensures.images heard blocks content is told))
+    (logged_in c.args.node.log blocks) judgement (λ content told. c.append.ensures.images heard
+    blocks content is told))
     c.append.ensures.wire.told
 
 pub returns-in-ScratchFault-clause-takes : goal.returns-in-ScratchFault-clause-takes
 returns-in-ScratchFault-clause-takes g c heard blocks is =
-    let judgement = judgement_of stored_placement blocks (block_in c.args.frame.now) in
+    let judgement = judgement_of (stored_placement c.args.node.log.is_marked) blocks
+    (block_in c.args.frame.now) in
     takes_none g.M.Clock.now g.M.Clock.disk g.M.Clock.told c.args.machine.now c.append.new.machine
-    blocks judgement _
+    (logged_in c.args.node.log blocks) judgement _
     (images_told g.M.Clock.now g.M.Clock.disk g.M.Clock.told c.args.machine.now c.append.new.machine
-    blocks judgement (λ content told. c.append.ensures.images heard blocks content is told))
+    (logged_in c.args.node.log blocks) judgement (λ content told. c.append.ensures.images heard
+    blocks content is told))
     c.append.ensures.wire.told
 
 pub returns-clause-takes : goal.returns-clause-takes
 returns-clause-takes g c heard blocks is =
-    let judgement = judgement_of stored_placement blocks (block_in c.args.frame.now) in
+    let judgement = judgement_of (stored_placement c.args.node.log.is_marked) blocks
+    (block_in c.args.frame.now) in
     takes_none g.M.Clock.now g.M.Clock.disk g.M.Clock.told c.args.machine.now c.append.new.machine
-    blocks judgement _
+    (logged_in c.args.node.log blocks) judgement _
     (images_told g.M.Clock.now g.M.Clock.disk g.M.Clock.told c.args.machine.now c.append.new.machine
-    blocks judgement (λ content told. c.append.ensures.images heard blocks content is told))
+    (logged_in c.args.node.log blocks) judgement (λ content told. c.append.ensures.images heard
+    blocks content is told))
     c.append.ensures.wire.told
 
 pub returns-in-Ok-tell_line-clause-untold : goal.returns-in-Ok-tell_line-clause-untold
@@ -115,7 +130,8 @@ returns-in-Ok-tell_line-clause-log_goes_on g c content told = log_told g.M.Clock
     c.tell_line.ensures.disk.stays
 
 pub returns-in-Ok-appended_line-clause-log_goes_on : goal.returns-in-Ok-appended_line-clause-log_goes_on
-returns-in-Ok-appended_line-clause-log_goes_on g c content told = log_told g.M.Clock.now g.M.Clock.disk
+returns-in-Ok-appended_line-clause-log_goes_on g c content told = log_told g.M.Clock.now
+    g.M.Clock.disk
     c.args.machine.now c.append.new.machine c.tell_line.new.machine c.args.node.log content
     (block_in c.args.frame.now) c.requires.ready.log told c.append.ensures.log_images
     c.tell_line.ensures.disk.stays

@@ -7,8 +7,8 @@ use Rattle.rooted_chain.proofs.merkle_dag.Causes.{unblamed}
 use Rattle.disk_model.specs.Disk.{content_of}
 use Rattle.disk_model.proofs.Moments.{stays_on, stays_here}
 use Rattle.block_log.specs.Standing.{Damaged, blocks_in}
+use Rattle.block_log.specs.Log.{marks}
 use Rattle.block_log.specs.declared.layout.Stored.{Stored}
-use Rattle.block_log.proofs.FirstVersions.{last_stored_version}
 use Rattle.rooted_chain.specs.chain_replay.Chain.{ChainState}
 use Rattle.recovery.proofs.Replaying.{AreRun, none_run, one_run, not_run}
 use Rattle.recovery.proofs.Started.{has_run, failed_turn}
@@ -43,9 +43,10 @@ loop-log-preserved g c =
           let is = rw c.in-Ok-Ok.field-0-is at
           (c.in-Ok-Ok.ensures.run (λ calls. so_far.retains.known ∙ known calls)
           (blocks_in so_far.stored) (so_far.run known).stands
-          (last_stored_version so_far.stored so_far.read.are_stored) block.digest_is) in
+          (rw c.marked-marked.ensures so_far.read.held.fits) block.digest_is) in
           one_run so_far.stored (g.C.Replay.kept c.loop-log.chain) (so_far.run known)
-          c.in-Block.next (g.C.Replay.kept c.in-Ok-Ok.longer) is.0 is.1;
+          c.marked-marked.result c.in-Block.next (g.C.Replay.kept c.in-Ok-Ok.longer)
+          (rw c.marked-marked.ensures block.version_is) is.0 is.1;
       digests = digests ∙ ap (λ (ds : List Digest). ds ++ c.in-Block.next.digest ∷ [])
           so_far.digests ∙ sym (map_push (λ (one : Stored). one.digest) so_far.stored
           c.in-Block.next);
@@ -68,7 +69,7 @@ loop-log-preserved g c =
 pub loop-log-smaller : goal.loop-log-smaller
 loop-log-smaller g c =
     let block = rw c.in-Block.is at c.in_ok-log.ensures.block in
-    omega (arith, block.count_is, block.few)
+    omega (arith, block.count_is, block.few, ap marks block.marked_is)
 
 pub run_stored-requires-clause-is_block : goal.run_stored-requires-clause-is_block
 run_stored-requires-clause-is_block g c =
@@ -101,9 +102,10 @@ returns-in-Ok-Err-clause-restored g c known image told =
     let run = rw c.in-Ok-Err.field-0-is at
     (c.in-Ok-Err.ensures.run (λ calls. so_far.retains.known ∙ known calls)
     (blocks_in so_far.stored) (so_far.run known).stands
-    (last_stored_version so_far.stored so_far.read.are_stored) block.digest_is) in
+    (rw c.marked-marked.ensures so_far.read.held.fits) block.digest_is) in
     let damaged = not_run so_far.stored (g.C.Replay.kept c.loop-log.chain) (so_far.run known)
-    c.in-Block.next image _ _ _ run.0 (turn.stands image told) in
+    c.marked-marked.result _ c.in-Block.next image _ _ _
+    (rw c.marked-marked.ensures block.version_is) run.0 (turn.stands image told) in
     (so_far.stored, damaged ∙ ap (Damaged so_far.stored) (sym run.1))
 
 pub returns-in_err-log-clause-restored : goal.returns-in_err-log-clause-restored

@@ -1,9 +1,10 @@
-use Rattle.std.proofs.Common.{◌≡◌, ◌-◌, false, List}
+use Rattle.std.proofs.Common.{◌≡◌, ◌+◌, ◌-◌, false, List}
 use Rattle.lc_io.specs.Disk.{Stays}
 use Rattle.scratch_model.specs.Scratch.{Retains}
 use Rattle.disk_model.specs.Disk.{content_of}
-use Rattle.block_codec.specs.declared.limits.TheConstants.{MAX_BLOCKS}
+use Rattle.block_log.specs.Log.{marks}
 use Rattle.block_log.specs.Reader.{AreRead}
+use Rattle.block_log.specs.declared.layout.TheConstants.{MAX_MARKED_BLOCKS}
 use Rattle.block_log.specs.declared.layout.Stored.{Stored}
 use Rattle.rooted_chain.specs.chain_replay.Chain.{IsKnownFor}
 use Rattle.recovery.specs.Restoring.{digests_of}
@@ -28,4 +29,4 @@ invariant-loop-log g l = record {
 }
 
 abbrev pub decreases-loop-log : goal.decreases-loop-log
-decreases-loop-log g l = MAX_BLOCKS - l.reader.count
+decreases-loop-log g l = (MAX_MARKED_BLOCKS - l.reader.count) + (1 - marks l.reader.is_marked)

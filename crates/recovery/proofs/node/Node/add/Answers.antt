@@ -1,4 +1,4 @@
-use Rattle.std.proofs.Common.{◌≡◌, true, false, List, [], ◌∷◌, ◌++◌, length, Ok, refl, sym, ap, subst, ◌∙◌}
+use Rattle.std.proofs.Common.{◌≡◌, true, List, [], ◌∷◌, ◌++◌, length, Ok, refl, sym, ap, subst, ◌∙◌}
 use Rattle.std.proofs.Common.{true≢false}
 use Rattle.std.proofs.Common.{arith}
 use Rattle.std.proofs.lemmas.List.{length-append}
@@ -6,15 +6,17 @@ use Rattle.lc_base.specs.declared.row.Row.{Row}
 use Rattle.scratch_model.specs.Scratch.{is_known}
 use Rattle.block_codec.specs.Reading.{block_in}
 use Rattle.block_codec.specs.declared.block.Block.{Block}
+use Rattle.block_codec.specs.declared.placement.Placement.TheVariants.{Next}
 use Rattle.rooted_chain.specs.chain_exec.Compiled.{compiled_in}
 use Rattle.rooted_chain.specs.chain_exec.Effect.{History}
 use Rattle.rooted_chain.specs.chain_exec.Fold.{block_effects}
+use Rattle.rooted_chain.specs.chain_replay.Chain.{placement_in}
 use Rattle.rooted_chain.specs.chain_replay.Judging.{Added, judgement_of, IsNextBlock}
 use Rattle.rooted_chain.specs.chain_replay.declared.marking.Marking.TheVariants.{OfLog}
 use Rattle.rooted_chain.proofs.chain_replay.Judgements.{added_is_next}
 use Rattle.rooted_chain.specs.Roots.{kept_in}
 use Rattle.rooted_chain.proofs.merkle_dag.Causes.{unblamed}
-use Rattle.recovery.specs.Node.{NodeState, AreOfBlocks, IsNodeOf, stored_placement}
+use Rattle.recovery.specs.Node.{NodeState, AreOfBlocks, IsNodeOf, logged_in, stored_placement}
 use Rattle.recovery.specs.contracts.node.Node.{the_view}
 use Rattle.recovery.proofs.Placing.{next_of_log, next_stored}
 use Rattle.recovery.proofs.ByLog.{still_log, spelled_log}
@@ -30,15 +32,16 @@ returns-in-Err-clause-images g c told blocks content is shown judgement = still 
 
 pub store-requires-clause-next : goal.store-requires-clause-next
 store-requires-clause-next g c =
-    let next : IsNextBlock (OfLog false) (kept_in c.self.inside.chain) c.args.bytes.now
-    c.args.block.now c.args.digest = subst (λ (n : NodeState). IsNextBlock (OfLog false) n.chain
-    c.args.bytes.now c.args.block.now c.args.digest) (sym c.self.view_is) c.requires.next in
+    let next : IsNextBlock (OfLog c.self.inside.log.is_marked) (kept_in c.self.inside.chain)
+    c.args.bytes.now c.args.block.now c.args.digest = subst
+    (λ (n : NodeState). IsNextBlock (OfLog n.log.is_marked) n.chain c.args.bytes.now
+    c.args.block.now c.args.digest) (sym c.self.view_is) c.requires.next in
     next_of_log (kept_in c.self.inside.chain) c.self.inside.log c.args.bytes.now c.args.block.now
     c.args.digest c.self.invariant next
 
 pub store-requires-clause-digest : goal.store-requires-clause-digest
-store-requires-clause-digest g c = hashed c.args.self.chain c.args.bytes.now c.args.block.now
-    c.args.digest (λ i. omega (arith, c.type_inv.bytes i)) c.requires.next
+store-requires-clause-digest g c = hashed c.args.self.log.is_marked c.args.self.chain
+    c.args.bytes.now c.args.block.now c.args.digest (λ i. omega (arith, c.type_inv.bytes i)) c.requires.next
 
 pub overflow_cast-added : goal.overflow_cast-added
 overflow_cast-added g c =
@@ -54,20 +57,21 @@ overflow_cast-added g c =
 
 pub invariant_of-result : goal.invariant_of-result
 invariant_of-result g c =
-    let next : IsNextBlock (OfLog false) (kept_in c.self.inside.chain) c.args.bytes.now
-    c.args.block.now c.args.digest = subst (λ (n : NodeState). IsNextBlock (OfLog false) n.chain
-    c.args.bytes.now c.args.block.now c.args.digest) (sym c.self.view_is) c.requires.next in
+    let next : IsNextBlock (OfLog c.self.inside.log.is_marked) (kept_in c.self.inside.chain)
+    c.args.bytes.now c.args.block.now c.args.digest = subst
+    (λ (n : NodeState). IsNextBlock (OfLog n.log.is_marked) n.chain c.args.bytes.now
+    c.args.block.now c.args.digest) (sym c.self.view_is) c.requires.next in
     one_more (kept_in c.self.inside.chain) (kept_in c.in-Ok.done.0) c.self.inside.log
     c.in-Ok-store.log c.args.bytes.now c.args.block.now c.args.digest
     (λ i. omega (arith, c.type_inv.bytes i)) c.self.invariant next c.in-Ok.ensures.digests
-    c.in-Ok-store.ensures.count c.in-Ok-store.ensures.last
+    c.in-Ok-store.ensures.count c.in-Ok-store.ensures.last c.in-Ok-store.ensures.head
 
 module _ (g : Over) (c : After-drop-run g)
     (told : is_known (g.S.Scratch.state c.args.scratch.now) ≡ true) (blocks : List Block)
     (is : IsNodeOf c.args.self
     (g.M.Clock.disk c.args.machine.now (g.M.Clock.now c.args.machine.now)) blocks)
-    (judgement : judgement_of stored_placement blocks (block_in c.args.bytes.now) ≡ Ok
-    (Added c.args.block.now)) where
+    (judgement : judgement_of (stored_placement c.args.self.log.is_marked) blocks
+    (block_in c.args.bytes.now) ≡ Ok (Added c.args.block.now)) where
   -- the node, seen by its parts
   inner : IsNodeOf (the_view c.self.inside)
       (g.M.Clock.disk c.args.machine.now (g.M.Clock.now c.args.machine.now)) blocks
@@ -75,22 +79,30 @@ module _ (g : Over) (c : After-drop-run g)
       (g.M.Clock.disk c.args.machine.now (g.M.Clock.now c.args.machine.now)) blocks)
       (sym c.self.view_is) is
 
+  placed : stored_placement c.args.self.log.is_marked blocks c.args.block.now ≡ Next
+  placed = added_is_next (stored_placement c.args.self.log.is_marked) blocks
+      (block_in c.args.bytes.now) c.args.block.now c.args.block.now c.requires.next.decoded
+      judgement
+
+  by_versions : placement_in compiled_in blocks c.args.block.now ≡ Next
+  by_versions = next_stored c.args.self.log.is_marked blocks c.args.block.now is.fits placed
+
   -- it is that of the chain with the block
   longer : AreOfBlocks (kept_in c.in-Ok.done.0) c.in-Ok-store.log
       (g.M.Clock.disk c.store.new.machine (g.M.Clock.now c.store.new.machine))
       (blocks ++ c.args.block.now ∷ [])
   longer =
-      let placed = added_is_next stored_placement blocks (block_in c.args.bytes.now)
-      c.args.block.now c.args.block.now c.requires.next.decoded judgement in
-      longer_node (the_view c.self.inside)
+      let same : c.self.inside.log.is_marked ≡ c.args.self.log.is_marked = ap
+      (λ (n : NodeState). n.log.is_marked) c.self.view_is in
+      longer_node c.args.self
       (g.M.Clock.disk c.args.machine.now (g.M.Clock.now c.args.machine.now))
       (g.M.Clock.disk c.store.new.machine (g.M.Clock.now c.store.new.machine)) blocks
       c.args.block.now (kept_in c.in-Ok.done.0) c.in-Ok-store.log
-      inner placed (c.in-Ok.ensures.stands told blocks inner.kept c.requires.next.digest_is
-      (next_stored blocks c.args.block.now inner.first placed))
+      is placed (c.in-Ok.ensures.stands told blocks inner.kept c.requires.next.digest_is
+      by_versions) (c.in-Ok-store.ensures.marked ∙ same)
       c.in-Ok-store.ensures.still_known c.in-Ok-store.ensures.agrees
-      (λ content shown. c.in-Ok-store.ensures.added stored_placement content blocks
-      c.args.block.now shown
+      (λ content shown. c.in-Ok-store.ensures.added stored_placement content
+      (logged_in c.args.self.log blocks) c.args.block.now shown
       (next_after c.args.self (g.M.Clock.disk c.args.machine.now (g.M.Clock.now c.args.machine.now))
       blocks content c.args.bytes.now c.args.block.now is shown c.requires.next.decoded
       judgement))
@@ -99,8 +111,6 @@ pub returns-in-Ok-store-clause-answer : goal.returns-in-Ok-store-clause-answer
 returns-in-Ok-store-clause-answer g c told blocks is judgement =
     let node = inner g c told blocks is judgement in
     let kept = node.kept in
-    let placed = added_is_next stored_placement blocks (block_in c.args.bytes.now)
-    c.args.block.now c.args.block.now c.requires.next.decoded judgement in
     let after = c.in-Ok.ensures.after told in
     let rows = after.rows ∙ ap
     (λ (h : History). (block_effects compiled_in h c.args.block.now).rows) kept.history_is in
@@ -116,7 +126,7 @@ returns-in-Ok-store-clause-answer g c told blocks is judgement =
         receipts,
         c.in-Ok.ensures.root_in told blocks kept
             c.requires.next.digest_is
-            (next_stored blocks c.args.block.now node.first placed),
+            (by_versions g c told blocks is judgement),
       ),
       longer g c told blocks is judgement,
     )
@@ -128,40 +138,42 @@ returns-in-Ok-store-clause-ready g c = record {
   of = λ told_now.
       let told = sym c.in-Ok.ensures.retains.known ∙ told_now in
       let node = c.requires.ready.of told in
-      let judgement = is_added c.args.self.chain c.args.bytes.now node.0 c.args.block.now
-      c.args.digest c.requires.next node.1.kept in
+      let judgement = is_added c.args.self.log.is_marked c.args.self.chain c.args.bytes.now
+      node.0 c.args.block.now c.args.digest c.requires.next node.1.kept in
       (node.0 ++ c.args.block.now ∷ [], longer g c told node.0 node.1 judgement);
 }
 
 pub returns-in-Ok-store-clause-images : goal.returns-in-Ok-store-clause-images
 returns-in-Ok-store-clause-images g c told blocks content is shown judgement =
-    c.store.ensures.images stored_placement content blocks c.args.block.now shown
+    c.store.ensures.images stored_placement content (logged_in c.args.self.log blocks)
+    c.args.block.now shown
     (next_after c.args.self (g.M.Clock.disk c.args.machine.now (g.M.Clock.now c.args.machine.now))
     blocks content c.args.bytes.now c.args.block.now is shown c.requires.next.decoded judgement)
 
 pub returns-in-Err-store-clause-images : goal.returns-in-Err-store-clause-images
 returns-in-Err-store-clause-images g c told blocks content is shown judgement =
-    c.store.ensures.images stored_placement content blocks c.args.block.now shown
+    c.store.ensures.images stored_placement content (logged_in c.args.self.log blocks)
+    c.args.block.now shown
     (next_after c.args.self (g.M.Clock.disk c.args.machine.now (g.M.Clock.now c.args.machine.now))
     blocks content c.args.bytes.now c.args.block.now is shown c.requires.next.decoded judgement)
 
 pub returns-in-Err-clause-log_images : goal.returns-in-Err-clause-log_images
-returns-in-Err-clause-log_images g c blocks content told stands = still_log g.M.Clock.now
-    g.M.Clock.disk c.args.machine.now c.args.self.log content blocks (block_in c.args.bytes.now)
+returns-in-Err-clause-log_images g c logged content told stands = still_log g.M.Clock.now
+    g.M.Clock.disk c.args.machine.now c.args.self.log content logged (block_in c.args.bytes.now)
     c.requires.ready.log told stands
 
 pub returns-in-Ok-store-clause-log_images : goal.returns-in-Ok-store-clause-log_images
-returns-in-Ok-store-clause-log_images g c blocks content told stands = spelled_log g.M.Clock.now
-    g.M.Clock.disk c.args.machine.now c.store.new.machine blocks c.args.block.now
+returns-in-Ok-store-clause-log_images g c logged content told stands = spelled_log g.M.Clock.now
+    g.M.Clock.disk c.args.machine.now c.store.new.machine logged c.args.block.now
     (block_in c.args.bytes.now) c.requires.next.decoded
-    (c.store.ensures.log_images content blocks c.args.block.now told stands
+    (c.store.ensures.log_images content logged c.args.block.now told stands
     c.requires.next.decoded)
 
 pub returns-in-Err-store-clause-log_images : goal.returns-in-Err-store-clause-log_images
-returns-in-Err-store-clause-log_images g c blocks content told stands = spelled_log g.M.Clock.now
-    g.M.Clock.disk c.args.machine.now c.store.new.machine blocks c.args.block.now
+returns-in-Err-store-clause-log_images g c logged content told stands = spelled_log g.M.Clock.now
+    g.M.Clock.disk c.args.machine.now c.store.new.machine logged c.args.block.now
     (block_in c.args.bytes.now) c.requires.next.decoded
-    (c.store.ensures.log_images content blocks c.args.block.now told stands
+    (c.store.ensures.log_images content logged c.args.block.now told stands
     c.requires.next.decoded)
 
 pub returns-in-Ok-store-clause-scratch : goal.returns-in-Ok-store-clause-scratch
@@ -187,3 +199,6 @@ returns-in-Err-store-clause-scratch g c =
         told = λ differ. absurd (differ same);
       };
     }
+
+pub store-requires-clause-headless : goal.store-requires-clause-headless
+store-requires-clause-headless g c = c.self.invariant.headless

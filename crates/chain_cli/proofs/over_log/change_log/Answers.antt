@@ -1,0 +1,120 @@
+use Rattle.std.proofs.Common.{Some, ap, sym, refl, ◌∙◌}
+use Rattle.scratch_model.specs.Scratch.{is_known}
+use Rattle.cli_words.specs.declared.words.Command.TheVariants.{Append, Upgrade}
+use Rattle.block_log.specs.Log.{next_in_log}
+use Rattle.cli_append.specs.recovery.Node.{next_in_chain}
+use Rattle.cli_output.specs.Telling.{append_answer, status_of_result, upgrade_answer}
+use Rattle.cli_output.proofs.Ends.{no_start_ends}
+use Rattle.chain_cli.proofs.Runs.{append_run, refused_run, upgrade_run, with_status}
+use Rattle.chain_cli.proofs.Ends.{answer_ends, answer_has_log, marks_log, of_given, upgrade_ends}
+use Rattle.chain_cli.proofs.Ends.{upgrade_silent, uses_both}
+use Rattle.chain_cli.proofs.Moments.{stays_twice, append_any, append_log, upgrade_any, upgrade_log}
+use Rattle.chain_cli.proofs.over_log.change_log.Goals as goal
+
+pub returns-in-Append-clause-run : goal.returns-in-Append-clause-run
+returns-in-Append-clause-run g c =
+    with_status g.M.Clock.now g.M.Clock.disk g.M.Clock.told c.args.machine.now c.append.new.machine
+    (status_of_result (append_answer c.append.result)) (status_of_result c.append_answer.result)
+    (g.I.Source.left c.args.source.now) (g.I.Source.left c.append.new.source)
+    (is_known (g.S.Scratch.state c.args.scratch.now)) (Some Append) (Some c.args.command.now)
+    (ap status_of_result (sym c.append_answer.ensures)) (ap Some c.in-Append.is)
+    (append_run g.M.Clock.now g.M.Clock.disk g.M.Clock.told c.args.machine.now c.start.new.machine
+    c.append.new.machine c.in-Ok.node c.append.result (g.I.Source.left c.args.source.now)
+    (g.I.Source.left c.append.new.source) (is_known (g.S.Scratch.state c.args.scratch.now))
+    c.requires.settled (c.start.ensures.stays c.requires.settled) c.start.ensures.wire.told
+    c.in-Ok.ensures.answer
+    (λ told. c.append.ensures.appends (c.start.ensures.scratch.retains.known ∙ told)))
+
+pub returns-in_default-clause-run : goal.returns-in_default-clause-run
+returns-in_default-clause-run g c =
+    with_status g.M.Clock.now g.M.Clock.disk g.M.Clock.told c.args.machine.now c.upgrade.new.machine
+    (status_of_result (upgrade_answer c.upgrade.result))
+    (status_of_result c.upgrade_answer.result) (g.I.Source.left c.args.source.now)
+    (g.I.Source.left c.args.source.now) (is_known (g.S.Scratch.state c.args.scratch.now))
+    (Some Upgrade) (Some c.args.command.now)
+    (ap status_of_result (sym c.upgrade_answer.ensures))
+    (ap Some (marks_log c.args.command.now c.requires.changes c.in_default.not-Append))
+    (upgrade_run g.M.Clock.now g.M.Clock.disk g.M.Clock.told c.args.machine.now c.start.new.machine
+    c.upgrade.new.machine c.in-Ok.node c.upgrade.result (g.I.Source.left c.args.source.now)
+    (is_known (g.S.Scratch.state c.args.scratch.now))
+    c.requires.settled (c.start.ensures.stays c.requires.settled) c.start.ensures.wire.told
+    c.in-Ok.ensures.answer c.upgrade.ensures.upgrades)
+
+pub returns-in-Err-clause-run : goal.returns-in-Err-clause-run
+returns-in-Err-clause-run g c =
+    refused_run g.M.Clock.now g.M.Clock.disk g.M.Clock.told c.args.command.now c.requires.changes
+    c.args.machine.now c.start.new.machine c.tell.new.machine c.in-Err.error
+    c.start_outcome.result c.tell.result (g.I.Source.left c.args.source.now)
+    (is_known (g.S.Scratch.state c.args.scratch.now))
+    c.requires.settled (c.start.ensures.stays c.requires.settled) c.start.ensures.wire.told
+    c.in-Err.ensures.answer c.start_outcome.ensures.outcome c.tell.ensures.disk.stays
+    (c.tell.ensures.tells next_in_chain)
+
+pub returns-in-Append-clause-goes_on : goal.returns-in-Append-clause-goes_on
+returns-in-Append-clause-goes_on g c told =
+    append_any g.M.Clock.now g.M.Clock.disk g.M.Clock.told c.args.machine.now c.start.new.machine
+    c.append.new.machine c.in-Ok.node c.requires.settled
+    (c.start.ensures.stays c.requires.settled) (c.in-Ok.ensures.answer told)
+    (c.append.ensures.goes_on (c.start.ensures.scratch.retains.known ∙ told))
+
+pub returns-in_default-clause-goes_on : goal.returns-in_default-clause-goes_on
+returns-in_default-clause-goes_on g c told =
+    upgrade_any g.M.Clock.now g.M.Clock.disk g.M.Clock.told c.args.machine.now c.start.new.machine
+    c.upgrade.new.machine c.in-Ok.node c.upgrade.result c.requires.settled
+    (c.start.ensures.stays c.requires.settled) (c.in-Ok.ensures.answer told)
+    c.upgrade.ensures.upgrades
+
+pub returns-in-Err-clause-goes_on : goal.returns-in-Err-clause-goes_on
+returns-in-Err-clause-goes_on g c told =
+    stays_twice g.M.Clock.now g.M.Clock.disk g.M.Clock.told next_in_chain c.args.machine.now
+    c.start.new.machine c.tell.new.machine c.requires.settled
+    (c.start.ensures.stays c.requires.settled) c.tell.ensures.disk.stays
+
+pub returns-in-Append-clause-log_goes_on : goal.returns-in-Append-clause-log_goes_on
+returns-in-Append-clause-log_goes_on g c =
+    append_log g.M.Clock.now g.M.Clock.disk g.M.Clock.told c.args.machine.now c.start.new.machine
+    c.append.new.machine c.in-Ok.node.log c.requires.settled
+    (c.start.ensures.stays c.requires.settled) c.in-Ok.ensures.ready.log
+    c.append.ensures.log_goes_on
+
+pub returns-in_default-clause-log_goes_on : goal.returns-in_default-clause-log_goes_on
+returns-in_default-clause-log_goes_on g c =
+    upgrade_log g.M.Clock.now g.M.Clock.disk g.M.Clock.told c.args.machine.now c.start.new.machine
+    c.upgrade.new.machine c.in-Ok.node.log c.requires.settled
+    (c.start.ensures.stays c.requires.settled) c.in-Ok.ensures.ready.log
+    c.upgrade.ensures.log_images
+
+pub returns-in-Err-clause-log_goes_on : goal.returns-in-Err-clause-log_goes_on
+returns-in-Err-clause-log_goes_on g c =
+    stays_twice g.M.Clock.now g.M.Clock.disk g.M.Clock.told next_in_log c.args.machine.now
+    c.start.new.machine c.tell.new.machine c.requires.settled
+    (c.start.ensures.stays c.requires.settled) c.tell.ensures.disk.stays
+
+pub returns-in_default-clause-silent : goal.returns-in_default-clause-silent
+returns-in_default-clause-silent g c at_end =
+    rw c.upgrade_answer.ensures (upgrade_silent c.upgrade.result (g.M.Clock.told c.args.machine.now)
+    (g.M.Clock.told c.start.new.machine) (g.M.Clock.told c.upgrade.new.machine)
+    c.start.ensures.wire.told c.upgrade.ensures.reads c.upgrade.ensures.keeps
+    c.upgrade.ensures.silent_disk c.upgrade.ensures.silent_memory)
+
+pub returns-in-Append-clause-ends : goal.returns-in-Append-clause-ends
+returns-in-Append-clause-ends g c = of_given (status_of_result c.append_answer.result)
+    c.args.command.now Append c.in-Append.is
+    (rw c.append_answer.ensures (answer_ends c.append.result))
+
+pub returns-in_default-clause-ends : goal.returns-in_default-clause-ends
+returns-in_default-clause-ends g c = of_given (status_of_result c.upgrade_answer.result)
+    c.args.command.now Upgrade
+    (marks_log c.args.command.now c.requires.changes c.in_default.not-Append)
+    (rw c.upgrade_answer.ensures (upgrade_ends c.upgrade.result c.upgrade.ensures.reads))
+
+pub returns-in-Append-clause-no_log : goal.returns-in-Append-clause-no_log
+returns-in-Append-clause-no_log g c none =
+    absurd (cc (rw c.append_answer.ensures at none, answer_has_log c.append.result))
+
+pub returns-in-Err-clause-ends : goal.returns-in-Err-clause-ends
+returns-in-Err-clause-ends g c =
+    let uses = uses_both c.args.command.now c.requires.changes in
+    c.tell.ensures.ends (Some c.args.command.now)
+    (no_start_ends c.start_outcome.result c.in-Err.error (Some c.args.command.now) uses.0
+    c.start_outcome.ensures.outcome c.start_outcome.ensures.reads (λ failed. uses.1))
