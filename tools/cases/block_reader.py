@@ -7,7 +7,8 @@ from cases.log_cases import CLOSED, CLOSED_HEAD, FIRST_GATE, HEAD, MARK, OPEN
 from lineage.draft_faults import MAX_ARGS, MAX_BUDGET, MAX_BUDGETS, MAX_DEPS, MAX_SOURCE_BYTES, MAX_TXS
 
 MAX_BLOCK_BYTES = 1_048_576
-MAX_TEXT_BYTES = 1_024
+# The most bytes of a text, in a block of each version.
+MAX_TEXT_BYTES = {FIRST_VERSION: 1_024, SECOND_VERSION: 8_192}
 MAX_KEY_BYTES = 64
 MAX_NAME_BYTES = 16
 MAX_NUMBER = 2**32 - 1
@@ -67,6 +68,7 @@ class Fields:
     def __init__(self, block):
         self.block = block
         self.offset = 0
+        self.version = FIRST_VERSION
 
     def take(self, count, is_good=lambda field: True):
         field = self.block[self.offset : self.offset + count]
@@ -91,7 +93,7 @@ class Fields:
     def value(self):
         """A value as it is printed."""
         if self.number(1, 0, 1) == 1:
-            return "text " + self.string(0, MAX_TEXT_BYTES, PRINTABLE).decode("ascii")
+            return "text " + self.string(0, MAX_TEXT_BYTES[self.version], PRINTABLE).decode("ascii")
         number = int.from_bytes(self.take(8), "big", signed=True)
         return f"int {number}"
 
@@ -109,7 +111,7 @@ class Fields:
 
     def whole_block(self):
         """The version, the number, the parent and the transactions of a block."""
-        version = self.number(1, FIRST_VERSION, SECOND_VERSION)
+        version = self.version = self.number(1, FIRST_VERSION, SECOND_VERSION)
         number = self.number(4, 0, MAX_NUMBER)
         parent = self.take(32)
         txs = [self.tx() for _ in range(self.number(2, 0, MAX_TXS))]

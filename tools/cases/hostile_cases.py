@@ -13,8 +13,8 @@ from cases.block_files import (
 from cases.block_reader import stands_for
 from cases.changed_files import CHANGES, written
 from cases.log_cases import (
-    ALREADY, BEYOND, CHAINS, CLOSED, DAMAGED, DONE, FIRST_GATE, HEAD, HIST, MARK, NOT_A_LOG, OPEN, REFUSED, SET_ANSWER,
-    SET_FILE, SET_LOG, SET_ROWS, LogCase, frames_of, log_of, upgraded,
+    ALREADY, BEYOND, CHAINS, CLOSED, DAMAGED, DONE, FIRST_GATE, HEAD, HIST, LONGEST_TEXT, MARK, NOT_A_LOG, OPEN,
+    REFUSED, REJECTED, SET_ANSWER, SET_FILE, SET_LOG, SET_ROWS, LogCase, frames_of, log_of, upgraded,
 )
 from cases.proof_cases import proof_of
 from cases.root_cases import History, Row, block_digests, roots
@@ -193,6 +193,49 @@ def gone_proofs():
     yield asked.case(put(asked.proof, tag_at, 3), f"rejected malformed {tag_at}")
 
 
+# ---- a proof of a text that is as long as may be
+
+
+LONG_BLOCKS = [
+    [deploys("c", 'fn f() { put "c/a" = get_text("raw/t"); }'), sets("raw/t", LONGEST_TEXT)],
+    [calls("c", "f", [], 100, OK, 28)],
+]
+LONG_FILE = block_file(LONG_BLOCKS, [SECOND_VERSION] * 2)
+
+
+def long_rows(text):
+    return [Row("raw/t", 0, 1, text, []), Row("c/a", 1, 0, text, [("raw/t", 0)])]
+
+
+def long_proofs():
+    """The proofs over a marked log of a text of 8,192 bytes that was set, and of what a contract put from it: made,
+    accepted with the answer, and without a clash. A body of one byte more is malformed, whatever root it leads to."""
+    rows, log = long_rows(LONGEST_TEXT), log_of(b"", LONG_FILE)
+    lines = [
+        f"block {at} rows 1 status {status} root {root}\n"
+        for at, (status, root) in enumerate(zip(["0,0", "0"], roots(frames_of(LONG_FILE), rows)))
+    ]
+    yield LogCase("append", log_of(b"", b""), "".join(lines), after=log, file=LONG_FILE)
+    for (kind, key, at, root_at), answer in [
+        (("hist", "raw/t", 0, 0), f"block 0 tx 1 text {LONGEST_TEXT}\n"),
+        (("fwd", "raw/t", 1, 1), "block 0 uses 1\nc/a 1\n"),
+        (("hist", "c/a", 1, 1), f"block 1 tx 0 text {LONGEST_TEXT}\n"),
+        (("back", "c/a", 1, 1), "block 1 deps 1\nraw/t 0\n"),
+    ]:
+        made = proved(LONG_FILE, rows, kind, key, at, root_at)
+        assert made.told(made.proof, "") == (answer, DONE)
+        line = f"{made.proof.hex()}\n".encode("ascii")
+        yield LogCase(f"prove {kind} {key} {at} {root_at}", log, line.decode("ascii"))
+        yield LogCase(made.words, b"", answer, file=line)
+        yield made.exposed(log, root_at, made.proof, "")
+    longer = proved(LONG_FILE, long_rows(LONGEST_TEXT + "a"), "hist", "raw/t", 0, 0)
+    # The body ends with the count of its dependencies, and before that the text stands behind its length.
+    length_at = len(longer.proof) - 1 - len(LONGEST_TEXT + "a") - 2
+    assert longer.told(longer.proof, "") == (f"rejected malformed {length_at}\n", REJECTED)
+    yield LogCase(longer.words, b"", f"rejected malformed {length_at}\n", REJECTED, file=in_hex(longer.proof))
+    yield longer.exposed(log, 0, longer.proof, f"rejected malformed {length_at}")
+
+
 # ---- changed logs
 
 
@@ -333,5 +376,5 @@ def hostile_cases():
     yield from other_paths()
     yield from gone_proofs()
     exposed = (asked.exposed(SET_LOG, 0, changed, begin) for asked, changed, begin in named_changes())
-    for case in itertools.chain(made_proofs(), exposed, commands_over_wrong_logs(), changed_logs()):
+    for case in itertools.chain(made_proofs(), long_proofs(), exposed, commands_over_wrong_logs(), changed_logs()):
         yield case.case()

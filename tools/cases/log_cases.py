@@ -18,6 +18,8 @@ MAGIC = b"LCLOG1\n"
 HEAD = OPEN + MAGIC
 CLOSED_HEAD = CLOSED + MAGIC
 FIRST_GATE = len(HEAD)
+# The longest text of a block of the second version.
+LONGEST_TEXT = "".join(chr(0x20 + at % 95) for at in range(8_192))
 # A record that is the mark: the length of no block.
 MARK = number(0, 4)
 BYTES = [bytes([byte]) for byte in range(256)]
@@ -440,6 +442,41 @@ def refusals_when_marked():
         yield LogCase("append", image, f"refused frame 0 {cause}\n", REFUSED, file=frame + SET_FILE, left=len(SET_FILE))
 
 
+def long_texts():
+    """Texts at the limit of each version of blocks and one past it, before and behind the mark."""
+    parent = bytes.fromhex(digest(SET_FILE))
+    marked = log_of(SET_FILE, b"")
+
+    def set_of(text, version):
+        return block(1, parent, [sets("raw/t", text)], version)
+
+    # In a block the Set begins at 39, and 11 bytes of it stand before its value; the length follows the tag.
+    malformed = "refused frame 0 malformed 51\n"
+    for image, version, size in [(SET_LOG, FIRST_VERSION, 1_024), (marked, SECOND_VERSION, 8_192)]:
+        text = LONGEST_TEXT[:size]
+        good, bad = set_of(text, version), set_of(text + "a", version)
+        root = roots([SET_FILE, good], [*SET_ROWS, Row("raw/t", 1, 0, text, [])])[1]
+        line = f"block 1 rows 1 status 0 root {root}\n"
+        held = image[:-1] + OPEN + good + CLOSED
+        yield LogCase("append", image, line, after=held, file=good)
+        yield LogCase("append", held, "known 1\n", file=good)
+        yield LogCase("hist raw/t", held, f"block 1 tx 0 text {text}\n")
+        yield LogCase("root", held, f"root 1 {root}\n")
+        if image == marked:
+            yield LogCase("upgrade", held, ALREADY)
+        else:
+            yield LogCase("upgrade", held, upgraded(2), after=log_of(SET_FILE + good, b""))
+        yield LogCase("append", image, malformed, REFUSED, file=bad + good, left=len(good))
+        # What spells no block is no record either.
+        torn = image[:-1] + OPEN + bad + CLOSED
+        yield LogCase("hist raw/t", torn, f"damaged at {len(image) - 1}\n", DAMAGED)
+    # What spells no block of its version is malformed, whichever version is wanted; else the version is looked at.
+    long_first, long_second = set_of(LONGEST_TEXT, FIRST_VERSION), set_of(LONGEST_TEXT, SECOND_VERSION)
+    yield LogCase("append", marked, malformed, REFUSED, file=long_first)
+    yield LogCase("append", SET_LOG, malformed, REFUSED, file=long_first)
+    yield LogCase("append", SET_LOG, "refused frame 0 version 1\n", REFUSED, file=long_second)
+
+
 def torn_marks():
     """What may stand where an `upgrade` of a log of one block is stopped, behind the gate of the mark and in its place:
     whether the log is marked then, and its bytes."""
@@ -683,7 +720,7 @@ def log_cases():
     the piece, where it isn't the next in turn."""
     parts = [
         chains, refusals, wrong_logs, crashes, failing_calls, failing_pulls, pauses, words, upgrades,
-        refusals_when_marked, stopped_upgrades, failing_upgrades,
+        refusals_when_marked, stopped_upgrades, failing_upgrades, long_texts,
     ]
     for part in parts:
         for case in part():

@@ -1,6 +1,6 @@
 """The table of the cases of both versions of blocks, which tools/cases/write-block-cases writes out: keys that are
-dropped, which edition of the language a Deploy is read in, and which version may follow which. It has the blocks of
-an example too.
+dropped, which edition of the language a Deploy is read in, how long a text may be, and which version may follow which.
+It has the blocks of an example too.
 
 Every status, cost and answer was worked out by hand from docs/language.md and docs/formats.md, as those of
 tools/cases/block_cases.py.
@@ -8,9 +8,10 @@ tools/cases/block_cases.py.
 from cases.block_cases import ASK, PUT, READ, Call, cost_within, puts, puts_cost, reads, reads_cost
 from cases.block_files import (
     BAD_KEY, BAD_SOURCE, CONFLICT, DIV_ZERO, FIRST_VERSION, FOREIGN, NO_CONTRACT, NO_KEY, NOT_READ, OK, OUT_OF_STEPS,
-    SECOND_VERSION, TOO_MANY, WRONG_KIND, Block, Chain, block_digest, block_file, block_frame, calls, deploys, sets,
+    SECOND_VERSION, TEXT_TOO_LONG, TOO_MANY, WRONG_KIND, Block, Chain, block_digest, block_file, block_frame, calls,
+    deploys, sets,
 )
-from cases.log_cases import frames_of
+from cases.log_cases import LONGEST_TEXT, frames_of
 from places import TOP
 
 
@@ -243,6 +244,81 @@ EDITIONS = Chain(
     },
 )
 
+# ---- long texts: one call in block 1, after a Set of raw/t to the longest text in block 0
+
+TEXT = "t: text"
+JOINED = "a" * 1_024
+READ_IT = 'get_text("raw/t")'
+LONG_TEXTS = [
+    Call(
+        "an argument of 8,192 bytes that is put", 'put "c/a" = t;', OK, 1 + 2 + PUT, rows=1, params=TEXT,
+        args=(LONGEST_TEXT,), asks={"hist c/a 1": f"block 1 tx 0 text {LONGEST_TEXT}"},
+    ),
+    Call(
+        "a text of 8,192 bytes that is read and put", f'put "c/a" = {READ_IT};', OK, 1 + 3 + READ + PUT, rows=1,
+        asks={
+            "hist c/a 1": f"block 1 tx 0 text {LONGEST_TEXT}",
+            "back c/a 1": "block 1 deps 1\nraw/t 0",
+            "fwd raw/t 1": "block 0 uses 1\nc/a 1",
+        },
+    ),
+    Call(
+        "a text of 8,192 bytes that is asked for and put", 'put "c/a" = hist_text("raw/t", 0);', OK,
+        1 + 4 + ASK + PUT, rows=1,
+        asks={"hist c/a 1": f"block 1 tx 0 text {LONGEST_TEXT}", "back c/a 1": "block 1 deps 0"},
+    ),
+    Call(
+        "a text of 8,192 bytes that is put and read", f'put "c/a" = {READ_IT}; put "c/b" = get_text("c/a");', OK,
+        (1 + 3 + READ + PUT) * 2, rows=2, asks={"hist c/b 1": f"block 1 tx 0 text {LONGEST_TEXT}"},
+    ),
+    Call(
+        "the length of a text of 8,192 bytes", f'put "c/a" = len({READ_IT});', OK, 1 + 4 + READ + PUT, rows=1,
+        asks={"hist c/a 1": "block 1 tx 0 int 8192"},
+    ),
+    Call(
+        "two alike of 8,192 bytes", f'put "c/a" = {READ_IT} == t;', OK, 1 + 5 + READ + PUT, rows=1, params=TEXT,
+        args=(LONGEST_TEXT,), asks={"hist c/a 1": "block 1 tx 0 int 1"},
+    ),
+    Call(
+        "two of 8,192 bytes whose last one differs", f'put "c/a" = {READ_IT} == t;', OK, 1 + 5 + READ + PUT, rows=1,
+        params=TEXT, args=(LONGEST_TEXT[:-1] + "!",), asks={"hist c/a 1": "block 1 tx 0 int 0"},
+    ),
+    Call("a text of 8,192 bytes as a key", f"let x = has({READ_IT});", BAD_KEY, 1 + 3 + READ + READ),
+    # What `++` returns is as long as in the first edition, whatever its sides are.
+    Call("8,192 bytes and none", f'let x = {READ_IT} ++ "";', TEXT_TOO_LONG, 1 + 4 + READ),
+    Call("none and 8,192 bytes", f'let x = "" ++ {READ_IT};', TEXT_TOO_LONG, 1 + 4 + READ),
+    Call("8,192 bytes twice", f"let x = {READ_IT} ++ {READ_IT};", TEXT_TOO_LONG, 1 + 5 + READ * 2),
+    Call("1,025 bytes and none", 'let x = t ++ "";', TEXT_TOO_LONG, 1 + 3, params=TEXT, args=(JOINED + "a",)),
+    Call("1,024 bytes and one", 'let x = t ++ "a";', TEXT_TOO_LONG, 1 + 3, params=TEXT, args=(JOINED,)),
+    Call(
+        "1,024 bytes and none", 'put "c/a" = t ++ "";', OK, 1 + 4 + PUT, rows=1, params=TEXT, args=(JOINED,),
+        asks={"hist c/a 1": f"block 1 tx 0 text {JOINED}"},
+    ),
+]
+
+
+def after_a_long_text(call):
+    return Chain(
+        call.name,
+        [second(1, call.deployed(), sets("raw/t", LONGEST_TEXT)), second(call.rows, call.called())],
+        call.asks,
+    )
+
+
+def with_literal(size):
+    return f'fn f() {{ put "c/a" = "{"a" * size}"; }}'
+
+
+def of_literals(version):
+    """Deploys of sources with a literal of 1,024 bytes and of one more, in a block of a version, and then a call."""
+    deployed = [deploys("c", with_literal(1_024)), deploys("d", with_literal(1_025), BAD_SOURCE)]
+    called = [calls_c("f", OK, 1 + 2 + PUT), calls("d", "f", [], 100, NO_CONTRACT, 0)]
+    return Chain(
+        f"literals in version {version}", [Block(0, deployed, version), Block(1, called, version)],
+        {"hist c/a 1": f"block 1 tx 0 text {JOINED}"},
+    )
+
+
 # ---- the chain of docs/language.md in which a lot that was recalled is dropped
 
 with open(f"{TOP}/examples/lot.contract", encoding="ascii") as lot:
@@ -291,6 +367,8 @@ CHAINS = [
     after_many("a drop of 65 dependencies", 65, TOO_MANY, 0),
     EDITIONS,
     LOTS,
+    *map(after_a_long_text, LONG_TEXTS),
+    *map(of_literals, (FIRST_VERSION, SECOND_VERSION)),
 ]
 
 # ---- which version may follow which
@@ -337,4 +415,45 @@ FILES = [
     ([FIRST_SET, after(FIRST_SET, 2, ELEVEN_CALLS)], "refused frame 1 budget 11000000"),
     ([block_frame(2, 0, bytes(32), ELEVEN_CALLS)], "refused frame 0 budget 11000000"),
 ]
+
+
+# ---- texts at the limit of each version and one past it
+
+
+def set_of(version, size):
+    return block_file([[sets("raw/a", "a" * size)]], [version])
+
+
+def call_with(version, size):
+    return block_file([[calls("c", "f", ["a" * size], 100, NO_CONTRACT, 0)]], [version])
+
+
+# In a block the first transaction begins at 39; of the Set and of the call alike 11 bytes stand before the value, and
+# the length of its text follows the tag.
+MALFORMED = "refused frame 0 malformed 51"
+TEXTS = [
+    (set_of(FIRST_VERSION, 8_192), MALFORMED),
+    (set_of(SECOND_VERSION, 1_025), f"block 0 tx 0 text {'a' * 1_025}"),
+    (set_of(SECOND_VERSION, 8_192), f"block 0 tx 0 text {'a' * 8_192}"),
+    (set_of(SECOND_VERSION, 8_193), MALFORMED),
+    (set_of(SECOND_VERSION, 65_535), MALFORMED),
+    (call_with(FIRST_VERSION, 1_024), "none"),
+    (call_with(FIRST_VERSION, 1_025), MALFORMED),
+    (call_with(SECOND_VERSION, 8_192), "none"),
+    (call_with(SECOND_VERSION, 8_193), MALFORMED),
+    # Each block has the limit of its own version.
+    (
+        block_file([[sets("raw/a", "a" * 1_024)], [sets("raw/a", LONGEST_TEXT)]], [FIRST_VERSION, SECOND_VERSION]),
+        f"block 0 tx 0 text {'a' * 1_024}",
+    ),
+    (
+        block_file([[sets("raw/a", LONGEST_TEXT)], [sets("raw/a", "a" * 1_025)]], [SECOND_VERSION, FIRST_VERSION]),
+        "refused frame 1 malformed 51",
+    ),
+    (
+        block_file([[], [sets("raw/a", LONGEST_TEXT + "a")]], [FIRST_VERSION, SECOND_VERSION]),
+        "refused frame 1 malformed 51",
+    ),
+]
 PLACED = [("hist raw/a 0", answer, b"".join(frames)) for frames, answer in FILES]
+PLACED += [("hist raw/a 0", answer, file) for file, answer in TEXTS]

@@ -6,10 +6,12 @@ out by tools/cases/root_cases.py and tools/cases/proof_cases.py from the rows of
 by Python's reader of JSON.
 """
 import dataclasses
+import itertools
 import json
 import re
 
-from cases.block_files import CONFLICT, FOREIGN, NO_CONTRACT, OK, block_file, calls, deploys, number, sets
+from cases.block_files import CONFLICT, FIRST_VERSION, FOREIGN, NO_CONTRACT, OK, SECOND_VERSION, block_file
+from cases.block_files import calls, deploys, number, sets
 from cases.block_reader import MAX_BUDGETS, MAX_NUMBER, MAX_TXS, Call, Deploy, Set, stands_for, Chain
 from cases.log_cases import ALREADY, BAD_INPUT, BEYOND, DAMAGED, DONE, NOT_A_LOG, REFUSED, REJECTED, USAGE, upgraded
 from cases.proof_cases import answer_of, proof_of
@@ -62,7 +64,7 @@ def is_answer(kind, told, at):
     if told == "none\n":
         return True
     if kind == "hist":
-        found = re.fullmatch(r"block (\d+) tx \d+ (?:int -?\d+|text [ -~]{0,1024}|gone)\n", told)
+        found = re.fullmatch(r"block (\d+) tx \d+ (?:int -?\d+|text [ -~]{0,8192}|gone)\n", told)
         return bool(found) and int(found[1]) <= at
     word = {"back": "deps", "fwd": "uses"}[kind]
     found = re.fullmatch(rf"block (\d+) {word} (\d+)\n((?:{ITEM})*)", told)
@@ -320,7 +322,8 @@ def check_fmt(mutant, result):
 
 def check_pack(mutant, result):
     expect("all is read", result.read, len(mutant.source))
-    expect("pack", (result.frames, result.status), packed(mutant.source))
+    version = SECOND_VERSION if mutant.words[1:] else FIRST_VERSION
+    expect("pack", (result.frames, result.status), packed(mutant.source, version))
 
 
 COMMANDS = {
@@ -381,12 +384,12 @@ def pairs_of(text):
     return json.loads(text, object_pairs_hook=list)
 
 
-def packed_tx(tx):
-    """A transaction of a draft in a block; none where it is none."""
+def packed_tx(tx, version):
+    """A transaction of a draft in a block of a version; none where it is none."""
     if not isinstance(tx, dict) or len(tx) != 1:
         return None
     ((kind, fields),) = tx.items()
-    rules = draft_faults.FIELDS.get(kind)
+    rules = draft_faults.FIELDS[version].get(kind)
     if not rules or not isinstance(fields, dict) or fields.keys() - rules.keys():
         return None
     for name, (_, is_right) in rules.items():
@@ -403,8 +406,8 @@ def packed_tx(tx):
     return calls(contract, function, args, budget, OK, 0, sender=sender)
 
 
-def packed(source):
-    """What `pack` prints of a draft, and its status."""
+def packed(source, version):
+    """What `pack` prints of a draft for blocks of a version, and its status."""
     try:
         draft = json_value(source)
     except NoJson:
@@ -417,14 +420,14 @@ def packed(source):
             return b"badinput block %d\n" % at, BAD_INPUT
         txs = []
         for index, tx in enumerate(block):
-            made = packed_tx(tx)
+            made = packed_tx(tx, version)
             if made is None:
                 return b"badinput draft %d %d\n" % (at, index), BAD_INPUT
             txs.append(made)
         if sum(tx["call"]["budget"] for tx in block if "call" in tx) > MAX_BUDGETS:
             return b"badinput block %d\n" % at, BAD_INPUT
         blocks.append(txs)
-    return block_file(blocks), DONE
+    return block_file(blocks, itertools.repeat(version)), DONE
 
 
 # ---- all of them

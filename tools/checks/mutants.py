@@ -28,7 +28,7 @@ TXS_AT = 37
 SHARES = {"verify": 26, "expose": 10, "log": 22, "scan": 12, "append": 10, "fmt": 11, "pack": 9}
 # Numbers at the limits of one, two, four and eight bytes.
 LIMITS = [bytes([byte]) * width for width in (1, 2, 4, 8) for byte in (0x00, 0x7F, 0x80, 0xFF)]
-LIMITS += [OPEN, number(64, 2), number(65, 2), number(1_024, 2), number(1_048_576, 4), number(1_000_001, 4)]
+LIMITS += [OPEN, *(number(of, 2) for of in (64, 65, 1_024, 8_192)), number(1_048_576, 4), number(1_000_001, 4)]
 CONTRACT_PIECES = [
     *b"fn let if else while put drop from fail return int text ( ) { } , ; : = == != <= >= ++ && || ! - \" # \\".split(),
     *b"0 00 9223372036854775807 9223372036854775808 aaaaaaaaaaaaaaaaa \"\\\"\" get_int( hist_block( fwd_key(".split(),
@@ -210,7 +210,8 @@ def file_frames(file):
 def txs_of(frame):
     """The transactions of the block of a frame, as bytes, up to the first that is none."""
     fields = Fields(frame[4:])
-    fields.offset = TXS_AT + 2
+    # Its texts are as long as those of any block.
+    fields.version, fields.offset = SECOND_VERSION, TXS_AT + 2
     txs, start = [], fields.offset
     try:
         while fields.offset < len(fields.block):
@@ -384,5 +385,5 @@ def mutant(place, seeds):
             words = [*words[:3], near(words[3], rng)]
         return Mutant(kind, list(words), file, log)
     given, pieces = (seeds.contracts, CONTRACT_PIECES) if kind == "fmt" else (seeds.drafts, DRAFT_PIECES)
-    words = rng.choice([["fmt"], ["fmt", "2"]]) if kind == "fmt" else [kind]
+    words = rng.choice([[kind], [kind, "2"]])
     return Mutant(kind, words, changed_text(rng.choice(given), rng.choices(given, k=4), pieces, rng))

@@ -29,6 +29,7 @@ SET_ANSWER = "block 0 tx 0 int 5\n"
 ONE_DRAFT = b'[[{"set":{"sender":"u","key":"raw/a","value":5}}]]'
 with open(ONE_SET, "rb") as one_set:
     ONE_FRAME = one_set.read()
+ONE_SECOND_FRAME = ONE_FRAME[:4] + b"\2" + ONE_FRAME[5:]
 # The one block that `gen 1` makes, whatever the seed: number 0, no parent, one Deploy.
 MIX = (
     b'fn step(a: int) { let k = "raw/" ++ text(a); if has(k) { put "mix/" ++ text(a) = '
@@ -115,6 +116,8 @@ CASES = [
     Case(b"fmt 2", b'fn g(){drop"c/"++"a"from"c/b","c/a";}', DROPPED_FROM, 0),
     Case(b"pack", b"[]", "", 0),
     Case(b"pack", ONE_DRAFT, ONE_FRAME, 0),
+    Case(b"pack 2", b"[]", "", 0),
+    Case(b"pack 2", ONE_DRAFT, ONE_SECOND_FRAME, 0),
     Case(b"gen 1 0", b"", GENERATED, 0),
     Case(b"gen 1 7", None, GENERATED, 0, streams="<&-"),
     Case(b"load 1 0", b"", load_line(1, 0), 0),
@@ -188,6 +191,7 @@ CASES = [
     Case(b"fmt 1", b"fn f(){}", "usage\n", 1),
     Case(b"fmt 02", b"fn f(){}", "usage\n", 1),
     Case(b"fmt 2 2", b"fn f(){}", "usage\n", 1),
+    Case(b"pack 1", b"[]", "usage\n", 1),
     Case(b"upgrade 2", None, "usage\n", 1, log=SET_LOG),
     Case(b"upgrade upgrade", None, "usage\n", 1),
     Case(b"gen 0 0", b"", "usage\n", 1),
@@ -310,6 +314,7 @@ CASES = [
     Case(b"pack", b"{}", "badinput top\n", 11),
     Case(b"pack", b"[1]", "badinput block 0\n", 11),
     Case(b"pack", b'[[{"set":{}}]]', "badinput draft 0 0\n", 11),
+    Case(b"pack 2", b'[[{"set":{}}]]', "badinput draft 0 0\n", 11),
     Case(b"pack", MAX_SOURCE_BYTES + 1, "badinput long\n", 11),
     Case(VERIFY, b"abc", "badinput odd\n", 11),
     Case(EXPOSE, b"abc", "badinput odd\n", 11, log=SET_LOG),

@@ -4,9 +4,11 @@ blocks, drafts and chains: at the last good value, and one past it.
 They are cases of tools/checks/check-program. What is expected is worked out from docs/formats.md, by the
 readers and writers of this folder, never by the program.
 """
+import itertools
 import json
 
-from cases.block_files import NO_CONTRACT, OK, block_digest, block_file, calls, deploys, number, sets, string
+from cases.block_files import FIRST_VERSION, NO_CONTRACT, OK, SECOND_VERSION, block_digest, block_file
+from cases.block_files import calls, deploys, number, sets, string
 from cases.generated_chain import Generated, spelled
 from cases.generated_loads import growing_links, links, load_line
 from cases.growing_roots import growing_roots
@@ -18,7 +20,8 @@ BAD_INPUT = 11
 MAX_TXS = 4_096
 MAX_BLOCK_BYTES = 1_048_576
 MAX_BLOCKS = 1_048_576
-MAX_TEXT_BYTES = 1_024
+# In a block of each version.
+MAX_TEXT_BYTES = {FIRST_VERSION: 1_024, SECOND_VERSION: 8_192}
 MAX_SOURCE_BYTES = 16_384
 MAX_DEPS = 64
 MAX_ARGS = 8
@@ -213,7 +216,7 @@ def sets_of_bytes(size):
         key = f"raw/{len(block):04}"
         around = len(sets(key, "").bytes)
         # The last one needs room for what is around its text.
-        text = min(MAX_TEXT_BYTES, left - around)
+        text = min(MAX_TEXT_BYTES[FIRST_VERSION], left - around)
         if 0 < left - around - text < around:
             text -= around
         block.append((key, "a" * text, []))
@@ -263,9 +266,9 @@ def uses_runs():
 # ---- limits of a transaction, in a block and in a draft
 
 
-def set_draft(count):
+def set_draft(count, value=1):
     deps = [f"raw/{at}" for at in range(count)]
-    return {"set": {"sender": "u", "key": "raw/x", "value": 1, "deps": deps}}
+    return {"set": {"sender": "u", "key": "raw/x", "value": value, "deps": deps}}
 
 
 def call_draft(args=(), budget=100):
@@ -286,21 +289,37 @@ def limit_pairs():
     yield set_draft(MAX_DEPS), set_draft(MAX_DEPS + 1), before_deps
     ints = range(MAX_ARGS + 1)
     yield call_draft(ints[:-1]), call_draft(ints), sender + names
-    yield call_draft(["a" * MAX_TEXT_BYTES]), call_draft(["a" * (MAX_TEXT_BYTES + 1)]), sender + names + 2
     yield call_draft(budget=MAX_CALL_BUDGET), call_draft(budget=MAX_CALL_BUDGET + 1), sender + names + 1
     source = sender + len(string("c"))
     yield deploy_draft(MAX_SOURCE_BYTES), deploy_draft(MAX_SOURCE_BYTES + 1), source
 
 
-def limit_runs():
-    """Each of these in a block and in a draft."""
-    for good, bad, before in limit_pairs():
-        file = block_file([[spelled(good)]])
+def text_pairs(version):
+    """The same of the texts in a block of a version."""
+    good, bad = ("a" * count for count in (MAX_TEXT_BYTES[version], MAX_TEXT_BYTES[version] + 1))
+    sender = 1 + len(string("u"))
+    yield call_draft([good]), call_draft([bad]), sender + len(string("c") + string("f")) + 2
+    yield set_draft(0, good), set_draft(0, bad), sender + len(string("raw/x")) + 1
+
+
+def pair_runs(pairs, version):
+    """Each of these in a block of a version and in a draft."""
+    versions = itertools.repeat(version)
+    pack = b"pack" if version == FIRST_VERSION else b"pack %d" % version
+    for good, bad, before in pairs:
+        file = block_file([[spelled(good)]], versions)
         yield run(b"scan hist raw/none 0", file, "none\n")
-        yield run(b"pack", json.dumps([[good]]).encode(), file)
-        yield from refused_runs(block_file([[spelled(bad)]]), f"malformed {FRONT_BYTES + before}")
+        yield run(pack, json.dumps([[good]]).encode(), file)
+        yield from refused_runs(block_file([[spelled(bad)]], versions), f"malformed {FRONT_BYTES + before}")
         faulty = json.dumps([[], [good, bad]]).encode()
-        yield run(b"pack", faulty, "badinput draft 1 1\n", BAD_INPUT)
+        yield run(pack, faulty, "badinput draft 1 1\n", BAD_INPUT)
+
+
+def limit_runs():
+    """Limits of transactions, in blocks of either version."""
+    for version in (FIRST_VERSION, SECOND_VERSION):
+        yield from pair_runs(limit_pairs(), version)
+        yield from pair_runs(text_pairs(version), version)
 
 
 def deps_runs():

@@ -39,6 +39,8 @@ SET_DIGEST, SECOND_DIGEST = (block_digest(file[4:]) for file in (SET_FILE, SECON
 AFTER_SET = block_frame(SECOND_VERSION, 1, SET_DIGEST, [])
 COSTLY = [calls("c", "f", [], 1_000_000, NO_CONTRACT, 0)] * 11
 COSTLY_AFTER_SET = block_frame(SECOND_VERSION, 1, SET_DIGEST, COSTLY)
+# A draft of one Set, of a text.
+LONG_DRAFT = b'[[{"set":{"sender":"u","key":"a","value":"%s"}}]]'
 FIRST_AFTER_SET, FIRST_AFTER_SECOND = (
     block_frame(FIRST_VERSION, 1, digest, []) for digest in (SET_DIGEST, SECOND_DIGEST)
 )
@@ -94,6 +96,7 @@ SAID = [
     ("fmt", b"fn f() {\n  a = 1;\n}", None, "line 2, column 3 of the input: no such name"),
     ("fmt", b"fn f()", None, "line 1, column 7 of the input: the contract ends too early"),
     ("fmt 2", b"fn f() {\n  drop 1;\n}", None, "line 2, column 8 of the input: this is an int"),
+    ("pack 1", b"", None, "word 2, `1`, is not `2`"),
     ("pack", b"[", None, "the input is no JSON text: line 1, column 2"),
     ("pack", b"{}", None, "no array of blocks"),
     ("pack", b"[[], 1]", None, "block 1 of the draft, from 0, is no array"),
@@ -102,6 +105,8 @@ SAID = [
     ("pack", b'[[{"set":{"sender":"u","key":"raw/A","value":1}}]]', None, "`key` of `set` must be"),
     ("pack", b'[[{"set":{"sender":"u","key":"a","value":-0}}]]', None, "`value` of `set` must be"),
     ("pack", b'[[{"set":{"sender":"u","key":"a","value":1,"x":1}}]]', None, "`set` takes no `x`"),
+    ("pack", LONG_DRAFT % (b"a" * 1_025), None, "a text of at most 1,024 printable"),
+    ("pack 2", LONG_DRAFT % (b"a" * 8_193), None, "a text of at most 8,192 printable"),
     ("prove hist raw/a 0 00", b"", None, "word 5, `00`, is not ROOTBLOCK"),
     ("prove hist raw/a 0 0", b"", None, f"has no {LOG}"),
     ("prove hist raw/a 0 1", b"", SET_LOG, "the chain ends before it"),

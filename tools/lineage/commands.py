@@ -193,8 +193,8 @@ COMMANDS = [
         input="a contract",
     ),
     Command(
-        "pack",
-        "the block file of a draft, which is JSON, or its first fault",
+        "pack [2]",
+        "the block file of a draft, which is JSON, with 2 of version 2, or its first fault",
         [
             ("badinput json, badinput top", "the input is no JSON, or no array"),
             ("badinput block B, badinput draft B T", "the first fault is in block B, or its transaction T"),

@@ -423,7 +423,8 @@ def input_sentence(program, words, start):
         source = file.read()
     if words[0] == "fmt":
         return contract_sentence(source, printed)
-    return draft_faults.sentence(source, printed.decode("ascii", "replace").split())
+    version = kinds.SECOND_VERSION if words[1:] else kinds.FIRST_VERSION
+    return draft_faults.sentence(source, printed.decode("ascii", "replace").split(), version)
 
 
 def contract_sentence(source, printed, name="the input"):

@@ -4,10 +4,9 @@ use Rattle.std.specs.Prelude.{Option, Some, None, not, if◌then◌else◌, ◌=
 use Rattle.std.proofs.lemmas.Bool.{le-ltb, ltb-false, eq-eqb, eqb-true, ne_eqb}
 use Rattle.std.proofs.lemmas.Bool.Decides.{nat_tests}
 use Rattle.lc_base.specs.declared.digest.Digest.{Digest}
-use Rattle.block_codec.specs.Placement.{is_same_digest, block_budget, wanted_version, new_placement}
+use Rattle.block_codec.specs.Placement.{is_same_digest, block_budget, most_blocks, wanted_version, new_placement}
 use Rattle.block_codec.specs.Placement.{placement, IsNextPlaced}
-use Rattle.block_codec.specs.declared.limits.TheConstants.{MAX_BLOCK_BUDGET, MAX_BLOCKS}
-use Rattle.block_codec.specs.declared.limits.TheConstants.{MAX_ROWS_BEFORE_BLOCK}
+use Rattle.block_codec.specs.declared.limits.TheConstants.{MAX_BLOCK_BUDGET, MAX_ROWS_BEFORE_BLOCK}
 use Rattle.block_codec.specs.declared.block.Block.{Block}
 use Rattle.block_codec.specs.declared.placement.Placement.{Placement}
 use Rattle.block_codec.specs.declared.placement.Placement.TheVariants.{Known, Next, Not}
@@ -30,7 +29,7 @@ module _ (marked : Bool) (held rows : ℕ) (parent : Digest) (block : Block) whe
   pub next_is_placed : new_placement marked held rows parent block ≡ Next
       → IsNextPlaced marked held rows parent block
   next_is_placed is =
-      let full : Bool = held == MAX_BLOCKS || nat_lt MAX_ROWS_BEFORE_BLOCK rows in
+      let full : Bool = held == most_blocks marked || nat_lt MAX_ROWS_BEFORE_BLOCK rows in
       let dear : Bool = nat_lt MAX_BLOCK_BUDGET (block_budget block) in
       let has_room = passed Next full _ _ (λ e. cc e) is in
       let numbered = passed Next (not (block.number == held)) _ _ (λ e. cc e) has_room.1 in
@@ -55,7 +54,7 @@ module _ (marked : Bool) (held rows : ℕ) (parent : Digest) (block : Block) whe
       → new_placement marked held rows parent block ≡ Next
   placed_is_next placed =
       rw (
-        ne_eqb held MAX_BLOCKS placed.room,
+        ne_eqb held (most_blocks marked) placed.room,
         le-ltb MAX_ROWS_BEFORE_BLOCK rows placed.few_rows,
         eq-eqb block.number held placed.number,
         placed.parent_is,
@@ -65,7 +64,7 @@ module _ (marked : Bool) (held rows : ℕ) (parent : Digest) (block : Block) whe
 
   pub new_is_not_known : new_placement marked held rows parent block ≢ Known
   new_is_not_known is =
-      let full : Bool = held == MAX_BLOCKS || nat_lt MAX_ROWS_BEFORE_BLOCK rows in
+      let full : Bool = held == most_blocks marked || nat_lt MAX_ROWS_BEFORE_BLOCK rows in
       let dear : Bool = nat_lt MAX_BLOCK_BUDGET (block_budget block) in
       let has_room = passed Known full _ _ (λ e. cc e) is in
       let numbered = passed Known (not (block.number == held)) _ _ (λ e. cc e) has_room.1 in

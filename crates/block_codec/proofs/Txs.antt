@@ -9,7 +9,7 @@ use Rattle.lc_names.specs.NameBytes.{IsName}
 use Rattle.lc_base.specs.declared.value.Value.{Value}
 use Rattle.lc_base.specs.declared.value.Value.TheVariants.{Text}
 use Rattle.byte_fields.specs.Spelling.{string_fields, value_fields, IsBlockValue}
-use Rattle.byte_fields.specs.Reading.{ruled_at, number_at, value_at}
+use Rattle.byte_fields.specs.Reading.{ruled_at, number_at}
 use Rattle.byte_fields.proofs.Laws.{IsField, renamed, bind_field, then_field, made_field}
 use Rattle.byte_fields.proofs.Items.{counted_field}
 use Rattle.byte_fields.proofs.Pieces.{piece_field, ruled_piece, number_piece, byte_piece, wide32}
@@ -35,12 +35,9 @@ after_kind (Set sender key value deps) = set_fields sender key value deps
 after_kind (Deploy sender name source) = deploy_fields sender name source
 after_kind (Call sender contract function args budget) = call_fields sender contract function args budget
 
--- a transaction of this kind
-abbrev HasKind : ℕ → Tx → Type 0
-HasKind kind tx = (kind_of tx ≡ kind) × IsTx tx
-
-block_value_field : IsField (value_at MAX_TEXT_BYTES) value_fields (IsBlockValue MAX_TEXT_BYTES)
-block_value_field = value_field MAX_TEXT_BYTES (omega arith)
+-- a transaction of this kind, whose texts have at most `most` bytes
+abbrev HasKind : ℕ → ℕ → Tx → Type 0
+HasKind most kind tx = (kind_of tx ≡ kind) × IsTx most tx
 
 -- ---- a Set
 
@@ -67,21 +64,23 @@ set_parts (Set sender key value deps) = (sender, (key, (value, deps)))
 set_parts (Deploy sender name source) = ([], ([], (Text [], [])))
 set_parts (Call sender contract function args budget) = ([], ([], (Text [], [])))
 
-abbrev AreSetParts : SetParts → Type 0
-AreSetParts parts =
-    IsKey parts.0 × (IsKey parts.1.0 × (IsBlockValue MAX_TEXT_BYTES parts.1.1.0 × AreDeps parts.1.1.1))
+abbrev AreSetParts : ℕ → SetParts → Type 0
+AreSetParts most parts =
+    IsKey parts.0 × (IsKey parts.1.0 × (IsBlockValue most parts.1.1.0 × AreDeps parts.1.1.1))
 
-is_set : (tx : Tx) → AreSetParts (set_parts tx) × (tx ≡ set_of (set_parts tx)) → HasKind SET tx
+is_set : (most : ℕ) (tx : Tx) → AreSetParts most (set_parts tx) × (tx ≡ set_of (set_parts tx))
+    → HasKind most SET tx
 unfolding AreDeps
-is_set (Set sender key value deps) is = (refl, record { sender_is_key = is.0.0; key_is_key = is.0.1.0; value_is_value = is.0.1.1.0; few_deps = is.0.1.1.1.0; deps_are_keys = is.0.1.1.1.1 })
-is_set (Deploy sender name source) is = absurd cc
-is_set (Call sender contract function args budget) is = absurd cc
+is_set most (Set sender key value deps) is = (refl, record { sender_is_key = is.0.0; key_is_key = is.0.1.0; value_is_value = is.0.1.1.0; few_deps = is.0.1.1.1.0; deps_are_keys = is.0.1.1.1.1 })
+is_set most (Deploy sender name source) is = absurd cc
+is_set most (Call sender contract function args budget) is = absurd cc
 
-set_is : (tx : Tx) → HasKind SET tx → AreSetParts (set_parts tx) × (tx ≡ set_of (set_parts tx))
+set_is : (most : ℕ) (tx : Tx) → HasKind most SET tx
+    → AreSetParts most (set_parts tx) × (tx ≡ set_of (set_parts tx))
 unfolding AreDeps
-set_is (Set sender key value deps) is = let s = is.1 in ((s.sender_is_key, (s.key_is_key, (s.value_is_value, (s.few_deps, s.deps_are_keys)))), refl)
-set_is (Deploy sender name source) is = absurd cc
-set_is (Call sender contract function args budget) is = absurd cc
+set_is most (Set sender key value deps) is = let s = is.1 in ((s.sender_is_key, (s.key_is_key, (s.value_is_value, (s.few_deps, s.deps_are_keys)))), refl)
+set_is most (Deploy sender name source) is = absurd cc
+set_is most (Call sender contract function args budget) is = absurd cc
 
 same_set : (tx : Tx) → tx ≡ set_of (set_parts tx) → string_fields (set_parts tx).0 ++ (string_fields (set_parts tx).1.0 ++ (value_fields (set_parts tx).1.1.0 ++ dep_fields (set_parts tx).1.1.1)) ≡ after_kind tx
 unfolding dep_fields
@@ -89,11 +88,12 @@ same_set (Set sender key value deps) is = simp append_assoc
 same_set (Deploy sender name source) is = absurd cc
 same_set (Call sender contract function args budget) is = absurd cc
 
-set_field : IsField set_at after_kind (HasKind SET)
+set_field : (most : ℕ) → most ≤ MAX_TEXT_BYTES → IsField (set_at most) after_kind (HasKind most SET)
 unfolding set_at
-set_field =
-    let parts = then_field key_field (then_field key_field (then_field block_value_field deps_field)) in
-    renamed (made_field set_of set_parts parts (λ parts is. refl)) is_set set_is (λ tx is. same_set tx is.1)
+set_field most few =
+    let value = value_field most few in
+    let parts = then_field key_field (then_field key_field (then_field value deps_field)) in
+    renamed (made_field set_of set_parts parts (λ parts is. refl)) (is_set most) (set_is most) (λ tx is. same_set tx is.1)
 
 -- ---- a Deploy
 
@@ -109,39 +109,41 @@ deploy_parts (Call sender contract function args budget) = ([], ([], []))
 abbrev AreDeployParts : DeployParts → Type 0
 AreDeployParts parts = IsKey parts.0 × (IsName parts.1.0 × (length parts.1.1 ≤ MAX_SOURCE_BYTES))
 
-is_deploy : (tx : Tx) → AreDeployParts (deploy_parts tx) × (tx ≡ deploy_of (deploy_parts tx)) → HasKind DEPLOY tx
-is_deploy (Set sender key value deps) is = absurd cc
-is_deploy (Deploy sender name source) is = (refl, record { sender_is_key = is.0.0; name_is_name = is.0.1.0; short_source = is.0.1.1 })
-is_deploy (Call sender contract function args budget) is = absurd cc
+is_deploy : (most : ℕ) (tx : Tx)
+    → AreDeployParts (deploy_parts tx) × (tx ≡ deploy_of (deploy_parts tx)) → HasKind most DEPLOY tx
+is_deploy most (Set sender key value deps) is = absurd cc
+is_deploy most (Deploy sender name source) is = (refl, record { sender_is_key = is.0.0; name_is_name = is.0.1.0; short_source = is.0.1.1 })
+is_deploy most (Call sender contract function args budget) is = absurd cc
 
-deploy_is : (tx : Tx) → HasKind DEPLOY tx → AreDeployParts (deploy_parts tx) × (tx ≡ deploy_of (deploy_parts tx))
-deploy_is (Set sender key value deps) is = absurd cc
-deploy_is (Deploy sender name source) is = let d = is.1 in ((d.sender_is_key, (d.name_is_name, d.short_source)), refl)
-deploy_is (Call sender contract function args budget) is = absurd cc
+deploy_is : (most : ℕ) (tx : Tx) → HasKind most DEPLOY tx
+    → AreDeployParts (deploy_parts tx) × (tx ≡ deploy_of (deploy_parts tx))
+deploy_is most (Set sender key value deps) is = absurd cc
+deploy_is most (Deploy sender name source) is = let d = is.1 in ((d.sender_is_key, (d.name_is_name, d.short_source)), refl)
+deploy_is most (Call sender contract function args budget) is = absurd cc
 
 same_deploy : (tx : Tx) → tx ≡ deploy_of (deploy_parts tx) → string_fields (deploy_parts tx).0 ++ (string_fields (deploy_parts tx).1.0 ++ string_fields (deploy_parts tx).1.1) ≡ after_kind tx
 same_deploy (Set sender key value deps) is = absurd cc
 same_deploy (Deploy sender name source) is = simp append_assoc
 same_deploy (Call sender contract function args budget) is = absurd cc
 
-deploy_field : IsField deploy_at after_kind (HasKind DEPLOY)
+deploy_field : (most : ℕ) → IsField deploy_at after_kind (HasKind most DEPLOY)
 unfolding deploy_at
-deploy_field = renamed (made_field deploy_of deploy_parts (then_field key_field (then_field name_field (any_bytes_field MAX_SOURCE_BYTES (omega arith)))) (λ parts is. refl)) is_deploy deploy_is (λ tx is. same_deploy tx is.1)
+deploy_field most = renamed (made_field deploy_of deploy_parts (then_field key_field (then_field name_field (any_bytes_field MAX_SOURCE_BYTES (omega arith)))) (λ parts is. refl)) (is_deploy most) (deploy_is most) (λ tx is. same_deploy tx is.1)
 
 -- ---- a Call
 
--- at most MAX_ARGS values
-AreArgs : List Value → Type 0
-AreArgs args = (length args ≤ MAX_ARGS) × AllByRecursion (IsBlockValue MAX_TEXT_BYTES) args
+-- at most MAX_ARGS values, whose texts have at most `most` bytes
+AreArgs : ℕ → List Value → Type 0
+AreArgs most args = (length args ≤ MAX_ARGS) × AllByRecursion (IsBlockValue most) args
 
 arg_fields : List Value → List (List ℕ)
 arg_fields args = (length args ∷ []) ∷ flat_map value_fields args
 
-args_field : IsField args_at arg_fields AreArgs
+args_field : (most : ℕ) → most ≤ MAX_TEXT_BYTES → IsField (args_at most) arg_fields (AreArgs most)
 unfolding args_at arg_fields AreArgs
-args_field =
+args_field most few =
     let count = piece_field (ruled_piece byte_piece (λ n. nat_le n MAX_ARGS) (record { value = 0; is = (omega arith, refl) })) in
-    renamed (counted_field count block_value_field)
+    renamed (counted_field count (value_field most few))
     (λ args is. (leb-true _ _ is.0.1, is.1)) (λ args is. ((omega (arith, is.0), le-leb _ _ is.0), is.1)) (λ args is. refl)
 
 budget_field : IsField (ruled_at (λ n. nat_le n MAX_CALL_BUDGET) (number_at w32)) (λ n. to_be_bytes w32 n ∷ []) (λ n. n ≤ MAX_CALL_BUDGET)
@@ -158,22 +160,24 @@ call_parts (Set sender key value deps) = ([], ([], ([], ([], 0))))
 call_parts (Deploy sender name source) = ([], ([], ([], ([], 0))))
 call_parts (Call sender contract function args budget) = (sender, (contract, (function, (args, budget))))
 
-abbrev AreCallParts : CallParts → Type 0
-AreCallParts parts = IsKey parts.0 × (IsName parts.1.0 × (IsName parts.1.1.0 × (AreArgs parts.1.1.1.0 × (parts.1.1.1.1 ≤ MAX_CALL_BUDGET))))
+abbrev AreCallParts : ℕ → CallParts → Type 0
+AreCallParts most parts = IsKey parts.0 × (IsName parts.1.0 × (IsName parts.1.1.0 × (AreArgs most parts.1.1.1.0 × (parts.1.1.1.1 ≤ MAX_CALL_BUDGET))))
 
-is_call : (tx : Tx) → AreCallParts (call_parts tx) × (tx ≡ call_of (call_parts tx)) → HasKind CALL tx
+is_call : (most : ℕ) (tx : Tx) → AreCallParts most (call_parts tx) × (tx ≡ call_of (call_parts tx))
+    → HasKind most CALL tx
 unfolding AreArgs
-is_call (Set sender key value deps) is = absurd cc
-is_call (Deploy sender name source) is = absurd cc
-is_call (Call sender contract function args budget) is =
+is_call most (Set sender key value deps) is = absurd cc
+is_call most (Deploy sender name source) is = absurd cc
+is_call most (Call sender contract function args budget) is =
     let p = is.0 in
     (refl, record { sender_is_key = p.0; contract_is_name = p.1.0; function_is_name = p.1.1.0; few_args = p.1.1.1.0.0; args_are_values = p.1.1.1.0.1; low_budget = p.1.1.1.1 })
 
-call_is : (tx : Tx) → HasKind CALL tx → AreCallParts (call_parts tx) × (tx ≡ call_of (call_parts tx))
+call_is : (most : ℕ) (tx : Tx) → HasKind most CALL tx
+    → AreCallParts most (call_parts tx) × (tx ≡ call_of (call_parts tx))
 unfolding AreArgs
-call_is (Set sender key value deps) is = absurd cc
-call_is (Deploy sender name source) is = absurd cc
-call_is (Call sender contract function args budget) is = let c = is.1 in ((c.sender_is_key, (c.contract_is_name, (c.function_is_name, ((c.few_args, c.args_are_values), c.low_budget)))), refl)
+call_is most (Set sender key value deps) is = absurd cc
+call_is most (Deploy sender name source) is = absurd cc
+call_is most (Call sender contract function args budget) is = let c = is.1 in ((c.sender_is_key, (c.contract_is_name, (c.function_is_name, ((c.few_args, c.args_are_values), c.low_budget)))), refl)
 
 same_call : (tx : Tx) → tx ≡ call_of (call_parts tx)
     → string_fields (call_parts tx).0 ++ (string_fields (call_parts tx).1.0 ++ (string_fields (call_parts tx).1.1.0 ++ (arg_fields (call_parts tx).1.1.1.0 ++ to_be_bytes w32 (call_parts tx).1.1.1.1 ∷ []))) ≡ after_kind tx
@@ -182,31 +186,35 @@ same_call (Set sender key value deps) is = absurd cc
 same_call (Deploy sender name source) is = absurd cc
 same_call (Call sender contract function args budget) is = simp append_assoc
 
-call_field : IsField call_at after_kind (HasKind CALL)
+call_field : (most : ℕ) → most ≤ MAX_TEXT_BYTES
+    → IsField (call_at most) after_kind (HasKind most CALL)
 unfolding call_at
-call_field = renamed (made_field call_of call_parts (then_field key_field (then_field name_field (then_field name_field (then_field args_field budget_field)))) (λ parts is. refl)) is_call call_is (λ tx is. same_call tx is.1)
+call_field most few = renamed (made_field call_of call_parts (then_field key_field (then_field name_field (then_field name_field (then_field (args_field most few) budget_field)))) (λ parts is. refl)) (is_call most) (call_is most) (λ tx is. same_call tx is.1)
 
 -- ---- a transaction
 
-kinds_field : (kind : ℕ) → (kind < 256) × (is_kind kind ≡ true) → IsField (kind_at kind) after_kind (HasKind kind)
-kinds_field zero is = absurd cc
-kinds_field (suc zero) is = set_field
-kinds_field (suc (suc zero)) is = deploy_field
-kinds_field (suc (suc (suc zero))) is = call_field
-kinds_field (suc (suc (suc (suc n)))) is = let kind = suc (suc (suc (suc n))) in absurd (cc (is.1, ne_eqb kind SET (omega arith), ne_eqb kind DEPLOY (omega arith), ne_eqb kind CALL (omega arith)))
+kinds_field : (most : ℕ) → most ≤ MAX_TEXT_BYTES
+    → (kind : ℕ) → (kind < 256) × (is_kind kind ≡ true)
+    → IsField (kind_at most kind) after_kind (HasKind most kind)
+kinds_field most few zero is = absurd cc
+kinds_field most few (suc zero) is = set_field most few
+kinds_field most few (suc (suc zero)) is = deploy_field most
+kinds_field most few (suc (suc (suc zero))) is = call_field most few
+kinds_field most few (suc (suc (suc (suc n)))) is = let kind = suc (suc (suc (suc n))) in absurd (cc (is.1, ne_eqb kind SET (omega arith), ne_eqb kind DEPLOY (omega arith), ne_eqb kind CALL (omega arith)))
 
-kinds_are : (tx : Tx) → IsTx tx → ((kind_of tx < 256) × (is_kind (kind_of tx) ≡ true)) × HasKind (kind_of tx) tx
-kinds_are (Set sender key value deps) is = ((omega arith, refl), (refl, is))
-kinds_are (Deploy sender name source) is = ((omega arith, refl), (refl, is))
-kinds_are (Call sender contract function args budget) is = ((omega arith, refl), (refl, is))
+kinds_are : (most : ℕ) (tx : Tx) → IsTx most tx
+    → ((kind_of tx < 256) × (is_kind (kind_of tx) ≡ true)) × HasKind most (kind_of tx) tx
+kinds_are most (Set sender key value deps) is = ((omega arith, refl), (refl, is))
+kinds_are most (Deploy sender name source) is = ((omega arith, refl), (refl, is))
+kinds_are most (Call sender contract function args budget) is = ((omega arith, refl), (refl, is))
 
 same_tx : (tx : Tx) → (kind_of tx ∷ []) ∷ after_kind tx ≡ tx_fields tx
 same_tx (Set sender key value deps) = refl
 same_tx (Deploy sender name source) = refl
 same_tx (Call sender contract function args budget) = refl
 
-pub tx_field : IsField tx_at tx_fields IsTx
+pub tx_field : (most : ℕ) → most ≤ MAX_TEXT_BYTES → IsField (tx_at most) tx_fields (IsTx most)
 unfolding tx_at
-tx_field =
+tx_field most few =
     let kind = piece_field (ruled_piece byte_piece is_kind (record { value = SET; is = (omega arith, refl) })) in
-    renamed (bind_field {Is_b = HasKind} kind_of kind kinds_field (λ kind tx is is_tx. is_tx.0)) (λ tx is. is.1.1) kinds_are (λ tx is. same_tx tx)
+    renamed (bind_field {Is_b = HasKind most} kind_of kind (kinds_field most few) (λ kind tx is is_tx. is_tx.0)) (λ tx is. is.1.1) (kinds_are most) (λ tx is. same_tx tx)

@@ -1,15 +1,19 @@
 -- Chains without a mark: where a mark fits the blocks, what is next by it is next by the versions.
-use Rattle.std.proofs.Common.{◌≡◌, ℕ, ◌-◌, Bool, true, false, List, [], ◌∷◌, ◌++◌, length}
+use Rattle.std.proofs.Common.{◌≡◌, ◌≢◌, ℕ, ◌+◌, ◌-◌, ◌≤◌, Bool, true, false, List, [], ◌∷◌, ◌++◌, length}
 use Rattle.std.proofs.Common.{map, refl, sym, ap, ◌∙◌, arith}
-use Rattle.std.specs.Prelude.{Option, Some, slice_get, unwrap_or}
+use Rattle.std.specs.Prelude.{Option, Some, slice_get, unwrap_or, ◌==◌, ◌||◌}
+use Rattle.std.proofs.lemmas.Bool.{eq-eqb}
 use Rattle.std.proofs.lemmas.Bool.Decides.{nat_tests}
 use Rattle.std.proofs.lemmas.List.{length-append, length-map, map-append}
 use Rattle.std.proofs.lemmas.Option.{slice_get-get_or}
 use Rattle.std.proofs.Math.Seq.{get_or-append_seam}
-use Rattle.block_codec.specs.declared.block.TheConstants.{FIRST_VERSION}
+use Rattle.lc_base.specs.declared.digest.Digest.{Digest}
+use Rattle.block_codec.specs.declared.limits.TheConstants.{MAX_BLOCKS, MAX_MARKED_BLOCKS}
+use Rattle.block_codec.specs.declared.block.TheConstants.{FIRST_VERSION, SECOND_VERSION}
 use Rattle.block_codec.specs.declared.block.Block.{Block}
 use Rattle.block_codec.specs.declared.placement.Placement.TheVariants.{Next}
-use Rattle.block_codec.specs.Placement.{digest_of, last_digest, wanted_version, placement_after}
+use Rattle.block_codec.specs.Placement.{digest_of, last_digest, most_blocks, wanted_version}
+use Rattle.block_codec.specs.Placement.{placement, placement_after}
 use Rattle.block_codec.specs.Placement.{last_version, is_marked_by, placement_by_versions}
 use Rattle.block_codec.specs.Placement.{FitsVersions}
 use Rattle.block_codec.proofs.Placements.{next_has_passed}
@@ -79,3 +83,43 @@ pub fits_with_next : (marked : Bool) (rows : ℕ) (blocks : List Block) (block :
 fits_with_next marked rows blocks block is unmarked =
     last_version_of blocks block ∙ next_version marked rows blocks block is
     ∙ ap wanted_version unmarked
+
+-- ---- how many blocks a chain has
+
+-- the greatest number of blocks of any chain is that of a marked one
+pub most_of_all : (marked : Bool) (n : ℕ) → n ≤ most_blocks marked → n ≤ MAX_MARKED_BLOCKS
+most_of_all true n few = few
+most_of_all false n few = omega (arith, few)
+
+-- as many blocks as a chain without a mark may have, any chain may have
+pub few_of_any : (marked : Bool) (n : ℕ) → n ≤ MAX_BLOCKS → n ≤ most_blocks marked
+few_of_any true n few = omega (arith, few)
+few_of_any false n few = few
+
+-- with a block of the second version there may be as many blocks as without it, or more
+pub most_with : (second other : Bool) (n : ℕ) → n ≤ most_blocks second
+    → n ≤ most_blocks (second || other)
+most_with true other n few = few
+most_with false true n few = omega (arith, few)
+most_with false false n few = few
+
+few_by : (second other : Bool) (held version : ℕ) → held ≤ most_blocks second
+    → held ≢ most_blocks (second || other) → version ≡ wanted_version (second || other)
+    → (version == SECOND_VERSION) ≡ other → held + 1 ≤ most_blocks other
+few_by true true held version few room is same = omega (arith, few, room)
+few_by true false held version few room is same =
+    absurd (cc (same, eq-eqb version SECOND_VERSION is))
+few_by false true held version few room is same = omega (arith, few)
+few_by false false held version few room is same = omega (arith, few, room)
+
+-- a chain that is placed by versions has with its next block at most as many blocks as one that
+-- ends so
+pub few_with_next : (last held rows : ℕ) (have : Option Digest) (parent : Digest) (block : Block)
+    (digest : Digest)
+    → placement (is_marked_by last block) held rows have parent block digest ≡ Next
+    → held ≤ most_blocks (last == SECOND_VERSION)
+    → held + 1 ≤ most_blocks (block.version == SECOND_VERSION)
+few_with_next last held rows have parent block digest is few =
+    let placed = next_has_passed (is_marked_by last block) held rows have parent block digest is in
+    few_by (last == SECOND_VERSION) (block.version == SECOND_VERSION) held block.version few
+    placed.room placed.version_is refl

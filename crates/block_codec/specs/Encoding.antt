@@ -1,6 +1,8 @@
 -- What writing a block, or a part of one, returns.
-use Rattle.std.specs.Prelude.{◌≡◌, ℕ, List, ◌++◌, Result, OnOk, IsErrOf}
+use Rattle.std.specs.Prelude.{◌≡◌, ℕ, nat_le, Bool, true, false, List, ◌++◌, length, Result, OnOk, IsErrOf}
 use Rattle.std.specs.List.{concat}
+use Rattle.lc_base.specs.declared.value.Value.{Value}
+use Rattle.lc_base.specs.declared.value.Value.TheVariants.{Int, Text, Gone}
 use Rattle.block_codec.specs.declared.error.EncodeError.{EncodeError}
 use Rattle.block_codec.specs.declared.error.EncodeError.TheVariants.{Limit}
 
@@ -10,3 +12,9 @@ pub record Encodes {T : Type 0} (fields : List (List ℕ)) (Is : Type 0) (old ne
   pub written : OnOk result (new ≡ old ++ concat fields)
   pub lawful : OnOk result Is
   pub limit : IsErrOf result Limit → Is → ⊥
+
+-- Whether a block may have the value, if its texts have at most `most` bytes.
+abbrev pub may_be_in_block : ℕ → Value → Bool
+may_be_in_block most (Int number) = true
+may_be_in_block most (Text text) = nat_le (length text) most
+may_be_in_block most Gone = false

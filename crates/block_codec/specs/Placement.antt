@@ -7,7 +7,7 @@ use Rattle.std.specs.Cmp.Lexicographic.{pointwise}
 use Rattle.sha2.specs.Sha256.{sha256}
 use Rattle.lc_base.specs.declared.digest.Digest.{Digest}
 use Rattle.block_codec.specs.Spelling.{block_fields}
-use Rattle.block_codec.specs.declared.limits.TheConstants.{MAX_BLOCK_BUDGET, MAX_BLOCKS, MAX_ROWS_BEFORE_BLOCK}
+use Rattle.block_codec.specs.declared.limits.TheConstants.{MAX_BLOCK_BUDGET, MAX_BLOCKS, MAX_MARKED_BLOCKS, MAX_ROWS_BEFORE_BLOCK}
 use Rattle.block_codec.specs.declared.placement.TheConstants.{BLOCK_TAG}
 use Rattle.block_codec.specs.declared.block.TheConstants.{FIRST_VERSION, SECOND_VERSION}
 use Rattle.block_codec.specs.declared.block.Tx.{Tx}
@@ -48,6 +48,10 @@ tx_budget (Call sender contract function args budget) = budget
 abbrev pub block_budget : Block → ℕ
 block_budget block = sum_by tx_budget block.txs
 
+-- The greatest number of blocks of a chain that is `marked`, or isn't.
+abbrev pub most_blocks : Bool → ℕ
+most_blocks marked = if marked then MAX_MARKED_BLOCKS else MAX_BLOCKS
+
 -- The version of the next block: in a chain that is marked the second, in another the first.
 abbrev pub wanted_version : Bool → ℕ
 wanted_version marked = if marked then SECOND_VERSION else FIRST_VERSION
@@ -57,7 +61,7 @@ wanted_version marked = if marked then SECOND_VERSION else FIRST_VERSION
 -- its budget is at most `MAX_BLOCK_BUDGET`.
 abbrev pub new_placement : Bool → ℕ → ℕ → Digest → Block → Placement
 new_placement marked held rows parent block =
-    if held == MAX_BLOCKS || nat_lt MAX_ROWS_BEFORE_BLOCK rows then Not Full
+    if held == most_blocks marked || nat_lt MAX_ROWS_BEFORE_BLOCK rows then Not Full
     else (if not (block.number == held) then Not (Number held)
     else (if not (is_same_digest block.parent parent) then Not (Parent parent)
     else (if not (block.version == wanted_version marked) then Not (Version (wanted_version marked))
@@ -66,7 +70,7 @@ new_placement marked held rows parent block =
 
 -- What each test of `new_placement` found of a block that is next.
 pub record IsNextPlaced (marked : Bool) (held rows : ℕ) (parent : Digest) (block : Block) : Type 0 where
-  pub room : held ≢ MAX_BLOCKS
+  pub room : held ≢ most_blocks marked
   pub few_rows : rows ≤ MAX_ROWS_BEFORE_BLOCK
   pub number : block.number ≡ held
   pub parent_is : is_same_digest block.parent parent ≡ true

@@ -3,13 +3,13 @@ use Rattle.std.specs.Prelude.{ℕ, ◌-◌, min, Bool, ◌==◌, ◌||◌, nat_l
 use Rattle.std.specs.Int.{w16, w32}
 use Rattle.lc_base.specs.declared.value.Value.{Value}
 use Rattle.byte_fields.specs.Reading.{Field, all_read, bind_at, then_at, made_at, ruled_at, items_at, number_at, byte_at, bytes_at, key_at, name_at, any_bytes_at, value_at}
-use Rattle.lc_base.specs.declared.limits.TheConstants.{MAX_DEPS, MAX_TEXT_BYTES}
+use Rattle.lc_base.specs.declared.limits.TheConstants.{MAX_DEPS}
 use Rattle.block_codec.specs.declared.limits.TheConstants.{MAX_ARGS, MAX_BLOCK_BYTES, MAX_CALL_BUDGET, MAX_SOURCE_BYTES, MAX_TXS}
 use Rattle.block_codec.specs.declared.block.TheConstants.{SET, DEPLOY, CALL}
 use Rattle.block_codec.specs.declared.block.Tx.{Tx}
 use Rattle.block_codec.specs.declared.block.Tx.TheVariants.{Set, Deploy, Call}
 use Rattle.block_codec.specs.declared.block.Block.{Block}
-use Rattle.block_codec.specs.Spelling.{is_version}
+use Rattle.block_codec.specs.Spelling.{is_version, text_limit}
 
 -- At most `MAX_DEPS` keys, after their count.
 unfoldable pub dep_keys_at : List ℕ → Field (List (List ℕ))
@@ -19,10 +19,10 @@ dep_keys_at = bind_at (ruled_at (λ n. nat_le n MAX_DEPS) byte_at) (items_at key
 abbrev pub set_of : List ℕ × (List ℕ × (Value × List (List ℕ))) → Tx
 set_of parts = Set parts.0 parts.1.0 parts.1.1.0 parts.1.1.1
 
--- What follows the kind of a Set.
-unfoldable pub set_at : List ℕ → Field Tx
-set_at =
-    made_at set_of (then_at key_at (then_at key_at (then_at (value_at MAX_TEXT_BYTES) dep_keys_at)))
+-- What follows the kind of a Set, whose text has at most `most` bytes.
+unfoldable pub set_at : ℕ → List ℕ → Field Tx
+set_at most =
+    made_at set_of (then_at key_at (then_at key_at (then_at (value_at most) dep_keys_at)))
 
 -- A Deploy from its parts.
 abbrev pub deploy_of : List ℕ × (List ℕ × List ℕ) → Tx
@@ -32,33 +32,33 @@ deploy_of parts = Deploy parts.0 parts.1.0 parts.1.1
 unfoldable pub deploy_at : List ℕ → Field Tx
 deploy_at = made_at deploy_of (then_at key_at (then_at name_at (any_bytes_at MAX_SOURCE_BYTES)))
 
--- At most `MAX_ARGS` values, after their count.
-unfoldable pub args_at : List ℕ → Field (List Value)
-args_at = bind_at (ruled_at (λ n. nat_le n MAX_ARGS) byte_at) (items_at (value_at MAX_TEXT_BYTES))
+-- At most `MAX_ARGS` values, after their count. Their texts have at most `most` bytes.
+unfoldable pub args_at : ℕ → List ℕ → Field (List Value)
+args_at most = bind_at (ruled_at (λ n. nat_le n MAX_ARGS) byte_at) (items_at (value_at most))
 
 -- A Call from its parts.
 abbrev pub call_of : List ℕ × (List ℕ × (List ℕ × (List Value × ℕ))) → Tx
 call_of parts = Call parts.0 parts.1.0 parts.1.1.0 parts.1.1.1.0 parts.1.1.1.1
 
--- What follows the kind of a Call.
-unfoldable pub call_at : List ℕ → Field Tx
-call_at = made_at call_of (then_at key_at (then_at name_at (then_at name_at (then_at args_at (ruled_at (λ n. nat_le n MAX_CALL_BUDGET) (number_at w32))))))
+-- What follows the kind of a Call, whose texts have at most `most` bytes.
+unfoldable pub call_at : ℕ → List ℕ → Field Tx
+call_at most = made_at call_of (then_at key_at (then_at name_at (then_at name_at (then_at (args_at most) (ruled_at (λ n. nat_le n MAX_CALL_BUDGET) (number_at w32))))))
 
 -- Whether transactions have this kind.
 abbrev pub is_kind : ℕ → Bool
 is_kind kind = kind == SET || kind == DEPLOY || kind == CALL
 
--- What follows the kind of a transaction.
-abbrev pub kind_at : ℕ → List ℕ → Field Tx
-kind_at kind = if kind == SET then set_at else (if kind == DEPLOY then deploy_at else call_at)
+-- What follows the kind of a transaction, whose texts have at most `most` bytes.
+abbrev pub kind_at : ℕ → ℕ → List ℕ → Field Tx
+kind_at most kind = if kind == SET then set_at most else (if kind == DEPLOY then deploy_at else call_at most)
 
--- A transaction: its kind, then what follows the kind.
-unfoldable pub tx_at : List ℕ → Field Tx
-tx_at = bind_at (ruled_at is_kind byte_at) kind_at
+-- A transaction, whose texts have at most `most` bytes: its kind, then what follows the kind.
+unfoldable pub tx_at : ℕ → List ℕ → Field Tx
+tx_at most = bind_at (ruled_at is_kind byte_at) (kind_at most)
 
--- At most `MAX_TXS` transactions, after their count.
-unfoldable pub txs_at : List ℕ → Field (List Tx)
-txs_at = bind_at (ruled_at (λ n. nat_le n MAX_TXS) (number_at w16)) (items_at tx_at)
+-- At most `MAX_TXS` transactions, after their count. Their texts have at most `most` bytes.
+unfoldable pub txs_at : ℕ → List ℕ → Field (List Tx)
+txs_at most = bind_at (ruled_at (λ n. nat_le n MAX_TXS) (number_at w16)) (items_at (tx_at most))
 
 -- A block of this version from its other parts.
 abbrev pub block_of : ℕ → ℕ × (List ℕ × List Tx) → Block
@@ -68,7 +68,7 @@ block_of version parts =
 -- What follows the version of a block.
 abbrev pub versioned_at : ℕ → List ℕ → Field Block
 versioned_at version =
-    made_at (block_of version) (then_at (number_at w32) (then_at (bytes_at 32) txs_at))
+    made_at (block_of version) (then_at (number_at w32) (then_at (bytes_at 32) (txs_at (text_limit version))))
 
 -- A block: its version, then what follows the version.
 unfoldable pub block_at : List ℕ → Field Block

@@ -1,5 +1,5 @@
 -- Blocks and the one spelling of each.
-use Rattle.std.specs.Prelude.{◌≡◌, ℕ, ◌^◌, ◌<◌, ◌≤◌, ◌==◌, ◌||◌, Bool, true, List, [], ◌∷◌, ◌++◌, length, min, Result, Ok, Err}
+use Rattle.std.specs.Prelude.{◌≡◌, ℕ, ◌^◌, ◌<◌, ◌≤◌, ◌==◌, ◌||◌, Bool, true, if◌then◌else◌, List, [], ◌∷◌, ◌++◌, length, min, Result, Ok, Err}
 use Rattle.std.specs.List.{concat, flat_map, AllByRecursion}
 use Rattle.std.specs.Int.{w16, w32, to_be_bytes}
 use Rattle.lc_names.specs.KeyBytes.{IsKey}
@@ -8,7 +8,7 @@ use Rattle.lc_base.specs.declared.value.Value.{Value}
 use Rattle.byte_fields.specs.Prefixes.{IsLongestPrefix}
 use Rattle.byte_fields.specs.Spelling.{IsBytes, string_fields, value_fields, IsBlockValue}
 use Rattle.lc_base.specs.declared.limits.TheConstants.{MAX_DEPS, MAX_TEXT_BYTES}
-use Rattle.block_codec.specs.declared.limits.TheConstants.{MAX_ARGS, MAX_BLOCK_BYTES, MAX_CALL_BUDGET, MAX_SOURCE_BYTES, MAX_TXS}
+use Rattle.block_codec.specs.declared.limits.TheConstants.{MAX_ARGS, MAX_BLOCK_BYTES, MAX_CALL_BUDGET, MAX_FIRST_TEXT_BYTES, MAX_SOURCE_BYTES, MAX_TXS}
 use Rattle.block_codec.specs.declared.block.TheConstants.{SET, DEPLOY, CALL, FIRST_VERSION, SECOND_VERSION}
 use Rattle.block_codec.specs.declared.block.Tx.{Tx}
 use Rattle.block_codec.specs.declared.block.Tx.TheVariants.{Set, Deploy, Call}
@@ -16,11 +16,20 @@ use Rattle.block_codec.specs.declared.block.Block.{Block}
 
 -- ---- what a block may be
 
--- A sender, a key, a value and at most `MAX_DEPS` dependency keys.
-pub record IsSet (sender key : List ℕ) (value : Value) (deps : List (List ℕ)) : Type 0 where
+-- Whether blocks have this version.
+abbrev pub is_version : ℕ → Bool
+is_version version = version == FIRST_VERSION || version == SECOND_VERSION
+
+-- The greatest number of bytes of a text in a block of this version.
+abbrev pub text_limit : ℕ → ℕ
+text_limit version = if version == SECOND_VERSION then MAX_TEXT_BYTES else MAX_FIRST_TEXT_BYTES
+
+-- A sender, a key, a value, whose text has at most `most` bytes, and at most `MAX_DEPS` dependency
+-- keys.
+pub record IsSet (most : ℕ) (sender key : List ℕ) (value : Value) (deps : List (List ℕ)) : Type 0 where
   pub sender_is_key : IsKey sender
   pub key_is_key : IsKey key
-  pub value_is_value : IsBlockValue MAX_TEXT_BYTES value
+  pub value_is_value : IsBlockValue most value
   pub few_deps : length deps ≤ MAX_DEPS
   pub deps_are_keys : AllByRecursion IsKey deps
 
@@ -30,33 +39,30 @@ pub record IsDeploy (sender name source : List ℕ) : Type 0 where
   pub name_is_name : IsName name
   pub short_source : length source ≤ MAX_SOURCE_BYTES
 
--- A sender, the names of a contract and of a function, at most `MAX_ARGS` values, and a budget of
--- at most `MAX_CALL_BUDGET`.
-pub record IsCall (sender contract function : List ℕ) (args : List Value) (budget : ℕ) : Type 0 where
+-- A sender, the names of a contract and of a function, at most `MAX_ARGS` values, whose texts have
+-- at most `most` bytes, and a budget of at most `MAX_CALL_BUDGET`.
+pub record IsCall (most : ℕ) (sender contract function : List ℕ) (args : List Value) (budget : ℕ) : Type 0 where
   pub sender_is_key : IsKey sender
   pub contract_is_name : IsName contract
   pub function_is_name : IsName function
   pub few_args : length args ≤ MAX_ARGS
-  pub args_are_values : AllByRecursion (IsBlockValue MAX_TEXT_BYTES) args
+  pub args_are_values : AllByRecursion (IsBlockValue most) args
   pub low_budget : budget ≤ MAX_CALL_BUDGET
 
--- What a transaction may be.
-abbrev pub IsTx : Tx → Type 0
-IsTx (Set sender key value deps) = IsSet sender key value deps
-IsTx (Deploy sender name source) = IsDeploy sender name source
-IsTx (Call sender contract function args budget) = IsCall sender contract function args budget
+-- What a transaction may be, if its texts have at most `most` bytes.
+abbrev pub IsTx : ℕ → Tx → Type 0
+IsTx most (Set sender key value deps) = IsSet most sender key value deps
+IsTx most (Deploy sender name source) = IsDeploy sender name source
+IsTx most (Call sender contract function args budget) = IsCall most sender contract function args budget
 
--- Whether blocks have this version.
-abbrev pub is_version : ℕ → Bool
-is_version version = version == FIRST_VERSION || version == SECOND_VERSION
-
--- A version, a number of 32 bits, a digest of 32 bytes, and at most `MAX_TXS` transactions.
+-- A version, a number of 32 bits, a digest of 32 bytes, and at most `MAX_TXS` transactions, whose
+-- texts are within the limit of the version.
 pub record IsBlock (block : Block) : Type 0 where
   pub version_is : is_version block.version ≡ true
   pub number_fits : block.number < 2 ^ 32
   pub parent_fits : length block.parent.0 ≡ 32
   pub few_txs : length block.txs ≤ MAX_TXS
-  pub txs_are_txs : AllByRecursion IsTx block.txs
+  pub txs_are_txs : AllByRecursion (IsTx (text_limit block.version)) block.txs
 
 -- ---- how a block is spelled, field by field
 

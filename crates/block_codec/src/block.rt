@@ -1,6 +1,11 @@
 //! Blocks and their transactions, as `decode` returns them and `encode` takes them.
 
-use lc_base::{Bytes, Digest, Key, KeyList, Name, Seq, Value};
+ghost use Rattle.std.specs.Prelude.{◌≡◌, ◌≤◌};
+ghost use Rattle.lc_base.specs.declared.limits.TheConstants.{MAX_TEXT_BYTES};
+ghost use Rattle.block_codec.specs.Spelling.{is_version, text_limit};
+
+use crate::limits::MAX_FIRST_TEXT_BYTES;
+use lc_base::{Bytes, Digest, Key, KeyList, MAX_TEXT_BYTES, Name, Seq, Value};
 
 /// The first byte of a block of the first version of the format.
 pub const FIRST_VERSION: u8 = 1;
@@ -61,4 +66,24 @@ pub struct Block {
     pub parent: Digest,
     /// The transactions, at most `MAX_TXS`.
     pub txs: TxList,
+}
+
+/// Whether blocks have this version.
+pub(crate) fn is_version(version: u8) -> bool
+    ensures { result ≡ is_version version }
+{
+    version == FIRST_VERSION || version == SECOND_VERSION
+}
+
+/// The greatest number of bytes of a text in a block of this version: `MAX_TEXT_BYTES` in one of
+/// the second version, `MAX_FIRST_TEXT_BYTES` in another.
+pub fn text_limit(version: u8) -> u16
+    ensures limit { result ≡ text_limit version }
+    ensures few { result ≤ MAX_TEXT_BYTES }
+{
+    if version == SECOND_VERSION {
+        MAX_TEXT_BYTES as u16
+    } else {
+        MAX_FIRST_TEXT_BYTES as u16
+    }
 }

@@ -1,18 +1,18 @@
 //! Reading blocks from their bytes: a block has one spelling, and nothing else is read as one.
 
-ghost use Rattle.std.specs.Prelude.{◌≡◌, Ok, IfOk, IfErr, IfSome, length};
-ghost use Rattle.lc_base.specs.Answers.{Answers};
+ghost use Rattle.std.specs.Prelude.{◌≡◌, ◌≤◌, Ok, IfOk, IfErr, IfSome, length};
+ghost use Rattle.lc_base.specs.{Answers.{Answers}, declared.limits.TheConstants.{MAX_TEXT_BYTES}};
 ghost use Rattle.byte_fields.specs.{Reading.{items_at}, Reader.{error_left, Reads}};
 ghost use Rattle.block_codec.specs.{
-  Spelling.{Spells, IsFaultOffset, IsDecoder, is_version},
+  Spelling.{Spells, IsFaultOffset, IsDecoder},
   Reading.{dep_keys_at, args_at, tx_at, txs_at, versioned_at, block_at, whole_block, block_in},
   Decoding.{fault_offset},
 };
 
-use crate::block::{Block, CALL, DEPLOY, FIRST_VERSION, SECOND_VERSION, SET, Tx, TxList};
+use crate::block::{Block, CALL, DEPLOY, SET, Tx, TxList, is_version, text_limit};
 use crate::limits::{MAX_ARGS, MAX_BLOCK_BYTES, MAX_CALL_BUDGET, MAX_SOURCE_BYTES, MAX_TXS};
 use byte_fields::{Fault, ReadError, Reader};
-use lc_base::{Digest, KeyList, MAX_DEPS, MAX_TEXT_BYTES, Seq, Value};
+use lc_base::{Digest, KeyList, MAX_DEPS, Seq, Value};
 use std::alloc::Global;
 
 /// Why bytes were not read as a block.
@@ -37,23 +37,26 @@ fn dep_keys(alloc: Global, reader: &mut Reader) -> Result<KeyList, ReadError>
 }
 
 #[tactic(auto, unfolding(crate::specs::Reading::args_at))]
-fn args(alloc: Global, reader: &mut Reader) -> Result<Seq<Value>, ReadError>
-    ensures { Reads error_left result (args_at reader.old) reader.new }
+fn args(alloc: Global, reader: &mut Reader, most: u16) -> Result<Seq<Value>, ReadError>
+    requires { most ≤ MAX_TEXT_BYTES }
+    ensures { Reads error_left result (args_at most reader.old) reader.new }
 {
     let count = reader.byte_at_most(MAX_ARGS as u8)?;
-    reader.values(alloc, count, MAX_TEXT_BYTES as u16)
+    reader.values(alloc, count, most)
 }
 
+/// A transaction whose texts have at most `most` bytes.
 #[tactic(auto, unfolding(crate::specs::Reading::tx_at, crate::specs::Reading::set_at, crate::specs::Reading::deploy_at, crate::specs::Reading::call_at))]
-fn tx(alloc: Global, reader: &mut Reader) -> Result<Tx, ReadError>
-    ensures { Reads error_left result (tx_at reader.old) reader.new }
+fn tx(alloc: Global, reader: &mut Reader, most: u16) -> Result<Tx, ReadError>
+    requires { most ≤ MAX_TEXT_BYTES }
+    ensures { Reads error_left result (tx_at most reader.old) reader.new }
 {
     let left = reader.remaining();
     match reader.byte()? {
         SET => Ok(Tx::Set {
             sender: reader.key()?,
             key: reader.key()?,
-            value: reader.value(alloc, MAX_TEXT_BYTES as u16)?,
+            value: reader.value(alloc, most)?,
             deps: dep_keys(alloc, reader)?,
         }),
         DEPLOY => Ok(Tx::Deploy {
@@ -65,37 +68,37 @@ fn tx(alloc: Global, reader: &mut Reader) -> Result<Tx, ReadError>
             sender: reader.key()?,
             contract: reader.name()?,
             function: reader.name()?,
-            args: args(alloc, reader)?,
+            args: args(alloc, reader, most)?,
             budget: reader.u32_at_most(MAX_CALL_BUDGET)?,
         }),
         _ => Err(ReadError::Fault(Fault { left })),
     }
 }
 
-fn counted_txs(alloc: Global, reader: &mut Reader, count: u16) -> Result<TxList, ReadError>
-    ensures { Reads error_left result (items_at tx_at count reader.old) reader.new }
+fn counted_txs(
+    alloc: Global,
+    reader: &mut Reader,
+    count: u16,
+    most: u16,
+) -> Result<TxList, ReadError>
+    requires { most ≤ MAX_TEXT_BYTES }
+    ensures { Reads error_left result (items_at (tx_at most) count reader.old) reader.new }
 {
     let mut txs = TxList::new(alloc);
     for _ in 0..count {
-        let tx = tx(alloc, reader)?;
+        let tx = tx(alloc, reader, most)?;
         txs.push(tx)?;
     }
     Ok(txs)
 }
 
 #[tactic(auto, unfolding(crate::specs::Reading::txs_at))]
-fn txs(alloc: Global, reader: &mut Reader) -> Result<TxList, ReadError>
-    ensures { Reads error_left result (txs_at reader.old) reader.new }
+fn txs(alloc: Global, reader: &mut Reader, most: u16) -> Result<TxList, ReadError>
+    requires { most ≤ MAX_TEXT_BYTES }
+    ensures { Reads error_left result (txs_at most reader.old) reader.new }
 {
     let count = reader.u16_at_most(MAX_TXS)?;
-    counted_txs(alloc, reader, count)
-}
-
-/// Whether blocks have this version.
-pub(crate) fn is_version(version: u8) -> bool
-    ensures { result ≡ is_version version }
-{
-    version == FIRST_VERSION || version == SECOND_VERSION
+    counted_txs(alloc, reader, count, most)
 }
 
 /// Reads what follows the version of a block.
@@ -104,7 +107,7 @@ fn versioned(alloc: Global, reader: &mut Reader, version: u8) -> Result<Block, R
 {
     let number = reader.u32()?;
     let parent = Digest(reader.digest_bytes()?);
-    let txs = txs(alloc, reader)?;
+    let txs = txs(alloc, reader, text_limit(version))?;
     Ok(Block {
         version,
         number,

@@ -6,14 +6,12 @@ ghost use Rattle.std.specs.{
 };
 ghost use Rattle.lc_names.specs.{KeyBytes.{IsKey}, NameBytes.{IsName}};
 ghost use Rattle.block_codec.specs.{
-  Encoding.{Encodes},
-  Spelling.{IsSet, IsDeploy, IsCall, IsTx, IsBlock, Spells, set_fields, deploy_fields, call_fields, tx_fields, block_fields},
+  Encoding.{Encodes, may_be_in_block},
+  Spelling.{IsSet, IsDeploy, IsCall, IsTx, IsBlock, Spells, text_limit, set_fields, deploy_fields, call_fields, tx_fields, block_fields},
 };
-ghost use Rattle.lc_base.specs.declared.limits.TheConstants.{MAX_TEXT_BYTES};
 ghost use Rattle.byte_fields.specs.Spelling.{string_fields, value_fields, IsBlockValue};
 
-use crate::block::{Block, CALL, DEPLOY, SET, Tx};
-use crate::decoding::is_version;
+use crate::block::{Block, CALL, DEPLOY, SET, Tx, is_version, text_limit};
 use crate::error::EncodeError;
 use crate::limits::{MAX_ARGS, MAX_BLOCK_BYTES, MAX_CALL_BUDGET, MAX_SOURCE_BYTES, MAX_TXS};
 use byte_fields::{
@@ -32,22 +30,32 @@ fn within_limits(is_within: bool) -> Result<(), EncodeError>
     }
 }
 
-fn put_block_value(out: &mut Vec<u8>, value: &Value) -> Result<(), EncodeError>
-    ensures { Encodes (value_fields value.now) (IsBlockValue MAX_TEXT_BYTES value.now)
-        out.old.items out.new.items result }
+/// Whether a block may have the value, if its texts have at most `most` bytes.
+fn may_be_in_block(value: &Value, most: u16) -> bool
+    ensures { result ≡ may_be_in_block most value.now }
 {
     match value {
-        Value::Int(_) | Value::Text(_) => Ok(put_value(out, value)?),
-        Value::Gone => Err(EncodeError::Limit),
+        Value::Int(_) => true,
+        Value::Text(text) => text.as_bytes().len() <= most as usize,
+        Value::Gone => false,
     }
 }
 
-fn put_args(out: &mut Vec<u8>, args: &[Value]) -> Result<(), EncodeError>
+fn put_block_value(out: &mut Vec<u8>, value: &Value, most: u16) -> Result<(), EncodeError>
+    ensures { Encodes (value_fields value.now) (IsBlockValue most value.now)
+        out.old.items out.new.items result }
+{
+    within_limits(may_be_in_block(value, most))?;
+    put_value(out, value)?;
+    Ok(())
+}
+
+fn put_args(out: &mut Vec<u8>, args: &[Value], most: u16) -> Result<(), EncodeError>
     ensures { Encodes (flat_map value_fields args.now)
-        (AllByRecursion (IsBlockValue MAX_TEXT_BYTES) args.now) out.old.items out.new.items result }
+        (AllByRecursion (IsBlockValue most) args.now) out.old.items out.new.items result }
 {
     for value in args {
-        put_block_value(out, value)?;
+        put_block_value(out, value, most)?;
     }
     Ok(())
 }
@@ -58,14 +66,15 @@ fn put_set(
     key: &Key,
     value: &Value,
     deps: &KeyList,
+    most: u16,
 ) -> Result<(), EncodeError>
     ensures { Encodes (set_fields sender.now key.now value.now deps.now)
-        (IsSet sender.now key.now value.now deps.now) out.old.items out.new.items result }
+        (IsSet most sender.now key.now value.now deps.now) out.old.items out.new.items result }
 {
     within_limits(deps.len() <= MAX_DEPS)?;
     put_key(out, sender)?;
     put_key(out, key)?;
-    put_block_value(out, value)?;
+    put_block_value(out, value, most)?;
     put_u8(out, deps.len() as u8)?;
     put_keys(out, deps.as_slice())?;
     Ok(())
@@ -94,9 +103,10 @@ fn put_call(
     function: &Name,
     args: &Seq<Value>,
     budget: u32,
+    most: u16,
 ) -> Result<(), EncodeError>
     ensures { Encodes (call_fields sender.now contract.now function.now args.now budget)
-        (IsCall sender.now contract.now function.now args.now budget)
+        (IsCall most sender.now contract.now function.now args.now budget)
         out.old.items out.new.items result }
 {
     within_limits(args.len() <= MAX_ARGS && budget <= MAX_CALL_BUDGET)?;
@@ -104,13 +114,14 @@ fn put_call(
     put_name(out, contract)?;
     put_name(out, function)?;
     put_u8(out, args.len() as u8)?;
-    put_args(out, args.as_slice())?;
+    put_args(out, args.as_slice(), most)?;
     put_u32(out, budget)?;
     Ok(())
 }
 
-fn put_tx(out: &mut Vec<u8>, tx: &Tx) -> Result<(), EncodeError>
-    ensures { Encodes (tx_fields tx.now) (IsTx tx.now) out.old.items out.new.items result }
+/// Writes a transaction whose texts have at most `most` bytes.
+fn put_tx(out: &mut Vec<u8>, tx: &Tx, most: u16) -> Result<(), EncodeError>
+    ensures { Encodes (tx_fields tx.now) (IsTx most tx.now) out.old.items out.new.items result }
 {
     match tx {
         Tx::Set {
@@ -120,7 +131,7 @@ fn put_tx(out: &mut Vec<u8>, tx: &Tx) -> Result<(), EncodeError>
             deps,
         } => {
             put_u8(out, SET)?;
-            put_set(out, sender, key, value, deps)
+            put_set(out, sender, key, value, deps, most)
         }
         Tx::Deploy {
             sender,
@@ -138,17 +149,17 @@ fn put_tx(out: &mut Vec<u8>, tx: &Tx) -> Result<(), EncodeError>
             budget,
         } => {
             put_u8(out, CALL)?;
-            put_call(out, sender, contract, function, args, *budget)
+            put_call(out, sender, contract, function, args, *budget, most)
         }
     }
 }
 
-fn put_txs(out: &mut Vec<u8>, txs: &[Tx]) -> Result<(), EncodeError>
+fn put_txs(out: &mut Vec<u8>, txs: &[Tx], version: u8) -> Result<(), EncodeError>
     ensures { Encodes (flat_map tx_fields txs.now)
-        (AllByRecursion IsTx txs.now) out.old.items out.new.items result }
+        (AllByRecursion (IsTx (text_limit version)) txs.now) out.old.items out.new.items result }
 {
     for tx in txs {
-        put_tx(out, tx)?;
+        put_tx(out, tx, text_limit(version))?;
     }
     Ok(())
 }
@@ -163,7 +174,7 @@ fn put_block(out: &mut Vec<u8>, block: &Block) -> Result<(), EncodeError>
     put_u32(out, block.number)?;
     put_digest(out, &block.parent)?;
     put_u16(out, block.txs.len() as u16)?;
-    put_txs(out, block.txs.as_slice())
+    put_txs(out, block.txs.as_slice(), block.version)
 }
 
 /// The bytes that spell the block. `Limit` exactly if no bytes do.

@@ -10,8 +10,9 @@ use lc_io::Failed;
 pub enum EncodeError {
     /// It has no spelling: it has another version than `FIRST_VERSION` and `SECOND_VERSION`, more
     /// than `MAX_TXS` transactions or `MAX_BLOCK_BYTES` bytes, or a transaction has a value or an
-    /// argument that is gone, more than `MAX_DEPS` dependency keys, more than `MAX_SOURCE_BYTES`
-    /// bytes of source, more than `MAX_ARGS` arguments or a budget above `MAX_CALL_BUDGET`.
+    /// argument that is gone or a text that is longer than `text_limit` of the version, more than
+    /// `MAX_DEPS` dependency keys, more than `MAX_SOURCE_BYTES` bytes of source, more than
+    /// `MAX_ARGS` arguments or a budget above `MAX_CALL_BUDGET`.
     Limit,
     /// Out of memory.
     Memory,

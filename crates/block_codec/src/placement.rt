@@ -3,11 +3,11 @@
 ghost use Rattle.std.specs.Prelude.{◌≡◌, ◌<◌, ◌≤◌, ◌↔◌, IsSome};
 ghost use Rattle.block_codec.specs.{
   Spelling.{IsBlock},
-  Placement.{bytes_digest, block_budget, tx_budget, held_placement, wanted_version, new_placement, placement},
+  Placement.{bytes_digest, block_budget, tx_budget, held_placement, most_blocks, wanted_version, new_placement, placement},
 };
 
 use crate::block::{Block, FIRST_VERSION, SECOND_VERSION, Tx};
-use crate::limits::{MAX_BLOCK_BUDGET, MAX_BLOCKS, MAX_ROWS_BEFORE_BLOCK};
+use crate::limits::{MAX_BLOCK_BUDGET, MAX_BLOCKS, MAX_MARKED_BLOCKS, MAX_ROWS_BEFORE_BLOCK};
 use digest_kit::TagHasher;
 use lc_base::Digest;
 
@@ -33,7 +33,8 @@ pub enum Placement {
 pub enum Misplaced {
     /// The chain holds another block with its number, of the digest `have`.
     Fork { have: Digest },
-    /// The chain has `MAX_BLOCKS` blocks, or no room for the rows of another.
+    /// The chain has `MAX_BLOCKS` blocks, or `MAX_MARKED_BLOCKS` if it is marked, or no room for
+    /// the rows of another.
     Full,
     /// The next block has the number `want`.
     Number { want: u32 },
@@ -82,6 +83,17 @@ pub fn block_budget(block: &Block) -> u64
     txs.iter().map(|tx| u64::from(tx_budget(tx))).sum()
 }
 
+/// The greatest number of blocks of a chain that is marked, or isn't.
+fn most_blocks(marked: bool) -> u32
+    ensures { result ≡ most_blocks marked }
+{
+    if marked {
+        MAX_MARKED_BLOCKS
+    } else {
+        MAX_BLOCKS
+    }
+}
+
 /// The version of the next block of a chain that is marked, or isn't.
 fn wanted_version(marked: bool) -> u8
     ensures { result ≡ wanted_version marked }
@@ -97,7 +109,7 @@ fn new_placement(held: u32, rows: u64, parent: Digest, block: &Block, marked: bo
     requires { IsBlock block.now }
     ensures { result ≡ new_placement marked held rows parent block.now }
 {
-    if held == MAX_BLOCKS || rows > MAX_ROWS_BEFORE_BLOCK {
+    if held == most_blocks(marked) || rows > MAX_ROWS_BEFORE_BLOCK {
         return Placement::Not(Misplaced::Full);
     }
     if block.number != held {

@@ -6,23 +6,25 @@ use Rattle.std.proofs.lemmas.List.{length-map, map-append, take-append-le, take_
 use Rattle.std.proofs.lemmas.Bool.{cases_lt}
 use Rattle.block_codec.specs.Spelling.{IsBlock}
 use Rattle.lc_base.specs.declared.digest.Digest.{Digest}
-use Rattle.block_codec.specs.Placement.{IsNextPlaced, digest_of, last_digest, new_placement}
+use Rattle.block_codec.specs.Placement.{IsNextPlaced, digest_of, last_digest, most_blocks}
+use Rattle.block_codec.specs.Placement.{new_placement}
 use Rattle.block_codec.specs.Placement.{last_version, placement_by_versions, FitsVersions}
 use Rattle.block_codec.specs.Reading.{block_in}
 use Rattle.block_codec.specs.declared.limits.TheConstants.{MAX_BLOCK_BYTES, MAX_BLOCKS}
+use Rattle.block_codec.specs.declared.limits.TheConstants.{MAX_MARKED_BLOCKS}
 use Rattle.block_codec.specs.declared.block.Block.{Block}
 use Rattle.block_codec.specs.declared.placement.Placement.{Placement}
 use Rattle.block_codec.specs.declared.placement.Placement.TheVariants.{Known, Next, Not}
 use Rattle.block_codec.proofs.Placements.{next_is_placed, next_is_new}
 use Rattle.block_codec.proofs.Versions.{next_by_versions, fits_with_next}
-use Rattle.block_log.specs.declared.layout.TheConstants.{MAX_MARKED_BLOCKS, MAX_RECORDS}
+use Rattle.block_log.specs.declared.layout.TheConstants.{MAX_RECORDS}
 use Rattle.block_log.specs.declared.layout.Stored.{Stored}
 use Rattle.block_log.specs.Standing.{Placer, if_next, next_decoded, blocks_in}
-use Rattle.block_log.specs.Log.{AreStored, IsSmall, log_placement, marks, most_blocks, next_in_log}
+use Rattle.block_log.specs.Log.{AreStored, IsSmall, log_placement, marks, next_in_log}
 use Rattle.block_log.specs.Reader.{AreRead, IsNear, log_at, next_of, stored_at}
 use Rattle.block_log.specs.declared.reading.Record.TheVariants as records
 use Rattle.block_log.specs.Reading.{record_of}
-use Rattle.block_log.proofs.NextRecord.{full_by, room_by, placed_next, last_of}
+use Rattle.block_log.proofs.NextRecord.{room_by, placed_next, last_of}
 use Rattle.block_log.proofs.Turns.{goes_on, goes_on_marked}
 
 -- The block that was found to be next, as it is stored.
@@ -125,7 +127,7 @@ found_next count last marked bytes block is =
 
 -- A log with the greatest number of blocks has no next one.
 pub has_room : (count : ℕ) (last : Digest) (marked : Bool) (bytes : List ℕ) (block : Block) → next_of count last marked bytes ≡ Some block → count ≢ most_blocks marked
-has_room count last marked bytes block is = full_by marked count (found_next count last marked bytes block is).room
+has_room count last marked bytes block is = (found_next count last marked bytes block is).room
 
 -- A block that is found is near.
 pub near_next : (gate count size : ℕ) (last : Digest) (marked : Bool) (next : Stored) (bytes : List ℕ) (block : Block) → next ≡ stored_at gate block → next_of count last marked bytes ≡ Some block → IsBlock next.block

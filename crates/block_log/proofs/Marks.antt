@@ -5,8 +5,9 @@ use Rattle.lc_base.specs.declared.digest.Digest.{Digest}
 use Rattle.lc_io.specs.Disk.{DiskState}
 use Rattle.disk_model.specs.Disk.{Torn, bytes_over, Rests, content_of, settled_disk}
 use Rattle.block_codec.specs.Reading.{block_in}
-use Rattle.block_codec.specs.declared.limits.TheConstants.{MAX_BLOCKS}
-use Rattle.block_log.specs.declared.layout.TheConstants.{OPEN_GATE, MAX_MARKED_BLOCKS, MAX_RECORDS}
+use Rattle.block_codec.specs.Placement.{most_blocks}
+use Rattle.block_codec.specs.declared.limits.TheConstants.{MAX_BLOCKS, MAX_MARKED_BLOCKS}
+use Rattle.block_log.specs.declared.layout.TheConstants.{OPEN_GATE, MAX_RECORDS}
 use Rattle.block_log.specs.declared.layout.Stored.{Stored}
 use Rattle.block_log.specs.declared.reading.Record.TheVariants as records
 use Rattle.block_log.specs.Reading.{record_of}
@@ -20,6 +21,17 @@ use Rattle.block_log.proofs.Resting.{rests_at, rests_on, told_before}
 use Rattle.block_log.proofs.TornRecords.{mark_opens, within, staged_within, torn_after, torn_gate, written_gate}
 use Rattle.block_log.proofs.Turns.{marked_twice}
 use Rattle.block_log.proofs.Chained.{read_mark}
+
+-- ---- how many blocks a log has
+
+few_by : (marked : Bool) (count : ℕ) → count ≤ MAX_MARKED_BLOCKS
+    → (marked ≡ false → count ≤ MAX_BLOCKS) → count ≤ most_blocks marked
+few_by true count few small = few
+few_by false count few small = small refl
+
+-- a log has at most as many blocks as one that is marked as it is
+pub kept_few : (log : LogState) → IsKeptLog log → log.count ≤ most_blocks log.is_marked
+kept_few log kept = few_by log.is_marked log.count kept.few (λ is. (kept.unmarked is).few)
 
 -- ---- where it is read
 

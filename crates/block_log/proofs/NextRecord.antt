@@ -10,16 +10,18 @@ use Rattle.lc_io.specs.Disk.{DiskState}
 use Rattle.disk_model.specs.Disk.{Torn, bytes_over, Rests, content_of, settled_disk}
 use Rattle.block_codec.specs.Spelling.{Spells}
 use Rattle.block_codec.specs.Reading.{block_in}
-use Rattle.block_codec.specs.Placement.{bytes_digest, digest_of, no_parent, last_digest, new_placement, placement}
+use Rattle.block_codec.specs.Placement.{bytes_digest, digest_of, no_parent, last_digest, most_blocks}
+use Rattle.block_codec.specs.Placement.{new_placement, placement}
 use Rattle.block_codec.specs.declared.limits.TheConstants.{MAX_BLOCK_BYTES, MAX_BLOCKS}
+use Rattle.block_codec.specs.declared.limits.TheConstants.{MAX_MARKED_BLOCKS}
 use Rattle.block_codec.specs.declared.block.Block.{Block}
 use Rattle.block_codec.specs.declared.placement.Placement.TheVariants.{Next}
 use Rattle.block_codec.proofs.WholeBlocks.{is_spelled}
 use Rattle.block_codec.proofs.Placements.{next_is_placed, next_has_passed}
-use Rattle.block_log.specs.declared.layout.TheConstants.{OPEN_GATE, MAX_MARKED_BLOCKS, MAX_RECORDS}
+use Rattle.block_log.specs.declared.layout.TheConstants.{OPEN_GATE, MAX_RECORDS}
 use Rattle.block_log.specs.declared.layout.Stored.{Stored}
 use Rattle.block_log.specs.Standing.{Standing, Holds, records_at, Logged, with_block, Placer, NextBlock, next_decoded, if_next, next_block, blocks_in, logged_of, standing, chain_of}
-use Rattle.block_log.specs.Log.{LogState, marks, most_blocks, log_placement, next_in_log, IsKeptLog, Agrees, AgreesWithBlocks, AgreesWithBlank, IsNextOf, IsNextAfter, IsOldOrNew, log_with_block}
+use Rattle.block_log.specs.Log.{LogState, marks, log_placement, next_in_log, IsKeptLog, Agrees, AgreesWithBlocks, AgreesWithBlank, IsNextOf, IsNextAfter, IsOldOrNew, log_with_block}
 use Rattle.block_log.specs.Steps.{synced_write, record_bytes}
 use Rattle.block_log.proofs.Records.{IsLog, log_is, stored_at}
 use Rattle.block_log.proofs.Stricter.{same_blocks}
@@ -28,16 +30,10 @@ use Rattle.block_log.proofs.TornRecords.{block_opens, within, staged_within, tor
 
 -- ---- the place of the next block
 
--- the greatest number of blocks is that of a placement
-pub full_by : (marked : Bool) (n : ℕ) → n ≢ MAX_BLOCKS → n ≢ most_blocks marked
-full_by true n room = room
-full_by false n room = room
-
 -- a next block comes after fewer blocks than the most that a chain has
 some_room : (marked : Bool) (blocks : List Block) (block : Block) → log_placement marked blocks block ≡ Next → length blocks ≢ most_blocks marked
 some_room marked blocks block is =
     let digests = map digest_of blocks in
-    full_by marked (length blocks)
     (next_has_passed marked (length blocks) 0 (slice_get digests block.number) (last_digest digests) block
     (digest_of block) is).room
 
@@ -121,7 +117,7 @@ module _ (log seen : LogState) (bytes : List ℕ) (same : log ≡ seen) (seen_ne
   -- the bounds of the log with the block
   pub kept : IsKeptLog (log_with_block log bytes)
   kept =
-      let room = room_by log.is_marked log.count log_kept.few (λ is. (log_kept.unmarked is).few) (full_by log.is_marked log.count (next_is_placed log.is_marked log.count 0 log.last is_next.block is_next.placed).room) in
+      let room = room_by log.is_marked log.count log_kept.few (λ is. (log_kept.unmarked is).few) (next_is_placed log.is_marked log.count 0 log.last is_next.block is_next.placed).room in
       record {
         few = omega (arith, room.0);
         near = omega (arith, log_kept.near, short);

@@ -1,15 +1,15 @@
 -- What a log keeps, and how that agrees with the bytes on the disk.
-use Rattle.std.specs.Prelude.{◌≡◌, ◌⊎◌, ℕ, ◌+◌, ◌*◌, ◌≤◌, ◌==◌, Bool, true, false, MatchBool, if◌then◌else◌, List, [], length, map, get_or, take, slice_get, Some, Ok}
+use Rattle.std.specs.Prelude.{◌≡◌, ◌⊎◌, ℕ, ◌+◌, ◌*◌, ◌≤◌, ◌==◌, Bool, true, false, MatchBool, List, [], length, map, get_or, take, slice_get, Some, Ok}
 use Rattle.lc_base.specs.declared.digest.Digest.{Digest}
 use Rattle.block_codec.specs.Spelling.{IsBlock}
 use Rattle.block_codec.specs.Reading.{block_in}
 use Rattle.block_codec.specs.Placement.{bytes_digest, digest_of, no_parent, last_digest, new_placement, placement_after}
 use Rattle.block_codec.specs.Placement.{placement_by_versions, FitsVersions}
-use Rattle.block_codec.specs.declared.limits.TheConstants.{MAX_BLOCKS}
+use Rattle.block_codec.specs.declared.limits.TheConstants.{MAX_BLOCKS, MAX_MARKED_BLOCKS}
 use Rattle.block_codec.specs.declared.block.Block.{Block}
 use Rattle.block_codec.specs.declared.placement.Placement.TheVariants.{Next}
 use Rattle.block_log.specs.Standing.{Blank, Holds, Logged, with_block, with_mark, Placer, NextBlock, next_block, blocks_in, standing, chain_of}
-use Rattle.block_log.specs.declared.layout.TheConstants.{FIRST_GATE, MAX_RECORD_BYTES, MAX_MARKED_BLOCKS}
+use Rattle.block_log.specs.declared.layout.TheConstants.{FIRST_GATE, MAX_RECORD_BYTES}
 use Rattle.block_log.specs.declared.layout.Stored.{Stored}
 
 -- ---- which block a log takes
@@ -39,10 +39,6 @@ pub record LogState : Type 0 where
   pub is_ready : Bool
   pub is_begun : Bool
   pub is_marked : Bool
-
--- The greatest number of blocks of a log that is marked or isn't.
-abbrev pub most_blocks : Bool → ℕ
-most_blocks marked = if marked then MAX_MARKED_BLOCKS else MAX_BLOCKS
 
 -- The number of marks of a log that is marked or isn't.
 abbrev pub marks : Bool → ℕ

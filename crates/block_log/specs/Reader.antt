@@ -4,10 +4,11 @@ use Rattle.lc_base.specs.declared.digest.Digest.{Digest}
 use Rattle.block_codec.specs.Spelling.{IsBlock}
 use Rattle.block_codec.specs.Reading.{block_in}
 use Rattle.block_codec.specs.Placement.{digest_of, no_parent, new_placement, wanted_version}
+use Rattle.block_codec.specs.declared.limits.TheConstants.{MAX_MARKED_BLOCKS}
 use Rattle.block_codec.specs.declared.block.Block.{Block}
 use Rattle.block_log.specs.Standing.{NotALog, Damaged, Holds, next_block, records_at, standing}
 use Rattle.block_log.specs.Log.{LogState, AreStored, HoldsBlocks, IsSmall, IsStarted, next_in_log, records_of}
-use Rattle.block_log.specs.declared.layout.TheConstants.{FIRST_GATE, MAX_RECORD_BYTES, MAX_MARKED_BLOCKS, MAX_RECORDS}
+use Rattle.block_log.specs.declared.layout.TheConstants.{FIRST_GATE, MAX_RECORD_BYTES, MAX_RECORDS}
 use Rattle.block_log.specs.declared.layout.Stored.{Stored}
 use Rattle.block_log.specs.declared.error.LogError.{LogError}
 use Rattle.block_log.specs.declared.error.LogError.TheVariants as errors

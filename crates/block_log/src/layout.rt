@@ -1,6 +1,6 @@
 //! The layout of a log: a head gate, the magic, then records, each after a gate of its own.
 
-use block_codec::{Block, MAX_BLOCK_BYTES, MAX_BLOCKS};
+use block_codec::{Block, MAX_BLOCK_BYTES, MAX_MARKED_BLOCKS};
 use lc_base::Digest;
 
 /// An open gate. Every other byte is a closed gate.
@@ -18,9 +18,6 @@ pub const FIRST_GATE: u64 = 8;
 /// The greatest number of bytes of a record: a length of four bytes, a block, and the gate of the
 /// next record.
 pub const MAX_RECORD_BYTES: usize = MAX_BLOCK_BYTES + 5;
-
-/// The greatest number of blocks of a marked log.
-pub const MAX_MARKED_BLOCKS: u32 = MAX_BLOCKS;
 
 /// The greatest number of records of a log: those of its blocks, and the mark.
 pub const MAX_RECORDS: u64 = MAX_MARKED_BLOCKS as u64 + 1;

@@ -13,7 +13,7 @@ mod start;
 mod steps;
 
 pub use error::{DiskFault, LogError};
-pub use layout::{MAX_MARKED_BLOCKS, MAX_RECORD_BYTES, MAX_RECORDS, Stored};
+pub use layout::{MAX_RECORD_BYTES, MAX_RECORDS, Stored};
 pub use log::Log;
 pub use reader::{LogReader, Turn};
 pub use start::Opened;

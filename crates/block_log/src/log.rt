@@ -1,6 +1,7 @@
 //! A log and the state that it keeps between calls.
 
-ghost use Rattle.std.specs.Prelude.{◌≡◌};
+ghost use Rattle.std.specs.Prelude.{◌≡◌, ◌≤◌};
+ghost use Rattle.block_codec.specs.Placement.{most_blocks};
 ghost use Rattle.block_log.specs.Log.{LogState};
 
 use lc_base::Digest;
@@ -42,8 +43,10 @@ impl Log {
 
     /// Whether the log is marked, so that its next block has the second version. Else it has the
     /// first.
+    #[tactic(auto, using(crate::proofs::Marks::kept_few))]
     pub fn marked(&self) -> bool
-        ensures { result ≡ self.now.is_marked }
+        ensures is { result ≡ self.now.is_marked }
+        ensures few { self.now.count ≤ most_blocks self.now.is_marked }
     {
         self.is_marked
     }

@@ -9,12 +9,12 @@ ghost use Rattle.lc_io.specs.Disk.{Stays};
 ghost use Rattle.disk_model.specs.Disk.{content_of};
 ghost use Rattle.block_codec.specs.{
   Spelling.{IsBlock},
-  Placement.{digest_of, new_placement},
-  declared.limits.TheConstants.{MAX_BLOCK_BYTES},
+  Placement.{digest_of, most_blocks, new_placement},
+  declared.limits.TheConstants.{MAX_BLOCK_BYTES, MAX_MARKED_BLOCKS},
 };
 ghost use Rattle.block_log.specs.{
   declared.layout.Stored.{Stored as Storeds},
-  declared.layout.TheConstants.{FIRST_GATE, MAX_RECORD_BYTES, MAX_MARKED_BLOCKS},
+  declared.layout.TheConstants.{FIRST_GATE, MAX_RECORD_BYTES},
   Standing.{if_next},
   Log.{IsSmall},
   Reader.{AreRead, IsTurn, IsFound, IfBlock, IfNear, found_mark, log_at, next_of, stored_at},
@@ -174,9 +174,10 @@ pub enum Turn {
 impl LogReader {
     /// Whether the mark has been read, so that the next block has the second version.
     pub fn marked(&self) -> bool
-        ensures { result ≡ self.now.is_marked }
+        ensures is { result ≡ self.now.is_marked }
+        ensures few { self.now.count ≤ most_blocks self.now.is_marked }
     {
-        self.log.is_marked
+        self.log.marked()
     }
 
     /// Reads the next block of the log, or the mark, or finds its end. It writes nothing, and takes

@@ -15,6 +15,7 @@ use Rattle.cli_append.specs.declared.ending.RunStop.{RunStop}
 use Rattle.cli_words.specs.Words.{CanBeGiven, IsCount}
 use Rattle.cli_words.specs.declared.words.Generation.{Generation}
 use Rattle.cli_words.specs.declared.words.Command.{Command}
+use Rattle.cli_words.specs.declared.words.BlockVersion.{BlockVersion}
 use Rattle.cli_words.specs.declared.words.Edition.{Edition}
 use Rattle.cli_words.specs.declared.words.Command.TheVariants.{Scan, Fmt, Pack, Gen, Load, Append}
 use Rattle.cli_words.specs.declared.words.Command.TheVariants.{Upgrade}
@@ -61,15 +62,17 @@ pub fmt_ends : (edition : Edition) (source : List ℕ) (outcome : Outcome)
     → MayEnd (status_of outcome.ending) (Some (Fmt edition))
 fmt_ends edition source outcome is = output_ends edition source (output_of outcome []) is
 
-draft_ends : (found : Result (List (List ℕ)) PackError)
-    → MayEnd (status_of (draft_outcome found).ending) (Some Pack)
-draft_ends (Ok blocks) = refl
-draft_ends (Err fault) = refl
+draft_ends : (version : BlockVersion) (found : Result (List (List ℕ)) PackError)
+    → MayEnd (status_of (draft_outcome found).ending) (Some (Pack version))
+draft_ends version (Ok blocks) = refl
+draft_ends version (Err fault) = refl
 
-pub pack_ends : (outcome : Outcome) (found : Result (List (List ℕ)) PackError)
-    → outcome ≡ draft_outcome found → MayEnd (status_of outcome.ending) (Some Pack)
-pack_ends outcome found is = subst (λ (o : Outcome). MayEnd (status_of o.ending) (Some Pack))
-    (sym is) (draft_ends found)
+pub pack_ends : (version : BlockVersion) (outcome : Outcome)
+    (found : Result (List (List ℕ)) PackError)
+    → outcome ≡ draft_outcome found → MayEnd (status_of outcome.ending) (Some (Pack version))
+pack_ends version outcome found is =
+    subst (λ (o : Outcome). MayEnd (status_of o.ending) (Some (Pack version)))
+    (sym is) (draft_ends version found)
 
 -- ---- `append`
 
@@ -176,7 +179,7 @@ pub changed_by : (command : Command)
     → (changes_log (Some command) ≡ false) ⊎ ((command ≡ Append) ⊎ (command ≡ Upgrade))
 changed_by (Scan query) = inl refl
 changed_by (Fmt edition) = inl refl
-changed_by Pack = inl refl
+changed_by (Pack version) = inl refl
 changed_by (Gen generation) = inl refl
 changed_by (Load generation) = inl refl
 changed_by Append = inr (inl refl)

@@ -37,7 +37,7 @@ use Rattle.chain_replay.specs.declared.refusal.Refusal.{Refusal}
 use Rattle.chain_input.specs.Folding.{Fold, taken_before, fold_after_frame, fold_step, fold_from}
 use Rattle.chain_input.specs.Folding.{fold_input}
 use Rattle.cli_output.specs.Output.{Output, output_of, scan_output, usage_output, long_output}
-use Rattle.cli_output.specs.Output.{pack_output, gen_output, load_output, append_output, append_to, upgrade_output}
+use Rattle.cli_output.specs.Output.{pack_output, version_number, gen_output, load_output, append_output, append_to, upgrade_output}
 use Rattle.cli_output.specs.Output.{root_output, ask_output, prove_output, on_log, next_by}
 use Rattle.cli_output.specs.Output.{edition_number, source_outcome, IsFmtOutput, Long, Source, IsVerifyOutput}
 use Rattle.cli_output.specs.Output.{LongProof, Verified, IsExposeOutput, IsOnLog, Wants, IsWanted}
@@ -140,7 +140,7 @@ pub some_output : (command : Option Command) (input content : List ℕ)
 some_output None input content = (usage_output input, refl)
 some_output (Some (Scan query)) input content = (scan_output compiled_in query (fold_input block_in (placement_in compiled_in) input), refl)
 some_output (Some (Fmt edition)) input content = some_fmt (edition_number edition) input
-some_output (Some Pack) input content = (pack_output input, refl)
+some_output (Some (Pack version)) input content = (pack_output (version_number version) input, refl)
 some_output (Some (Gen generation)) input content = (gen_output generation input, refl)
 some_output (Some (Load generation)) input content = (load_output compiled_in generation input, refl)
 some_output (Some Append) input content = (on_log (append_to block_in compiled_in input) input (standing (next_by block_in compiled_in) content), refl)
@@ -202,7 +202,7 @@ same_output read compile is_read compile_is (Some (Scan query)) input content fi
     ∙ ap (λ (c : Compiler). scan_output c query (fold_input read (placement_in c) input)) compile_is
     ∙ ap (scan_output compiled_in query) (fold_same (placement_in compiled_in) read block_in is_read decided (MAX_FRAMES + 1) [] input fits)
 same_output read compile is_read compile_is (Some (Fmt edition)) input content fits whole other is = only_fmt (edition_number edition) input other is
-same_output read compile is_read compile_is (Some Pack) input content fits whole other is = is
+same_output read compile is_read compile_is (Some (Pack version)) input content fits whole other is = is
 same_output read compile is_read compile_is (Some (Gen generation)) input content fits whole other is = is
 same_output read compile is_read compile_is (Some (Load generation)) input content fits whole other is = is ∙ ap (λ (c : Compiler). load_output c generation input) compile_is
 same_output read compile is_read compile_is (Some Append) input content fits whole other is =

@@ -13,10 +13,10 @@ use Rattle.cli_output.specs.Blocks.{draft_cause, draft_outcome, TellsFault}
 use Rattle.cli_output.specs.Output.{Output, output_of, long_output, pack_output}
 use Rattle.cli_output.specs.Scanning.{GivesOutput}
 
-by_length : (long : Bool) (input : List ℕ) → ltb MAX_WHOLE_INPUT_BYTES (length input) ≡ long
-    → pack_output input ≡ cond long (long_output input)
-    (output_of (draft_outcome (texts_of_draft input)) [])
-by_length long input is = ap (λ (b : Bool). cond b (long_output input) (output_of (draft_outcome (texts_of_draft input)) [])) is
+by_length : (version : ℕ) (long : Bool) (input : List ℕ) → ltb MAX_WHOLE_INPUT_BYTES (length input) ≡ long
+    → pack_output version input ≡ cond long (long_output input)
+    (output_of (draft_outcome (texts_of_draft version input)) [])
+by_length version long input is = ap (λ (b : Bool). cond b (long_output input) (output_of (draft_outcome (texts_of_draft version input)) [])) is
 
 is_long : (input : List ℕ) → MAX_WHOLE_INPUT_BYTES < length input → ltb MAX_WHOLE_INPUT_BYTES
     (length input) ≡ true
@@ -26,35 +26,35 @@ is_short : (input : List ℕ) → length input ≤ MAX_WHOLE_INPUT_BYTES → ltb
     (length input) ≡ false
 is_short input short = grind (arith, nat_tests)
 
-long_here : (first left : Option (List ℕ)) (outcome : Outcome) → IfSome first
+long_here : (version : ℕ) (first left : Option (List ℕ)) (outcome : Outcome) → IfSome first
     (λ input. IsWholeInput None input left) → outcome ≡ bad_input (codes "long") → IfSome first
-    (λ input. GivesOutput outcome left (pack_output input))
-long_here None left outcome whole is = tt
-long_here (Some input) left outcome (long, rest) is =
-    let output : pack_output input ≡ long_output input = by_length true input (is_long input long) in
+    (λ input. GivesOutput outcome left (pack_output version input))
+long_here version None left outcome whole is = tt
+long_here version (Some input) left outcome (long, rest) is =
+    let output : pack_output version input ≡ long_output input = by_length version true input (is_long input long) in
     (output ∙ ap (λ (o : Outcome). output_of o (drop (MAX_WHOLE_INPUT_BYTES + 1) input)) (sym is) ∙ ap (λ (o : Output). output_of outcome o.left) (sym output), rest ∙ ap (λ (o : Output). Some o.left) (sym output))
 
 -- an input that is too long
-pub long_packed : (first left found : Option (List ℕ)) (outcome : Outcome) → found ≡ None
+pub long_packed : (version : ℕ) (first left found : Option (List ℕ)) (outcome : Outcome) → found ≡ None
     → IfSome first (λ input. IsWholeInput found input left) → outcome ≡ bad_input (codes "long")
-    → IfSome first (λ input. GivesOutput outcome left (pack_output input))
-long_packed first left found outcome none whole is = long_here first left outcome (subst (λ (f : Option (List ℕ)). IfSome first (λ input. IsWholeInput f input left)) none whole) is
+    → IfSome first (λ input. GivesOutput outcome left (pack_output version input))
+long_packed version first left found outcome none whole is = long_here version first left outcome (subst (λ (f : Option (List ℕ)). IfSome first (λ input. IsWholeInput f input left)) none whole) is
 
-draft_here : (first left : Option (List ℕ)) (bytes : List ℕ) (outcome : Outcome) → IfSome first
-    (λ input. IsWholeInput (Some bytes) input left) → outcome ≡ draft_outcome (texts_of_draft bytes)
-    → IfSome first (λ input. GivesOutput outcome left (pack_output input))
-draft_here None left bytes outcome whole is = tt
-draft_here (Some input) left bytes outcome (same, short, rest) is =
-    let output : pack_output input ≡ output_of (draft_outcome (texts_of_draft input)) [] = by_length false input (is_short input short) in
-    let outcome_is : outcome ≡ draft_outcome (texts_of_draft input) = is ∙ ap (λ (draft : List ℕ). draft_outcome (texts_of_draft draft)) same in
+draft_here : (version : ℕ) (first left : Option (List ℕ)) (bytes : List ℕ) (outcome : Outcome) → IfSome first
+    (λ input. IsWholeInput (Some bytes) input left) → outcome ≡ draft_outcome (texts_of_draft version bytes)
+    → IfSome first (λ input. GivesOutput outcome left (pack_output version input))
+draft_here version None left bytes outcome whole is = tt
+draft_here version (Some input) left bytes outcome (same, short, rest) is =
+    let output : pack_output version input ≡ output_of (draft_outcome (texts_of_draft version input)) [] = by_length version false input (is_short input short) in
+    let outcome_is : outcome ≡ draft_outcome (texts_of_draft version input) = is ∙ ap (λ (draft : List ℕ). draft_outcome (texts_of_draft version draft)) same in
     (output ∙ ap (λ (o : Outcome). output_of o []) (sym outcome_is) ∙ ap (λ (o : Output). output_of outcome o.left) (sym output), rest ∙ ap (λ (o : Output). Some o.left) (sym output))
 
 -- a draft that was read whole
-pub draft_packed : (first left found : Option (List ℕ)) (bytes : List ℕ) (outcome : Outcome)
+pub draft_packed : (version : ℕ) (first left found : Option (List ℕ)) (bytes : List ℕ) (outcome : Outcome)
     → found ≡ Some bytes → IfSome first (λ input. IsWholeInput found input left)
-    → outcome ≡ draft_outcome (texts_of_draft bytes)
-    → IfSome first (λ input. GivesOutput outcome left (pack_output input))
-draft_packed first left found bytes outcome some whole is = draft_here first left bytes outcome (subst (λ (f : Option (List ℕ)). IfSome first (λ input. IsWholeInput f input left)) some whole) is
+    → outcome ≡ draft_outcome (texts_of_draft version bytes)
+    → IfSome first (λ input. GivesOutput outcome left (pack_output version input))
+draft_packed version first left found bytes outcome some whole is = draft_here version first left bytes outcome (subst (λ (f : Option (List ℕ)). IfSome first (λ input. IsWholeInput f input left)) some whole) is
 
 -- ---- a draft at fault
 

@@ -37,6 +37,7 @@ use Rattle.cli_append.specs.declared.ending.RunStop.{RunStop}
 use Rattle.chain_gen.specs.Generator.{blocks_of_seed}
 use Rattle.cli_words.specs.declared.words.Generation.{Generation}
 use Rattle.cli_words.specs.declared.words.Command.{Command}
+use Rattle.cli_words.specs.declared.words.BlockVersion.{BlockVersion}
 use Rattle.cli_words.specs.declared.words.Edition.{Edition}
 use Rattle.cli_words.specs.declared.words.Command.TheVariants.{Scan, Fmt, Pack, Gen, Load, Append}
 use Rattle.cli_words.specs.declared.words.Command.TheVariants.{Upgrade}
@@ -53,7 +54,8 @@ use Rattle.cli_output.specs.Output.{gen_output, load_outcome, append_output, app
 use Rattle.cli_output.specs.Output.{upgrade_output}
 use Rattle.cli_output.specs.Output.{on_log, fold_ending}
 use Rattle.cli_output.specs.Output.{answer_outcome, root_outcome, prove_outcome, at_or_last}
-use Rattle.cli_output.specs.Output.{edition_number, IsFmtOutput, Long, Source, IsVerifyOutput}
+use Rattle.cli_output.specs.Output.{edition_number, version_number, IsFmtOutput, Long, Source}
+use Rattle.cli_output.specs.Output.{IsVerifyOutput}
 use Rattle.cli_output.specs.Output.{LongProof, Verified}
 use Rattle.cli_output.specs.Output.{root_output, ask_output, prove_output, IsExposeOutput, Wants}
 use Rattle.cli_output.specs.Uses.{changes_log, reads_input, uses_disk, uses_scratch}
@@ -160,7 +162,7 @@ no_change None input content output quiet is = ap (λ (o : Output). o.change) is
 no_change (Some (Scan query)) input content output quiet is = ap (λ (o : Output). o.change) is
 no_change (Some (Fmt edition)) input content output quiet is = fmt_no_change
     (edition_number edition) input output is
-no_change (Some Pack) input content output quiet is = ap (λ (o : Output). o.change) is
+no_change (Some (Pack version)) input content output quiet is = ap (λ (o : Output). o.change) is
     ∙ pack_no_change _ _ _ refl refl
 no_change (Some (Gen generation)) input content output quiet is = ap (λ (o : Output). o.change) is
 no_change (Some (Load generation)) input content output quiet is = ap (λ (o : Output). o.change) is
@@ -220,12 +222,13 @@ module _ (state : Option DiskState) (found : Result Outcome OutcomeStop)
       read_found (λ input output. output ≡ wanted input) found left_old left_new
       (gives_here wanted found left_old left_new is) input given_input
 
-  pub pack_found : IfSome left_old (λ input. IfOk found
-      (λ outcome. GivesOutput outcome left_new (pack_output input)))
-      → IsFoundFor state left_old left_new held (Some Pack) found
-  pack_found is heard input content given_input given =
-      read_found (λ input output. output ≡ pack_output input) found left_old left_new
-      (gives_here pack_output found left_old left_new is) input given_input
+  pub pack_found : (version : BlockVersion) → IfSome left_old (λ input. IfOk found
+      (λ outcome. GivesOutput outcome left_new (pack_output (version_number version) input)))
+      → IsFoundFor state left_old left_new held (Some (Pack version)) found
+  pack_found version is heard input content given_input given =
+      let wanted = pack_output (version_number version) in
+      read_found (λ input output. output ≡ wanted input) found left_old left_new
+      (gives_here wanted found left_old left_new is) input given_input
 
   pub fmt_found : (edition : Edition) → IfSome left_old (λ input. IfOk found
       (λ outcome. IsFmtOutcome (edition_number edition) outcome left_new input))

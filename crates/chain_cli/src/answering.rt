@@ -147,7 +147,7 @@ pub fn find<I: Source, M: Disk, S: Scratch>(
     match command {
         Command::Scan(query) => scan(resources, query, source),
         Command::Fmt(edition) => fmt(alloc, *edition, source),
-        Command::Pack => pack(alloc, source),
+        Command::Pack(version) => pack(alloc, *version, source),
         Command::Load(generation) => load_outcome(resources, scratch, generation),
         Command::Ask { kind, key, at } => ask_rows(resources, *kind, *key, *at, machine),
         Command::Verify { root, query } => verify(alloc, root, query, source),

@@ -8,7 +8,7 @@ ghost use Rattle.std.specs.{
 ghost use Rattle.lc_base.specs.Faults.{HasCause};
 ghost use Rattle.block_codec.specs.{
   declared.limits.TheConstants.{MAX_TXS},
-  Spelling.{IsTx, IsBlock},
+  Spelling.{IsTx, IsBlock, text_limit},
 };
 ghost use Rattle.world_state.specs.{Rows.{entry_of}, World.{newest_of, StandsForRows}};
 ghost use Rattle.chain_exec.specs.{
@@ -64,7 +64,7 @@ fn run_txs<H: Host>(
     requires ready { H.ready host.old }
     requires stands { IfSome (H.rows host.old) (StandsForRows world.old) }
     requires few { length txs.now ≤ MAX_TXS }
-    requires are_txs { AllByRecursion IsTx txs.now }
+    requires are_txs { AllByRecursion (IsTx (text_limit edition)) txs.now }
     requires no_rows { world.old.staged ≡ [] }
     requires no_codes { world.old.staged_codes ≡ [] }
     ensures same { H.same host.old host.new }

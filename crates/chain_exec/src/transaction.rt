@@ -2,7 +2,7 @@
 
 ghost use Rattle.std.specs.Prelude.{◌≡◌, ◌≤◌, IfSome, IfOk, IsErrOf};
 ghost use Rattle.lc_base.specs.Faults.{HasCause};
-ghost use Rattle.block_codec.specs.Spelling.{IsTx};
+ghost use Rattle.block_codec.specs.Spelling.{IsTx, text_limit};
 ghost use Rattle.world_state.specs.World.{StandsForRows};
 ghost use Rattle.contract_semantics.specs.Answers.{place_in};
 ghost use Rattle.chain_exec.specs.{
@@ -34,7 +34,7 @@ pub(crate) fn run_transaction<H: Host>(
 ) -> Result<TxRun, HostError>
     requires ready { H.ready host.old }
     requires stands { IfSome (H.rows host.old) (StandsForRows world.old) }
-    requires is_tx { IsTx tx.now }
+    requires is_tx { IsTx (text_limit edition) tx.now }
     ensures same { H.same host.old host.new }
     ensures stages { IfOk result (λ run. StagesRows world.old world.new run.rows) }
     ensures effect { IfSome (H.rows host.old) (λ rows. IfOk result (λ run.

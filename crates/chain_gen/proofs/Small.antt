@@ -15,7 +15,7 @@ use Rattle.byte_fields.specs.Spelling.{string_fields, int_bytes}
 use Rattle.block_codec.specs.Spelling.{IsTx, tx_fields, Spells}
 use Rattle.block_codec.specs.Placement.{tx_budget, is_same_digest, new_placement}
 use Rattle.block_codec.specs.declared.placement.Placement.TheVariants.{Next}
-use Rattle.block_codec.specs.declared.limits.TheConstants.{MAX_BLOCKS, MAX_ROWS_BEFORE_BLOCK}
+use Rattle.block_codec.specs.declared.limits.TheConstants.{MAX_BLOCKS, MAX_FIRST_TEXT_BYTES, MAX_ROWS_BEFORE_BLOCK}
 use Rattle.block_codec.specs.declared.block.Tx.{Tx}
 use Rattle.block_codec.specs.declared.block.Tx.TheVariants.{Set}
 use Rattle.lc_base.specs.declared.value.Value.TheVariants.{Int}
@@ -64,7 +64,7 @@ all_repeated Is item each (suc count) state = all_more Is (draw_list item count 
 
 -- A transaction that spells few bytes and has a small budget.
 pub record IsSmall (tx : Tx) : Type 0 where
-  pub lawful : IsTx tx
+  pub lawful : IsTx MAX_FIRST_TEXT_BYTES tx
   pub short : length (concat (tx_fields tx)) ≤ 300
   pub cheap : tx_budget tx ≤ 10000
 
@@ -135,7 +135,7 @@ drawn_are_small : (number state : ℕ) → AreSmall (txs_drawn number state).0
 unfolding txs_drawn
 drawn_are_small number state = by_number (number == 0) state
 
-small_are_lawful : (txs : List Tx) → AllByRecursion IsSmall txs → AllByRecursion IsTx txs
+small_are_lawful : (txs : List Tx) → AllByRecursion IsSmall txs → AllByRecursion (IsTx MAX_FIRST_TEXT_BYTES) txs
 small_are_lawful [] is = tt
 small_are_lawful (tx ∷ txs) is = (is.0.lawful, small_are_lawful txs is.1)
 

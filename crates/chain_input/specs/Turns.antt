@@ -1,11 +1,12 @@
 -- What the program's fold over an input returns, by the definition of the fold.
-use Rattle.std.specs.Prelude.{◌≡◌, ℕ, List, ◌++◌, Option, Some, Result, Ok, Err}
+use Rattle.std.specs.Prelude.{◌≡◌, ◌≤◌, ◌==◌, ℕ, List, ◌++◌, length, Option, Some, Result, Ok, Err}
 use Rattle.block_codec.specs.Reading.{block_in}
 use Rattle.block_codec.specs.declared.block.Block.{Block}
 use Rattle.block_codec.specs.declared.error.FrameError.{FrameError}
 use Rattle.block_codec.specs.declared.error.FrameError.TheVariants as frames
 use Rattle.chain_replay.specs.chain_exec.Compiled.{compiled_in}
-use Rattle.block_codec.specs.Placement.{last_version}
+use Rattle.block_codec.specs.Placement.{last_version, most_blocks}
+use Rattle.block_codec.specs.declared.block.TheConstants.{SECOND_VERSION}
 use Rattle.chain_replay.specs.Chain.{ChainState, StandsFor, placement_in}
 use Rattle.chain_replay.specs.Judging.{Taken, judgement_of, added_by, added_by_all}
 use Rattle.chain_replay.specs.declared.refusal.Refusal.{Refusal}
@@ -38,6 +39,23 @@ IsTakenIn blocks last (turns.Refused refusal) judgement = judgement ≡ Err refu
 -- version `last`, and after it `new_last`.
 abbrev pub IsTurnIn : ℕ → ChainState → List ℕ → ℕ → Turn ChainState → Type 0
 IsTurnIn last chain frame new_last turn = (blocks : List Block) → StandsWithLast chain last blocks → IsTakenIn blocks new_last turn (judgement_of (placement_in compiled_in) blocks (block_in frame))
+
+-- A chain that no log keeps has at most as many blocks as one may have whose last block has the
+-- version `last`.
+abbrev pub IsWithin : ℕ → ChainState → Type 0
+IsWithin last chain = length chain.digests ≤ most_blocks (last == SECOND_VERSION)
+
+-- The chain after a frame that was taken is so.
+abbrev pub IfTaken : (ChainState → Type 0) → Turn ChainState → Type 0
+IfTaken P (turns.Taken chain) = P chain
+IfTaken P (turns.Refused refusal) = Unit {0}
+
+-- A frame's turn in a fold: before it the last block has the version `last`, and after it
+-- `new_last`.
+pub record IsFolderTurn (last : ℕ) (chain : ChainState) (frame : List ℕ) (new_last : ℕ)
+    (turn : Turn ChainState) : Type 0 where
+  pub judged : IsTurnIn last chain frame new_last turn
+  pub within : IfTaken (IsWithin new_last) turn
 
 -- What an error of the frames says: a cause in the input, or that reading failed or memory ran out,
 -- each by the error that was passed for it.

@@ -10,7 +10,7 @@ ghost use Rattle.chain_replay.specs.{
 };
 ghost use Rattle.chain_input.specs.{
   Folding.{fold_input},
-  Turns.{IsFoldResult, IsTurnIn, StandsWithLast},
+  Turns.{IsFolderTurn, IsFoldResult, IsWithin, StandsWithLast},
 };
 
 use crate::cause::Cause;
@@ -40,6 +40,7 @@ struct Folder {
 
 /// Judges bytes by the versions of the chain's blocks, the last of which has the version `last`.
 fn judge_by_versions(alloc: Global, chain: &Chain, last: u8, bytes: &[u8]) -> Result<Judged, Memory>
+    requires { IsWithin last chain.now }
     ensures judged { IfOk result (λ answer. (blocks : List Blocks) → StandsWithLast chain.now last blocks → IsJudged answer (judgement_of (placement_in compiled_in) blocks (block_in bytes.now))) }
     ensures next { IfOk result (λ answer. IfNext answer (IsNextBlock (Marking.OfVersions last) chain.now bytes.now)) }
 {
@@ -54,16 +55,17 @@ impl FrameTaker for Folder {
 
     type Stop = Memory;
 
-    ghost ready = { λ _ _. Unit {0} };
+    ghost ready = { λ folder chain. IsWithin folder.last chain };
 
     ghost same = { λ _ _. Unit {0} };
 
-    ghost turn = { λ folder chain frame later result. IfOk result (IsTurnIn folder.last chain frame later.last) };
+    ghost turn = { λ folder chain frame later result. IfOk result (IsFolderTurn folder.last chain frame later.last) };
 
     /// Takes a frame into the chain: its block is added if it is the next one, and the chain is
     /// unchanged if it holds the block already. If the frame is refused, the chain is discarded.
     fn take(&mut self, alloc: Global, chain: Chain, frame: &[u8]) -> Result<Turn<Chain>, Memory>
-        ensures turn { IfOk result (IsTurnIn self.old.last chain frame.now self.new.last) }
+        requires ready { IsWithin self.old.last chain }
+        ensures turn { IfOk result (IsFolderTurn self.old.last chain frame.now self.new.last) }
     {
         match judge_by_versions(alloc, &chain, self.last, frame) {
             Ok(Judged::Known { .. }) => Ok(Turn::Taken(chain)),
@@ -87,7 +89,7 @@ impl FrameTaker for Folder {
 
     ghost same_trans = { λ _ _ _ _ _. tt };
 
-    ghost turn_ready = { λ _ _ _ _ _ _. tt };
+    ghost turn_ready = { λ _ _ _ _ _ turn. turn.within };
 }
 
 /// Takes the frames of an input one after another, starting from the chain of no block.

@@ -1,7 +1,7 @@
 //! Packing whole drafts: the first fault in their order decides.
 
 ghost use Rattle.std.specs.{
-  Prelude.{◌≤◌, map, length, IfOk},
+  Prelude.{◌≡◌, ◌≤◌, true, map, length, IfOk},
   Option.{ok_or},
   List.{AllByRecursion},
 };
@@ -12,7 +12,7 @@ ghost use Rattle.chain_pack.specs.{
   Draft.{pack_fault, texts_from, texts_of_draft, IsBlockText},
   declared.draft.TheConstants.{MAX_PACKED_BLOCKS},
 };
-ghost use Rattle.block_codec.specs.Placement.{no_parent};
+ghost use Rattle.block_codec.specs.{Placement.{no_parent}, Spelling.{is_version}};
 
 use crate::block::text_in;
 use crate::error::PackError;
@@ -38,24 +38,26 @@ fn json_in(alloc: Global, draft: &[u8]) -> Result<Json, PackError>
     }
 }
 
-fn texts(alloc: Global, blocks: &[Json]) -> Result<TextList, PackError>
-    requires { length blocks.now ≤ MAX_PACKED_BLOCKS }
-    ensures texts { Answers (λ texts. texts) pack_fault result (texts_from 0 no_parent (map view blocks.now)) }
+fn texts(alloc: Global, blocks: &[Json], version: u8) -> Result<TextList, PackError>
+    requires few { length blocks.now ≤ MAX_PACKED_BLOCKS }
+    requires version { is_version version ≡ true }
+    ensures texts { Answers (λ texts. texts) pack_fault result (texts_from version 0 no_parent (map view blocks.now)) }
     ensures spelled { IfOk result (AllByRecursion IsBlockText) }
 {
     let mut texts = TextList::new(alloc);
     let mut parent = NO_PARENT;
     for block in blocks {
-        let text = text_in(alloc, texts.len() as u32, parent, block)?;
+        let text = text_in(alloc, version, texts.len() as u32, parent, block)?;
         parent = block_digest(text.as_bytes());
         texts.push(text)?;
     }
     Ok(texts)
 }
 
-/// The texts of the blocks of a draft.
-pub fn pack(alloc: Global, draft: &[u8]) -> Result<TextList, PackError>
-    ensures packed { Answers (λ texts. texts) pack_fault result (texts_of_draft draft.now) }
+/// The texts of the blocks of a draft, which have this version.
+pub fn pack(alloc: Global, draft: &[u8], version: u8) -> Result<TextList, PackError>
+    requires { is_version version ≡ true }
+    ensures packed { Answers (λ texts. texts) pack_fault result (texts_of_draft version draft.now) }
     // Each text spells a block, so it is no longer than one.
     ensures spelled { IfOk result (AllByRecursion IsBlockText) }
 {
@@ -66,5 +68,5 @@ pub fn pack(alloc: Global, draft: &[u8]) -> Result<TextList, PackError>
     if blocks.len() > MAX_PACKED_BLOCKS {
         return Err(PackError::Memory);
     }
-    texts(alloc, blocks)
+    texts(alloc, blocks, version)
 }

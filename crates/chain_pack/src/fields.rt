@@ -72,15 +72,20 @@ pub fn source_in(alloc: Global, json: &Json) -> Result<Bytes, ReadError>
     }
 }
 
-/// A value, from an integer of 64 bits or a string that is a text.
-pub fn value_in(alloc: Global, json: &Json) -> Result<Value, ReadError>
-    ensures { ReadsLawful (IsBlockValue MAX_TEXT_BYTES) result (value_in (view json.now)) }
+/// A value, from an integer of 64 bits or a string that is a text of at most `longest` bytes.
+pub fn value_in(alloc: Global, json: &Json, longest: u16) -> Result<Value, ReadError>
+    requires { longest ≤ MAX_TEXT_BYTES }
+    ensures { ReadsLawful (IsBlockValue longest) result (value_in longest (view json.now)) }
 {
     if let Some(number) = json.as_i64() {
         return Ok(Value::Int(number));
     }
     let text = json.as_str().ok_or(ReadError::Shape)?;
-    match Text::new(alloc, text.as_bytes()) {
+    let bytes = text.as_bytes();
+    if bytes.len() > longest as usize {
+        return Err(ReadError::Shape);
+    }
+    match Text::new(alloc, bytes) {
         Ok(text) => Ok(Value::Text(text)),
         Err(TextError::Memory) => Err(ReadError::Memory),
         Err(TextError::Long | TextError::Byte(_)) => Err(ReadError::Shape),

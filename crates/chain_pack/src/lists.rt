@@ -1,7 +1,7 @@
 //! Reading lists from JSON: an array within a limit, each of whose items is read.
 
 ghost use Rattle.std.specs.{
-  Prelude.{◌≡◌, ◌≤◌, map, length, Option, IfOk},
+  Prelude.{◌≡◌, ◌≤◌, ℕ, map, length, Option, IfOk},
   Result.{result_ok},
   List.{AllByRecursion},
 };
@@ -22,22 +22,23 @@ use std::alloc::Global;
 
 /// An item of a list that is read from JSON.
 pub(crate) trait FromJson: Drop {
-    /// What JSON is read as.
-    ghost made: { Data → Option Self };
-    /// What the items that are read keep to.
-    ghost lawful: { Self → Type 0 };
+    /// What JSON is read as, if texts have at most so many bytes.
+    ghost made: { ℕ → Data → Option Self };
+    /// What the items that are read keep to then.
+    ghost lawful: { ℕ → Self → Type 0 };
 
-    /// Reads one item.
-    fn from_json(alloc: Global, json: &Json) -> Result<Self, ReadError>
-        ensures { ReadsLawful lawful result (made (view json.now)) };
+    /// Reads one item, whose text, if it is one, has at most `longest` bytes.
+    fn from_json(alloc: Global, json: &Json, longest: u16) -> Result<Self, ReadError>
+        requires { longest ≤ MAX_TEXT_BYTES }
+        ensures { ReadsLawful (lawful longest) result (made longest (view json.now)) };
 }
 
 impl FromJson for Key {
-    ghost made = { key_in };
+    ghost made = { λ _. key_in };
 
-    ghost lawful = { IsKey };
+    ghost lawful = { λ _. IsKey };
 
-    fn from_json(_alloc: Global, json: &Json) -> Result<Key, ReadError> {
+    fn from_json(_alloc: Global, json: &Json, _longest: u16) -> Result<Key, ReadError> {
         key_in(json)
     }
 }
@@ -45,21 +46,22 @@ impl FromJson for Key {
 impl FromJson for Value {
     ghost made = { value_in };
 
-    ghost lawful = { IsBlockValue MAX_TEXT_BYTES };
+    ghost lawful = { IsBlockValue };
 
-    fn from_json(alloc: Global, json: &Json) -> Result<Value, ReadError> {
-        value_in(alloc, json)
+    fn from_json(alloc: Global, json: &Json, longest: u16) -> Result<Value, ReadError> {
+        value_in(alloc, json, longest)
     }
 }
 
-fn each<T: FromJson>(alloc: Global, items: &[Json]) -> Result<Seq<T>, ReadError>
-    ensures reads { ReadsLawful (AllByRecursion T.lawful) result
-        (result_ok (each T.made 0 (map view items.now))) }
+fn each<T: FromJson>(alloc: Global, items: &[Json], longest: u16) -> Result<Seq<T>, ReadError>
+    requires { longest ≤ MAX_TEXT_BYTES }
+    ensures reads { ReadsLawful (AllByRecursion (T.lawful longest)) result
+        (result_ok (each (T.made longest) 0 (map view items.now))) }
     ensures count { IfOk result (λ list. length list ≡ length items.now) }
 {
     let mut list = Seq::new(alloc);
     for item in items {
-        let value = T::from_json(alloc, item)?;
+        let value = T::from_json(alloc, item, longest)?;
         match list.push(value) {
             Ok(()) => {}
             Err(Memory) => return Err(ReadError::Memory),
@@ -68,19 +70,21 @@ fn each<T: FromJson>(alloc: Global, items: &[Json]) -> Result<Seq<T>, ReadError>
     Ok(list)
 }
 
-/// The items of an array of at most `most`.
+/// The items of an array of at most `most`, whose texts have at most `longest` bytes.
 pub(crate) fn all_in<T: FromJson>(
     alloc: Global,
     json: &Json,
     most: usize,
+    longest: u16,
 ) -> Result<Seq<T>, ReadError>
-    ensures reads { ReadsLawful (AllByRecursion T.lawful) result
-        (all_in T.made most (view json.now)) }
+    requires { longest ≤ MAX_TEXT_BYTES }
+    ensures reads { ReadsLawful (AllByRecursion (T.lawful longest)) result
+        (all_in (T.made longest) most (view json.now)) }
     ensures few { IfOk result (λ list. length list ≤ most) }
 {
     let items = items_in(json).ok_or(ReadError::Shape)?;
     if items.len() > most {
         return Err(ReadError::Shape);
     }
-    each(alloc, items)
+    each(alloc, items, longest)
 }

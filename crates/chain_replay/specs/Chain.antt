@@ -7,7 +7,7 @@ use Rattle.lc_base.specs.declared.digest.Digest.{Digest}
 use Rattle.lc_base.specs.declared.row.Row.{Row}
 use Rattle.block_codec.specs.Placement.{digest_of, last_digest, is_marked_by, last_version}
 use Rattle.block_codec.specs.Placement.{placement, placement_after}
-use Rattle.block_codec.specs.declared.limits.TheConstants.{MAX_BLOCKS, MAX_ROWS_BEFORE_BLOCK}
+use Rattle.block_codec.specs.declared.limits.TheConstants.{MAX_MARKED_BLOCKS, MAX_ROWS_BEFORE_BLOCK}
 use Rattle.block_codec.specs.declared.block.Block.{Block}
 use Rattle.block_codec.specs.declared.placement.Placement.{Placement}
 use Rattle.block_codec.specs.declared.placement.Placement.TheVariants as placements
@@ -64,7 +64,7 @@ placement_kept marked kept block digest =
 -- The block has the number of the next one, and there is room for it and its rows.
 pub record HasRoom (kept : ChainState) (block : Block) : Type 0 where
   pub number : block.number ≡ length kept.digests
-  pub room : length kept.digests < MAX_BLOCKS
+  pub room : length kept.digests < MAX_MARKED_BLOCKS
   pub few_rows : length kept.rows ≤ MAX_ROWS_BEFORE_BLOCK
 
 -- What is kept after one more block: its digest too, and the history with what it did; and this is
@@ -75,10 +75,10 @@ pub record IsAfter (old : ChainState) (block : Block) (digest : Digest) (new : C
   pub rows : run.rows ≡ (block_effects compiled_in (history_kept old) block).rows
   pub receipts : run.receipts ≡ (block_effects compiled_in (history_kept old) block).receipts
 
--- What is kept is of at most MAX_BLOCKS blocks: a lawful history of rows of these blocks only, and
--- a world that stands for the rows, with no block at work.
+-- What is kept is of at most MAX_MARKED_BLOCKS blocks: a lawful history of rows of these blocks
+-- only, and a world that stands for the rows, with no block at work.
 pub record IsKeptChain (digests : List Digest) (rows : List Row) (world : Known Contract) : Type 0 where
-  pub few : length digests ≤ MAX_BLOCKS
+  pub few : length digests ≤ MAX_MARKED_BLOCKS
   pub lawful : IsLawful rows
   pub held : All (λ row. row.block < length digests) rows
   pub stands : StandsForRows world rows

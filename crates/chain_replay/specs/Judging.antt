@@ -1,10 +1,11 @@
 -- Judging bytes: a decoded block is judged by its placement, and other bytes are refused.
-use Rattle.std.specs.Prelude.{◌≡◌, ℕ, Bool, List, [], ◌∷◌, Result, Ok, Err}
+use Rattle.std.specs.Prelude.{◌≡◌, ◌==◌, ℕ, Bool, List, [], ◌∷◌, Result, Ok, Err}
 use Rattle.std.specs.List.{flat_map}
 use Rattle.lc_base.specs.declared.digest.Digest.{Digest}
 use Rattle.block_codec.specs.Reading.{block_in}
 use Rattle.block_codec.specs.Spelling.{IsBlock}
-use Rattle.block_codec.specs.Placement.{digest_of, is_marked_by}
+use Rattle.block_codec.specs.Placement.{digest_of, is_marked_by, most_blocks}
+use Rattle.block_codec.specs.declared.block.TheConstants.{SECOND_VERSION}
 use Rattle.block_codec.specs.declared.block.Block.{Block}
 use Rattle.block_codec.specs.declared.placement.Placement.{Placement}
 use Rattle.block_codec.specs.declared.placement.Placement.TheVariants as placements
@@ -44,6 +45,11 @@ judgement_of place blocks (Err offset) = Err (refusals.Malformed offset)
 abbrev pub is_marked_for : Marking → Block → Bool
 is_marked_for (markings.OfLog marked) block = marked
 is_marked_for (markings.OfVersions last) block = is_marked_by last block
+
+-- The greatest number of blocks of a chain, by what says which version is next.
+abbrev pub most_blocks_for : Marking → ℕ
+most_blocks_for (markings.OfLog marked) = most_blocks marked
+most_blocks_for (markings.OfVersions last) = most_blocks (last == SECOND_VERSION)
 
 -- The place of a block after others, by what says which version is next.
 abbrev pub placement_for : Compiler → Marking → Placer

@@ -75,7 +75,7 @@ impl Chain {
         }
     }
 
-    /// The number of its blocks, at most `MAX_BLOCKS`.
+    /// The number of its blocks, at most `MAX_MARKED_BLOCKS`.
     pub fn len(&self) -> u32
         ensures { result ≡ length self.now.digests }
     {
@@ -155,6 +155,7 @@ impl Replay for Chain {
         Ok(Chain::new(resources))
     }
 
+    #[tactic(auto, using(crate::proofs::Kept::next_room))]
     fn place(&self, block: &Block, digest: Digest, marked: bool) -> Placement {
         let have = self.digests.get(block.number as usize).copied();
         let rows = self.rows.len() as u64;

@@ -1,7 +1,7 @@
 //! What every chain can do, wherever it keeps its rows: place a block, judge bytes, and run the
 //! next block.
 
-ghost use Rattle.std.specs.Prelude.{◌≡◌, Bool, false, List, [], ◌∷◌, ◌++◌, IfOk, IsErrOf};
+ghost use Rattle.std.specs.Prelude.{◌≡◌, ◌≤◌, Bool, false, List, [], ◌∷◌, ◌++◌, length, IfOk, IsErrOf};
 ghost use Rattle.lc_base.specs.{
   Faults.{HasCause},
   declared.host_error.HostError.TheVariants.{Fault},
@@ -9,13 +9,13 @@ ghost use Rattle.lc_base.specs.{
 ghost use Rattle.block_codec.specs.{
   Reading.{block_in},
   Spelling.{IsBlock},
-  Placement.{digest_of},
+  Placement.{digest_of, most_blocks},
   declared.block.Block.{Block as Blocks},
 };
 ghost use Rattle.chain_exec.specs.Compiled.{compiled_in};
 ghost use Rattle.chain_replay.specs.{
   Chain.{ChainState, nothing_kept, placement_by_mark, placement_in, placement_kept, HasRoom, IsKnownFor, StandsFor},
-  Judging.{judgement_of, placement_for, IsJudged, IfNext, IsNextBlock},
+  Judging.{judgement_of, most_blocks_for, placement_for, IsJudged, IfNext, IsNextBlock},
 };
 ghost use Rattle.scratch_model.specs.Scratch.{ScratchState, Retains};
 
@@ -45,9 +45,11 @@ pub trait Replay: Drop {
         ensures kept { IfOk result (λ chain. kept chain ≡ nothing_kept) }
         ensures agrees { IfOk result (λ chain. (scratch : ScratchState) → agrees chain scratch) };
 
-    /// The placement of a block with this digest in the chain, which is `marked` or isn't.
+    /// The placement of a block with this digest in the chain, which is `marked` or isn't, and has
+    /// at most as many blocks as such a chain may have.
     fn place(&self, block: &Block, digest: Digest, marked: bool) -> Placement
-        requires { IsBlock block.now }
+        requires is_block { IsBlock block.now }
+        requires few { length (kept self.now).digests ≤ most_blocks marked }
         ensures placement { result ≡ placement_kept marked (kept self.now) block.now digest }
         ensures stands { (blocks : List Blocks) → StandsFor (kept self.now) blocks → digest ≡ digest_of block.now → result ≡ placement_by_mark compiled_in marked blocks block.now }
         ensures room { result ≡ Placement.Next → HasRoom (kept self.now) block.now };
@@ -78,8 +80,9 @@ pub trait Replay: Drop {
     fn give_up(self);
 
     /// Judges bytes: decodes them and places the block that they spell; `marking` says which version
-    /// is next.
+    /// is next, and so how many blocks there may be.
     final fn judge(&self, alloc: Global, bytes: &[u8], marking: Marking) -> Result<Judged, Memory>
+        requires few { length (kept self.now).digests ≤ most_blocks_for marking }
         ensures judged { IfOk result (λ answer. (blocks : List Blocks) → StandsFor (kept self.now) blocks → IsJudged answer (judgement_of (placement_for compiled_in marking) blocks (block_in bytes.now))) }
         ensures next { IfOk result (λ answer. IfNext answer (IsNextBlock marking (kept self.now) bytes.now)) }
     {

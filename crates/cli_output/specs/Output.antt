@@ -9,6 +9,7 @@ use Rattle.lc_base.specs.declared.answer.Kind.{Kind}
 use Rattle.lc_base.specs.declared.answer.Query.{Query}
 use Rattle.block_codec.specs.Placement.{digest_of}
 use Rattle.block_codec.specs.Spelling.{Decoder, IsDecoder}
+use Rattle.block_codec.specs.declared.block.TheConstants.{FIRST_VERSION, SECOND_VERSION}
 use Rattle.block_codec.specs.declared.block.Block.{Block}
 use Rattle.block_codec.specs.declared.limits.TheConstants.{MAX_FRAMES}
 use Rattle.block_log.specs.Standing.{Standing, Blank, NotALog, Damaged, Holds, NextBlock}
@@ -41,6 +42,8 @@ use Rattle.proof_commands.specs.Verifying.{IsVerification}
 use Rattle.proof_commands.specs.declared.verification.Verification.{Verification}
 use Rattle.cli_words.specs.declared.words.Edition.{Edition}
 use Rattle.cli_words.specs.declared.words.Edition.TheVariants as editions
+use Rattle.cli_words.specs.declared.words.BlockVersion.{BlockVersion}
+use Rattle.cli_words.specs.declared.words.BlockVersion.TheVariants as versions
 use Rattle.cli_words.specs.declared.words.Generation.{Generation}
 use Rattle.cli_words.specs.declared.words.Command.{Command}
 use Rattle.cli_words.specs.declared.words.Command.TheVariants.{Scan, Fmt, Pack, Gen, Load, Append, Upgrade}
@@ -167,11 +170,17 @@ pub data IsVerifyOutput (root : List ℕ) (query : Query) (input : List ℕ) : O
   Verified : FitsInput input → (told : Verification) → IsVerification root query input told →
       IsVerifyOutput root query input (output_of (verification_outcome told) [])
 
--- The output of `pack` for an input: the outcome for the draft that it is, or that it is too long.
-abbrev pub pack_output : List ℕ → Output
-pack_output input =
+-- The number of a version of blocks.
+abbrev pub version_number : BlockVersion → ℕ
+version_number versions.First = FIRST_VERSION
+version_number versions.Second = SECOND_VERSION
+
+-- The output of `pack` in a version for an input: the outcome for the draft that it is, packed into
+-- blocks of that version, or that it is too long.
+abbrev pub pack_output : ℕ → List ℕ → Output
+pack_output version input =
     if nat_lt MAX_WHOLE_INPUT_BYTES (length input) then long_output input
-    else output_of (draft_outcome (texts_of_draft input)) []
+    else output_of (draft_outcome (texts_of_draft version input)) []
 
 -- ---- blocks that are made
 
@@ -315,7 +324,7 @@ abbrev pub Wants : Decoder → Compiler → Option Command → List ℕ → List
 Wants read compile None input content output = output ≡ usage_output input
 Wants read compile (Some (Scan query)) input content output = output ≡ scan_output compile query (fold_input read (placement_in compile) input)
 Wants read compile (Some (Fmt edition)) input content output = IsFmtOutput (edition_number edition) input output
-Wants read compile (Some Pack) input content output = output ≡ pack_output input
+Wants read compile (Some (Pack version)) input content output = output ≡ pack_output (version_number version) input
 Wants read compile (Some (Gen generation)) input content output = output ≡ gen_output generation input
 Wants read compile (Some (Load generation)) input content output = output ≡ load_output compile generation input
 Wants read compile (Some Append) input content output =

@@ -41,7 +41,7 @@ abbrev pub use_of : Option Command → Use
 use_of None = record { input = Unread; chain = NoChain; print = AtEnd }
 use_of (Some (Scan query)) = record { input = Frames; chain = InputRows; print = AtEnd }
 use_of (Some (Fmt edition)) = record { input = Text; chain = NoChain; print = AtEnd }
-use_of (Some Pack) = record { input = Text; chain = NoChain; print = AtEnd }
+use_of (Some (Pack version)) = record { input = Text; chain = NoChain; print = AtEnd }
 use_of (Some (Gen generation)) = record { input = Unread; chain = NoChain; print = AsMade }
 use_of (Some (Load generation)) = record { input = Unread; chain = MadeLineage; print = AtEnd }
 use_of (Some Append) = record { input = Frames; chain = LogAppended; print = AsMade }

@@ -10,10 +10,12 @@ use Rattle.lc_base.specs.declared.answer.Query.{Query}
 use Rattle.lc_base.specs.declared.digest.Digest.{Digest}
 use Rattle.cli_words.specs.declared.words.Edition.{Edition}
 use Rattle.cli_words.specs.declared.words.Edition.TheVariants.{First, Second}
+use Rattle.cli_words.specs.declared.words.BlockVersion.{BlockVersion}
+use Rattle.cli_words.specs.declared.words.BlockVersion.TheVariants as versions
 use Rattle.cli_words.specs.declared.words.Generation.{Generation}
 use Rattle.cli_words.specs.declared.words.Command.{Command}
 use Rattle.cli_words.specs.declared.words.Command.TheVariants.{Scan, Fmt, Pack, Gen, Load, Append, Upgrade, Root, Ask, Prove, Verify, Expose}
-use Rattle.cli_words.specs.Words.{kind_word, query_words, scan_words, fmt_words, generation_words, ask_words, root_words, prove_words, verify_words, expose_words, command_words, IsQuery, IsGeneration, IsRootGiven, Fits, CanBeGiven, IsCommand, IsOneCommand}
+use Rattle.cli_words.specs.Words.{kind_word, query_words, scan_words, fmt_words, pack_words, generation_words, ask_words, root_words, prove_words, verify_words, expose_words, command_words, IsQuery, IsGeneration, IsRootGiven, Fits, CanBeGiven, IsCommand, IsOneCommand}
 
 one_number : (m n : ℕ) → m < 2 ^ 32 → n < 2 ^ 32 → decimal m ≡ decimal n → m ≡ n
 one_number m n small fits same =
@@ -158,6 +160,52 @@ one_edition First Second same = absurd cc
 one_edition Second First same = absurd cc
 one_edition Second Second same = refl
 
+-- and so are those of `pack`
+pack_scan : (version : BlockVersion) (query : Query) → pack_words version ≡ scan_words query → ⊥
+pack_scan versions.First query same = absurd cc
+pack_scan versions.Second query same = absurd cc
+
+pack_made : (version : BlockVersion) (word : List ℕ) (generation : Generation)
+    → pack_words version ≡ generation_words word generation → ⊥
+pack_made versions.First word generation same = absurd cc
+pack_made versions.Second word generation same = absurd cc
+
+pack_alone : (version : BlockVersion) (word : List ℕ) → pack_words version ≡ word ∷ []
+    → 112 ≡ first_byte word
+pack_alone versions.First word same = let words : codes "pack" ≡ word = cc in ap first_byte words
+pack_alone versions.Second word same = absurd cc
+
+pack_root : (version : BlockVersion) (at : Option ℕ) → pack_words version ≡ root_words at → ⊥
+pack_root versions.First None same = let words : codes "pack" ≡ codes "root" = cc in let first : 112 ≡ 114 = ap first_byte words in absurd (omega (arith, first))
+pack_root versions.First (Some n) same = absurd cc
+pack_root versions.Second None same = absurd cc
+pack_root versions.Second (Some n) same = let words : codes "pack" ≡ codes "root" = cc in let first : 112 ≡ 114 = ap first_byte words in absurd (omega (arith, first))
+
+no_pack : (kind : Kind) → kind_word kind ≡ codes "pack" → ⊥
+no_pack Hist same = let first : 104 ≡ 112 = ap first_byte same in absurd (omega (arith, first))
+no_pack Back same = let first : 98 ≡ 112 = ap first_byte same in absurd (omega (arith, first))
+no_pack Fwd same = let first : 102 ≡ 112 = ap first_byte same in absurd (omega (arith, first))
+
+pack_ask : (version : BlockVersion) (kind : Kind) (key : List ℕ) (at : Option ℕ)
+    → pack_words version ≡ ask_words kind key at → ⊥
+pack_ask versions.First kind key None same = absurd cc
+pack_ask versions.First kind key (Some at) same = absurd cc
+pack_ask versions.Second kind key None same =
+    let words : codes "pack" ≡ kind_word kind = cc in no_pack kind (sym words)
+pack_ask versions.Second kind key (Some at) same = absurd cc
+
+fmt_pack : (edition : Edition) (version : BlockVersion) → fmt_words edition ≡ pack_words version → ⊥
+fmt_pack First versions.First same = let words : codes "fmt" ≡ codes "pack" = cc in let first : 102 ≡ 112 = ap first_byte words in absurd (omega (arith, first))
+fmt_pack First versions.Second same = absurd cc
+fmt_pack Second versions.First same = absurd cc
+fmt_pack Second versions.Second same = let words : codes "fmt" ≡ codes "pack" = cc in let first : 102 ≡ 112 = ap first_byte words in absurd (omega (arith, first))
+
+one_version : (a b : BlockVersion) → pack_words a ≡ pack_words b → a ≡ b
+one_version versions.First versions.First same = refl
+one_version versions.First versions.Second same = absurd cc
+one_version versions.Second versions.First same = absurd cc
+one_version versions.Second versions.Second same = refl
+
 one_at : (a b : Option ℕ) → Fits a → Fits b → (k l : Kind) (x y : List ℕ)
     → ask_words k x a ≡ ask_words l y b → (k ≡ l) × (x ≡ y) × (a ≡ b)
 one_at None None is_a is_b k l x y same = (one_kind k l cc, cc, refl)
@@ -182,6 +230,10 @@ few_root (Some at) = omega arith
 few_fmt : (edition : Edition) → length (fmt_words edition) ≤ 4
 few_fmt First = omega arith
 few_fmt Second = omega arith
+
+few_pack : (version : BlockVersion) → length (pack_words version) ≤ 4
+few_pack versions.First = omega arith
+few_pack versions.Second = omega arith
 
 few_asked : (kind : Kind) (key : List ℕ) (at : Option ℕ) → length (ask_words kind key at) ≤ 4
 few_asked kind key None = omega arith
@@ -233,7 +285,7 @@ one_given : (a b : Command) → CanBeGiven a → CanBeGiven b → command_words 
     → a ≡ b
 one_given (Scan a) (Scan b) is_a is_b same = ap Scan (one_query a b is_a is_b cc)
 one_given (Scan a) (Fmt b) is_a is_b same = absurd (fmt_scan b a (sym same))
-one_given (Scan a) Pack is_a is_b same = absurd cc
+one_given (Scan a) (Pack b) is_a is_b same = absurd (pack_scan b a (sym same))
 one_given (Scan a) (Gen b) is_a is_b same = absurd cc
 one_given (Scan a) (Load b) is_a is_b same = absurd cc
 one_given (Scan a) Append is_a is_b same = absurd cc
@@ -245,8 +297,7 @@ one_given (Scan a) (Verify br b) is_a is_b same = absurd cc
 one_given (Scan a) (Expose br b bn) is_a is_b same = absurd cc
 one_given (Fmt a) (Scan b) is_a is_b same = absurd (fmt_scan a b same)
 one_given (Fmt a) (Fmt b) is_a is_b same = ap Fmt (one_edition a b same)
-one_given (Fmt a) Pack is_a is_b same =
-    let first : 102 ≡ 112 = fmt_alone a (codes "pack") same in absurd (omega (arith, first))
+one_given (Fmt a) (Pack b) is_a is_b same = absurd (fmt_pack a b same)
 one_given (Fmt a) (Gen b) is_a is_b same = absurd (fmt_made a _ b same)
 one_given (Fmt a) (Load b) is_a is_b same = absurd (fmt_made a _ b same)
 one_given (Fmt a) Append is_a is_b same =
@@ -261,23 +312,26 @@ one_given (Fmt a) (Verify br b) is_a is_b same =
     absurd (too_few (fmt_words a) (verify_words br b) (few_fmt a) (omega arith) same)
 one_given (Fmt a) (Expose br b bn) is_a is_b same =
     absurd (too_few (fmt_words a) (expose_words br b bn) (few_fmt a) (omega arith) same)
-one_given Pack (Scan b) is_a is_b same = absurd cc
-one_given Pack (Fmt b) is_a is_b same =
-    let first : 102 ≡ 112 = fmt_alone b (codes "pack") (sym same) in absurd (omega (arith, first))
-one_given Pack Pack is_a is_b same = refl
-one_given Pack (Gen b) is_a is_b same = absurd cc
-one_given Pack (Load b) is_a is_b same = absurd cc
-one_given Pack Append is_a is_b same = absurd cc
-one_given Pack Upgrade is_a is_b same = absurd cc
-one_given Pack (Root b) is_a is_b same =
-    let first : 114 ≡ 112 = root_alone b (codes "pack") (sym same) in absurd (omega (arith, first))
-one_given Pack (Ask bk by bt) is_a is_b same = absurd (no_word bk by bt _ (sym same))
-one_given Pack (Prove b br) is_a is_b same = absurd cc
-one_given Pack (Verify br b) is_a is_b same = absurd cc
-one_given Pack (Expose br b bn) is_a is_b same = absurd cc
+one_given (Pack a) (Scan b) is_a is_b same = absurd (pack_scan a b same)
+one_given (Pack a) (Fmt b) is_a is_b same = absurd (fmt_pack b a (sym same))
+one_given (Pack a) (Pack b) is_a is_b same = ap Pack (one_version a b same)
+one_given (Pack a) (Gen b) is_a is_b same = absurd (pack_made a _ b same)
+one_given (Pack a) (Load b) is_a is_b same = absurd (pack_made a _ b same)
+one_given (Pack a) Append is_a is_b same =
+    let first : 112 ≡ 97 = pack_alone a (codes "append") same in absurd (omega (arith, first))
+one_given (Pack a) Upgrade is_a is_b same =
+    let first : 112 ≡ 117 = pack_alone a (codes "upgrade") same in absurd (omega (arith, first))
+one_given (Pack a) (Root b) is_a is_b same = absurd (pack_root a b same)
+one_given (Pack a) (Ask bk by bt) is_a is_b same = absurd (pack_ask a bk by bt same)
+one_given (Pack a) (Prove b br) is_a is_b same =
+    absurd (too_few (pack_words a) (prove_words b br) (few_pack a) (omega arith) same)
+one_given (Pack a) (Verify br b) is_a is_b same =
+    absurd (too_few (pack_words a) (verify_words br b) (few_pack a) (omega arith) same)
+one_given (Pack a) (Expose br b bn) is_a is_b same =
+    absurd (too_few (pack_words a) (expose_words br b bn) (few_pack a) (omega arith) same)
 one_given (Gen a) (Scan b) is_a is_b same = absurd cc
 one_given (Gen a) (Fmt b) is_a is_b same = absurd (fmt_made b _ a (sym same))
-one_given (Gen a) Pack is_a is_b same = absurd cc
+one_given (Gen a) (Pack b) is_a is_b same = absurd (pack_made b _ a (sym same))
 one_given (Gen a) (Gen b) is_a is_b same = ap Gen (one_generation _ a b is_a is_b same)
 one_given (Gen a) (Load b) is_a is_b same = absurd (gen_load a b same)
 one_given (Gen a) Append is_a is_b same = absurd cc
@@ -290,7 +344,7 @@ one_given (Gen a) (Verify br b) is_a is_b same = absurd cc
 one_given (Gen a) (Expose br b bn) is_a is_b same = absurd cc
 one_given (Load a) (Scan b) is_a is_b same = absurd cc
 one_given (Load a) (Fmt b) is_a is_b same = absurd (fmt_made b _ a (sym same))
-one_given (Load a) Pack is_a is_b same = absurd cc
+one_given (Load a) (Pack b) is_a is_b same = absurd (pack_made b _ a (sym same))
 one_given (Load a) (Gen b) is_a is_b same = absurd (gen_load b a (sym same))
 one_given (Load a) (Load b) is_a is_b same = ap Load (one_generation _ a b is_a is_b same)
 one_given (Load a) Append is_a is_b same = absurd cc
@@ -304,7 +358,8 @@ one_given (Load a) (Expose br b bn) is_a is_b same = absurd cc
 one_given Append (Scan b) is_a is_b same = absurd cc
 one_given Append (Fmt b) is_a is_b same =
     let first : 102 ≡ 97 = fmt_alone b (codes "append") (sym same) in absurd (omega (arith, first))
-one_given Append Pack is_a is_b same = absurd cc
+one_given Append (Pack b) is_a is_b same =
+    let first : 112 ≡ 97 = pack_alone b (codes "append") (sym same) in absurd (omega (arith, first))
 one_given Append (Gen b) is_a is_b same = absurd cc
 one_given Append (Load b) is_a is_b same = absurd cc
 one_given Append Append is_a is_b same = refl
@@ -318,7 +373,8 @@ one_given Append (Expose br b bn) is_a is_b same = absurd cc
 one_given Upgrade (Scan b) is_a is_b same = absurd cc
 one_given Upgrade (Fmt b) is_a is_b same =
     let first : 102 ≡ 117 = fmt_alone b (codes "upgrade") (sym same) in absurd (omega (arith, first))
-one_given Upgrade Pack is_a is_b same = absurd cc
+one_given Upgrade (Pack b) is_a is_b same =
+    let first : 112 ≡ 117 = pack_alone b (codes "upgrade") (sym same) in absurd (omega (arith, first))
 one_given Upgrade (Gen b) is_a is_b same = absurd cc
 one_given Upgrade (Load b) is_a is_b same = absurd cc
 one_given Upgrade Append is_a is_b same = absurd cc
@@ -331,8 +387,7 @@ one_given Upgrade (Verify br b) is_a is_b same = absurd cc
 one_given Upgrade (Expose br b bn) is_a is_b same = absurd cc
 one_given (Root a) (Scan b) is_a is_b same = absurd (root_scan a b same)
 one_given (Root a) (Fmt b) is_a is_b same = absurd (fmt_root b a (sym same))
-one_given (Root a) Pack is_a is_b same =
-    let first : 114 ≡ 112 = root_alone a (codes "pack") same in absurd (omega (arith, first))
+one_given (Root a) (Pack b) is_a is_b same = absurd (pack_root b a (sym same))
 one_given (Root a) (Gen b) is_a is_b same = absurd (root_made a _ b same)
 one_given (Root a) (Load b) is_a is_b same = absurd (root_made a _ b same)
 one_given (Root a) Append is_a is_b same =
@@ -349,7 +404,7 @@ one_given (Root a) (Expose br b bn) is_a is_b same =
     absurd (too_few (root_words a) (expose_words br b bn) (few_root a) (omega arith) same)
 one_given (Ask ak ay at) (Scan b) is_a is_b same = absurd (no_scan ak ay at b same)
 one_given (Ask ak ay at) (Fmt b) is_a is_b same = absurd (fmt_ask b ak ay at (sym same))
-one_given (Ask ak ay at) Pack is_a is_b same = absurd (no_word ak ay at _ same)
+one_given (Ask ak ay at) (Pack b) is_a is_b same = absurd (pack_ask b ak ay at (sym same))
 one_given (Ask ak ay at) (Gen b) is_a is_b same = absurd (no_gen ak (no_made ak ay at _ b same))
 one_given (Ask ak ay at) (Load b) is_a is_b same = absurd (no_load ak (no_made ak ay at _ b same))
 one_given (Ask ak ay at) Append is_a is_b same = absurd (no_word ak ay at _ same)
@@ -364,7 +419,8 @@ one_given (Ask ak ay at) (Expose br b bn) is_a is_b same = absurd (too_few (ask_
 one_given (Prove a ar) (Scan b) is_a is_b same = absurd cc
 one_given (Prove a ar) (Fmt b) is_a is_b same =
     absurd (too_few (fmt_words b) (prove_words a ar) (few_fmt b) (omega arith) (sym same))
-one_given (Prove a ar) Pack is_a is_b same = absurd cc
+one_given (Prove a ar) (Pack b) is_a is_b same =
+    absurd (too_few (pack_words b) (prove_words a ar) (few_pack b) (omega arith) (sym same))
 one_given (Prove a ar) (Gen b) is_a is_b same = absurd cc
 one_given (Prove a ar) (Load b) is_a is_b same = absurd cc
 one_given (Prove a ar) Append is_a is_b same = absurd cc
@@ -378,7 +434,8 @@ one_given (Prove a ar) (Expose br b bn) is_a is_b same = absurd cc
 one_given (Verify ar a) (Scan b) is_a is_b same = absurd cc
 one_given (Verify ar a) (Fmt b) is_a is_b same =
     absurd (too_few (fmt_words b) (verify_words ar a) (few_fmt b) (omega arith) (sym same))
-one_given (Verify ar a) Pack is_a is_b same = absurd cc
+one_given (Verify ar a) (Pack b) is_a is_b same =
+    absurd (too_few (pack_words b) (verify_words ar a) (few_pack b) (omega arith) (sym same))
 one_given (Verify ar a) (Gen b) is_a is_b same = absurd cc
 one_given (Verify ar a) (Load b) is_a is_b same = absurd cc
 one_given (Verify ar a) Append is_a is_b same = absurd cc
@@ -392,7 +449,8 @@ one_given (Verify ar a) (Expose br b bn) is_a is_b same = absurd cc
 one_given (Expose ar a an) (Scan b) is_a is_b same = absurd cc
 one_given (Expose ar a an) (Fmt b) is_a is_b same =
     absurd (too_few (fmt_words b) (expose_words ar a an) (few_fmt b) (omega arith) (sym same))
-one_given (Expose ar a an) Pack is_a is_b same = absurd cc
+one_given (Expose ar a an) (Pack b) is_a is_b same =
+    absurd (too_few (pack_words b) (expose_words ar a an) (few_pack b) (omega arith) (sym same))
 one_given (Expose ar a an) (Gen b) is_a is_b same = absurd cc
 one_given (Expose ar a an) (Load b) is_a is_b same = absurd cc
 one_given (Expose ar a an) Append is_a is_b same = absurd cc

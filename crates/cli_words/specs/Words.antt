@@ -9,6 +9,8 @@ use Rattle.lc_base.specs.declared.digest.Digest.{Digest}
 use Rattle.cli_words.specs.declared.words.TheConstants.{MAX_GENERATED_BLOCKS}
 use Rattle.cli_words.specs.declared.words.Edition.{Edition}
 use Rattle.cli_words.specs.declared.words.Edition.TheVariants as editions
+use Rattle.cli_words.specs.declared.words.BlockVersion.{BlockVersion}
+use Rattle.cli_words.specs.declared.words.BlockVersion.TheVariants as versions
 use Rattle.cli_words.specs.declared.words.Generation.{Generation}
 use Rattle.cli_words.specs.declared.words.Command.{Command}
 use Rattle.cli_words.specs.declared.words.Command.TheVariants.{Scan, Fmt, Pack, Gen, Load, Append, Upgrade, Root, Ask, Prove, Verify, Expose}
@@ -37,6 +39,12 @@ pub record IsQuery (query : Query) : Type 0 where
 abbrev pub fmt_words : Edition → List (List ℕ)
 fmt_words editions.First = codes "fmt" ∷ []
 fmt_words editions.Second = codes "fmt" ∷ codes "2" ∷ []
+
+-- The words of the command that prints a draft's block file: pack for blocks of the first version,
+-- pack 2 for blocks of the second.
+abbrev pub pack_words : BlockVersion → List (List ℕ)
+pack_words versions.First = codes "pack" ∷ []
+pack_words versions.Second = codes "pack" ∷ codes "2" ∷ []
 
 -- The words of a generation: WORD N SEED, both numbers in decimal digits without a leading zero.
 abbrev pub generation_words : List ℕ → Generation → List (List ℕ)
@@ -93,7 +101,7 @@ Fits (Some at) = at < 2 ^ 32
 abbrev pub command_words : Command → List (List ℕ)
 command_words (Scan query) = scan_words query
 command_words (Fmt edition) = fmt_words edition
-command_words Pack = codes "pack" ∷ []
+command_words (Pack version) = pack_words version
 command_words (Gen generation) = generation_words (codes "gen") generation
 command_words (Load generation) = generation_words (codes "load") generation
 command_words Append = codes "append" ∷ []
@@ -109,7 +117,7 @@ command_words (Expose root query root_at) = expose_words root query root_at
 abbrev pub CanBeGiven : Command → Type 0
 CanBeGiven (Scan query) = IsQuery query
 CanBeGiven (Fmt edition) = Unit {0}
-CanBeGiven Pack = Unit {0}
+CanBeGiven (Pack version) = Unit {0}
 CanBeGiven (Gen generation) = IsGeneration generation
 CanBeGiven (Load generation) = IsGeneration generation
 CanBeGiven Append = Unit {0}
@@ -146,6 +154,11 @@ IsScan words None = (query : Query) → IsQuery query → words ≡ scan_words q
 abbrev pub IsFmt : List (List ℕ) → Option Edition → Type 0
 IsFmt words (Some edition) = words ≡ fmt_words edition
 IsFmt words None = (edition : Edition) → words ≡ fmt_words edition → ⊥
+
+-- The version of `pack`; None if the words are not those of `pack`.
+abbrev pub IsPack : List (List ℕ) → Option BlockVersion → Type 0
+IsPack words (Some version) = words ≡ pack_words version
+IsPack words None = (version : BlockVersion) → words ≡ pack_words version → ⊥
 
 -- The blocks of a generation; None if the words are not those of one that begin with this word.
 abbrev pub IsGenerationOf : List ℕ → List (List ℕ) → Option Generation → Type 0

@@ -2,9 +2,10 @@
 #![tactic(auto)]
 
 mod formatting;
+mod packing;
 mod proving;
 mod questions;
 mod single;
 mod words;
 
-pub use words::{Command, Edition, Generation, MAX_GENERATED_BLOCKS, command_of};
+pub use words::{BlockVersion, Command, Edition, Generation, MAX_GENERATED_BLOCKS, command_of};

@@ -4,6 +4,7 @@ ghost use Rattle.std.specs.Prelude.{map, string_bytes, IfSome};
 ghost use Rattle.cli_words.specs.Words.{CanBeGiven, IsCommand, IsOneCommand, IsGenerationOf, IsAlone};
 
 use crate::formatting::fmt_of;
+use crate::packing::pack_of;
 use crate::proving::{expose_of, prove_of, verify_of};
 use crate::questions::{ask_of, root_of, scan_of};
 use crate::single::{count_of, is_text, number_of};
@@ -30,6 +31,15 @@ pub enum Edition {
     Second,
 }
 
+/// A version of blocks, of which `pack` makes blocks.
+#[derive(Clone, Copy, Debug, PartialEq, Eq)]
+pub enum BlockVersion {
+    /// The first: that of the blocks before the mark of a log.
+    First,
+    /// The second: that of the blocks after it.
+    Second,
+}
+
 /// What the program is asked to do.
 #[derive(Clone, Copy, Debug, PartialEq, Eq)]
 pub enum Command {
@@ -38,8 +48,9 @@ pub enum Command {
     /// `fmt` or `fmt 2`: print the canonical text of the contract that the input is in the first or
     /// the second edition of the language.
     Fmt(Edition),
-    /// `pack`: print the block file of the draft that the input is.
-    Pack,
+    /// `pack` or `pack 2`: print the block file of the draft that the input is, of blocks of the
+    /// first or the second version.
+    Pack(BlockVersion),
     /// `gen N SEED`: print a block file of N blocks.
     Gen(Generation),
     /// `load N SEED`: add these N blocks to a chain in memory, and print what look-ups of it cost.
@@ -127,8 +138,8 @@ fn parse_command(words: &[String]) -> Option<Command>
     if let Some(edition) = fmt_of(words) {
         return Some(Command::Fmt(edition));
     }
-    if is_alone(words, "pack") {
-        return Some(Command::Pack);
+    if let Some(version) = pack_of(words) {
+        return Some(Command::Pack(version));
     }
     if is_alone(words, "append") {
         return Some(Command::Append);

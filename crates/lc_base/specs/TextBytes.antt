@@ -1,4 +1,4 @@
--- Texts: at most 1,024 bytes, each from 0x20 to 0x7E.
+-- Texts: at most MAX_TEXT_BYTES bytes, each from 0x20 to 0x7E.
 use Rattle.std.specs.Prelude.{◌≡◌, ℕ, ◌≤◌, Bool, ◌&&◌, not, nat_le, List, length, position, Option, None}
 use Rattle.lc_base.specs.declared.limits.TheConstants.{MAX_TEXT_BYTES}
 

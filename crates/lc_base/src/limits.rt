@@ -1,7 +1,7 @@
 //! The greatest sizes of texts and histories.
 
 /// The greatest number of bytes of a text.
-pub const MAX_TEXT_BYTES: usize = 1024;
+pub const MAX_TEXT_BYTES: usize = 8192;
 
 /// The greatest number of bytes of two texts that are joined, at most `MAX_TEXT_BYTES`.
 pub const MAX_JOINED_BYTES: usize = 1024;

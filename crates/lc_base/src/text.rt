@@ -14,7 +14,7 @@ use std::alloc::{AllocError, Global};
 use std::marker::Model;
 use thiserror::Error;
 
-/// A text: at most 1,024 bytes, each from 0x20 to 0x7E.
+/// A text: at most `MAX_TEXT_BYTES` bytes, each from 0x20 to 0x7E.
 #[derive(Debug, Drop)]
 pub struct Text {
     bytes: Vec<u8>,
@@ -83,7 +83,7 @@ impl Text {
         Ok(Text { bytes })
     }
 
-    /// The bytes of the text, at most 1,024.
+    /// The bytes of the text, at most `MAX_TEXT_BYTES`.
     pub fn as_bytes(&self) -> &[u8]
         ensures bytes { result.now ≡ self.now }
         ensures is_text { IsText self.now }

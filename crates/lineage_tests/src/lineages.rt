@@ -1,10 +1,11 @@
 //! Chains and lineages that are made from the bytes of their blocks.
 
-ghost use Rattle.std.specs.Prelude.{IfSome};
+ghost use Rattle.std.specs.Prelude.{◌≡◌, ◌+◌, ◌≤◌, length, IfSome};
+ghost use Rattle.block_codec.specs.declared.limits.TheConstants.{MAX_BLOCKS};
 ghost use Rattle.scratch_model.specs.MemScratch.{state_over};
 ghost use Rattle.merkle_dag.specs.Lineage.{AgreesWith};
 
-use block_codec::{Block, FIRST_VERSION, NO_PARENT, Tx, TxList, block_digest, encode};
+use block_codec::{Block, FIRST_VERSION, MAX_BLOCKS, NO_PARENT, Tx, TxList, block_digest, encode};
 use chain_pack::pack;
 use chain_replay::{Judged, Marking, Replay};
 use lc_base::{Answer, Key, KeyList, Kind, Query, TextList, Value};
@@ -69,7 +70,10 @@ fn longer<C: Replay, S: Scratch>(
     bytes: &[u8],
 ) -> Option<C>
     requires agrees { C.agrees chain (S.state scratch.old) }
+    requires few { length (C.kept chain).digests ≤ MAX_BLOCKS }
     ensures agrees { IfSome result (λ longer. C.agrees longer (S.state scratch.new)) }
+    ensures count { IfSome result
+        (λ longer. length (C.kept longer).digests ≡ length (C.kept chain).digests + 1) }
 {
     // Blocks of either version are taken, whichever was the last.
     let marking = Marking::OfVersions {
@@ -92,6 +96,9 @@ pub(crate) fn chain_of<C: Replay, S: Scratch>(
 ) -> Option<C>
     ensures agrees { IfSome result (λ chain. C.agrees chain (S.state scratch.new)) }
 {
+    if blocks.len() > MAX_BLOCKS as usize {
+        return None;
+    }
     let resources = Resources::new(alloc, &Zeros).ok()?;
     let mut chain = match C::start(resources) {
         Ok(chain) => chain,
@@ -132,7 +139,7 @@ pub(crate) fn lineage_in_memory(
 pub(crate) fn lineage_of_draft(alloc: Global, draft: &[u8]) -> Option<(MemScratch, Lineage)>
     ensures agrees { IfSome result (λ made. AgreesWith made.1 (state_over made.0.bytes)) }
 {
-    lineage_in_memory(alloc, &[], &pack(alloc, draft).ok()?)
+    lineage_in_memory(alloc, &[], &pack(alloc, draft, FIRST_VERSION).ok()?)
 }
 
 /// The int of an answer, and the block of its version.

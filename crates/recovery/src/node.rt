@@ -3,7 +3,10 @@
 ghost use Rattle.std.specs.Prelude.{◌≡◌, ◌<◌, ◌≤◌, ℕ, true, List, length, slice_get, Some, IfOk, IsErrOf, MatchOption};
 ghost use Rattle.disk_model.specs.Disk.{IsSettled, content_of};
 ghost use Rattle.scratch_model.specs.Scratch.{is_known, Serves};
-ghost use Rattle.block_codec.specs.declared.block.Block.{Block as Blocks};
+ghost use Rattle.block_codec.specs.{
+  Placement.{most_blocks},
+  declared.block.Block.{Block as Blocks},
+};
 ghost use Rattle.block_log.specs.Standing.{standing};
 ghost use Rattle.rooted_chain.specs.chain_exec.Compiled.{compiled_in};
 ghost use Rattle.rooted_chain.specs.chain_replay.Chain.{StandsFor};
@@ -91,7 +94,7 @@ impl Node {
         }
     }
 
-    /// The number of its blocks, at most `MAX_BLOCKS`.
+    /// The number of its blocks, at most `MAX_BLOCKS`, or `MAX_MARKED_BLOCKS` if it is marked.
     pub fn blocks(&self) -> u32
         ensures { result ≡ length self.now.chain.digests }
     {
@@ -117,7 +120,8 @@ impl Node {
     /// Whether its log is marked, so that its next block has the second version. Else it has the
     /// first.
     pub fn marked(&self) -> bool
-        ensures { result ≡ self.now.log.is_marked }
+        ensures is { result ≡ self.now.log.is_marked }
+        ensures few { length self.now.chain.digests ≤ most_blocks self.now.log.is_marked }
     {
         self.log.marked()
     }

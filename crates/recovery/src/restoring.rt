@@ -1,10 +1,10 @@
 //! Restoring a chain from a log: each block runs as soon as it is read, so one is held at a time.
 
-ghost use Rattle.std.specs.Prelude.{◌≡◌, [], ◌∷◌, ◌++◌, List, IfOk, IsErrOf};
+ghost use Rattle.std.specs.Prelude.{◌≡◌, ◌≤◌, [], ◌∷◌, ◌++◌, List, length, IfOk, IsErrOf};
 ghost use Rattle.disk_model.specs.Disk.{content_of};
 ghost use Rattle.block_codec.specs.{
   Spelling.{IsBlock},
-  Placement.{digest_of, FitsVersions},
+  Placement.{digest_of, most_blocks, FitsVersions},
   declared.block.Block.{Block as Blocks},
 };
 ghost use Rattle.block_log.specs.Reader.{AreRead};
@@ -54,6 +54,7 @@ fn run_stored<C: Replay, S: Scratch>(
     marked: bool,
 ) -> Result<Result<C, u64>, HostError>
     requires is_block { IsBlock next.now.block }
+    requires few { length (C.kept chain).digests ≤ most_blocks marked }
     requires agrees { C.agrees chain (S.state scratch.old) }
     ensures run { IsKnownFor C.calls_scratch (S.state scratch.old) → (blocks : List Blocks)
         → StandsFor (C.kept chain) blocks → FitsVersions marked blocks

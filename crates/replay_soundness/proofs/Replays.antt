@@ -10,7 +10,6 @@ use Rattle.lc_base.specs.History.{IsLawful, HasLawfulDeps}
 use Rattle.lc_base.specs.declared.row.Row.{Row}
 use Rattle.lc_base.specs.declared.value.Value.{Value}
 use Rattle.lc_base.specs.declared.tx_status.TxStatus.TheVariants as statuses
-use Rattle.lc_base.specs.declared.limits.TheConstants.{MAX_TEXT_BYTES}
 use Rattle.byte_fields.specs.Spelling.{IsValue, IsBlockValue}
 use Rattle.byte_fields.proofs.Fields.{block_value_is}
 use Rattle.contract_tree.specs.Tree.{FunctionTree}
@@ -27,7 +26,7 @@ use Rattle.block_codec.specs.declared.block.Tx.{Tx}
 use Rattle.block_codec.specs.declared.block.Tx.TheVariants.{Set, Deploy, Call}
 use Rattle.block_codec.specs.declared.block.Block.{Block}
 use Rattle.block_codec.specs.declared.limits.TheConstants.{MAX_TXS, MAX_ROWS_BEFORE_BLOCK}
-use Rattle.block_codec.specs.Spelling.{IsTx, IsBlock}
+use Rattle.block_codec.specs.Spelling.{IsTx, IsBlock, text_limit}
 use Rattle.chain_replay.specs.chain_exec.BlockRows.{HasNewestDeps, AreTxRows, AreBlockRows}
 use Rattle.chain_replay.specs.chain_exec.Compiled.{Compiler}
 use Rattle.chain_replay.specs.chain_exec.Effect.{Codes, History, Effect, refused_effect, effect_of, is_written, meets_conflict, deps_on, is_taken_in, deploy_effect, code_in, call_effect}
@@ -95,47 +94,47 @@ call_typed rows written site args at (Some functions) h typed sender number give
     } in
     record { lawful = written_rows s.place site.number at result.capture faithful result.outcome.status k.0; typed = k.1; codes = All-nil CodeOfValues }
 
-all_values : (args : List Value) → AllByRecursion (IsBlockValue MAX_TEXT_BYTES) args → All IsValue args
-all_values [] h = All-nil IsValue
-all_values (arg ∷ args) h = All-cons IsValue arg args (block_value_is MAX_TEXT_BYTES arg h.0) (all_values args h.1)
+all_values : (most : ℕ) (args : List Value) → AllByRecursion (IsBlockValue most) args → All IsValue args
+all_values most [] h = All-nil IsValue
+all_values most (arg ∷ args) h = All-cons IsValue arg args (block_value_is most arg h.0) (all_values most args h.1)
 
 module _ (compile : Compiler) (good : CompilesValues compile) where
   module _ (history : History) (number : ℕ) (before : IsTypedBefore number history) (fits : number < 2 ^ 32) where
-    effect_typed : (edition : ℕ) (rows : List Row) (codes : Codes) (at : ℕ) (tx : Tx) → at < 2 ^ 16 → IsTx tx → IsTypedEffect (record { newest = held_in history.rows; written = is_written rows }) number at (effect_of (compile edition) history rows codes number at tx)
-    effect_typed edition rows codes at (Set sender key value deps) a h =
+    effect_typed : (most edition : ℕ) (rows : List Row) (codes : Codes) (at : ℕ) (tx : Tx) → at < 2 ^ 16 → IsTx most tx → IsTypedEffect (record { newest = held_in history.rows; written = is_written rows }) number at (effect_of (compile edition) history rows codes number at tx)
+    effect_typed most edition rows codes at (Set sender key value deps) a h =
         let row : Row = record { key = key; block = number; tx = at; value = value; deps = deps_on history.rows deps } in
         set_typed (record { newest = held_in history.rows; written = is_written rows }) number at (not (starts_with ◌==◌ key (codes_of "raw/"))) (meets_conflict (is_written rows) key deps) row refl refl
         (set_deps history.rows row deps refl h.few_deps)
-        (record { key_is_key = h.key_is_key; block_fits = fits; tx_fits = a; value_is_value = block_value_is MAX_TEXT_BYTES value h.value_is_value })
+        (record { key_is_key = h.key_is_key; block_fits = fits; tx_fits = a; value_is_value = block_value_is most value h.value_is_value })
         (λ none. (or_parts (list_any (is_written rows) deps) (is_written rows key) none).1)
-    effect_typed edition rows codes at (Deploy sender name source) a h = deploy_typed (record { newest = held_in history.rows; written = is_written rows }) number at (is_taken_in history.codes codes name) name (compile edition source) (good edition source)
-    effect_typed edition rows codes at (Call sender contract function args budget) a h =
+    effect_typed most edition rows codes at (Deploy sender name source) a h = deploy_typed (record { newest = held_in history.rows; written = is_written rows }) number at (is_taken_in history.codes codes name) name (compile edition source) (good edition source)
+    effect_typed most edition rows codes at (Call sender contract function args budget) a h =
         call_typed history.rows (is_written rows) (record { contract = contract; function = function; sender = sender; number = number; budget = budget }) args at (code_in history.codes contract)
-        (code_typed history.codes contract before.codes) before.rows h.sender_is_key fits (all_values args h.args_are_values) a
+        (code_typed history.codes contract before.codes) before.rows h.sender_is_key fits (all_values most args h.args_are_values) a
 
     record IsTypedStaged (at : ℕ) (done : Staged) : Type 0 where
       lawful : AreBlockRows (held_in history.rows) number at done.rows
       typed : All IsTypedRow done.rows
       codes : AreCodesOfValues done.codes
 
-    effects_typed : (edition : ℕ) (txs : List Tx) (at : ℕ) (done : Staged) → IsTypedStaged at done → AllByRecursion IsTx txs → at + length txs ≤ MAX_TXS → IsTypedStaged (at + length txs) (effects_after (compile edition) history number at done txs)
-    effects_typed edition [] at done h k few = subst (λ n. IsTypedStaged n done) (omega arith) h
-    effects_typed edition (tx ∷ txs) at done h k few =
+    effects_typed : (most edition : ℕ) (txs : List Tx) (at : ℕ) (done : Staged) → IsTypedStaged at done → AllByRecursion (IsTx most) txs → at + length txs ≤ MAX_TXS → IsTypedStaged (at + length txs) (effects_after (compile edition) history number at done txs)
+    effects_typed most edition [] at done h k few = subst (λ n. IsTypedStaged n done) (omega arith) h
+    effects_typed most edition (tx ∷ txs) at done h k few =
         let effect : Effect =
         effect_of (compile edition) history done.rows done.codes number at tx in
-        let e = effect_typed edition done.rows done.codes at tx (omega (arith, few)) k.0 in
+        let e = effect_typed most edition done.rows done.codes at tx (omega (arith, few)) k.0 in
         let next : IsTypedStaged (at + 1) (with_effect done effect) = record {
           lawful = more_rows (held_in history.rows) number at done.rows effect.rows h.lawful e.lawful;
           typed = All-append IsTypedRow done.rows effect.rows h.typed e.typed;
           codes = All-append CodeOfValues done.codes effect.codes h.codes e.codes;
         } in
         subst (λ n. IsTypedStaged n (effects_after (compile edition) history number (at + 1) (with_effect done effect) txs)) (omega arith)
-        (effects_typed edition txs (at + 1) (with_effect done effect) next k.1 (omega (arith, few)))
+        (effects_typed most edition txs (at + 1) (with_effect done effect) next k.1 (omega (arith, few)))
 
   block_typed : (history : History) (block : Block) (before : IsTypedBefore block.number history) (is : IsBlock block) → IsTypedStaged history block.number before is.number_fits (length block.txs) (block_effects compile history block)
   block_typed history block before is =
       subst (λ n. IsTypedStaged history block.number before is.number_fits n (block_effects compile history block)) (omega arith)
-      (effects_typed history block.number before is.number_fits block.version block.txs 0
+      (effects_typed history block.number before is.number_fits (text_limit block.version) block.version block.txs 0
       nothing_staged
       (record { lawful = no_block_rows (held_in history.rows) block.number; typed = All-nil IsTypedRow; codes = All-nil CodeOfValues }) is.txs_are_txs (omega (arith, is.few_txs)))
 

@@ -4,7 +4,7 @@ use Rattle.std.proofs.Common.{◌≡◌, ℕ, ◌<◌, ◌≤◌, List, [], ◌�
 use Rattle.lc_base.specs.History.{IsLawful}
 use Rattle.lc_base.specs.declared.digest.Digest.{Digest}
 use Rattle.lc_base.specs.declared.row.Row.{Row}
-use Rattle.block_codec.specs.declared.limits.TheConstants.{MAX_BLOCKS, MAX_TXS, MAX_ROWS_BEFORE_BLOCK}
+use Rattle.block_codec.specs.declared.limits.TheConstants.{MAX_MARKED_BLOCKS, MAX_TXS, MAX_ROWS_BEFORE_BLOCK}
 use Rattle.block_codec.specs.declared.block.Block.{Block}
 use Rattle.contract_tree.specs.declared.tree.Contract.{Contract}
 use Rattle.world_state.specs.Known.{Known}
@@ -35,6 +35,6 @@ module _ (lineage : LineageState) (world : Known Contract) (rooted : RootedState
       → digests ≡ lineage.digests ++ digest ∷ [] → rows ≡ lineage.rows ++ more → IsKeptChain digests rows after
   run_kept after digest digests rows stands no_rows no_codes digests_are rows_are =
       let longer = next_kept lineage.digests lineage.rows world more block.number (length block.txs) kept numbered after digest
-      (subst (λ (r : RootedState). length r.digests < MAX_BLOCKS) (sym seen) room.room) run_lawful written stands no_rows no_codes in
+      (subst (λ (r : RootedState). length r.digests < MAX_MARKED_BLOCKS) (sym seen) room.room) run_lawful written stands no_rows no_codes in
       subst (λ (ds : List Digest). IsKeptChain ds rows after) (sym digests_are)
       (subst (λ (all : List Row). IsKeptChain (lineage.digests ++ digest ∷ []) all after) (sym rows_are) longer)

@@ -3,7 +3,7 @@
 ghost use Rattle.std.specs.Prelude.{◌≡◌, ◌<◌, ◌≤◌, true, List, length, map, slice_get, MatchOption};
 ghost use Rattle.block_codec.specs.{
   Placement.{digest_of, last_digest},
-  declared.limits.TheConstants.{MAX_BLOCKS},
+  declared.limits.TheConstants.{MAX_MARKED_BLOCKS},
   declared.block.Block.{Block as Blocks},
 };
 ghost use Rattle.chain_replay.specs.chain_exec.Compiled.{compiled_in};
@@ -51,7 +51,7 @@ pub(crate) fn discard(_world: World<Checked>) {}
 
 /// The number of blocks of a lineage.
 fn count_of(lineage: &Lineage) -> u32
-    requires { length lineage.now.digests ≤ MAX_BLOCKS }
+    requires { length lineage.now.digests ≤ MAX_MARKED_BLOCKS }
     ensures { result ≡ length lineage.now.digests }
 {
     match lineage.head() {
@@ -71,7 +71,7 @@ fn last_digest(lineage: &Lineage) -> Digest
 }
 
 impl LineageChain {
-    /// The number of its blocks, at most `MAX_BLOCKS`.
+    /// The number of its blocks, at most `MAX_MARKED_BLOCKS`.
     pub fn len(&self) -> u32
         ensures { result ≡ length self.now.digests }
     {

@@ -8,7 +8,9 @@ ghost use Rattle.chain_replay.specs.Chain.{IsAfter};
 use crate::scanning::scan;
 use crate::streams::{PausingSource, source_of};
 use anyhow::{Result, bail};
-use block_codec::{Block, FIRST_VERSION, Frames, MAX_FRAMES, Placement, block_digest, decode};
+use block_codec::{
+    Block, FIRST_VERSION, Frames, MAX_BLOCKS, MAX_FRAMES, Placement, block_digest, decode,
+};
 use chain_exec::BlockRun;
 use chain_replay::{Chain, Marking, Replay};
 use cli_lines::answer_lines;
@@ -29,6 +31,7 @@ fn print_run<W: Write>(out: &mut W, number: u32, run: &BlockRun) -> Result<()> {
 }
 
 /// Runs the next block of a chain whose last block has the version `last`.
+#[tactic(auto, using(block_codec::proofs::Versions::few_of_any))]
 fn run_next(
     alloc: Global,
     chain: Chain,
@@ -39,6 +42,10 @@ fn run_next(
     requires { IsBlock block.now }
     ensures { IfOk result (λ done. IsAfter chain block.now digest done.0 done.1) }
 {
+    if chain.len() > MAX_BLOCKS {
+        chain.give_up();
+        bail!("more blocks than any chain may have");
+    }
     let marked = Marking::OfVersions { last }.is_marked_for(block);
     match chain.place(block, digest, marked) {
         Placement::Next => match chain.with_block(alloc, block, digest) {

@@ -131,6 +131,43 @@ fn far_versions(rt: HostRuntime) {
     assert!(rt; far_are_found(rt.alloc()) == Ok(true));
 }
 
+/// Versions in the first and in the last block that a chain may have.
+fn farthest_are_found(alloc: Global) -> Result<bool, Memory> {
+    let mut versions = no_versions(alloc)?;
+    for (block, links) in [(0, 0), (4_294_967_294, 32)] {
+        if !adds(alloc, &mut versions, block, links)? {
+            return Ok(false);
+        }
+    }
+    let all = [4_294_967_294, 0];
+    looks_up_each(
+        alloc,
+        &versions,
+        &[
+            Lookup {
+                at: 0,
+                found: Some(0),
+                path: &all,
+            },
+            Lookup {
+                at: 4_294_967_293,
+                found: Some(0),
+                path: &all,
+            },
+            Lookup {
+                at: 4_294_967_294,
+                found: Some(4_294_967_294),
+                path: &[4_294_967_294],
+            },
+        ],
+    )
+}
+
+#[test]
+fn farthest_versions(rt: HostRuntime) {
+    assert!(rt; farthest_are_found(rt.alloc()) == Ok(true));
+}
+
 /// Adds versions in the blocks from 0 on, and returns the most entries that were read for one of
 /// them.
 fn add_many(alloc: Global, versions: &mut Versions, blocks: u32) -> Result<Option<u64>, Memory> {

@@ -1,11 +1,14 @@
 //! Blocks that are encoded at each of their limits, and one past it. A draft can't bring most of
 //! these to `encode`, since it is refused before.
 
+ghost use Rattle.std.specs.Prelude.{◌≤◌};
+ghost use Rattle.lc_base.specs.declared.limits.TheConstants.{MAX_TEXT_BYTES};
+
 use block_codec::{
     Block, EncodeError, FIRST_VERSION, MAX_ARGS, MAX_BLOCK_BYTES, MAX_CALL_BUDGET,
-    MAX_SOURCE_BYTES, MAX_TXS, NO_PARENT, SECOND_VERSION, Tx, TxList, encode,
+    MAX_FIRST_TEXT_BYTES, MAX_SOURCE_BYTES, MAX_TXS, NO_PARENT, SECOND_VERSION, Tx, TxList, encode,
 };
-use lc_base::{Bytes, Key, KeyList, MAX_DEPS, Name, Seq, Value};
+use lc_base::{Bytes, Key, KeyList, MAX_DEPS, MAX_TEXT_BYTES, Name, Seq, Text, Value};
 use std::alloc::Global;
 
 /// The number of bytes of a block before its transactions.
@@ -17,10 +20,12 @@ const SET: usize = 17;
 const CALL: usize = 15;
 
 const DEPLOY: usize = 9;
-/// The numbers of bytes of a key of one byte, and of an int.
+/// The numbers of bytes of a key of one byte, of an int, and of a text without its bytes.
 const KEY: usize = 3;
 
 const INT: usize = 9;
+
+const TEXT: usize = 3;
 
 fn key() -> Option<Key> {
     Key::new(b"k").ok()
@@ -85,16 +90,22 @@ fn length_of(alloc: Global, version: u8, txs: TxList) -> Result<usize, EncodeErr
     Ok(bytes.len())
 }
 
-/// Whether `wanted` bytes spell a block of the one transaction, or, if `wanted` is 0, no bytes do.
-fn has_length(alloc: Global, tx: Option<Tx>, wanted: usize) -> bool {
+/// Whether `wanted` bytes spell a block of this version and the one transaction, or, if `wanted` is
+/// 0, no bytes do.
+fn has_length_in(alloc: Global, version: u8, tx: Option<Tx>, wanted: usize) -> bool {
     let Some(tx) = tx else {
         return false;
     };
     let mut txs = TxList::new(alloc);
     match txs.push(tx) {
-        Ok(()) => is_length(length_of(alloc, FIRST_VERSION, txs), wanted),
+        Ok(()) => is_length(length_of(alloc, version, txs), wanted),
         Err(_) => false,
     }
+}
+
+/// The same of a block of the first version.
+fn has_length(alloc: Global, tx: Option<Tx>, wanted: usize) -> bool {
+    has_length_in(alloc, FIRST_VERSION, tx, wanted)
 }
 
 fn is_length(length: Result<usize, EncodeError>, wanted: usize) -> bool {
@@ -103,6 +114,66 @@ fn is_length(length: Result<usize, EncodeError>, wanted: usize) -> bool {
         Err(EncodeError::Limit) => wanted == 0,
         Err(EncodeError::Memory) => false,
     }
+}
+
+/// A text of `count` bytes.
+fn text(alloc: Global, count: usize) -> Option<Value> {
+    let mut bytes = Vec::new(alloc);
+    for _ in 0..count {
+        bytes.push(b'a').ok()?;
+    }
+    Some(Value::Text(Text::new(alloc, &bytes).ok()?))
+}
+
+/// A Set of a text of `count` bytes.
+fn set_text(alloc: Global, count: usize) -> Option<Tx> {
+    let key = key()?;
+    Some(Tx::Set {
+        sender: key,
+        key,
+        value: text(alloc, count)?,
+        deps: KeyList::new(alloc),
+    })
+}
+
+/// A Call with one argument, a text of `count` bytes.
+fn call_text(alloc: Global, count: usize) -> Option<Tx> {
+    let mut args = Seq::new(alloc);
+    args.push(text(alloc, count)?).ok()?;
+    Some(Tx::Call {
+        sender: key()?,
+        contract: name()?,
+        function: name()?,
+        args,
+        budget: 0,
+    })
+}
+
+/// Whether blocks of this version may have texts of `count` bytes, in Sets and in Calls, and are
+/// spelled then by as many bytes as they should.
+fn takes_texts(alloc: Global, version: u8, count: usize) -> bool
+    requires { count ≤ MAX_TEXT_BYTES }
+{
+    let set = SET - INT + TEXT + count;
+    let call = CALL + TEXT + count;
+    has_length_in(alloc, version, set_text(alloc, count), FRONT + set)
+        && has_length_in(alloc, version, call_text(alloc, count), FRONT + call)
+}
+
+/// Whether blocks of this version may have no texts of `count` bytes, neither in Sets nor in Calls.
+fn refuses_texts(alloc: Global, version: u8, count: usize) -> bool {
+    has_length_in(alloc, version, set_text(alloc, count), 0)
+        && has_length_in(alloc, version, call_text(alloc, count), 0)
+}
+
+#[test]
+fn limits_of_texts(rt: HostRuntime) {
+    let alloc = rt.alloc();
+    assert!(rt; takes_texts(alloc, FIRST_VERSION, MAX_FIRST_TEXT_BYTES));
+    assert!(rt; refuses_texts(alloc, FIRST_VERSION, MAX_FIRST_TEXT_BYTES + 1));
+    assert!(rt; refuses_texts(alloc, FIRST_VERSION, MAX_TEXT_BYTES));
+    assert!(rt; takes_texts(alloc, SECOND_VERSION, MAX_FIRST_TEXT_BYTES + 1));
+    assert!(rt; takes_texts(alloc, SECOND_VERSION, MAX_TEXT_BYTES));
 }
 
 /// A list of `count` Sets.

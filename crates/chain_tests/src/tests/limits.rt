@@ -1,30 +1,53 @@
 //! The placement of a block in a chain that is full, by its blocks or by its rows, and in one that
-//! is not yet: no chain of so many rows can be made here. And the placement of a block of either
-//! version in a chain that is marked, and in one that isn't.
+//! is not yet: no chain of so many blocks or rows can be made here. And the placement of a block of
+//! either version in a chain that is marked, and in one that isn't.
 
 ghost use Rattle.std.specs.Prelude.{◌≡◌, ◌≤◌, true, IfSome};
 ghost use Rattle.block_codec.specs.Spelling.{IsBlock, is_version};
 
 use crate::tests::encoded::call;
 use block_codec::{
-    Block, FIRST_VERSION, MAX_BLOCK_BUDGET, MAX_BLOCKS, MAX_CALL_BUDGET, MAX_ROWS_BEFORE_BLOCK,
-    Misplaced, NO_PARENT, Placement, SECOND_VERSION, TxList, decode, encode, place,
+    Block, FIRST_VERSION, MAX_BLOCK_BUDGET, MAX_BLOCKS, MAX_CALL_BUDGET, MAX_MARKED_BLOCKS,
+    MAX_ROWS_BEFORE_BLOCK, Misplaced, NO_PARENT, Placement, SECOND_VERSION, TxList, decode, encode,
+    place,
 };
 use lc_base::Digest;
 use std::alloc::Global;
 
-/// The placement of a block with this number, without transactions, after `held` blocks with `rows`
-/// rows.
-fn place_of(alloc: Global, number: u32, held: u32, rows: u64) -> Placement
-    requires { held ≤ number }
+/// The placement of a block of this version and number, without transactions, after `held` blocks
+/// with `rows` rows.
+fn place_after(
+    alloc: Global,
+    version: u8,
+    number: u32,
+    held: u32,
+    rows: u64,
+    marked: bool,
+) -> Placement
+    requires version { is_version version ≡ true }
+    requires new { held ≤ number }
 {
     let block = Block {
-        version: FIRST_VERSION,
+        version,
         number,
         parent: NO_PARENT,
         txs: TxList::new(alloc),
     };
-    place(held, rows, None, NO_PARENT, &block, NO_PARENT, false)
+    place(held, rows, None, NO_PARENT, &block, NO_PARENT, marked)
+}
+
+/// The same of a block of the first version, in a chain that isn't marked.
+fn place_of(alloc: Global, number: u32, held: u32, rows: u64) -> Placement
+    requires { held ≤ number }
+{
+    place_after(alloc, FIRST_VERSION, number, held, rows, false)
+}
+
+/// The same of a block of the second version, in a chain that is marked.
+fn place_marked(alloc: Global, number: u32, held: u32, rows: u64) -> Placement
+    requires { held ≤ number }
+{
+    place_after(alloc, SECOND_VERSION, number, held, rows, true)
 }
 
 #[test]
@@ -37,6 +60,21 @@ fn places_in_full_chains(rt: HostRuntime) {
     assert!(rt; place_of(alloc, 7, 7, MAX_ROWS_BEFORE_BLOCK + 1) == full);
     // That a chain is full is tested before the number of the block.
     assert!(rt; place_of(alloc, MAX_BLOCKS + 1, MAX_BLOCKS, 0) == full);
+}
+
+#[test]
+fn places_in_full_marked_chains(rt: HostRuntime) {
+    let alloc = rt.alloc();
+    let full = Placement::Not(Misplaced::Full);
+    let most = MAX_MARKED_BLOCKS;
+    assert!(rt; place_marked(alloc, most, most, 0) == full);
+    assert!(rt; place_marked(alloc, most - 1, most - 1, 0) == Placement::Next);
+    assert!(rt; place_marked(alloc, MAX_BLOCKS, MAX_BLOCKS, 0) == Placement::Next);
+    assert!(rt; place_marked(alloc, 7, 7, MAX_ROWS_BEFORE_BLOCK) == Placement::Next);
+    assert!(rt; place_marked(alloc, 7, 7, MAX_ROWS_BEFORE_BLOCK + 1) == full);
+    // That a chain is full is tested before the number of the block, and before its version.
+    assert!(rt; place_marked(alloc, most, most - 1, MAX_ROWS_BEFORE_BLOCK + 1) == full);
+    assert!(rt; place_after(alloc, FIRST_VERSION, most, most, 0, true) == full);
 }
 
 /// The placement of a block of this version and with this parent, without transactions, in a chain
@@ -72,6 +110,13 @@ fn places_by_versions(rt: HostRuntime) {
     assert!(rt; place_version(alloc, SECOND_VERSION, Digest([1; 32]), false) == parent);
 }
 
+/// The block that bytes spell; `None` if they spell none.
+fn decoded(alloc: Global, bytes: &[u8]) -> Option<Block>
+    ensures { IfSome result IsBlock }
+{
+    decode(alloc, bytes).ok()
+}
+
 /// A block of this version with calls of the greatest budget, one more than a block may have, as it
 /// is decoded from its encoding.
 fn costly_block(alloc: Global, version: u8) -> Option<Block>
@@ -88,7 +133,7 @@ fn costly_block(alloc: Global, version: u8) -> Option<Block>
         txs,
     };
     let bytes = encode(alloc, &block).ok()?;
-    decode(alloc, bytes.as_bytes()).ok()
+    decoded(alloc, bytes.as_bytes())
 }
 
 /// The placement of such a block in a chain that has no block yet and isn't marked.

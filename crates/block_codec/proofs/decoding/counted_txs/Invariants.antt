@@ -5,4 +5,6 @@ use Rattle.byte_fields.proofs.Loops.{with_prefix}
 use Rattle.block_codec.proofs.decoding.counted_txs.Given as goal
 
 abbrev pub invariant-loop : goal.invariant-loop
-invariant-loop l = with_prefix l.txs (items_at tx_at (l.count - l.counter) l.reader) ≡ items_at tx_at l.count l.initial.reader
+invariant-loop l =
+    with_prefix l.txs (items_at (tx_at l.most) (l.count - l.counter) l.reader)
+    ≡ items_at (tx_at l.most) l.count l.initial.reader

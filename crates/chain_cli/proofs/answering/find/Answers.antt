@@ -33,15 +33,15 @@ returns-in-Fmt-clause-no_log g c none = absurd (found_log (status_of_found c.fmt
 
 pub returns-in-Pack-clause-found : goal.returns-in-Pack-clause-found
 returns-in-Pack-clause-found g c =
-    of_found (g.M.Clock.disk c.args.machine.now (g.M.Clock.now c.args.machine.now)) c.pack.result (g.I.Source.left c.args.source.now) (g.I.Source.left c.pack.new.source) (is_known (g.S.Scratch.state c.args.scratch.now)) c.args.command.now Pack c.in-Pack.is
-    (pack_found (g.M.Clock.disk c.args.machine.now (g.M.Clock.now c.args.machine.now)) c.pack.result (g.I.Source.left c.args.source.now) (g.I.Source.left c.pack.new.source) (is_known (g.S.Scratch.state c.args.scratch.now)) c.pack.ensures.outcome)
+    of_found (g.M.Clock.disk c.args.machine.now (g.M.Clock.now c.args.machine.now)) c.pack.result (g.I.Source.left c.args.source.now) (g.I.Source.left c.pack.new.source) (is_known (g.S.Scratch.state c.args.scratch.now)) c.args.command.now (Pack c.in-Pack.version) c.in-Pack.is
+    (pack_found (g.M.Clock.disk c.args.machine.now (g.M.Clock.now c.args.machine.now)) c.pack.result (g.I.Source.left c.args.source.now) (g.I.Source.left c.pack.new.source) (is_known (g.S.Scratch.state c.args.scratch.now)) c.in-Pack.version c.pack.ensures.outcome)
 
 pub returns-in-Pack-clause-ends : goal.returns-in-Pack-clause-ends
-returns-in-Pack-clause-ends g c = of_given (status_of_found c.pack.result) c.args.command.now Pack c.in-Pack.is
-    (read_ends c.pack.result (Some Pack) refl c.pack.ensures.ends c.pack.ensures.only)
+returns-in-Pack-clause-ends g c = of_given (status_of_found c.pack.result) c.args.command.now (Pack c.in-Pack.version) c.in-Pack.is
+    (read_ends c.pack.result (Some (Pack c.in-Pack.version)) refl c.pack.ensures.ends c.pack.ensures.only)
 
 pub returns-in-Pack-clause-no_log : goal.returns-in-Pack-clause-no_log
-returns-in-Pack-clause-no_log g c none = absurd (found_log (status_of_found c.pack.result) Pack refl (read_ends c.pack.result (Some Pack) refl c.pack.ensures.ends c.pack.ensures.only) none)
+returns-in-Pack-clause-no_log g c none = absurd (found_log (status_of_found c.pack.result) (Pack c.in-Pack.version) refl (read_ends c.pack.result (Some (Pack c.in-Pack.version)) refl c.pack.ensures.ends c.pack.ensures.only) none)
 
 pub returns-in-Verify-clause-found : goal.returns-in-Verify-clause-found
 returns-in-Verify-clause-found g c =

@@ -1,7 +1,9 @@
 use Rattle.std.proofs.Common.{◌≡◌, ◌∙◌, ◌+◌, ℕ, Bool, refl, subst, sym, arith}
 use Rattle.scratch_model.specs.Scratch.{is_known}
+use Rattle.rooted_chain.specs.chain_replay.Chain.{StandsFor}
 use Rattle.scratch_model.proofs.Retaining.{retains_refl, retains_trans}
 use Rattle.rooted_chain.specs.Roots.{kept_in}
+use Rattle.chain_gen.specs.Generator.{first_blocks}
 use Rattle.chain_load.specs.Building.{HasAdded}
 use Rattle.chain_load.proofs.Placed.{none_added, all_added}
 use Rattle.rooted_chain.proofs.merkle_dag.Causes.{unblamed}
@@ -34,6 +36,12 @@ loop-preserved g c =
       retains = retains_trans _ _ _ c.loop.invariant.retains c.with_next.ensures.retains;
       no_fault = unblamed _ _ c.in-Ok-with_next.ensures.cause ∙ c.loop.invariant.no_fault;
     }
+
+pub returns-clause-chain : goal.returns-clause-chain
+returns-clause-chain g c known =
+    let whole : c.loop.counter ≡ c.args.blocks = omega arith in
+    subst (λ (n : ℕ). StandsFor (kept_in c.loop.building.chain) (first_blocks c.args.seed n).blocks)
+    whole (c.loop.invariant.added.stands known)
 
 pub returns-clause-digests : goal.returns-clause-digests
 returns-clause-digests g c =

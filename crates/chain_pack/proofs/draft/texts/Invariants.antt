@@ -3,4 +3,4 @@ use Rattle.chain_pack.proofs.Folding.{Packed}
 use Rattle.chain_pack.proofs.draft.texts.Given as goal
 
 abbrev pub invariant-loop-block : goal.invariant-loop-block
-invariant-loop-block l = Packed view l.blocks l.block-index l.parent l.texts
+invariant-loop-block l = Packed l.version view l.blocks l.block-index l.parent l.texts

@@ -18,7 +18,7 @@ pub returns-in-Ok-clause-upgrades : goal.returns-in-Ok-clause-upgrades
 returns-in-Ok-clause-upgrades g c blocks is =
     already_marked g.M.Clock.now g.M.Clock.disk g.M.Clock.told c.args.machine.now
     c.tell_marked.new.machine
-    (logged_in c.args.node.log blocks) c.in-Ok.line c.tell_marked.result (sym c.marked.ensures
+    (logged_in c.args.node.log blocks) c.in-Ok.line c.tell_marked.result (sym c.marked.ensures.is
     ∙ c.if-marked.true)
     (stands_at c.args.node.log (logged_in c.args.node.log blocks)
     (g.M.Clock.disk c.args.machine.now (g.M.Clock.now c.args.machine.now)) refl is.log)
@@ -54,7 +54,7 @@ returns-in-Ok-upgrade-clause-upgrades g c blocks is =
     then_marked g.M.Clock.now g.M.Clock.disk g.M.Clock.told c.args.machine.now c.upgrade.new.machine
     c.tell_marked-in-Ok-upgrade.new.machine (logged_in c.args.node.log blocks)
     c.in-Ok-upgraded_line.line
-    c.tell_marked-in-Ok-upgrade.result (sym c.marked.ensures ∙ c.if-marked.false)
+    c.tell_marked-in-Ok-upgrade.result (sym c.marked.ensures.is ∙ c.if-marked.false)
     (images_known g.M.Clock.now g.M.Clock.disk c.args.machine.now c.upgrade.new.machine c.args.node
     blocks is c.upgrade.ensures.images)
     (stands_at c.in-Ok-upgrade.marked.log (with_mark (logged_in c.args.node.log blocks))
@@ -87,7 +87,7 @@ returns-in-Ok-upgraded_line-clause-upgrades g c blocks is = not_marked g.M.Clock
     c.upgrade.new.machine (logged_in c.args.node.log blocks) stops.DiskFault
     (images_known g.M.Clock.now g.M.Clock.disk c.args.machine.now c.upgrade.new.machine c.args.node
     blocks is c.upgrade.ensures.images)
-    (λ mark. absurd (cc (mark, sym c.marked.ensures ∙ c.if-marked.false)))
+    (λ mark. absurd (cc (mark, sym c.marked.ensures.is ∙ c.if-marked.false)))
     c.upgrade.ensures.wire.told
 
 pub returns-in-Ok-upgraded_line-clause-log_images : goal.returns-in-Ok-upgraded_line-clause-log_images

@@ -1,5 +1,5 @@
-use Rattle.std.proofs.Common.{◌++◌, ◌∷◌, [], List, refl, sym, ap, subst, ◌∙◌, arith}
-use Rattle.std.proofs.lemmas.List.{map_push}
+use Rattle.std.proofs.Common.{◌++◌, ◌∷◌, [], List, length, refl, sym, ap, subst, ◌∙◌, arith}
+use Rattle.std.proofs.lemmas.List.{length-map, map_push}
 use Rattle.std.proofs.lemmas.Result.{err_from_is_err_and}
 use Rattle.lc_base.specs.declared.digest.Digest.{Digest}
 use Rattle.scratch_model.proofs.Retaining.{retains_refl, retains_trans}
@@ -43,10 +43,10 @@ loop-log-preserved g c =
           let is = rw c.in-Ok-Ok.field-0-is at
           (c.in-Ok-Ok.ensures.run (λ calls. so_far.retains.known ∙ known calls)
           (blocks_in so_far.stored) (so_far.run known).stands
-          (rw c.marked-marked.ensures so_far.read.held.fits) block.digest_is) in
+          (rw c.marked-marked.ensures.is so_far.read.held.fits) block.digest_is) in
           one_run so_far.stored (g.C.Replay.kept c.loop-log.chain) (so_far.run known)
           c.marked-marked.result c.in-Block.next (g.C.Replay.kept c.in-Ok-Ok.longer)
-          (rw c.marked-marked.ensures block.version_is) is.0 is.1;
+          (rw c.marked-marked.ensures.is block.version_is) is.0 is.1;
       digests = digests ∙ ap (λ (ds : List Digest). ds ++ c.in-Block.next.digest ∷ [])
           so_far.digests ∙ sym (map_push (λ (one : Stored). one.digest) so_far.stored
           c.in-Block.next);
@@ -76,6 +76,19 @@ run_stored-requires-clause-is_block g c =
     let block = rw c.in-Block.is at c.in_ok-log.ensures.block in
     block.lawful
 
+pub run_stored-requires-clause-few : goal.run_stored-requires-clause-few
+run_stored-requires-clause-few g c =
+    let so_far = c.loop-log.invariant in
+    let counted = ap (length {A = Digest}) so_far.digests in
+    let as_many = length-map so_far.stored (λ (one : Stored). one.digest) in
+    rw c.marked-marked.ensures.is (omega (
+      arith,
+      counted,
+      as_many,
+      so_far.read.held.count_is,
+      c.marked-marked.ensures.few,
+    ))
+
 pub returns-in-End-clause-restored : goal.returns-in-End-clause-restored
 returns-in-End-clause-restored g c known =
     let so_far = c.loop-log.invariant in
@@ -102,10 +115,10 @@ returns-in-Ok-Err-clause-restored g c known image told =
     let run = rw c.in-Ok-Err.field-0-is at
     (c.in-Ok-Err.ensures.run (λ calls. so_far.retains.known ∙ known calls)
     (blocks_in so_far.stored) (so_far.run known).stands
-    (rw c.marked-marked.ensures so_far.read.held.fits) block.digest_is) in
+    (rw c.marked-marked.ensures.is so_far.read.held.fits) block.digest_is) in
     let damaged = not_run so_far.stored (g.C.Replay.kept c.loop-log.chain) (so_far.run known)
     c.marked-marked.result _ c.in-Block.next image _ _ _
-    (rw c.marked-marked.ensures block.version_is) run.0 (turn.stands image told) in
+    (rw c.marked-marked.ensures.is block.version_is) run.0 (turn.stands image told) in
     (so_far.stored, damaged ∙ ap (Damaged so_far.stored) (sym run.1))
 
 pub returns-in_err-log-clause-restored : goal.returns-in_err-log-clause-restored

@@ -4,7 +4,7 @@ use Rattle.scratch_model.specs.Scratch.{Retains}
 use Rattle.disk_model.specs.Disk.{content_of}
 use Rattle.block_log.specs.Log.{marks}
 use Rattle.block_log.specs.Reader.{AreRead}
-use Rattle.block_log.specs.declared.layout.TheConstants.{MAX_MARKED_BLOCKS}
+use Rattle.block_codec.specs.declared.limits.TheConstants.{MAX_MARKED_BLOCKS}
 use Rattle.block_log.specs.declared.layout.Stored.{Stored}
 use Rattle.rooted_chain.specs.chain_replay.Chain.{IsKnownFor}
 use Rattle.recovery.specs.Restoring.{digests_of}

@@ -2,7 +2,7 @@ use Rattle.std.proofs.Common.{◌≡◌, ◌<◌, ◌≤◌, ℕ, List, [], ◌�
 use Rattle.std.specs.Prelude.{◌==◌}
 use Rattle.std.specs.Map.{lookup}
 use Rattle.std.specs.Cmp.Lexicographic.{pointwise}
-use Rattle.block_codec.specs.declared.limits.TheConstants.{MAX_BLOCKS, MAX_ROWS_BEFORE_BLOCK}
+use Rattle.block_codec.specs.declared.limits.TheConstants.{MAX_MARKED_BLOCKS, MAX_ROWS_BEFORE_BLOCK}
 use Rattle.lc_base.specs.History.{IsLawful}
 use Rattle.lc_base.specs.declared.row.Row.{Row}
 use Rattle.lc_base.specs.declared.digest.Digest.{Digest}
@@ -27,7 +27,7 @@ invariant_of-chain c =
     let before = λ (key : List ℕ). ap (λ (newest : List (List ℕ × Held)). lookup (pointwise ◌==◌ key) newest) c.in-Ok.ensures.newest ∙ c.self.invariant.stands key in
     let stands = c.in_ok-world.ensures.rows c.self.inside.rows c.in-Ok.run'.rows before c.in-Ok.ensures.staged in
     let kept = next_kept c.self.inside.digests c.self.inside.rows c.self.inside.world c.in-Ok.run'.rows c.args.block.now.number (length c.args.block.now.txs) c.self.invariant numbered c.in_ok-world.world c.args.digest
-    (subst (λ (kept : ChainState). length kept.digests < MAX_BLOCKS) (sym c.self.view_is) c.requires.room.room) lawful c.in-Ok.ensures.lawful stands c.in_ok-world.ensures.no_rows c.in_ok-world.ensures.no_codes in
+    (subst (λ (kept : ChainState). length kept.digests < MAX_MARKED_BLOCKS) (sym c.self.view_is) c.requires.room.room) lawful c.in-Ok.ensures.lawful stands c.in_ok-world.ensures.no_rows c.in_ok-world.ensures.no_codes in
     subst (λ (digests : List Digest). IsKeptChain digests c.record.new.rows c.in_ok-world.world) (sym c.in-Ok-record.ensures.digests)
     (subst (λ (rows : List Row). IsKeptChain (c.self.inside.digests ++ c.args.digest ∷ []) rows c.in_ok-world.world) (sym (c.in-Ok-record.ensures.rows ∙ ap (λ (rows : List Row). rows ++ c.in-Ok.run'.rows) c.in-Ok.ensures.same)) kept)
 

@@ -1,10 +1,18 @@
-use Rattle.std.proofs.Common.{Bool, ap, ◌∙◌}
-use Rattle.block_codec.specs.Placement.{bytes_digest}
+use Rattle.std.proofs.Common.{◌≤◌, Bool, length, sym, ap, subst, ◌∙◌}
+use Rattle.block_codec.specs.Placement.{bytes_digest, most_blocks}
 use Rattle.chain_exec.specs.Compiled.{compiled_in}
 use Rattle.chain_replay.specs.Chain.{placement_by_mark, placement_kept}
 use Rattle.chain_replay.specs.Judging.{placement_for}
 use Rattle.chain_replay.proofs.Judgements.{judged_of_bytes, next_of_bytes}
+use Rattle.chain_replay.proofs.Kept.{few_for}
 use Rattle.chain_replay.proofs.replaying.Replay.judge.Goals as goal
+
+pub place-placement-requires-clause-few : goal.place-placement-requires-clause-few
+place-placement-requires-clause-few g c =
+    let kept = g.Self.Replay.kept c.args.self.now in
+    subst (λ (marked : Bool). length kept.digests ≤ most_blocks marked)
+    (sym c.is_marked_for-marked.ensures)
+    (few_for c.args.marking c.in-Ok.block (length kept.digests) c.requires.few)
 
 pub returns-in-Ok-clause-judged : goal.returns-in-Ok-clause-judged
 returns-in-Ok-clause-judged g c blocks stands =
