@@ -1,0 +1,7 @@
+pub mod Order
+pub mod Inserting
+pub mod Versions
+pub mod Enough
+pub mod Reaching
+pub mod FewSteps
+pub use Rattle.root_laws.proofs as root_laws

@@ -1,0 +1,5 @@
+pub mod Ancestors
+pub mod Laws
+pub mod Steps
+pub mod Examples
+pub use Rattle.root_laws.specs as root_laws
